@@ -1,0 +1,3 @@
+pub mod Identifier
+pub mod Outside
+pub mod Votes

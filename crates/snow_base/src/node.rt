@@ -1,0 +1,33 @@
+ghost use Rattle.std.specs.Prelude.{◌≡◌};
+
+use std::marker::Model;
+
+/// A node's identifier: 20 bytes, which contracts see as a list of bytes.
+#[derive(Clone, Copy, Debug, PartialEq, Eq, PartialOrd, Ord)]
+pub struct NodeId {
+    bytes: [u8; 20],
+}
+
+impl Model for NodeId {
+    ghost use Rattle.std.specs.Prelude.{ℕ, List};
+
+    ghost Value = { List ℕ };
+
+    ghost view = { λ a. a.bytes };
+
+    ghost inverse = { λ bytes. record { bytes = bytes } };
+}
+
+impl NodeId {
+    pub fn from_bytes(bytes: [u8; 20]) -> Self
+        ensures { result ≡ bytes }
+    {
+        NodeId { bytes }
+    }
+
+    pub fn as_bytes(&self) -> &[u8; 20]
+        ensures { result.now ≡ self.now }
+    {
+        &self.bytes
+    }
+}
