@@ -1,0 +1,4 @@
+pub mod Parameters
+pub mod Counter
+pub mod Instance
+pub mod Rule

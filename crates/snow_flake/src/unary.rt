@@ -1,0 +1,89 @@
+ghost use Rattle.std.specs.Prelude.{◌≡◌, ◌<◌, Bool, false, true};
+
+use std::marker::Model;
+
+use crate::binary::Binary;
+use crate::params::Params;
+use crate::votes::{confidence_after, raised_strength};
+
+/// A one-bit instance where all choices so far have the same bit.
+#[derive(Clone, Copy, Debug, PartialEq, Eq)]
+pub struct Unary {
+    strength: u64,
+    confidence: u32,
+    decided: bool,
+}
+
+impl Model for Unary {
+    ghost use Rattle.std.specs.Prelude.{◌≡◌, ◌<◌, false};
+    ghost use Rattle.snow_flake.specs.Instance.{Single};
+
+    ghost Value = { Single };
+
+    ghost view = { λ a. record { strength = a.strength; confidence = a.confidence; final = a.decided } };
+
+    ghost invariant = { λ a. a.decided ≡ false → a.confidence < 65535 };
+
+    ghost inverse = { λ s. record { strength = s.strength; confidence = s.confidence; decided = s.final } };
+}
+
+impl Unary {
+    ghost use Rattle.snow_flake.specs.Parameters.{Parameters, AreGood};
+    ghost use Rattle.snow_flake.specs.Counter.{fresh, stepped};
+    ghost use Rattle.snow_flake.specs.Instance.{at_bit, polled, failed, on_side, counter_of};
+
+    /// An instance that no poll has moved.
+    pub fn new() -> Self
+        ensures { (bit : Bool) → counter_of (at_bit result bit) ≡ fresh bit }
+    {
+        Unary {
+            strength: 0,
+            confidence: 0,
+            decided: false,
+        }
+    }
+
+    /// The bit step with these votes at the one bit, whichever it is. A final instance doesn't change.
+    pub fn apply(&mut self, params: &Params, votes: u32)
+        ensures { (bit : Bool) → at_bit self.new bit
+            ≡ polled params.now (at_bit self.old bit) (on_side false votes bit) (on_side true votes bit) }
+    {
+        if votes < params.alpha_preference() {
+            self.fail();
+        } else if !self.decided {
+            self.strength = raised_strength(self.strength);
+            self.confidence = confidence_after(params, votes, true, self.confidence);
+            self.decided = params.beta() <= self.confidence;
+        }
+    }
+
+    /// The bit step of a poll without votes.
+    pub fn fail(&mut self)
+        ensures { (bit : Bool) → at_bit self.new bit ≡ failed (at_bit self.old bit) }
+    {
+        if !self.decided {
+            self.confidence = 0;
+        }
+    }
+
+    /// The same instance as one that can be followed to both bits, with this bit as its preference and flake.
+    pub fn extend(&self, bit: bool) -> Binary
+        ensures { result ≡ at_bit self.now bit }
+    {
+        Binary::at_bit(bit, self.strength, self.confidence, self.decided)
+    }
+
+    /// Whether the instance is decided.
+    pub fn is_final(&self) -> bool
+        ensures { result ≡ self.now.final }
+    {
+        self.decided
+    }
+
+    /// How many polls in a row had AlphaConfidence votes; once final, what it was then.
+    pub fn confidence(&self) -> u32
+        ensures { result ≡ self.now.confidence }
+    {
+        self.confidence
+    }
+}
