@@ -1,3 +1,4 @@
+pub mod Ancestry
 pub mod Identifier
 pub mod Outside
 pub mod Votes

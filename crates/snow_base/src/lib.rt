@@ -1,12 +1,14 @@
 //! What every layer stands on: identifiers, votes, lists, and the outside as sources and sinks.
 #![tactic(auto)]
 
+mod header;
 mod identifier;
 mod items;
 mod node;
 mod outside;
 mod vote;
 
+pub use header::Header;
 pub use identifier::Id;
 pub use items::{Blocks, Bytes, Ids, Items, Nodes, Nums};
 pub use node::NodeId;

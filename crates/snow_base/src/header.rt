@@ -1,0 +1,9 @@
+use crate::identifier::Id;
+
+/// What a block says of itself: its identifier, its parent's, and its height.
+#[derive(Clone, Copy, Debug, PartialEq, Eq)]
+pub struct Header {
+    pub id: Id,
+    pub parent: Id,
+    pub height: u64,
+}

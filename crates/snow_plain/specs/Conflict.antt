@@ -1,0 +1,49 @@
+-- The counters of one conflict: those of a block, for the bits of its children.
+use Rattle.std.specs.Prelude.{ℕ, Bool, true, false, List, [], ◌∷◌, ◌++◌, Option, Some, None, if◌then◌else◌}
+use Rattle.std.specs.Option.{option_map}
+use Rattle.snow_flake.specs.Parameters.{Parameters}
+use Rattle.snow_flake.specs.Counter.{Counter, Decided, Undecided, fresh, stepped, admits}
+use Rattle.snow_flake.specs.Rule.{Answer, answer_of}
+
+-- a map from bit lists to counters: the counter at the empty list, and the maps under 0 and under 1
+pub data Counters : Type 0 where
+  Blank : Counters
+  At : (counter : Counter) → (below_zero below_one : Counters) → Counters
+
+-- the counter at a bit list
+abbrev pub counter_at : Counters → List Bool → Option Counter
+counter_at Blank front = None
+counter_at (At c z o) [] = Some c
+counter_at (At c z o) (false ∷ front) = counter_at z front
+counter_at (At c z o) (true ∷ front) = counter_at o front
+
+-- a child with these bits was issued: fresh counters stand where none stood, but behind no decided
+-- counter of the other bit
+unfoldable pub with_child : List Bool → Counters → Counters
+with_child [] counters = counters
+with_child (false ∷ rest) Blank = At (fresh false) (with_child rest Blank) Blank
+with_child (true ∷ rest) Blank = At (fresh true) Blank (with_child rest Blank)
+with_child (false ∷ rest) (At c z o) = At c (if admits c false then with_child rest z else z) o
+with_child (true ∷ rest) (At c z o) = At c z (if admits c true then with_child rest o else o)
+
+-- every counter takes the bit step with its own votes, all at once; those behind a decided counter
+-- of the other bit go. The votes at a bit list are those for children whose bits begin so.
+unfoldable pub all_polled : Parameters → (List Bool → ℕ) → Counters → Counters
+all_polled p votes Blank = Blank
+all_polled p votes (At c z o) =
+    let next = stepped p c (votes (false ∷ [])) (votes (true ∷ [])) in
+    At next
+    (if admits next false then all_polled p (λ front. votes (false ∷ front)) z else Blank)
+    (if admits next true then all_polled p (λ front. votes (true ∷ front)) o else Blank)
+
+-- the bits to which the counters lead by their answers
+unfoldable pub chosen : Answer → Counters → List Bool
+chosen answer Blank = []
+chosen answer (At c z o) = if answer_of answer c then true ∷ chosen answer o else false ∷ chosen answer z
+
+-- the same where each counter on the way is decided
+unfoldable pub decided_path : Counters → Option (List Bool)
+decided_path Blank = Some []
+decided_path (At (Undecided s) z o) = None
+decided_path (At (Decided false) z o) = option_map (λ path. false ∷ path) (decided_path z)
+decided_path (At (Decided true) z o) = option_map (λ path. true ∷ path) (decided_path o)

@@ -1,0 +1,5 @@
+pub mod Conflict
+pub mod Board
+pub mod Poll
+pub mod Preference
+pub mod Reached
