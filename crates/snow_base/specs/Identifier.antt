@@ -1,7 +1,10 @@
--- The bits of an identifier.
+-- The bits of an identifier, and the order that they give.
 use Rattle.std.specs.Prelude.{ℕ, ◌/◌, ◌%◌, Bool, List, map, slice_index, ◌==◌}
 use Rattle.std.specs.List.{range_with_len}
 use Rattle.std.specs.Int.{bit_at}
+use Rattle.std.specs.Ordering.{bool_cmp}
+use Rattle.std.specs.declared.cmp.Ordering.{Ordering}
+use Rattle.std.specs.Cmp.Lexicographic.{slice_cmp}
 
 -- bit i: bit i % 8, counted from the least significant, of byte i / 8
 abbrev pub bit : List ℕ → ℕ → Bool
@@ -10,3 +13,11 @@ bit id i = bit_at (slice_index id (i / 8)) (i % 8) == 1
 -- the 256 bits of an identifier, bit 0 first
 unfoldable pub bits : List ℕ → List Bool
 bits id = map (bit id) (range_with_len 0 256)
+
+-- bit order: the first bit that differs decides, and a 0 stands before a 1
+abbrev pub bit_cmp : List ℕ → List ℕ → Ordering
+bit_cmp a b = slice_cmp bool_cmp (bits a) (bits b)
+
+-- the bits of a byte, the least significant first
+unfoldable pub byte_bits : ℕ → List Bool
+byte_bits byte = map (λ i. bit_at byte i == 1) (range_with_len 0 8)

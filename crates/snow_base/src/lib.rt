@@ -1,6 +1,7 @@
 //! What every layer stands on: identifiers, votes, lists, and the outside as sources and sinks.
 #![tactic(auto)]
 
+mod bag;
 mod header;
 mod identifier;
 mod items;
@@ -8,9 +9,10 @@ mod node;
 mod outside;
 mod vote;
 
+pub use bag::Bag;
 pub use header::Header;
 pub use identifier::Id;
 pub use items::{Blocks, Bytes, Ids, Items, Nodes, Nums};
 pub use node::NodeId;
-pub use outside::{Failed, Sink, Source};
+pub use outside::{Failed, Sink, Source, write_whole};
 pub use vote::Vote;

@@ -1,0 +1,110 @@
+ghost use Rattle.std.specs.Prelude.{◌≡◌, ℕ, ◌+◌, ◌^◌, ◌<◌, ◌≤◌, [], length, All, IsOk, OnOk, OnErr};
+
+use crate::identifier::Id;
+use crate::vote::Vote;
+use std::alloc::{AllocError, Global};
+use std::marker::Model;
+
+/// Votes in bit order: identifiers distinct, counts above 0, at most 2^32-1 votes in all. Contracts
+/// see the list of votes, and the room: how many more identifiers fit without new memory.
+#[derive(Debug, Drop)]
+pub struct Bag {
+    votes: Vec<Vote>,
+    total: u32,
+}
+
+impl Model for Bag {
+    ghost use Rattle.std.specs.Prelude.{◌-◌, vec_len, vec_capacity};
+    ghost use Rattle.snow_base.specs.Votes.{Votes, IsTally};
+
+    ghost Value = { Votes };
+
+    ghost view = { λ a. record { list = a.votes.items; room = vec_capacity a.votes - vec_len a.votes } };
+
+    ghost invariant = { λ a. IsTally a.votes.items a.total };
+}
+
+impl Bag {
+    ghost use Rattle.snow_base.specs.Votes.{total_count, most_count, IsInBitOrder, HasVotesFor, added};
+
+    /// The bag with no vote. It takes no memory.
+    pub fn new(alloc: Global) -> Self
+        ensures { result.list ≡ [] }
+    {
+        Bag {
+            votes: Vec::new(alloc),
+            total: 0,
+        }
+    }
+
+    /// Makes room for `n` more identifiers. The votes stay as they are, also after want of memory.
+    pub fn reserve(&mut self, n: usize) -> Result<(), AllocError>
+        ensures list { self.new.list ≡ self.old.list }
+        ensures ok { OnOk result (n ≤ self.new.room) }
+        ensures room { self.old.room ≤ self.new.room }
+    {
+        self.votes.reserve(n)
+    }
+
+    /// Adds `n` votes for `id`. With room, or where `id` has votes already, it takes no memory;
+    /// after want of memory the votes are as before.
+    pub fn add(&mut self, id: Id, n: u32) -> Result<(), AllocError>
+        requires some { 1 ≤ n }
+        requires total { total_count self.old.list + n < 2 ^ 32 }
+        ensures ok { OnOk result (self.new.list ≡ added self.old.list id n) }
+        ensures err { OnErr result (self.new.list ≡ self.old.list) }
+        ensures fits { 0 < self.old.room → IsOk result }
+        ensures known { HasVotesFor self.old.list id → IsOk result × (self.old.room ≤ self.new.room) }
+        ensures room { self.old.room ≤ self.new.room + 1 }
+        ensures room_kept { OnErr result (self.old.room ≤ self.new.room) }
+    {
+        match place(self.votes.as_slice(), &id) {
+            Ok(at) => self.votes[at].count += n,
+            Err(at) => self.votes.insert(at, Vote { id, count: n })?,
+        }
+        self.total += n;
+        Ok(())
+    }
+
+    /// How many votes there are in all.
+    pub fn total(&self) -> u32
+        ensures { result ≡ total_count self.now.list }
+    {
+        self.total
+    }
+
+    /// The votes in bit order.
+    pub fn entries(&self) -> &[Vote]
+        ensures list { result.now ≡ self.now.list }
+        ensures order { IsInBitOrder result.now }
+        ensures counts { All (λ v. 0 < v.count) result.now }
+        ensures total { total_count result.now < 2 ^ 32 }
+    {
+        self.votes.as_slice()
+    }
+
+    /// The greatest count, or 0 where there is no vote.
+    pub fn most(&self) -> u32
+        ensures { result ≡ most_count self.now.list }
+    {
+        let mut most = 0;
+        for vote in &self.votes {
+            most = most.max(vote.count);
+        }
+        most
+    }
+
+    /// Takes all votes out. Their places are room then.
+    pub fn clear(&mut self)
+        ensures list { self.new.list ≡ [] }
+        ensures room { self.old.room + length self.old.list ≤ self.new.room }
+    {
+        self.votes.clear();
+        self.total = 0;
+    }
+}
+
+// The place of the identifier: where it is, or else where it would be put.
+fn place(votes: &[Vote], id: &Id) -> Result<usize, usize> {
+    votes.binary_search_by(|vote| vote.id.bit_cmp(id))
+}
