@@ -6,12 +6,8 @@ use Rattle.snow_base.specs.declared.header.Header.{Header}
 use Rattle.snow_base.specs.Identifier.{bits}
 use Rattle.snow_flake.specs.Parameters.{Parameters}
 use Rattle.snow_flake.specs.Counter.{Counter}
+use Rattle.snow_plain.specs.declared.pending.Pending.{Pending}
 use Rattle.snow_plain.specs.Conflict.{Counters, Blank, counter_at, with_child}
-
--- a pending block, with the counters of its children
-pub record Pending : Type 0 where
-  pub block : Header
-  pub counters : Counters
 
 -- the last accepted block with its height and the counters of its children, and the pending blocks
 pub record Board : Type 0 where

@@ -1,6 +1,11 @@
 -- The counters of one conflict: those of a block, for the bits of its children.
-use Rattle.std.specs.Prelude.{ℕ, Bool, true, false, List, [], ◌∷◌, ◌++◌, Option, Some, None, if◌then◌else◌}
-use Rattle.std.specs.Option.{option_map}
+use Rattle.std.specs.Prelude.{ℕ, Bool, true, false, List, [], ◌∷◌, ◌++◌, Option, Some, None, sum_by, if◌then◌else◌}
+use Rattle.std.specs.Option.{option_map, option_map_or}
+use Rattle.std.specs.Bool.{beq}
+use Rattle.std.specs.List.{starts_with}
+use Rattle.std.specs.Cmp.Lexicographic.{pointwise}
+use Rattle.snow_base.specs.declared.vote.Vote.{Vote}
+use Rattle.snow_base.specs.Identifier.{bits}
 use Rattle.snow_flake.specs.Parameters.{Parameters}
 use Rattle.snow_flake.specs.Counter.{Counter, Decided, Undecided, fresh, stepped, admits}
 use Rattle.snow_flake.specs.Rule.{Answer, answer_of}
@@ -41,9 +46,21 @@ unfoldable pub chosen : Answer → Counters → List Bool
 chosen answer Blank = []
 chosen answer (At c z o) = if answer_of answer c then true ∷ chosen answer o else false ∷ chosen answer z
 
--- the same where each counter on the way is decided
+-- whether the counters lead to this identifier by their answers
+abbrev pub leads_to : Answer → Counters → List ℕ → Bool
+leads_to answer counters id = pointwise beq (chosen answer counters) (bits id)
+
+-- the bits to which the counters lead, where each counter on the way is decided
 unfoldable pub decided_path : Counters → Option (List Bool)
 decided_path Blank = Some []
 decided_path (At (Undecided s) z o) = None
 decided_path (At (Decided false) z o) = option_map (λ path. false ∷ path) (decided_path z)
 decided_path (At (Decided true) z o) = option_map (λ path. true ∷ path) (decided_path o)
+
+-- whether decided counters alone lead to this identifier
+abbrev pub decides : Counters → List ℕ → Bool
+decides counters id = option_map_or (λ path. pointwise beq path (bits id)) (decided_path counters) false
+
+-- how many of these votes are for identifiers whose bits begin so
+abbrev pub votes_on : List Vote → List Bool → ℕ
+votes_on votes front = sum_by (λ v. if starts_with beq (bits v.id) front then v.count else 0) votes

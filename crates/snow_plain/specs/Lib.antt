@@ -1,4 +1,6 @@
 pub mod Conflict
+pub mod CountersCode
+pub mod Trees
 pub mod Board
 pub mod Poll
 pub mod Preference

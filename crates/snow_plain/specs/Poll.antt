@@ -1,16 +1,13 @@
 -- What a poll makes of a board: the counters, and then acceptance.
 use Rattle.std.specs.Prelude.{ℕ, zero, suc, Bool, not, ◌&&◌, List, [], ◌∷◌, ◌++◌, map, length, Option, Some, None, filter, find, bytes_eq, true, false}
-use Rattle.std.specs.Option.{option_and_then}
-use Rattle.std.specs.Bool.{beq}
-use Rattle.std.specs.Cmp.Lexicographic.{pointwise}
 use Rattle.snow_base.specs.declared.header.Header.{Header}
 use Rattle.snow_base.specs.declared.vote.Vote.{Vote}
-use Rattle.snow_base.specs.Identifier.{bits}
 use Rattle.snow_flake.specs.Parameters.{Parameters}
 use Rattle.snow_base.specs.Ancestry.{descends, votes_below}
 use Rattle.snow_plain.specs.declared.decision.Decision.{Decision}
-use Rattle.snow_plain.specs.Conflict.{Counters, all_polled, decided_path}
-use Rattle.snow_plain.specs.Board.{Board, Pending, blocks_of, with_counters}
+use Rattle.snow_plain.specs.Conflict.{Counters, all_polled, decides}
+use Rattle.snow_plain.specs.declared.pending.Pending.{Pending}
+use Rattle.snow_plain.specs.Board.{Board, blocks_of, with_counters}
 
 -- the counters of a block after a poll with these votes over these blocks
 abbrev pub with_votes : Parameters → List Header → List Vote → List ℕ → Counters → Counters
@@ -25,13 +22,9 @@ counted board votes =
       pending = map (with_counters (with_votes board.parameters blocks votes)) board.pending;
     }
 
--- whether a block is the parent's child with these bits
-abbrev pub is_child_at : List ℕ → List Bool → Pending → Bool
-is_child_at parent path q = bytes_eq q.block.parent parent && pointwise beq path (bits q.block.id)
-
 -- the child of the last accepted block to which decided counters alone lead
 unfoldable pub winner : Board → Option Pending
-winner board = option_and_then (λ path. find (is_child_at board.last path) board.pending) (decided_path board.counters)
+winner board = find (λ q. bytes_eq q.block.parent board.last && decides board.counters q.block.id) board.pending
 
 -- whether a pending block is the child or descends from it
 abbrev pub stays_with : Board → Pending → Pending → Bool

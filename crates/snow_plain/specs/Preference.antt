@@ -2,15 +2,15 @@
 use Rattle.std.specs.Prelude.{ℕ, Bool, ◌&&◌, List, [], ◌∷◌, bytes_eq, if◌then◌else◌}
 use Rattle.std.specs.List.{list_any}
 use Rattle.snow_flake.specs.Rule.{Answer}
-use Rattle.snow_plain.specs.Conflict.{Counters, chosen}
-use Rattle.snow_plain.specs.Board.{Board, Pending}
-use Rattle.snow_plain.specs.Poll.{is_child_at}
+use Rattle.snow_plain.specs.Conflict.{Counters, leads_to}
+use Rattle.snow_plain.specs.declared.pending.Pending.{Pending}
+use Rattle.snow_plain.specs.Board.{Board}
 
 -- the blocks to which the answers lead from a block on, among those issued later
 unfoldable pub path_from : Answer → List ℕ → Counters → List Pending → List (List ℕ)
 path_from answer id counters [] = []
 path_from answer id counters (q ∷ later) =
-    if is_child_at id (chosen answer counters) q then q.block.id ∷ path_from answer q.block.id q.counters later
+    if bytes_eq q.block.parent id && leads_to answer counters q.block.id then q.block.id ∷ path_from answer q.block.id q.counters later
     else path_from answer id counters later
 
 -- the last block of a path that begins with this one

@@ -3,7 +3,6 @@ ghost use Rattle.snow_base.specs.Votes.{total_count};
 ghost use Rattle.snow_base.specs.declared.header.Header.{Header};
 ghost use Rattle.snow_flake.specs.Parameters.{AreGood};
 ghost use Rattle.snow_plain.specs.Board as model;
-ghost use Rattle.snow_plain.specs.Poll as model;
 
 use std::alloc::{AllocError, Global};
 
@@ -14,7 +13,7 @@ use crate::decision::Decision;
 
 /// A board of pending blocks above a last accepted one. It decides by polls, however it is kept.
 pub trait Board: Sized + Drop {
-    ghost use Rattle.snow_plain.specs.Board as model;
+    ghost use Rattle.snow_plain.specs.declared.decision.Decision.{Decision};
     ghost use Rattle.snow_plain.specs.Poll.{poll};
     ghost use Rattle.snow_plain.specs.Preference.{preferred, is_preferred};
     ghost use Rattle.snow_plain.specs.Reached.{MayIssue};

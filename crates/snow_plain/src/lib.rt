@@ -2,7 +2,10 @@
 #![tactic(auto)]
 
 mod board;
+mod conflict;
 mod decision;
+mod pending;
+mod tree;
 
 pub use board::Board;
 pub use decision::Decision;

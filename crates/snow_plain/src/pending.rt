@@ -1,0 +1,10 @@
+use snow_base::Header;
+
+use crate::conflict::Conflict;
+
+/// A pending block, with the counters of its children.
+#[derive(Debug, Drop)]
+pub struct Pending {
+    pub block: Header,
+    pub counters: Conflict,
+}
