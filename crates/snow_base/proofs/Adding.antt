@@ -1,6 +1,5 @@
 -- Lemmas on votes in bit order: where an identifier's votes stand, and what adding to them does.
-use Rattle.std.proofs.Common.{◌≡◌, ℕ, zero, suc, ◌+◌, ◌<◌, ◌≤◌, List, [], ◌∷◌, length, get_or, set, take, drop, insert, All, Result, Ok, Err, refl, sym, ap, ◌∙◌, arith, Ordering, Less, Equal, Greater, false, is_lt, inl, inr, AllPairs, sum_by, ◌^◌, max}
-use Rattle.std.specs.List.{AllWithin}
+use Rattle.std.proofs.Common.{◌≡◌, ℕ, zero, suc, ◌+◌, ◌<◌, ◌≤◌, List, [], ◌∷◌, length, get_or, set, take, insert, All, Result, Ok, Err, refl, sym, ap, ◌∙◌, arith, Ordering, Less, Equal, Greater, is_lt, inl, inr, ◌^◌, max}
 use Rattle.std.specs.List.Sorted.{IsSortedBy, IsSearchInRange, IsBinarySearchResult}
 use Rattle.std.specs.Ordering.{match_ordering, ordering_reverse}
 use Rattle.std.proofs.lemmas.Bool.{cases_lt}
@@ -54,8 +53,9 @@ none_there votes id at place has =
     let same : bit_cmp (get_or votes has.0 has.1).id id ≡ Equal =
     ap (λ v. bit_cmp v.id id) has.3 ∙ ap (λ i. bit_cmp i id) has.4 ∙ tied_itself {R = bit_cmp} bit_cmp-total id in
     elim (cases_lt has.0 at) [
-      inl h ↦ let less = place.1.0 has.0 has.1 (omega arith) h in cc
-    | inr h ↦ let greater = place.1.1 has.0 has.1 h has.2 in cc ]
+      | inl h ↦ let less = place.1.0 has.0 has.1 (omega arith) h in cc
+      | inr h ↦ let greater = place.1.1 has.0 has.1 h has.2 in cc
+    ]
 
 -- ---- what adding does
 
@@ -83,8 +83,8 @@ pub added_counted : (votes : List Vote) (id : List ℕ) (n at : ℕ) (w : Vote) 
 added_counted votes id n at w order place is =
     let same : bit_cmp w.id id ≡ Equal = ap (λ v. bit_cmp v.id id) is ∙ place.1 w in
     counted_at votes id n at w place.0 is
-        (λ k p. sym (alike_right {R = bit_cmp} bit_cmp-total _ _ (get_or votes k w).id (place.1 w)) ∙ order k at w p place.0)
-        same
+    (λ k p. sym (alike_right {R = bit_cmp} bit_cmp-total _ _ (get_or votes k w).id (place.1 w)) ∙ order k at w p place.0)
+    same
 
 -- at a place for new votes they are put
 pub added_inserted : (votes : List Vote) (id : List ℕ) (n at : ℕ) → IsPlaceOf votes id (Err at) → insert votes at (record { id = id; count = n }) ≡ added votes id n
@@ -105,9 +105,10 @@ all_added P (v ∷ votes) id n all one more =
     let head = All-head P v votes all in
     let tail = All-tail P v votes all in
     elim (bit_cmp v.id id) as (λ o. All P (step o v votes id n)) [
-      Less ↦ All-cons P v _ head (all_added P votes id n tail one more)
-    | Equal ↦ All-cons P _ votes (more v head) tail
-    | Greater ↦ All-cons P _ (v ∷ votes) one all ]
+      | Less ↦ All-cons P v _ head (all_added P votes id n tail one more)
+      | Equal ↦ All-cons P _ votes (more v head) tail
+      | Greater ↦ All-cons P _ (v ∷ votes) one all
+    ]
 
 -- counts stay above 0
 pub counts_added : (votes : List Vote) (id : List ℕ) (n : ℕ) → 0 < n → All (λ v. 0 < v.count) votes → All (λ v. 0 < v.count) (added votes id n)
@@ -121,7 +122,7 @@ order_step Equal v votes id n is order rest = order_cons _ votes (order_head v v
 order_step Greater v votes id n is order rest =
     let first : bit_cmp id v.id ≡ Less = flip id v.id ∙ ap ordering_reverse is in
     order_cons _ (v ∷ votes) (All-cons (λ w. bit_cmp id w.id ≡ Less) v votes first
-        (λ k d p. bit_cmp-total.trans id v.id _ first (order_head v votes order k d p))) order
+    (λ k d p. bit_cmp-total.trans id v.id _ first (order_head v votes order k d p))) order
 
 -- votes stay in bit order
 pub order_added : (votes : List Vote) (id : List ℕ) (n : ℕ) → IsInBitOrder votes → IsInBitOrder (added votes id n)
@@ -136,18 +137,20 @@ total_added [] id n = omega arith
 total_added (v ∷ votes) id n =
     let count : Vote → ℕ = λ v. v.count in
     elim (bit_cmp v.id id) as (λ o. total_count (step o v votes id n) ≡ total_count (v ∷ votes) + n) [
-      Less ↦ omega (arith, sum_by-cons count v (added votes id n), total_added votes id n, sum_by-cons count v votes)
-    | Equal ↦ omega (arith, sum_by-cons count (record { id = v.id; count = v.count + n }) votes, sum_by-cons count v votes)
-    | Greater ↦ omega (arith, sum_by-cons count (record { id = id; count = n }) (v ∷ votes)) ]
+      | Less ↦ omega (arith, sum_by-cons count v (added votes id n), total_added votes id n, sum_by-cons count v votes)
+      | Equal ↦ omega (arith, sum_by-cons count (record { id = v.id; count = v.count + n }) votes, sum_by-cons count v votes)
+      | Greater ↦ omega (arith, sum_by-cons count (record { id = id; count = n }) (v ∷ votes))
+    ]
 
 -- a tally stays one as votes are added
 pub tally_added : (votes : List Vote) (total : ℕ) (id : List ℕ) (n : ℕ) → IsTally votes total → 1 ≤ n → total + n < 2 ^ 32 → IsTally (added votes id n) (total + n)
 tally_added votes total id n tally some small =
     record {
-      order = order_added votes id n tally.order
-      ; counts = counts_added votes id n some tally.counts
-      ; sum = omega (arith, tally.sum, total_added votes id n)
-      ; small = small }
+      order = order_added votes id n tally.order;
+      counts = counts_added votes id n some tally.counts;
+      sum = omega (arith, tally.sum, total_added votes id n);
+      small = small;
+    }
 
 -- ---- the greatest count
 

@@ -1,5 +1,5 @@
 -- Lemmas on the bits of bytes and identifiers, and on bit order.
-use Rattle.std.proofs.Common.{◌≡◌, ◌≢◌, ℕ, zero, suc, ◌+◌, ◌-◌, ◌/◌, ◌%◌, ◌^◌, ◌<◌, ◌≤◌, ◌⊎◌, Bool, true, false, List, [], ◌∷◌, length, get_or, take, drop, map, bit_xor, ◌==◌, w8, refl, sym, ap, ◌∙◌, subst, inl, inr, arith, Ordering, Less, Equal, Greater, eqb-true, eq-zero-or-pos, add-suc, add-zero, zero-add, ext_get_or, Some, None}
+use Rattle.std.proofs.Common.{◌≡◌, ◌≢◌, ℕ, zero, suc, ◌+◌, ◌%◌, ◌^◌, ◌<◌, Bool, true, false, List, ◌∷◌, length, get_or, drop, map, bit_xor, w8, refl, sym, ap, ◌∙◌, inl, inr, arith, Ordering, Equal, eq-zero-or-pos, add-zero, zero-add, add-one, drop-cons, ext_get_or, Some, None}
 use Rattle.std.specs.Int.{bit_at, trailing_zeros}
 use Rattle.std.specs.List.{range_with_len}
 use Rattle.std.specs.Ordering.{bool_cmp, ordering_then}
@@ -30,8 +30,9 @@ differ_at a b k h = other_bit (bit_at a k) (bit_at b k) (sym (bit_at_xor a b k) 
 xor_positive : (a b : ℕ) → a < 2 ^ 8 → b < 2 ^ 8 → a ≢ b → 0 < bit_xor a b
 xor_positive a b p q n =
     elim (eq-zero-or-pos (bit_xor a b)) [
-      inl e ↦ absurd (n (same_from_bits_below 8 a b p q (λ k h. agree_at a b k (ap (λ x. bit_at x k) e ∙ bit_at-zero k))))
-    | inr h ↦ h ]
+      | inl e ↦ absurd (n (same_from_bits_below 8 a b p q (λ k h. agree_at a b k (ap (λ x. bit_at x k) e ∙ bit_at-zero k))))
+      | inr h ↦ h
+    ]
 
 -- the place of the lowest 1 of the exclusive or is the lowest bit in which two bytes differ
 pub lowest : (a b : ℕ) → a < 2 ^ 8 → b < 2 ^ 8 → a ≢ b
@@ -53,6 +54,12 @@ length-bits id = length-map-range_with_len (bit id) 0 256
 pub get_or-bits : (id : List ℕ) (i : ℕ) (d : Bool) → i < 256 → get_or (bits id) i d ≡ bit id i
 unfolding bits
 get_or-bits id i d h = get_or-map-range_with_len (bit id) 0 256 i i d h (omega arith)
+
+-- the bits from i on are bit i and those from i + 1 on
+pub drop-bits : (id : List ℕ) (i : ℕ) → i < 256 → drop i (bits id) ≡ bit id i ∷ drop (i + 1) (bits id)
+drop-bits id i h =
+    let small : i < length (bits id) = rw length-bits h in
+    rw add-one (drop-cons (bits id) i false small ∙ ap (λ b. b ∷ drop (suc i) (bits id)) (get_or-bits id i false h))
 
 -- ---- bit order
 
@@ -81,8 +88,8 @@ cmp_at_first f g a (suc n) (suc i) h same other =
     let here : f a ≡ g a = rw add-zero at (same 0 (omega arith)) in
     then_same (f a) (g a) _ here
     ∙ cmp_at_first f g (a + 1) n i (omega arith)
-        (λ k p. let e : (a + 1) + k ≡ a + suc k = omega arith in rw e (same (suc k) (omega arith)))
-        (rw next other)
+    (λ k p. let e : (a + 1) + k ≡ a + suc k = omega arith in rw e (same (suc k) (omega arith)))
+    (rw next other)
     ∙ ap (λ j. bool_cmp (f j) (g j)) next
 
 cmp_from_zero : (f g : ℕ → Bool) (n i : ℕ) → i < n → ((k : ℕ) → k < i → f k ≡ g k) → (f i ≢ g i)
@@ -100,5 +107,5 @@ pub bit_cmp-same : (a b : List ℕ) → FirstDiffers a b None → bit_cmp a b �
 bit_cmp-same a b h =
     let same : bits a ≡ bits b =
     ext_get_or false (bits a) (bits b) (length-bits a ∙ sym (length-bits b))
-        (λ k p. let small : k < 256 = rw length-bits at p in get_or-bits a k false small ∙ h k small ∙ sym (get_or-bits b k false small)) in
+    (λ k p. let small : k < 256 = rw length-bits at p in get_or-bits a k false small ∙ h k small ∙ sym (get_or-bits b k false small)) in
     ap (λ x. slice_cmp bool_cmp (bits a) x) (sym same) ∙ tied_itself {R = bit_cmp} bit_cmp-total a

@@ -34,9 +34,9 @@ unfoldable pub added : List Vote → List ℕ → ℕ → List Vote
 added [] id n = record { id = id; count = n } ∷ []
 added (v ∷ votes) id n =
     match_ordering (bit_cmp v.id id)
-        (v ∷ added votes id n)
-        (record { id = v.id; count = v.count + n } ∷ votes)
-        (record { id = id; count = n } ∷ v ∷ votes)
+    (v ∷ added votes id n)
+    (record { id = v.id; count = v.count + n } ∷ votes)
+    (record { id = id; count = n } ∷ v ∷ votes)
 
 -- where the votes for id stand, or else where new ones belong
 abbrev pub IsPlaceOf : List Vote → List ℕ → Result ℕ ℕ → Type 0

@@ -8,7 +8,7 @@ returns-in_err-insert-in-Err-clause-known c = λ has. absurd (none_there _ _ _ (
 pub returns-in-Ok-clause-ok : goal.returns-in-Ok-clause-ok
 returns-in-Ok-clause-ok c =
     added_counted c.args.votes.now.items c.args.id c.args.n c.in-Ok.at c.index_mut.result.now c.requires.order
-        (rw c.as_slice.ensures.value at c.in-Ok.ensures) c.index_mut.ensures.value
+    (rw c.as_slice.ensures.value at c.in-Ok.ensures) c.index_mut.ensures.value
 
 pub returns-in_ok-insert-in-Err-clause-ok : goal.returns-in_ok-insert-in-Err-clause-ok
 returns-in_ok-insert-in-Err-clause-ok c =

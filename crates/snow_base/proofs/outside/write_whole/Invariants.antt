@@ -7,7 +7,7 @@ pub record SoFar (before now : Option (List ℕ)) (faults_before faults : ℕ) (
   pub front : List ℕ
   pub all : front ++ rest ≡ bytes
   pub text : Appends before now front
-  pub faults : faults_before ≤ faults
+  pub later : faults_before ≤ faults
 
 abbrev pub invariant-loop-rest : goal.invariant-loop-rest
 invariant-loop-rest g l =
