@@ -1,8 +1,9 @@
 -- Votes in bit order, and what adding to them does.
-use Rattle.std.specs.Prelude.{◌≡◌, ℕ, ◌+◌, ◌^◌, ◌<◌, max, List, [], ◌∷◌, All, sum_by}
+use Rattle.std.specs.Prelude.{◌≡◌, ℕ, ◌+◌, ◌^◌, ◌<◌, ◌≤◌, max, List, [], ◌∷◌, length, All, HoldsAt, Result, Ok, Err, sum_by}
 use Rattle.std.specs.List.{Any, AllPairs}
+use Rattle.std.specs.List.Sorted.{IsPartitionPoint}
 use Rattle.std.specs.Ordering.{match_ordering}
-use Rattle.std.specs.declared.cmp.Ordering.TheVariants.{Less}
+use Rattle.std.specs.declared.cmp.Ordering.TheVariants.{Less, Equal, Greater}
 use Rattle.snow_base.specs.Identifier.{bit_cmp}
 use Rattle.snow_base.specs.declared.vote.Vote.{Vote}
 
@@ -32,10 +33,16 @@ HasVotesFor votes id = Any (λ v. v.id ≡ id) votes
 unfoldable pub added : List Vote → List ℕ → ℕ → List Vote
 added [] id n = record { id = id; count = n } ∷ []
 added (v ∷ votes) id n =
-    match_ordering (bit_cmp id v.id)
-        (record { id = id; count = n } ∷ v ∷ votes)
-        (record { id = v.id; count = v.count + n } ∷ votes)
-        (v ∷ added votes id n)
+    match_ordering (bit_cmp v.id id)
+    (v ∷ added votes id n)
+    (record { id = v.id; count = v.count + n } ∷ votes)
+    (record { id = id; count = n } ∷ v ∷ votes)
+
+-- where the votes for id stand, or else where new ones belong
+abbrev pub IsPlaceOf : List Vote → List ℕ → Result ℕ ℕ → Type 0
+IsPlaceOf votes id (Ok at) = (at < length votes) × HoldsAt (λ v. bit_cmp v.id id ≡ Equal) votes at
+IsPlaceOf votes id (Err at) =
+    (at ≤ length votes) × IsPartitionPoint (λ v. bit_cmp v.id id ≡ Less) (λ v. bit_cmp v.id id ≡ Greater) votes at
 
 -- votes in bit order, with counts above 0 and this total, which fits 32 bits
 pub record IsTally (votes : List Vote) (total : ℕ) : Type 0 where

@@ -1,4 +1,5 @@
-ghost use Rattle.std.specs.Prelude.{◌≡◌, ℕ, ◌+◌, ◌^◌, ◌<◌, ◌≤◌, [], length, All, IsOk, OnOk, OnErr};
+ghost use Rattle.std.specs.Prelude.{◌≡◌, ℕ, ◌+◌, ◌^◌, ◌<◌, ◌≤◌, [], length, All, IsOk, OnOk, OnErr, vec_len, vec_capacity};
+ghost use Rattle.snow_base.specs.Votes.{total_count, most_count, IsInBitOrder, HasVotesFor, added, IsPlaceOf};
 
 use crate::identifier::Id;
 use crate::vote::Vote;
@@ -25,8 +26,6 @@ impl Model for Bag {
 }
 
 impl Bag {
-    ghost use Rattle.snow_base.specs.Votes.{total_count, most_count, IsInBitOrder, HasVotesFor, added};
-
     /// The bag with no vote. It takes no memory.
     pub fn new(alloc: Global) -> Self
         ensures { result.list ≡ [] }
@@ -58,10 +57,7 @@ impl Bag {
         ensures room { self.old.room ≤ self.new.room + 1 }
         ensures room_kept { OnErr result (self.old.room ≤ self.new.room) }
     {
-        match place(self.votes.as_slice(), &id) {
-            Ok(at) => self.votes[at].count += n,
-            Err(at) => self.votes.insert(at, Vote { id, count: n })?,
-        }
+        count_in(&mut self.votes, id, n)?;
         self.total += n;
         Ok(())
     }
@@ -104,7 +100,34 @@ impl Bag {
     }
 }
 
-// The place of the identifier: where it is, or else where it would be put.
-fn place(votes: &[Vote], id: &Id) -> Result<usize, usize> {
+// Adds `n` votes for `id` to votes in bit order.
+fn count_in(votes: &mut Vec<Vote>, id: Id, n: u32) -> Result<(), AllocError>
+    requires order { IsInBitOrder votes.old.items }
+    requires total { total_count votes.old.items + n < 2 ^ 32 }
+    ensures ok { OnOk result (votes.new.items ≡ added votes.old.items id n) }
+    ensures err { OnErr result (votes.new.items ≡ votes.old.items) }
+    ensures fits { vec_len votes.old < vec_capacity votes.old → IsOk result }
+    ensures known { HasVotesFor votes.old.items id → IsOk result × (vec_len votes.new ≡ vec_len votes.old) }
+    ensures len { vec_len votes.new ≤ vec_len votes.old + 1 }
+    ensures len_kept { OnErr result (vec_len votes.new ≡ vec_len votes.old) }
+    ensures capacity { vec_capacity votes.old ≤ vec_capacity votes.new }
+{
+    match place(votes.as_slice(), &id) {
+        Ok(at) => {
+            votes[at].count += n;
+            Ok(())
+        }
+        Err(at) => {
+            votes.insert(at, Vote { id, count: n })?;
+            Ok(())
+        }
+    }
+}
+
+// Where the votes for `id` stand, or else where new ones belong.
+fn place(votes: &[Vote], id: &Id) -> Result<usize, usize>
+    requires { IsInBitOrder votes.now }
+    ensures { IsPlaceOf votes.now id.now result }
+{
     votes.binary_search_by(|vote| vote.id.bit_cmp(id))
 }

@@ -1,7 +1,5 @@
-ghost use Rattle.std.specs.Prelude.{◌≡◌, ℕ, ◌<◌, List, IsTrue};
-ghost use Rattle.std.specs.Ordering.{bool_cmp};
-ghost use Rattle.std.specs.Cmp.Lexicographic.{slice_cmp};
-ghost use Rattle.snow_base.specs.Identifier.{byte_bits};
+ghost use Rattle.std.specs.Prelude.{◌≡◌, ◌≢◌, ℕ, ◌<◌, List, IsTrue};
+ghost use Rattle.std.specs.Int.{bit_at};
 
 use std::cmp::Ordering;
 use std::marker::Model;
@@ -23,7 +21,7 @@ impl Model for Id {
 }
 
 impl Id {
-    ghost use Rattle.snow_base.specs.Identifier.{bit, bit_cmp};
+    ghost use Rattle.snow_base.specs.Identifier.{bit, bit_cmp, FirstDiffers};
 
     pub fn from_bytes(bytes: [u8; 32]) -> Self
         ensures { result ≡ bytes }
@@ -48,24 +46,33 @@ impl Id {
     pub fn bit_cmp(&self, other: &Id) -> Ordering
         ensures { result ≡ bit_cmp self.now other.now }
     {
-        for at in 0..32 {
-            if self.bytes[at] != other.bytes[at] {
-                return byte_cmp(self.bytes[at], other.bytes[at]);
+        match self.first_differing(other) {
+            None => Ordering::Equal,
+            Some(i) => self.bit(i).cmp(&other.bit(i)),
+        }
+    }
+
+    // The first bit in which the two differ, if there is one. Bytes that agree are passed whole.
+    fn first_differing(&self, other: &Id) -> Option<u16>
+        ensures { FirstDiffers self.now other.now result }
+    {
+        for at in 0..32u16 {
+            let a = self.bytes[usize::from(at)];
+            let b = other.bytes[usize::from(at)];
+            if a != b {
+                return Some(8 * at + lowest_differing(a, b));
             }
         }
-        Ordering::Equal
+        None
     }
 }
 
-// Bit order of two bytes: the lowest bit in which they differ decides.
-fn byte_cmp(a: u8, b: u8) -> Ordering
-    ensures { result ≡ slice_cmp bool_cmp (byte_bits a) (byte_bits b) }
+// The lowest bit in which two bytes differ.
+fn lowest_differing(a: u8, b: u8) -> u16
+    requires { a ≢ b }
+    ensures within { result < 8 }
+    ensures below { (k : ℕ) → k < result → bit_at a k ≡ bit_at b k }
+    ensures differs { bit_at a result ≢ bit_at b result }
 {
-    for i in 0..8 {
-        match ((a >> i) & 1).cmp(&((b >> i) & 1)) {
-            Ordering::Equal => {}
-            different => return different,
-        }
-    }
-    Ordering::Equal
+    (a ^ b).trailing_zeros() as u16
 }

@@ -40,6 +40,7 @@ pub trait Sink {
 }
 
 /// Writes all of `bytes`. At `Failed` a front of them was written.
+#[tactic(auto, using(crate::proofs::Known::appending))]
 pub fn write_whole<K: Sink>(sink: &mut K, bytes: &[u8]) -> Result<(), Failed>
     ensures ok { OnOk result (Appends (K.written sink.old) (K.written sink.new) bytes.now) }
     ensures err { OnErr result (AppendsFront (K.written sink.old) (K.written sink.new) bytes.now) }
