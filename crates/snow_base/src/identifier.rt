@@ -1,4 +1,4 @@
-ghost use Rattle.std.specs.Prelude.{◌≡◌, ◌≢◌, ℕ, ◌<◌, List, IsTrue};
+ghost use Rattle.std.specs.Prelude.{◌≡◌, ◌≢◌, ℕ, ◌<◌, List, IsTrue, length};
 ghost use Rattle.std.specs.Int.{bit_at};
 
 use std::cmp::Ordering;
@@ -30,7 +30,8 @@ impl Id {
     }
 
     pub fn as_bytes(&self) -> &[u8; 32]
-        ensures { result.now ≡ self.now }
+        ensures bytes { result.now ≡ self.now }
+        ensures length { length self.now ≡ 32 }
     {
         &self.bytes
     }

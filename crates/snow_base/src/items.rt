@@ -43,6 +43,13 @@ impl<T: Drop> Items<T> {
     {
         self.items.as_slice()
     }
+
+    /// Lets all items go. It takes no memory.
+    pub fn clear(&mut self)
+        ensures { self.new ≡ [] }
+    {
+        self.items.clear();
+    }
 }
 
 impl Items<u8> {

@@ -1,4 +1,4 @@
-ghost use Rattle.std.specs.Prelude.{◌≡◌};
+ghost use Rattle.std.specs.Prelude.{◌≡◌, length};
 
 use std::marker::Model;
 
@@ -26,7 +26,8 @@ impl NodeId {
     }
 
     pub fn as_bytes(&self) -> &[u8; 20]
-        ensures { result.now ≡ self.now }
+        ensures bytes { result.now ≡ self.now }
+        ensures length { length self.now ≡ 20 }
     {
         &self.bytes
     }

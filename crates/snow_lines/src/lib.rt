@@ -1,0 +1,9 @@
+//! The lines that the program writes, each with its one text.
+#![tactic(auto)]
+
+mod line;
+mod printing;
+mod text;
+
+pub use line::{DropWhy, Line, Lines, SkipKind};
+pub use printing::print;
