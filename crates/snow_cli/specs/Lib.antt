@@ -1,0 +1,4 @@
+pub mod Chain
+pub mod Node
+pub mod Output
+pub mod Answer

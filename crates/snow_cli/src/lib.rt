@@ -1,0 +1,5 @@
+//! The top call: from words and bytes that come in to the lines that go out.
+#![tactic(auto)]
+
+mod chain;
+
