@@ -5,14 +5,18 @@ mod bag;
 mod header;
 mod identifier;
 mod items;
+mod memory;
 mod node;
 mod outside;
+mod pure;
 mod vote;
 
 pub use bag::Bag;
 pub use header::Header;
 pub use identifier::Id;
 pub use items::{Blocks, Bytes, Ids, Items, Nodes, Nums};
+pub use memory::{MemSink, MemSource};
 pub use node::NodeId;
 pub use outside::{Failed, Sink, Source, write_whole};
+pub use pure::{PureSink, PureSource};
 pub use vote::Vote;
