@@ -1,6 +1,7 @@
 //! What every layer stands on: identifiers, votes, lists, and the outside as sources and sinks.
 #![tactic(auto)]
 
+mod adapter;
 mod bag;
 mod header;
 mod identifier;
@@ -11,6 +12,7 @@ mod outside;
 mod pure;
 mod vote;
 
+pub use adapter::{ReadSource, WriteSink};
 pub use bag::Bag;
 pub use header::Header;
 pub use identifier::Id;
