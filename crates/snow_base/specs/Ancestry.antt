@@ -1,5 +1,5 @@
 -- Who descends from whom in a list of blocks, in which parents stand before their children.
-use Rattle.std.specs.Prelude.{ℕ, ◌+◌, Bool, false, List, [], ◌∷◌, reverse, Option, Some, None, sum_by, find, bytes_eq, if◌then◌else◌}
+use Rattle.std.specs.Prelude.{ℕ, Bool, false, List, [], ◌∷◌, reverse, Option, Some, None, sum_by, find, bytes_eq, if◌then◌else◌}
 use Rattle.std.specs.Bool.{beq}
 use Rattle.std.specs.List.{list_any, starts_with}
 use Rattle.snow_base.specs.declared.header.Header.{Header}

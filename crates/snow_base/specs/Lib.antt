@@ -1,4 +1,5 @@
 pub mod Ancestry
 pub mod Identifier
+pub mod Memory
 pub mod Outside
 pub mod Votes

@@ -40,6 +40,7 @@ impl Bag {
     pub fn reserve(&mut self, n: usize) -> Result<(), AllocError>
         ensures list { self.new.list ≡ self.old.list }
         ensures ok { OnOk result (n ≤ self.new.room) }
+        ensures fits { n ≤ self.old.room → IsOk result }
         ensures room { self.old.room ≤ self.new.room }
     {
         self.votes.reserve(n)

@@ -1,18 +1,24 @@
 //! What every layer stands on: identifiers, votes, lists, and the outside as sources and sinks.
 #![tactic(auto)]
 
+mod adapter;
 mod bag;
 mod header;
 mod identifier;
 mod items;
+mod memory;
 mod node;
 mod outside;
+mod pure;
 mod vote;
 
+pub use adapter::{ReadSource, WriteSink};
 pub use bag::Bag;
 pub use header::Header;
 pub use identifier::Id;
 pub use items::{Blocks, Bytes, Ids, Items, Nodes, Nums};
+pub use memory::{MemSink, MemSource};
 pub use node::NodeId;
 pub use outside::{Failed, Sink, Source, write_whole};
+pub use pure::{PureSink, PureSource};
 pub use vote::Vote;
