@@ -1,0 +1,203 @@
+-- Events read from the front of bytes, with the first fault that is met.
+use Rattle.std.specs.Prelude.{◌≡◌, ℕ, zero, suc, ◌<◌, List, [], ◌∷◌, length, take, drop, get_or, slice_index, Result, Ok, Err, nat_le, nat_lt, ◌==◌, if◌then◌else◌}
+use Rattle.byteorder.specs.Endian.{big_number}
+use Rattle.snow_wire.specs.declared.event.Event.{Event}
+use Rattle.snow_wire.specs.declared.event.Event.TheVariants as event
+use Rattle.snow_wire.specs.declared.event.Start.{Start}
+use Rattle.snow_wire.specs.declared.skip.Skip.{Skip}
+use Rattle.snow_wire.specs.declared.skip.Skip.TheVariants as skip
+
+-- what goes wrong: no such tag, an end too soon, bytes that are left, a field out of its range
+pub data Fault : Type 0 where
+  Tag : Fault
+  Short : Fault
+  Extra : Fault
+  Count : Fault
+
+-- what a function refused with is the fault that reading meets, unless memory ran out
+abbrev pub Refuses : {A : Type 0} → Skip → Result A Fault → Type 0
+Refuses skip.Tag read = read ≡ Err Tag
+Refuses skip.Short read = read ≡ Err Short
+Refuses skip.Extra read = read ≡ Err Extra
+Refuses skip.Count read = read ≡ Err Count
+Refuses skip.Memory read = Unit {0}
+
+-- what a function answered is what reading gives, unless memory ran out
+abbrev pub Gives : {A : Type 0} → Result A Skip → Result A Fault → Type 0
+Gives (Ok x) read = read ≡ Ok x
+Gives (Err e) read = Refuses e read
+
+-- each number is a byte's
+abbrev pub IsBytes : List ℕ → Type 0
+IsBytes bytes = (i : ℕ) → slice_index bytes i < 256
+
+-- ---- fields
+
+-- what is read from the front of bytes, and the bytes behind it
+abbrev pub Read : Type 0 → Type 0
+Read A = Result (A × List ℕ) Fault
+
+-- goes on with what was read, unless a fault was met
+infixl 10 ◌>>=◌
+abbrev pub ◌>>=◌ : {A B : Type 0} → Result A Fault → (A → Result B Fault) → Result B Fault
+(Ok x) >>= f = f x
+(Err e) >>= f = Err e
+
+-- so many bytes
+unfoldable pub bytes_at : ℕ → List ℕ → Read (List ℕ)
+bytes_at n bytes = if nat_lt (length bytes) n then Err Short else Ok (take n bytes, drop n bytes)
+
+-- a number of so many bytes
+unfoldable pub number_at : ℕ → List ℕ → Read ℕ
+number_at n bytes = if nat_lt (length bytes) n then Err Short else Ok (big_number n bytes, drop n bytes)
+
+-- a number of n bytes that is at most the limit
+unfoldable pub limited_at : ℕ → ℕ → List ℕ → Read ℕ
+limited_at n limit bytes = do
+  number ← number_at n bytes
+  if nat_le number.0 limit then Ok number else Err Count
+
+-- four bytes of length, which is at most the limit, and so many bytes
+unfoldable pub sized_at : ℕ → List ℕ → Read (List ℕ)
+sized_at limit bytes = do
+  len ← limited_at 4 limit bytes
+  bytes_at len.0 len.1
+
+-- so many items
+unfoldable pub items_at : {A : Type 0} → (List ℕ → Read A) → ℕ → List ℕ → Read (List A)
+items_at item zero bytes = Ok ([], bytes)
+items_at item (suc n) bytes = do
+  first ← item bytes
+  others ← items_at item n first.1
+  Ok (first.0 ∷ others.0, others.1)
+
+-- two bytes of count, which is at most the limit, and so many items
+unfoldable pub counted_at : {A : Type 0} → (List ℕ → Read A) → ℕ → List ℕ → Read (List A)
+counted_at item limit bytes = do
+  count ← limited_at 2 limit bytes
+  items_at item count.0 count.1
+
+abbrev pub id_at : List ℕ → Read (List ℕ)
+id_at = bytes_at 32
+
+abbrev pub node_at : List ℕ → Read (List ℕ)
+node_at = bytes_at 20
+
+-- a node and its weight
+unfoldable pub weighed_at : List ℕ → Read (List ℕ × ℕ)
+weighed_at bytes = do
+  node ← node_at bytes
+  weight ← number_at 8 node.1
+  Ok ((node.0, weight.0), weight.1)
+
+-- a block has at most 65,536 bytes
+abbrev pub block_at : List ℕ → Read (List ℕ)
+block_at = sized_at 65536
+
+-- ---- the fields of an event, behind its tag
+
+unfoldable pub start_at : List ℕ → Read Event
+start_at bytes = do
+  k ← number_at 4 bytes
+  alpha_preference ← number_at 4 k.1
+  alpha_confidence ← number_at 4 alpha_preference.1
+  beta ← number_at 4 alpha_confidence.1
+  repolls ← number_at 4 beta.1
+  boot ← limited_at 1 1 repolls.1
+  last ← id_at boot.1
+  height ← number_at 8 last.1
+  state ← counted_at (number_at 8) 4096 height.1
+  nodes ← counted_at weighed_at 4096 state.1
+  Ok (
+    event.Start (record {
+      k = k.0;
+      alpha_preference = alpha_preference.0;
+      alpha_confidence = alpha_confidence.0;
+      beta = beta.0;
+      repolls = repolls.0;
+      boot = boot.0 == 1;
+      last = last.0;
+      height = height.0;
+      state = state.0;
+      nodes = nodes.0;
+    }),
+    nodes.1,
+  )
+
+unfoldable pub poll_at : List ℕ → Read Event
+poll_at bytes = do
+  ids ← counted_at id_at 1024 bytes
+  Ok (event.Poll ids.0, ids.1)
+
+unfoldable pub words_at : List ℕ → Read Event
+words_at bytes = do
+  words ← counted_at (number_at 8) 4096 bytes
+  Ok (event.Words words.0, words.1)
+
+unfoldable pub stored_at : List ℕ → Read Event
+stored_at bytes = do
+  block ← block_at bytes
+  Ok (event.Stored block.0, block.1)
+
+unfoldable pub validators_at : List ℕ → Read Event
+validators_at bytes = do
+  nodes ← counted_at weighed_at 4096 bytes
+  Ok (event.Validators nodes.0, nodes.1)
+
+unfoldable pub line_at : List ℕ → Read Event
+line_at bytes = do
+  text ← sized_at 1100000 bytes
+  Ok (event.Line text.0, text.1)
+
+-- an event of a node and a request
+unfoldable pub sender_at : (List ℕ → ℕ → Event) → List ℕ → Read Event
+sender_at made bytes = do
+  node ← node_at bytes
+  request ← number_at 4 node.1
+  Ok (made node.0 request.0, request.1)
+
+-- an event of a node, a request and one field more
+unfoldable pub message_at : {A : Type 0} → (List ℕ → Read A) → (List ℕ → ℕ → A → Event) → List ℕ → Read Event
+message_at field made bytes = do
+  node ← node_at bytes
+  request ← number_at 4 node.1
+  more ← field request.1
+  Ok (made node.0 request.0 more.0, more.1)
+
+-- no event has this tag
+abbrev pub unknown_at : List ℕ → Read Event
+unknown_at bytes = Err Tag
+
+-- how the fields are read, by tag from 0 on
+abbrev pub tags : List (List ℕ → Read Event)
+tags =
+    unknown_at
+    ∷ start_at
+    ∷ message_at block_at event.Block
+    ∷ poll_at
+    ∷ words_at
+    ∷ message_at id_at event.Chits
+    ∷ sender_at event.Timeout
+    ∷ message_at id_at event.Frontier
+    ∷ message_at (counted_at id_at 4096) event.Accepted
+    ∷ message_at (counted_at block_at 2048) event.Ancestors
+    ∷ stored_at
+    ∷ validators_at
+    ∷ sender_at event.AskQuery
+    ∷ sender_at event.AskFrontier
+    ∷ message_at (counted_at id_at 4096) event.AskAccepted
+    ∷ message_at id_at event.AskAncestors
+    ∷ message_at id_at event.AskBlock
+    ∷ line_at
+    ∷ []
+
+-- the fields of the event with this tag
+unfoldable pub fields_at : ℕ → List ℕ → Read Event
+fields_at tag = get_or tags tag unknown_at
+
+-- the event that all of the bytes spell, or the first fault
+unfoldable pub event_of : List ℕ → Result Event Fault
+event_of bytes = do
+  tag ← number_at 1 bytes
+  event ← fields_at tag.0 tag.1
+  if length event.1 == 0 then Ok event.0 else Err Extra

@@ -1,0 +1,21 @@
+ghost use Rattle.std.specs.Prelude.{◌≡◌, ◌≢◌, ◌++◌, ℕ, List, Ok, IsSome};
+ghost use Rattle.snow_wire.specs.declared.event.Event.{Event};
+ghost use Rattle.snow_wire.specs.Spelling.{IsInRange, spelling};
+ghost use Rattle.snow_wire.specs.Reading.{IsBytes, event_of};
+ghost use Rattle.snow_wire.specs.Frame.{AreFrames, IsPayload, frame, frames_of};
+
+/// Each event in range is read back from its spelling, and no other payload is read as it.
+pub fn one_spelling()
+    ensures again { (event : Event) → IsInRange event → event_of (spelling event) ≡ Ok event }
+    ensures only { (payload : List ℕ) (event : Event) → IsBytes payload → event_of payload ≡ Ok event
+        → IsInRange event × (payload ≡ spelling event) }
+{}
+
+/// A stream is frames and a rest in one way, which going from the front finds. No frame's bytes begin
+/// another frame's.
+pub fn one_reading()
+    ensures found { (bytes : List ℕ) → IsBytes bytes → AreFrames bytes (frames_of bytes).0 (frames_of bytes).1 }
+    ensures only { (bytes : List ℕ) (payloads : List (List ℕ)) (rest : List ℕ) → AreFrames bytes payloads rest
+        → (payloads ≡ (frames_of bytes).0) × (rest ≡ (frames_of bytes).1) }
+    ensures apart { (a b more : List ℕ) → IsPayload a → IsPayload b → frame a ++ more ≡ frame b → a ≡ b }
+{}

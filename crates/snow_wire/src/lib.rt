@@ -1,0 +1,16 @@
+//! Frames and events: how a stream of bytes is read as events, and how an event is spelled.
+#![tactic(auto)]
+
+mod decoding;
+mod encoding;
+mod event;
+mod frame;
+mod laws;
+mod skip;
+
+pub use decoding::decode;
+pub use encoding::encode;
+pub use event::{Event, Start};
+pub use frame::first_frame;
+pub use laws::{one_reading, one_spelling};
+pub use skip::Skip;

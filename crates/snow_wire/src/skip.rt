@@ -1,0 +1,15 @@
+/// Why a payload isn't an event: the first thing that goes wrong, read from the front; or want of
+/// memory.
+#[derive(Clone, Copy, Debug, PartialEq, Eq)]
+pub enum Skip {
+    /// The first byte is no event's tag.
+    Tag,
+    /// The payload ends before its tag, or inside a field, a list or a block.
+    Short,
+    /// All fields were read, and bytes are left.
+    Extra,
+    /// A field was read whole and is out of its range.
+    Count,
+    /// There was no memory for the event.
+    Memory,
+}
