@@ -1,4 +1,5 @@
 pub mod Chain
+pub mod Input
 pub mod Node
 pub mod Output
 pub mod Answer

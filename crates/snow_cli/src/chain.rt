@@ -1,4 +1,5 @@
-ghost use Rattle.std.specs.Prelude.{◌≡◌, ◌≤◌, length};
+ghost use Rattle.std.specs.Prelude.{◌≡◌, ◌≤◌, length, take, drop};
+ghost use Rattle.byteorder.specs.Endian.{big_number};
 ghost use Rattle.snow_cli.specs.Chain.{header_of, is_valid};
 
 use byteorder::{BigEndian, ByteOrder};
@@ -11,14 +12,27 @@ use snow_base::{Header, Id};
 pub fn header_of(bytes: &[u8]) -> Option<Header>
     ensures { result ≡ header_of bytes.now }
 {
-    if bytes.len() < 73 || bytes[72] > 1 {
+    if bytes.len() < 73 {
         return None;
     }
-    Some(Header {
+    if bytes[72] > 1 {
+        return None;
+    }
+    Some(fields_of(bytes))
+}
+
+/// The three fields in front.
+fn fields_of(bytes: &[u8]) -> Header
+    requires { 73 ≤ length bytes.now }
+    ensures id { result.id ≡ take 32 bytes.now }
+    ensures parent { result.parent ≡ take 32 (drop 32 bytes.now) }
+    ensures height { result.height ≡ big_number 8 (drop 64 bytes.now) }
+{
+    Header {
         id: id_at(&bytes[..32]),
         parent: id_at(&bytes[32..64]),
-        height: BigEndian::read_u64(&bytes[64..72]),
-    })
+        height: BigEndian::read_u64(&bytes[64..]),
+    }
 }
 
 /// Whether the plain chain takes a block with these bytes: where its flag is 1.

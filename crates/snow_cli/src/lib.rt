@@ -2,4 +2,7 @@
 #![tactic(auto)]
 
 mod chain;
+mod input;
+mod status;
 
+pub use status::Status;
