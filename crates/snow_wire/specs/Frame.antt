@@ -39,7 +39,7 @@ is_whole bytes = nat_le 4 (length bytes) && nat_le (length_word bytes) 2097152 &
 unfoldable pub first_of : List ℕ → Option (List ℕ × List ℕ)
 first_of bytes =
     if is_whole bytes
-    then Some (take (length_word bytes) (drop 4 bytes), drop (4 + length_word bytes) bytes)
+    then Some (take (length_word bytes) (drop 4 bytes), drop (length_word bytes) (drop 4 bytes))
     else None
 
 -- the first payload and those behind it; without a first one all is rest
