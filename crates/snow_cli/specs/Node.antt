@@ -12,6 +12,7 @@ use Rattle.snow_wire.specs.declared.event.Event.{Event}
 use Rattle.snow_wire.specs.declared.event.Event.TheVariants as event
 use Rattle.snow_lines.specs.declared.line.Line.{Line}
 use Rattle.snow_lines.specs.declared.line.Line.TheVariants as line
+use Rattle.snow_lines.specs.declared.line.DropWhy.{DropWhy}
 use Rattle.snow_lines.specs.declared.line.DropWhy.TheVariants as why
 use Rattle.snow_lines.specs.declared.line.SkipKind.TheVariants as kind
 use Rattle.snow_cli.specs.Chain.{header_of, is_valid}
@@ -33,17 +34,21 @@ told answer before after =
 abbrev pub just : Board → Line → Board × List Line
 just board l = (board, l ∷ [])
 
--- a block above a parent at this height, if the parent is on the board
-abbrev pub placed : Answer → Board → Header → Bool → Option ℕ → Board × List Line
-placed answer board block valid None = just board (line.Drop block.id why.Parent)
-placed answer board block valid (Some below) =
-    if nat_le 4096 (length board.pending) then just board (line.Drop block.id why.Full)
-    else (if block.height == below + 1 && valid then told answer board (issued board block, [])
-    else just board (line.Drop block.id why.Invalid))
+-- why a block can't be issued above a parent at this height, if the parent is on the board
+abbrev pub refusal : Board → Header → Bool → Option ℕ → Option DropWhy
+refusal board block valid None = Some why.Parent
+refusal board block valid (Some below) =
+    if nat_le 4096 (length board.pending) then Some why.Full
+    else (if block.height == below + 1 && valid then None else Some why.Invalid)
+
+-- a block is issued, unless something stands against it
+abbrev pub placed : Answer → Board → Header → Option DropWhy → Board × List Line
+placed answer board block None = told answer board (issued board block, [])
+placed answer board block (Some why) = just board (line.Drop block.id why)
 
 -- a block that isn't on the board is placed above its parent; one that is changes nothing
 abbrev pub offered : Answer → Board → Header → Bool → Option ℕ → Board × List Line
-offered answer board block valid None = placed answer board block valid (height_of board block.parent)
+offered answer board block valid None = placed answer board block (refusal board block valid (height_of board block.parent))
 offered answer board block valid (Some height) = (board, [])
 
 -- a block's bytes came

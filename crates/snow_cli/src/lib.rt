@@ -3,6 +3,7 @@
 
 mod chain;
 mod input;
+mod node;
 mod status;
 
 pub use status::Status;
