@@ -7,7 +7,9 @@ use Rattle.snow_lines.specs.declared.line.Line.{Line}
 use Rattle.snow_lines.specs.Text.{texts}
 use Rattle.snow_cli.specs.declared.status.Status.{Status}
 use Rattle.snow_cli.specs.declared.status.Status.TheVariants as status
-use Rattle.snow_cli.specs.Output.{Stream, simple, lines_of}
+use Rattle.snow_plain.specs.Board.{Board}
+use Rattle.snow_wire.specs.declared.event.Event.{Event}
+use Rattle.snow_cli.specs.Output.{simple, lines_of}
 
 -- the one word `decide`
 abbrev pub is_decide : List (List ℕ) → Bool
@@ -16,7 +18,7 @@ is_decide (word ∷ []) = bytes_eq word (codes "decide")
 is_decide (word ∷ another ∷ words) = false
 
 -- the answer and the lines for a simple stream, or for another one
-abbrev pub answered : Answer → Option Stream → Status × List Line
+abbrev pub answered : Answer → Option (Board × List Event) → Status × List Line
 answered answer None = (status.Unsupported, [])
 answered answer (Some stream) = (status.Done, lines_of answer stream)
 

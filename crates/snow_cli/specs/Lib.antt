@@ -2,4 +2,5 @@ pub mod Chain
 pub mod Input
 pub mod Node
 pub mod Output
+pub mod Streams
 pub mod Answer

@@ -4,6 +4,8 @@
 mod chain;
 mod input;
 mod node;
+mod reading;
+mod stream;
 mod status;
 
 pub use status::Status;
