@@ -1,5 +1,5 @@
 -- How deep counters stand, and the votes for what is below a bit.
-use Rattle.std.specs.Prelude.{ℕ, ◌+◌, max, Bool, List, drop, Option, Some, None, sum_by, if◌then◌else◌}
+use Rattle.std.specs.Prelude.{ℕ, ◌+◌, max, Bool, false, List, drop, sum_by, if◌then◌else◌}
 use Rattle.std.specs.Bool.{beq}
 use Rattle.std.specs.List.{starts_with}
 use Rattle.snow_base.specs.declared.vote.Vote.{Vote}
@@ -16,7 +16,7 @@ depth (At c z o) = max (depth z) (depth o) + 1
 abbrev pub votes_from : ℕ → List Vote → List Bool → ℕ
 votes_from n votes front = sum_by (λ v. if starts_with beq (drop n (bits v.id)) front then v.count else 0) votes
 
--- the bit of a decided counter
-abbrev pub decided_bit : Counter → Option Bool
-decided_bit (Decided bit) = Some bit
-decided_bit (Undecided s) = None
+-- whether a counter is decided with this bit
+abbrev pub is_decided_as : Counter → Bool → Bool
+is_decided_as (Decided bit) other = beq bit other
+is_decided_as (Undecided s) other = false

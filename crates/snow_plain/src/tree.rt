@@ -8,7 +8,7 @@ ghost use Rattle.snow_base.specs.Votes.{IsInBitOrder, total_count};
 ghost use Rattle.snow_flake.specs.Counter.{admits, fresh, stepped};
 ghost use Rattle.snow_flake.specs.Instance.{counter_of};
 ghost use Rattle.snow_plain.specs.Conflict.{Blank, At, with_child, all_polled, chosen, decided_path};
-ghost use Rattle.snow_plain.specs.Depth.{decided_bit, depth, votes_from};
+ghost use Rattle.snow_plain.specs.Depth.{depth, is_decided_as, votes_from};
 ghost use Rattle.snow_plain.specs.Trees.{counters_of};
 
 use snow_base::{Id, Vote, split};
@@ -133,21 +133,14 @@ fn total(votes: &[Vote]) -> u32
 fn admits(counter: &Binary, side: bool) -> bool
     ensures { result ≡ admits (counter_of counter.now) side }
 {
-    match decided(counter) {
-        None => true,
-        Some(bit) => bit == side,
-    }
+    !counter.is_final() || counter.preference::<Snowflake>() == side
 }
 
-// The bit of a decided counter.
-fn decided(counter: &Binary) -> Option<bool>
-    ensures { result ≡ decided_bit (counter_of counter.now) }
+// Whether the counter is decided with this bit.
+fn is_decided_as(counter: &Binary, side: bool) -> bool
+    ensures { result ≡ is_decided_as (counter_of counter.now) side }
 {
-    if counter.is_final() {
-        Some(counter.preference::<Snowflake>())
-    } else {
-        None
-    }
+    counter.is_final() && counter.preference::<Snowflake>() == side
 }
 
 /// Whether the answers lead to the bits of this identifier from a bit on.
@@ -173,7 +166,7 @@ pub fn decides(tree: &Tree, id: &Id, bit: u16) -> bool
         Tree::Leaf => bit == 256,
         Tree::Fork(counter, zeros, ones) => {
             let side = id.bit(bit);
-            decided(counter) == Some(side) && decides(if side { ones } else { zeros }, id, bit + 1)
+            is_decided_as(counter, side) && decides(if side { ones } else { zeros }, id, bit + 1)
         }
     }
 }
