@@ -2,3 +2,4 @@ pub mod Adding
 pub mod Bits
 pub mod Examples
 pub mod Known
+pub mod Splitting

@@ -2,4 +2,5 @@ pub mod Ancestry
 pub mod Identifier
 pub mod Memory
 pub mod Outside
+pub mod Split
 pub mod Votes

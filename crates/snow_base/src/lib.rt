@@ -10,6 +10,7 @@ mod memory;
 mod node;
 mod outside;
 mod pure;
+mod sides;
 mod vote;
 
 pub use adapter::{ReadSource, WriteSink};
@@ -21,4 +22,5 @@ pub use memory::{MemSink, MemSource};
 pub use node::NodeId;
 pub use outside::{Failed, Sink, Source, write_whole};
 pub use pure::{PureSink, PureSource};
+pub use sides::split;
 pub use vote::Vote;

@@ -1,1 +1,5 @@
+pub mod Depths
 pub mod Examples
+pub mod Growing
+pub mod Polling
+pub mod Walking

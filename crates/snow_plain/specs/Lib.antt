@@ -1,5 +1,6 @@
 pub mod Conflict
 pub mod CountersCode
+pub mod Depth
 pub mod Trees
 pub mod Board
 pub mod Poll

@@ -1,9 +1,10 @@
-ghost use Rattle.std.specs.Prelude.{◌≡◌};
+ghost use Rattle.std.specs.Prelude.{◌≡◌, ◌^◌, ◌<◌, OnOk, OnErr};
 
-use std::alloc::Global;
+use crate::tree::{self, Tree};
+use snow_base::{Id, Vote};
+use snow_flake::{Params, Rule};
+use std::alloc::{AllocError, Global};
 use std::marker::Model;
-
-use crate::tree::Tree;
 
 /// The counters of one block's children, one for each bit list with which the bits of a child begin.
 #[derive(Debug, Drop)]
@@ -13,8 +14,10 @@ pub struct Conflict {
 }
 
 impl Model for Conflict {
+    ghost use Rattle.std.specs.Prelude.{◌≤◌};
     ghost use Rattle.snow_plain.specs.Conflict.{Counters};
     ghost use Rattle.snow_plain.specs.CountersCode.{coded_counters};
+    ghost use Rattle.snow_plain.specs.Depth.{depth};
     ghost use Rattle.snow_plain.specs.Trees.{counters_of};
 
     ghost Value = { Counters };
@@ -22,10 +25,14 @@ impl Model for Conflict {
     ghost coded = { coded_counters };
 
     ghost view = { λ a. counters_of a.tree };
+
+    ghost invariant = { λ a. depth (counters_of a.tree) ≤ 256 };
 }
 
 impl Conflict {
-    ghost use Rattle.snow_plain.specs.Conflict.{Blank};
+    ghost use Rattle.snow_base.specs.Identifier.{bits};
+    ghost use Rattle.snow_base.specs.Votes.{IsInBitOrder, total_count};
+    ghost use Rattle.snow_plain.specs.Conflict.{Blank, with_child, all_polled, votes_on, leads_to, decides};
 
     /// No counters, before a child is issued.
     pub fn new(alloc: Global) -> Self
@@ -35,5 +42,38 @@ impl Conflict {
             tree: Tree::Leaf,
             alloc,
         }
+    }
+
+    /// Adds a child: fresh counters for its bits where none stood, up to a decided counter of the
+    /// other bit. After want of memory the counters are as before.
+    pub fn add(&mut self, child: &Id) -> Result<(), AllocError>
+        ensures ok { OnOk result (self.new ≡ with_child (bits child.now) self.old) }
+        ensures err { OnErr result (self.new ≡ self.old) }
+    {
+        tree::add(&mut self.tree, self.alloc, child, 0)
+    }
+
+    /// Every counter takes the bit step with its own votes, and those behind a decided counter of
+    /// the other bit go. The votes are those for children. It takes no memory.
+    pub fn poll(&mut self, params: &Params, votes: &[Vote])
+        requires order { IsInBitOrder votes.now }
+        requires total { total_count votes.now < 2 ^ 32 }
+        ensures { self.new ≡ all_polled params.now (votes_on votes.now) self.old }
+    {
+        tree::poll(&mut self.tree, params, votes, 0);
+    }
+
+    /// Whether the counters lead to this identifier, each by its answer.
+    pub fn leads_to<R: Rule>(&self, id: &Id) -> bool
+        ensures { result ≡ leads_to R.answer self.now id.now }
+    {
+        tree::leads_to::<R>(&self.tree, id, 0)
+    }
+
+    /// Whether decided counters alone lead to this identifier.
+    pub fn decides(&self, id: &Id) -> bool
+        ensures { result ≡ decides self.now id.now }
+    {
+        tree::decides(&self.tree, id, 0)
     }
 }

@@ -1,0 +1,9 @@
+use Rattle.std.proofs.Common.{◌≡◌, ◌≤◌, drop}
+use Rattle.snow_base.specs.Identifier.{bits}
+use Rattle.snow_plain.specs.Conflict.{Blank, with_child}
+use Rattle.snow_plain.specs.Trees.{counters_of}
+use Rattle.snow_plain.proofs.tree.chain.Given as goal
+
+-- the counters from this bit on stand
+abbrev pub invariant-loop-at : goal.invariant-loop-at
+invariant-loop-at l = (l.bit ≤ l.at) × (counters_of l.tree ≡ with_child (drop l.at (bits l.child)) Blank)
