@@ -22,13 +22,14 @@ abbrev pub answered : Answer → Option (Board × List Event) → Status × List
 answered answer None = (status.Unsupported, [])
 answered answer (Some stream) = (status.Done, lines_of answer stream)
 
+-- the answer and the lines that the model gives for a whole input of at most 1,048,576 bytes
+unfoldable pub model_in : Answer → List ℕ → Status × List Line
+model_in answer bytes = if length bytes == 0 then (status.BadInput, []) else answered answer (simple bytes)
+
 -- the answer and the lines that the model gives for words and a whole input
 unfoldable pub model : Answer → List (List ℕ) → List ℕ → Status × List Line
 model answer words bytes =
-    if is_decide words then
-      (if nat_lt 1048576 (length bytes) then (status.Unsupported, [])
-      else (if length bytes == 0 then (status.BadInput, [])
-      else answered answer (simple bytes)))
+    if is_decide words then (if nat_lt 1048576 (length bytes) then (status.Unsupported, []) else model_in answer bytes)
     else (status.Unsupported, [])
 
 -- the status is the model's, unless a source fault, a sink fault or want of memory ended the run
@@ -44,6 +45,13 @@ Wrote status.Done before after text = Appends before after text
 Wrote status.SinkFault before after text = AppendsFront before after text
 Wrote status.Memory before after text = AppendsFront before after text
 Wrote _ before after text = Keeps before after
+
+-- nothing was written where no stream was taken
+abbrev pub IsQuiet : Status → Option (List ℕ) → Option (List ℕ) → Type 0
+IsQuiet status.Unsupported before after = Keeps before after
+IsQuiet status.BadInput before after = Keeps before after
+IsQuiet status.SourceFault before after = Keeps before after
+IsQuiet _ before after = ⊤
 
 -- a source fault is told only where the source's count rose or stands at its last value, and a sink
 -- fault only where the sink's did

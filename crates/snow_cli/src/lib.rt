@@ -5,7 +5,9 @@ mod chain;
 mod input;
 mod node;
 mod reading;
+mod run;
 mod stream;
+mod top;
 mod status;
 
 pub use status::Status;

@@ -6,4 +6,4 @@ mod printing;
 mod text;
 
 pub use line::{DropWhy, Line, Lines, SkipKind};
-pub use printing::print;
+pub use printing::{print, print_all};

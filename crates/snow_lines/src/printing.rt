@@ -1,7 +1,7 @@
 ghost use Rattle.std.specs.Prelude.{◌≡◌, ◌≤◌, ℕ, length, OnOk, OnErr};
 ghost use Rattle.std.specs.Io.KnownBytes.{Appends};
 ghost use Rattle.snow_base.specs.Outside.{AppendsFront, HasCause};
-ghost use Rattle.snow_lines.specs.Text.{text, words};
+ghost use Rattle.snow_lines.specs.Text.{text, texts, words};
 
 use snow_base::{Failed, Sink, write_whole};
 
@@ -16,6 +16,19 @@ pub fn print<K: Sink>(line: &Line, sink: &mut K) -> Result<(), Failed>
 {
     let text = text_of(line);
     write_whole(sink, text.as_slice())
+}
+
+/// Writes lines, each in one piece. At `Failed` a front of their text was written.
+#[tactic(auto, using(snow_base::proofs::Known::appending))]
+pub fn print_all<K: Sink>(lines: &[Line], sink: &mut K) -> Result<(), Failed>
+    ensures ok { OnOk result (Appends (K.written sink.old) (K.written sink.new) (texts lines.now)) }
+    ensures err { OnErr result (AppendsFront (K.written sink.old) (K.written sink.new) (texts lines.now)) }
+    ensures cause { HasCause (K.faults sink.old) (K.faults sink.new) result }
+{
+    for line in lines {
+        print(line, sink)?;
+    }
+    Ok(())
 }
 
 /// The text of a line.
