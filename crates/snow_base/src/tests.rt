@@ -34,22 +34,29 @@ fn votes_stand_in_bit_order(rt: HostRuntime) -> Result<(), Fail> {
     Ok(())
 }
 
+// The list of this number alone.
+fn only(rt: &HostRuntime, number: u64) -> Result<Nums, Fail> {
+    let mut list = Nums::new(rt.alloc());
+    list.push(number)?;
+    Ok(list)
+}
+
 #[test]
-fn memory_fails_as_listed(rt: HostRuntime) -> Result<(), Fail> {
-    let mut failing = Nums::new(rt.alloc());
-    failing.push(2)?;
+fn a_source_fails_at_listed_calls(rt: HostRuntime) -> Result<(), Fail> {
     let bytes = Bytes::from_slice(rt.alloc(), b"hello")?;
-    let mut source = MemSource::new(bytes, 3, failing);
+    let mut source = MemSource::new(bytes, 3, only(&rt, 2)?);
     let mut buf = [0; 8];
     assert_eq!(rt; source.read(&mut buf), Ok(3));
     assert_eq!(rt; source.read(&mut buf), Err(Failed));
     assert_eq!(rt; source.read(&mut buf), Ok(2));
-    assert_eq!(rt; &buf[..2], b"lo".as_slice());
+    assert_eq!(rt; &buf[..3], b"lol".as_slice());
     assert_eq!(rt; source.read(&mut buf), Ok(0));
+    Ok(())
+}
 
-    let mut failing = Nums::new(rt.alloc());
-    failing.push(2)?;
-    let mut sink = MemSink::new(rt.alloc(), failing);
+#[test]
+fn a_sink_fails_at_listed_calls_and_for_room(rt: HostRuntime) -> Result<(), Fail> {
+    let mut sink = MemSink::new(rt.alloc(), only(&rt, 2)?);
     sink.reserve(6)?;
     assert_eq!(rt; write_whole(&mut sink, b"one"), Ok(()));
     assert_eq!(rt; write_whole(&mut sink, b"two"), Err(Failed));
@@ -80,9 +87,7 @@ struct Stream {
 }
 
 impl Stream {
-    fn next(&mut self) -> io::Result<usize>
-        ensures { IfOk result (λ n. n ≤ 1) }
-    {
+    fn next(&mut self) -> io::Result<usize> {
         self.turn = self.turn.saturating_add(1);
         match self.turn {
             1 => Err(io::Error::from(ErrorKind::Interrupted)),
