@@ -1,6 +1,6 @@
 use crate::{
-    Bag, Bytes, Failed, Id, Items, MemSink, MemSource, Nums, PureSink, PureSource, ReadSource, Sink,
-    Source, Vote, WriteSink, write_whole,
+    Bag, Bytes, Failed, Id, Items, MemSink, MemSource, Nums, PureSink, PureSource, ReadSource,
+    Sink, Source, Vote, WriteSink, write_whole,
 };
 use std::io::{self, ErrorKind, Read, Write};
 use std::test::Fail;

@@ -12,4 +12,4 @@ invariant_of-self-2 c =
     let small : c.self.inside.total + c.args.n < 2 ^ 32 =
     omega (arith, c.self.invariant.sum, ap (λ v. total_count v.list) c.self.view_is, c.requires.total) in
     rw c.in_ok-count_in.ensures.ok
-        (tally_added c.self.inside.votes.items c.self.inside.total c.args.id c.args.n c.self.invariant c.requires.some small)
+    (tally_added c.self.inside.votes.items c.self.inside.total c.args.id c.args.n c.self.invariant c.requires.some small)
