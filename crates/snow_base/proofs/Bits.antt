@@ -1,9 +1,11 @@
 -- Lemmas on the bits of bytes and identifiers, and on bit order.
-use Rattle.std.proofs.Common.{◌≡◌, ◌≢◌, ℕ, zero, suc, ◌+◌, ◌%◌, ◌^◌, ◌<◌, Bool, true, false, List, ◌∷◌, length, get_or, drop, map, bit_xor, w8, refl, sym, ap, ◌∙◌, inl, inr, arith, Ordering, Equal, eq-zero-or-pos, add-zero, zero-add, add-one, drop-cons, ext_get_or, Some, None}
+use Rattle.std.proofs.Common.{◌≡◌, ◌≢◌, ℕ, zero, suc, ◌+◌, ◌*◌, ◌/◌, ◌%◌, ◌^◌, ◌<◌, ◌==◌, Bool, true, false, List, ◌∷◌, length, get_or, drop, map, bit_xor, w8, refl, sym, ap, ◌∙◌, inl, inr, arith, Ordering, Equal, eq-zero-or-pos, add-zero, zero-add, add-one, drop-cons, ext_get_or, Some, None}
 use Rattle.std.specs.Int.{bit_at, trailing_zeros}
 use Rattle.std.specs.List.{range_with_len}
 use Rattle.std.specs.Ordering.{bool_cmp, ordering_then}
 use Rattle.std.specs.Cmp.Lexicographic.{slice_cmp, lists_total}
+use Rattle.std.specs.FinMap.{IsAntisymmetric, slice_cmp-IsAntisymmetric}
+use Rattle.std.proofs.lemmas.Bool.Decides.{nat_tests}
 use Rattle.std.specs.Cmp.{IsTotalOrder, bool_cmp_total, on_total}
 use Rattle.std.proofs.lemmas.Cmp.{tied_itself}
 use Rattle.std.proofs.lemmas.Nat.{xor_lt}
@@ -109,3 +111,33 @@ bit_cmp-same a b h =
     ext_get_or false (bits a) (bits b) (length-bits a ∙ sym (length-bits b))
     (λ k p. let small : k < 256 = rw length-bits at p in get_or-bits a k false small ∙ h k small ∙ sym (get_or-bits b k false small)) in
     ap (λ x. slice_cmp bool_cmp (bits a) x) (sym same) ∙ tied_itself {R = bit_cmp} bit_cmp-total a
+
+-- ---- bit order tells any two identifiers apart
+
+bool_cmp-exact : IsAntisymmetric bool_cmp
+bool_cmp-exact true true e = refl
+bool_cmp-exact true false e = cc
+bool_cmp-exact false true e = cc
+bool_cmp-exact false false e = refl
+
+same_if_tested : (x y : ℕ) → x < 2 → y < 2 → (x == 1) ≡ (y == 1) → x ≡ y
+same_if_tested x y p q e = grind (arith, nat_tests)
+
+byte_from_bits : (a b : List ℕ) → bits a ≡ bits b → (i : ℕ) → i < 32 → get_or a i 0 < 2 ^ 8 → get_or b i 0 < 2 ^ 8 → get_or a i 0 ≡ get_or b i 0
+byte_from_bits a b same i h p q =
+    same_from_bits_below 8 (get_or a i 0) (get_or b i 0) p q
+    (λ j l. let small : i * 8 + j < 256 = omega arith in
+    let place : (i * 8 + j) / 8 ≡ i = omega arith in
+    let rest : (i * 8 + j) % 8 ≡ j = omega arith in
+    let tested = sym (get_or-bits a (i * 8 + j) false small) ∙ ap (λ x. get_or x (i * 8 + j) false) same ∙ get_or-bits b (i * 8 + j) false small in
+    same_if_tested _ _ (bit_at-lt _ j) (bit_at-lt _ j) (rw (place, rest) at tested))
+
+-- only equal identifiers are equal in bit order
+pub same_from_bit_cmp : (a b : List ℕ) → length a ≡ 32 → length b ≡ 32 → ((i : ℕ) → get_or a i 0 < 2 ^ 8) → ((i : ℕ) → get_or b i 0 < 2 ^ 8)
+    → bit_cmp a b ≡ Equal → a ≡ b
+same_from_bit_cmp a b la lb p q e =
+    let same : bits a ≡ bits b = slice_cmp-IsAntisymmetric bool_cmp-exact (bits a) (bits b) e in
+    ext_get_or 0 a b (la ∙ sym lb) (λ i h. let small : i < 32 = rw la at h in byte_from_bits a b same i small (p i) (q i))
+
+-- the lemmas on an identifier's bits, under a name for `using`
+pub ruleset identifier_bits = (length-bits, get_or-bits, drop-bits)

@@ -3,7 +3,7 @@ use Rattle.std.proofs.Common.{◌≡◌, ℕ, ◌+◌, ◌<◌, List, [], ◌∷
 use Rattle.std.specs.Io.KnownBytes.{Appends, Keeps, Consumes}
 use Rattle.std.proofs.lemmas.List.{take_more}
 use Rattle.std.proofs.lemmas.List.Concat.{flat_map-append}
-use Rattle.std.proofs.KnownBytes.{Appends-nil, Consumes-nil}
+use Rattle.std.proofs.KnownBytes.{Appends-nil, Consumes-nil, Keeps-trans}
 use Rattle.snow_base.specs.Outside.{AppendsFront}
 
 -- ---- written bytes
@@ -47,8 +47,19 @@ front_of_whole None b piece p = tt
 front_of_whole (Some x) None piece p = absurd p
 front_of_whole (Some x) (Some y) piece p = (piece, [], append-nil piece, p)
 
+-- a write that failed with nothing written, and then a piece
+pub kept_then_appends : (a b c : Option (List ℕ)) (all : List ℕ) → Keeps a b → Appends b c all → Appends a c all
+kept_then_appends None b c all p q = tt
+kept_then_appends (Some x) None c all p q = absurd p
+kept_then_appends (Some x) (Some y) None all p q = absurd q
+kept_then_appends (Some x) (Some y) (Some z) all p q = q ∙ ap (λ l. l ++ all) p
+
+-- two calls that failed with nothing written or read
+pub kept_then_kept : (a b c : Option (List ℕ)) → Keeps a b → Keeps b c → Keeps a c
+kept_then_kept = Keeps-trans
+
 -- what lemmas on written pieces a caller wants
-pub ruleset appending = (appends_none, appends_then, appends_then_kept, appends_then_front, front_of_more, front_of_whole)
+pub ruleset appending = (kept_then_appends, kept_then_kept, appends_none, appends_then, appends_then_kept, appends_then_front, front_of_more, front_of_whole)
 
 -- ---- read bytes
 
@@ -64,8 +75,15 @@ consumes_then (Some x) (Some y) None first second all p q e = absurd q
 consumes_then (Some x) (Some y) (Some z) first second all p q e =
     p ∙ ap (λ l. first ++ l) q ∙ sym (append_assoc first second z) ∙ ap (λ l. l ++ z) e
 
+-- a read that failed with nothing read, and then a piece
+pub kept_then_consumes : (a b c : Option (List ℕ)) (all : List ℕ) → Keeps a b → Consumes b c all → Consumes a c all
+kept_then_consumes None b c all p q = tt
+kept_then_consumes (Some x) None c all p q = absurd p
+kept_then_consumes (Some x) (Some y) None all p q = absurd q
+kept_then_consumes (Some x) (Some y) (Some z) all p q = sym p ∙ q
+
 -- what lemmas on read pieces a caller wants
-pub ruleset consuming = (consumes_none, consumes_then)
+pub ruleset consuming = (kept_then_consumes, kept_then_kept, consumes_none, consumes_then)
 
 -- ---- pieces of a list of items
 

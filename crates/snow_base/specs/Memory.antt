@@ -1,5 +1,5 @@
--- What contracts see of the sources and sinks in memory.
-use Rattle.std.specs.Prelude.{ℕ, ◌+◌, ◌-◌, ◌^◌, Bool, min, List, length, ◌==◌, Result, is_err, if◌then◌else◌}
+-- What contracts see of sources and sinks, and how their counts rise.
+use Rattle.std.specs.Prelude.{ℕ, ◌+◌, ◌-◌, ◌^◌, Bool, min, List, length, ◌==◌, Option, Result, is_err, if◌then◌else◌}
 use Rattle.std.specs.List.{list_any}
 use Rattle.snow_base.specs.declared.outside.Failed.{Failed}
 
@@ -23,6 +23,11 @@ pub record Writing : Type 0 where
 pub record PureReading : Type 0 where
   pub left : List ℕ
   pub piece : ℕ
+
+-- a source or a sink over one of std: the bytes that this tells, if it does, and the count of faults
+pub record Passing : Type 0 where
+  pub known : Option (List ℕ)
+  pub faults : ℕ
 
 -- a count that rises by n, and stands still at the end of 64 bits
 abbrev pub raised : ℕ → ℕ → ℕ

@@ -1,4 +1,4 @@
-ghost use Rattle.std.specs.Prelude.{◌≡◌, ℕ, ◌<◌, ◌≤◌, length, IfOk, None};
+ghost use Rattle.std.specs.Prelude.{◌≡◌, ℕ, ◌<◌, ◌≤◌, length, IfOk};
 ghost use Rattle.std.specs.Io.KnownBytes.{ReadConsumes, WriteAppends};
 ghost use Rattle.snow_base.specs.Outside.{HasCause};
 ghost use Rattle.snow_base.specs.Memory.{faults_after};
@@ -7,7 +7,8 @@ use crate::outside::{Failed, Sink, Source};
 use std::io::{ErrorKind, Read, Write};
 use std::marker::Model;
 
-/// A source over a reader, as standard input. It tells no bytes. Contracts see its count of faults.
+/// A source over a reader, as standard input. It tells the bytes that the reader tells: those of
+/// standard input are not told. Contracts see these bytes and the count of faults.
 #[derive(Drop)]
 pub struct ReadSource<R: Read + Drop> {
     reader: R,
@@ -15,33 +16,34 @@ pub struct ReadSource<R: Read + Drop> {
 }
 
 impl<R: Read + Drop> Model for ReadSource<R> {
-    ghost use Rattle.std.specs.Prelude.{ℕ};
+    ghost use Rattle.snow_base.specs.Memory.{Passing};
 
-    ghost Value = { ℕ };
+    ghost Value = { Passing };
 
-    ghost view = { λ a. a.faults };
+    ghost view = { λ a. record { known = R.remaining a.reader; faults = a.faults } };
 }
 
 impl<R: Read + Drop> ReadSource<R> {
+    /// The source over this reader, with no fault yet.
     pub fn new(reader: R) -> Self
-        ensures { result ≡ 0 }
+        ensures { result ≡ record { known = R.remaining reader; faults = 0 } }
     {
         ReadSource { reader, faults: 0 }
     }
 }
 
 impl<R: Read + Drop> Source for ReadSource<R> {
-    ghost left = { λ _. None };
+    ghost left = { λ source. source.known };
 
-    ghost faults = { λ count. count };
+    ghost faults = { λ source. source.faults };
 
     /// An interrupted read is tried again, and is no fault.
     fn read(&mut self, buf: &mut [u8]) -> Result<usize, Failed>
         ensures bound { IfOk result (λ n. n ≤ length buf.new) }
-        ensures bytes { ReadConsumes None None result buf.new }
-        ensures cause { HasCause self.old self.new result }
+        ensures bytes { ReadConsumes self.old.known self.new.known result buf.new }
+        ensures cause { HasCause self.old.faults self.new.faults result }
 
-        ensures faults { self.new ≡ faults_after result self.old }
+        ensures faults { self.new.faults ≡ faults_after result self.old.faults }
     {
         let result = read_retrying(&mut self.reader, buf);
         if result.is_err() {
@@ -51,8 +53,9 @@ impl<R: Read + Drop> Source for ReadSource<R> {
     }
 }
 
-/// A sink over a writer, as standard output or standard error. It tells no bytes. Contracts see its
-/// count of faults.
+/// A sink over a writer, as standard output or standard error. It tells the bytes that the writer
+/// tells: those of the standard streams are not told. Contracts see these bytes and the count of
+/// faults.
 #[derive(Drop)]
 pub struct WriteSink<W: Write + Drop> {
     writer: W,
@@ -60,35 +63,36 @@ pub struct WriteSink<W: Write + Drop> {
 }
 
 impl<W: Write + Drop> Model for WriteSink<W> {
-    ghost use Rattle.std.specs.Prelude.{ℕ};
+    ghost use Rattle.snow_base.specs.Memory.{Passing};
 
-    ghost Value = { ℕ };
+    ghost Value = { Passing };
 
-    ghost view = { λ a. a.faults };
+    ghost view = { λ a. record { known = W.contents a.writer; faults = a.faults } };
 }
 
 impl<W: Write + Drop> WriteSink<W> {
+    /// The sink over this writer, with no fault yet.
     pub fn new(writer: W) -> Self
-        ensures { result ≡ 0 }
+        ensures { result ≡ record { known = W.contents writer; faults = 0 } }
     {
         WriteSink { writer, faults: 0 }
     }
 }
 
 impl<W: Write + Drop> Sink for WriteSink<W> {
-    ghost written = { λ _. None };
+    ghost written = { λ sink. sink.known };
 
-    ghost faults = { λ count. count };
+    ghost faults = { λ sink. sink.faults };
 
     /// An interrupted write is tried again, and is no fault. A write that takes none of a piece that
     /// isn't empty is one.
     fn write(&mut self, bytes: &[u8]) -> Result<usize, Failed>
         ensures bound { IfOk result (λ n. n ≤ length bytes.now) }
         ensures some { IfOk result (λ n. 0 < length bytes.now → 0 < n) }
-        ensures bytes { WriteAppends None None result bytes.now }
-        ensures cause { HasCause self.old self.new result }
+        ensures bytes { WriteAppends self.old.known self.new.known result bytes.now }
+        ensures cause { HasCause self.old.faults self.new.faults result }
 
-        ensures faults { self.new ≡ faults_after result self.old }
+        ensures faults { self.new.faults ≡ faults_after result self.old.faults }
     {
         let result = write_retrying(&mut self.writer, bytes);
         if result.is_err() {
@@ -99,8 +103,10 @@ impl<W: Write + Drop> Sink for WriteSink<W> {
 }
 
 // One read, tried again as long as it is interrupted.
+#[tactic(auto, using(crate::proofs::Known::consuming))]
 fn read_retrying<R: Read>(reader: &mut R, buf: &mut [u8]) -> Result<usize, Failed>
-    ensures { IfOk result (λ n. n ≤ length buf.new) }
+    ensures bound { IfOk result (λ n. n ≤ length buf.new) }
+    ensures bytes { ReadConsumes (R.remaining reader.old) (R.remaining reader.new) result buf.new }
 {
     for _ in 0..u64::MAX {
         match reader.read(buf) {
@@ -113,9 +119,11 @@ fn read_retrying<R: Read>(reader: &mut R, buf: &mut [u8]) -> Result<usize, Faile
 }
 
 // One write, tried again as long as it is interrupted.
+#[tactic(auto, using(crate::proofs::Known::appending))]
 fn write_retrying<W: Write>(writer: &mut W, bytes: &[u8]) -> Result<usize, Failed>
     ensures bound { IfOk result (λ n. n ≤ length bytes.now) }
     ensures some { IfOk result (λ n. 0 < length bytes.now → 0 < n) }
+    ensures bytes { WriteAppends (W.contents writer.old) (W.contents writer.new) result bytes.now }
 {
     for _ in 0..u64::MAX {
         match writer.write(bytes) {

@@ -52,6 +52,7 @@ impl Bag {
         requires some { 1 ≤ n }
         requires total { total_count self.old.list + n < 2 ^ 32 }
         ensures ok { OnOk result (self.new.list ≡ added self.old.list id n) }
+        ensures counted { OnOk result (total_count self.new.list ≡ total_count self.old.list + n) }
         ensures err { OnErr result (self.new.list ≡ self.old.list) }
         ensures fits { 0 < self.old.room → IsOk result }
         ensures known { HasVotesFor self.old.list id → IsOk result × (self.old.room ≤ self.new.room) }

@@ -23,12 +23,14 @@ impl Model for Id {
 impl Id {
     ghost use Rattle.snow_base.specs.Identifier.{bit, bit_cmp, FirstDiffers};
 
+    /// The identifier of these bytes.
     pub fn from_bytes(bytes: [u8; 32]) -> Self
         ensures { result ≡ bytes }
     {
         Id { bytes }
     }
 
+    /// Its bytes.
     pub fn as_bytes(&self) -> &[u8; 32]
         ensures bytes { result.now ≡ self.now }
         ensures length { length self.now ≡ 32 }

@@ -38,6 +38,7 @@ impl<T: Drop> Items<T> {
         Ok(())
     }
 
+    /// The items, in the order in which they came.
     pub fn list(&self) -> &[T]
         ensures { result.now ≡ self.now }
     {

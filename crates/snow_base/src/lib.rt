@@ -24,3 +24,6 @@ pub use outside::{Failed, Sink, Source, write_whole};
 pub use pure::{PureSink, PureSource};
 pub use sides::split;
 pub use vote::Vote;
+
+#[cfg(test)]
+mod tests;

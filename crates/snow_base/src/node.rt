@@ -19,12 +19,14 @@ impl Model for NodeId {
 }
 
 impl NodeId {
+    /// The identifier of these bytes.
     pub fn from_bytes(bytes: [u8; 20]) -> Self
         ensures { result ≡ bytes }
     {
         NodeId { bytes }
     }
 
+    /// Its bytes.
     pub fn as_bytes(&self) -> &[u8; 20]
         ensures bytes { result.now ≡ self.now }
         ensures length { length self.now ≡ 20 }

@@ -77,6 +77,7 @@ impl Model for PureSink {
 }
 
 impl PureSink {
+    /// The sink that took nothing yet.
     pub fn new() -> Self
         ensures { result ≡ 0 }
     {

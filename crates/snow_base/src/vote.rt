@@ -3,6 +3,8 @@ use crate::identifier::Id;
 /// A number of votes for one block.
 #[derive(Clone, Copy, Debug, PartialEq, Eq)]
 pub struct Vote {
+    /// The block.
     pub id: Id,
+    /// How many votes it has.
     pub count: u32,
 }

@@ -1,7 +1,11 @@
-use Rattle.std.proofs.Common.{◌+◌, ◌^◌, ◌<◌, ap, arith}
+use Rattle.std.proofs.Common.{◌+◌, ◌^◌, ◌<◌, refl, ap, arith}
 use Rattle.snow_base.specs.Votes.{total_count}
-use Rattle.snow_base.proofs.Adding.{tally_added}
+use Rattle.snow_base.proofs.Adding.{tally_added, total_added}
 use Rattle.snow_base.proofs.bag.Bag.add.Goals as goal
+
+pub returns-clause-counted : goal.returns-clause-counted
+returns-clause-counted c =
+    rw (c.in_ok-count_in.ensures.ok, total_added, ← c.self.view_is) refl
 
 pub invariant_of-self-2 : goal.invariant_of-self-2
 invariant_of-self-2 c =
