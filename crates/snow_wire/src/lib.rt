@@ -4,8 +4,10 @@
 mod decoding;
 mod encoding;
 mod event;
+mod field;
 mod frame;
 mod laws;
+mod reader;
 mod skip;
 
 pub use decoding::decode;
