@@ -7,7 +7,10 @@ mod event;
 mod field;
 mod frame;
 mod laws;
+mod messages;
+mod questions;
 mod reader;
+mod setup;
 mod skip;
 
 pub use decoding::decode;
