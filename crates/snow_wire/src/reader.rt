@@ -9,6 +9,7 @@ use std::marker::Model;
 use crate::skip::Skip;
 
 /// Reads fields from the front of bytes. Contracts see the bytes that are left.
+#[derive(Drop)]
 pub(crate) struct Reader<'a> {
     rest: &'a [u8],
 }
