@@ -1,3 +1,5 @@
 pub mod Numbers
 pub mod Streams
 pub mod Listed
+pub mod Fields
+pub mod Tagged
