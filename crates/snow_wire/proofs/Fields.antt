@@ -58,6 +58,14 @@ step {at = at} {spell = spell} field bytes f y fits e =
     let t = field.taken bytes b.0.0 b.0.1 fits b.1 in
     record { value = b.0.0; rest = b.0.1; parts = t.0; good = t.1; fits = IsBytes-behind (spell b.0.0) b.0.1 (subst IsBytes t.0 fits); goes_on = b.2 }
 
+-- the first field of what was read, for what is to be shown of the rest
+pub by_step : {A B P : Type 0} {at : List ℕ → Read A} {spell : A → List ℕ} {Good : A → Type 0} → IsField at spell Good
+    → (bytes : List ℕ) (f : A × List ℕ → Result B Fault) (y : B) → IsBytes bytes → (at bytes >>= f) ≡ Ok y
+    → ((x : A) (rest : List ℕ) → bytes ≡ spell x ++ rest → Good x → IsBytes rest → f (x, rest) ≡ Ok y → P) → P
+by_step field bytes f y fits e shown =
+    let s = step field bytes f y fits e in
+    shown s.value s.rest s.parts s.good s.fits s.goes_on
+
 -- a field that was spelled is read again, and reading goes on
 pub again_then : {A B : Type 0} {at : List ℕ → Read A} {spell : A → List ℕ} {Good : A → Type 0} → IsField at spell Good
     → (x : A) (rest : List ℕ) (f : A × List ℕ → Result B Fault) → Good x → (at (spell x ++ rest) >>= f) ≡ f (x, rest)

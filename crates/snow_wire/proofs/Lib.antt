@@ -3,3 +3,4 @@ pub mod Streams
 pub mod Listed
 pub mod Fields
 pub mod Tagged
+pub mod Starting

@@ -17,7 +17,7 @@ pub record HasFields (tag : ℕ) (fields : List ℕ) (e : Event) : Type 0 where
   pub range : IsInRange e
 
 -- fields that were read behind a tag
-tagged : (tag : ℕ) (fields bytes : List ℕ) (made e : Event) (end rest : List ℕ) → HasFields tag fields made → bytes ≡ fields ++ end → done {A = Event × List ℕ} (made, end) ≡ done (e, rest)
+pub tagged : (tag : ℕ) (fields bytes : List ℕ) (made e : Event) (end rest : List ℕ) → HasFields tag fields made → bytes ≡ fields ++ end → done {A = Event × List ℕ} (made, end) ≡ done (e, rest)
     → (tag ∷ bytes ≡ spelling e ++ rest) × IsInRange e
 tagged tag fields bytes made e end rest has parts same =
     let whole : tag ∷ bytes ≡ spelling made ++ end = ap (λ (b : List ℕ). tag ∷ b) parts ∙ ap (λ (b : List ℕ). b ++ end) (sym has.spelled) in
