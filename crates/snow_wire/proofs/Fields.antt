@@ -14,7 +14,7 @@ use Rattle.snow_wire.proofs.Numbers.{IsBytes-behind, IsWidth, width1, width2, wi
 -- ---- what all fields have in common
 
 -- the value of a step that didn't fail
-bind_ok : {A B : Type 0} (r : Result A Fault) (f : A → Result B Fault) (y : B) → (r >>= f) ≡ Ok y → (x : A) × (r ≡ Ok x) × (f x ≡ Ok y)
+pub bind_ok : {A B : Type 0} (r : Result A Fault) (f : A → Result B Fault) (y : B) → (r >>= f) ≡ Ok y → (x : A) × (r ≡ Ok x) × (f x ≡ Ok y)
 bind_ok (Ok x) f y e = (x, refl, e)
 bind_ok (Err d) f y e = absurd cc
 
@@ -32,7 +32,7 @@ unless true d x y e = absurd cc
 unless false d x y e = (refl, cc)
 
 -- a test that held
-when : {A : Type 0} (b : Bool) (d : Fault) (x y : A) → cond b (Ok x) (Err d) ≡ Ok y → (b ≡ true) × (x ≡ y)
+pub when : {A : Type 0} (b : Bool) (d : Fault) (x y : A) → cond b (Ok x) (Err d) ≡ Ok y → (b ≡ true) × (x ≡ y)
 when true d x y e = (refl, cc)
 when false d x y e = absurd cc
 

@@ -4,3 +4,4 @@ pub mod Listed
 pub mod Fields
 pub mod Tagged
 pub mod Starting
+pub mod Events
