@@ -1,5 +1,5 @@
 -- Events read from the front of bytes, with the first fault that is met.
-use Rattle.std.specs.Prelude.{◌≡◌, ℕ, zero, suc, ◌<◌, List, [], ◌∷◌, length, take, drop, get_or, slice_index, Result, Ok, Err, nat_le, nat_lt, ◌==◌, if◌then◌else◌}
+use Rattle.std.specs.Prelude.{◌≡◌, ℕ, zero, suc, ◌<◌, Bool, List, [], ◌∷◌, length, take, drop, get_or, slice_index, Result, Ok, Err, nat_le, nat_lt, ◌==◌, if◌then◌else◌}
 use Rattle.byteorder.specs.Endian.{big_number}
 use Rattle.snow_wire.specs.declared.event.Event.{Event}
 use Rattle.snow_wire.specs.declared.event.Event.TheVariants as event
@@ -26,6 +26,16 @@ Refuses skip.Memory read = Unit {0}
 abbrev pub Gives : {A : Type 0} → Result A Skip → Result A Fault → Type 0
 Gives (Ok x) read = read ≡ Ok x
 Gives (Err e) read = Refuses e read
+
+-- the same for a function that left the bytes behind what it read, and answered what view sees
+abbrev pub ReadsAs : {X A : Type 0} → (X → A) → Result X Skip → List ℕ → Result (A × List ℕ) Fault → Type 0
+ReadsAs view (Ok x) rest read = read ≡ Ok (view x, rest)
+ReadsAs view (Err e) rest read = Refuses e read
+
+-- the same for an answer as it is
+abbrev pub Reads : {A : Type 0} → Result A Skip → List ℕ → Result (A × List ℕ) Fault → Type 0
+Reads (Ok x) rest read = read ≡ Ok (x, rest)
+Reads (Err e) rest read = Refuses e read
 
 -- each number is a byte's
 abbrev pub IsBytes : List ℕ → Type 0
@@ -77,9 +87,17 @@ counted_at item limit bytes = do
   count ← limited_at 2 limit bytes
   items_at item count.0 count.1
 
+-- a byte that is 0 or 1
+unfoldable pub flag_at : List ℕ → Read Bool
+flag_at bytes = do
+  flag ← limited_at 1 1 bytes
+  Ok (flag.0 == 1, flag.1)
+
+-- an identifier
 abbrev pub id_at : List ℕ → Read (List ℕ)
 id_at = bytes_at 32
 
+-- a node
 abbrev pub node_at : List ℕ → Read (List ℕ)
 node_at = bytes_at 20
 
@@ -90,12 +108,13 @@ weighed_at bytes = do
   weight ← number_at 8 node.1
   Ok ((node.0, weight.0), weight.1)
 
--- a block has at most 65,536 bytes
+-- a block's bytes
 abbrev pub block_at : List ℕ → Read (List ℕ)
 block_at = sized_at 65536
 
 -- ---- the fields of an event, behind its tag
 
+-- the fields of a Start
 unfoldable pub start_at : List ℕ → Read Event
 start_at bytes = do
   k ← number_at 4 bytes
@@ -103,7 +122,7 @@ start_at bytes = do
   alpha_confidence ← number_at 4 alpha_preference.1
   beta ← number_at 4 alpha_confidence.1
   repolls ← number_at 4 beta.1
-  boot ← limited_at 1 1 repolls.1
+  boot ← flag_at repolls.1
   last ← id_at boot.1
   height ← number_at 8 last.1
   state ← counted_at (number_at 8) 4096 height.1
@@ -115,7 +134,7 @@ start_at bytes = do
       alpha_confidence = alpha_confidence.0;
       beta = beta.0;
       repolls = repolls.0;
-      boot = boot.0 == 1;
+      boot = boot.0;
       last = last.0;
       height = height.0;
       state = state.0;
@@ -124,30 +143,11 @@ start_at bytes = do
     nodes.1,
   )
 
-unfoldable pub poll_at : List ℕ → Read Event
-poll_at bytes = do
-  ids ← counted_at id_at 1024 bytes
-  Ok (event.Poll ids.0, ids.1)
-
-unfoldable pub words_at : List ℕ → Read Event
-words_at bytes = do
-  words ← counted_at (number_at 8) 4096 bytes
-  Ok (event.Words words.0, words.1)
-
-unfoldable pub stored_at : List ℕ → Read Event
-stored_at bytes = do
-  block ← block_at bytes
-  Ok (event.Stored block.0, block.1)
-
-unfoldable pub validators_at : List ℕ → Read Event
-validators_at bytes = do
-  nodes ← counted_at weighed_at 4096 bytes
-  Ok (event.Validators nodes.0, nodes.1)
-
-unfoldable pub line_at : List ℕ → Read Event
-line_at bytes = do
-  text ← sized_at 1100000 bytes
-  Ok (event.Line text.0, text.1)
+-- an event of one field
+unfoldable pub single_at : {A : Type 0} → (List ℕ → Read A) → (A → Event) → List ℕ → Read Event
+single_at field made bytes = do
+  only ← field bytes
+  Ok (made only.0, only.1)
 
 -- an event of a node and a request
 unfoldable pub sender_at : (List ℕ → ℕ → Event) → List ℕ → Read Event
@@ -174,21 +174,21 @@ tags =
     unknown_at
     ∷ start_at
     ∷ message_at block_at event.Block
-    ∷ poll_at
-    ∷ words_at
+    ∷ single_at (counted_at id_at 1024) event.Poll
+    ∷ single_at (counted_at (number_at 8) 4096) event.Words
     ∷ message_at id_at event.Chits
     ∷ sender_at event.Timeout
     ∷ message_at id_at event.Frontier
     ∷ message_at (counted_at id_at 4096) event.Accepted
     ∷ message_at (counted_at block_at 2048) event.Ancestors
-    ∷ stored_at
-    ∷ validators_at
+    ∷ single_at block_at event.Stored
+    ∷ single_at (counted_at weighed_at 4096) event.Validators
     ∷ sender_at event.AskQuery
     ∷ sender_at event.AskFrontier
     ∷ message_at (counted_at id_at 4096) event.AskAccepted
     ∷ message_at id_at event.AskAncestors
     ∷ message_at id_at event.AskBlock
-    ∷ line_at
+    ∷ single_at (sized_at 1100000) event.Line
     ∷ []
 
 -- the fields of the event with this tag

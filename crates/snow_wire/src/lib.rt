@@ -4,8 +4,13 @@
 mod decoding;
 mod encoding;
 mod event;
+mod field;
 mod frame;
 mod laws;
+mod messages;
+mod questions;
+mod reader;
+mod setup;
 mod skip;
 
 pub use decoding::decode;

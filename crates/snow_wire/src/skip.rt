@@ -1,3 +1,7 @@
+ghost use Rattle.std.specs.Prelude.{◌≡◌};
+
+use std::alloc::AllocError;
+
 /// Why a payload isn't an event: the first thing that goes wrong, read from the front; or want of
 /// memory.
 #[derive(Clone, Copy, Debug, PartialEq, Eq)]
@@ -12,4 +16,15 @@ pub enum Skip {
     Count,
     /// There was no memory for the event.
     Memory,
+}
+
+impl From<AllocError> for Skip {
+    ghost use Rattle.std.specs.Prelude.{◌≡◌};
+    ghost use Rattle.snow_wire.specs.declared.skip.Skip.TheVariants.{Memory};
+
+    ghost from_gives = { λ _ e. e ≡ Memory };
+
+    fn from(_error: AllocError) -> Skip {
+        Skip::Memory
+    }
 }

@@ -1,0 +1,70 @@
+// Messages of peers, read behind their tag.
+
+ghost use Rattle.snow_wire.specs.Reading.{Reads, counted_at, id_at, block_at, sender_at, message_at};
+ghost use Rattle.snow_wire.specs.declared.event.Event.TheVariants as event;
+
+use std::alloc::Global;
+
+use crate::event::Event;
+use crate::field::{MAX_BLOCK, counted};
+use crate::reader::Reader;
+use crate::skip::Skip;
+
+#[tactic(auto, unfolding(crate::specs::Reading::message_at))]
+pub(crate) fn block(alloc: Global, reader: &mut Reader) -> Result<Event, Skip>
+    ensures { Reads result reader.new (message_at block_at event.Block reader.old) }
+{
+    let node = reader.node()?;
+    let request = reader.u32()?;
+    let bytes = reader.sized(alloc, MAX_BLOCK)?;
+    Ok(Event::Block { node, request, bytes })
+}
+
+#[tactic(auto, unfolding(crate::specs::Reading::message_at))]
+pub(crate) fn chits(reader: &mut Reader) -> Result<Event, Skip>
+    ensures { Reads result reader.new (message_at id_at event.Chits reader.old) }
+{
+    let node = reader.node()?;
+    let request = reader.u32()?;
+    let id = reader.id()?;
+    Ok(Event::Chits { node, request, id })
+}
+
+#[tactic(auto, unfolding(crate::specs::Reading::sender_at))]
+pub(crate) fn timeout(reader: &mut Reader) -> Result<Event, Skip>
+    ensures { Reads result reader.new (sender_at event.Timeout reader.old) }
+{
+    let node = reader.node()?;
+    let request = reader.u32()?;
+    Ok(Event::Timeout { node, request })
+}
+
+#[tactic(auto, unfolding(crate::specs::Reading::message_at))]
+pub(crate) fn frontier(reader: &mut Reader) -> Result<Event, Skip>
+    ensures { Reads result reader.new (message_at id_at event.Frontier reader.old) }
+{
+    let node = reader.node()?;
+    let request = reader.u32()?;
+    let id = reader.id()?;
+    Ok(Event::Frontier { node, request, id })
+}
+
+#[tactic(auto, unfolding(crate::specs::Reading::message_at))]
+pub(crate) fn accepted(alloc: Global, reader: &mut Reader) -> Result<Event, Skip>
+    ensures { Reads result reader.new (message_at (counted_at id_at 4096) event.Accepted reader.old) }
+{
+    let node = reader.node()?;
+    let request = reader.u32()?;
+    let ids = counted(alloc, reader, 4096)?;
+    Ok(Event::Accepted { node, request, ids })
+}
+
+#[tactic(auto, unfolding(crate::specs::Reading::message_at))]
+pub(crate) fn ancestors(alloc: Global, reader: &mut Reader) -> Result<Event, Skip>
+    ensures { Reads result reader.new (message_at (counted_at block_at 2048) event.Ancestors reader.old) }
+{
+    let node = reader.node()?;
+    let request = reader.u32()?;
+    let blocks = counted(alloc, reader, 2048)?;
+    Ok(Event::Ancestors { node, request, blocks })
+}

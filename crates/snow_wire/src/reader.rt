@@ -1,0 +1,152 @@
+ghost use Rattle.std.specs.Prelude.{◌≡◌, ◌<◌, ℕ, List, length, IfOk};
+ghost use Rattle.snow_wire.specs.Reading.{Reads, ReadsAs, bytes_at, number_at, limited_at, flag_at, sized_at};
+
+use byteorder::{BigEndian, ByteOrder};
+use snow_base::{Bytes, Id, NodeId};
+use std::alloc::Global;
+use std::marker::Model;
+
+use crate::skip::Skip;
+
+/// Reads fields from the front of bytes. Contracts see the bytes that are left.
+#[derive(Drop)]
+pub(crate) struct Reader<'a> {
+    rest: &'a [u8],
+}
+
+impl<'a> Model for Reader<'a> {
+    ghost use Rattle.std.specs.Prelude.{ℕ, List};
+
+    ghost Value = { List ℕ };
+
+    ghost view = { λ r. r.rest.now };
+}
+
+impl<'a> Reader<'a> {
+    pub(crate) fn new(bytes: &'a [u8]) -> Self
+        ensures { result ≡ bytes.now }
+    {
+        Reader { rest: bytes }
+    }
+
+    pub(crate) fn rest_len(&self) -> usize
+        ensures { result ≡ length self.now }
+    {
+        self.rest.len()
+    }
+
+    /// So many bytes.
+    #[tactic(auto, unfolding(crate::specs::Reading::bytes_at))]
+    fn take(&mut self, n: usize) -> Result<&'a [u8], Skip>
+        ensures read { ReadsAs (λ front. front.now) result self.new (bytes_at n self.old) }
+        ensures size { IfOk result (λ front. length front.now ≡ n) }
+    {
+        if self.rest.len() < n {
+            return Err(Skip::Short);
+        }
+        let (front, rest) = self.rest.split_at(n);
+        self.rest = rest;
+        Ok(front)
+    }
+
+    #[tactic(auto, unfolding(crate::specs::Reading::number_at))]
+    pub(crate) fn u8(&mut self) -> Result<u8, Skip>
+        ensures { Reads result self.new (number_at 1 self.old) }
+    {
+        if self.rest.is_empty() {
+            return Err(Skip::Short);
+        }
+        let number = self.rest[0];
+        self.rest = &self.rest[1..];
+        Ok(number)
+    }
+
+    #[tactic(auto, unfolding(crate::specs::Reading::number_at))]
+    fn u16(&mut self) -> Result<u16, Skip>
+        ensures { Reads result self.new (number_at 2 self.old) }
+    {
+        if self.rest.len() < 2 {
+            return Err(Skip::Short);
+        }
+        let number = BigEndian::read_u16(self.rest);
+        self.rest = &self.rest[2..];
+        Ok(number)
+    }
+
+    #[tactic(auto, unfolding(crate::specs::Reading::number_at))]
+    pub(crate) fn u32(&mut self) -> Result<u32, Skip>
+        ensures { Reads result self.new (number_at 4 self.old) }
+    {
+        if self.rest.len() < 4 {
+            return Err(Skip::Short);
+        }
+        let number = BigEndian::read_u32(self.rest);
+        self.rest = &self.rest[4..];
+        Ok(number)
+    }
+
+    #[tactic(auto, unfolding(crate::specs::Reading::number_at))]
+    pub(crate) fn u64(&mut self) -> Result<u64, Skip>
+        ensures { Reads result self.new (number_at 8 self.old) }
+    {
+        if self.rest.len() < 8 {
+            return Err(Skip::Short);
+        }
+        let number = BigEndian::read_u64(self.rest);
+        self.rest = &self.rest[8..];
+        Ok(number)
+    }
+
+    /// A count that is at most the limit.
+    #[tactic(auto, unfolding(crate::specs::Reading::limited_at))]
+    pub(crate) fn count(&mut self, limit: u16) -> Result<u16, Skip>
+        ensures { Reads result self.new (limited_at 2 limit self.old) }
+    {
+        let count = self.u16()?;
+        if count > limit {
+            return Err(Skip::Count);
+        }
+        Ok(count)
+    }
+
+    /// A byte that is 0 or 1.
+    #[tactic(auto, unfolding(crate::specs::Reading::flag_at, crate::specs::Reading::limited_at))]
+    pub(crate) fn flag(&mut self) -> Result<bool, Skip>
+        ensures { Reads result self.new (flag_at self.old) }
+    {
+        match self.u8()? {
+            0 => Ok(false),
+            1 => Ok(true),
+            _ => Err(Skip::Count),
+        }
+    }
+
+    pub(crate) fn id(&mut self) -> Result<Id, Skip>
+        ensures { Reads result self.new (bytes_at 32 self.old) }
+    {
+        let mut bytes = [0; 32];
+        bytes.copy_from_slice(self.take(32)?);
+        Ok(Id::from_bytes(bytes))
+    }
+
+    pub(crate) fn node(&mut self) -> Result<NodeId, Skip>
+        ensures { Reads result self.new (bytes_at 20 self.old) }
+    {
+        let mut bytes = [0; 20];
+        bytes.copy_from_slice(self.take(20)?);
+        Ok(NodeId::from_bytes(bytes))
+    }
+
+    /// A length that is at most the limit, and so many bytes.
+    #[tactic(auto, unfolding(crate::specs::Reading::sized_at, crate::specs::Reading::limited_at))]
+    pub(crate) fn sized(&mut self, alloc: Global, limit: u32) -> Result<Bytes, Skip>
+        ensures { Reads result self.new (sized_at limit self.old) }
+    {
+        let len = self.u32()?;
+        if len > limit {
+            return Err(Skip::Count);
+        }
+        let bytes = self.take(len as usize)?;
+        Ok(Bytes::from_slice(alloc, bytes)?)
+    }
+}
