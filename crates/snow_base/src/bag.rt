@@ -58,6 +58,7 @@ impl Bag {
         ensures known { HasVotesFor self.old.list id → IsOk result × (self.old.room ≤ self.new.room) }
         ensures room { self.old.room ≤ self.new.room + 1 }
         ensures room_kept { OnErr result (self.old.room ≤ self.new.room) }
+        ensures places { self.old.room + length self.old.list ≤ self.new.room + length self.new.list }
     {
         count_in(&mut self.votes, id, n)?;
         self.total += n;

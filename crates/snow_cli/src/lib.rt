@@ -6,8 +6,9 @@ mod input;
 mod node;
 mod reading;
 mod run;
+mod status;
 mod stream;
 mod top;
-mod status;
 
 pub use status::Status;
+pub use top::top;

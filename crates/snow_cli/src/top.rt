@@ -5,7 +5,8 @@ ghost use Rattle.snow_lines.specs.Text.{texts};
 ghost use Rattle.snow_cli.specs.Answer.{is_decide, model, model_in, IsAnswer, Wrote, IsQuiet, HasFault, TookLine, error_line};
 
 use snow_base::{Sink, Source, write_whole};
-use snow_plain::Board;
+use snow_flake::Snowball;
+use snow_plain::{Board, PlainBoard};
 use std::alloc::Global;
 
 use crate::input::{Input, read_all};
@@ -13,9 +14,46 @@ use crate::reading::read_stream;
 use crate::run::{Stop, run};
 use crate::status::Status;
 
+/// The top call: all that the program does. The words, without the program's name, are the one word
+/// `decide`; the source is read to its end, or until more than 1,048,576 bytes were taken, and then
+/// the lines of its stream are written. The line on `err` tells how it ended, unless it is `Done`.
+pub fn top<S: Source, O: Sink, E: Sink>(
+    alloc: Global,
+    words: &Vec<String>,
+    source: &mut S,
+    out: &mut O,
+    err: &mut E,
+) -> Status
+    // Other words are answered before anything is read.
+    ensures words { is_decide (map string_bytes words.now.items) ≡ false
+        → (result ≡ Status.Unsupported) × (source.new ≡ source.old) × (out.new ≡ out.old) }
+    // The status is the model's, but for the three exceptions.
+    ensures status { IfSome (S.left source.old) (λ bytes.
+        IsAnswer result (model by_preference (map string_bytes words.now.items) bytes).0) }
+    // The bytes written are the model's.
+    ensures output { IfSome (S.left source.old) (λ bytes. Wrote result (O.written out.old) (O.written out.new)
+        (texts (model by_preference (map string_bytes words.now.items) bytes).1)) }
+    // Without a stream that is taken nothing is written, whatever the source tells.
+    ensures quiet { IsQuiet result (O.written out.old) (O.written out.new) }
+    ensures end { result ≡ Status.Done → IsAtEnd (S.left source.new) }
+    ensures fault { HasFault result (S.faults source.old) (S.faults source.new) (O.faults out.old) (O.faults out.new) }
+    ensures error_line { TookLine (E.written err.old) (E.written err.new) (E.faults err.old) (E.faults err.new) (error_line result) }
+{
+    let status = serve::<PlainBoard<Snowball>, S, O>(alloc, words, source, out);
+    report(status, err);
+    status
+}
+
+/// Writes the line of a status on standard error. A fault there changes no status.
+fn report<E: Sink>(status: Status, err: &mut E)
+    ensures { TookLine (E.written err.old) (E.written err.new) (E.faults err.old) (E.faults err.new) (error_line status) }
+{
+    let _ = write_whole(err, status.error_line());
+}
+
 /// The run of `decide` over a board of this kind, without the line on standard error.
 #[tactic(auto, unfolding(crate::specs::Answer::model))]
-pub fn serve<B: Board, S: Source, O: Sink>(
+fn serve<B: Board, S: Source, O: Sink>(
     alloc: Global,
     words: &Vec<String>,
     source: &mut S,
