@@ -1,5 +1,5 @@
 -- Lemmas on votes that agree on their first bits: the next bit splits votes in bit order.
-use Rattle.std.proofs.Common.{◌≡◌, ◌≢◌, ℕ, ◌+◌, ◌<◌, ◌≤◌, Bool, true, false, not, List, length, get_or, take, drop, refl, sym, ◌∙◌, arith, inl, inr, Ordering, Less, below_more, length-take, length-drop, get_or-take, get_or-drop}
+use Rattle.std.proofs.Common.{◌≡◌, ◌≢◌, ℕ, ◌+◌, ◌<◌, Bool, true, false, not, List, get_or, take, drop, refl, sym, ◌∙◌, arith, inl, inr, Less, below_more, length-take, length-drop, get_or-take, get_or-drop}
 use Rattle.std.proofs.lemmas.Bool.{cases_lt, not-true, not-false}
 use Rattle.std.specs.List.Sorted.{IsPartitionedBy, IsPartitionPoint}
 use Rattle.std.specs.Ordering.{bool_cmp}
@@ -9,6 +9,7 @@ use Rattle.snow_base.specs.Votes.{IsInBitOrder}
 use Rattle.snow_base.specs.Split.{AgreeBelow, HaveBit}
 use Rattle.snow_base.proofs.Bits.{bit_cmp-first}
 
+-- where two bits that differ are in order, the first is a 0 if the second is
 zero_first : (x y : Bool) → (x ≢ y → bool_cmp x y ≡ Less) → not y ≡ true → not x ≡ true
 zero_first true true f e = e
 zero_first true false f e = let d : bool_cmp true false ≡ Less = f (λ s. cc) in cc

@@ -20,3 +20,21 @@ pub fn split(votes: &[Vote], bit: u16) -> usize
 {
     votes.partition_point(|vote| !vote.id.bit(bit))
 }
+
+#[cfg(test)]
+mod tests {
+    use super::*;
+    use crate::bag::Bag;
+    use crate::identifier::Id;
+    use std::test::Fail;
+
+    #[test]
+    fn splits(rt: HostRuntime) -> Result<(), Fail> {
+        let mut votes = Bag::new(rt.alloc());
+        votes.add(Id::from_bytes([1; 32]), 1)?;
+        assert_eq!(rt; votes.total(), 1);
+        votes.add(Id::from_bytes([2; 32]), 1)?;
+        assert_eq!(rt; split(votes.entries(), 0), 1);
+        Ok(())
+    }
+}

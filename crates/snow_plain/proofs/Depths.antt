@@ -5,8 +5,9 @@ use Rattle.snow_base.proofs.Bits.{length-bits}
 use Rattle.snow_flake.specs.Parameters.{Parameters}
 use Rattle.snow_flake.specs.Counter.{stepped, admits}
 use Rattle.snow_plain.specs.Conflict.{Counters, Blank, At, with_child, all_polled}
-use Rattle.snow_plain.specs.Depth.{depth}
+use Rattle.snow_plain.specs.Walk.{depth}
 
+-- a choice of two is no deeper than both
 either_within : (n : ℕ) (b : Bool) (x y : Counters) → depth x ≤ n → depth y ≤ n → depth (if b then x else y) ≤ n
 either_within n true x y p q = p
 either_within n false x y p q = q
@@ -36,7 +37,7 @@ depth_polled p votes (At c z o) =
     let ones = either_within (depth o) (admits next true) (all_polled p (λ front. votes (true ∷ front)) o) Blank (depth_polled p (λ front. votes (true ∷ front)) o) (omega arith) in
     omega arith
 
--- whether or not there was memory
+-- nor where memory may have been wanting
 pub depth_added : {T E : Type 0} (result : Result T E) (id : List ℕ) (old new : Counters) → depth old ≤ 256
     → OnOk result (new ≡ with_child (bits id) old) → OnErr result (new ≡ old) → depth new ≤ 256
 depth_added (Ok x) id old new h ok err = rw ok (depth_with_child id old h)

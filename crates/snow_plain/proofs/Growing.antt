@@ -1,5 +1,5 @@
 -- Lemmas on the counters that a child adds.
-use Rattle.std.proofs.Common.{◌≡◌, ℕ, ◌+◌, ◌<◌, ◌≤◌, Bool, true, false, List, ◌∷◌, drop, if◌then◌else◌, refl}
+use Rattle.std.proofs.Common.{◌≡◌, ℕ, ◌+◌, ◌<◌, ◌≤◌, Bool, true, false, List, ◌∷◌, drop, Result, Ok, Err, OnOk, if◌then◌else◌, refl, sym}
 use Rattle.snow_base.specs.Identifier.{bit, bits}
 use Rattle.snow_base.proofs.Bits.{drop-bits}
 use Rattle.snow_flake.specs.Counter.{Counter, fresh, admits}
@@ -15,6 +15,7 @@ grown_end id n counters h = rw (drop-bits_end id n h) refl
 abbrev pub linked : Bool → Counters → Counters
 linked side below = if side then At (fresh side) Blank below else At (fresh side) below Blank
 
+-- the same for one bit and those behind it
 linked_first : (b : Bool) (rest : List Bool) → with_child (b ∷ rest) Blank ≡ linked b (with_child rest Blank)
 unfolding with_child
 linked_first true rest = refl
@@ -24,6 +25,7 @@ linked_first false rest = refl
 pub grown_fresh : (id : List ℕ) (n : ℕ) → n < 256 → with_child (drop n (bits id)) Blank ≡ linked (bit id n) (with_child (drop (n + 1) (bits id)) Blank)
 grown_fresh id n h = rw (drop-bits id n h) (linked_first (bit id n) (drop (n + 1) (bits id)))
 
+-- the counters stay where the first bit is ruled out
 stays : (c : Counter) (z o : Counters) (b : Bool) (rest : List Bool) → admits c b ≡ false → with_child (b ∷ rest) (At c z o) ≡ At c z o
 unfolding with_child
 stays c z o true rest e = rw e refl
@@ -34,14 +36,28 @@ pub grown_dead : (c : Counter) (z o : Counters) (id : List ℕ) (n : ℕ) → n 
     → with_child (drop n (bits id)) (At c z o) ≡ At c z o
 grown_dead c z o id n h e = rw (drop-bits id n h) (stays c z o (bit id n) (drop (n + 1) (bits id)) e)
 
--- a child with a 0 is added below the 0
-pub grown_zero : (c : Counter) (z o : Counters) (id : List ℕ) (n : ℕ) → n < 256 → bit id n ≡ false → admits c (bit id n) ≡ true
+-- where a 0 is possible, what is below it grows
+at_zero : (c : Counter) (z o : Counters) (id : List ℕ) (n : ℕ) → n < 256 → bit id n ≡ false → admits c (bit id n) ≡ true
     → with_child (drop n (bits id)) (At c z o) ≡ At c (with_child (drop (n + 1) (bits id)) z) o
 unfolding with_child
-grown_zero c z o id n h is e = let free : admits c false ≡ true = rw is at e in rw (drop-bits id n h, is, free) refl
+at_zero c z o id n h is e = let free : admits c false ≡ true = rw is at e in rw (drop-bits id n h, is, free) refl
 
--- and one with a 1 below the 1
-pub grown_one : (c : Counter) (z o : Counters) (id : List ℕ) (n : ℕ) → n < 256 → bit id n ≡ true → admits c (bit id n) ≡ true
+-- where a 1 is possible, what is below it grows
+at_one : (c : Counter) (z o : Counters) (id : List ℕ) (n : ℕ) → n < 256 → bit id n ≡ true → admits c (bit id n) ≡ true
     → with_child (drop n (bits id)) (At c z o) ≡ At c z (with_child (drop (n + 1) (bits id)) o)
 unfolding with_child
-grown_one c z o id n h is e = let free : admits c true ≡ true = rw is at e in rw (drop-bits id n h, is, free) refl
+at_one c z o id n h is e = let free : admits c true ≡ true = rw is at e in rw (drop-bits id n h, is, free) refl
+
+-- a child with a 0 was added below the 0, unless memory was wanting
+pub grown_zero : {T E : Type 0} (result : Result T E) (c : Counter) (z o grown : Counters) (id : List ℕ) (n : ℕ) → n < 256
+    → bit id n ≡ false → admits c (bit id n) ≡ true → OnOk result (grown ≡ with_child (drop (n + 1) (bits id)) z)
+    → OnOk result (At c grown o ≡ with_child (drop n (bits id)) (At c z o))
+grown_zero (Ok x) c z o grown id n h is e below = rw below (sym (at_zero c z o id n h is e))
+grown_zero (Err x) c z o grown id n h is e below = tt
+
+-- a child with a 1 was added below the 1, unless memory was wanting
+pub grown_one : {T E : Type 0} (result : Result T E) (c : Counter) (z o grown : Counters) (id : List ℕ) (n : ℕ) → n < 256
+    → bit id n ≡ true → admits c (bit id n) ≡ true → OnOk result (grown ≡ with_child (drop (n + 1) (bits id)) o)
+    → OnOk result (At c z grown ≡ with_child (drop n (bits id)) (At c z o))
+grown_one (Ok x) c z o grown id n h is e below = rw below (sym (at_one c z o id n h is e))
+grown_one (Err x) c z o grown id n h is e below = tt

@@ -12,26 +12,30 @@ use Rattle.snow_base.proofs.Bits.{drop-bits}
 use Rattle.snow_flake.specs.Parameters.{Parameters}
 use Rattle.snow_flake.specs.Counter.{Counter, stepped, admits}
 use Rattle.snow_plain.specs.Conflict.{Counters, Blank, At, all_polled}
-use Rattle.snow_plain.specs.Depth.{votes_from}
+use Rattle.snow_plain.specs.Walk.{votes_from}
 use Rattle.snow_plain.proofs.Walking.{same_first, other_first}
 
 -- the count of a vote for an identifier whose bits from bit n on begin so
 abbrev counted_from : ℕ → List Bool → Vote → ℕ
 counted_from n front v = if starts_with beq (drop n (bits v.id)) front then v.count else 0
 
+-- a bit is the same as itself
 same_bit : (b : Bool) → beq b b ≡ true
 same_bit true = refl
 same_bit false = refl
 
+-- and differs from the other one
 other_bit : (b : Bool) → beq b (not b) ≡ false
 other_bit true = refl
 other_bit false = refl
 
+-- with this bit next, the bits begin so where those behind it begin with the rest
 begins_same : (n : ℕ) (side : Bool) (front : List Bool) (id : List ℕ) → n < 256 → bit id n ≡ side
     → starts_with beq (drop n (bits id)) (side ∷ front) ≡ starts_with beq (drop (n + 1) (bits id)) front
 begins_same n side front id h is =
     rw (drop-bits id n h, is) (same_first side side front (take (length front) (drop (n + 1) (bits id))) (same_bit side))
 
+-- with the other bit next, they don't
 begins_other : (n : ℕ) (side : Bool) (front : List Bool) (id : List ℕ) → n < 256 → bit id n ≡ not side
     → starts_with beq (drop n (bits id)) (side ∷ front) ≡ false
 begins_other n side front id h is =

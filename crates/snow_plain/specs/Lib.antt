@@ -1,6 +1,6 @@
 pub mod Conflict
 pub mod CountersCode
-pub mod Depth
+pub mod Walk
 pub mod Trees
 pub mod Board
 pub mod Poll

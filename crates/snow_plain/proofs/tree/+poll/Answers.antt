@@ -1,5 +1,6 @@
-use Rattle.std.proofs.Common.{arith, refl}
+use Rattle.std.proofs.Common.{◌<◌, ◌^◌, arith, refl}
 use Rattle.std.proofs.lemmas.List.Sums.{sum_by-take-le, sum_by-take-drop}
+use Rattle.snow_base.specs.Votes.{total_count}
 use Rattle.snow_flake.specs.Instance.{counter_of}
 use Rattle.snow_plain.specs.Conflict.{all_polled}
 use Rattle.snow_plain.specs.Trees.{counters_of}
@@ -10,15 +11,27 @@ pub poll-poll_side-requires : goal.poll-poll_side-requires
 poll-poll_side-requires t c =
     let deep = rw c.in-Fork.is at c.requires.deep in
     let falls = rw c.in-Fork.is at c.decreases in
-    (rw c.deref_mut.ensures.value (omega arith), (rw c.deref_mut.ensures.value (omega arith), (rw c.split_at.ensures.front c.split.ensures.zeros_order, (rw c.split_at.ensures.front c.split.ensures.zeros_agree,
-    rw c.split_at.ensures.front (omega (arith, sum_by-take-le (λ v. v.count) c.args.votes.now c.split.result))))))
+    let few : total_count c.split_at.result.0.now < 2 ^ 32 =
+    rw c.split_at.ensures.front (omega (arith, sum_by-take-le (λ v. v.count) c.args.votes.now c.split.result)) in (
+      rw c.deref_mut.ensures.value (omega arith),
+      (
+        rw c.deref_mut.ensures.value (omega arith),
+        (rw c.split_at.ensures.front c.split.ensures.zeros_order, (rw c.split_at.ensures.front c.split.ensures.zeros_agree, few)),
+      ),
+    )
 
 pub poll-poll_side-requires-in-Fork : goal.poll-poll_side-requires-in-Fork
 poll-poll_side-requires-in-Fork t c =
     let deep = rw c.in-Fork.is at c.requires.deep in
     let falls = rw c.in-Fork.is at c.decreases in
-    (rw c.deref_mut-in-Fork.ensures.value (omega arith), (rw c.deref_mut-in-Fork.ensures.value (omega arith), (rw c.split_at.ensures.back c.split.ensures.ones_order, (rw c.split_at.ensures.back c.split.ensures.ones_agree,
-    rw c.split_at.ensures.back (omega (arith, sum_by-take-drop (λ v. v.count) c.args.votes.now c.split.result))))))
+    let few : total_count c.split_at.result.1.now < 2 ^ 32 =
+    rw c.split_at.ensures.back (omega (arith, sum_by-take-drop (λ v. v.count) c.args.votes.now c.split.result)) in (
+      rw c.deref_mut-in-Fork.ensures.value (omega arith),
+      (
+        rw c.deref_mut-in-Fork.ensures.value (omega arith),
+        (rw c.split_at.ensures.back c.split.ensures.ones_order, (rw c.split_at.ensures.back c.split.ensures.ones_agree, few)),
+      ),
+    )
 
 pub poll-returns-in-Fork : goal.poll-returns-in-Fork
 poll-returns-in-Fork t c =

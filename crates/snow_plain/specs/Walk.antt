@@ -1,4 +1,4 @@
--- How deep counters stand, and the votes for what is below a bit.
+-- What a walk down the counters of a conflict looks at, bit by bit.
 use Rattle.std.specs.Prelude.{ℕ, ◌+◌, max, Bool, false, List, drop, sum_by, if◌then◌else◌}
 use Rattle.std.specs.Bool.{beq}
 use Rattle.std.specs.List.{starts_with}
