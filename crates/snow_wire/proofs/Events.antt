@@ -3,11 +3,10 @@ use Rattle.std.proofs.Common.{◌≡◌, ℕ, zero, suc, ◌+◌, ◌%◌, ◌^�
 use Rattle.std.specs.Prelude.{IfOk}
 use Rattle.std.proofs.lemmas.Bool.{eqb-true}
 use Rattle.std.proofs.lemmas.List.{nil_from_length}
-use Rattle.byteorder.specs.Endian.{big_bytes}
 use Rattle.snow_wire.specs.declared.event.Event.{Event}
 use Rattle.snow_wire.specs.declared.event.Event.TheVariants as event
 use Rattle.snow_wire.specs.declared.skip.Skip.{Skip}
-use Rattle.snow_wire.specs.Spelling.{spelling, start, sender, sized, counted, weighed, IsId, IsWeighed, IsSender, IsBlock, IsInRange}
+use Rattle.snow_wire.specs.Spelling.{number, spelling, start, sender, sized, counted, weighed, IsId, IsWeighed, IsSender, IsBlock, IsInRange}
 use Rattle.snow_wire.specs.Reading.{Fault, Extra, Gives, IsBytes, Read, ◌>>=◌, number_at, bytes_at, id_at, block_at, sized_at, counted_at, weighed_at, single_at, sender_at, message_at, start_at, unknown_at, tags, fields_at, event_of}
 use Rattle.snow_wire.proofs.Numbers.{width1, width8}
 use Rattle.snow_wire.proofs.Fields.{IsField, by_step, again_then, bind_ok, when, bytes_field, number_field, sized_field, counted_field, weighed_field}
@@ -22,7 +21,7 @@ id_field = bytes_field 32
 ids_field : (limit : ℕ) → limit < 256 ^ 2 → IsField (counted_at id_at limit) (counted (λ id. id)) (λ ids. (length ids ≤ limit) × All IsId ids)
 ids_field limit small = counted_field id_field limit small
 
-words_field : IsField (counted_at (number_at 8) 4096) (counted (big_bytes 8)) (λ ns. (length ns ≤ 4096) × All (λ n. n < 2 ^ 64) ns)
+words_field : IsField (counted_at (number_at 8) 4096) (counted (number 8)) (λ ns. (length ns ≤ 4096) × All (λ n. n < 2 ^ 64) ns)
 words_field = counted_field (number_field 8 width8) 4096 (omega arith)
 
 nodes_field : IsField (counted_at weighed_at 4096) (counted weighed) (λ ns. (length ns ≤ 4096) × All IsWeighed ns)
@@ -117,26 +116,61 @@ found_at tag (at ∷ others) zero are = let e : tag + 0 ≡ tag = omega arith in
 found_at tag (at ∷ others) (suc k) are = let e : tag + suc k ≡ suc tag + k = omega arith in rw e (found_at (suc tag) others k are.1)
 
 all_tagged : AreTagged 0 tags
-all_tagged =
-    (no_tag 0,
-    (start_tagged,
-    (block_tagged,
-    (poll_tagged,
-    (words_tagged,
-    (chits_tagged,
-    (timeout_tagged,
-    (frontier_tagged,
-    (accepted_tagged,
-    (ancestors_tagged,
-    (stored_tagged,
-    (validators_tagged,
-    (ask_query_tagged,
-    (ask_frontier_tagged,
-    (ask_accepted_tagged,
-    (ask_ancestors_tagged,
-    (ask_block_tagged,
-    (line_tagged,
-    tt))))))))))))))))))
+all_tagged = (
+  no_tag 0,
+  (
+    start_tagged,
+    (
+      block_tagged,
+      (
+        poll_tagged,
+        (
+          words_tagged,
+          (
+            chits_tagged,
+            (
+              timeout_tagged,
+              (
+                frontier_tagged,
+                (
+                  accepted_tagged,
+                  (
+                    ancestors_tagged,
+                    (
+                      stored_tagged,
+                      (
+                        validators_tagged,
+                        (
+                          ask_query_tagged,
+                          (
+                            ask_frontier_tagged,
+                            (
+                              ask_accepted_tagged,
+                              (
+                                ask_ancestors_tagged,
+                                (
+                                  ask_block_tagged,
+                                  (
+                                    line_tagged,
+                                    tt,
+                                  ),
+                                ),
+                              ),
+                            ),
+                          ),
+                        ),
+                      ),
+                    ),
+                  ),
+                ),
+              ),
+            ),
+          ),
+        ),
+      ),
+    ),
+  ),
+)
 
 fields_tagged : (tag : ℕ) → IsTagged tag (fields_at tag)
 unfolding fields_at
@@ -144,8 +178,9 @@ fields_tagged tag = let e : tag ≡ 0 + tag = omega arith in subst (λ (t : ℕ)
 
 -- ---- what is read is spelled so
 
-one_byte_is : (tag : ℕ) → tag < 256 ^ 1 → tag % 256 ≡ tag
-one_byte_is tag small = omega arith
+one_byte : (tag : ℕ) → tag < 256 → number 1 tag ≡ tag ∷ []
+unfolding number
+one_byte tag small = let e : tag % 256 ≡ tag = omega arith in ap (λ (n : ℕ). n ∷ []) e
 
 -- what is read is in range and spelled so
 pub event_taken : (bytes : List ℕ) (e : Event) → IsBytes bytes → event_of bytes ≡ Ok e → IsInRange e × (bytes ≡ spelling e)
@@ -156,7 +191,7 @@ event_taken bytes e fits r =
     let t = (fields_tagged tag).taken rest b.0.0 b.0.1 fits1 b.1 in
     let g = when (length b.0.1 == 0) Extra b.0.0 e b.2 in
     let nothing : b.0.1 ≡ [] = nil_from_length b.0.1 (eqb-true _ _ g.0) in
-    let one : bytes ≡ tag ∷ rest = parts ∙ ap (λ (n : ℕ). n ∷ rest) (one_byte_is tag small) in
+    let one : bytes ≡ tag ∷ rest = parts ∙ ap (λ (b : List ℕ). b ++ rest) (one_byte tag small) in
     let whole : bytes ≡ spelling b.0.0 = one ∙ t.0 ∙ ap (λ (x : List ℕ). spelling b.0.0 ++ x) nothing ∙ append-nil (spelling b.0.0) in
     subst (λ (x : Event). IsInRange x × (bytes ≡ spelling x)) g.1 (t.1, whole))
 
@@ -165,7 +200,7 @@ event_taken bytes e fits r =
 tag_again : (tag : ℕ) (bytes : List ℕ) (e : Event) → tag < 256 → fields_at tag bytes ≡ Ok (e, []) → event_of (tag ∷ bytes) ≡ Ok e
 unfolding event_of
 tag_again tag bytes e small r =
-    let one : tag ∷ bytes ≡ big_bytes 1 tag ++ bytes = ap (λ (n : ℕ). n ∷ bytes) (sym (one_byte_is tag small)) in
+    let one : tag ∷ bytes ≡ number 1 tag ++ bytes = ap (λ (b : List ℕ). b ++ bytes) (sym (one_byte tag small)) in
     ap event_of one ∙ again_then (number_field 1 width1) tag bytes _ small ∙ rw r refl
 
 -- an event in range is read back from its spelling

@@ -7,7 +7,7 @@ use Rattle.std.proofs.lemmas.List.Concat.{flat_map-cons}
 use Rattle.std.proofs.lemmas.List.Elements.{All-from_recursion, recursion_from_All}
 use Rattle.byteorder.specs.Endian.{big_bytes, big_number}
 use Rattle.byteorder.specs.Numbers.{big_number-reads_back, big_from-lt, length-bytes_high_first}
-use Rattle.snow_wire.specs.Spelling.{sized, counted, weighed, flag, IsWeighed}
+use Rattle.snow_wire.specs.Spelling.{number, sized, counted, weighed, flag, IsWeighed}
 use Rattle.snow_wire.specs.Reading.{Fault, Short, Count, IsBytes, Read, ◌>>=◌, bytes_at, number_at, limited_at, flag_at, sized_at, items_at, counted_at, weighed_at}
 use Rattle.snow_wire.proofs.Numbers.{IsBytes-behind, IsWidth, width1, width2, width4, width8, front_spells}
 
@@ -94,43 +94,44 @@ bytes_again n x rest len =
 pub bytes_field : (n : ℕ) → IsField (bytes_at n) (λ x. x) (λ x. length x ≡ n)
 bytes_field n = record { taken = bytes_taken n; again = bytes_again n }
 
-number_taken : (n : ℕ) → IsWidth n → (bytes : List ℕ) (x : ℕ) (rest : List ℕ) → IsBytes bytes → number_at n bytes ≡ Ok (x, rest) → (bytes ≡ big_bytes n x ++ rest) × (x < 256 ^ n)
-unfolding number_at
+number_taken : (n : ℕ) → IsWidth n → (bytes : List ℕ) (x : ℕ) (rest : List ℕ) → IsBytes bytes → number_at n bytes ≡ Ok (x, rest) → (bytes ≡ number n x ++ rest) × (x < 256 ^ n)
+unfolding number_at number
 number_taken n width bytes x rest fits e =
     let g = unless (nat_lt (length bytes) n) Short (big_number n bytes, drop n bytes) (x, rest) e in
     let long : n ≤ length bytes = grind (arith, nat_tests, g.0) in
-    let parts : bytes ≡ big_bytes n (big_number n bytes) ++ drop n bytes = sym (take-append-drop n bytes) ∙ ap (λ (front : List ℕ). front ++ drop n bytes) (sym (front_spells n width bytes long fits)) in
-    subst (λ (p : ℕ × List ℕ). (bytes ≡ big_bytes n p.0 ++ p.1) × (p.0 < 256 ^ n)) g.1 (parts, big_from-lt 0 n bytes fits)
+    let parts : bytes ≡ number n (big_number n bytes) ++ drop n bytes = sym (take-append-drop n bytes) ∙ ap (λ (front : List ℕ). front ++ drop n bytes) (sym (front_spells n width bytes long fits)) in
+    subst (λ (p : ℕ × List ℕ). (bytes ≡ number n p.0 ++ p.1) × (p.0 < 256 ^ n)) g.1 (parts, big_from-lt 0 n bytes fits)
 
-number_again : (n x : ℕ) (rest : List ℕ) → x < 256 ^ n → number_at n (big_bytes n x ++ rest) ≡ Ok (x, rest)
-unfolding number_at
+number_again : (n x : ℕ) (rest : List ℕ) → x < 256 ^ n → number_at n (number n x ++ rest) ≡ Ok (x, rest)
+unfolding number_at number
 number_again n x rest lt =
     let len = length-bytes_high_first n x in
-    let long : nat_lt (length (big_bytes n x ++ rest)) n ≡ false = grind (arith, nat_tests, length-append (big_bytes n x) rest) in
-    rw (long, big_number-reads_back n x rest lt, drop_at (big_bytes n x) rest n len) refl
+    let long : nat_lt (length (number n x ++ rest)) n ≡ false = grind (arith, nat_tests, length-append (number n x) rest) in
+    rw (long, big_number-reads_back n x rest lt, drop_at (number n x) rest n len) refl
 
 -- a number of so many bytes
-pub number_field : (n : ℕ) → IsWidth n → IsField (number_at n) (big_bytes n) (λ x. x < 256 ^ n)
+pub number_field : (n : ℕ) → IsWidth n → IsField (number_at n) (number n) (λ x. x < 256 ^ n)
 number_field n width = record { taken = number_taken n width; again = number_again n }
 
-limited_taken : (n limit : ℕ) → IsWidth n → (bytes : List ℕ) (x : ℕ) (rest : List ℕ) → IsBytes bytes → limited_at n limit bytes ≡ Ok (x, rest) → (bytes ≡ big_bytes n x ++ rest) × (x ≤ limit)
+limited_taken : (n limit : ℕ) → IsWidth n → (bytes : List ℕ) (x : ℕ) (rest : List ℕ) → IsBytes bytes → limited_at n limit bytes ≡ Ok (x, rest) → (bytes ≡ number n x ++ rest) × (x ≤ limit)
 unfolding limited_at
 limited_taken n limit width bytes x rest fits e =
-    let s = step (number_field n width) bytes (λ number. cond (nat_le number.0 limit) (Ok number) (Err Count)) (x, rest) fits e in
+    let s = step (number_field n width) bytes (λ x. cond (nat_le x.0 limit) (Ok x) (Err Count)) (x, rest) fits e in
     let g = when (nat_le s.value limit) Count (s.value, s.rest) (x, rest) s.goes_on in
-    subst (λ (p : ℕ × List ℕ). (bytes ≡ big_bytes n p.0 ++ p.1) × (p.0 ≤ limit)) g.1 (s.parts, grind (arith, nat_tests, g.0))
+    subst (λ (p : ℕ × List ℕ). (bytes ≡ number n p.0 ++ p.1) × (p.0 ≤ limit)) g.1 (s.parts, grind (arith, nat_tests, g.0))
 
-limited_again : (n limit : ℕ) → IsWidth n → limit < 256 ^ n → (x : ℕ) (rest : List ℕ) → x ≤ limit → limited_at n limit (big_bytes n x ++ rest) ≡ Ok (x, rest)
+limited_again : (n limit : ℕ) → IsWidth n → limit < 256 ^ n → (x : ℕ) (rest : List ℕ) → x ≤ limit → limited_at n limit (number n x ++ rest) ≡ Ok (x, rest)
 unfolding limited_at
 limited_again n limit width small x rest le =
     let within : nat_le x limit ≡ true = grind (arith, nat_tests) in
-    again_then (number_field n width) x rest (λ number. cond (nat_le number.0 limit) (Ok number) (Err Count)) (omega arith) ∙ rw within refl
+    again_then (number_field n width) x rest (λ x. cond (nat_le x.0 limit) (Ok x) (Err Count)) (omega arith) ∙ rw within refl
 
 -- a number that is at most the limit
-pub limited_field : (n limit : ℕ) → IsWidth n → limit < 256 ^ n → IsField (limited_at n limit) (big_bytes n) (λ x. x ≤ limit)
+pub limited_field : (n limit : ℕ) → IsWidth n → limit < 256 ^ n → IsField (limited_at n limit) (number n) (λ x. x ≤ limit)
 limited_field n limit width small = record { taken = limited_taken n limit width; again = limited_again n limit width small }
 
-one_flag : (n : ℕ) → n ≤ 1 → big_bytes 1 n ≡ flag (n == 1) ∷ []
+one_flag : (n : ℕ) → n ≤ 1 → number 1 n ≡ flag (n == 1) ∷ []
+unfolding number
 one_flag zero le = refl
 one_flag (suc zero) le = refl
 one_flag (suc (suc n)) le = absurd (omega arith)
@@ -142,7 +143,7 @@ flag_taken bytes x rest fits e =
     subst (λ (p : Bool × List ℕ). (bytes ≡ (flag p.0 ∷ []) ++ p.1) × Unit {0}) (ok_is (s.value == 1, s.rest) (x, rest) s.goes_on) (s.parts ∙ ap (λ (b : List ℕ). b ++ s.rest) (one_flag s.value s.good), tt)
 
 flag_again : (x : Bool) (rest : List ℕ) → Unit {0} → flag_at ((flag x ∷ []) ++ rest) ≡ Ok (x, rest)
-unfolding flag_at
+unfolding flag_at number
 flag_again false rest good = again_then (limited_field 1 1 width1 (omega arith)) 0 rest (λ n. Ok (n.0 == 1, n.1)) (omega arith)
 flag_again true rest good = again_then (limited_field 1 1 width1 (omega arith)) 1 rest (λ n. Ok (n.0 == 1, n.1)) (omega arith)
 
@@ -157,13 +158,14 @@ unfolding sized_at
 sized_taken limit small bytes x rest fits e =
     let len = step (limited_field 4 limit width4 small) bytes (λ n. bytes_at n.0 n.1) (x, rest) fits e in
     let t = bytes_taken len.value len.rest x rest len.fits len.goes_on in
-    let first : bytes ≡ big_bytes 4 (length x) ++ len.rest = rw t.1 len.parts in
-    (join bytes (big_bytes 4 (length x)) len.rest x rest first t.0, rw t.1 len.good)
+    let first : bytes ≡ number 4 (length x) ++ len.rest = rw t.1 len.parts in
+    (join bytes (number 4 (length x)) len.rest x rest first t.0, rw t.1 len.good)
 
 sized_again : (limit : ℕ) → limit < 256 ^ 4 → (x rest : List ℕ) → length x ≤ limit → sized_at limit (sized x ++ rest) ≡ Ok (x, rest)
 unfolding sized_at
 sized_again limit small x rest le =
-    again_then (limited_field 4 limit width4 small) (length x) (x ++ rest) (λ n. bytes_at n.0 n.1) le ∙ bytes_again (length x) x rest refl
+    ap (sized_at limit) (append_assoc (number 4 (length x)) x rest)
+    ∙ again_then (limited_field 4 limit width4 small) (length x) (x ++ rest) (λ n. bytes_at n.0 n.1) le ∙ bytes_again (length x) x rest refl
 
 -- four bytes of length, and so many bytes
 pub sized_field : (limit : ℕ) → limit < 256 ^ 4 → IsField (sized_at limit) sized (λ x. length x ≤ limit)
@@ -180,10 +182,10 @@ record Listed {A : Type 0} (spell : A → List ℕ) (Good : A → Type 0) (n : �
 listed_first : {A : Type 0} (spell : A → List ℕ) (Good : A → Type 0) (n : ℕ) (bytes mid : List ℕ) (x : A) (p : List A × List ℕ) → bytes ≡ spell x ++ mid → Good x → Listed spell Good n mid p
     → Listed spell Good (suc n) bytes (x ∷ p.0, p.1)
 listed_first spell Good n bytes mid x p first good others = record {
-    parts = rw flat_map-cons (join bytes (spell x) mid (flat_map spell p.0) p.1 first others.parts);
-    count = ap suc others.count;
-    good = (good, others.good);
-  }
+  parts = rw flat_map-cons (join bytes (spell x) mid (flat_map spell p.0) p.1 first others.parts);
+  count = ap suc others.count;
+  good = (good, others.good);
+}
 
 items_taken : {A : Type 0} {at : List ℕ → Read A} {spell : A → List ℕ} {Good : A → Type 0} → IsField at spell Good → (n : ℕ) (bytes : List ℕ) (p : List A × List ℕ) → IsBytes bytes
     → items_at at n bytes ≡ Ok p → Listed spell Good n bytes p
@@ -213,14 +215,15 @@ unfolding counted_at
 counted_taken {at = at} {spell = spell} {Good = Good} field limit small bytes xs rest fits e =
     let count = step (limited_field 2 limit width2 small) bytes (λ n. items_at at n.0 n.1) (xs, rest) fits e in
     let t = items_taken field count.value count.rest (xs, rest) count.fits count.goes_on in
-    let first : bytes ≡ big_bytes 2 (length xs) ++ count.rest = rw t.count count.parts in
-    (join bytes (big_bytes 2 (length xs)) count.rest (flat_map spell xs) rest first t.parts, rw t.count count.good, All-from_recursion Good xs t.good)
+    let first : bytes ≡ number 2 (length xs) ++ count.rest = rw t.count count.parts in
+    (join bytes (number 2 (length xs)) count.rest (flat_map spell xs) rest first t.parts, rw t.count count.good, All-from_recursion Good xs t.good)
 
 counted_again : {A : Type 0} {at : List ℕ → Read A} {spell : A → List ℕ} {Good : A → Type 0} → IsField at spell Good → (limit : ℕ) → limit < 256 ^ 2 → (xs : List A) (rest : List ℕ)
     → (length xs ≤ limit) × All Good xs → counted_at at limit (counted spell xs ++ rest) ≡ Ok (xs, rest)
 unfolding counted_at
 counted_again {at = at} {spell = spell} {Good = Good} field limit small xs rest good =
-    again_then (limited_field 2 limit width2 small) (length xs) (flat_map spell xs ++ rest) (λ n. items_at at n.0 n.1) good.0
+    ap (counted_at at limit) (append_assoc (number 2 (length xs)) (flat_map spell xs) rest)
+    ∙ again_then (limited_field 2 limit width2 small) (length xs) (flat_map spell xs ++ rest) (λ n. items_at at n.0 n.1) good.0
     ∙ items_again field xs rest (recursion_from_All Good xs good.1)
 
 -- two bytes of count, and so many items
@@ -235,15 +238,15 @@ unfolding weighed_at
 weighed_taken bytes x rest fits e =
     let node = step (bytes_field 20) bytes (λ n. number_at 8 n.1 >>= λ w. Ok ((n.0, w.0), w.1)) (x, rest) fits e in
     let weight = step (number_field 8 width8) node.rest (λ w. Ok ((node.value, w.0), w.1)) (x, rest) node.fits node.goes_on in
-    let parts : bytes ≡ weighed (node.value, weight.value) ++ weight.rest = join bytes node.value node.rest (big_bytes 8 weight.value) weight.rest node.parts weight.parts in
+    let parts : bytes ≡ weighed (node.value, weight.value) ++ weight.rest = join bytes node.value node.rest (number 8 weight.value) weight.rest node.parts weight.parts in
     let made : (List ℕ × ℕ) × List ℕ = ((node.value, weight.value), weight.rest) in
     subst (λ (p : (List ℕ × ℕ) × List ℕ). (bytes ≡ weighed p.0 ++ p.1) × IsWeighed p.0) (ok_is made (x, rest) weight.goes_on) (parts, (node.good, weight.good))
 
 weighed_again : (x : List ℕ × ℕ) (rest : List ℕ) → IsWeighed x → weighed_at (weighed x ++ rest) ≡ Ok (x, rest)
 unfolding weighed_at
 weighed_again x rest good =
-    ap weighed_at (append_assoc x.0 (big_bytes 8 x.1) rest)
-    ∙ again_then (bytes_field 20) x.0 (big_bytes 8 x.1 ++ rest) (λ n. number_at 8 n.1 >>= λ w. Ok ((n.0, w.0), w.1)) good.0
+    ap weighed_at (append_assoc x.0 (number 8 x.1) rest)
+    ∙ again_then (bytes_field 20) x.0 (number 8 x.1 ++ rest) (λ n. number_at 8 n.1 >>= λ w. Ok ((n.0, w.0), w.1)) good.0
     ∙ again_then (number_field 8 width8) x.1 rest (λ w. Ok ((x.0, w.0), w.1)) good.1
 
 -- a node and its weight

@@ -5,8 +5,8 @@ use Rattle.std.proofs.lemmas.Bool.Decides.{nat_tests}
 use Rattle.std.proofs.lemmas.List.{take_at, drop_at, take-append-drop, length-drop, length-take, length-append, append-nil}
 use Rattle.std.proofs.lemmas.List.Concat.{flat_map-cons}
 use Rattle.std.proofs.lemmas.List.Elements.{All-nil, All-cons, recursion_from_All}
-use Rattle.byteorder.specs.Endian.{big_bytes, big_number}
 use Rattle.byteorder.specs.Numbers.{big_number-reads_back, length-bytes_high_first}
+use Rattle.snow_wire.specs.Spelling.{number}
 use Rattle.snow_wire.specs.Reading.{IsBytes}
 use Rattle.snow_wire.specs.Frame.{IsPayload, IsRest, AreFrames, frame, length_word, is_whole, first_of, led_by, frames_in, frames_of}
 use Rattle.snow_wire.proofs.Numbers.{IsBytes-behind, width4, front_spells}
@@ -48,14 +48,15 @@ pub record Leads (bytes : List ℕ) (first : List ℕ × List ℕ) : Type 0 wher
 
 -- four bytes that spell a length, so many bytes, and a rest
 led : (bytes : List ℕ) (w : ℕ) → length_word bytes ≡ w → IsBytes bytes → IsWhole (length bytes) w → Leads bytes (take w (drop 4 bytes), drop w (drop 4 bytes))
+unfolding number
 led bytes w word fits whole =
     let behind = drop 4 bytes in
     let four : 4 ≤ length bytes = whole.word in
     let all : 4 + w ≤ length bytes = whole.all in
     let len : length (take w behind) ≡ w = omega (arith, length-take w behind, length-drop 4 bytes) in
-    let spelled : big_bytes 4 w ≡ take 4 bytes = ap (big_bytes 4) (sym word) ∙ front_spells 4 width4 bytes four fits in
-    let parts : bytes ≡ big_bytes 4 (length (take w behind)) ++ (take w behind ++ drop w behind) =
-        sym (take-append-drop 4 bytes) ∙ ap (λ (front : List ℕ). front ++ behind) (sym spelled) ∙ ap (λ (x : List ℕ). big_bytes 4 w ++ x) (sym (take-append-drop w behind)) ∙ ap (λ (n : ℕ). big_bytes 4 n ++ (take w behind ++ drop w behind)) (sym len) in
+    let spelled : number 4 w ≡ take 4 bytes = ap (number 4) (sym word) ∙ front_spells 4 width4 bytes four fits in
+    let parts : bytes ≡ (number 4 (length (take w behind)) ++ take w behind) ++ drop w behind =
+    sym (take-append-drop 4 bytes) ∙ ap (λ (front : List ℕ). front ++ behind) (sym spelled) ∙ ap (λ (x : List ℕ). number 4 w ++ x) (sym (take-append-drop w behind)) ∙ ap (λ (n : ℕ). number 4 n ++ (take w behind ++ drop w behind)) (sym len) ∙ sym (append_assoc (number 4 (length (take w behind))) (take w behind) (drop w behind)) in
     record { parts = parts; payload = rw len whole.limit }
 
 -- what first_of gives is a frame, and what is behind it
@@ -76,7 +77,11 @@ front_first front payload rest len word small =
 
 -- a frame in front is the first one
 pub frame_first : (payload rest : List ℕ) → IsPayload payload → first_of (frame payload ++ rest) ≡ Some (payload, rest)
-frame_first payload rest small = front_first (big_bytes 4 (length payload)) payload rest refl (big_number-reads_back 4 (length payload) (payload ++ rest) (omega arith)) small
+unfolding number
+frame_first payload rest small =
+    let word = number 4 (length payload) in
+    ap first_of (append_assoc word payload rest)
+    ∙ front_first word payload rest (length-bytes_high_first 4 (length payload)) (big_number-reads_back 4 (length payload) (payload ++ rest) (omega arith)) small
 
 -- a rest begins with no frame
 pub rest_first : (rest : List ℕ) → IsRest rest → first_of rest ≡ None
@@ -179,4 +184,3 @@ same_first a b e = cc
 pub apart : (a b more : List ℕ) → IsPayload a → IsPayload b → frame a ++ more ≡ frame b → a ≡ b
 apart a b more small_a small_b e =
     same_first (a, more) (b, []) (sym (frame_first a more small_a) ∙ ap first_of (e ∙ sym (append-nil (frame b))) ∙ frame_first b [] small_b)
-

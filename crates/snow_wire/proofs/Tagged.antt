@@ -1,8 +1,7 @@
 -- The fields behind a tag: those that are read are those that the event's spelling has there.
 use Rattle.std.proofs.Common.{◌≡◌, ℕ, zero, suc, ◌+◌, ◌<◌, ◌≤◌, List, [], ◌∷◌, ◌++◌, length, All, Result, Ok, Err, refl, sym, ap, subst, ◌∙◌, append_assoc, append-nil, arith}
-use Rattle.byteorder.specs.Endian.{big_bytes}
 use Rattle.snow_wire.specs.declared.event.Event.{Event}
-use Rattle.snow_wire.specs.Spelling.{spelling, sender, IsSender, IsInRange}
+use Rattle.snow_wire.specs.Spelling.{number, spelling, sender, IsSender, IsInRange}
 use Rattle.snow_wire.specs.Reading.{IsBytes, Read, ◌>>=◌, number_at, bytes_at, single_at, sender_at, message_at}
 use Rattle.snow_wire.proofs.Numbers.{width4}
 use Rattle.snow_wire.proofs.Fields.{IsField, Step, step, again_then, ok_is, done, join, bytes_field, number_field}
@@ -51,7 +50,7 @@ unfolding sender_at
 sender_taken tag made has bytes e rest fits r =
     let node = step (bytes_field 20) bytes (λ n. number_at 4 n.1 >>= λ request. Ok (made n.0 request.0, request.1)) (e, rest) fits r in
     let request = step (number_field 4 width4) node.rest (λ request. Ok (made node.value request.0, request.1)) (e, rest) node.fits node.goes_on in
-    let parts = join bytes node.value node.rest (big_bytes 4 request.value) request.rest node.parts request.parts in
+    let parts = join bytes node.value node.rest (number 4 request.value) request.rest node.parts request.parts in
     tagged tag (sender node.value request.value) bytes (made node.value request.value) e request.rest rest (has node.value request.value (node.good, request.good)) parts request.goes_on
 
 -- a node and a request behind a tag
@@ -62,8 +61,8 @@ sender_tagged tag made has = record { taken = sender_taken tag made has }
 pub sender_again : (made : List ℕ → ℕ → Event) (node : List ℕ) (request : ℕ) → IsSender node request → sender_at made (sender node request) ≡ Ok (made node request, [])
 unfolding sender_at
 sender_again made node request good =
-    ap (λ (b : List ℕ). sender_at made (node ++ b)) (sym (append-nil (big_bytes 4 request)))
-    ∙ again_then (bytes_field 20) node (big_bytes 4 request ++ []) (λ n. number_at 4 n.1 >>= λ r. Ok (made n.0 r.0, r.1)) good.0
+    ap (λ (b : List ℕ). sender_at made (node ++ b)) (sym (append-nil (number 4 request)))
+    ∙ again_then (bytes_field 20) node (number 4 request ++ []) (λ n. number_at 4 n.1 >>= λ r. Ok (made n.0 r.0, r.1)) good.0
     ∙ again_then (number_field 4 width4) request [] (λ r. Ok (made node r.0, r.1)) good.1
 
 -- ---- an event of a node, a request and one field more
@@ -76,7 +75,7 @@ message_taken {at = at} {spell = spell} field tag made has bytes e rest fits r =
     let node = step (bytes_field 20) bytes (λ n. number_at 4 n.1 >>= λ request. at request.1 >>= λ more. Ok (made n.0 request.0 more.0, more.1)) (e, rest) fits r in
     let request = step (number_field 4 width4) node.rest (λ request. at request.1 >>= λ more. Ok (made node.value request.0 more.0, more.1)) (e, rest) node.fits node.goes_on in
     let more = step field request.rest (λ more. Ok (made node.value request.value more.0, more.1)) (e, rest) request.fits request.goes_on in
-    let first = join bytes node.value node.rest (big_bytes 4 request.value) request.rest node.parts request.parts in
+    let first = join bytes node.value node.rest (number 4 request.value) request.rest node.parts request.parts in
     let parts = join bytes (sender node.value request.value) request.rest (spell more.value) more.rest first more.parts in
     tagged tag (sender node.value request.value ++ spell more.value) bytes (made node.value request.value more.value) e more.rest rest (has node.value request.value more.value (node.good, request.good) more.good) parts more.goes_on
 
@@ -90,7 +89,7 @@ pub message_again : {A : Type 0} {at : List ℕ → Read A} {spell : A → List 
     → IsSender node request → Good x → message_at at made (sender node request ++ spell x) ≡ Ok (made node request x, [])
 unfolding message_at
 message_again {at = at} {spell = spell} field made node request x sent good =
-    ap (message_at at made) (append_assoc node (big_bytes 4 request) (spell x) ∙ ap (λ (b : List ℕ). node ++ (big_bytes 4 request ++ b)) (sym (append-nil (spell x))))
-    ∙ again_then (bytes_field 20) node (big_bytes 4 request ++ (spell x ++ [])) (λ n. number_at 4 n.1 >>= λ r. at r.1 >>= λ more. Ok (made n.0 r.0 more.0, more.1)) sent.0
+    ap (message_at at made) (append_assoc node (number 4 request) (spell x) ∙ ap (λ (b : List ℕ). node ++ (number 4 request ++ b)) (sym (append-nil (spell x))))
+    ∙ again_then (bytes_field 20) node (number 4 request ++ (spell x ++ [])) (λ n. number_at 4 n.1 >>= λ r. at r.1 >>= λ more. Ok (made n.0 r.0 more.0, more.1)) sent.0
     ∙ again_then (number_field 4 width4) request (spell x ++ []) (λ r. at r.1 >>= λ more. Ok (made node r.0 more.0, more.1)) sent.1
     ∙ again_then field x [] (λ more. Ok (made node request more.0, more.1)) good

@@ -1,7 +1,8 @@
 -- A stream as frames: four bytes of length, at most 2,097,152, and so many bytes of payload.
 use Rattle.std.specs.Prelude.{◌≡◌, ℕ, zero, suc, ◌+◌, ◌<◌, ◌≤◌, ◌⊎◌, Bool, ◌&&◌, List, [], ◌∷◌, ◌++◌, length, take, drop, All, Option, Some, None, nat_le, nat_lt, if◌then◌else◌}
 use Rattle.std.specs.List.{flat_map}
-use Rattle.byteorder.specs.Endian.{big_bytes, big_number}
+use Rattle.byteorder.specs.Endian.{big_number}
+use Rattle.snow_wire.specs.Spelling.{number}
 
 -- what may stand in a frame
 abbrev pub IsPayload : List ℕ → Type 0
@@ -9,7 +10,7 @@ IsPayload payload = length payload ≤ 2097152
 
 -- the bytes of a frame
 abbrev pub frame : List ℕ → List ℕ
-frame payload = big_bytes 4 (length payload) ++ payload
+frame payload = number 4 (length payload) ++ payload
 
 -- the length in the first four bytes
 abbrev pub length_word : List ℕ → ℕ

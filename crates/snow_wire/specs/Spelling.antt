@@ -6,21 +6,25 @@ use Rattle.snow_wire.specs.declared.event.Event.{Event}
 use Rattle.snow_wire.specs.declared.event.Event.TheVariants as event
 use Rattle.snow_wire.specs.declared.event.Start.{Start}
 
+-- a number in so many bytes
+unfoldable pub number : ℕ → ℕ → List ℕ
+number n x = big_bytes n x
+
 -- four bytes of length, and so many bytes
 abbrev pub sized : List ℕ → List ℕ
-sized bytes = big_bytes 4 (length bytes) ++ bytes
+sized bytes = number 4 (length bytes) ++ bytes
 
 -- two bytes of count, and so many items
 abbrev pub counted : {A : Type 0} → (A → List ℕ) → List A → List ℕ
-counted item items = big_bytes 2 (length items) ++ flat_map item items
+counted item items = number 2 (length items) ++ flat_map item items
 
 -- a node and its weight
 abbrev pub weighed : List ℕ × ℕ → List ℕ
-weighed n = n.0 ++ big_bytes 8 n.1
+weighed n = n.0 ++ number 8 n.1
 
 -- a node and the number of a request
 abbrev pub sender : List ℕ → ℕ → List ℕ
-sender node request = node ++ big_bytes 4 request
+sender node request = node ++ number 4 request
 
 -- whether to bootstrap first
 abbrev pub flag : Bool → ℕ
@@ -29,17 +33,17 @@ flag true = 1
 
 -- the five parameters of the polls
 abbrev pub parameters : Start → List ℕ
-parameters s = big_bytes 4 s.k ++ big_bytes 4 s.alpha_preference ++ big_bytes 4 s.alpha_confidence ++ big_bytes 4 s.beta ++ big_bytes 4 s.repolls
+parameters s = number 4 s.k ++ number 4 s.alpha_preference ++ number 4 s.alpha_confidence ++ number 4 s.beta ++ number 4 s.repolls
 
 abbrev pub start : Start → List ℕ
-start s = parameters s ++ flag s.boot ∷ s.last ++ big_bytes 8 s.height ++ counted (big_bytes 8) s.state ++ counted weighed s.nodes
+start s = parameters s ++ flag s.boot ∷ s.last ++ number 8 s.height ++ counted (number 8) s.state ++ counted weighed s.nodes
 
 -- the one spelling of an event
 unfoldable pub spelling : Event → List ℕ
 spelling (event.Start s) = 1 ∷ start s
 spelling (event.Block node request bytes) = 2 ∷ sender node request ++ sized bytes
 spelling (event.Poll ids) = 3 ∷ counted (λ id. id) ids
-spelling (event.Words words) = 4 ∷ counted (big_bytes 8) words
+spelling (event.Words words) = 4 ∷ counted (number 8) words
 spelling (event.Chits node request id) = 5 ∷ sender node request ++ id
 spelling (event.Timeout node request) = 6 ∷ sender node request
 spelling (event.Frontier node request id) = 7 ∷ sender node request ++ id

@@ -3,14 +3,11 @@ ghost use Rattle.snow_wire.specs.declared.event.Event.{Event};
 ghost use Rattle.snow_wire.specs.Spelling.{IsInRange, spelling};
 ghost use Rattle.snow_wire.specs.Reading.{Gives, Reads, event_of, fields_at};
 
-use std::alloc::Global;
-
 use crate::event::Event;
-use crate::messages;
-use crate::questions;
 use crate::reader::Reader;
-use crate::setup;
 use crate::skip::Skip;
+use crate::{messages, questions, setup};
+use std::alloc::Global;
 
 /// The event that a payload spells. A payload that spells none is refused at the first thing that
 /// goes wrong, reading from the front; a range is checked as soon as its field is read.

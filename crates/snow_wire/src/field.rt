@@ -1,41 +1,72 @@
-ghost use Rattle.std.specs.Prelude.{◌≡◌, ◌≤◌, ◌++◌, ℕ, List, Result, length, OnOk, ⊤};
+ghost use Rattle.std.specs.Prelude.{◌≡◌, ◌<◌, ◌≤◌, ◌^◌, ◌++◌, ℕ, List, Result, length, All, OnOk, ⊤};
+ghost use Rattle.snow_wire.specs.Spelling.{IsBlock, counted, number, sized, weighed};
 ghost use Rattle.snow_wire.specs.Reading.{Fault, Reads, bytes_at, number_at, sized_at, weighed_at, counted_at, items_at};
-
-use snow_base::{Bytes, Id, Items, NodeId};
-use std::alloc::Global;
 
 use crate::reader::Reader;
 use crate::skip::Skip;
+use snow_base::{Bytes, Id, Items, NodeId};
+use std::alloc::{AllocError, Global};
 
 /// The greatest length of a block.
 pub(crate) const MAX_BLOCK: u32 = 65_536;
 
 /// What stands in a counted list.
 pub(crate) trait Field: Drop {
+    /// How it is read from the front of bytes.
     ghost read_at: { List ℕ → Result (Self × List ℕ) Fault };
+
+    /// Its bytes.
+    ghost spelled: { Self → List ℕ };
+
+    /// What has such bytes.
+    ghost fits: { Self → Type 0 };
 
     fn read(alloc: Global, reader: &mut Reader) -> Result<Self, Skip>
         ensures { Reads result reader.new (read_at reader.old) };
+
+    fn write(&self, out: &mut Bytes) -> Result<(), AllocError>
+        requires { fits self.now }
+        ensures { OnOk result (out.new ≡ out.old ++ spelled self.now) };
 }
 
 impl Field for Id {
     ghost read_at = { bytes_at 32 };
 
+    ghost spelled = { λ id. id };
+
+    ghost fits = { λ id. ⊤ };
+
     fn read(_alloc: Global, reader: &mut Reader) -> Result<Id, Skip> {
         reader.id()
+    }
+
+    fn write(&self, out: &mut Bytes) -> Result<(), AllocError> {
+        out.append(self.as_bytes())
     }
 }
 
 impl Field for u64 {
     ghost read_at = { number_at 8 };
 
+    ghost spelled = { number 8 };
+
+    ghost fits = { λ n. ⊤ };
+
     fn read(_alloc: Global, reader: &mut Reader) -> Result<u64, Skip> {
         reader.u64()
+    }
+
+    fn write(&self, out: &mut Bytes) -> Result<(), AllocError> {
+        write_u64(out, *self)
     }
 }
 
 impl Field for (NodeId, u64) {
     ghost read_at = { weighed_at };
+
+    ghost spelled = { weighed };
+
+    ghost fits = { λ n. ⊤ };
 
     #[tactic(auto, unfolding(crate::specs::Reading::weighed_at))]
     fn read(_alloc: Global, reader: &mut Reader) -> Result<(NodeId, u64), Skip> {
@@ -43,26 +74,43 @@ impl Field for (NodeId, u64) {
         let weight = reader.u64()?;
         Ok((node, weight))
     }
+
+    fn write(&self, out: &mut Bytes) -> Result<(), AllocError> {
+        out.append(self.0.as_bytes())?;
+        write_u64(out, self.1)
+    }
 }
 
 impl Field for Bytes {
     ghost read_at = { sized_at 65536 };
 
+    ghost spelled = { sized };
+
+    ghost fits = { IsBlock };
+
     fn read(alloc: Global, reader: &mut Reader) -> Result<Bytes, Skip> {
         reader.sized(alloc, MAX_BLOCK)
+    }
+
+    fn write(&self, out: &mut Bytes) -> Result<(), AllocError> {
+        write_sized(out, self)
     }
 }
 
 /// A count that is at most the limit, and so many items.
 #[tactic(auto, unfolding(crate::specs::Reading::counted_at))]
-pub(crate) fn counted<T: Field>(alloc: Global, reader: &mut Reader, limit: u16) -> Result<Items<T>, Skip>
+pub(crate) fn read_counted<T: Field>(
+    alloc: Global,
+    reader: &mut Reader,
+    limit: u16,
+) -> Result<Items<T>, Skip>
     ensures { Reads result reader.new (counted_at T.read_at limit reader.old) }
 {
     let count = reader.count(limit)?;
-    items(alloc, reader, count)
+    read_items(alloc, reader, count)
 }
 
-fn items<T: Field>(alloc: Global, reader: &mut Reader, count: u16) -> Result<Items<T>, Skip>
+fn read_items<T: Field>(alloc: Global, reader: &mut Reader, count: u16) -> Result<Items<T>, Skip>
     ensures { Reads result reader.new (items_at T.read_at count reader.old) }
 {
     let mut items = Items::new(alloc);
@@ -70,4 +118,47 @@ fn items<T: Field>(alloc: Global, reader: &mut Reader, count: u16) -> Result<Ite
         items.push(T::read(alloc, reader)?)?;
     }
     Ok(items)
+}
+
+#[tactic(auto, unfolding(crate::specs::Spelling::number))]
+fn write_u16(out: &mut Bytes, n: u16) -> Result<(), AllocError>
+    ensures { OnOk result (out.new ≡ out.old ++ number 2 n) }
+{
+    out.append(&n.to_be_bytes())
+}
+
+#[tactic(auto, unfolding(crate::specs::Spelling::number))]
+pub(crate) fn write_u32(out: &mut Bytes, n: u32) -> Result<(), AllocError>
+    ensures { OnOk result (out.new ≡ out.old ++ number 4 n) }
+{
+    out.append(&n.to_be_bytes())
+}
+
+#[tactic(auto, unfolding(crate::specs::Spelling::number))]
+pub(crate) fn write_u64(out: &mut Bytes, n: u64) -> Result<(), AllocError>
+    ensures { OnOk result (out.new ≡ out.old ++ number 8 n) }
+{
+    out.append(&n.to_be_bytes())
+}
+
+/// Four bytes of length, and so many bytes.
+pub(crate) fn write_sized(out: &mut Bytes, bytes: &Bytes) -> Result<(), AllocError>
+    requires { length bytes.now < 2 ^ 32 }
+    ensures { OnOk result (out.new ≡ out.old ++ sized bytes.now) }
+{
+    write_u32(out, bytes.list().len() as u32)?;
+    out.append(bytes.list())
+}
+
+/// Two bytes of count, and so many items.
+pub(crate) fn write_counted<T: Field>(out: &mut Bytes, items: &Items<T>) -> Result<(), AllocError>
+    requires count { length items.now < 2 ^ 16 }
+    requires fits { All (λ x. T.fits x) items.now }
+    ensures { OnOk result (out.new ≡ out.old ++ counted T.spelled items.now) }
+{
+    write_u16(out, items.list().len() as u16)?;
+    for item in items.list() {
+        item.write(out)?;
+    }
+    Ok(())
 }

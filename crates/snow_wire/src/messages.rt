@@ -3,12 +3,11 @@
 ghost use Rattle.snow_wire.specs.Reading.{Reads, counted_at, id_at, block_at, sender_at, message_at};
 ghost use Rattle.snow_wire.specs.declared.event.Event.TheVariants as event;
 
-use std::alloc::Global;
-
 use crate::event::Event;
-use crate::field::{MAX_BLOCK, counted};
+use crate::field::{MAX_BLOCK, read_counted};
 use crate::reader::Reader;
 use crate::skip::Skip;
+use std::alloc::Global;
 
 #[tactic(auto, unfolding(crate::specs::Reading::message_at))]
 pub(crate) fn block(alloc: Global, reader: &mut Reader) -> Result<Event, Skip>
@@ -17,7 +16,11 @@ pub(crate) fn block(alloc: Global, reader: &mut Reader) -> Result<Event, Skip>
     let node = reader.node()?;
     let request = reader.u32()?;
     let bytes = reader.sized(alloc, MAX_BLOCK)?;
-    Ok(Event::Block { node, request, bytes })
+    Ok(Event::Block {
+        node,
+        request,
+        bytes,
+    })
 }
 
 #[tactic(auto, unfolding(crate::specs::Reading::message_at))]
@@ -55,7 +58,7 @@ pub(crate) fn accepted(alloc: Global, reader: &mut Reader) -> Result<Event, Skip
 {
     let node = reader.node()?;
     let request = reader.u32()?;
-    let ids = counted(alloc, reader, 4096)?;
+    let ids = read_counted(alloc, reader, 4096)?;
     Ok(Event::Accepted { node, request, ids })
 }
 
@@ -65,6 +68,10 @@ pub(crate) fn ancestors(alloc: Global, reader: &mut Reader) -> Result<Event, Ski
 {
     let node = reader.node()?;
     let request = reader.u32()?;
-    let blocks = counted(alloc, reader, 2048)?;
-    Ok(Event::Ancestors { node, request, blocks })
+    let blocks = read_counted(alloc, reader, 2048)?;
+    Ok(Event::Ancestors {
+        node,
+        request,
+        blocks,
+    })
 }

@@ -3,12 +3,11 @@
 ghost use Rattle.snow_wire.specs.Reading.{Reads, counted_at, id_at, sender_at, message_at};
 ghost use Rattle.snow_wire.specs.declared.event.Event.TheVariants as event;
 
-use std::alloc::Global;
-
 use crate::event::Event;
-use crate::field::counted;
+use crate::field::read_counted;
 use crate::reader::Reader;
 use crate::skip::Skip;
+use std::alloc::Global;
 
 #[tactic(auto, unfolding(crate::specs::Reading::sender_at))]
 pub(crate) fn ask_query(reader: &mut Reader) -> Result<Event, Skip>
@@ -34,7 +33,7 @@ pub(crate) fn ask_accepted(alloc: Global, reader: &mut Reader) -> Result<Event, 
 {
     let node = reader.node()?;
     let request = reader.u32()?;
-    let ids = counted(alloc, reader, 4096)?;
+    let ids = read_counted(alloc, reader, 4096)?;
     Ok(Event::AskAccepted { node, request, ids })
 }
 

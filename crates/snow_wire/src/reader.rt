@@ -1,12 +1,11 @@
 ghost use Rattle.std.specs.Prelude.{◌≡◌, ◌<◌, ℕ, List, length, IfOk};
 ghost use Rattle.snow_wire.specs.Reading.{Reads, ReadsAs, bytes_at, number_at, limited_at, flag_at, sized_at};
 
+use crate::skip::Skip;
 use byteorder::{BigEndian, ByteOrder};
 use snow_base::{Bytes, Id, NodeId};
 use std::alloc::Global;
 use std::marker::Model;
-
-use crate::skip::Skip;
 
 /// Reads fields from the front of bytes. Contracts see the bytes that are left.
 #[derive(Drop)]

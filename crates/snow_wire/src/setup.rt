@@ -3,12 +3,11 @@
 ghost use Rattle.snow_wire.specs.Reading.{Reads, counted_at, number_at, id_at, block_at, weighed_at, sized_at, start_at, single_at};
 ghost use Rattle.snow_wire.specs.declared.event.Event.TheVariants as event;
 
-use std::alloc::Global;
-
 use crate::event::{Event, Start};
-use crate::field::{MAX_BLOCK, counted};
+use crate::field::{MAX_BLOCK, read_counted};
 use crate::reader::Reader;
 use crate::skip::Skip;
+use std::alloc::Global;
 
 /// The greatest length of a line.
 const MAX_LINE: u32 = 1_100_000;
@@ -25,8 +24,8 @@ pub(crate) fn start(alloc: Global, reader: &mut Reader) -> Result<Event, Skip>
     let boot = reader.flag()?;
     let last = reader.id()?;
     let height = reader.u64()?;
-    let state = counted(alloc, reader, 4096)?;
-    let nodes = counted(alloc, reader, 4096)?;
+    let state = read_counted(alloc, reader, 4096)?;
+    let nodes = read_counted(alloc, reader, 4096)?;
     Ok(Event::Start(Start {
         k,
         alpha_preference,
@@ -45,7 +44,7 @@ pub(crate) fn start(alloc: Global, reader: &mut Reader) -> Result<Event, Skip>
 pub(crate) fn poll(alloc: Global, reader: &mut Reader) -> Result<Event, Skip>
     ensures { Reads result reader.new (single_at (counted_at id_at 1024) event.Poll reader.old) }
 {
-    let ids = counted(alloc, reader, 1024)?;
+    let ids = read_counted(alloc, reader, 1024)?;
     Ok(Event::Poll { ids })
 }
 
@@ -53,7 +52,7 @@ pub(crate) fn poll(alloc: Global, reader: &mut Reader) -> Result<Event, Skip>
 pub(crate) fn words(alloc: Global, reader: &mut Reader) -> Result<Event, Skip>
     ensures { Reads result reader.new (single_at (counted_at (number_at 8) 4096) event.Words reader.old) }
 {
-    let words = counted(alloc, reader, 4096)?;
+    let words = read_counted(alloc, reader, 4096)?;
     Ok(Event::Words { words })
 }
 
@@ -69,7 +68,7 @@ pub(crate) fn stored(alloc: Global, reader: &mut Reader) -> Result<Event, Skip>
 pub(crate) fn validators(alloc: Global, reader: &mut Reader) -> Result<Event, Skip>
     ensures { Reads result reader.new (single_at (counted_at weighed_at 4096) event.Validators reader.old) }
 {
-    let nodes = counted(alloc, reader, 4096)?;
+    let nodes = read_counted(alloc, reader, 4096)?;
     Ok(Event::Validators { nodes })
 }
 

@@ -1,7 +1,7 @@
 use Rattle.std.proofs.lemmas.Result.{err_from_is_err_and}
 use Rattle.snow_wire.specs.Reading.{items_at}
 use Rattle.snow_wire.proofs.Listed.{goes_on, ends, is_done}
-use Rattle.snow_wire.proofs.field.items.Goals as goal
+use Rattle.snow_wire.proofs.field.read_items.Goals as goal
 
 pub returns-in_err-read : goal.returns-in_err-read
 returns-in_err-read g c =
