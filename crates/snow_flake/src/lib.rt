@@ -5,11 +5,9 @@ mod binary;
 mod params;
 mod rule;
 mod unary;
-
 mod votes;
 
 pub use binary::Binary;
 pub use params::{ParamFault, Params};
 pub use rule::{Rule, Snowball, Snowflake};
 pub use unary::Unary;
-
