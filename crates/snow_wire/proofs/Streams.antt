@@ -14,26 +14,31 @@ use Rattle.snow_wire.proofs.Numbers.{IsBytes-behind, width4, front_spells}
 -- ---- the first frame
 
 -- n bytes that say w hold a whole frame
-record IsWhole (n w : ℕ) : Type 0 where
-  word : 4 ≤ n
-  limit : w ≤ 2097152
-  all : 4 + w ≤ n
+pub record IsWhole (n w : ℕ) : Type 0 where
+  pub word : 4 ≤ n
+  pub limit : w ≤ 2097152
+  pub all : 4 + w ≤ n
 
-whole_if : (n w : ℕ) → (nat_le 4 n && nat_le w 2097152 && nat_le (4 + w) n) ≡ true → IsWhole n w
+-- the test tells it
+pub whole_if : (n w : ℕ) → (nat_le 4 n && nat_le w 2097152 && nat_le (4 + w) n) ≡ true → IsWhole n w
 whole_if n w h = record { word = grind (arith, nat_tests); limit = grind (arith, nat_tests); all = grind (arith, nat_tests) }
 
-if_whole : (n w : ℕ) → w ≤ 2097152 → 4 + w ≤ n → (nat_le 4 n && nat_le w 2097152 && nat_le (4 + w) n) ≡ true
+-- the test holds
+pub if_whole : (n w : ℕ) → w ≤ 2097152 → 4 + w ≤ n → (nat_le 4 n && nat_le w 2097152 && nat_le (4 + w) n) ≡ true
 if_whole n w a b = grind (arith, nat_tests)
 
+-- the test fails on a rest alone
 rest_if : (n w : ℕ) → (nat_le 4 n && nat_le w 2097152 && nat_le (4 + w) n) ≡ false → (n < 4) ⊎ (2097152 < w) ⊎ (n < 4 + w)
 rest_if n w h = grind (arith, nat_tests)
 
+-- the test fails on a rest
 if_rest : (n w : ℕ) → (n < 4) ⊎ (2097152 < w) ⊎ (n < 4 + w) → (nat_le 4 n && nat_le w 2097152 && nat_le (4 + w) n) ≡ false
 if_rest n w (inl a) = grind (arith, nat_tests)
 if_rest n w (inr (inl b)) = grind (arith, nat_tests)
 if_rest n w (inr (inr c)) = grind (arith, nat_tests)
 
-given_if : {A : Type 0} (b : Bool) (x y : A) → cond b (Some x) None ≡ Some y → (b ≡ true) × (x ≡ y)
+-- a test that held
+pub given_if : {A : Type 0} (b : Bool) (x y : A) → cond b (Some x) None ≡ Some y → (b ≡ true) × (x ≡ y)
 given_if true x y e = (refl, cc)
 given_if false x y e = absurd cc
 
@@ -102,6 +107,13 @@ first_rest bytes e = rest_if (length bytes) (length_word bytes) (none_if (is_who
 
 held : (n w : ℕ) → (n < 4) ⊎ (2097152 < w) ⊎ (n < 4 + w) → (nat_le 4 n && nat_lt 2097152 w) ≡ false → n ≤ 2097155
 held n w partial fine = grind (arith, nat_tests)
+
+not_whole : (n w : ℕ) → (nat_le 4 n && nat_lt 2097152 w) ≡ true → (n < 4) ⊎ (2097152 < w) ⊎ (n < 4 + w)
+not_whole n w long = inr (inl (grind (arith, nat_tests)))
+
+-- a length above the limit begins no frame
+pub long_first : (rest : List ℕ) → is_too_long rest ≡ true → first_of rest ≡ None
+long_first rest long = rest_first rest (not_whole (length rest) (length_word rest) long)
 
 -- less than a frame, and no length above the limit
 pub small_rest : (rest : List ℕ) → first_of rest ≡ None → is_too_long rest ≡ false → length rest ≤ 2097155

@@ -17,10 +17,20 @@ fresh = record { given = 0; rest = [] }
 abbrev pub fed : Intake → List ℕ → Intake
 fed intake piece = record { given = intake.given; rest = intake.rest ++ piece }
 
--- the answer to a call for the next frame: the first frame, taken off the front of the rest; a length
--- that no frame has; or none, where neither stands in front
-abbrev pub Answers : Intake → Intake → Result (Option Frame) TooLong → Type 0
-Answers old new (Ok (Some frame)) =
-    (first_of old.rest ≡ Some (frame.payload.now, new.rest)) × (frame.number ≡ old.given + 1) × (new.given ≡ old.given + 1)
-Answers old new (Ok None) = (first_of old.rest ≡ None) × (is_too_long old.rest ≡ false) × (new ≡ old)
-Answers old new (Err long) = (is_too_long old.rest ≡ true) × (long ≡ record { number = old.given + 1; length = length_word old.rest }) × (new ≡ old)
+-- without a frame that was found in front; where none was found all stays
+abbrev pub without : Intake → Option (List ℕ × List ℕ) → Intake
+without intake None = intake
+without intake (Some first) = record { given = intake.given + 1; rest = first.1 }
+
+-- the first frame, if there is one, is taken off the front
+abbrev pub taken : Intake → Intake
+taken intake = without intake (first_of intake.rest)
+
+-- the answer to a call for the next frame: the first one; a length that no frame has; or none, where
+-- neither stands in front
+abbrev pub IsNext : Intake → Result (Option Frame) TooLong → Type 0
+IsNext intake (Ok (Some frame)) =
+    (first_of intake.rest ≡ Some (frame.payload.now, (taken intake).rest)) × (frame.number ≡ intake.given + 1)
+IsNext intake (Ok None) = (first_of intake.rest ≡ None) × (is_too_long intake.rest ≡ false)
+IsNext intake (Err long) =
+    (is_too_long intake.rest ≡ true) × (long ≡ record { number = intake.given + 1; length = length_word intake.rest })

@@ -27,7 +27,7 @@ impl Model for Decoder {
 }
 
 impl Decoder {
-    ghost use Rattle.snow_wire.specs.Stream.{Answers, fed, fresh};
+    ghost use Rattle.snow_wire.specs.Stream.{IsNext, fed, fresh, taken};
     ghost use Rattle.snow_wire.specs.contracts.decoder.Decoder.{the_row};
 
     /// A decoder that got nothing yet. It takes no memory.
@@ -68,8 +68,9 @@ impl Decoder {
     /// later call.
     pub fn next(&mut self) -> Result<Option<Frame<'_>>, TooLong>
         requires { self.old.given < 2 ^ 64 - 1 }
+        ensures answer { IsNext self.old result }
         // The first frame is taken off the rest; without one all stays as it was.
-        ensures* answer { sem 𝓛 (Rests the_row self.entry (λ new. Answers self.old new result)) }
+        ensures* rests { sem 𝓛 (Rests the_row self.entry (λ new. new ≡ taken self.old)) }
         // What is kept for later is less than a frame.
         ensures held { IfOk result (λ frame. IfNone frame (length self.old.rest ≤ 2097155)) }
     {
