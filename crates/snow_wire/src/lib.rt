@@ -21,3 +21,6 @@ pub use event::{Event, Start};
 pub use frame::{Frame, TooLong, first_frame};
 pub use laws::{one_reading, one_spelling};
 pub use skip::Skip;
+
+#[cfg(test)]
+mod tests;
