@@ -1,4 +1,4 @@
-use Rattle.std.proofs.Common.{◌≡◌, ◌+◌, ◌-◌, ℕ, List, length, take, drop, refl, ap, sym, ◌∙◌, Option, Some, None, Bool, true, false}
+use Rattle.std.proofs.Common.{◌≡◌, ◌+◌, ◌-◌, ℕ, List, length, take, drop, refl, ap, sym, ◌∙◌, Some, None, true, false}
 use Rattle.std.proofs.lemmas.List.{take_rest}
 use Rattle.snow_wire.specs.Frame.{is_too_long, length_word, first_of}
 use Rattle.snow_wire.specs.declared.frame.TooLong.{TooLong}
