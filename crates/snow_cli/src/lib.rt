@@ -12,3 +12,6 @@ mod top;
 
 pub use status::Status;
 pub use top::top;
+
+#[cfg(test)]
+mod tests;
