@@ -10,3 +10,7 @@ pub mod Kept
 pub mod Judged
 pub mod Taken
 pub mod Settled
+pub mod Gathered
+pub mod Climbed
+pub mod Swept
+pub mod Polled
