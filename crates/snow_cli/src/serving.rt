@@ -1,6 +1,7 @@
 ghost use Rattle.std.specs.Prelude.{◌≡◌, ◌≢◌, ◌≤◌, false, map, IfSome, string_bytes};
 ghost use Rattle.std.specs.Io.KnownBytes.{Keeps, IsAtEnd};
 ghost use Rattle.snow_base.specs.Outside.{Rose};
+ghost use Rattle.snow_flake.specs.Rule.{by_preference};
 ghost use Rattle.snow_lines.specs.Text.{texts};
 ghost use Rattle.snow_cli.specs.Answer.{is_decide, model, model_in, IsAnswer, Wrote, IsQuiet, HasFault, TookLine, error_line};
 
