@@ -40,8 +40,17 @@ two_frames = refl
 
 abbrev started : Event
 started = event.Start (record {
-    k = 1; alpha_preference = 1; alpha_confidence = 1; beta = 1; repolls = 1; boot = false; last = id_of 0xff; height = 0; state = []; nodes = [];
-  })
+  k = 1;
+  alpha_preference = 1;
+  alpha_confidence = 1;
+  beta = 1;
+  repolls = 1;
+  boot = false;
+  last = id_of 0xff;
+  height = 0;
+  state = [];
+  nodes = [];
+})
 
 pub start_is_read : event_of start_bytes ≡ Ok started
 unfolding event_of fields_at start_at number_at limited_at flag_at bytes_at counted_at items_at
