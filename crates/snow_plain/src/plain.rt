@@ -16,6 +16,8 @@ use std::marker::{Model, PhantomData};
 #[derive(Debug, Drop)]
 pub struct PlainBoard<R: Rule> {
     state: State,
+    // The preference of this state, found anew where it may have changed.
+    leading: Id,
     decisions: Vec<Decision>,
     // Room for the votes of a poll, and for those that came to one block, by its children.
     cursors: Vec<Cursor>,
@@ -25,7 +27,8 @@ pub struct PlainBoard<R: Rule> {
 }
 
 impl<R: Rule> Model for PlainBoard<R> {
-    ghost use Rattle.std.specs.Prelude.{◌+◌, length, vec_capacity};
+    ghost use Rattle.std.specs.Prelude.{◌≡◌, ◌+◌, length, vec_capacity};
+    ghost use Rattle.snow_plain.specs.Preference.{preferred};
     ghost use Rattle.snow_plain.specs.Shown.{Shown, HasRoom, coded_shown};
 
     ghost Value = { Shown };
@@ -35,7 +38,8 @@ impl<R: Rule> Model for PlainBoard<R> {
     ghost view = { λ a. record { board = a.state; decided = a.decisions.items } };
 
     ghost invariant = { λ a.
-        HasRoom a.state (vec_capacity a.decisions) (vec_capacity a.cursors) (a.children.room + length a.children.list) };
+        HasRoom a.state (vec_capacity a.decisions) (vec_capacity a.cursors) (a.children.room + length a.children.list)
+        × (a.leading ≡ preferred R.answer a.state) };
 }
 
 impl<R: Rule> Board for PlainBoard<R> {
@@ -47,6 +51,7 @@ impl<R: Rule> Board for PlainBoard<R> {
 
     ghost agrees = { R.agrees };
 
+    #[tactic(auto, unfolding(crate::specs::Preference::path_from))]
     fn begin(alloc: Global, params: Params, last: Id, height: u64) -> Result<Self, AllocError> {
         let votes = params.k() as usize;
         let cursors = Vec::with_capacity(alloc, votes)?;
@@ -54,6 +59,7 @@ impl<R: Rule> Board for PlainBoard<R> {
         children.reserve(votes)?;
         Ok(PlainBoard {
             state: State::begin(alloc, params, last, height),
+            leading: last,
             decisions: Vec::new(alloc),
             cursors,
             children,
@@ -65,6 +71,7 @@ impl<R: Rule> Board for PlainBoard<R> {
     fn issue(&mut self, id: Id, parent: Id, height: u64) -> Result<(), AllocError> {
         self.decisions.reserve(self.state.pending_len() + 1)?;
         self.state.issue(self.alloc, Header { id, parent, height })?;
+        self.leading = self.state.preference::<R>();
         self.decisions.clear();
         Ok(())
     }
@@ -74,6 +81,7 @@ impl<R: Rule> Board for PlainBoard<R> {
             .count(votes.entries(), &mut self.cursors, &mut self.children);
         self.decisions.clear();
         self.state.settle(&mut self.decisions);
+        self.leading = self.state.preference::<R>();
     }
 
     fn decisions(&self) -> &[Decision] {
@@ -81,7 +89,7 @@ impl<R: Rule> Board for PlainBoard<R> {
     }
 
     fn preference(&self) -> Id {
-        self.state.preference::<R>()
+        self.leading
     }
 
     fn is_preferred(&self, id: &Id) -> bool {
