@@ -15,7 +15,7 @@ use Rattle.snow_plain.specs.Board.{Board, blocks_of, with_counters}
 use Rattle.snow_plain.specs.Poll.{with_votes, counted}
 use Rattle.snow_plain.specs.Cursors.{started, moved, moved_past, child_at, votes_for, votes_at, polled}
 use Rattle.snow_plain.specs.Grown.{has_block, is_on, IsGrown}
-use Rattle.snow_plain.proofs.Tests.{split_on, clash, same_id, id_itself}
+use Rattle.snow_plain.proofs.Cases.{split_on, clash, same_id, id_itself}
 use Rattle.snow_plain.proofs.Grown.{has_child, older, not_last, grown_before, latest_childless, no_child_on, line_passes}
 
 -- ---- one vote

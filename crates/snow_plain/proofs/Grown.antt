@@ -10,7 +10,7 @@ use Rattle.snow_base.specs.Ancestry.{line_in}
 use Rattle.snow_plain.specs.declared.pending.Pending.{Pending}
 use Rattle.snow_plain.specs.Board.{blocks_of}
 use Rattle.snow_plain.specs.Grown.{has_block, is_on, IsGrown, Bare, Grew}
-use Rattle.snow_plain.proofs.Tests.{split_on, clash, same_id, id_itself}
+use Rattle.snow_plain.proofs.Cases.{split_on, clash, same_id, id_itself}
 
 -- the latest block was new
 pub grown_new : {last : List ℕ} {b : Header} {earlier : List Header} → IsGrown last (b ∷ earlier) → is_on last earlier b.id ≡ false

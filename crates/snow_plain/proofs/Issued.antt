@@ -11,7 +11,7 @@ use Rattle.snow_base.specs.Identifier.{bits}
 use Rattle.snow_plain.specs.Conflict.{Counters, with_child}
 use Rattle.snow_plain.specs.Reached.{MayIssue}
 use Rattle.snow_plain.specs.Grown.{has_block, is_on, IsGrown, Bare, Grew}
-use Rattle.snow_plain.proofs.Tests.{split_on, clash, same_id, id_itself}
+use Rattle.snow_plain.proofs.Cases.{split_on, clash, same_id, id_itself}
 use Rattle.snow_plain.proofs.Grown.{older, not_last, reversed_at, has_block-reverse}
 
 -- a pending block after the issue of a child

@@ -12,7 +12,7 @@ use Rattle.snow_plain.specs.Board.{blocks_of}
 use Rattle.snow_plain.specs.Poll.{accepts, rejects}
 use Rattle.snow_plain.specs.Acceptance.{outsiders, descendants, has_decision, is_rejected}
 use Rattle.snow_plain.specs.Grown.{has_block, is_on, IsGrown}
-use Rattle.snow_plain.proofs.Tests.{split_on, clash, same_id, id_same, id_itself, differs_back}
+use Rattle.snow_plain.proofs.Cases.{split_on, clash, same_id, id_same, id_itself, differs_back}
 use Rattle.snow_plain.proofs.Grown.{grown_parent, grown_rest, grown_before, on_more, older, not_last, no_line, line_passes, reversed_at, has_block-reverse}
 use Rattle.snow_plain.proofs.Kept.{filter_on, blocks-filter, has_filtered, has_own}
 

@@ -10,7 +10,7 @@ use Rattle.snow_plain.specs.declared.pending.Pending.{Pending}
 use Rattle.snow_plain.specs.Board.{blocks_of}
 use Rattle.snow_plain.specs.Acceptance.{descendants}
 use Rattle.snow_plain.specs.Grown.{has_block, is_on, IsGrown, Bare, Grew}
-use Rattle.snow_plain.proofs.Tests.{split_on, clash, same_id, id_itself, differs_back}
+use Rattle.snow_plain.proofs.Cases.{split_on, clash, same_id, id_itself, differs_back}
 use Rattle.snow_plain.proofs.Grown.{grown_new, grown_parent, grown_rest, no_line}
 
 -- ---- filters

@@ -33,3 +33,8 @@ poll_is board votes = ap (λ n. settled n (counted board votes)) (counted_length
 -- a poll leaves the parameters as they are
 pub settled_counted : (board : Board) (votes : List Vote) (n : ℕ) → (settled n (counted board votes)).0.parameters ≡ board.parameters
 settled_counted board votes n = settled_parameters n (counted board votes) ∙ counted_parameters board votes
+
+-- the same of the whole
+pub poll_parameters : (board : Board) (votes : List Vote) → (poll board votes).0.parameters ≡ board.parameters
+poll_parameters board votes =
+    ap (λ r. r.0.parameters) (sym (poll_is board votes)) ∙ settled_counted board votes (length (counted board votes).pending)

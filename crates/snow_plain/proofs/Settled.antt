@@ -11,7 +11,7 @@ use Rattle.snow_plain.specs.Conflict.{decides}
 use Rattle.snow_plain.specs.Board.{Board}
 use Rattle.snow_plain.specs.Poll.{winner, promoted, decisions_for, stays_with, settled, and_then, accepted_then}
 use Rattle.snow_plain.specs.Acceptance.{Accepts}
-use Rattle.snow_plain.proofs.Tests.{split_on, id_itself}
+use Rattle.snow_plain.proofs.Cases.{split_on, id_itself}
 
 -- ---- the winner's place
 

@@ -13,7 +13,7 @@ use Rattle.snow_plain.specs.Board.{Board, blocks_of}
 use Rattle.snow_plain.specs.Poll.{accepts, rejects, promoted, decisions_for}
 use Rattle.snow_plain.specs.Acceptance.{outsiders, descendants, has_decision, Accepts}
 use Rattle.snow_plain.specs.Grown.{has_block}
-use Rattle.snow_plain.proofs.Tests.{split_on, clash, same_id, id_same, id_itself, differs_back}
+use Rattle.snow_plain.proofs.Cases.{split_on, clash, same_id, id_same, id_itself, differs_back}
 use Rattle.snow_plain.proofs.Grown.{has_block-reverse}
 use Rattle.snow_plain.proofs.Kept.{filter_on, is_under}
 use Rattle.snow_plain.proofs.Judged.{told_kept}
