@@ -73,7 +73,10 @@ fn two_polls_decide(rt: HostRuntime) -> Result<(), Fail> {
     assert_eq!(rt; board.decisions().len(), 0);
     vote(rt.alloc(), &mut board, 128)?;
     assert_eq!(rt; board.decisions(), [accepted(128), rejected(0)].as_slice());
-    assert_eq!(rt; (board.last(), board.last_height(), board.pending_len()), (named(128), 1, 0));
+    assert_eq!(rt;
+        (board.last(), board.last_height(), board.pending_len()),
+        (named(128), 1, 0)
+    );
     Ok(())
 }
 
@@ -98,11 +101,20 @@ fn a_branch_is_rejected(rt: HostRuntime) -> Result<(), Fail> {
     let blocks = [(1, 255), (2, 255), (3, 1), (4, 3)];
     let mut board = grown::<Snowflake>(rt.alloc(), 1, &blocks)?;
     assert!(rt; board.is_preferred(&named(3)) && !board.is_preferred(&named(2)));
-    assert_eq!(rt; (board.parent_of(&named(4)), board.height_of(&named(4))), (Some(named(3)), Some(3)));
+    assert_eq!(rt;
+        (board.parent_of(&named(4)), board.height_of(&named(4))),
+        (Some(named(3)), Some(3))
+    );
     vote(rt.alloc(), &mut board, 2)?;
-    assert_eq!(rt; board.decisions(), [accepted(2), rejected(1), rejected(3), rejected(4)].as_slice());
+    assert_eq!(rt;
+        board.decisions(),
+        [accepted(2), rejected(1), rejected(3), rejected(4)].as_slice()
+    );
     assert!(rt; !board.is_pending(&named(4)) && board.last() == named(2));
     offer(&mut board, named(5), named(2))?;
-    assert_eq!(rt; (board.decisions().len(), board.preference()), (0, named(5)));
+    assert_eq!(rt;
+        (board.decisions().len(), board.preference()),
+        (0, named(5))
+    );
     Ok(())
 }
