@@ -24,6 +24,7 @@ abbrev climbed : List Header → Cursor → Cursor
 climbed [] c = c
 climbed (b ∷ earlier) c = climbed earlier (moved b c)
 
+-- past some blocks and then past earlier ones
 climbed-append : (later earlier : List Header) (c : Cursor) → climbed (later ++ earlier) c ≡ climbed earlier (climbed later c)
 climbed-append [] earlier c = refl
 climbed-append (b ∷ later) earlier c = climbed-append later earlier (moved b c)

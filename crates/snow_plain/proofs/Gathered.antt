@@ -41,6 +41,7 @@ abbrev placed : Ordering → Vote → List Vote → List ℕ → ℕ → List Vo
 placed o v votes id n =
     match_ordering o (v ∷ added votes id n) (record { id = v.id; count = v.count + n } ∷ votes) (record { id = id; count = n } ∷ v ∷ votes)
 
+-- the votes on some bits after more for one identifier
 placed_at : (o : Ordering) (v : Vote) (votes : List Vote) (id : List ℕ) (n : ℕ) (front : List Bool) → bit_cmp v.id id ≡ o
     → votes_on (added votes id n) front ≡ votes_on votes front + votes_for (Some id) n front
     → votes_on (placed o v votes id n) front ≡ votes_on (v ∷ votes) front + votes_for (Some id) n front
@@ -63,6 +64,7 @@ unfolding added
 added_at [] id n front = omega arith
 added_at (v ∷ votes) id n front = placed_at (bit_cmp v.id id) v votes id n front refl (added_at votes id n front)
 
+-- the length after more for one identifier
 placed_length : (o : Ordering) (v : Vote) (votes : List Vote) (id : List ℕ) (n : ℕ) → length (added votes id n) ≤ length votes + 1
     → length (placed o v votes id n) ≤ length (v ∷ votes) + 1
 placed_length Less v votes id n rest = omega arith
