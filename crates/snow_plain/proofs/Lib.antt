@@ -3,7 +3,7 @@ pub mod Examples
 pub mod Growing
 pub mod Polling
 pub mod Walking
-pub mod Tests
+pub mod Cases
 pub mod Grown
 pub mod Issued
 pub mod Kept

@@ -16,3 +16,6 @@ mod tree;
 pub use board::Board;
 pub use decision::Decision;
 pub use plain::PlainBoard;
+
+#[cfg(test)]
+mod tests;

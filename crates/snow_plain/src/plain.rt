@@ -1,7 +1,3 @@
-ghost use Rattle.std.specs.Prelude.{◌≡◌, ℕ, ◌≤◌, Bool, List, [], length, OnOk, OnErr};
-ghost use Rattle.snow_base.specs.Votes.{total_count};
-ghost use Rattle.snow_plain.specs.Board as model;
-
 use crate::board::Board;
 use crate::cursor::Cursor;
 use crate::decision::Decision;
@@ -11,8 +7,9 @@ use snow_flake::{Params, Rule};
 use std::alloc::{AllocError, Global};
 use std::marker::{Model, PhantomData};
 
-/// A board with one counter for each bit list, all of which take each poll. Its rule says how the
-/// counters answer.
+/// A board with one counter for each bit list, all of which take the bit step at each poll. The
+/// rule says how they answer. A poll goes once over all counters, and for each pending block once
+/// over the votes; then once over the pending blocks for each decision.
 #[derive(Debug, Drop)]
 pub struct PlainBoard<R: Rule> {
     state: State,

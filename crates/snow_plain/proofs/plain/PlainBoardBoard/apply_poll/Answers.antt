@@ -1,5 +1,4 @@
-use Rattle.std.proofs.Common.{◌≡◌, ◌++◌, List, length, All, sym, ap, ◌∙◌, subst, arith}
-use Rattle.snow_base.specs.declared.vote.Vote.{Vote}
+use Rattle.std.proofs.Common.{◌≡◌, ◌++◌, length, ap, ◌∙◌, arith}
 use Rattle.snow_base.specs.Votes.{total_count}
 use Rattle.snow_flake.specs.Parameters.{Parameters}
 use Rattle.snow_plain.specs.Board.{Board}
