@@ -3,3 +3,10 @@ pub mod Examples
 pub mod Growing
 pub mod Polling
 pub mod Walking
+pub mod Tests
+pub mod Grown
+pub mod Issued
+pub mod Kept
+pub mod Judged
+pub mod Taken
+pub mod Settled

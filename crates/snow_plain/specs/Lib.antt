@@ -3,6 +3,9 @@ pub mod CountersCode
 pub mod Walk
 pub mod Trees
 pub mod Board
+pub mod BoardCode
+pub mod Grown
 pub mod Poll
 pub mod Preference
 pub mod Reached
+pub mod Acceptance

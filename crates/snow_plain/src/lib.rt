@@ -1,10 +1,13 @@
 //! The board of pending blocks over plain counters, and the trait of every board.
 #![tactic(auto)]
 
+mod accepting;
 mod board;
 mod conflict;
 mod decision;
+mod issuing;
 mod pending;
+mod state;
 mod tree;
 
 pub use board::Board;

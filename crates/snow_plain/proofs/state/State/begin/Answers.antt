@@ -1,0 +1,5 @@
+use Rattle.snow_plain.specs.Grown.{Bare}
+use Rattle.snow_plain.proofs.state.State.begin.Goals as goal
+
+pub invariant_of-result : goal.invariant_of-result
+invariant_of-result c = rw c.new-2.ensures.items Bare

@@ -1,0 +1,75 @@
+ghost use Rattle.std.specs.Prelude.{◌≡◌, ◌+◌, ◌≤◌, ◌<◌, ◌∷◌, ◌++◌, slice_index_or, not, length, reverse, map, filter, vec_len, vec_capacity};
+ghost use Rattle.snow_plain.specs.Board.{blocks_of};
+ghost use Rattle.snow_plain.specs.Poll.{accepts, rejects};
+ghost use Rattle.snow_plain.specs.Grown.{IsGrown};
+ghost use Rattle.snow_plain.specs.Acceptance.{outsiders, descendants, has_decision, is_rejected};
+
+use crate::decision::Decision;
+use crate::pending::Pending;
+use snow_base::{Header, Id};
+
+// Whether some decision is on this block.
+fn is_decided(decisions: &[Decision], id: &Id) -> bool
+    ensures { result ≡ has_decision decisions.now id.now }
+{
+    decisions.iter().any(|decision| decision.id == *id)
+}
+
+// Whether a block goes, where these of those issued before it do.
+fn is_rejected(last: &Id, child: &Id, told: &[Decision], block: &Header) -> bool
+    ensures { result ≡ is_rejected last.now child.now told.now block.now }
+{
+    block.id != *child && (*last == block.parent || is_decided(told, &block.parent))
+}
+
+// Rejects, in order of issue, the pending blocks that neither are the child nor descend from it:
+// those whose parent is the last accepted block or is rejected.
+fn reject_others(pending: &[Pending], last: &Id, child: &Id, decisions: &mut Vec<Decision>)
+    requires grown { IsGrown last.now (reverse (blocks_of pending.now)) }
+    requires room { vec_len decisions.old + length (outsiders pending.now child.now) ≤ vec_capacity decisions.old }
+    ensures told { decisions.new.items ≡ decisions.old.items ++ map rejects (outsiders pending.now child.now) }
+    ensures room { vec_capacity decisions.new ≡ vec_capacity decisions.old }
+{
+    let first = decisions.len();
+    for entry in pending {
+        if is_rejected(last, child, &decisions[first..], &entry.block) {
+            decisions.push_reserved(Decision {
+                accepted: false,
+                id: entry.block.id,
+            });
+        }
+    }
+}
+
+// Takes out the pending blocks on which there is a decision.
+fn drop_decided(pending: &mut Vec<Pending>, decisions: &[Decision])
+    ensures { pending.new.items ≡ filter (λ q. not (has_decision decisions.now q.block.id)) pending.old.items }
+{
+    pending.retain(|entry| !is_decided(decisions, &entry.block.id));
+}
+
+/// Accepts the pending block at this place: it is taken out and told as accepted, and so are, as
+/// rejected, those that don't descend from it.
+pub fn take_accepted(
+    pending: &mut Vec<Pending>,
+    last: &Id,
+    at: usize,
+    decisions: &mut Vec<Decision>,
+) -> Pending
+    requires there { at < vec_len pending.old }
+    requires grown { IsGrown last.now (reverse (blocks_of pending.old.items)) }
+    requires room { vec_len decisions.old + vec_len pending.old ≤ vec_capacity decisions.old }
+    ensures child { result ≡ slice_index_or pending.old.items at result }
+    ensures left { pending.new.items ≡ descendants pending.old.items result.block.id }
+    ensures told { decisions.new.items ≡ decisions.old.items ++ accepts result ∷ map rejects (outsiders pending.old.items result.block.id) }
+    ensures room { vec_capacity decisions.new ≡ vec_capacity decisions.old }
+    ensures fewer { vec_len decisions.new + vec_len pending.new ≤ vec_len decisions.old + vec_len pending.old }
+{
+    let first = decisions.len();
+    let id = pending[at].block.id;
+    decisions.push_reserved(Decision { accepted: true, id });
+    reject_others(pending, last, &id, decisions);
+    let child = pending.remove(at);
+    drop_decided(pending, &decisions[first..]);
+    child
+}

@@ -1,0 +1,236 @@
+ghost use Rattle.std.specs.Prelude.{◌≡◌, ℕ, ◌≤◌, Bool, List, [], length, OnOk, OnErr, reverse, map};
+
+use crate::accepting::take_accepted;
+use crate::conflict::Conflict;
+use crate::decision::Decision;
+use crate::issuing::issue_below;
+use crate::pending::Pending;
+use snow_base::{Header, Id};
+use snow_flake::{Params, Rule};
+use std::alloc::{AllocError, Global};
+use std::marker::Model;
+
+/// The last accepted block and the pending ones in order of issue, with the counters of their
+/// children, and the parameters of the polls.
+#[derive(Debug, Drop)]
+pub struct State {
+    params: Params,
+    last: Id,
+    height: u64,
+    counters: Conflict,
+    pending: Vec<Pending>,
+}
+
+impl Model for State {
+    ghost use Rattle.std.specs.Prelude.{reverse};
+    ghost use Rattle.snow_plain.specs.Board.{Board, blocks_of};
+    ghost use Rattle.snow_plain.specs.BoardCode.{coded_board};
+    ghost use Rattle.snow_plain.specs.Grown.{IsGrown};
+
+    ghost Value = { Board };
+
+    ghost coded = { coded_board };
+
+    ghost view = { λ s. record {
+      parameters = s.params;
+      last = s.last;
+      height = s.height;
+      counters = s.counters;
+      pending = s.pending.items;
+    } };
+
+    ghost invariant = { λ s. IsGrown s.last (reverse (blocks_of s.pending.items)) };
+}
+
+impl State {
+    ghost use Rattle.std.specs.Option.{option_map};
+    ghost use Rattle.snow_plain.specs.Board.{begin, block_of, issued, is_pending, parent_of, height_of};
+    ghost use Rattle.std.specs.List.{position};
+    ghost use Rattle.std.specs.Prelude.{bytes_eq, ◌&&◌};
+    ghost use Rattle.snow_plain.specs.Conflict.{decides};
+    ghost use Rattle.std.specs.Prelude.{◌+◌, ◌<◌, vec_len, vec_capacity, slice_get, true};
+    ghost use Rattle.std.specs.Prelude.{◌++◌};
+    ghost use Rattle.snow_plain.specs.Poll.{winner, settled};
+    ghost use Rattle.snow_plain.specs.Acceptance.{Accepts};
+    ghost use Rattle.snow_plain.specs.Reached.{MayIssue};
+    ghost use Rattle.snow_plain.specs.Preference.{preferred, is_preferred};
+
+    /// Nothing is pending above this block.
+    pub fn begin(alloc: Global, params: Params, last: Id, height: u64) -> Self
+        ensures { result ≡ begin params last height }
+    {
+        State {
+            params,
+            last,
+            height,
+            counters: Conflict::new(alloc),
+            pending: Vec::new(alloc),
+        }
+    }
+
+    /// A block is issued. After want of memory all is as before.
+    pub fn issue(&mut self, alloc: Global, child: Header) -> Result<(), AllocError>
+        requires { MayIssue self.old child }
+        ensures ok { OnOk result (self.new ≡ issued self.old child) }
+        ensures err { OnErr result (self.new ≡ self.old) }
+    {
+        self.pending.reserve(1)?;
+        issue_below(
+            &self.last,
+            &mut self.counters,
+            self.pending.as_mut_slice(),
+            &child,
+        )?;
+        self.pending.push_reserved(Pending {
+            block: child,
+            counters: Conflict::new(alloc),
+        });
+        Ok(())
+    }
+
+    pub fn last(&self) -> Id
+        ensures { result ≡ self.now.last }
+    {
+        self.last
+    }
+
+    pub fn height(&self) -> u64
+        ensures { result ≡ self.now.height }
+    {
+        self.height
+    }
+
+    pub fn pending_len(&self) -> usize
+        ensures { result ≡ length self.now.pending }
+    {
+        self.pending.len()
+    }
+
+    /// What a pending block says of itself, and nothing for any other.
+    pub fn block(&self, id: &Id) -> Option<Header>
+        ensures { result ≡ option_map (λ q. q.block) (block_of self.now id.now) }
+    {
+        for entry in &self.pending {
+            if entry.block.id == *id {
+                return Some(entry.block);
+            }
+        }
+        None
+    }
+
+    pub fn is_pending(&self, id: &Id) -> bool
+        ensures { result ≡ is_pending self.now id.now }
+    {
+        self.block(id).is_some()
+    }
+
+    pub fn parent_of(&self, id: &Id) -> Option<Id>
+        ensures { result ≡ parent_of self.now id.now }
+    {
+        self.block(id).map(|block| block.parent)
+    }
+
+    pub fn height_of(&self, id: &Id) -> Option<u64>
+        ensures { result ≡ height_of self.now id.now }
+    {
+        if self.last == *id {
+            return Some(self.height);
+        }
+        self.block(id).map(|block| block.height)
+    }
+
+    /// The block to which the answers lead from the last accepted one.
+    #[tactic(auto, unfolding(crate::specs::Preference::path_from))]
+    pub fn preference<R: Rule>(&self) -> Id
+        ensures { result ≡ preferred R.answer self.now }
+    {
+        let mut at = self.last;
+        let mut counters = &self.counters;
+        for entry in &self.pending {
+            if entry.block.parent == at && counters.leads_to::<R>(&entry.block.id) {
+                at = entry.block.id;
+                counters = &entry.counters;
+            }
+        }
+        at
+    }
+
+    /// Whether a block is on the path from the last accepted block to the preference, both included.
+    #[tactic(auto, unfolding(crate::specs::Preference::path_from))]
+    pub fn is_preferred<R: Rule>(&self, id: &Id) -> bool
+        ensures { result ≡ is_preferred R.answer self.now id.now }
+    {
+        if self.last == *id {
+            return true;
+        }
+        let mut at = self.last;
+        let mut counters = &self.counters;
+        for entry in &self.pending {
+            if entry.block.parent == at && counters.leads_to::<R>(&entry.block.id) {
+                if entry.block.id == *id {
+                    return true;
+                }
+                at = entry.block.id;
+                counters = &entry.counters;
+            }
+        }
+        false
+    }
+
+    // The place of the child of the last accepted block to which decided counters alone lead.
+    fn winner_place(&self) -> Option<usize>
+        ensures { result ≡ position (λ q. bytes_eq q.block.parent self.now.last && decides self.now.counters q.block.id) self.now.pending }
+    {
+        let last = &self.last;
+        let counters = &self.counters;
+        self.pending.iter().position(|entry| entry.block.parent == *last
+            && counters.decides(&entry.block.id))
+    }
+
+    // Accepts the pending block at this place. The blocks that don't descend from it are rejected.
+    fn accept(&mut self, at: usize, decisions: &mut Vec<Decision>)
+        requires there { at < length self.old.pending }
+        requires room { vec_len decisions.old + length self.old.pending ≤ vec_capacity decisions.old }
+        ensures accepts { Accepts (slice_get self.old.pending at) self.old self.new decisions.old.items decisions.new.items true }
+        ensures room { vec_capacity decisions.new ≡ vec_capacity decisions.old }
+        ensures fewer { vec_len decisions.new + length self.new.pending ≤ vec_len decisions.old + length self.old.pending }
+    {
+        let child = take_accepted(&mut self.pending, &self.last, at, decisions);
+        let Pending { block, counters } = child;
+        self.last = block.id;
+        self.height = block.height;
+        self.counters = counters;
+    }
+
+    // Accepts a child of the last accepted block, where decided counters lead to one, and answers
+    // whether there was one.
+    fn accept_next(&mut self, decisions: &mut Vec<Decision>) -> bool
+        requires { vec_len decisions.old + length self.old.pending ≤ vec_capacity decisions.old }
+        ensures accepts { Accepts (winner self.old) self.old self.new decisions.old.items decisions.new.items result }
+        ensures room { vec_capacity decisions.new ≡ vec_capacity decisions.old }
+        ensures fewer { vec_len decisions.new + length self.new.pending ≤ vec_len decisions.old + length self.old.pending }
+    {
+        match self.winner_place() {
+            Some(at) => {
+                self.accept(at, decisions);
+                true
+            }
+            None => false,
+        }
+    }
+
+    /// Accepts children of the last accepted block while decided counters lead to one, and tells
+    /// the decisions in order.
+    pub fn settle(&mut self, decisions: &mut Vec<Decision>)
+        requires { vec_len decisions.old + length self.old.pending ≤ vec_capacity decisions.old }
+        ensures board { self.new ≡ (settled (length self.old.pending) self.old).0 }
+        ensures told { decisions.new.items ≡ decisions.old.items ++ (settled (length self.old.pending) self.old).1 }
+        ensures room { vec_capacity decisions.new ≡ vec_capacity decisions.old }
+        ensures fewer { vec_len decisions.new + length self.new.pending ≤ vec_len decisions.old + length self.old.pending }
+    {
+        let mut more = true;
+        while more {
+            more = self.accept_next(decisions);
+        }
+    }
+}
