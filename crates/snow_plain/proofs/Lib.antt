@@ -10,3 +10,4 @@ pub mod Kept
 pub mod Judged
 pub mod Taken
 pub mod Settled
+pub mod Pointwise

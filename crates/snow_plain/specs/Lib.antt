@@ -9,3 +9,5 @@ pub mod Poll
 pub mod Preference
 pub mod Reached
 pub mod Acceptance
+pub mod Excluded
+pub mod PointwiseLaw

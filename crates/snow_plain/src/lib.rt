@@ -6,9 +6,11 @@ mod board;
 mod conflict;
 mod decision;
 mod issuing;
+mod laws;
 mod pending;
 mod state;
 mod tree;
 
 pub use board::Board;
 pub use decision::Decision;
+pub use laws::{excluded_law, issue_law, poll_law};
