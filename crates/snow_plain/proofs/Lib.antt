@@ -11,3 +11,4 @@ pub mod Judged
 pub mod Taken
 pub mod Settled
 pub mod Pointwise
+pub mod Same

@@ -11,3 +11,5 @@ pub mod Reached
 pub mod Acceptance
 pub mod Excluded
 pub mod PointwiseLaw
+pub mod Alike
+pub mod AlikeLaw

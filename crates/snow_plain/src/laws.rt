@@ -1,6 +1,7 @@
 //! Laws of the board: what everyone who reads its definitions wants to know, each a function that
 //! does nothing and ensures the law.
 ghost use Rattle.snow_plain.specs.PointwiseLaw.{ExcludedLaw, PollLaw, IssueLaw};
+ghost use Rattle.snow_plain.specs.AlikeLaw.{AlikeLaw};
 
 /// A bit list is excluded exactly where the counter at a proper front of it is decided, and not
 /// with the bit that follows.
@@ -21,4 +22,11 @@ pub fn poll_law()
 #[tactic(auto, using(crate::proofs::Pointwise::grown_each))]
 pub fn issue_law()
     ensures { IssueLaw }
+{}
+
+/// Alike votes give one board: where on every list of identifiers the numbers of both votes are of
+/// one class, polls with them leave the same board and make the same decisions.
+#[tactic(auto, using(crate::proofs::Same::same_board))]
+pub fn alike_law()
+    ensures { AlikeLaw }
 {}

@@ -13,4 +13,4 @@ mod tree;
 
 pub use board::Board;
 pub use decision::Decision;
-pub use laws::{excluded_law, issue_law, poll_law};
+pub use laws::{alike_law, excluded_law, issue_law, poll_law};
