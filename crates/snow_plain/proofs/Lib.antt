@@ -12,3 +12,4 @@ pub mod Taken
 pub mod Settled
 pub mod Pointwise
 pub mod Same
+pub mod Failing

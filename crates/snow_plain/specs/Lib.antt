@@ -13,3 +13,4 @@ pub mod Excluded
 pub mod PointwiseLaw
 pub mod Alike
 pub mod AlikeLaw
+pub mod FailingLaw

@@ -2,6 +2,7 @@
 //! does nothing and ensures the law.
 ghost use Rattle.snow_plain.specs.PointwiseLaw.{ExcludedLaw, PollLaw, IssueLaw};
 ghost use Rattle.snow_plain.specs.AlikeLaw.{AlikeLaw};
+ghost use Rattle.snow_plain.specs.FailingLaw.{FewVotesLaw, FewVotesOnBoardLaw, FailingTwiceLaw, FailingAndAddingLaw};
 
 /// A bit list is excluded exactly where the counter at a proper front of it is decided, and not
 /// with the bit that follows.
@@ -29,4 +30,30 @@ pub fn issue_law()
 #[tactic(auto, using(crate::proofs::Same::same_board))]
 pub fn alike_law()
     ensures { AlikeLaw }
+{}
+
+/// A poll of the counters of a conflict with fewer than AlphaPreference votes on every side does
+/// what a poll without votes does: it fails them.
+#[tactic(auto, using(crate::proofs::Failing::few_fail))]
+pub fn few_votes_law()
+    ensures { FewVotesLaw }
+{}
+
+/// The same for a board: a poll with fewer than AlphaPreference votes below each block at every
+/// bit list leaves the board, and makes the decisions, of a poll without votes.
+#[tactic(auto, using(crate::proofs::Failing::few_fail_all))]
+pub fn few_votes_on_board_law()
+    ensures { FewVotesOnBoardLaw }
+{}
+
+/// Failing the counters of a conflict twice is failing them once.
+#[tactic(auto, using(crate::proofs::Failing::fails_once))]
+pub fn failing_twice_law()
+    ensures { FailingTwiceLaw }
+{}
+
+/// Failing the counters of a conflict and adding a child to them may change places.
+#[tactic(auto, using(crate::proofs::Failing::fails_or_adds))]
+pub fn failing_and_adding_law()
+    ensures { FailingAndAddingLaw }
 {}
