@@ -13,3 +13,6 @@ pub mod Settled
 pub mod Pointwise
 pub mod Same
 pub mod Failing
+pub mod Invariant
+pub mod Lookup
+pub mod Lines

@@ -14,3 +14,4 @@ pub mod PointwiseLaw
 pub mod Alike
 pub mod AlikeLaw
 pub mod FailingLaw
+pub mod LineLaw

@@ -3,6 +3,7 @@
 ghost use Rattle.snow_plain.specs.PointwiseLaw.{ExcludedLaw, PollLaw, IssueLaw};
 ghost use Rattle.snow_plain.specs.AlikeLaw.{AlikeLaw};
 ghost use Rattle.snow_plain.specs.FailingLaw.{FewVotesLaw, FewVotesOnBoardLaw, FailingTwiceLaw, FailingAndAddingLaw};
+ghost use Rattle.snow_plain.specs.LineLaw.{LineLaw};
 
 /// A bit list is excluded exactly where the counter at a proper front of it is decided, and not
 /// with the bit that follows.
@@ -56,4 +57,12 @@ pub fn failing_twice_law()
 #[tactic(auto, using(crate::proofs::Failing::fails_or_adds))]
 pub fn failing_and_adding_law()
     ensures { FailingAndAddingLaw }
+{}
+
+/// By whose line a vote counts, on a board that can be reached: that a block or some ancestor of it
+/// is a child of the parent whose bits begin so, and that the one child of the parent on its line
+/// has such bits, are the same.
+#[tactic(auto, using(crate::proofs::Lines::line_law))]
+pub fn line_law()
+    ensures { LineLaw }
 {}

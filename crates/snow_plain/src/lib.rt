@@ -15,5 +15,5 @@ pub use board::Board;
 pub use decision::Decision;
 pub use laws::{
     alike_law, excluded_law, failing_and_adding_law, failing_twice_law, few_votes_law,
-    few_votes_on_board_law, issue_law, poll_law,
+    few_votes_on_board_law, issue_law, line_law, poll_law,
 };
