@@ -37,8 +37,8 @@ pub goes_on : (events : List Event) (rest payload after : List ℕ) (e : Event) 
 goes_on events rest payload after e all first found before =
     regroup events e (later_in (frames_of after))
     ∙ ap (with_front events) (swapped (length (frames_of after).1 == 0) e (later_events (frames_of after).0)
-      ∙ ap (λ (o : Option Event). if length (frames_of after).1 == 0 then followed_by o (later_events (frames_of after).0) else None) (sym found)
-      ∙ sym (front rest payload after first))
+    ∙ ap (λ (o : Option Event). if length (frames_of after).1 == 0 then followed_by o (later_events (frames_of after).0) else None) (sym found)
+    ∙ sym (front rest payload after first))
     ∙ before
 
 -- a payload is neither a block nor a poll
@@ -46,8 +46,8 @@ pub stops : (events : List Event) (rest payload after : List ℕ) (all : Option 
     → later_event payload ≡ None → with_front events (later_in (frames_of rest)) ≡ all → None ≡ all
 stops events rest payload after all first none before =
     ap (with_front events) (sym (front rest payload after first
-      ∙ ap (λ (o : Option Event). if length (frames_of after).1 == 0 then followed_by o (later_events (frames_of after).0) else None) none
-      ∙ lost (length (frames_of after).1 == 0)))
+    ∙ ap (λ (o : Option Event). if length (frames_of after).1 == 0 then followed_by o (later_events (frames_of after).0) else None) none
+    ∙ lost (length (frames_of after).1 == 0)))
     ∙ before
 
 with_none : (b : Bool) (es : List Event) → with_front es (if b then Some [] else None) ≡ (if b then Some es else None)

@@ -1,6 +1,5 @@
 -- The events of a stream one after the other.
 use Rattle.std.proofs.Common.{◌≡◌, ℕ, zero, suc, ◌+◌, ◌<◌, ◌≤◌, Bool, true, false, ◌&&◌, cond, List, [], ◌∷◌, ◌++◌, length, drop, get_or, Option, Some, None, refl, sym, ap, ◌∙◌, subst, append_assoc, append-nil, add-one, drop-cons, drop_of_length-le, arith, if◌then◌else◌, nat_le, nat_lt}
-
 use Rattle.std.proofs.lemmas.List.Concat.{flat_map-append}
 use Rattle.std.specs.Io.KnownBytes.{Appends}
 use Rattle.snow_base.specs.declared.header.Header.{Header}
@@ -56,11 +55,11 @@ begins answer first events before = record { front = []; whole = refl; written =
 -- the lines of the next event, and those behind it
 next_lines : (answer : Answer) (now : Board) (events : List Event) (i : ℕ) (e : Event) → i < length events → e ≡ get_or events i e
     → lines_from answer now (i + 2) (drop i events)
-      ≡ (step answer now (i + 2) e).1 ++ lines_from answer (step answer now (i + 2) e).0 (i + 1 + 2) (drop (i + 1) events)
+    ≡ (step answer now (i + 2) e).1 ++ lines_from answer (step answer now (i + 2) e).0 (i + 1 + 2) (drop (i + 1) events)
 unfolding lines_from
 next_lines answer now events i e h is =
     let here : drop i events ≡ e ∷ drop (i + 1) events =
-      rw add-one (drop-cons events i e h) ∙ ap (λ (x : Event). x ∷ drop (i + 1) events) (sym is) in
+    rw add-one (drop-cons events i e h) ∙ ap (λ (x : Event). x ∷ drop (i + 1) events) (sym is) in
     let counts : i + 2 + 1 ≡ i + 1 + 2 = omega arith in
     ap (lines_from answer now (i + 2)) here
     ∙ ap (λ (n : ℕ). (step answer now (i + 2) e).1 ++ lines_from answer (step answer now (i + 2) e).0 n (drop (i + 1) events)) counts
@@ -71,15 +70,15 @@ pub goes_on : (answer : Answer) (first now next : Board) (events : List Event) (
     → Appends mid after (texts (step answer now (i + 2) e).1)
     → Played answer first now events i before mid → Played answer first next events (i + 1) before after
 goes_on answer first now next events i e before mid after h is stepped wrote played = record {
-    front = played.front ++ (step answer now (i + 2) e).1;
-    whole =
+  front = played.front ++ (step answer now (i + 2) e).1;
+  whole =
       append_assoc played.front (step answer now (i + 2) e).1 (lines_from answer next (i + 1 + 2) (drop (i + 1) events))
       ∙ ap (λ (b : Board). played.front ++ ((step answer now (i + 2) e).1 ++ lines_from answer b (i + 1 + 2) (drop (i + 1) events))) stepped
       ∙ ap (λ (ls : List Line). played.front ++ ls) (sym (next_lines answer now events i e h is))
       ∙ played.whole;
-    written = appends_then before mid after (texts played.front) (texts (step answer now (i + 2) e).1) _ played.written wrote
+  written = appends_then before mid after (texts played.front) (texts (step answer now (i + 2) e).1) _ played.written wrote
       (sym (flat_map-append text played.front (step answer now (i + 2) e).1));
-  }
+}
 
 -- all events were played
 pub ends : (answer : Answer) (first now : Board) (events : List Event) (i : ℕ) (before after : Option (List ℕ)) → length events ≤ i
@@ -97,9 +96,9 @@ pub fails : (answer : Answer) (first now : Board) (events : List Event) (i : ℕ
 fails answer first now events i e before mid after h is wrote played =
     let rest = lines_from answer (step answer now (i + 2) e).0 (i + 1 + 2) (drop (i + 1) events) in
     let all : texts played.front ++ (texts (step answer now (i + 2) e).1 ++ texts rest) ≡ texts (lines_from answer first 2 events) =
-      ap (λ (bs : List ℕ). texts played.front ++ bs) (sym (flat_map-append text (step answer now (i + 2) e).1 rest))
-      ∙ sym (flat_map-append text played.front ((step answer now (i + 2) e).1 ++ rest))
-      ∙ ap (λ (ls : List Line). texts (played.front ++ ls)) (sym (next_lines answer now events i e h is))
-      ∙ ap texts played.whole in
+    ap (λ (bs : List ℕ). texts played.front ++ bs) (sym (flat_map-append text (step answer now (i + 2) e).1 rest))
+    ∙ sym (flat_map-append text played.front ((step answer now (i + 2) e).1 ++ rest))
+    ∙ ap (λ (ls : List Line). texts (played.front ++ ls)) (sym (next_lines answer now events i e h is))
+    ∙ ap texts played.whole in
     appends_then_front before mid after (texts played.front) (texts (step answer now (i + 2) e).1 ++ texts rest) _ played.written
     (front_of_more mid after (texts (step answer now (i + 2) e).1) (texts rest) _ wrote refl) all

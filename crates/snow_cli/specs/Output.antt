@@ -21,9 +21,12 @@ event_in payload = result_ok (event_of payload)
 -- the parameters that a Start states
 abbrev pub stated : Start → Parameters
 stated s = record {
-    k = s.k; alpha_preference = s.alpha_preference; alpha_confidence = s.alpha_confidence;
-    beta = s.beta; repolls = s.repolls;
-  }
+  k = s.k;
+  alpha_preference = s.alpha_preference;
+  alpha_confidence = s.alpha_confidence;
+  beta = s.beta;
+  repolls = s.repolls;
+}
 
 -- the board that begins with a Start, where its parameters pass the check
 abbrev pub begun_with : Start → Result Parameters ParamFault → Option Board

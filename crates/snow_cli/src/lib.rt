@@ -6,9 +6,12 @@ mod input;
 mod node;
 mod reading;
 mod run;
+mod serving;
 mod status;
 mod stream;
-mod top;
 
+pub use serving::top;
 pub use status::Status;
-pub use top::top;
+
+#[cfg(test)]
+mod tests;

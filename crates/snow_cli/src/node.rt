@@ -6,14 +6,13 @@ ghost use Rattle.snow_plain.specs.Reached.{MayIssue};
 ghost use Rattle.snow_cli.specs.Chain as chain;
 ghost use Rattle.snow_cli.specs.Node as model;
 
+use crate::chain::{header_of, is_valid};
 use snow_base::{Bag, Header, Id, Ids};
 use snow_flake::Params;
 use snow_lines::{DropWhy, Line, Lines, SkipKind};
 use snow_plain::{Board, Decision};
 use snow_wire::Event;
 use std::alloc::{AllocError, Global};
-
-use crate::chain::{header_of, is_valid};
 
 /// The most blocks that may be pending.
 const MOST_PENDING: usize = 4096;
@@ -44,7 +43,12 @@ pub fn step<B: Board>(
 }
 
 /// A block's bytes came.
-fn receive<B: Board>(board: &mut B, frame: u64, bytes: &[u8], log: &mut Lines) -> Result<(), AllocError>
+fn receive<B: Board>(
+    board: &mut B,
+    frame: u64,
+    bytes: &[u8],
+    log: &mut Lines,
+) -> Result<(), AllocError>
     ensures board { OnOk result (B.board board.new
         ≡ (model.received B.answer (B.board board.old) frame (chain.is_valid bytes.now) (chain.header_of bytes.now)).0) }
     ensures lines { OnOk result (log.new
@@ -60,7 +64,12 @@ fn receive<B: Board>(board: &mut B, frame: u64, bytes: &[u8], log: &mut Lines) -
 }
 
 /// A block that isn't on the board is placed above its parent; one that is changes nothing.
-fn offer<B: Board>(board: &mut B, block: &Header, valid: bool, log: &mut Lines) -> Result<(), AllocError>
+fn offer<B: Board>(
+    board: &mut B,
+    block: &Header,
+    valid: bool,
+    log: &mut Lines,
+) -> Result<(), AllocError>
     ensures board { OnOk result (B.board board.new
         ≡ (model.offered B.answer (B.board board.old) block.now valid (height_of (B.board board.old) block.now.id)).0) }
     ensures lines { OnOk result (log.new
@@ -73,7 +82,12 @@ fn offer<B: Board>(board: &mut B, block: &Header, valid: bool, log: &mut Lines) 
 }
 
 /// A block that isn't on the board is issued, unless something stands against it.
-fn place<B: Board>(board: &mut B, block: &Header, valid: bool, log: &mut Lines) -> Result<(), AllocError>
+fn place<B: Board>(
+    board: &mut B,
+    block: &Header,
+    valid: bool,
+    log: &mut Lines,
+) -> Result<(), AllocError>
     requires { height_of (B.board board.old) block.now.id ≡ None }
     ensures board { OnOk result (B.board board.new ≡ (model.placed B.answer (B.board board.old) block.now
         (model.refusal (B.board board.old) block.now valid (height_of (B.board board.old) block.now.parent))).0) }

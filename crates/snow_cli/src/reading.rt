@@ -5,12 +5,11 @@ ghost use Rattle.snow_cli.specs.Output.{event_in, begun, begun_with, stated, is_
 ghost use Rattle.snow_flake.specs.Parameters.{checked};
 ghost use Rattle.snow_cli.specs.Streams.{board_of, said};
 
+use crate::stream::{Beginning, Stream};
 use snow_base::Items;
 use snow_flake::Params;
 use snow_wire::{Event, Skip, Start, decode, first_frame};
 use std::alloc::{AllocError, Global};
-
-use crate::stream::{Beginning, Stream};
 
 /// The simple stream that these bytes are, where they are one.
 #[tactic(auto, unfolding(crate::specs::Output::simple), using(snow_wire::proofs::Streams::frames_front, snow_wire::proofs::Streams::frames_end))]
@@ -55,7 +54,13 @@ fn beginning_with(start: &Start) -> Option<Beginning>
     if start.boot || !start.state.list().is_empty() || !start.nodes.list().is_empty() {
         return None;
     }
-    match Params::check(start.k, start.alpha_preference, start.alpha_confidence, start.beta, start.repolls) {
+    match Params::check(
+        start.k,
+        start.alpha_preference,
+        start.alpha_confidence,
+        start.beta,
+        start.repolls,
+    ) {
         Ok(params) => Some(Beginning {
             params,
             last: start.last,

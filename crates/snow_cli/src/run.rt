@@ -7,15 +7,14 @@ ghost use Rattle.snow_cli.specs.Node as model;
 ghost use Rattle.snow_cli.specs.Output.{lines_of};
 ghost use Rattle.snow_cli.specs.Streams.{said};
 
+use crate::node::step;
+use crate::stream::Stream;
 use snow_base::Sink;
 use snow_flake::Params;
 use snow_lines::{Lines, print_all};
 use snow_plain::Board;
 use snow_wire::Event;
 use std::alloc::Global;
-
-use crate::node::step;
-use crate::stream::Stream;
 
 /// Why a run ended before its last event.
 #[derive(Clone, Copy, Debug, PartialEq, Eq)]
@@ -36,7 +35,13 @@ pub fn run<B: Board, O: Sink>(alloc: Global, stream: &Stream, out: &mut O) -> Re
 {
     let beginning = &stream.beginning;
     match B::begin(alloc, beginning.params, beginning.last, beginning.height) {
-        Ok(mut board) => play(alloc, &beginning.params, &mut board, stream.events.list(), out),
+        Ok(mut board) => play(
+            alloc,
+            &beginning.params,
+            &mut board,
+            stream.events.list(),
+            out,
+        ),
         Err(_) => Err(Stop::Memory),
     }
 }

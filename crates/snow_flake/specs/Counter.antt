@@ -46,12 +46,12 @@ next_confidence _ _ n = 0
 -- after votes of this class for the bit b
 abbrev pub followed : Standing → Bool → Class → Standing
 followed s b votes = record {
-    preference = if nat_lt (strength s (not b)) (raised (strength s b)) then b else s.preference;
-    flake = b;
-    strength_zero = if b then s.strength_zero else raised s.strength_zero;
-    strength_one = if b then raised s.strength_one else s.strength_one;
-    confidence = next_confidence votes (beq s.flake b) s.confidence;
-  }
+  preference = if nat_lt (strength s (not b)) (raised (strength s b)) then b else s.preference;
+  flake = b;
+  strength_zero = if b then s.strength_zero else raised s.strength_zero;
+  strength_one = if b then raised s.strength_one else s.strength_one;
+  confidence = next_confidence votes (beq s.flake b) s.confidence;
+}
 
 -- after votes of these classes for 0 and for 1
 abbrev pub voted : Standing → Class → Class → Standing

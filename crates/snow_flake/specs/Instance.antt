@@ -37,11 +37,12 @@ pub record Single : Type 0 where
 -- the same instance, where that bit is b
 abbrev pub at_bit : Single → Bool → Instance
 at_bit s b = record {
-    standing = record {
-      preference = b; flake = b;
-      strength_zero = if b then 0 else s.strength;
-      strength_one = if b then s.strength else 0;
-      confidence = s.confidence;
-    };
-    final = s.final;
-  }
+  standing = record {
+    preference = b;
+    flake = b;
+    strength_zero = if b then 0 else s.strength;
+    strength_one = if b then s.strength else 0;
+    confidence = s.confidence;
+  };
+  final = s.final;
+}

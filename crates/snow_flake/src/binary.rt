@@ -1,11 +1,10 @@
 ghost use Rattle.std.specs.Prelude.{◌≡◌, ◌<◌, ◌≤◌, false, true, not, nat_lt, if◌then◌else◌};
 ghost use Rattle.std.specs.Bool.{beq};
 
-use std::marker::Model;
-
 use crate::params::Params;
 use crate::rule::Rule;
 use crate::votes::{confidence_after, raised_strength};
+use std::marker::Model;
 
 /// A one-bit instance of Snowball or Snowflake: a counter that polls move until it is final.
 #[derive(Clone, Copy, Debug, PartialEq, Eq)]
@@ -25,19 +24,25 @@ impl Model for Binary {
     ghost Value = { Instance };
 
     ghost view = { λ a. record {
-        standing = record {
-            preference = a.preference; flake = a.flake; strength_zero = a.strength_zero;
-            strength_one = a.strength_one; confidence = a.confidence;
-        };
-        final = a.decided;
+      standing = record {
+        preference = a.preference;
+        flake = a.flake;
+        strength_zero = a.strength_zero;
+        strength_one = a.strength_one;
+        confidence = a.confidence;
+      };
+      final = a.decided;
     } };
 
     ghost invariant = { λ a. a.decided ≡ false → a.confidence < 65535 };
 
     ghost inverse = { λ i. record {
-        preference = i.standing.preference; flake = i.standing.flake;
-        strength_zero = i.standing.strength_zero; strength_one = i.standing.strength_one;
-        confidence = i.standing.confidence; decided = i.final;
+      preference = i.standing.preference;
+      flake = i.standing.flake;
+      strength_zero = i.standing.strength_zero;
+      strength_one = i.standing.strength_one;
+      confidence = i.standing.confidence;
+      decided = i.final;
     } };
 }
 

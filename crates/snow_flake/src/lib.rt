@@ -5,7 +5,6 @@ mod binary;
 mod params;
 mod rule;
 mod unary;
-
 mod votes;
 
 pub use binary::Binary;
@@ -13,3 +12,5 @@ pub use params::{ParamFault, Params};
 pub use rule::{Rule, Snowball, Snowflake};
 pub use unary::Unary;
 
+#[cfg(test)]
+mod tests;

@@ -41,18 +41,27 @@ impl Model for Params {
     ghost Value = { Parameters };
 
     ghost view = { λ p. record {
-        k = p.k; alpha_preference = p.alpha_preference; alpha_confidence = p.alpha_confidence;
-        beta = p.beta; repolls = p.repolls;
+      k = p.k;
+      alpha_preference = p.alpha_preference;
+      alpha_confidence = p.alpha_confidence;
+      beta = p.beta;
+      repolls = p.repolls;
     } };
 
     ghost invariant = { λ p. AreGood (record {
-        k = p.k; alpha_preference = p.alpha_preference; alpha_confidence = p.alpha_confidence;
-        beta = p.beta; repolls = p.repolls;
+      k = p.k;
+      alpha_preference = p.alpha_preference;
+      alpha_confidence = p.alpha_confidence;
+      beta = p.beta;
+      repolls = p.repolls;
     }) };
 
     ghost inverse = { λ p. record {
-        k = p.k; alpha_preference = p.alpha_preference; alpha_confidence = p.alpha_confidence;
-        beta = p.beta; repolls = p.repolls;
+      k = p.k;
+      alpha_preference = p.alpha_preference;
+      alpha_confidence = p.alpha_confidence;
+      beta = p.beta;
+      repolls = p.repolls;
     } };
 }
 
@@ -68,8 +77,11 @@ impl Params {
         repolls: u32,
     ) -> Result<Params, ParamFault>
         ensures { let p : Parameters = record {
-            k = k; alpha_preference = alpha_preference; alpha_confidence = alpha_confidence;
-            beta = beta; repolls = repolls;
+          k = k;
+          alpha_preference = alpha_preference;
+          alpha_confidence = alpha_confidence;
+          beta = beta;
+          repolls = repolls;
         } in result ≡ checked p }
     {
         if 2 * u64::from(alpha_preference) <= u64::from(k) {

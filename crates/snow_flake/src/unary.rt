@@ -1,10 +1,9 @@
 ghost use Rattle.std.specs.Prelude.{◌≡◌, ◌<◌, Bool, false, true};
 
-use std::marker::Model;
-
 use crate::binary::Binary;
 use crate::params::Params;
 use crate::votes::{confidence_after, raised_strength};
+use std::marker::Model;
 
 /// A one-bit instance where all choices so far have the same bit.
 #[derive(Clone, Copy, Debug, PartialEq, Eq)]

@@ -7,3 +7,6 @@ mod text;
 
 pub use line::{DropWhy, Line, Lines, SkipKind};
 pub use printing::{print, print_all};
+
+#[cfg(test)]
+mod tests;

@@ -3,10 +3,9 @@ ghost use Rattle.std.specs.Io.KnownBytes.{Appends};
 ghost use Rattle.snow_base.specs.Outside.{AppendsFront, HasCause};
 ghost use Rattle.snow_lines.specs.Text.{text, texts, words};
 
-use snow_base::{Failed, Sink, write_whole};
-
 use crate::line::Line;
 use crate::text::Text;
+use snow_base::{Failed, Sink, write_whole};
 
 /// Writes a line, in one piece. At `Failed` a front of it was written. It takes no memory.
 pub fn print<K: Sink>(line: &Line, sink: &mut K) -> Result<(), Failed>

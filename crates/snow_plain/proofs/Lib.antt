@@ -16,3 +16,7 @@ pub mod Failing
 pub mod Invariant
 pub mod Lookup
 pub mod Lines
+pub mod Gathered
+pub mod Climbed
+pub mod Swept
+pub mod Polled

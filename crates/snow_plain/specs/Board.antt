@@ -60,6 +60,6 @@ new_pending block = record { block = block; counters = Blank }
 -- a block is issued: it is the last pending one, and its parent gets its counters
 abbrev pub issued : Board → Header → Board
 issued board child = record board {
-    counters = with_issued child board.last board.counters;
-    pending = map (with_counters (with_issued child)) board.pending ++ new_pending child ∷ [];
-  }
+  counters = with_issued child board.last board.counters;
+  pending = map (with_counters (with_issued child)) board.pending ++ new_pending child ∷ [];
+}

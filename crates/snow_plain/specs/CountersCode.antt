@@ -15,8 +15,12 @@ fields_of s = (s.preference, (s.flake, (s.strength_zero, (s.strength_one, s.conf
 
 abbrev standing_of : Fields → Standing
 standing_of f = record {
-    preference = f.0; flake = f.1.0; strength_zero = f.1.1.0; strength_one = f.1.1.1.0; confidence = f.1.1.1.1;
-  }
+  preference = f.0;
+  flake = f.1.0;
+  strength_zero = f.1.1.0;
+  strength_one = f.1.1.1.0;
+  confidence = f.1.1.1.1;
+}
 
 abbrev parts_of : Counter → Bool ⊎ Fields
 parts_of (Decided bit) = inl bit

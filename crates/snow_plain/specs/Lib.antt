@@ -15,3 +15,5 @@ pub mod Alike
 pub mod AlikeLaw
 pub mod FailingLaw
 pub mod LineLaw
+pub mod Cursors
+pub mod Shown

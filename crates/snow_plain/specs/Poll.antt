@@ -43,11 +43,11 @@ decisions_for board child = accepts child ∷ map rejects (filter (λ q. not (st
 -- the child is the last accepted block, and its descendants alone stay
 unfoldable pub promoted : Board → Pending → Board
 promoted board child = record board {
-    last = child.block.id;
-    height = child.block.height;
-    counters = child.counters;
-    pending = filter (λ q. stays_with board child q && not (bytes_eq q.block.id child.block.id)) board.pending;
-  }
+  last = child.block.id;
+  height = child.block.height;
+  counters = child.counters;
+  pending = filter (λ q. stays_with board child q && not (bytes_eq q.block.id child.block.id)) board.pending;
+}
 
 -- these decisions, and then those that follow
 abbrev pub and_then : List Decision → Board × List Decision → Board × List Decision

@@ -4,12 +4,10 @@ ghost use Rattle.snow_base.specs.declared.header.Header.{Header};
 ghost use Rattle.snow_flake.specs.Parameters.{AreGood};
 ghost use Rattle.snow_plain.specs.Board as model;
 
-use std::alloc::{AllocError, Global};
-
+use crate::decision::Decision;
 use snow_base::{Bag, Id};
 use snow_flake::Params;
-
-use crate::decision::Decision;
+use std::alloc::{AllocError, Global};
 
 /// A board of pending blocks above a last accepted one. It decides by polls, however it is kept.
 pub trait Board: Sized + Drop {

@@ -4,10 +4,13 @@
 mod accepting;
 mod board;
 mod conflict;
+mod counting;
+mod cursor;
 mod decision;
 mod issuing;
 mod laws;
 mod pending;
+mod plain;
 mod state;
 mod tree;
 
@@ -17,3 +20,4 @@ pub use laws::{
     alike_law, excluded_law, failing_and_adding_law, failing_twice_law, few_votes_law,
     few_votes_on_board_law, issue_law, line_law, poll_law,
 };
+pub use plain::PlainBoard;

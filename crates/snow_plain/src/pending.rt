@@ -1,6 +1,5 @@
-use snow_base::Header;
-
 use crate::conflict::Conflict;
+use snow_base::Header;
 
 /// A pending block, with the counters of its children.
 #[derive(Debug, Drop)]

@@ -2,10 +2,12 @@ ghost use Rattle.std.specs.Prelude.{◌≡◌, ℕ, ◌≤◌, Bool, List, [], l
 
 use crate::accepting::take_accepted;
 use crate::conflict::Conflict;
+use crate::counting::poll_all;
+use crate::cursor::{Cursor, start_all};
 use crate::decision::Decision;
 use crate::issuing::issue_below;
 use crate::pending::Pending;
-use snow_base::{Header, Id};
+use snow_base::{Bag, Header, Id, Vote};
 use snow_flake::{Params, Rule};
 use std::alloc::{AllocError, Global};
 use std::marker::Model;
@@ -49,8 +51,9 @@ impl State {
     ghost use Rattle.std.specs.Prelude.{bytes_eq, ◌&&◌};
     ghost use Rattle.snow_plain.specs.Conflict.{decides};
     ghost use Rattle.std.specs.Prelude.{◌+◌, ◌<◌, vec_len, vec_capacity, slice_get, true};
-    ghost use Rattle.std.specs.Prelude.{◌++◌};
-    ghost use Rattle.snow_plain.specs.Poll.{winner, settled};
+    ghost use Rattle.std.specs.Prelude.{◌++◌, ◌^◌, All};
+    ghost use Rattle.snow_base.specs.Votes.{total_count};
+    ghost use Rattle.snow_plain.specs.Poll.{winner, settled, counted};
     ghost use Rattle.snow_plain.specs.Acceptance.{Accepts};
     ghost use Rattle.snow_plain.specs.Reached.{MayIssue};
     ghost use Rattle.snow_plain.specs.Preference.{preferred, is_preferred};
@@ -175,6 +178,29 @@ impl State {
             }
         }
         false
+    }
+
+    /// Every counter takes the bit step with the votes below its own block. The votes are walked in
+    /// `cursors`, and those that came to a block are counted by child in `children`: it takes no
+    /// memory where both have room for them.
+    pub fn count(&mut self, votes: &[Vote], cursors: &mut Vec<Cursor>, children: &mut Bag)
+        requires room { length votes.now ≤ vec_capacity cursors.old }
+        requires places { length votes.now ≤ children.old.room + length children.old.list }
+        requires counts { All (λ v. 0 < v.count) votes.now }
+        requires total { total_count votes.now < 2 ^ 32 }
+        ensures board { self.new ≡ counted self.old votes.now }
+        ensures room { vec_capacity cursors.new ≡ vec_capacity cursors.old }
+        ensures places { children.old.room + length children.old.list ≤ children.new.room + length children.new.list }
+    {
+        start_all(cursors, votes);
+        poll_all(
+            &self.params,
+            &self.last,
+            &mut self.counters,
+            &mut self.pending,
+            cursors,
+            children,
+        );
     }
 
     // The place of the child of the last accepted block to which decided counters alone lead.

@@ -1,16 +1,16 @@
 -- Each event in range is read back from its spelling, and what is read is spelled so.
-use Rattle.std.proofs.Common.{◌≡◌, ℕ, zero, suc, ◌+◌, ◌%◌, ◌^◌, ◌<◌, ◌≤◌, Bool, true, false, cond, ◌==◌, get_or, List, [], ◌∷◌, ◌++◌, length, All, Result, Ok, Err, refl, sym, ap, subst, ◌∙◌, append_assoc, append-nil, arith}
+use Rattle.std.proofs.Common.{◌≡◌, ℕ, zero, suc, ◌+◌, ◌%◌, ◌^◌, ◌<◌, ◌≤◌, cond, ◌==◌, get_or, List, [], ◌∷◌, ◌++◌, length, All, Result, Ok, Err, refl, sym, ap, subst, ◌∙◌, append-nil, arith}
 use Rattle.std.specs.Prelude.{IfOk}
 use Rattle.std.proofs.lemmas.Bool.{eqb-true}
 use Rattle.std.proofs.lemmas.List.{nil_from_length}
 use Rattle.snow_wire.specs.declared.event.Event.{Event}
 use Rattle.snow_wire.specs.declared.event.Event.TheVariants as event
 use Rattle.snow_wire.specs.declared.skip.Skip.{Skip}
-use Rattle.snow_wire.specs.Spelling.{number, spelling, start, sender, sized, counted, weighed, IsId, IsWeighed, IsSender, IsBlock, IsInRange}
-use Rattle.snow_wire.specs.Reading.{Fault, Extra, Gives, IsBytes, Read, ◌>>=◌, number_at, bytes_at, id_at, block_at, sized_at, counted_at, weighed_at, single_at, sender_at, message_at, start_at, unknown_at, tags, fields_at, event_of}
+use Rattle.snow_wire.specs.Spelling.{number, spelling, start, sized, counted, weighed, IsId, IsWeighed, IsBlock, IsInRange}
+use Rattle.snow_wire.specs.Reading.{Extra, Gives, IsBytes, Read, number_at, id_at, block_at, sized_at, counted_at, weighed_at, single_at, sender_at, message_at, unknown_at, tags, fields_at, event_of}
 use Rattle.snow_wire.proofs.Numbers.{width1, width8}
 use Rattle.snow_wire.proofs.Fields.{IsField, by_step, again_then, bind_ok, when, bytes_field, number_field, sized_field, counted_field, weighed_field}
-use Rattle.snow_wire.proofs.Tagged.{IsTagged, HasFields, single_tagged, single_again, sender_tagged, sender_again, message_tagged, message_again}
+use Rattle.snow_wire.proofs.Tagged.{IsTagged, single_tagged, single_again, sender_tagged, sender_again, message_tagged, message_again}
 use Rattle.snow_wire.proofs.Starting.{start_tagged, start_again}
 
 -- ---- the fields that stand behind tags

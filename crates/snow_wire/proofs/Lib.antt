@@ -5,3 +5,4 @@ pub mod Fields
 pub mod Tagged
 pub mod Starting
 pub mod Events
+pub mod Pieces

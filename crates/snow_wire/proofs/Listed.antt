@@ -1,5 +1,5 @@
 -- Reading items one after another, as a loop does.
-use Rattle.std.proofs.Common.{◌≡◌, ℕ, suc, ◌-◌, ◌+◌, ◌≤◌, ◌<◌, List, [], ◌∷◌, ◌++◌, Result, Ok, Err, refl, sym, ap, ◌∙◌, append_assoc, append-nil, arith}
+use Rattle.std.proofs.Common.{◌≡◌, ℕ, suc, ◌-◌, ◌+◌, ◌≤◌, ◌<◌, List, [], ◌∷◌, ◌++◌, Ok, Err, refl, sym, ap, ◌∙◌, append_assoc, append-nil, arith}
 use Rattle.snow_wire.specs.declared.skip.Skip.{Skip}
 use Rattle.snow_wire.specs.declared.skip.Skip.TheVariants as skip
 use Rattle.snow_wire.specs.Reading.{Fault, Read, Refuses, ◌>>=◌, items_at}

@@ -1,10 +1,10 @@
 -- The fields of a Start: those that are read are those that its spelling has.
-use Rattle.std.proofs.Common.{◌≡◌, ℕ, ◌+◌, ◌^◌, ◌<◌, ◌≤◌, Bool, List, [], ◌∷◌, ◌++◌, length, All, Result, Ok, Err, refl, sym, ap, subst, ◌∙◌, append_assoc, append-nil, arith}
+use Rattle.std.proofs.Common.{◌≡◌, ℕ, ◌^◌, ◌<◌, ◌≤◌, List, [], ◌∷◌, ◌++◌, length, All, Ok, refl, ap, ◌∙◌, append_assoc, append-nil, arith}
 use Rattle.snow_wire.specs.declared.event.Event.{Event}
 use Rattle.snow_wire.specs.declared.event.Event.TheVariants as event
 use Rattle.snow_wire.specs.declared.event.Start.{Start}
-use Rattle.snow_wire.specs.Spelling.{number, spelling, start, parameters, counted, weighed, flag, IsWeighed, IsSizedStart, IsSized, IsWithinLimits, IsInRange}
-use Rattle.snow_wire.specs.Reading.{IsBytes, Read, ◌>>=◌, number_at, bytes_at, flag_at, counted_at, weighed_at, start_at}
+use Rattle.snow_wire.specs.Spelling.{number, spelling, start, parameters, counted, weighed, flag, IsWeighed, IsSizedStart, IsInRange}
+use Rattle.snow_wire.specs.Reading.{IsBytes, number_at, counted_at, weighed_at, start_at}
 use Rattle.snow_wire.proofs.Numbers.{width4, width8}
 use Rattle.snow_wire.proofs.Fields.{IsField, by_step, again_then, join, bytes_field, number_field, flag_field, counted_field, weighed_field}
 use Rattle.snow_wire.proofs.Tagged.{IsTagged, HasFields, tagged}

@@ -1,43 +1,49 @@
 -- A stream is frames and a rest in one way, which going from the front finds.
-use Rattle.std.proofs.Common.{◌≡◌, ℕ, zero, suc, ◌+◌, ◌-◌, ◌<◌, ◌≤◌, ◌⊎◌, Bool, true, false, cond, ◌&&◌, nat_le, List, [], ◌∷◌, ◌++◌, length, take, drop, All, Option, Some, None, refl, sym, ap, subst, ◌∙◌, append_assoc, arith, inl, inr}
+use Rattle.std.proofs.Common.{◌≡◌, ℕ, zero, suc, ◌+◌, ◌<◌, ◌≤◌, ◌⊎◌, Bool, true, false, cond, ◌&&◌, nat_le, nat_lt, List, [], ◌∷◌, ◌++◌, length, take, drop, Option, Some, None, refl, sym, ap, subst, ◌∙◌, append_assoc, arith, inl, inr}
 use Rattle.std.specs.List.{flat_map, AllByRecursion}
 use Rattle.std.proofs.lemmas.Bool.Decides.{nat_tests}
-use Rattle.std.proofs.lemmas.List.{take_at, drop_at, take-append-drop, length-drop, length-take, length-append, append-nil}
+use Rattle.std.proofs.lemmas.List.{take_at, drop_at, drop-drop, take-append-drop, length-drop, length-take, length-append, append-nil}
 use Rattle.std.proofs.lemmas.List.Concat.{flat_map-cons}
 use Rattle.std.proofs.lemmas.List.Elements.{All-nil, All-cons, recursion_from_All}
 use Rattle.byteorder.specs.Numbers.{big_number-reads_back, length-bytes_high_first}
 use Rattle.snow_wire.specs.Spelling.{number}
 use Rattle.snow_wire.specs.Reading.{IsBytes}
-use Rattle.snow_wire.specs.Frame.{IsPayload, IsRest, AreFrames, frame, length_word, is_whole, first_of, led_by, frames_in, frames_of}
+use Rattle.snow_wire.specs.Frame.{IsPayload, IsRest, AreFrames, frame, length_word, is_whole, is_too_long, first_of, led_by, frames_in, frames_of}
 use Rattle.snow_wire.proofs.Numbers.{IsBytes-behind, width4, front_spells}
 
 -- ---- the first frame
 
 -- n bytes that say w hold a whole frame
-record IsWhole (n w : ℕ) : Type 0 where
-  word : 4 ≤ n
-  limit : w ≤ 2097152
-  all : 4 + w ≤ n
+pub record IsWhole (n w : ℕ) : Type 0 where
+  pub word : 4 ≤ n
+  pub limit : w ≤ 2097152
+  pub all : 4 + w ≤ n
 
-whole_if : (n w : ℕ) → (nat_le 4 n && nat_le w 2097152 && nat_le (4 + w) n) ≡ true → IsWhole n w
+-- the test tells it
+pub whole_if : (n w : ℕ) → (nat_le 4 n && nat_le w 2097152 && nat_le (4 + w) n) ≡ true → IsWhole n w
 whole_if n w h = record { word = grind (arith, nat_tests); limit = grind (arith, nat_tests); all = grind (arith, nat_tests) }
 
-if_whole : (n w : ℕ) → w ≤ 2097152 → 4 + w ≤ n → (nat_le 4 n && nat_le w 2097152 && nat_le (4 + w) n) ≡ true
+-- the test holds
+pub if_whole : (n w : ℕ) → w ≤ 2097152 → 4 + w ≤ n → (nat_le 4 n && nat_le w 2097152 && nat_le (4 + w) n) ≡ true
 if_whole n w a b = grind (arith, nat_tests)
 
+-- the test fails on a rest alone
 rest_if : (n w : ℕ) → (nat_le 4 n && nat_le w 2097152 && nat_le (4 + w) n) ≡ false → (n < 4) ⊎ (2097152 < w) ⊎ (n < 4 + w)
 rest_if n w h = grind (arith, nat_tests)
 
+-- the test fails on a rest
 if_rest : (n w : ℕ) → (n < 4) ⊎ (2097152 < w) ⊎ (n < 4 + w) → (nat_le 4 n && nat_le w 2097152 && nat_le (4 + w) n) ≡ false
 if_rest n w (inl a) = grind (arith, nat_tests)
 if_rest n w (inr (inl b)) = grind (arith, nat_tests)
 if_rest n w (inr (inr c)) = grind (arith, nat_tests)
 
-given_if : {A : Type 0} (b : Bool) (x y : A) → cond b (Some x) None ≡ Some y → (b ≡ true) × (x ≡ y)
+-- a test that held
+pub given_if : {A : Type 0} (b : Bool) (x y : A) → cond b (Some x) None ≡ Some y → (b ≡ true) × (x ≡ y)
 given_if true x y e = (refl, cc)
 given_if false x y e = absurd cc
 
-none_if : {A : Type 0} (b : Bool) (x : A) → cond b (Some x) None ≡ None → b ≡ false
+-- a test that failed
+pub none_if : {A : Type 0} (b : Bool) (x : A) → cond b (Some x) None ≡ None → b ≡ false
 none_if true x e = absurd cc
 none_if false x e = refl
 
@@ -58,6 +64,12 @@ led bytes w word fits whole =
     let parts : bytes ≡ (number 4 (length (take w behind)) ++ take w behind) ++ drop w behind =
     sym (take-append-drop 4 bytes) ∙ ap (λ (front : List ℕ). front ++ behind) (sym spelled) ∙ ap (λ (x : List ℕ). number 4 w ++ x) (sym (take-append-drop w behind)) ∙ ap (λ (n : ℕ). number 4 n ++ (take w behind ++ drop w behind)) (sym len) ∙ sym (append_assoc (number 4 (length (take w behind))) (take w behind) (drop w behind)) in
     record { parts = parts; payload = rw len whole.limit }
+
+placed : (bytes : List ℕ) (w : ℕ) → IsWhole (length bytes) w → (drop w (drop 4 bytes) ≡ drop (4 + length (take w (drop 4 bytes))) bytes) × (4 + length (take w (drop 4 bytes)) ≤ length bytes)
+placed bytes w whole =
+    let all : 4 + w ≤ length bytes = whole.all in
+    let len : length (take w (drop 4 bytes)) ≡ w = omega (arith, length-take w (drop 4 bytes), length-drop 4 bytes) in
+    rw len (drop-drop w 4 bytes, all)
 
 -- what first_of gives is a frame, and what is behind it
 pub first_leads : (bytes : List ℕ) (first : List ℕ × List ℕ) → IsBytes bytes → first_of bytes ≡ Some first → Leads bytes first
@@ -93,6 +105,20 @@ pub first_rest : (bytes : List ℕ) → first_of bytes ≡ None → IsRest bytes
 unfolding first_of
 first_rest bytes e = rest_if (length bytes) (length_word bytes) (none_if (is_whole bytes) (take (length_word bytes) (drop 4 bytes), drop (length_word bytes) (drop 4 bytes)) e)
 
+held : (n w : ℕ) → (n < 4) ⊎ (2097152 < w) ⊎ (n < 4 + w) → (nat_le 4 n && nat_lt 2097152 w) ≡ false → n ≤ 2097155
+held n w partial fine = grind (arith, nat_tests)
+
+not_whole : (n w : ℕ) → (nat_le 4 n && nat_lt 2097152 w) ≡ true → (n < 4) ⊎ (2097152 < w) ⊎ (n < 4 + w)
+not_whole n w long = inr (inl (grind (arith, nat_tests)))
+
+-- a length above the limit begins no frame
+pub long_first : (rest : List ℕ) → is_too_long rest ≡ true → first_of rest ≡ None
+long_first rest long = rest_first rest (not_whole (length rest) (length_word rest) long)
+
+-- less than a frame, and no length above the limit
+pub small_rest : (rest : List ℕ) → first_of rest ≡ None → is_too_long rest ≡ false → length rest ≤ 2097155
+small_rest rest none fine = held (length rest) (length_word rest) (first_rest rest none) fine
+
 -- what is behind the first frame is shorter
 pub behind_shorter : (bytes : List ℕ) (first : List ℕ × List ℕ) → first_of bytes ≡ Some first → length first.1 < length bytes
 unfolding first_of
@@ -101,6 +127,19 @@ behind_shorter bytes first e =
     let whole = whole_if (length bytes) (length_word bytes) g.0 in
     let four : 4 ≤ length bytes = whole.word in
     subst (λ (f : List ℕ × List ℕ). length f.1 < length bytes) g.1 (omega (arith, four, length-drop (length_word bytes) (drop 4 bytes), length-drop 4 bytes))
+
+-- what is behind the first frame, by its place
+pub off_front : (bytes : List ℕ) (first : List ℕ × List ℕ) → first_of bytes ≡ Some first → (first.1 ≡ drop (4 + length first.0) bytes) × (4 + length first.0 ≤ length bytes)
+unfolding first_of
+off_front bytes first e =
+    let g = given_if (is_whole bytes) (take (length_word bytes) (drop 4 bytes), drop (length_word bytes) (drop 4 bytes)) first e in
+    subst (λ (f : List ℕ × List ℕ). (f.1 ≡ drop (4 + length f.0) bytes) × (4 + length f.0 ≤ length bytes)) g.1 (placed bytes (length_word bytes) (whole_if (length bytes) (length_word bytes) g.0))
+
+-- the same where the bytes begin at a place of others
+pub off_place : (start : ℕ) (bytes : List ℕ) (first : List ℕ × List ℕ) → first_of (drop start bytes) ≡ Some first → first_of (drop start bytes) ≡ Some (first.0, drop (start + (4 + length first.0)) bytes)
+off_place start bytes first e =
+    let placed : first.1 ≡ drop (start + (4 + length first.0)) bytes = (off_front (drop start bytes) first e).0 ∙ drop-drop (4 + length first.0) start bytes in
+    e ∙ ap (λ (rest : List ℕ). Some (first.0, rest)) placed
 
 -- ---- all frames
 

@@ -1,17 +1,35 @@
-ghost use Rattle.std.specs.Prelude.{◌≡◌};
+ghost use Rattle.std.specs.Prelude.{◌≡◌, ◌+◌, length, IfSome, Some, None, if◌then◌else◌};
 ghost use Rattle.std.specs.Option.{option_map};
-ghost use Rattle.snow_wire.specs.Frame.{first_of};
+ghost use Rattle.snow_wire.specs.Frame.{first_of, is_too_long, length_word};
 
 use byteorder::{BigEndian, ByteOrder};
 
 /// The greatest length of a frame's payload.
 const MAX_LENGTH: u32 = 2_097_152;
 
+/// A frame of a stream.
+#[derive(Clone, Copy, Debug, PartialEq, Eq)]
+pub struct Frame<'a> {
+    /// The frame's place in the stream, counted from 1.
+    pub number: u64,
+    pub payload: &'a [u8],
+}
+
+/// A length word that no frame has: it says more than 2,097,152.
+#[derive(Clone, Copy, Debug, PartialEq, Eq)]
+pub struct TooLong {
+    /// The place in the stream that the frame would have.
+    pub number: u64,
+    /// What the length word says.
+    pub length: u32,
+}
+
 /// The payload of the first frame, and the bytes behind the frame. None where the bytes begin with
 /// no whole frame, or with a length above 2,097,152.
 #[tactic(auto, unfolding(crate::specs::Frame::first_of))]
 pub fn first_frame(bytes: &[u8]) -> Option<(&[u8], &[u8])>
-    ensures { option_map (λ first. (first.0.now, first.1.now)) result ≡ first_of bytes.now }
+    ensures first { option_map (λ first. (first.0.now, first.1.now)) result ≡ first_of bytes.now }
+    ensures size { IfSome result (λ first. 4 + length first.0.now + length first.1.now ≡ length bytes.now) }
 {
     if bytes.len() < 4 {
         return None;
@@ -22,4 +40,18 @@ pub fn first_frame(bytes: &[u8]) -> Option<(&[u8], &[u8])>
         return None;
     }
     Some(behind.split_at(length as usize))
+}
+
+/// The length word in front, where it is above 2,097,152.
+pub(crate) fn too_long(bytes: &[u8]) -> Option<u32>
+    ensures { result ≡ (if is_too_long bytes.now then Some (length_word bytes.now) else None) }
+{
+    if bytes.len() < 4 {
+        return None;
+    }
+    let length = BigEndian::read_u32(bytes);
+    if length <= MAX_LENGTH {
+        return None;
+    }
+    Some(length)
 }

@@ -11,11 +11,14 @@ pub fn one_spelling()
         → IsInRange event × (payload ≡ spelling event) }
 {}
 
-/// A stream is frames and a rest in one way, which going from the front finds. No frame's bytes begin
+/// A stream is frames and a rest in one way, which going from the front finds. More bytes only come
+/// behind the frames, so it doesn't matter how a stream is cut into pieces. No frame's bytes begin
 /// another frame's.
 pub fn one_reading()
     ensures found { (bytes : List ℕ) → IsBytes bytes → AreFrames bytes (frames_of bytes).0 (frames_of bytes).1 }
     ensures only { (bytes : List ℕ) (payloads : List (List ℕ)) (rest : List ℕ) → AreFrames bytes payloads rest
         → (payloads ≡ (frames_of bytes).0) × (rest ≡ (frames_of bytes).1) }
+    ensures pieces { (bytes more : List ℕ) → frames_of (bytes ++ more) ≡
+        ((frames_of bytes).0 ++ (frames_of ((frames_of bytes).1 ++ more)).0, (frames_of ((frames_of bytes).1 ++ more)).1) }
     ensures apart { (a b more : List ℕ) → IsPayload a → IsPayload b → frame a ++ more ≡ frame b → a ≡ b }
 {}

@@ -1,6 +1,7 @@
 //! Frames and events: how a stream of bytes is read as events, and how an event is spelled.
 #![tactic(auto)]
 
+mod decoder;
 mod decoding;
 mod encoding;
 mod event;
@@ -13,9 +14,13 @@ mod reader;
 mod setup;
 mod skip;
 
+pub use decoder::Decoder;
 pub use decoding::decode;
 pub use encoding::encode;
 pub use event::{Event, Start};
-pub use frame::first_frame;
+pub use frame::{Frame, TooLong, first_frame};
 pub use laws::{one_reading, one_spelling};
 pub use skip::Skip;
+
+#[cfg(test)]
+mod tests;

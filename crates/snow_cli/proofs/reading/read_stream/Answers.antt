@@ -9,12 +9,12 @@ use Rattle.snow_cli.proofs.reading.read_stream.Goals as goal
 
 pub returns-in_default-2 : goal.returns-in_default-2
 returns-in_default-2 c = sym (simple_front c.args.bytes.now c.in-Some.payload.now c.in-Some.after.now None (later_in (frames_of c.in-Some.after.now))
-    (sym c.in-Some.ensures) (sym c.in_ok-beginning.ensures ∙ ap (option_map board_of) c.in_default-2.is) refl)
+    (sym c.in-Some.ensures.first) (sym c.in_ok-beginning.ensures ∙ ap (option_map board_of) c.in_default-2.is) refl)
 
 pub returns-in_default-3 : goal.returns-in_default-3
 returns-in_default-3 c = sym (simple_front c.args.bytes.now c.in-Some.payload.now c.in-Some.after.now (Some (board_of c.in-Some-2.beginning)) None
-    (sym c.in-Some.ensures) (sym c.in_ok-beginning.ensures ∙ ap (option_map board_of) c.in-Some-2.is) (sym c.in_ok-events.ensures ∙ c.in_default-3.is))
+    (sym c.in-Some.ensures.first) (sym c.in_ok-beginning.ensures ∙ ap (option_map board_of) c.in-Some-2.is) (sym c.in_ok-events.ensures ∙ c.in_default-3.is))
 
 pub returns : goal.returns
 returns c = sym (simple_front c.args.bytes.now c.in-Some.payload.now c.in-Some.after.now (Some (board_of c.in-Some-2.beginning)) (Some c.in-Some-3.events)
-    (sym c.in-Some.ensures) (sym c.in_ok-beginning.ensures ∙ ap (option_map board_of) c.in-Some-2.is) (sym c.in_ok-events.ensures ∙ c.in-Some-3.is))
+    (sym c.in-Some.ensures.first) (sym c.in_ok-beginning.ensures ∙ ap (option_map board_of) c.in-Some-2.is) (sym c.in_ok-events.ensures ∙ c.in-Some-3.is))

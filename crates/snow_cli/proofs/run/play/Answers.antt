@@ -16,13 +16,13 @@ returns-in_err-play_event-clause-err g c =
 pub loop-i-preserved : goal.loop-i-preserved
 loop-i-preserved g c =
     let kept : (g.B.Board.board c.play_event.new.board).parameters ≡ (g.B.Board.board c.loop-i.board).parameters =
-      ap (λ (b : Board). b.parameters) c.in_ok-play_event.ensures.board
-      ∙ step_keeps g.B.Board.answer (g.B.Board.board c.loop-i.board) (c.loop-i.i + 2) c.index-events-i.result in
+    ap (λ (b : Board). b.parameters) c.in_ok-play_event.ensures.board
+    ∙ step_keeps g.B.Board.answer (g.B.Board.board c.loop-i.board) (c.loop-i.i + 2) c.index-events-i.result in
     record {
       played = goes_on g.B.Board.answer (g.B.Board.board c.args.board.now) (g.B.Board.board c.loop-i.board) (g.B.Board.board c.play_event.new.board)
-        c.args.events.now c.loop-i.i c.index-events-i.result
-        (g.O.Sink.written c.args.out.now) (g.O.Sink.written c.loop-i.out) (g.O.Sink.written c.play_event.new.out)
-        c.loop-i-test.true c.index-events-i.is c.in_ok-play_event.ensures.board c.in_ok-play_event.ensures.ok c.loop-i.invariant.played;
+          c.args.events.now c.loop-i.i c.index-events-i.result
+          (g.O.Sink.written c.args.out.now) (g.O.Sink.written c.loop-i.out) (g.O.Sink.written c.play_event.new.out)
+          c.loop-i-test.true c.index-events-i.is c.in_ok-play_event.ensures.board c.in_ok-play_event.ensures.ok c.loop-i.invariant.played;
       later = le_trans c.loop-i.invariant.later c.in_ok-play_event.ensures.later;
       parameters = kept ∙ c.loop-i.invariant.parameters;
     }

@@ -1,18 +1,18 @@
 ghost use Rattle.std.specs.Prelude.{◌≡◌, ◌≢◌, ◌≤◌, false, map, IfSome, string_bytes};
 ghost use Rattle.std.specs.Io.KnownBytes.{Keeps, IsAtEnd};
 ghost use Rattle.snow_base.specs.Outside.{Rose};
+ghost use Rattle.snow_flake.specs.Rule.{by_preference};
 ghost use Rattle.snow_lines.specs.Text.{texts};
 ghost use Rattle.snow_cli.specs.Answer.{is_decide, model, model_in, IsAnswer, Wrote, IsQuiet, HasFault, TookLine, error_line};
-
-use snow_base::{Sink, Source, write_whole};
-use snow_flake::Snowball;
-use snow_plain::{Board, PlainBoard};
-use std::alloc::Global;
 
 use crate::input::{Input, read_all};
 use crate::reading::read_stream;
 use crate::run::{Stop, run};
 use crate::status::Status;
+use snow_base::{Sink, Source, write_whole};
+use snow_flake::Snowball;
+use snow_plain::{Board, PlainBoard};
+use std::alloc::Global;
 
 /// The top call: all that the program does. The words, without the program's name, are the one word
 /// `decide`; the source is read to its end, or until more than 1,048,576 bytes were taken, and then

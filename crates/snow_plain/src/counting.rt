@@ -1,0 +1,78 @@
+ghost use Rattle.std.specs.Prelude.{◌≡◌, ◌+◌, ◌^◌, ◌<◌, ◌≤◌, length, map, All};
+ghost use Rattle.snow_plain.specs.Board.{blocks_of};
+ghost use Rattle.snow_plain.specs.Conflict.{all_polled};
+ghost use Rattle.snow_plain.specs.Cursors.{moved_past, votes_at, cursor_total, polled};
+
+use crate::conflict::Conflict;
+use crate::cursor::{Cursor, advance, gather};
+use crate::pending::Pending;
+use snow_base::{Bag, Id};
+use snow_flake::Params;
+
+// The counters of one block take the bit step with the votes that came to it.
+fn poll_counters(
+    params: &Params,
+    id: &Id,
+    counters: &mut Conflict,
+    cursors: &[Cursor],
+    children: &mut Bag,
+)
+    requires places { length cursors.now ≤ children.old.room + length children.old.list }
+    requires counts { All (λ c. 0 < c.count) cursors.now }
+    requires total { cursor_total cursors.now < 2 ^ 32 }
+    ensures counters { counters.new ≡ all_polled params.now (votes_at cursors.now id.now) counters.old }
+    ensures places { children.old.room + length children.old.list ≤ children.new.room + length children.new.list }
+{
+    gather(cursors, id, children);
+    counters.poll(params, children.entries());
+}
+
+// The counters of all pending blocks take the bit step, those of the latest first, and the votes
+// climb past each block in turn.
+fn poll_pending(
+    params: &Params,
+    pending: &mut [Pending],
+    cursors: &mut [Cursor],
+    children: &mut Bag,
+)
+    requires places { length cursors.old ≤ children.old.room + length children.old.list }
+    requires counts { All (λ c. 0 < c.count) cursors.old }
+    requires total { cursor_total cursors.old < 2 ^ 32 }
+    ensures pending { pending.new ≡ polled params.now cursors.old pending.old }
+    ensures cursors { cursors.new ≡ map (moved_past (blocks_of pending.old)) cursors.old }
+    ensures places { children.old.room + length children.old.list ≤ children.new.room + length children.new.list }
+{
+    for i in (0..pending.len()).rev() {
+        let entry = &mut pending[i];
+        poll_counters(
+            params,
+            &entry.block.id,
+            &mut entry.counters,
+            cursors,
+            children,
+        );
+        advance(cursors, &entry.block);
+    }
+}
+
+/// All counters take the bit step with the votes that came to their block. The votes climb from
+/// where they are, past the latest block first, and `children` is where those that came to a block
+/// are counted by child. It takes no memory where this has places for them.
+pub fn poll_all(
+    params: &Params,
+    last: &Id,
+    counters: &mut Conflict,
+    pending: &mut [Pending],
+    cursors: &mut [Cursor],
+    children: &mut Bag,
+)
+    requires places { length cursors.old ≤ children.old.room + length children.old.list }
+    requires counts { All (λ c. 0 < c.count) cursors.old }
+    requires total { cursor_total cursors.old < 2 ^ 32 }
+    ensures counters { counters.new ≡ all_polled params.now (votes_at (map (moved_past (blocks_of pending.old)) cursors.old) last.now) counters.old }
+    ensures pending { pending.new ≡ polled params.now cursors.old pending.old }
+    ensures places { children.old.room + length children.old.list ≤ children.new.room + length children.new.list }
+{
+    poll_pending(params, pending, cursors, children);
+    poll_counters(params, last, counters, cursors, children);
+}

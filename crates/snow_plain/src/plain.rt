@@ -1,0 +1,114 @@
+ghost use Rattle.std.specs.Prelude.{◌≡◌, ℕ, ◌≤◌, Bool, List, [], length, OnOk, OnErr};
+ghost use Rattle.snow_base.specs.Votes.{total_count};
+ghost use Rattle.snow_plain.specs.Board as model;
+
+use crate::board::Board;
+use crate::cursor::Cursor;
+use crate::decision::Decision;
+use crate::state::State;
+use snow_base::{Bag, Header, Id};
+use snow_flake::{Params, Rule};
+use std::alloc::{AllocError, Global};
+use std::marker::{Model, PhantomData};
+
+/// A board with one counter for each bit list, all of which take each poll. Its rule says how the
+/// counters answer.
+#[derive(Debug, Drop)]
+pub struct PlainBoard<R: Rule> {
+    state: State,
+    decisions: Vec<Decision>,
+    // Room for the votes of a poll, and for those that came to one block, by its children.
+    cursors: Vec<Cursor>,
+    children: Bag,
+    alloc: Global,
+    rule: PhantomData<R>,
+}
+
+impl<R: Rule> Model for PlainBoard<R> {
+    ghost use Rattle.std.specs.Prelude.{◌+◌, length, vec_capacity};
+    ghost use Rattle.snow_plain.specs.Shown.{Shown, HasRoom, coded_shown};
+
+    ghost Value = { Shown };
+
+    ghost coded = { coded_shown };
+
+    ghost view = { λ a. record { board = a.state; decided = a.decisions.items } };
+
+    ghost invariant = { λ a.
+        HasRoom a.state (vec_capacity a.decisions) (vec_capacity a.cursors) (a.children.room + length a.children.list) };
+}
+
+impl<R: Rule> Board for PlainBoard<R> {
+    ghost board = { λ a. a.board };
+
+    ghost decided = { λ a. a.decided };
+
+    ghost answer = { R.answer };
+
+    ghost agrees = { R.agrees };
+
+    fn begin(alloc: Global, params: Params, last: Id, height: u64) -> Result<Self, AllocError> {
+        let votes = params.k() as usize;
+        let cursors = Vec::with_capacity(alloc, votes)?;
+        let mut children = Bag::new(alloc);
+        children.reserve(votes)?;
+        Ok(PlainBoard {
+            state: State::begin(alloc, params, last, height),
+            decisions: Vec::new(alloc),
+            cursors,
+            children,
+            alloc,
+            rule: PhantomData,
+        })
+    }
+
+    fn issue(&mut self, id: Id, parent: Id, height: u64) -> Result<(), AllocError> {
+        self.decisions.reserve(self.state.pending_len() + 1)?;
+        self.state.issue(self.alloc, Header { id, parent, height })?;
+        self.decisions.clear();
+        Ok(())
+    }
+
+    fn apply_poll(&mut self, votes: &Bag) {
+        self.state
+            .count(votes.entries(), &mut self.cursors, &mut self.children);
+        self.decisions.clear();
+        self.state.settle(&mut self.decisions);
+    }
+
+    fn decisions(&self) -> &[Decision] {
+        self.decisions.as_slice()
+    }
+
+    fn preference(&self) -> Id {
+        self.state.preference::<R>()
+    }
+
+    fn is_preferred(&self, id: &Id) -> bool {
+        self.state.is_preferred::<R>(id)
+    }
+
+    fn is_pending(&self, id: &Id) -> bool {
+        self.state.is_pending(id)
+    }
+
+    fn parent_of(&self, id: &Id) -> Option<Id> {
+        self.state.parent_of(id)
+    }
+
+    fn height_of(&self, id: &Id) -> Option<u64> {
+        self.state.height_of(id)
+    }
+
+    fn last(&self) -> Id {
+        self.state.last()
+    }
+
+    fn last_height(&self) -> u64 {
+        self.state.height()
+    }
+
+    fn pending_len(&self) -> usize {
+        self.state.pending_len()
+    }
+}
