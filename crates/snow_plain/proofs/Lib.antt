@@ -10,6 +10,12 @@ pub mod Kept
 pub mod Judged
 pub mod Taken
 pub mod Settled
+pub mod Pointwise
+pub mod Same
+pub mod Failing
+pub mod Invariant
+pub mod Lookup
+pub mod Lines
 pub mod Gathered
 pub mod Climbed
 pub mod Swept

@@ -9,5 +9,11 @@ pub mod Poll
 pub mod Preference
 pub mod Reached
 pub mod Acceptance
+pub mod Excluded
+pub mod PointwiseLaw
+pub mod Alike
+pub mod AlikeLaw
+pub mod FailingLaw
+pub mod LineLaw
 pub mod Cursors
 pub mod Shown

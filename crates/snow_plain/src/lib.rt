@@ -8,6 +8,7 @@ mod counting;
 mod cursor;
 mod decision;
 mod issuing;
+mod laws;
 mod pending;
 mod plain;
 mod state;
@@ -15,6 +16,10 @@ mod tree;
 
 pub use board::Board;
 pub use decision::Decision;
+pub use laws::{
+    alike_law, excluded_law, failing_and_adding_law, failing_twice_law, few_votes_law,
+    few_votes_on_board_law, issue_law, line_law, poll_law,
+};
 pub use plain::PlainBoard;
 
 #[cfg(test)]

@@ -1,0 +1,95 @@
+-- What the steps of a board keep holds of every board that can be reached.
+use Rattle.std.proofs.Common.{◌≡◌, ℕ, zero, suc, ◌≤◌, List, [], ◌∷◌, length, map, reverse, Option, Some, None, refl, sym, ap, subst}
+use Rattle.snow_base.specs.declared.header.Header.{Header}
+use Rattle.snow_base.specs.declared.vote.Vote.{Vote}
+use Rattle.snow_base.specs.Votes.{total_count}
+use Rattle.snow_flake.specs.Parameters.{Parameters, AreGood}
+use Rattle.snow_plain.specs.declared.pending.Pending.{Pending}
+use Rattle.snow_plain.specs.Conflict.{Counters}
+use Rattle.snow_plain.specs.Board.{Board, begin, blocks_of, with_counters, issued}
+use Rattle.snow_plain.specs.Poll.{with_votes, counted, winner, promoted, settled, poll}
+use Rattle.snow_plain.specs.Reached.{MayIssue, Reached, Begun, Issued, Polled}
+use Rattle.snow_plain.specs.Grown.{IsGrown, Bare}
+use Rattle.snow_plain.proofs.Settled.{settled_done, settled_won}
+use Rattle.snow_plain.proofs.Issued.{grown_issued}
+use Rattle.snow_plain.proofs.Kept.{descendants_grown}
+
+-- a good beginning has it, and an issue, a poll's bit steps and an acceptance keep it
+pub record IsKept (Holds : Board → Type 0) : Type 0 where
+  pub at_begin : (p : Parameters) (last : List ℕ) (height : ℕ) → AreGood p → Holds (begin p last height)
+  pub at_issue : (board : Board) (child : Header) → Holds board → MayIssue board child → Holds (issued board child)
+  pub at_count : (board : Board) (votes : List Vote) → Holds board → total_count votes ≤ board.parameters.k → Holds (counted board votes)
+  pub at_promotion : (board : Board) (child : Pending) → Holds board → winner board ≡ Some child → Holds (promoted board child)
+
+-- acceptances keep it
+pub settled_keeps : (Holds : Board → Type 0) → IsKept Holds → (n : ℕ) (board : Board) → Holds board → Holds (settled n board).0
+unfolding settled
+settled_keeps Holds steps n board h = by_winner n board (winner board) refl h
+  where
+    by_winner : (n : ℕ) (board : Board) (o : Option Pending) → winner board ≡ o → Holds board → Holds (settled n board).0
+    by_winner n board None e h = rw (settled_done n board e) h
+    by_winner zero board (Some child) e h = h
+    by_winner (suc n) board (Some child) e h =
+        rw (settled_won n board child e) (by_winner n (promoted board child) (winner (promoted board child)) refl (steps.at_promotion board child h e))
+
+-- every board that can be reached has it
+pub reached_keeps : (Holds : Board → Type 0) → IsKept Holds → (board : Board) → Reached board → Holds board
+unfolding poll
+reached_keeps Holds steps board (Begun p last height good) = steps.at_begin p last height good
+reached_keeps Holds steps board (Issued before child reached may) = steps.at_issue before child (reached_keeps Holds steps before reached) may
+reached_keeps Holds steps board (Polled before votes reached few) =
+    settled_keeps Holds steps (length before.pending) (counted before votes) (steps.at_count before votes (reached_keeps Holds steps before reached) few)
+
+-- what is kept together with what is kept already
+pub record IsKeptOver (Base Holds : Board → Type 0) : Type 0 where
+  pub at_begin : (p : Parameters) (last : List ℕ) (height : ℕ) → AreGood p → Holds (begin p last height)
+  pub at_issue : (board : Board) (child : Header) → Base board → Holds board → MayIssue board child → Holds (issued board child)
+  pub at_count : (board : Board) (votes : List Vote) → Base board → Holds board → total_count votes ≤ board.parameters.k → Holds (counted board votes)
+  pub at_promotion : (board : Board) (child : Pending) → Base board → Holds board → winner board ≡ Some child → Holds (promoted board child)
+
+-- both are kept
+pub both_kept : (Base Holds : Board → Type 0) → IsKept Base → IsKeptOver Base Holds → IsKept (λ board. Base board × Holds board)
+both_kept Base Holds base steps = record {
+  at_begin = λ p last height good. (base.at_begin p last height good, steps.at_begin p last height good);
+  at_issue = λ board child h may. (base.at_issue board child h.0 may, steps.at_issue board child h.0 h.1 may);
+  at_count = λ board votes h few. (base.at_count board votes h.0 few, steps.at_count board votes h.0 h.1 few);
+  at_promotion = λ board child h won. (base.at_promotion board child h.0 won, steps.at_promotion board child h.0 h.1 won);
+}
+
+-- ---- the first such thing: good parameters, and blocks that each came after their parents
+
+pub record IsSound (board : Board) : Type 0 where
+  pub good : AreGood board.parameters
+  pub grown : IsGrown board.last (reverse (blocks_of board.pending))
+
+-- a change of counters leaves the blocks
+pub blocks_changed : (change : List ℕ → Counters → Counters) (pending : List Pending) → blocks_of (map (with_counters change) pending) ≡ blocks_of pending
+blocks_changed change [] = refl
+blocks_changed change (q ∷ pending) = ap (λ l. q.block ∷ l) (blocks_changed change pending)
+
+-- the bit steps of a poll leave them
+pub blocks_counted : (board : Board) (votes : List Vote) → blocks_of (counted board votes).pending ≡ blocks_of board.pending
+unfolding counted
+blocks_counted board votes = blocks_changed (with_votes board.parameters (blocks_of board.pending) votes) board.pending
+
+-- so they stay in order
+sound_counted : (board : Board) (votes : List Vote) → IsSound board → IsSound (counted board votes)
+unfolding counted
+sound_counted board votes h = record {
+  good = h.good;
+  grown = subst (λ l. IsGrown board.last (reverse l)) (sym (blocks_counted board votes)) h.grown;
+}
+
+-- an acceptance keeps them in order
+sound_promoted : (board : Board) (child : Pending) → IsSound board → IsSound (promoted board child)
+unfolding promoted
+sound_promoted board child h = record { good = h.good; grown = descendants_grown board.last child.block.id board.pending h.grown }
+
+-- every step keeps this
+pub sound_kept : IsKept IsSound
+sound_kept = record {
+  at_begin = λ p last height good. record { good = good; grown = Bare };
+  at_issue = λ board child h may. record { good = h.good; grown = grown_issued board child may h.grown };
+  at_count = λ board votes h few. sound_counted board votes h;
+  at_promotion = λ board child h won. sound_promoted board child h;
+}

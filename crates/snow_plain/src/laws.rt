@@ -1,0 +1,68 @@
+//! Laws of the board: what everyone who reads its definitions wants to know, each a function that
+//! does nothing and ensures the law.
+ghost use Rattle.snow_plain.specs.PointwiseLaw.{ExcludedLaw, PollLaw, IssueLaw};
+ghost use Rattle.snow_plain.specs.AlikeLaw.{AlikeLaw};
+ghost use Rattle.snow_plain.specs.FailingLaw.{FewVotesLaw, FewVotesOnBoardLaw, FailingTwiceLaw, FailingAndAddingLaw};
+ghost use Rattle.snow_plain.specs.LineLaw.{LineLaw};
+
+/// A bit list is excluded exactly where the counter at a proper front of it is decided, and not
+/// with the bit that follows.
+#[tactic(auto, using(crate::proofs::Pointwise::excluded_decides))]
+pub fn excluded_law()
+    ensures { ExcludedLaw }
+{}
+
+/// At each bit list a poll makes the bit step of the counter there, with that list's own two
+/// counts; those that are then excluded go.
+#[tactic(auto, using(crate::proofs::Pointwise::polled_each))]
+pub fn poll_law()
+    ensures { PollLaw }
+{}
+
+/// At each bit list an issue leaves the counter that stands there, and makes fresh ones at just
+/// those fronts of the child's bits where none stood and no decided counter excludes them.
+#[tactic(auto, using(crate::proofs::Pointwise::grown_each))]
+pub fn issue_law()
+    ensures { IssueLaw }
+{}
+
+/// Alike votes give one board: where on every list of identifiers the numbers of both votes are of
+/// one class, polls with them leave the same board and make the same decisions.
+#[tactic(auto, using(crate::proofs::Same::same_board))]
+pub fn alike_law()
+    ensures { AlikeLaw }
+{}
+
+/// A poll of the counters of a conflict with fewer than AlphaPreference votes on every side does
+/// what a poll without votes does: it fails them.
+#[tactic(auto, using(crate::proofs::Failing::few_fail))]
+pub fn few_votes_law()
+    ensures { FewVotesLaw }
+{}
+
+/// The same for a board: a poll with fewer than AlphaPreference votes below each block at every
+/// bit list leaves the board, and makes the decisions, of a poll without votes.
+#[tactic(auto, using(crate::proofs::Failing::few_fail_all))]
+pub fn few_votes_on_board_law()
+    ensures { FewVotesOnBoardLaw }
+{}
+
+/// Failing the counters of a conflict twice is failing them once.
+#[tactic(auto, using(crate::proofs::Failing::fails_once))]
+pub fn failing_twice_law()
+    ensures { FailingTwiceLaw }
+{}
+
+/// Failing the counters of a conflict and adding a child to them may change places.
+#[tactic(auto, using(crate::proofs::Failing::fails_or_adds))]
+pub fn failing_and_adding_law()
+    ensures { FailingAndAddingLaw }
+{}
+
+/// By whose line a vote counts, on a board that can be reached: that a block or some ancestor of it
+/// is a child of the parent whose bits begin so, and that the one child of the parent on its line
+/// has such bits, are the same.
+#[tactic(auto, using(crate::proofs::Lines::line_law))]
+pub fn line_law()
+    ensures { LineLaw }
+{}
