@@ -13,7 +13,7 @@ use Rattle.snow_plain.specs.Conflict.{Counters, Blank, At, all_polled}
 use Rattle.snow_plain.specs.Board.{Board, blocks_of, with_counters}
 use Rattle.snow_plain.specs.Poll.{with_votes, counted, settled, poll}
 use Rattle.snow_plain.specs.Alike.{votes_for, AreAlike}
-use Rattle.snow_plain.proofs.Tests.{split_on, clash, same_id, id_itself}
+use Rattle.snow_plain.proofs.Cases.{split_on, clash, same_id, id_itself}
 
 -- ---- the bit step reads counts by class
 
