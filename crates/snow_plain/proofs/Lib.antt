@@ -20,3 +20,4 @@ pub mod Gathered
 pub mod Climbed
 pub mod Swept
 pub mod Polled
+pub mod Ended

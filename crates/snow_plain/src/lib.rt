@@ -8,6 +8,7 @@ mod counting;
 mod cursor;
 mod decision;
 mod issuing;
+mod leading;
 mod laws;
 mod pending;
 mod plain;

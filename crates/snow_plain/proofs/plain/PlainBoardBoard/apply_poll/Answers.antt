@@ -1,4 +1,4 @@
-use Rattle.std.proofs.Common.{◌≡◌, ◌++◌, length, ap, ◌∙◌, arith}
+use Rattle.std.proofs.Common.{◌≡◌, ◌++◌, length, sym, ap, ◌∙◌, true≢false, arith}
 use Rattle.snow_base.specs.Votes.{total_count}
 use Rattle.snow_flake.specs.Parameters.{Parameters}
 use Rattle.snow_plain.specs.Board.{Board}
@@ -75,7 +75,7 @@ invariant_of-self g c =
         counts = omega (arith, k, count.room, c.self.invariant.0.counts);
         gathers = omega (arith, k, count.places, c.self.invariant.0.gathers);
       },
-      c.preference-self-inside.ensures,
+      record { block = c.preference.ensures; top = λ is. absurd (true≢false (sym is)) },
     )
 
 pub returns-clause-board : goal.returns-clause-board
