@@ -1,23 +1,22 @@
 -- Lemmas on the end of the path by the answers: where the issue of a child moves it.
-use Rattle.std.proofs.Common.{◌≡◌, ℕ, ◌≤◌, suc, Bool, true, false, ◌&&◌, ◌||◌, List, [], ◌∷◌, ◌++◌, length, map, reverse, bytes_eq, None, if◌then◌else◌, refl, sym, ap, ◌∙◌, subst, arith}
+use Rattle.std.proofs.Common.{◌≡◌, ℕ, ◌≤◌, suc, Bool, true, false, ◌&&◌, ◌||◌, List, [], ◌∷◌, ◌++◌, length, map, reverse, bytes_eq, None, refl, sym, ap, ◌∙◌, subst, arith}
 use Rattle.std.specs.Bool.{beq}
-use Rattle.std.specs.List.{list_any}
 use Rattle.std.specs.Cmp.Lexicographic.{pointwise}
 use mathlib.Core.List.{reverse-cons}
 use Rattle.std.proofs.lemmas.List.Folds.{list_any-append}
-use Rattle.std.proofs.lemmas.Bool.{or_parts, or_from, and_parts}
+use Rattle.std.proofs.lemmas.Bool.{or_parts, and_parts}
 use Rattle.snow_base.specs.declared.header.Header.{Header}
 use Rattle.snow_base.specs.Identifier.{bits}
 use Rattle.snow_base.proofs.Bits.{length-bits}
-use Rattle.snow_flake.specs.Counter.{Counter, admits}
+use Rattle.snow_flake.specs.Counter.{admits}
 use Rattle.snow_flake.specs.Rule.{Answer, answer_of}
 use Rattle.snow_plain.specs.declared.pending.Pending.{Pending}
 use Rattle.snow_plain.specs.declared.leading.Leading.{Leading}
 use Rattle.snow_plain.specs.Conflict.{Counters, Blank, At, with_child, chosen, leads_to}
 use Rattle.snow_plain.specs.Board.{Board, blocks_of, with_issued, new_pending, issued, height_of}
 use Rattle.snow_plain.specs.Preference.{path_from, end_of, preferred}
-use Rattle.snow_plain.specs.Ending.{end_counters, has_pending_child, IsTop, IsLeading, leading_after}
-use Rattle.snow_plain.specs.Grown.{has_block, is_on, IsGrown}
+use Rattle.snow_plain.specs.Ending.{end_counters, has_pending_child, IsLeading, leading_after}
+use Rattle.snow_plain.specs.Grown.{has_block, IsGrown}
 use Rattle.snow_plain.proofs.Cases.{split_on, clash, same_id, id_itself, id_same, differs_back}
 use Rattle.snow_plain.proofs.Grown.{has_child, latest_childless, has_block-reverse}
 use Rattle.snow_plain.specs.Reached.{MayIssue}
@@ -194,6 +193,7 @@ latest_alone board child may g =
     swapped true false = refl
     swapped false true = refl
     swapped false false = refl
+
     reversed : (blocks : List Header) (id : List ℕ) → has_child (reverse blocks) id ≡ has_child blocks id
     reversed [] id = refl
     reversed (b ∷ blocks) id =

@@ -34,6 +34,6 @@ pub record IsLeading (answer : Answer) (board : Board) (leading : Leading) : Typ
 abbrev pub leading_after : Answer → Leading → Board → Header → Leading
 leading_after answer leading board child =
     if bytes_eq child.parent leading.block then
-      if leading.is_top then record { block = child.id; is_top = true }
-      else record { block = preferred answer board; is_top = bytes_eq (preferred answer board) child.id }
+    if leading.is_top then record { block = child.id; is_top = true }
+    else record { block = preferred answer board; is_top = bytes_eq (preferred answer board) child.id }
     else leading

@@ -10,7 +10,8 @@ use std::marker::{Model, PhantomData};
 
 /// A board with one counter for each bit list, all of which take the bit step at each poll. The
 /// rule says how they answer. A poll goes once over all counters, and for each pending block once
-/// over the votes; then once over the pending blocks for each decision.
+/// over the votes; then once over the pending blocks for each decision. An issue goes once over the
+/// pending blocks, and walks the answers only for the first block on the preference after a poll.
 #[derive(Debug, Drop)]
 pub struct PlainBoard<R: Rule> {
     state: State,

@@ -13,9 +13,8 @@ invariant_of-self-2 g c =
     let inside = c.self.inside in
     let new : c.issue.new.self ≡ issued inside.state child = c.in_ok-issue.ensures.ok in
     let unknown : height_of inside.state child.id ≡ None = ap (λ (s : Shown). height_of s.board child.id) c.self.view_is ∙ c.requires.unknown in
-    let alone : has_pending_child (issued inside.state child).pending child.id ≡ false = ap (λ (b : Board). has_pending_child b.pending child.id) (sym new) ∙ c.in_ok-issue.ensures.alone in
-    (
+    let alone : has_pending_child (issued inside.state child).pending child.id ≡ false = ap (λ (b : Board). has_pending_child b.pending child.id) (sym new) ∙ c.in_ok-issue.ensures.alone in (
       grind (arith, common_steps),
       rw (c.after_issue-self-inside.ensures, new)
-      (leading_issued g.R.Rule.answer g.met.R.Rule.agrees inside.state child inside.leading unknown alone c.self.invariant.1),
+          (leading_issued g.R.Rule.answer g.met.R.Rule.agrees inside.state child inside.leading unknown alone c.self.invariant.1),
     )
