@@ -20,3 +20,6 @@ pub mod Gathered
 pub mod Climbed
 pub mod Swept
 pub mod Polled
+pub mod Excluding
+pub mod Standing
+pub mod Children

@@ -17,3 +17,4 @@ pub mod FailingLaw
 pub mod LineLaw
 pub mod Cursors
 pub mod Shown
+pub mod StandingLaw
