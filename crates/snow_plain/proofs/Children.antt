@@ -1,19 +1,18 @@
 -- Lemmas on how long the children of a block are pending: as long as the block is on the board.
-use Rattle.std.proofs.Common.{◌≡◌, ℕ, ◌≤◌, Bool, true, false, not, ◌||◌, ◌&&◌, List, [], ◌∷◌, ◌++◌, length, map, reverse, filter, find, bytes_eq, Option, Some, None, is_some, option_map, if◌then◌else◌, refl, sym, ap, ◌∙◌, subst}
+use Rattle.std.proofs.Common.{◌≡◌, ℕ, ◌≤◌, Bool, true, List, [], ◌∷◌, ◌++◌, length, map, reverse, filter, find, bytes_eq, Option, Some, None, is_some, option_map, refl, sym, ap, ◌∙◌}
 use Rattle.std.proofs.lemmas.Option.{none-some, same_Some}
-use Rattle.std.proofs.lemmas.Bool.{or_parts, or_from, or_left, or_right, and_parts}
-use Rattle.snow_base.specs.declared.header.Header.{Header}
+use Rattle.std.proofs.lemmas.Bool.{or_right}
 use Rattle.snow_base.specs.declared.vote.Vote.{Vote}
 use Rattle.snow_base.specs.Votes.{total_count}
 use Rattle.snow_plain.specs.declared.pending.Pending.{Pending}
 use Rattle.snow_plain.specs.Conflict.{Counters}
-use Rattle.snow_plain.specs.Board.{Board, blocks_of, block_of, parent_of, height_of, with_counters}
+use Rattle.snow_plain.specs.Board.{Board, blocks_of, parent_of, height_of, with_counters}
 use Rattle.snow_plain.specs.Poll.{with_votes, counted, winner, promoted, settled, poll}
 use Rattle.snow_plain.specs.Reached.{Reached}
-use Rattle.snow_plain.specs.Grown.{has_block, is_on, IsGrown}
-use Rattle.snow_plain.proofs.Tests.{split_on, clash, same_id, id_itself}
-use Rattle.snow_plain.proofs.Invariant.{IsSound, sound_kept, reached_sound, settled_keeps, blocks_counted}
-use Rattle.snow_plain.proofs.Lookup.{IsFound, found, reversed_around, won, winner_pending, stays, on_promoted}
+use Rattle.snow_plain.specs.Grown.{has_block, is_on}
+use Rattle.snow_plain.proofs.Tests.{split_on, same_id}
+use Rattle.snow_plain.proofs.Invariant.{IsSound, sound_kept, reached_sound, settled_keeps}
+use Rattle.snow_plain.proofs.Lookup.{found, reversed_around, won, winner_pending, stays, on_promoted}
 use Rattle.snow_plain.proofs.Standing.{child_stays}
 
 -- what has a height is on the board

@@ -1,12 +1,12 @@
 -- Lemmas on which bit lists are excluded before and after a poll or an issue, and where counters then stand.
-use Rattle.std.proofs.Common.{◌≡◌, ℕ, suc, ◌<◌, Bool, true, false, not, ◌||◌, ◌&&◌, List, [], ◌∷◌, ◌++◌, length, Option, Some, None, is_some, option_map, nat_lt, if◌then◌else◌, refl, sym, ap, ◌∙◌, subst, arith}
+use Rattle.std.proofs.Common.{◌≡◌, ℕ, suc, Bool, true, false, not, ◌&&◌, List, [], ◌∷◌, length, is_some, nat_lt, refl, sym, ◌∙◌, arith}
 use Rattle.std.specs.Bool.{beq}
-use Rattle.std.specs.List.{starts_with, slice_get}
-use Rattle.std.proofs.lemmas.Bool.{or_left, or_right, or_parts, and_right, lt-ltb, le-ltb, ltb-true, ltb-false}
+use Rattle.std.specs.List.{starts_with}
+use Rattle.std.proofs.lemmas.Bool.{or_right, and_right, lt-ltb, le-ltb, ltb-true, ltb-false}
 use Rattle.snow_flake.specs.Parameters.{Parameters}
-use Rattle.snow_flake.specs.Counter.{Counter, Decided, Undecided, fresh, stepped, admits}
+use Rattle.snow_flake.specs.Counter.{Counter, Decided, Undecided, stepped, admits}
 use Rattle.snow_plain.specs.Conflict.{Counters, Blank, At, counter_at, with_child, all_polled}
-use Rattle.snow_plain.specs.Excluded.{lets, is_excluded}
+use Rattle.snow_plain.specs.Excluded.{is_excluded}
 use Rattle.snow_plain.specs.PointwiseLaw.{stepped_at, fresh_at}
 use Rattle.snow_plain.proofs.Tests.{split_on}
 

@@ -1,15 +1,13 @@
 -- Lemmas on where the counters of a board stand: where children were issued, and only there.
-use Rattle.std.proofs.Common.{◌≡◌, ℕ, suc, ◌<◌, ◌≤◌, Bool, true, false, not, ◌||◌, ◌&&◌, List, [], ◌∷◌, ◌++◌, length, get_or, take, drop, map, reverse, filter, find, bytes_eq, All, Option, Some, None, is_some, option_map, nat_lt, if◌then◌else◌, refl, sym, ap, ◌∙◌, subst, arith}
+use Rattle.std.proofs.Common.{◌≡◌, ℕ, suc, Bool, true, false, not, ◌||◌, ◌&&◌, List, [], ◌∷◌, ◌++◌, length, get_or, take, drop, reverse, filter, bytes_eq, All, Option, Some, None, is_some, option_map, nat_lt, if◌then◌else◌, refl, sym, ap, ◌∙◌, subst}
 use mathlib.Core.List.{reverse-cons}
 use Rattle.std.specs.Bool.{beq}
 use Rattle.std.specs.List.{list_any, starts_with}
-use Rattle.std.proofs.lemmas.List.{map-append}
 use Rattle.std.proofs.lemmas.List.Elements.{All-head, All-tail}
 use Rattle.std.proofs.lemmas.List.Folds.{list_any-append}
-use Rattle.std.proofs.lemmas.Bool.{or_parts, or_from, or_left, or_right, and_parts, and_left, and_right}
+use Rattle.std.proofs.lemmas.Bool.{or_parts, or_left, or_right, and_parts, and_left, and_right}
 use Rattle.snow_base.specs.declared.header.Header.{Header}
 use Rattle.snow_base.specs.declared.vote.Vote.{Vote}
-use Rattle.snow_base.specs.Votes.{total_count}
 use Rattle.snow_base.specs.Identifier.{bits}
 use Rattle.snow_base.specs.Ancestry.{line_in, votes_below}
 use Rattle.snow_base.proofs.Bits.{length-bits}
@@ -17,19 +15,18 @@ use Rattle.snow_flake.specs.Parameters.{Parameters}
 use Rattle.snow_flake.specs.Counter.{Counter, stepped}
 use Rattle.snow_plain.specs.declared.pending.Pending.{Pending}
 use Rattle.snow_plain.specs.Conflict.{Counters, Blank, counter_at, with_child, all_polled}
-use Rattle.snow_plain.specs.Board.{Board, begin, blocks_of, counters_on, counter_on, with_issued, with_counters, new_pending, issued}
-use Rattle.snow_plain.specs.Poll.{with_votes, counted, winner, promoted}
+use Rattle.snow_plain.specs.Board.{Board, begin, blocks_of, counters_on, counter_on, with_issued, issued}
+use Rattle.snow_plain.specs.Poll.{counted, winner, promoted}
 use Rattle.snow_plain.specs.Reached.{MayIssue, Reached}
 use Rattle.snow_plain.specs.Grown.{has_block, is_on, IsGrown}
 use Rattle.snow_plain.specs.Excluded.{is_excluded}
-use Rattle.snow_plain.specs.PointwiseLaw.{stepped_at, grown_at, fresh_at}
+use Rattle.snow_plain.specs.PointwiseLaw.{stepped_at, fresh_at}
 use Rattle.snow_plain.specs.StandingLaw.{has_child_from}
 use Rattle.snow_plain.proofs.Tests.{split_on, clash, same_id, id_itself, differs_back}
-use Rattle.snow_plain.proofs.Grown.{not_last, has_child, childless, reversed_at, has_block-reverse}
-use Rattle.snow_plain.proofs.Issued.{grown_issued}
-use Rattle.snow_plain.proofs.Kept.{is_under, keeps, under_has, blocks-filter}
+use Rattle.snow_plain.proofs.Grown.{not_last, has_child, childless, reversed_at}
+use Rattle.snow_plain.proofs.Kept.{is_under, under_has}
 use Rattle.snow_plain.proofs.Invariant.{IsSound, IsKeptOver, sound_kept, both_kept, reached_keeps, blocks_counted, blocks_issued, issued_parent, on-reverse}
-use Rattle.snow_plain.proofs.Lookup.{IsWinner, won, none_on, stays, on_promoted, last_not_pending, counters_issued, counters_counted, counters_promoted}
+use Rattle.snow_plain.proofs.Lookup.{IsWinner, won, none_on, stays, on_promoted, counters_issued, counters_counted, counters_promoted}
 use Rattle.snow_plain.proofs.Lines.{line_of, same_block}
 use Rattle.snow_plain.proofs.Pointwise.{polled_each, grown_each}
 use Rattle.snow_plain.proofs.Excluding.{excluded_polled, excluded_stays, excluded_grown, fresh_front}

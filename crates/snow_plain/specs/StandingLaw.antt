@@ -1,12 +1,12 @@
 -- Where the counters of a board stand: where children were issued, and only there.
-use Rattle.std.specs.Prelude.{◌≡◌, ℕ, ◌≤◌, Bool, true, not, ◌&&◌, List, length, Option, Some, None, is_some, nat_lt, bytes_eq}
+use Rattle.std.specs.Prelude.{◌≡◌, ℕ, ◌≤◌, Bool, true, not, ◌&&◌, List, length, Some, None, is_some, nat_lt, bytes_eq}
 use Rattle.std.specs.Bool.{beq}
 use Rattle.std.specs.List.{list_any, starts_with}
 use Rattle.snow_base.specs.declared.header.Header.{Header}
 use Rattle.snow_base.specs.declared.vote.Vote.{Vote}
 use Rattle.snow_base.specs.Identifier.{bits}
 use Rattle.snow_base.specs.Votes.{total_count}
-use Rattle.snow_plain.specs.Board.{Board, blocks_of, counter_on, is_pending, parent_of, height_of}
+use Rattle.snow_plain.specs.Board.{Board, blocks_of, counter_on, parent_of, height_of}
 use Rattle.snow_plain.specs.Poll.{poll}
 use Rattle.snow_plain.specs.Reached.{Reached}
 use Rattle.snow_plain.specs.Excluded.{is_excluded}
