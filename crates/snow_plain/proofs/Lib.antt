@@ -21,3 +21,6 @@ pub mod Climbed
 pub mod Swept
 pub mod Polled
 pub mod Ended
+pub mod Excluding
+pub mod Standing
+pub mod Children

@@ -3,8 +3,9 @@ use Rattle.std.proofs.Common.{◌≡◌, ℕ, Bool, true, false, not, ◌&&◌, 
 use mathlib.Core.List.{reverse-cons}
 use Rattle.std.specs.Option.{option_map_or}
 use Rattle.std.proofs.lemmas.List.{map-append, reverse-append}
+use Rattle.std.proofs.lemmas.List.Folds.{list_any-append}
 use Rattle.std.proofs.lemmas.Option.{none-some, same_Some}
-use Rattle.std.proofs.lemmas.Bool.{or_parts, or_from, and_parts}
+use Rattle.std.proofs.lemmas.Bool.{or_parts, or_from, or_left, or_right, and_parts}
 use Rattle.snow_base.specs.declared.header.Header.{Header}
 use Rattle.snow_base.specs.declared.vote.Vote.{Vote}
 use Rattle.snow_base.specs.Ancestry.{descends}
@@ -101,7 +102,7 @@ found test (y ∷ xs) x h =
     record { front = y ∷ rest.front; back = rest.back; is = ap (λ l. y ∷ l) rest.is; passes = rest.passes })
 
 -- the latest first, around one block
-reversed_around : (front back : List Pending) (q : Pending) → reverse (blocks_of (front ++ q ∷ back)) ≡ reverse (blocks_of back) ++ q.block ∷ reverse (blocks_of front)
+pub reversed_around : (front back : List Pending) (q : Pending) → reverse (blocks_of (front ++ q ∷ back)) ≡ reverse (blocks_of back) ++ q.block ∷ reverse (blocks_of front)
 reversed_around front back q =
     ap reverse (map-append (λ q. q.block) front (q ∷ back))
     ∙ reverse-append (blocks_of front) (blocks_of (q ∷ back))
@@ -147,6 +148,15 @@ won board child g h =
       own = rw new.0 in';
     }
 
+-- the winner is pending
+pub winner_pending : (board : Board) (child : Pending) → IsWinner board child → has_block (blocks_of board.pending) child.block.id ≡ true
+winner_pending board child w =
+    sym (has_block-reverse (blocks_of board.pending) child.block.id)
+    ∙ ap (λ l. has_block l child.block.id) w.is
+    ∙ list_any-append (λ b. bytes_eq b.id child.block.id) w.later (child.block ∷ w.earlier)
+    ∙ or_right (has_block w.later child.block.id) (has_block (child.block ∷ w.earlier) child.block.id)
+    (or_left (bytes_eq child.block.id child.block.id) (has_block w.earlier child.block.id) (id_itself child.block.id))
+
 -- ---- after an acceptance
 
 -- the blocks that stay keep their counters
@@ -159,6 +169,23 @@ filtered_in f (q ∷ pending) id h =
     (λ s. rw (s, t) (filtered_in f pending id h))
     (λ s. rw (s, t) (filtered_in f pending id h)))
 
+-- whether a pending block stays when the child is accepted
+abbrev pub stays : Board → Pending → List ℕ → Bool
+stays board child id = descends (blocks_of board.pending) child.block.id id && not (bytes_eq id child.block.id)
+
+-- what is on the board after an acceptance is the child, or was pending and stays
+pub on_promoted : (board : Board) (child : Pending) (id : List ℕ) → is_on (promoted board child).last (blocks_of (promoted board child).pending) id ≡ true
+    → bytes_eq child.block.id id ≡ false → (has_block (blocks_of board.pending) id ≡ true) × (stays board child id ≡ true)
+unfolding promoted
+on_promoted board child id on other =
+    let kept : has_block (blocks_of (filter (λ q. stays board child q.block.id) board.pending)) id ≡ true = rw other at on in
+    and_parts (has_block (blocks_of board.pending) id) (stays board child id)
+    (sym (ap (λ l. has_block l id) (blocks-filter (λ b. stays board child b.id) board.pending) ∙ has_filtered (stays board child) (blocks_of board.pending) id) ∙ kept)
+
+-- the last accepted block isn't pending
+pub last_not_pending : (board : Board) → IsGrown board.last (reverse (blocks_of board.pending)) → has_block (blocks_of board.pending) board.last ≡ false
+last_not_pending board g = sym (has_block-reverse (blocks_of board.pending) board.last) ∙ not_last board.last (reverse (blocks_of board.pending)) g
+
 -- what is on the board after an acceptance has the counters that it had
 pub counters_promoted : (board : Board) (child : Pending) (id : List ℕ) → IsGrown board.last (reverse (blocks_of board.pending)) → winner board ≡ Some child
     → is_on (promoted board child).last (blocks_of (promoted board child).pending) id ≡ true
@@ -166,16 +193,11 @@ pub counters_promoted : (board : Board) (child : Pending) (id : List ℕ) → Is
 unfolding promoted
 counters_promoted board child id g h on =
     let is = won board child g h in
-    let stays : List ℕ → Bool = λ id. descends (blocks_of board.pending) child.block.id id && not (bytes_eq id child.block.id) in
     split_on (bytes_eq child.block.id id)
     (λ t. rw t (sym is.own ∙ ap (counters_on board) (same_id child.block.id id t)))
     (λ t.
-    let kept : has_block (blocks_of (filter (λ q. stays q.block.id) board.pending)) id ≡ true = rw t at on in
-    let parts = and_parts (has_block (blocks_of board.pending) id) (stays id)
-    (sym (ap (λ l. has_block l id) (blocks-filter (λ b. stays b.id) board.pending) ∙ has_filtered stays (blocks_of board.pending) id) ∙ kept)
-    in
+    let parts = on_promoted board child id on t in
     split_on (bytes_eq board.last id)
     (λ s. clash (has_block (blocks_of board.pending) id) parts.0
-    (ap (has_block (blocks_of board.pending)) (sym (same_id board.last id s))
-    ∙ sym (has_block-reverse (blocks_of board.pending) board.last) ∙ not_last board.last (reverse (blocks_of board.pending)) g))
-    (λ s. rw (t, s) (filtered_in stays board.pending id parts.1)))
+    (ap (has_block (blocks_of board.pending)) (sym (same_id board.last id s)) ∙ last_not_pending board g))
+    (λ s. rw (t, s) (filtered_in (stays board child) board.pending id parts.1)))

@@ -4,6 +4,7 @@ ghost use Rattle.snow_plain.specs.PointwiseLaw.{ExcludedLaw, PollLaw, IssueLaw};
 ghost use Rattle.snow_plain.specs.AlikeLaw.{AlikeLaw};
 ghost use Rattle.snow_plain.specs.FailingLaw.{FewVotesLaw, FewVotesOnBoardLaw, FailingTwiceLaw, FailingAndAddingLaw};
 ghost use Rattle.snow_plain.specs.LineLaw.{LineLaw};
+ghost use Rattle.snow_plain.specs.StandingLaw.{StandingLaw, ChildrenStayLaw, NoneExcludedLaw};
 
 /// A bit list is excluded exactly where the counter at a proper front of it is decided, and not
 /// with the bit that follows.
@@ -65,4 +66,25 @@ pub fn failing_and_adding_law()
 #[tactic(auto, using(crate::proofs::Lines::line_law))]
 pub fn line_law()
     ensures { LineLaw }
+{}
+
+/// A counter stands where a child was issued, and only there: on a board that can be reached a block
+/// has a counter at a list of fewer than 256 bits exactly where it has a pending child whose bits
+/// begin so, and no decided counter excludes the list; it has none at longer lists.
+#[tactic(auto, using(crate::proofs::Standing::standing))]
+pub fn standing_law()
+    ensures { StandingLaw }
+{}
+
+/// No poll takes a child out while its parent stays on the board, so the children that were issued
+/// of a block on the board are pending.
+#[tactic(auto, using(crate::proofs::Children::children_stay))]
+pub fn children_stay_law()
+    ensures { ChildrenStayLaw }
+{}
+
+/// A board that can be reached keeps no counter that a decided one excludes.
+#[tactic(auto, using(crate::proofs::Standing::none_excluded))]
+pub fn none_excluded_law()
+    ensures { NoneExcludedLaw }
 {}

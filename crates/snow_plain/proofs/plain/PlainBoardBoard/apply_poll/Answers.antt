@@ -4,6 +4,7 @@ use Rattle.snow_flake.specs.Parameters.{Parameters}
 use Rattle.snow_plain.specs.Board.{Board}
 use Rattle.snow_plain.specs.Poll.{counted, settled, poll}
 use Rattle.snow_plain.specs.Shown.{Shown}
+use Rattle.snow_plain.proofs.Same.{gives_all}
 use Rattle.snow_plain.proofs.Polled.{few_votes, counted_length, poll_is, settled_counted}
 use Rattle.snow_plain.proofs.plain.PlainBoardBoard.apply_poll.Given as given
 use Rattle.snow_plain.proofs.plain.PlainBoardBoard.apply_poll.Goals as goal
@@ -86,3 +87,8 @@ returns-clause-decided g c =
     c.settle.ensures.told
     ∙ ap (λ l. l ++ (settled (length c.count.new.self.pending) c.count.new.self).1) c.clear.ensures.items
     ∙ ap (λ r. r.1) (whole g c)
+
+pub returns-clause-alike : goal.returns-clause-alike
+returns-clause-alike g c =
+    gives_all c.args.self.now.board c.args.votes.now.list c.settle.new.self c.settle.new.decisions.items
+    (returns-clause-board g c) (returns-clause-decided g c)
