@@ -23,3 +23,6 @@ pub mod Polled
 pub mod Excluding
 pub mod Standing
 pub mod Children
+pub mod Order
+pub mod Below
+pub mod Confidence

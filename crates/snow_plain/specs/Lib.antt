@@ -18,3 +18,4 @@ pub mod LineLaw
 pub mod Cursors
 pub mod Shown
 pub mod StandingLaw
+pub mod ConfidenceLaw
