@@ -24,3 +24,6 @@ pub mod Ended
 pub mod Excluding
 pub mod Standing
 pub mod Children
+pub mod Order
+pub mod Below
+pub mod Confidence

@@ -196,7 +196,7 @@ children_promoted board child id place g w on =
     g (won board child g w) on (reversed_at board.pending k d l) (same_id b.parent id (and_parts (bytes_eq b.parent id) (starts_with beq (bits b.id) place) s).0))
 
 -- the order makes no difference to what passes a test
-any-reverse : {X : Type 0} (p : X → Bool) (xs : List X) → list_any p (reverse xs) ≡ list_any p xs
+pub any-reverse : {X : Type 0} (p : X → Bool) (xs : List X) → list_any p (reverse xs) ≡ list_any p xs
 any-reverse p [] = refl
 any-reverse p (x ∷ xs) =
     ap (list_any p) (reverse-cons x xs) ∙ list_any-append p (reverse xs) (x ∷ []) ∙ ap (λ t. t || (p x || false)) (any-reverse p xs) ∙ swapped (list_any p xs) (p x)

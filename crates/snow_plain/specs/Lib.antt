@@ -19,3 +19,4 @@ pub mod LineLaw
 pub mod Cursors
 pub mod Shown
 pub mod StandingLaw
+pub mod ConfidenceLaw

@@ -5,6 +5,7 @@ ghost use Rattle.snow_plain.specs.AlikeLaw.{AlikeLaw};
 ghost use Rattle.snow_plain.specs.FailingLaw.{FewVotesLaw, FewVotesOnBoardLaw, FailingTwiceLaw, FailingAndAddingLaw};
 ghost use Rattle.snow_plain.specs.LineLaw.{LineLaw};
 ghost use Rattle.snow_plain.specs.StandingLaw.{StandingLaw, ChildrenStayLaw, NoneExcludedLaw};
+ghost use Rattle.snow_plain.specs.ConfidenceLaw.{ConfidenceLaw};
 
 /// A bit list is excluded exactly where the counter at a proper front of it is decided, and not
 /// with the bit that follows.
@@ -87,4 +88,12 @@ pub fn children_stay_law()
 #[tactic(auto, using(crate::proofs::Standing::none_excluded))]
 pub fn none_excluded_law()
     ensures { NoneExcludedLaw }
+{}
+
+/// The confidence law: on a board that can be reached, where a counter is undecided, so is each
+/// counter to which it leads, in its conflict or in one of the blocks below; and that one's
+/// confidence is at most its own, and 0 where it lies on the side other than its flake.
+#[tactic(auto, using(crate::proofs::Confidence::confident))]
+pub fn confidence_law()
+    ensures { ConfidenceLaw }
 {}
