@@ -1,8 +1,8 @@
 -- Lemmas on drawing: what positions later draws look at, and how one draw more goes on.
-use Rattle.std.proofs.Common.{◌≡◌, ℕ, zero, suc, ◌+◌, ◌-◌, ◌<◌, ◌≤◌, Bool, true, false, cond, List, [], ◌∷◌, None, Some, Option, Result, Ok, Err, map, fold, ◌==◌, refl, sym, ap, ◌∙◌, arith, inl, inr}
+use Rattle.std.proofs.Common.{◌≡◌, ℕ, zero, suc, ◌+◌, ◌-◌, ◌<◌, ◌≤◌, cond, List, [], None, Some, Option, Result, Ok, Err, map, fold, ◌==◌, refl, sym, ap, ◌∙◌, arith, inl, inr}
 use Rattle.std.specs.BTreeMap.{BTreeMap}
 use Rattle.std.specs.Option.{option_and_then}
-use Rattle.std.proofs.lemmas.Bool.{cases_Bool, cases_eq, cond-true, cond-false, cond_both, eqb-true, eq-eqb, ne_eqb, le-ltb}
+use Rattle.std.proofs.lemmas.Bool.{cases_eq, cond-true, cond-false, cond_both, eq-eqb, ne_eqb, le-ltb}
 use Rattle.snow_sample.specs.declared.draws.Draw.{Draw}
 use Rattle.snow_sample.specs.declared.roster.Node.{Node}
 use Rattle.snow_sample.specs.declared.sampling.SampleFault.{SampleFault}
@@ -10,7 +10,7 @@ use Rattle.snow_sample.specs.declared.sampling.SampleFault.TheVariants.{WordsOut
 use Rattle.snow_sample.specs.Roster.{total_weight, owner}
 use Rattle.snow_sample.specs.Words.{choice, IsRest}
 use Rattle.snow_sample.specs.Sampling.{swapped, with_unit, drawn_from, drawn, counted, or_out, sample_of, draw_count, AreOfDistinctNodes}
-use Rattle.snow_sample.specs.Kept.{unit_at, HasPlaces}
+use Rattle.snow_sample.specs.Kept.{unit_at}
 use Rattle.snow_sample.proofs.Choosing.{rest_whole, rest_rest}
 use Rattle.snow_sample.proofs.Counting.{count_more, distinct_more}
 
@@ -100,8 +100,8 @@ drawing_begins nodes k words moved own =
     let whole : k - 0 ≡ k = omega arith in
     record {
       later = ap (λ n. finished nodes [] (drawn_from n total 0 (unit_at moved) words)) whole
-        ∙ ap (finished nodes []) (same_drawn k total 0 (unit_at moved) (λ unit. unit) words (λ p h. own p))
-        ∙ from_none nodes (drawn k total words);
+          ∙ ap (finished nodes []) (same_drawn k total 0 (unit_at moved) (λ unit. unit) words (λ p h. own p))
+          ∙ from_none nodes (drawn k total words);
       within = λ p low high. rw own high;
       count = refl;
       distinct = λ i j d p q. absurd (omega arith);
@@ -127,7 +127,7 @@ drawing_more nodes k j r first words left moved more draws so_far low enough cho
     record {
       later = sym (ap (finished nodes draws) stepped ∙ one_more_unit nodes draws (units (j + r)) _) ∙ so_far.later;
       within = λ p above high. rw (behind p (omega arith))
-        (swapped_within units (j + r) j p total (so_far.within (j + r) (omega arith) (omega arith)) (so_far.within j (omega arith) (omega arith)) (so_far.within p (omega arith) high));
+          (swapped_within units (j + r) j p total (so_far.within (j + r) (omega arith) (omega arith)) (so_far.within j (omega arith) (omega arith)) (so_far.within p (omega arith) high));
       count = count_more draws (owner nodes (units (j + r))) ∙ ap (λ n. n + 1) so_far.count;
       distinct = distinct_more draws (owner nodes (units (j + r))) so_far.distinct;
       rest = rest_rest first words left so_far.rest taken;
