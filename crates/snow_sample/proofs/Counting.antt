@@ -104,6 +104,7 @@ places_new places more draws node has none updates other =
 
 -- ---- how many draws, and of which nodes
 
+-- the count of a draw
 abbrev count_of : Draw → ℕ
 count_of d = d.count
 
@@ -124,6 +125,7 @@ first_differs d draws h = λ k e p. h 0 (suc k) e (omega arith) (omega arith)
 others : (d : Draw) (draws : List Draw) → AreOfDistinctNodes (d ∷ draws) → AreOfDistinctNodes draws
 others d draws h = λ i j e p q. h (suc i) (suc j) e (omega arith) (omega arith)
 
+-- two draws are of different nodes
 abbrev Differ : Draw → Draw → Type 0
 Differ d e = d.node ≢ e.node
 

@@ -14,6 +14,7 @@ use Rattle.snow_sample.proofs.Drawing.{after_choice, drawn_step, drawn_end}
 abbrev other : ℕ → ℕ → ℕ → ℕ
 other i j p = cond (p == i) j (cond (p == j) i p)
 
+-- exchanging positions, unit by unit
 moved : (f : ℕ → ℕ) (i j p : ℕ) → swapped f i j p ≡ f (other i j p)
 moved f i j p =
     elim (p == i) as (λ a. cond a (f j) (cond (p == j) (f i) (f p)) ≡ f (cond a j (cond (p == j) i p))) [
@@ -21,12 +22,15 @@ moved f i j p =
       | false ↦ elim (p == j) as (λ b. cond b (f i) (f p) ≡ f (cond b i p)) [ true ↦ refl | false ↦ refl ]
     ]
 
+-- the one position goes to the other
 at_first : (i j p : ℕ) → p ≡ i → other i j p ≡ j
 at_first i j p is = cond-true _ j _ (eq-eqb p i is)
 
+-- and the other to the one
 at_second : (i j p : ℕ) → p ≢ i → p ≡ j → other i j p ≡ i
 at_second i j p differ is = cond-false _ j _ (ne_eqb p i differ) ∙ cond-true _ i p (eq-eqb p j is)
 
+-- each other position stays
 at_others : (i j p : ℕ) → p ≢ i → p ≢ j → other i j p ≡ p
 at_others i j p one two = cond-false _ j _ (ne_eqb p i one) ∙ cond-false _ i p (ne_eqb p j two)
 
@@ -54,6 +58,7 @@ other_within i j p total above small first from high =
     cond_both (p == i) j (cond (p == j) i p) (λ x. (j ≤ x) × (x < total)) (λ _. (omega arith, first))
     (λ _. cond_both (p == j) i p (λ x. (j ≤ x) × (x < total)) (λ _. (above, small)) (λ _. (from, high)))
 
+-- and so after an exchange
 still_apart : (i j total : ℕ) (units : ℕ → ℕ) → j ≤ i → i < total → j < total → AreApart j total units → AreApart j total (swapped units i j)
 still_apart i j total units above small first apart p q from_p high_p from_q high_q same =
     let at_p = other_within i j p total above small first from_p high_p in
@@ -91,10 +96,12 @@ taken_more k total j i units later above small first apart rest =
           rest.distinct;
     }
 
+-- the units of an answer
 abbrev units_of : Option (List ℕ × List ℕ) → List ℕ
 units_of None = []
 units_of (Some (units, left)) = units
 
+-- all draws take different units
 taken_from : (k total j : ℕ) (units : ℕ → ℕ) (words taken left : List ℕ) → j + k ≤ total → AreApart j total units
     → drawn_from k total j units words ≡ Some (taken, left) → AreTaken k total j units taken
 taken_from zero total j units words taken left enough apart is =
@@ -121,6 +128,7 @@ taken_from (suc k) total j units words taken left enough apart is =
       | Some c ↦ λ chosen now. after c chosen now
     ] refl (sym (drawn_step k total j units words) ∙ is)
 
+-- and so those of a sample
 pub taken_distinct : (k total : ℕ) (words units left : List ℕ) → k ≤ total → drawn k total words ≡ Some (units, left)
     → (length units ≡ k) × All (λ unit. unit < total) units × AllPairs (λ u v. u ≢ v) units
 taken_distinct k total words units left enough is =

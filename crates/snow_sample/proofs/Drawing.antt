@@ -41,11 +41,13 @@ swapped_within f i j p n at_i at_j at_p =
 abbrev pub after_choice : ℕ → ℕ → ℕ → (ℕ → ℕ) → ℕ × List ℕ → Option (List ℕ × List ℕ)
 after_choice k total j units (r, left) = with_unit (swapped units (j + r) j j) (drawn_from k total (j + 1) (swapped units (j + r) j) left)
 
+-- a step of the definition
 pub drawn_step : (k total j : ℕ) (units : ℕ → ℕ) (words : List ℕ)
     → drawn_from (suc k) total j units words ≡ option_and_then (after_choice k total j units) (choice (total - 1 - j) words)
 unfolding drawn_from
 drawn_step k total j units words = refl
 
+-- its end
 pub drawn_end : (total j : ℕ) (units : ℕ → ℕ) (words : List ℕ) → drawn_from zero total j units words ≡ Some ([], words)
 unfolding drawn_from
 drawn_end total j units words = refl
@@ -74,10 +76,12 @@ abbrev pub finished : List Node → List Draw → Option (List ℕ × List ℕ) 
 finished nodes draws None = Err WordsOut
 finished nodes draws (Some (units, words)) = Ok (fold counted draws (map (owner nodes) units), words)
 
+-- no draw was made so far
 pub from_none : (nodes : List Node) (o : Option (List ℕ × List ℕ)) → finished nodes [] o ≡ or_out nodes o
 from_none nodes None = refl
 from_none nodes (Some later) = refl
 
+-- a unit in front is one more draw of its node
 pub one_more_unit : (nodes : List Node) (draws : List Draw) (unit : ℕ) (o : Option (List ℕ × List ℕ))
     → finished nodes draws (with_unit unit o) ≡ finished nodes (counted draws (owner nodes unit)) o
 one_more_unit nodes draws unit None = refl

@@ -41,10 +41,12 @@ at_swapped list i j p d at_i at_j at_p =
 abbrev listed_choice : ℕ → ℕ → ℕ → List ℕ → ℕ × List ℕ → Option (List ℕ × List ℕ)
 listed_choice k total j list (r, left) = with_unit (get_or (swap list (j + r) j) j 0) (listed_from k total (j + 1) (swap list (j + r) j) left)
 
+-- a step of the definition
 listed_step : (k total j : ℕ) (list words : List ℕ) → listed_from (suc k) total j list words ≡ option_and_then (listed_choice k total j list) (choice (total - 1 - j) words)
 unfolding listed_from
 listed_step k total j list words = refl
 
+-- its end
 listed_end : (total j : ℕ) (list words : List ℕ) → listed_from zero total j list words ≡ Some ([], words)
 unfolding listed_from
 listed_end total j list words = refl

@@ -24,6 +24,7 @@ pub record HasSeen (nodes : List Node) (i : ℕ) (seen : BTreeSet (List ℕ)) : 
 next : (nodes : List Node) (i : ℕ) (n : Node) → i < length nodes → n ≡ get_or nodes i n → drop i nodes ≡ n ∷ drop (i + 1) nodes
 next nodes i n h is = drop_more nodes i n h ∙ ap (λ m. m ∷ drop (i + 1) nodes) (sym is)
 
+-- either test
 or_cond : (b c : Bool) → cond b true c ≡ (c || b)
 or_cond true true = refl
 or_cond true false = refl

@@ -9,7 +9,7 @@ use Rattle.snow_sample.specs.Sampling.{with_unit, drawn}
 unfoldable pub listed_from : ℕ → ℕ → ℕ → List ℕ → List ℕ → Option (List ℕ × List ℕ)
 listed_from zero total j units words = Some ([], words)
 listed_from (suc k) total j units words =
-    option_and_then (λ (r, left). let units = swap units (j + r) j in with_unit (slice_index units j) (listed_from k total (j + 1) units left))
+    option_and_then (λ (r, left). let moved = swap units (j + r) j in with_unit (slice_index moved j) (listed_from k total (j + 1) moved left))
     (choice (total - 1 - j) words)
 
 -- exchanging positions draws what exchanging the elements of the list 0, 1, .. draws
