@@ -19,3 +19,4 @@ pub mod Cursors
 pub mod Shown
 pub mod StandingLaw
 pub mod ConfidenceLaw
+pub mod QuorumLaw
