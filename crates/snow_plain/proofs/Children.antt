@@ -1,5 +1,5 @@
 -- Lemmas on how long the children of a block are pending: as long as the block is on the board.
-use Rattle.std.proofs.Common.{◌≡◌, ℕ, ◌≤◌, Bool, true, List, [], ◌∷◌, ◌++◌, length, map, reverse, filter, find, bytes_eq, Option, Some, None, is_some, option_map, refl, sym, ap, ◌∙◌}
+use Rattle.std.proofs.Common.{◌≡◌, ℕ, ◌≤◌, true, List, [], ◌∷◌, ◌++◌, length, map, reverse, find, bytes_eq, Option, Some, None, is_some, option_map, refl, sym, ap, ◌∙◌}
 use Rattle.std.proofs.lemmas.Option.{none-some, same_Some}
 use Rattle.std.proofs.lemmas.Bool.{or_right}
 use Rattle.snow_base.specs.declared.vote.Vote.{Vote}
@@ -12,7 +12,7 @@ use Rattle.snow_plain.specs.Reached.{Reached}
 use Rattle.snow_plain.specs.Grown.{has_block, is_on}
 use Rattle.snow_plain.proofs.Cases.{split_on, same_id}
 use Rattle.snow_plain.proofs.Invariant.{IsSound, sound_kept, reached_sound, settled_keeps}
-use Rattle.snow_plain.proofs.Lookup.{found, reversed_around, won, winner_pending, stays, on_promoted}
+use Rattle.snow_plain.proofs.Lookup.{found, reversed_around, won, sought_filtered, stays, on_promoted}
 use Rattle.snow_plain.proofs.Standing.{child_stays}
 
 -- what has a height is on the board
@@ -37,16 +37,6 @@ parents_counted : (board : Board) (votes : List Vote) (id : List ℕ) → parent
 unfolding counted
 parents_counted board votes id = parents_changed (with_votes board.parameters (blocks_of board.pending) votes) board.pending id
 
--- a block that is kept has its parent as before
-parents_filtered : (f : List ℕ → Bool) (pending : List Pending) (id : List ℕ) → f id ≡ true → parent_in (filter (λ q. f q.block.id) pending) id ≡ parent_in pending id
-parents_filtered f [] id h = refl
-parents_filtered f (q ∷ pending) id h =
-    split_on (bytes_eq q.block.id id)
-    (λ t. let here : f q.block.id ≡ true = ap f (same_id q.block.id id t) ∙ h in rw (here, t) refl)
-    (λ t. split_on (f q.block.id)
-    (λ s. rw (s, t) (parents_filtered f pending id h))
-    (λ s. rw (s, t) (parents_filtered f pending id h)))
-
 -- the child of a block is pending if the block is on the board
 abbrev IsChild : List ℕ → List ℕ → Board → Type 0
 IsChild parent child board = is_on board.last (blocks_of board.pending) parent ≡ true → parent_of board child ≡ Some parent
@@ -67,7 +57,7 @@ was_on : (board : Board) (accepted : Pending) (id : List ℕ) → IsSound board 
 was_on board accepted id sound w on =
     or_right (bytes_eq board.last id) (has_block (blocks_of board.pending) id)
     (split_on (bytes_eq accepted.block.id id)
-    (λ t. ap (has_block (blocks_of board.pending)) (sym (same_id accepted.block.id id t)) ∙ winner_pending board accepted (won board accepted sound.grown w))
+    (λ t. ap (has_block (blocks_of board.pending)) (sym (same_id accepted.block.id id t)) ∙ (won board accepted sound.grown w).pending)
     (λ t. (on_promoted board accepted id on t).0))
 
 -- an acceptance leaves it so
@@ -86,7 +76,7 @@ child_kept parent child board accepted h w = (
       ap (stays board accepted) (sym (same_id q.0.block.id child place.passes))
       ∙ child_stays board accepted parent (reverse (blocks_of place.back)) q.0.block (reverse (blocks_of place.front)) h.0.grown (won board accepted h.0.grown w) on is q.2
       in
-      parents_filtered (stays board accepted) board.pending child here ∙ h.1 (was_on board accepted parent h.0 w on),
+      ap (option_map (λ q. q.block.parent)) (sought_filtered (stays board accepted) board.pending child here) ∙ h.1 (was_on board accepted parent h.0 w on),
 )
 
 -- a child is pending as long as its parent is on the board

@@ -22,10 +22,14 @@ use Rattle.snow_plain.specs.Excluded.{is_excluded}
 use Rattle.snow_plain.specs.PointwiseLaw.{stepped_at, fresh_at}
 use Rattle.snow_plain.specs.ConfidenceLaw.{Bounds, HasConfidence}
 use Rattle.snow_plain.specs.StandingLaw.{has_child_from}
+<<<<<<< HEAD
 use Rattle.snow_plain.proofs.Cases.{split_on, clash, same_id}
 use Rattle.snow_plain.proofs.Kept.{filter-reverse, blocks-filter}
+=======
+use Rattle.snow_plain.proofs.Tests.{split_on, clash, same_id}
+>>>>>>> laws
 use Rattle.snow_plain.proofs.Invariant.{IsSound, IsKeptOver, sound_kept, both_kept, reached_keeps, blocks_counted, reversed_issued, issued_parent, issued_new}
-use Rattle.snow_plain.proofs.Lookup.{none_on, stays, counters_issued, counters_counted, counters_promoted}
+use Rattle.snow_plain.proofs.Lookup.{none_on, stays, reversed_promoted, counters_issued, counters_counted, counters_promoted}
 use Rattle.snow_plain.proofs.Lines.{child_in, one_child}
 use Rattle.snow_plain.proofs.Pointwise.{polled_each, grown_each}
 use Rattle.snow_plain.proofs.Excluding.{fresh_front}
@@ -268,13 +272,9 @@ promoted_from board child id place c sound w h =
 -- a block that is below another then was so before
 promoted_below : (board : Board) (child : Pending) (id descendant : List ℕ) (front : List Bool)
     → is_below (blocks_of (promoted board child).pending) id front descendant ≡ true → is_below (blocks_of board.pending) id front descendant ≡ true
-unfolding promoted
 promoted_below board child id descendant front h =
     let blocks = reverse (blocks_of board.pending) in
-    let e : reverse (blocks_of (filter (λ q. stays board child q.block.id) board.pending)) ≡ filter (λ b. stays board child b.id) blocks =
-    ap reverse (blocks-filter (λ b. stays board child b.id) board.pending) ∙ sym (filter-reverse (λ b. stays board child b.id) (blocks_of board.pending))
-    in
-    from (child_in (filter (λ b. stays board child b.id) blocks) id descendant) refl (ap (λ l. begins_with front (child_in l id descendant)) (sym e) ∙ h)
+    from (child_in (filter (λ b. stays board child b.id) blocks) id descendant) refl (ap (λ l. begins_with front (child_in l id descendant)) (sym (reversed_promoted board child)) ∙ h)
   where
     from : (o : Option Header) → child_in (filter (λ b. stays board child b.id) (reverse (blocks_of board.pending))) id descendant ≡ o → begins_with front o ≡ true
         → begins_with front (child_in (reverse (blocks_of board.pending)) id descendant) ≡ true

@@ -20,3 +20,4 @@ pub mod Cursors
 pub mod Shown
 pub mod StandingLaw
 pub mod ConfidenceLaw
+pub mod QuorumLaw

@@ -6,6 +6,7 @@ ghost use Rattle.snow_plain.specs.FailingLaw.{FewVotesLaw, FewVotesOnBoardLaw, F
 ghost use Rattle.snow_plain.specs.LineLaw.{LineLaw};
 ghost use Rattle.snow_plain.specs.StandingLaw.{StandingLaw, ChildrenStayLaw, NoneExcludedLaw};
 ghost use Rattle.snow_plain.specs.ConfidenceLaw.{ConfidenceLaw};
+ghost use Rattle.snow_plain.specs.QuorumLaw.{OneQuorumLaw};
 
 /// A bit list is excluded exactly where the counter at a proper front of it is decided, and not
 /// with the bit that follows.
@@ -59,6 +60,13 @@ pub fn failing_twice_law()
 #[tactic(auto, using(crate::proofs::Failing::fails_or_adds))]
 pub fn failing_and_adding_law()
     ensures { FailingAndAddingLaw }
+{}
+
+/// At each height of a board that can be reached at most one block has AlphaPreference votes, of at
+/// most K in all, for it and its descendants.
+#[tactic(auto, using(crate::proofs::Heights::one_quorum))]
+pub fn one_quorum_law()
+    ensures { OneQuorumLaw }
 {}
 
 /// By whose line a vote counts, on a board that can be reached: that a block or some ancestor of it
