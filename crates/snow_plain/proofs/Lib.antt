@@ -27,3 +27,4 @@ pub mod Order
 pub mod Below
 pub mod Confidence
 pub mod Heights
+pub mod Pruning

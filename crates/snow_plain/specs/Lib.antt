@@ -20,3 +20,5 @@ pub mod Shown
 pub mod StandingLaw
 pub mod ConfidenceLaw
 pub mod QuorumLaw
+pub mod Keeping
+pub mod KeepingLaw
