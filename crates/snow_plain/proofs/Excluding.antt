@@ -26,7 +26,7 @@ excluded_polled p votes (At c z o) (true ∷ rest) =
     (λ t. rw t refl)
 
 -- a side that is closed stays so
-closed_stays : (p : Parameters) (c : Counter) (m n : ℕ) (b : Bool) → admits c b ≡ false → admits (stepped p c m n) b ≡ false
+pub closed_stays : (p : Parameters) (c : Counter) (m n : ℕ) (b : Bool) → admits c b ≡ false → admits (stepped p c m n) b ≡ false
 closed_stays p (Decided bit) m n b h = h
 closed_stays p (Undecided s) m n b h = cc
 

@@ -21,3 +21,5 @@ pub mod Shown
 pub mod StandingLaw
 pub mod ConfidenceLaw
 pub mod QuorumLaw
+pub mod Keeping
+pub mod KeepingLaw

@@ -7,6 +7,7 @@ ghost use Rattle.snow_plain.specs.LineLaw.{LineLaw};
 ghost use Rattle.snow_plain.specs.StandingLaw.{StandingLaw, ChildrenStayLaw, NoneExcludedLaw};
 ghost use Rattle.snow_plain.specs.ConfidenceLaw.{ConfidenceLaw};
 ghost use Rattle.snow_plain.specs.QuorumLaw.{OneQuorumLaw};
+ghost use Rattle.snow_plain.specs.KeepingLaw.{KeepingLaw};
 
 /// A bit list is excluded exactly where the counter at a proper front of it is decided, and not
 /// with the bit that follows.
@@ -104,4 +105,12 @@ pub fn none_excluded_law()
 #[tactic(auto, using(crate::proofs::Confidence::confident))]
 pub fn confidence_law()
     ensures { ConfidenceLaw }
+{}
+
+/// Excluded counters are never read: after every list of issues and polls a board that kept them,
+/// and the numbers of decided counters, would have made the same decisions, and would have, by every
+/// rule, the same preference with the same path to it.
+#[tactic(auto, using(crate::proofs::Pruning::never_read))]
+pub fn keeping_law()
+    ensures { KeepingLaw }
 {}
