@@ -14,7 +14,6 @@ use Rattle.snow_plain.specs.Board.{Board, blocks_of, with_counters}
 use Rattle.snow_plain.specs.Poll.{with_votes, counted, settled, poll}
 use Rattle.snow_plain.specs.Alike.{votes_for, AreAlike, GivesAll}
 use Rattle.snow_plain.specs.declared.decision.Decision.{Decision}
-use Rattle.snow_base.specs.Votes.{total_count}
 use Rattle.snow_plain.proofs.Cases.{split_on, clash, same_id, id_itself}
 
 -- ---- the bit step reads counts by class
