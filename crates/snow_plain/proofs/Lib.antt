@@ -28,3 +28,4 @@ pub mod Below
 pub mod Confidence
 pub mod Heights
 pub mod Pruning
+pub mod FlakeDecides
