@@ -10,7 +10,7 @@ use Rattle.snow_base.specs.Votes.{total_count}
 use Rattle.snow_base.specs.Identifier.{bits}
 use Rattle.snow_base.specs.Ancestry.{line_in, begins_with, is_below, votes_below}
 use Rattle.snow_plain.specs.Grown.{IsGrown}
-use Rattle.snow_plain.proofs.Tests.{split_on, clash, same_id}
+use Rattle.snow_plain.proofs.Cases.{split_on, clash, same_id}
 use Rattle.snow_plain.proofs.Lines.{child_in, through}
 
 -- ---- fronts

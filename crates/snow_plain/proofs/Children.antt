@@ -10,7 +10,7 @@ use Rattle.snow_plain.specs.Board.{Board, blocks_of, parent_of, height_of, with_
 use Rattle.snow_plain.specs.Poll.{with_votes, counted, winner, promoted, settled, poll}
 use Rattle.snow_plain.specs.Reached.{Reached}
 use Rattle.snow_plain.specs.Grown.{has_block, is_on}
-use Rattle.snow_plain.proofs.Tests.{split_on, same_id}
+use Rattle.snow_plain.proofs.Cases.{split_on, same_id}
 use Rattle.snow_plain.proofs.Invariant.{IsSound, sound_kept, reached_sound, settled_keeps}
 use Rattle.snow_plain.proofs.Lookup.{found, reversed_around, won, sought_filtered, stays, on_promoted}
 use Rattle.snow_plain.proofs.Standing.{child_stays}

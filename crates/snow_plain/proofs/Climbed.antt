@@ -1,7 +1,6 @@
 -- Lemmas on votes that climb past the blocks, the latest first: those that came to a block are the votes below it.
-use Rattle.std.proofs.Common.{◌≡◌, ℕ, zero, suc, ◌+◌, ◌<◌, Bool, true, false, not, ◌||◌, ◌&&◌, List, [], ◌∷◌, ◌++◌, length, map, reverse, cond, sum_by, find, bytes_eq, Option, Some, None, option_map, refl, sym, ap, ◌∙◌, subst, arith, append_assoc, append-nil, if◌then◌else◌}
+use Rattle.std.proofs.Common.{◌≡◌, ℕ, ◌+◌, Bool, true, false, List, [], ◌∷◌, ◌++◌, map, reverse, sum_by, find, bytes_eq, Option, Some, None, option_map, refl, sym, ap, ◌∙◌, subst, append_assoc, append-nil, if◌then◌else◌}
 use mathlib.Core.List.{reverse-cons}
-use Rattle.std.proofs.lemmas.List.{length-map}
 use Rattle.std.proofs.lemmas.List.Folds.{fold-map}
 use Rattle.std.proofs.lemmas.Bool.{or_parts, or_left, or_right}
 use Rattle.snow_base.specs.declared.header.Header.{Header}
@@ -10,12 +9,12 @@ use Rattle.snow_base.specs.Ancestry.{line_in, child_on, begins_with, is_below, v
 use Rattle.snow_flake.specs.Parameters.{Parameters}
 use Rattle.snow_plain.specs.declared.cursor.Cursor.{Cursor}
 use Rattle.snow_plain.specs.declared.pending.Pending.{Pending}
-use Rattle.snow_plain.specs.Conflict.{Counters, all_polled}
+use Rattle.snow_plain.specs.Conflict.{all_polled}
 use Rattle.snow_plain.specs.Board.{Board, blocks_of, with_counters}
 use Rattle.snow_plain.specs.Poll.{with_votes, counted}
 use Rattle.snow_plain.specs.Cursors.{started, moved, moved_past, child_at, votes_for, votes_at, polled}
 use Rattle.snow_plain.specs.Grown.{has_block, is_on, IsGrown}
-use Rattle.snow_plain.proofs.Tests.{split_on, clash, same_id, id_itself}
+use Rattle.snow_plain.proofs.Cases.{split_on, same_id, id_itself}
 use Rattle.snow_plain.proofs.Grown.{has_child, older, not_last, grown_before, latest_childless, no_child_on, line_passes}
 
 -- ---- one vote
@@ -25,6 +24,7 @@ abbrev climbed : List Header → Cursor → Cursor
 climbed [] c = c
 climbed (b ∷ earlier) c = climbed earlier (moved b c)
 
+-- past some blocks and then past earlier ones
 climbed-append : (later earlier : List Header) (c : Cursor) → climbed (later ++ earlier) c ≡ climbed earlier (climbed later c)
 climbed-append [] earlier c = refl
 climbed-append (b ∷ later) earlier c = climbed-append later earlier (moved b c)

@@ -22,7 +22,7 @@ use Rattle.snow_plain.specs.Excluded.{is_excluded}
 use Rattle.snow_plain.specs.PointwiseLaw.{stepped_at, fresh_at}
 use Rattle.snow_plain.specs.ConfidenceLaw.{Bounds, HasConfidence}
 use Rattle.snow_plain.specs.StandingLaw.{has_child_from}
-use Rattle.snow_plain.proofs.Tests.{split_on, clash, same_id}
+use Rattle.snow_plain.proofs.Cases.{split_on, clash, same_id}
 use Rattle.snow_plain.proofs.Invariant.{IsSound, IsKeptOver, sound_kept, both_kept, reached_keeps, blocks_counted, reversed_issued, issued_parent, issued_new}
 use Rattle.snow_plain.proofs.Lookup.{none_on, stays, reversed_promoted, counters_issued, counters_counted, counters_promoted}
 use Rattle.snow_plain.proofs.Lines.{child_in, one_child}

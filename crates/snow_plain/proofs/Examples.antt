@@ -4,7 +4,7 @@ use Rattle.snow_base.specs.declared.header.Header.{Header}
 use Rattle.snow_base.specs.declared.vote.Vote.{Vote}
 use Rattle.snow_base.specs.Identifier.{bits}
 use Rattle.snow_flake.specs.Parameters.{Parameters}
-use Rattle.snow_flake.specs.Counter.{Counter, Undecided, Decided}
+use Rattle.snow_flake.specs.Counter.{Undecided, Decided}
 use Rattle.snow_flake.specs.Rule.{by_preference, by_flake}
 use Rattle.snow_plain.specs.declared.decision.Decision.{Decision}
 use Rattle.snow_plain.specs.Conflict.{with_child, all_polled, chosen, decided_path}

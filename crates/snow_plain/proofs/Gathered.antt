@@ -1,5 +1,5 @@
 -- Lemmas on votes that come to a parent: how they are counted by child, and how many there are.
-use Rattle.std.proofs.Common.{◌≡◌, ℕ, zero, suc, ◌+◌, ◌<◌, ◌≤◌, Bool, true, false, List, [], ◌∷◌, ◌++◌, length, get_or, take, drop, map, cond, sum_by, All, Option, Some, None, Result, Ok, Err, IsOk, OnOk, refl, sym, ap, ◌∙◌, subst, arith, Ordering, Less, Equal, Greater, true≢false, add-zero, zero-add}
+use Rattle.std.proofs.Common.{◌≡◌, ℕ, ◌+◌, ◌<◌, ◌≤◌, Bool, true, false, List, [], ◌∷◌, length, get_or, take, cond, Some, None, Result, Ok, Err, IsOk, OnOk, refl, sym, ap, ◌∙◌, arith, Ordering, Less, Equal, Greater, true≢false, add-zero}
 use Rattle.std.specs.Bool.{beq}
 use Rattle.std.specs.List.{starts_with}
 use Rattle.std.specs.Ordering.{bool_cmp, match_ordering}
@@ -7,7 +7,7 @@ use Rattle.std.specs.Cmp.Lexicographic.{slice_cmp}
 use Rattle.std.proofs.lemmas.List.Sums.{sum_by-cons, sum_by_more}
 use Rattle.snow_base.specs.declared.vote.Vote.{Vote}
 use Rattle.snow_base.specs.Identifier.{bits, bit_cmp}
-use Rattle.snow_base.specs.Votes.{added, total_count}
+use Rattle.snow_base.specs.Votes.{added}
 use Rattle.snow_plain.specs.declared.cursor.Cursor.{Cursor}
 use Rattle.snow_plain.specs.Conflict.{votes_on}
 use Rattle.snow_plain.specs.Cursors.{votes_for, votes_at, child_at, cursor_total}
@@ -41,6 +41,7 @@ abbrev placed : Ordering → Vote → List Vote → List ℕ → ℕ → List Vo
 placed o v votes id n =
     match_ordering o (v ∷ added votes id n) (record { id = v.id; count = v.count + n } ∷ votes) (record { id = id; count = n } ∷ v ∷ votes)
 
+-- the votes on some bits after more for one identifier
 placed_at : (o : Ordering) (v : Vote) (votes : List Vote) (id : List ℕ) (n : ℕ) (front : List Bool) → bit_cmp v.id id ≡ o
     → votes_on (added votes id n) front ≡ votes_on votes front + votes_for (Some id) n front
     → votes_on (placed o v votes id n) front ≡ votes_on (v ∷ votes) front + votes_for (Some id) n front
@@ -63,6 +64,7 @@ unfolding added
 added_at [] id n front = omega arith
 added_at (v ∷ votes) id n front = placed_at (bit_cmp v.id id) v votes id n front refl (added_at votes id n front)
 
+-- the length after more for one identifier
 placed_length : (o : Ordering) (v : Vote) (votes : List Vote) (id : List ℕ) (n : ℕ) → length (added votes id n) ≤ length votes + 1
     → length (placed o v votes id n) ≤ length (v ∷ votes) + 1
 placed_length Less v votes id n rest = omega arith

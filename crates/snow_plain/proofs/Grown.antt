@@ -1,16 +1,16 @@
 -- Lemmas on blocks that each came after their parent: which identifiers differ, and whose lines pass by whom.
-use Rattle.std.proofs.Common.{◌≡◌, ℕ, zero, suc, ◌+◌, ◌<◌, Bool, true, false, ◌||◌, List, [], ◌∷◌, ◌++◌, length, get_or, take, drop, map, reverse, bytes_eq, Option, Some, None, find, cond, refl, sym, ap, ◌∙◌, subst, arith, append_assoc, append-nil, take-append-drop, drop-cons}
+use Rattle.std.proofs.Common.{◌≡◌, ℕ, suc, ◌<◌, Bool, true, false, ◌||◌, List, [], ◌∷◌, ◌++◌, length, get_or, take, drop, reverse, bytes_eq, None, find, refl, sym, ap, ◌∙◌, append_assoc, append-nil, take-append-drop, drop-cons}
 use mathlib.Core.List.{reverse-cons}
 use Rattle.std.specs.List.{list_any}
 use Rattle.std.proofs.lemmas.List.{reverse-append, map-append}
 use Rattle.std.proofs.lemmas.List.Folds.{list_any-append}
-use Rattle.std.proofs.lemmas.Bool.{or_parts, or_from, or_left, or_right, or_cases}
+use Rattle.std.proofs.lemmas.Bool.{or_parts, or_from, or_left, or_right}
 use Rattle.snow_base.specs.declared.header.Header.{Header}
 use Rattle.snow_base.specs.Ancestry.{line_in}
 use Rattle.snow_plain.specs.declared.pending.Pending.{Pending}
 use Rattle.snow_plain.specs.Board.{blocks_of}
-use Rattle.snow_plain.specs.Grown.{has_block, is_on, IsGrown, Bare, Grew}
-use Rattle.snow_plain.proofs.Tests.{split_on, clash, same_id, id_itself}
+use Rattle.snow_plain.specs.Grown.{has_block, is_on, IsGrown, Grew}
+use Rattle.snow_plain.proofs.Cases.{split_on, clash, same_id, id_itself}
 
 -- the latest block was new
 pub grown_new : {last : List ℕ} {b : Header} {earlier : List Header} → IsGrown last (b ∷ earlier) → is_on last earlier b.id ≡ false

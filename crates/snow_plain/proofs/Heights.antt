@@ -13,7 +13,7 @@ use Rattle.snow_plain.specs.Poll.{with_votes, counted, winner, promoted}
 use Rattle.snow_plain.specs.Reached.{MayIssue, Reached}
 use Rattle.snow_plain.specs.Grown.{has_block, is_on, IsGrown}
 use Rattle.snow_plain.specs.QuorumLaw.{votes_with}
-use Rattle.snow_plain.proofs.Tests.{split_on, clash, same_id, id_same, id_itself}
+use Rattle.snow_plain.proofs.Cases.{split_on, clash, same_id, id_same, id_itself}
 use Rattle.snow_plain.proofs.Grown.{grown_parent, grown_rest, on_more}
 use Rattle.snow_plain.proofs.Kept.{is_under}
 use Rattle.snow_plain.proofs.Invariant.{IsSound, IsKeptOver, sound_kept, both_kept, reached_keeps, blocks_changed, blocks_counted, reversed_issued, on-reverse, issued_new}

@@ -1,6 +1,5 @@
 -- Lemmas on the issue of a block: only its parent's counters change, and the blocks stay grown.
-use Rattle.std.proofs.Common.{◌≡◌, ℕ, zero, suc, ◌+◌, ◌<◌, Bool, true, false, ◌||◌, List, [], ◌∷◌, ◌++◌, length, get_or, set, take, drop, map, reverse, bytes_eq, Option, Some, None, find, option_map, cond, refl, sym, ap, ◌∙◌, subst, arith, take-append-drop, drop-cons}
-use Rattle.std.specs.List.{list_any}
+use Rattle.std.proofs.Common.{◌≡◌, ℕ, suc, ◌<◌, true, false, List, [], ◌∷◌, ◌++◌, length, get_or, set, take, drop, map, reverse, bytes_eq, Some, None, find, option_map, refl, sym, ap, ◌∙◌, take-append-drop, drop-cons}
 use Rattle.std.proofs.lemmas.List.{map-append, set_split, reverse-append}
 use Rattle.std.proofs.lemmas.Bool.{or_parts, or_from, or_left, or_right}
 use Rattle.std.proofs.lemmas.Option.{none-some}
@@ -10,8 +9,8 @@ use Rattle.snow_plain.specs.Board.{Board, blocks_of, with_counters, with_issued,
 use Rattle.snow_base.specs.Identifier.{bits}
 use Rattle.snow_plain.specs.Conflict.{Counters, with_child}
 use Rattle.snow_plain.specs.Reached.{MayIssue}
-use Rattle.snow_plain.specs.Grown.{has_block, is_on, IsGrown, Bare, Grew}
-use Rattle.snow_plain.proofs.Tests.{split_on, clash, same_id, id_itself}
+use Rattle.snow_plain.specs.Grown.{has_block, is_on, IsGrown, Grew}
+use Rattle.snow_plain.proofs.Cases.{split_on, same_id}
 use Rattle.snow_plain.proofs.Grown.{older, not_last, reversed_at, has_block-reverse}
 
 -- a pending block after the issue of a child
@@ -67,7 +66,7 @@ blocks_after child [] = refl
 blocks_after child (q ∷ pending) = ap (λ l. q.block ∷ l) (blocks_after child pending)
 
 -- the latest first after an issue
-reversed_after : (child : Header) (pending : List Pending)
+pub reversed_after : (child : Header) (pending : List Pending)
     → reverse (blocks_of (map (after_issue child) pending ++ new_pending child ∷ [])) ≡ child ∷ reverse (blocks_of pending)
 reversed_after child pending =
     ap reverse (map-append (λ q. q.block) (map (after_issue child) pending) (new_pending child ∷ []))
@@ -91,7 +90,7 @@ present (q ∷ pending) id height h =
     (λ t. let k = rw t at h in or_right (bytes_eq q.block.id id) (has_block (blocks_of pending) id) (present pending id height k))
 
 -- what has no height isn't on the board
-unknown_off : (board : Board) (id : List ℕ) → height_of board id ≡ None → is_on board.last (reverse (blocks_of board.pending)) id ≡ false
+pub unknown_off : (board : Board) (id : List ℕ) → height_of board id ≡ None → is_on board.last (reverse (blocks_of board.pending)) id ≡ false
 unknown_off board id h =
     split_on (bytes_eq board.last id)
     (λ t. let k = rw t at h in absurd (none-some board.height (sym k)))

@@ -1,20 +1,20 @@
 -- Lemmas on which pending blocks an acceptance rejects: those whose parent is the last accepted block or is rejected, but not the child.
-use Rattle.std.proofs.Common.{◌≡◌, ℕ, zero, suc, ◌+◌, ◌<◌, ◌≤◌, Bool, true, false, not, ◌||◌, ◌&&◌, List, [], ◌∷◌, ◌++◌, length, get_or, take, drop, map, reverse, remove, filter, cond, bytes_eq, All, refl, sym, ap, ◌∙◌, subst, arith, append_assoc, take-append-drop, length-append, drop_at, ◌-◌}
+use Rattle.std.proofs.Common.{◌≡◌, ℕ, suc, ◌+◌, ◌<◌, ◌≤◌, Bool, true, false, not, ◌||◌, ◌&&◌, List, [], ◌∷◌, ◌++◌, length, get_or, take, drop, map, reverse, filter, cond, bytes_eq, refl, sym, ap, ◌∙◌, subst, arith, append_assoc, take-append-drop, length-append, drop_at, ◌-◌}
 use Rattle.std.specs.List.{list_any}
 use Rattle.std.proofs.lemmas.List.{map-append, take_rest, length-map}
 use Rattle.std.proofs.lemmas.List.Elements.{filter_more, filter-append}
-use Rattle.std.proofs.lemmas.Bool.{or_parts, or_from, or_left, or_right, not_from_true, not_from_false}
+use Rattle.std.proofs.lemmas.Bool.{or_left, or_right}
 use Rattle.snow_base.specs.declared.header.Header.{Header}
 use Rattle.snow_base.specs.Ancestry.{line_in, descends}
 use Rattle.snow_plain.specs.declared.decision.Decision.{Decision}
 use Rattle.snow_plain.specs.declared.pending.Pending.{Pending}
 use Rattle.snow_plain.specs.Board.{blocks_of}
-use Rattle.snow_plain.specs.Poll.{accepts, rejects}
-use Rattle.snow_plain.specs.Acceptance.{outsiders, descendants, has_decision, is_rejected}
+use Rattle.snow_plain.specs.Poll.{rejects}
+use Rattle.snow_plain.specs.Acceptance.{outsiders, has_decision, is_rejected}
 use Rattle.snow_plain.specs.Grown.{has_block, is_on, IsGrown}
-use Rattle.snow_plain.proofs.Tests.{split_on, clash, same_id, id_same, id_itself, differs_back}
+use Rattle.snow_plain.proofs.Cases.{split_on, same_id, id_itself}
 use Rattle.snow_plain.proofs.Grown.{grown_parent, grown_rest, grown_before, on_more, older, not_last, no_line, line_passes, reversed_at, has_block-reverse}
-use Rattle.snow_plain.proofs.Kept.{filter_on, blocks-filter, has_filtered, has_own}
+use Rattle.snow_plain.proofs.Kept.{blocks-filter, has_filtered}
 
 -- a block is told as rejected where it is among those that are
 pub told_rejects : (pending : List Pending) (id : List ℕ) → has_decision (map rejects pending) id ≡ has_block (blocks_of pending) id

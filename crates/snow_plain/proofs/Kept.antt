@@ -1,5 +1,5 @@
 -- Lemmas on the blocks that stay after an acceptance: each still came after its parent.
-use Rattle.std.proofs.Common.{◌≡◌, ℕ, zero, suc, ◌+◌, ◌<◌, Bool, true, false, not, ◌||◌, ◌&&◌, List, [], ◌∷◌, ◌++◌, length, get_or, map, reverse, filter, cond, bytes_eq, All, refl, sym, ap, ◌∙◌, subst, arith, append-nil, true≢false}
+use Rattle.std.proofs.Common.{◌≡◌, ℕ, zero, suc, ◌<◌, Bool, true, false, not, ◌&&◌, List, [], ◌∷◌, ◌++◌, length, get_or, reverse, filter, bytes_eq, All, refl, sym, ap, ◌∙◌, subst, arith, append-nil, true≢false}
 use mathlib.Core.List.{reverse-cons}
 use Rattle.std.specs.List.{list_any}
 use Rattle.std.proofs.lemmas.List.Elements.{All-head, All-tail, filter-append}
@@ -10,8 +10,8 @@ use Rattle.snow_plain.specs.declared.pending.Pending.{Pending}
 use Rattle.snow_plain.specs.Board.{blocks_of}
 use Rattle.snow_plain.specs.Acceptance.{descendants}
 use Rattle.snow_plain.specs.Grown.{has_block, is_on, IsGrown, Bare, Grew}
-use Rattle.snow_plain.proofs.Tests.{split_on, clash, same_id, id_itself, differs_back}
-use Rattle.snow_plain.proofs.Grown.{grown_new, grown_parent, grown_rest, no_line}
+use Rattle.snow_plain.proofs.Cases.{split_on, clash, same_id, id_itself, differs_back}
+use Rattle.snow_plain.proofs.Grown.{grown_new, grown_rest, no_line}
 
 -- ---- filters
 

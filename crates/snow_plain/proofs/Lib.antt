@@ -3,7 +3,7 @@ pub mod Examples
 pub mod Growing
 pub mod Polling
 pub mod Walking
-pub mod Tests
+pub mod Cases
 pub mod Grown
 pub mod Issued
 pub mod Kept
@@ -20,6 +20,7 @@ pub mod Gathered
 pub mod Climbed
 pub mod Swept
 pub mod Polled
+pub mod Ended
 pub mod Excluding
 pub mod Standing
 pub mod Children

@@ -13,7 +13,7 @@ use Rattle.snow_plain.specs.Reached.{Reached}
 use Rattle.snow_plain.specs.LineLaw.{has_child_on}
 use Rattle.snow_plain.proofs.Invariant.{reached_sound}
 use Rattle.snow_plain.specs.Grown.{has_block, is_on, IsGrown}
-use Rattle.snow_plain.proofs.Tests.{split_on, clash, same_id, id_itself}
+use Rattle.snow_plain.proofs.Cases.{split_on, clash, same_id, id_itself}
 use Rattle.snow_plain.proofs.Grown.{grown_new, grown_parent, grown_rest, grown_before, on_more, older, childless, no_child_on, line_passes}
 
 -- the child of a parent on the line of a block, the latest blocks first

@@ -15,7 +15,7 @@ use Rattle.snow_plain.specs.Conflict.{Counters, Blank, all_polled, decides}
 use Rattle.snow_plain.specs.Board.{Board, blocks_of, counters_on, height_of, with_issued, with_counters, new_pending, issued}
 use Rattle.snow_plain.specs.Poll.{with_votes, counted, winner, promoted}
 use Rattle.snow_plain.specs.Grown.{has_block, is_on, IsGrown}
-use Rattle.snow_plain.proofs.Tests.{split_on, clash, same_id, id_itself}
+use Rattle.snow_plain.proofs.Cases.{split_on, clash, same_id, id_itself}
 use Rattle.snow_plain.proofs.Grown.{grown_new, grown_before, not_last, has_block-reverse}
 use Rattle.snow_plain.proofs.Kept.{filter-reverse, blocks-filter, has_filtered}
 use Rattle.snow_plain.proofs.Settled.{wins}

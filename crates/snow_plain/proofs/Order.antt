@@ -6,7 +6,7 @@ use Rattle.std.proofs.lemmas.Bool.{le-ltb, ltb-false, le-leb, lt-leb, leb-true, 
 use Rattle.snow_flake.specs.Parameters.{Parameters, AreGood}
 use Rattle.snow_flake.specs.Counter.{Class, Low, Middle, High, class, Standing, Counter, Decided, Undecided, next_confidence, followed, voted, concluded, stepped}
 use Rattle.snow_plain.specs.ConfidenceLaw.{Bounds}
-use Rattle.snow_plain.proofs.Tests.{split_on}
+use Rattle.snow_plain.proofs.Cases.{split_on}
 use Rattle.snow_plain.proofs.Failing.{few}
 
 -- ---- classes in order

@@ -8,7 +8,7 @@ use Rattle.snow_flake.specs.Counter.{Counter, Decided, Undecided, stepped, admit
 use Rattle.snow_plain.specs.Conflict.{Counters, Blank, At, counter_at, with_child, all_polled}
 use Rattle.snow_plain.specs.Excluded.{lets, is_excluded, IsExcluded}
 use Rattle.snow_plain.specs.PointwiseLaw.{stepped_at, grown_at, fresh_at}
-use Rattle.snow_plain.proofs.Tests.{split_on}
+use Rattle.snow_plain.proofs.Cases.{split_on}
 
 -- ---- a map
 

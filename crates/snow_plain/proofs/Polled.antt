@@ -1,5 +1,5 @@
 -- Lemmas on a whole poll: how many votes it has, what it leaves of the parameters, and that it is counting and then acceptance.
-use Rattle.std.proofs.Common.{◌≡◌, ℕ, ◌+◌, ◌<◌, ◌≤◌, List, [], ◌∷◌, length, sum_by, All, refl, sym, ap, ◌∙◌, arith}
+use Rattle.std.proofs.Common.{◌≡◌, ℕ, ◌<◌, ◌≤◌, List, [], ◌∷◌, length, All, refl, sym, ap, ◌∙◌, arith}
 use Rattle.std.proofs.lemmas.List.{length-map}
 use Rattle.std.proofs.lemmas.List.Elements.{All-head, All-tail}
 use Rattle.std.proofs.lemmas.List.Sums.{sum_by-cons}
@@ -33,3 +33,8 @@ poll_is board votes = ap (λ n. settled n (counted board votes)) (counted_length
 -- a poll leaves the parameters as they are
 pub settled_counted : (board : Board) (votes : List Vote) (n : ℕ) → (settled n (counted board votes)).0.parameters ≡ board.parameters
 settled_counted board votes n = settled_parameters n (counted board votes) ∙ counted_parameters board votes
+
+-- the same of the whole
+pub poll_parameters : (board : Board) (votes : List Vote) → (poll board votes).0.parameters ≡ board.parameters
+poll_parameters board votes =
+    ap (λ r. r.0.parameters) (sym (poll_is board votes)) ∙ settled_counted board votes (length (counted board votes).pending)

@@ -20,7 +20,7 @@ use Rattle.snow_plain.specs.Poll.{with_votes, counted, winner, accepts, rejects,
 use Rattle.snow_plain.specs.Preference.{path_from, end_of, preferred, preferred_path}
 use Rattle.snow_plain.specs.Keeping.{Whole, Empty, Node, whole_with_child, whole_polled, seen, WholePending, WholeBoard, whole_begin, seen_pending, seen_board, with_whole, grown_whole, whole_issued, polled_whole, whole_counted, whole_winner, whole_promoted, whole_accepted_then, whole_settled, whole_poll}
 use Rattle.snow_plain.specs.KeepingLaw.{Round, Issue, Poll, run, whole_run}
-use Rattle.snow_plain.proofs.Tests.{split_on, clash}
+use Rattle.snow_plain.proofs.Cases.{split_on, clash}
 use Rattle.snow_plain.proofs.Excluding.{closed_stays}
 
 -- the counters that they are, without those behind decided ones

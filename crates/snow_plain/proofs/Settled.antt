@@ -1,8 +1,7 @@
 -- Lemmas on acceptance while there is a winner: one step, and that the number of pending blocks is fuel enough.
-use Rattle.std.proofs.Common.{◌≡◌, ℕ, zero, suc, ◌+◌, ◌<◌, ◌≤◌, Bool, true, false, not, ◌&&◌, List, [], ◌∷◌, ◌++◌, length, get_or, filter, find, position, cond, ltb, bytes_eq, Option, Some, None, slice_get, refl, sym, ap, ◌∙◌, subst, arith, append_assoc, append-nil}
+use Rattle.std.proofs.Common.{◌≡◌, ℕ, zero, suc, ◌+◌, ◌<◌, ◌≤◌, Bool, true, false, not, ◌&&◌, List, [], ◌∷◌, ◌++◌, length, filter, find, position, cond, ltb, bytes_eq, Option, Some, None, slice_get, refl, sym, ap, ◌∙◌, subst, arith, append_assoc, append-nil}
 use Rattle.std.specs.List.{position_or_len}
 use Rattle.std.proofs.lemmas.List.Folds.{find_at}
-use Rattle.std.proofs.lemmas.List.Sums.{prefix_len-le-length}
 use Rattle.std.proofs.lemmas.Option.{none-some, same_Some, slice_get_past}
 use Rattle.std.proofs.lemmas.Bool.{and_right, ltb-false, ltb-true}
 use Rattle.snow_plain.specs.declared.decision.Decision.{Decision}
@@ -11,7 +10,7 @@ use Rattle.snow_plain.specs.Conflict.{decides}
 use Rattle.snow_plain.specs.Board.{Board}
 use Rattle.snow_plain.specs.Poll.{winner, promoted, decisions_for, stays_with, settled, and_then, accepted_then}
 use Rattle.snow_plain.specs.Acceptance.{Accepts}
-use Rattle.snow_plain.proofs.Tests.{split_on, id_itself}
+use Rattle.snow_plain.proofs.Cases.{split_on, id_itself}
 
 -- ---- the winner's place
 

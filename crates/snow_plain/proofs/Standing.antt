@@ -22,7 +22,7 @@ use Rattle.snow_plain.specs.Grown.{has_block, is_on, IsGrown}
 use Rattle.snow_plain.specs.Excluded.{is_excluded}
 use Rattle.snow_plain.specs.PointwiseLaw.{stepped_at, fresh_at}
 use Rattle.snow_plain.specs.StandingLaw.{has_child_from}
-use Rattle.snow_plain.proofs.Tests.{split_on, clash, same_id, id_itself, differs_back}
+use Rattle.snow_plain.proofs.Cases.{split_on, clash, same_id, id_itself, differs_back}
 use Rattle.snow_plain.proofs.Grown.{not_last, has_child, childless, reversed_at}
 use Rattle.snow_plain.proofs.Kept.{is_under, under_has}
 use Rattle.snow_plain.proofs.Invariant.{IsSound, IsKeptOver, sound_kept, both_kept, reached_keeps, blocks_counted, blocks_issued, issued_parent, on-reverse}

@@ -1,5 +1,5 @@
 -- Lemmas on the walk over the pending blocks, the latest first, in which each takes the bit step.
-use Rattle.std.proofs.Common.{◌≡◌, ℕ, zero, suc, ◌+◌, ◌<◌, ◌≤◌, List, [], ◌∷◌, ◌++◌, length, get_or, set, take, drop, map, sum_by, All, refl, sym, ap, ◌∙◌, subst, arith, append_assoc, append-nil, map-id, take_all, drop-cons, length-take-le, add-one, take-suc}
+use Rattle.std.proofs.Common.{◌≡◌, ℕ, suc, ◌+◌, ◌<◌, List, [], ◌∷◌, ◌++◌, length, get_or, set, take, drop, map, sum_by, All, refl, sym, ap, ◌∙◌, arith, append_assoc, append-nil, map-id, take_all, drop-cons, length-take-le, add-one}
 use Rattle.std.proofs.lemmas.List.{drop_all, set_at, get_or_at, take_more}
 use Rattle.std.proofs.lemmas.List.Elements.{All-map}
 use Rattle.std.proofs.lemmas.List.Folds.{fold-map}

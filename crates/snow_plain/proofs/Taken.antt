@@ -1,10 +1,10 @@
 -- Lemmas on what an acceptance takes out of the pending blocks, and how many decisions it makes.
-use Rattle.std.proofs.Common.{◌≡◌, ℕ, zero, suc, ◌+◌, ◌<◌, ◌≤◌, Bool, true, false, not, ◌||◌, ◌&&◌, List, [], ◌∷◌, ◌++◌, length, get_or, take, drop, map, reverse, remove, filter, cond, bytes_eq, All, refl, sym, ap, ◌∙◌, subst, arith, append_assoc, take-append-drop, drop-cons, slice_get, length-append}
+use Rattle.std.proofs.Common.{◌≡◌, ℕ, zero, suc, ◌+◌, ◌<◌, ◌≤◌, Bool, true, false, not, ◌||◌, ◌&&◌, List, [], ◌∷◌, ◌++◌, length, get_or, take, drop, map, reverse, remove, filter, bytes_eq, All, refl, sym, ap, ◌∙◌, subst, arith, append_assoc, take-append-drop, drop-cons, slice_get, length-append}
 use Rattle.std.proofs.lemmas.Option.{slice_get_read}
 use Rattle.std.specs.List.{list_any}
 use Rattle.std.proofs.lemmas.List.Elements.{filter-append}
 use Rattle.std.proofs.lemmas.List.{length-map}
-use Rattle.std.proofs.lemmas.Bool.{or_parts, or_left, or_right}
+use Rattle.std.proofs.lemmas.Bool.{or_left, or_right}
 use Rattle.snow_base.specs.declared.header.Header.{Header}
 use Rattle.snow_base.specs.Ancestry.{line_in, descends}
 use Rattle.snow_plain.specs.declared.decision.Decision.{Decision}
@@ -13,7 +13,7 @@ use Rattle.snow_plain.specs.Board.{Board, blocks_of}
 use Rattle.snow_plain.specs.Poll.{accepts, rejects, promoted, decisions_for}
 use Rattle.snow_plain.specs.Acceptance.{outsiders, descendants, has_decision, Accepts}
 use Rattle.snow_plain.specs.Grown.{has_block}
-use Rattle.snow_plain.proofs.Tests.{split_on, clash, same_id, id_same, id_itself, differs_back}
+use Rattle.snow_plain.proofs.Cases.{split_on, same_id, id_same, id_itself, differs_back}
 use Rattle.snow_plain.proofs.Grown.{has_block-reverse}
 use Rattle.snow_plain.proofs.Kept.{filter_on, is_under}
 use Rattle.snow_plain.proofs.Judged.{told_kept}

@@ -1,9 +1,7 @@
 -- Codes for the values of a board, which the models of its types ask for.
-use Rattle.std.specs.Prelude.{ℕ, Bool, List, refl}
-use Rattle.std.specs.Coded.{Coded, coded_ℕ, coded_bool, coded_list, coded×, code_by}
-use Rattle.snow_base.specs.declared.header.Header.{Header}
+use Rattle.std.specs.Prelude.{ℕ, List, refl}
+use Rattle.std.specs.Coded.{Coded, coded_ℕ, coded_list, coded×, code_by}
 use Rattle.snow_flake.specs.Parameters.{Parameters}
-use Rattle.snow_plain.specs.declared.decision.Decision.{Decision}
 use Rattle.snow_plain.specs.declared.pending.Pending.{Pending}
 use Rattle.snow_plain.specs.Conflict.{Counters}
 use Rattle.snow_plain.specs.CountersCode.{coded_counters}

@@ -1,5 +1,5 @@
 -- The counters of one conflict: those of a block, for the bits of its children.
-use Rattle.std.specs.Prelude.{ℕ, Bool, true, false, List, [], ◌∷◌, ◌++◌, Option, Some, None, sum_by, if◌then◌else◌}
+use Rattle.std.specs.Prelude.{ℕ, Bool, true, false, List, [], ◌∷◌, Option, Some, None, sum_by, if◌then◌else◌}
 use Rattle.std.specs.Option.{option_map, option_map_or}
 use Rattle.std.specs.Bool.{beq}
 use Rattle.std.specs.List.{starts_with}

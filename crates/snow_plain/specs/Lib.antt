@@ -7,6 +7,7 @@ pub mod BoardCode
 pub mod Grown
 pub mod Poll
 pub mod Preference
+pub mod Ending
 pub mod Reached
 pub mod Acceptance
 pub mod Excluded

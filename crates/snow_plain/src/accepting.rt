@@ -15,7 +15,7 @@ fn is_decided(decisions: &[Decision], id: &Id) -> bool
     decisions.iter().any(|decision| decision.id == *id)
 }
 
-// Whether a block goes, where these of those issued before it do.
+// Whether a block is rejected, where these are the decisions on those issued before it.
 fn is_rejected(last: &Id, child: &Id, told: &[Decision], block: &Header) -> bool
     ensures { result ≡ is_rejected last.now child.now told.now block.now }
 {
@@ -48,8 +48,8 @@ fn drop_decided(pending: &mut Vec<Pending>, decisions: &[Decision])
     pending.retain(|entry| !is_decided(decisions, &entry.block.id));
 }
 
-/// Accepts the pending block at this place: it is taken out and told as accepted, and so are, as
-/// rejected, those that don't descend from it.
+/// Accepts the pending block at this place, and rejects those that don't descend from it. All these
+/// are taken out, and told in order: the accepted one first, then the others in order of issue.
 pub fn take_accepted(
     pending: &mut Vec<Pending>,
     last: &Id,

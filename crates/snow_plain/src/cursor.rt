@@ -1,5 +1,4 @@
 ghost use Rattle.std.specs.Prelude.{◌≡◌, ◌+◌, ◌^◌, ◌<◌, ◌≤◌, length, map, All, vec_capacity};
-ghost use Rattle.std.specs.Option.{option_map};
 
 use snow_base::{Bag, Header, Id, Vote};
 

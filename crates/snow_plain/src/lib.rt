@@ -9,8 +9,10 @@ mod cursor;
 mod decision;
 mod issuing;
 mod laws;
+mod leading;
 mod pending;
 mod plain;
+mod recording;
 mod state;
 mod tree;
 
@@ -22,3 +24,7 @@ pub use laws::{
     map_law, none_excluded_law, one_quorum_law, poll_law, standing_law,
 };
 pub use plain::PlainBoard;
+pub use recording::record_for_all;
+
+#[cfg(test)]
+mod tests;

@@ -1,21 +1,22 @@
-ghost use Rattle.std.specs.Prelude.{◌≡◌, ℕ, ◌≤◌, Bool, List, [], length, OnOk, OnErr};
-ghost use Rattle.snow_base.specs.Votes.{total_count};
-ghost use Rattle.snow_plain.specs.Board as model;
-
 use crate::board::Board;
 use crate::cursor::Cursor;
 use crate::decision::Decision;
+use crate::leading::Leading;
 use crate::state::State;
 use snow_base::{Bag, Header, Id};
 use snow_flake::{Params, Rule};
 use std::alloc::{AllocError, Global};
 use std::marker::{Model, PhantomData};
 
-/// A board with one counter for each bit list, all of which take each poll. Its rule says how the
-/// counters answer.
+/// A board with one counter for each bit list, all of which take the bit step at each poll. The
+/// rule says how they answer. A poll goes once over all counters, and for each pending block once
+/// over the votes; then once over the pending blocks for each decision. An issue goes once over the
+/// pending blocks, and walks the answers only for the first block on the preference after a poll.
 #[derive(Debug, Drop)]
 pub struct PlainBoard<R: Rule> {
     state: State,
+    // The preference of this state, which an issue seldom has to find anew.
+    leading: Leading,
     decisions: Vec<Decision>,
     // Room for the votes of a poll, and for those that came to one block, by its children.
     cursors: Vec<Cursor>,
@@ -25,7 +26,8 @@ pub struct PlainBoard<R: Rule> {
 }
 
 impl<R: Rule> Model for PlainBoard<R> {
-    ghost use Rattle.std.specs.Prelude.{◌+◌, length, vec_capacity};
+    ghost use Rattle.std.specs.Prelude.{◌≡◌, ◌+◌, length, vec_capacity};
+    ghost use Rattle.snow_plain.specs.Ending.{IsLeading};
     ghost use Rattle.snow_plain.specs.Shown.{Shown, HasRoom, coded_shown};
 
     ghost Value = { Shown };
@@ -35,7 +37,8 @@ impl<R: Rule> Model for PlainBoard<R> {
     ghost view = { λ a. record { board = a.state; decided = a.decisions.items } };
 
     ghost invariant = { λ a.
-        HasRoom a.state (vec_capacity a.decisions) (vec_capacity a.cursors) (a.children.room + length a.children.list) };
+        HasRoom a.state (vec_capacity a.decisions) (vec_capacity a.cursors) (a.children.room + length a.children.list)
+        × IsLeading R.answer a.state a.leading };
 }
 
 impl<R: Rule> Board for PlainBoard<R> {
@@ -54,6 +57,10 @@ impl<R: Rule> Board for PlainBoard<R> {
         children.reserve(votes)?;
         Ok(PlainBoard {
             state: State::begin(alloc, params, last, height),
+            leading: Leading {
+                block: last,
+                is_top: true,
+            },
             decisions: Vec::new(alloc),
             cursors,
             children,
@@ -64,7 +71,9 @@ impl<R: Rule> Board for PlainBoard<R> {
 
     fn issue(&mut self, id: Id, parent: Id, height: u64) -> Result<(), AllocError> {
         self.decisions.reserve(self.state.pending_len() + 1)?;
-        self.state.issue(self.alloc, Header { id, parent, height })?;
+        let child = Header { id, parent, height };
+        self.state.issue(self.alloc, child)?;
+        self.leading = self.leading.after_issue::<R>(&self.state, &child);
         self.decisions.clear();
         Ok(())
     }
@@ -74,6 +83,10 @@ impl<R: Rule> Board for PlainBoard<R> {
             .count(votes.entries(), &mut self.cursors, &mut self.children);
         self.decisions.clear();
         self.state.settle(&mut self.decisions);
+        self.leading = Leading {
+            block: self.state.preference::<R>(),
+            is_top: false,
+        };
     }
 
     fn decisions(&self) -> &[Decision] {
@@ -81,7 +94,7 @@ impl<R: Rule> Board for PlainBoard<R> {
     }
 
     fn preference(&self) -> Id {
-        self.state.preference::<R>()
+        self.leading.block
     }
 
     fn is_preferred(&self, id: &Id) -> bool {

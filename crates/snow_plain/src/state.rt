@@ -1,5 +1,3 @@
-ghost use Rattle.std.specs.Prelude.{◌≡◌, ℕ, ◌≤◌, Bool, List, [], length, OnOk, OnErr, reverse, map};
-
 use crate::accepting::take_accepted;
 use crate::conflict::Conflict;
 use crate::counting::poll_all;
@@ -45,18 +43,17 @@ impl Model for State {
 }
 
 impl State {
-    ghost use Rattle.std.specs.Option.{option_map};
-    ghost use Rattle.snow_plain.specs.Board.{begin, block_of, issued, is_pending, parent_of, height_of};
+    ghost use Rattle.std.specs.Prelude.{◌≡◌, ◌+◌, ◌^◌, ◌<◌, ◌≤◌, ◌++◌, ◌&&◌, true, false, length, All, OnOk, OnErr, bytes_eq, slice_get, vec_len, vec_capacity};
     ghost use Rattle.std.specs.List.{position};
-    ghost use Rattle.std.specs.Prelude.{bytes_eq, ◌&&◌};
-    ghost use Rattle.snow_plain.specs.Conflict.{decides};
-    ghost use Rattle.std.specs.Prelude.{◌+◌, ◌<◌, vec_len, vec_capacity, slice_get, true};
-    ghost use Rattle.std.specs.Prelude.{◌++◌, ◌^◌, All};
+    ghost use Rattle.std.specs.Option.{option_map};
     ghost use Rattle.snow_base.specs.Votes.{total_count};
+    ghost use Rattle.snow_plain.specs.Board.{begin, block_of, issued, is_pending, parent_of, height_of};
+    ghost use Rattle.snow_plain.specs.Conflict.{decides};
     ghost use Rattle.snow_plain.specs.Poll.{winner, settled, counted};
-    ghost use Rattle.snow_plain.specs.Acceptance.{Accepts};
-    ghost use Rattle.snow_plain.specs.Reached.{MayIssue};
     ghost use Rattle.snow_plain.specs.Preference.{preferred, is_preferred};
+    ghost use Rattle.snow_plain.specs.Ending.{has_pending_child};
+    ghost use Rattle.snow_plain.specs.Reached.{MayIssue};
+    ghost use Rattle.snow_plain.specs.Acceptance.{Accepts};
 
     /// Nothing is pending above this block.
     pub fn begin(alloc: Global, params: Params, last: Id, height: u64) -> Self
@@ -71,19 +68,15 @@ impl State {
         }
     }
 
-    /// A block is issued. After want of memory all is as before.
+    /// A block is issued: no other stands above it. After want of memory all is as before.
     pub fn issue(&mut self, alloc: Global, child: Header) -> Result<(), AllocError>
         requires { MayIssue self.old child }
         ensures ok { OnOk result (self.new ≡ issued self.old child) }
+        ensures alone { OnOk result (has_pending_child self.new.pending child.id ≡ false) }
         ensures err { OnErr result (self.new ≡ self.old) }
     {
         self.pending.reserve(1)?;
-        issue_below(
-            &self.last,
-            &mut self.counters,
-            self.pending.as_mut_slice(),
-            &child,
-        )?;
+        issue_below(&self.last, &mut self.counters, &mut self.pending, &child)?;
         self.pending.push_reserved(Pending {
             block: child,
             counters: Conflict::new(alloc),

@@ -1,8 +1,9 @@
-pub mod Numbers
-pub mod Streams
-pub mod Listed
-pub mod Fields
-pub mod Tagged
-pub mod Starting
 pub mod Events
+pub mod Examples
+pub mod Fields
+pub mod Listed
+pub mod Numbers
 pub mod Pieces
+pub mod Starting
+pub mod Streams
+pub mod Tagged

@@ -41,7 +41,8 @@ impl Decoder {
         }
     }
 
-    /// Takes the next piece of the stream. After want of memory all is as before.
+    /// Takes the next piece of the stream: its bytes come behind those that are left. After want of
+    /// memory all is as before. The bytes of frames that were given are let go once room is needed.
     pub fn feed(&mut self, piece: &[u8]) -> Result<(), AllocError>
         ensures ok { OnOk result (self.new ≡ fed self.old piece.now) }
         ensures err { OnErr result (self.new ≡ self.old) }
@@ -64,8 +65,8 @@ impl Decoder {
         self.start = 0;
     }
 
-    /// The next frame, if the whole of it came. A length above 2,097,152 is refused, and again at each
-    /// later call.
+    /// The next frame, or none where the bytes so far hold no further whole frame. A length above
+    /// 2,097,152 is refused, and again at each later call. Takes no memory.
     pub fn next(&mut self) -> Result<Option<Frame<'_>>, TooLong>
         requires { self.old.given < 2 ^ 64 - 1 }
         ensures answer { IsNext self.old result }

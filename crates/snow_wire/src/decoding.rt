@@ -9,8 +9,8 @@ use crate::skip::Skip;
 use crate::{messages, questions, setup};
 use std::alloc::Global;
 
-/// The event that a payload spells. A payload that spells none is refused at the first thing that
-/// goes wrong, reading from the front; a range is checked as soon as its field is read.
+/// The event that all bytes of a payload spell. A payload that spells none is refused with the first
+/// thing that goes wrong, reading from the front; a range is checked as soon as its field is read.
 pub fn decode(alloc: Global, payload: &[u8]) -> Result<Event, Skip>
     // The answer is what reading gives, unless memory ran out.
     ensures exact { Gives result (event_of payload.now) }

@@ -6,7 +6,8 @@ use crate::field::{Field, write_counted, write_sized, write_u32, write_u64};
 use snow_base::{Bytes, Id, Items, NodeId};
 use std::alloc::{AllocError, Global};
 
-/// The one spelling of an event whose counts and lengths are in their ranges.
+/// The one spelling of an event whose counts and lengths are in their ranges; an error is want of
+/// memory.
 #[tactic(auto, unfolding(crate::specs::Spelling::spelling))]
 pub fn encode(alloc: Global, event: &Event) -> Result<Bytes, AllocError>
     requires { IsWithinLimits event.now }

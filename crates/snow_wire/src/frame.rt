@@ -12,6 +12,7 @@ const MAX_LENGTH: u32 = 2_097_152;
 pub struct Frame<'a> {
     /// The frame's place in the stream, counted from 1.
     pub number: u64,
+    /// The bytes behind the length word, at most 2,097,152.
     pub payload: &'a [u8],
 }
 

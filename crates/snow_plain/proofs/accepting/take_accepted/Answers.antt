@@ -1,7 +1,5 @@
-use Rattle.std.proofs.Common.{◌≡◌, ℕ, ◌-◌, ◌<◌, ◌∷◌, ◌++◌, List, length, take, drop, map, remove, filter, not, sym, ap, ◌∙◌, arith}
+use Rattle.std.proofs.Common.{◌≡◌, ◌<◌, ◌∷◌, ◌++◌, length, map, filter, not, sym, ap, ◌∙◌, arith}
 use Rattle.std.proofs.lemmas.List.{get_or_default}
-use Rattle.snow_plain.specs.declared.decision.Decision.{Decision}
-use Rattle.snow_plain.specs.declared.pending.Pending.{Pending}
 use Rattle.snow_plain.specs.Poll.{accepts, rejects}
 use Rattle.snow_plain.specs.Acceptance.{outsiders, descendants, has_decision}
 use Rattle.snow_plain.proofs.Judged.{told_since}
@@ -31,6 +29,7 @@ told c =
     told_all c.args.pending.now.items child c.args.decisions.now.items c.push_reserved.new.self.items c.reject_others.new.decisions.items c.push_reserved.ensures.items
     (c.reject_others.ensures.told ∙ ap (λ l. c.push_reserved.new.self.items ++ map rejects (outsiders l child.block.id)) c.deref.ensures.value)
 
+-- the pending blocks that are left
 left : (c : After-drop_decided) → c.drop_decided.new.pending.items ≡ descendants c.args.pending.now.items c.remove-child.result.block.id
 left c =
     let items = c.args.pending.now.items in

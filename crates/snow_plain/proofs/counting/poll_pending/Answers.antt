@@ -1,4 +1,4 @@
-use Rattle.std.proofs.Common.{◌≡◌, ℕ, suc, ◌-◌, ◌<◌, ◌++◌, List, length, get_or, take, drop, map, All, sym, ap, ◌∙◌, subst, arith}
+use Rattle.std.proofs.Common.{◌≡◌, ℕ, suc, ◌-◌, ◌<◌, ◌++◌, List, length, take, drop, map, All, sym, ap, ◌∙◌, subst, arith}
 use Rattle.snow_plain.specs.declared.cursor.Cursor.{Cursor}
 use Rattle.snow_plain.specs.declared.pending.Pending.{Pending}
 use Rattle.snow_plain.specs.Board.{blocks_of}

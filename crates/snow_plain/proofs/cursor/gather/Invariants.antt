@@ -1,4 +1,4 @@
-use Rattle.std.proofs.Common.{◌≡◌, ◌+◌, ◌≤◌, length, map, take}
+use Rattle.std.proofs.Common.{◌≡◌, ◌+◌, ◌≤◌, length, take}
 use Rattle.snow_base.specs.Votes.{total_count}
 use Rattle.snow_plain.specs.Conflict.{votes_on}
 use Rattle.snow_plain.specs.Cursors.{votes_at, cursor_total}

@@ -1,14 +1,14 @@
-use Rattle.std.proofs.Common.{◌≡◌, ◌++◌, List, length, All, sym, ap, ◌∙◌, subst, arith}
-use Rattle.snow_base.specs.declared.vote.Vote.{Vote}
+use Rattle.std.proofs.Common.{◌≡◌, ◌++◌, length, sym, ap, ◌∙◌, true≢false, arith}
 use Rattle.snow_base.specs.Votes.{total_count}
 use Rattle.snow_flake.specs.Parameters.{Parameters}
 use Rattle.snow_plain.specs.Board.{Board}
 use Rattle.snow_plain.specs.Poll.{counted, settled, poll}
 use Rattle.snow_plain.specs.Shown.{Shown}
+use Rattle.snow_plain.proofs.Same.{gives_all}
 use Rattle.snow_plain.proofs.Polled.{few_votes, counted_length, poll_is, settled_counted}
 use Rattle.snow_plain.proofs.plain.PlainBoardBoard.apply_poll.Given as given
 use Rattle.snow_plain.proofs.plain.PlainBoardBoard.apply_poll.Goals as goal
-use Rattle.snow_plain.proofs.plain.PlainBoardBoard.apply_poll.Goals.{After-settle}
+use Rattle.snow_plain.proofs.plain.PlainBoardBoard.apply_poll.Goals.{After-self-1}
 
 pub count-requires-clause-room : goal.count-requires-clause-room
 count-requires-clause-room g c =
@@ -18,7 +18,7 @@ count-requires-clause-room g c =
       ap total_count c.entries.ensures.list,
       c.requires,
       ap (λ (s : Shown). s.board.parameters.k) c.self.view_is,
-      c.self.invariant.counts,
+      c.self.invariant.0.counts,
     )
 
 pub count-requires-clause-places : goal.count-requires-clause-places
@@ -29,7 +29,7 @@ count-requires-clause-places g c =
       ap total_count c.entries.ensures.list,
       c.requires,
       ap (λ (s : Shown). s.board.parameters.k) c.self.view_is,
-      c.self.invariant.gathers,
+      c.self.invariant.0.gathers,
     )
 
 pub settle-requires : goal.settle-requires
@@ -38,13 +38,13 @@ settle-requires g c =
       arith,
       c.clear.ensures.len,
       c.clear.ensures.capacity,
-      c.self.invariant.decides,
+      c.self.invariant.0.decides,
       ap (λ (b : Board). length b.pending) c.count.ensures.board,
       counted_length c.self.inside.state c.entries.result.now,
     )
 
 -- counting, and then acceptance
-whole : (g : given.Over) (c : After-settle g) → settled (length c.count.new.self.pending) c.count.new.self ≡ poll c.args.self.now.board c.args.votes.now.list
+whole : (g : given.Over) (c : After-self-1 g) → settled (length c.count.new.self.pending) c.count.new.self ≡ poll c.args.self.now.board c.args.votes.now.list
 whole g c =
     ap (λ (b : Board). settled (length b.pending) b) c.count.ensures.board
     ∙ poll_is c.self.inside.state c.entries.result.now
@@ -60,22 +60,24 @@ invariant_of-self g c =
     ∙ ap (λ (b : Board). (settled (length b.pending) b).0.parameters) count.board
     ∙ settled_counted c.self.inside.state c.entries.result.now (length (counted c.self.inside.state c.entries.result.now).pending)
     in
-    let k = ap (λ (p : Parameters). p.k) same in
-    record {
-      decides =
-          omega (
-            arith,
-            settle.fewer,
-            settle.room,
-            c.clear.ensures.len,
-            c.clear.ensures.capacity,
-            c.self.invariant.decides,
-            ap (λ (b : Board). length b.pending) count.board,
-            counted_length c.self.inside.state c.entries.result.now,
-          );
-      counts = omega (arith, k, count.room, c.self.invariant.counts);
-      gathers = omega (arith, k, count.places, c.self.invariant.gathers);
-    }
+    let k = ap (λ (p : Parameters). p.k) same in (
+      record {
+        decides =
+            omega (
+              arith,
+              settle.fewer,
+              settle.room,
+              c.clear.ensures.len,
+              c.clear.ensures.capacity,
+              c.self.invariant.0.decides,
+              ap (λ (b : Board). length b.pending) count.board,
+              counted_length c.self.inside.state c.entries.result.now,
+            );
+        counts = omega (arith, k, count.room, c.self.invariant.0.counts);
+        gathers = omega (arith, k, count.places, c.self.invariant.0.gathers);
+      },
+      record { block = c.preference.ensures; top = λ is. absurd (true≢false (sym is)) },
+    )
 
 pub returns-clause-board : goal.returns-clause-board
 returns-clause-board g c = c.settle.ensures.board ∙ ap (λ r. r.0) (whole g c)
@@ -85,3 +87,8 @@ returns-clause-decided g c =
     c.settle.ensures.told
     ∙ ap (λ l. l ++ (settled (length c.count.new.self.pending) c.count.new.self).1) c.clear.ensures.items
     ∙ ap (λ r. r.1) (whole g c)
+
+pub returns-clause-alike : goal.returns-clause-alike
+returns-clause-alike g c =
+    gives_all c.args.self.now.board c.args.votes.now.list c.settle.new.self c.settle.new.decisions.items
+    (returns-clause-board g c) (returns-clause-decided g c)

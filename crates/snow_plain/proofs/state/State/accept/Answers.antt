@@ -1,4 +1,4 @@
-use Rattle.std.proofs.Common.{◌≡◌, ℕ, ◌<◌, List, length, reverse, slice_get, true, sym, ap, subst, arith}
+use Rattle.std.proofs.Common.{List, length, reverse, slice_get, true, sym, ap, subst, arith}
 use Rattle.snow_plain.specs.declared.pending.Pending.{Pending}
 use Rattle.snow_plain.specs.Board.{Board, blocks_of}
 use Rattle.snow_plain.specs.Grown.{IsGrown}
