@@ -33,7 +33,6 @@ whole_with_child (false ∷ rest) (Node i z o) = Node i (whole_with_child rest z
 whole_with_child (true ∷ rest) (Node i z o) = Node i z (whole_with_child rest o)
 
 -- every instance takes the bit step with its own votes
--- a poll
 unfoldable pub whole_polled : Parameters → (List Bool → ℕ) → Whole → Whole
 whole_polled p votes Empty = Empty
 whole_polled p votes (Node i z o) =
@@ -128,5 +127,6 @@ unfoldable pub whole_settled : ℕ → WholeBoard → WholeBoard × List Decisio
 whole_settled zero board = (board, [])
 whole_settled (suc n) board = whole_accepted_then board (whole_winner board) (whole_settled n)
 
+-- a poll
 unfoldable pub whole_poll : WholeBoard → List Vote → WholeBoard × List Decision
 whole_poll board votes = whole_settled (length board.pending) (whole_counted board votes)
