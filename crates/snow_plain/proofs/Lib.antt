@@ -29,3 +29,4 @@ pub mod Below
 pub mod Confidence
 pub mod Heights
 pub mod Pruning
+pub mod FlakeDecides

@@ -6,8 +6,7 @@ use Rattle.snow_flake.specs.Counter.{Counter, Decided, Undecided}
 use Rattle.snow_plain.specs.Board.{Board, blocks_of, counter_on}
 use Rattle.snow_plain.specs.Reached.{Reached}
 
--- where a counter is undecided, so is one on this side of it, whose confidence is at most its own, and 0 where the
--- side isn't its flake
+-- where a counter is undecided, so is one on this side of it, with at most its confidence, and 0 where the side isn't its flake
 abbrev pub Bounds : Counter → Bool → Counter → Type 0
 Bounds (Decided bit) side lower = Unit {0}
 Bounds (Undecided s) side (Decided bit) = ⊥

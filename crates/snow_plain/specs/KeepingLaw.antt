@@ -27,8 +27,7 @@ whole_run [] board = (board, [])
 whole_run (Issue child ∷ rounds) board = whole_run rounds (whole_issued board child)
 whole_run (Poll votes ∷ rounds) board = told_and_then (whole_poll board votes).1 (whole_run rounds (whole_poll board votes).0)
 
--- after every list of issues and polls a board that keeps every counter made the same decisions, and has by every rule
--- the same preference, with the same path to it
+-- after all issues and polls a board that keeps every counter made the same decisions, and has by every rule the same preference and path to it
 abbrev pub KeepingLaw : Type 0
 KeepingLaw = (p : Parameters) (last : List ℕ) (height : ℕ) (rounds : List Round) →
     let kept : WholeBoard × List Decision = whole_run rounds (whole_begin p last height) in

@@ -15,8 +15,7 @@ use Rattle.snow_plain.specs.Excluded.{is_excluded}
 abbrev pub has_child_from : List Header → List ℕ → List Bool → Bool
 has_child_from blocks parent front = list_any (λ b. bytes_eq b.parent parent && starts_with beq (bits b.id) front) blocks
 
--- on a board that can be reached a block has a counter at a list of fewer than 256 bits exactly where it has a pending
--- child whose bits begin so, and no decided counter excludes the list; it has none at longer lists
+-- a block has counters at just those lists of fewer than 256 bits with which a pending child's bits begin and that no decided counter excludes
 abbrev pub StandingLaw : Type 0
 StandingLaw = (board : Board) (block : List ℕ) (place : List Bool) → Reached board
     → is_some (counter_on board block place)

@@ -1,6 +1,6 @@
 //! Laws of the board: what everyone who reads its definitions wants to know, each a function that
 //! does nothing and ensures the law.
-ghost use Rattle.snow_plain.specs.PointwiseLaw.{ExcludedLaw, PollLaw, IssueLaw};
+ghost use Rattle.snow_plain.specs.PointwiseLaw.{MapLaw, ExcludedLaw, PollLaw, IssueLaw};
 ghost use Rattle.snow_plain.specs.AlikeLaw.{AlikeLaw};
 ghost use Rattle.snow_plain.specs.FailingLaw.{FewVotesLaw, FewVotesOnBoardLaw, FailingTwiceLaw, FailingAndAddingLaw};
 ghost use Rattle.snow_plain.specs.LineLaw.{LineLaw};
@@ -8,6 +8,13 @@ ghost use Rattle.snow_plain.specs.StandingLaw.{StandingLaw, ChildrenStayLaw, Non
 ghost use Rattle.snow_plain.specs.ConfidenceLaw.{ConfidenceLaw};
 ghost use Rattle.snow_plain.specs.QuorumLaw.{OneQuorumLaw};
 ghost use Rattle.snow_plain.specs.KeepingLaw.{KeepingLaw};
+
+/// The counters of a conflict are a map from bit lists: those that are the same at each list are
+/// the same.
+#[tactic(auto, using(crate::proofs::Pointwise::same_map))]
+pub fn map_law()
+    ensures { MapLaw }
+{}
 
 /// A bit list is excluded exactly where the counter at a proper front of it is decided, and not
 /// with the bit that follows.
