@@ -1,0 +1,15 @@
+//! Weighted sampling of nodes without replacement, by random words that are given.
+#![tactic(auto)]
+
+mod draws;
+mod places;
+mod roster;
+mod sampling;
+mod shuffle;
+mod weighing;
+mod words;
+
+pub use draws::{Draw, Draws};
+pub use roster::{Node, Roster, RosterFault};
+pub use sampling::SampleFault;
+pub use words::Words;
