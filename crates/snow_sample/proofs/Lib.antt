@@ -1,1 +1,5 @@
+mod Choosing
+mod Counting
+mod Drawing
 mod Examples
+mod Weights

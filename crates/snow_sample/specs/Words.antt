@@ -24,5 +24,6 @@ abbrev pub choice : ℕ → List ℕ → Option (ℕ × List ℕ)
 choice n words = if is_power (n + 1) then masked n words else reduced n words
 
 -- some words were taken off the front, and these are left
-abbrev pub IsRest : List ℕ → List ℕ → Type 0
-IsRest words left = (taken : List ℕ) × (taken ++ left ≡ words)
+pub record IsRest (words left : List ℕ) : Type 0 where
+  pub taken : List ℕ
+  pub is : taken ++ left ≡ words

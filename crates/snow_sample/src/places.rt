@@ -35,6 +35,7 @@ impl Places {
             return Ok(());
         }
         self.places.insert(node, draws.list().len())?;
-        draws.push(Draw { node, count: 1 })
+        draws.push(Draw { node, count: 1 })?;
+        Ok(())
     }
 }

@@ -1,6 +1,6 @@
 ghost use Rattle.std.specs.Prelude.{◌≡◌, ◌+◌, ◌^◌, ◌<◌, ◌≤◌, [], ◌++◌, length, OnOk, OnErr, IfSome, IfNone};
 ghost use Rattle.std.specs.Option.{option_map};
-ghost use Rattle.snow_sample.specs.Words.{choice, masked, reduced};
+ghost use Rattle.snow_sample.specs.Words.{choice, masked, reduced, IsRest};
 
 use std::alloc::{AllocError, Global};
 use std::collections::VecDeque;
@@ -60,6 +60,7 @@ impl Words {
         ensures chosen { choice n self.old ≡ option_map (λ r. (r, self.new)) result }
         ensures out { IfNone result (self.new ≡ []) }
         ensures within { IfSome result (λ r. r ≤ n) }
+        ensures rest { IsRest self.old self.new }
     {
         if (n + 1).is_power_of_two() {
             mask(&mut self.words, n)
@@ -74,6 +75,7 @@ fn mask(queue: &mut VecDeque<u64>, n: u64) -> Option<u64>
     ensures masked { masked n queue.old.items ≡ option_map (λ r. (r, queue.new.items)) result }
     ensures out { IfNone result (queue.new.items ≡ []) }
     ensures within { IfSome result (λ r. r ≤ n) }
+    ensures rest { IsRest queue.old.items queue.new.items }
 {
     let word = queue.pop_front()?;
     Some(word & n)
@@ -85,6 +87,7 @@ fn reduce(queue: &mut VecDeque<u64>, n: u64) -> Option<u64>
     ensures reduced { reduced n queue.old.items ≡ option_map (λ r. (r, queue.new.items)) result }
     ensures out { IfNone result (queue.new.items ≡ []) }
     ensures within { IfSome result (λ r. r ≤ n) }
+    ensures rest { IsRest queue.old.items queue.new.items }
 {
     let greatest = LOW_BITS - (LOW_BITS + 1) % (n + 1);
     while let Some(word) = queue.pop_front() {
