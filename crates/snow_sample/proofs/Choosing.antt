@@ -1,12 +1,12 @@
 -- Lemmas on how words choose a number: powers of two, and the words that are left.
-use Rattle.std.proofs.Common.{◌≡◌, ℕ, zero, suc, ◌+◌, ◌*◌, ◌/◌, ◌-◌, ◌%◌, ◌^◌, ◌<◌, ◌≤◌, Bool, true, false, List, [], ◌∷◌, ◌++◌, length, get_or, refl, sym, ap, ◌∙◌, arith, inl, inr, ◌==◌, Some, bit_and, pow-suc, zero-add, append_assoc}
+use Rattle.std.proofs.Common.{◌≡◌, ℕ, zero, suc, ◌+◌, ◌*◌, ◌/◌, ◌-◌, ◌%◌, ◌^◌, ◌<◌, ◌≤◌, Bool, true, false, List, [], ◌∷◌, ◌++◌, length, get_or, refl, sym, ap, ◌∙◌, arith, inl, inr, ◌==◌, Option, Some, None, cond, nat_le, bit_and, pow-suc, zero-add, append_assoc}
 use Rattle.std.specs.Int.{is_power_of_two}
 use Rattle.std.specs.Int.Count.{ones, ones_step}
 use Rattle.std.specs.List.{list_any, range_with_len}
 use Rattle.std.proofs.lemmas.Bool.{cases_eq, cond-true, cond-false, eqb-true, eq-eqb, lt-leb}
 use Rattle.std.proofs.lemmas.List.Folds.{list_any_at, Any-from_list_any}
 use Rattle.std.proofs.lemmas.List.FromFn.{length-range_with_len, get_or-range_with_len}
-use Rattle.std.proofs.lemmas.Nat.{zero_from_ones, ones_cat, ones-le, pow_pos}
+use Rattle.std.proofs.lemmas.Nat.{zero_from_ones, ones_cat, ones-le, pow_pos, and_le_r}
 use Rattle.snow_sample.specs.Words.{is_power, masked, reduced, choice, IsRest}
 
 -- ---- powers of two
@@ -84,3 +84,30 @@ rest_more words left word rest = record { taken = rest.taken ++ word ∷ []; is 
 pub rest_rest : (words some left : List ℕ) → IsRest words some → IsRest some left → IsRest words left
 rest_rest words some left first second =
     record { taken = first.taken ++ second.taken; is = append_assoc first.taken second.taken left ∙ ap (λ l. first.taken ++ l) second.is ∙ first.is }
+
+-- ---- what is chosen is small enough
+
+abbrev number_of : Option (ℕ × List ℕ) → ℕ
+number_of None = 0
+number_of (Some c) = c.0
+
+within_reduced : (n r : ℕ) (words left : List ℕ) → reduced n words ≡ Some (r, left) → r ≤ n
+within_reduced n r [] left is = absurd (cc)
+within_reduced n r (word ∷ words) left is =
+    let value = bit_and word (2 ^ 63 - 1) in
+    elim (nat_le value (2 ^ 63 - 1 - 2 ^ 63 % (n + 1))) as (λ (good : Bool). cond good (Some (value % (n + 1), words)) (reduced n words) ≡ Some (r, left) → r ≤ n) [
+      | true ↦ λ h. let same : value % (n + 1) ≡ r = ap number_of h in omega arith
+      | false ↦ λ h. within_reduced n r words left h
+    ] is
+
+within_masked : (n r : ℕ) (words left : List ℕ) → masked n words ≡ Some (r, left) → r ≤ n
+within_masked n r [] left is = absurd (cc)
+within_masked n r (word ∷ words) left is = let same : bit_and word n ≡ r = ap number_of is in omega (arith, and_le_r word n)
+
+-- a number from 0 to n is chosen
+pub choice_within : (n r : ℕ) (words left : List ℕ) → choice n words ≡ Some (r, left) → r ≤ n
+choice_within n r words left is =
+    elim (is_power (n + 1)) as (λ (power : Bool). cond power (masked n words) (reduced n words) ≡ Some (r, left) → r ≤ n) [
+      | true ↦ within_masked n r words left
+      | false ↦ within_reduced n r words left
+    ] is

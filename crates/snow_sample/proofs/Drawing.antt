@@ -25,7 +25,7 @@ given units j r =
     ]
 
 -- exchanging positions that agree leaves positions that agree
-swapped_same : (f g : ℕ → ℕ) (i j p : ℕ) → f i ≡ g i → f j ≡ g j → f p ≡ g p → swapped f i j p ≡ swapped g i j p
+pub swapped_same : (f g : ℕ → ℕ) (i j p : ℕ) → f i ≡ g i → f j ≡ g j → f p ≡ g p → swapped f i j p ≡ swapped g i j p
 swapped_same f g i j p at_i at_j at_p =
     ap (λ x. cond (p == i) x (cond (p == j) (f i) (f p))) at_j
     ∙ ap (λ x. cond (p == i) (g j) (cond (p == j) x (f p))) at_i

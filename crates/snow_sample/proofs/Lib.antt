@@ -2,4 +2,5 @@ mod Choosing
 mod Counting
 mod Drawing
 mod Examples
+mod Listing
 mod Weights

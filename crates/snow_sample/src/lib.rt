@@ -2,6 +2,7 @@
 #![tactic(auto)]
 
 mod draws;
+mod laws;
 mod places;
 mod roster;
 mod sampling;
@@ -10,6 +11,7 @@ mod weighing;
 mod words;
 
 pub use draws::{Draw, Draws};
+pub use laws::whole_list_law;
 pub use roster::{Node, Roster, RosterFault};
 pub use sampling::SampleFault;
 pub use words::Words;
