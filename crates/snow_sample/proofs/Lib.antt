@@ -1,0 +1,6 @@
+mod Choosing
+mod Counting
+mod Drawing
+mod Examples
+mod Listing
+mod Weights

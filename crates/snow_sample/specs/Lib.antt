@@ -1,0 +1,5 @@
+pub mod Kept
+pub mod Law
+pub mod Roster
+pub mod Sampling
+pub mod Words

@@ -1,0 +1,79 @@
+ghost use Rattle.std.specs.Prelude.{◌≡◌, ◌+◌, ◌^◌, ◌<◌, ◌≤◌, [], ◌∷◌, ◌++◌, length, All, OnOk, OnErr};
+
+use snow_base::NodeId;
+use std::alloc::{AllocError, Global};
+use std::marker::Model;
+
+/// How often a node was drawn.
+#[derive(Clone, Copy, Debug, PartialEq, Eq)]
+pub struct Draw {
+    /// The node.
+    pub node: NodeId,
+    /// How often it was drawn, at least once.
+    pub count: u32,
+}
+
+/// The draws of a sample, in order of first draw. Contracts see the list of them.
+#[derive(Debug, Drop)]
+pub struct Draws {
+    draws: Vec<Draw>,
+}
+
+impl Model for Draws {
+    ghost use Rattle.std.specs.Prelude.{List, All, ◌≤◌};
+    ghost use Rattle.snow_sample.specs.declared.draws.Draw.{Draw};
+
+    ghost Value = { List Draw };
+
+    ghost view = { λ a. a.draws.items };
+
+    ghost invariant = { λ a. All (λ d. 1 ≤ d.count) a.draws.items };
+}
+
+impl Draws {
+    ghost use Rattle.snow_sample.specs.Kept.{one_more};
+    ghost use Rattle.snow_sample.specs.Sampling.{draw_count};
+
+    /// No draws. It takes no memory.
+    pub fn new(alloc: Global) -> Draws
+        ensures { result ≡ [] }
+    {
+        Draws {
+            draws: Vec::new(alloc),
+        }
+    }
+
+    /// Appends a draw, of a count of at least 1. After want of memory the draws are as before.
+    pub fn push(&mut self, draw: Draw) -> Result<(), AllocError>
+        requires { 1 ≤ draw.count }
+        ensures ok { OnOk result (self.new ≡ self.old ++ draw ∷ []) }
+        ensures err { OnErr result (self.new ≡ self.old) }
+    {
+        self.draws.push(draw)?;
+        Ok(())
+    }
+
+    /// The draws, in order.
+    pub fn list(&self) -> &[Draw]
+        ensures list { result.now ≡ self.now }
+        ensures counts { All (λ d. 1 ≤ d.count) result.now }
+    {
+        self.draws.as_slice()
+    }
+
+    // Counts one draw more at a place.
+    pub(crate) fn add_one(&mut self, place: usize)
+        requires place { place < length self.old }
+        requires few { draw_count self.old + 1 < 2 ^ 32 }
+        ensures { self.new ≡ one_more self.old place }
+    {
+        self.draws[place].count += 1;
+    }
+
+    /// Takes all draws out. It takes no memory.
+    pub fn clear(&mut self)
+        ensures { self.new ≡ [] }
+    {
+        self.draws.clear();
+    }
+}

@@ -1,0 +1,17 @@
+//! Weighted sampling of nodes without replacement, by random words that are given.
+#![tactic(auto)]
+
+mod draws;
+mod laws;
+mod places;
+mod roster;
+mod sampling;
+mod shuffle;
+mod weighing;
+mod words;
+
+pub use draws::{Draw, Draws};
+pub use laws::whole_list_law;
+pub use roster::{Node, Roster, RosterFault};
+pub use sampling::SampleFault;
+pub use words::Words;

@@ -1,0 +1,122 @@
+ghost use Rattle.std.specs.Prelude.{◌≡◌, ◌^◌, ◌<◌, None};
+ghost use Rattle.snow_sample.specs.Roster.{total_weight, first_fault, IsRosterOf, owner};
+
+use crate::weighing;
+use snow_base::NodeId;
+use std::alloc::{AllocError, Global};
+use std::marker::Model;
+use thiserror::Error;
+
+/// A node, and how many units of weight it has.
+#[derive(Clone, Copy, Debug, PartialEq, Eq)]
+pub struct Node {
+    /// The node.
+    pub id: NodeId,
+    /// Its units of weight.
+    pub weight: u64,
+}
+
+/// Why nodes are no roster: the first of these that holds.
+#[derive(Clone, Copy, Debug, PartialEq, Eq, Error)]
+pub enum RosterFault {
+    #[error("there is no node")]
+    Empty,
+    #[error("a node stands twice")]
+    Duplicate { node: NodeId },
+    #[error("a node has no weight")]
+    ZeroWeight { node: NodeId },
+    #[error("the weights come to more than 9,223,372,036,854,775,807")]
+    TooHeavy,
+    #[error("no memory")]
+    Memory,
+}
+
+impl From<AllocError> for RosterFault {
+    ghost use Rattle.std.specs.Prelude.{◌≡◌};
+    ghost use Rattle.snow_sample.specs.declared.roster.RosterFault.TheVariants.{Memory};
+
+    ghost from_gives = { λ _ fault. fault ≡ Memory };
+
+    fn from(_: AllocError) -> Self {
+        RosterFault::Memory
+    }
+}
+
+/// Nodes that are sampled by weight: at least one, no two the same, each with weight, and at most
+/// 2^63-1 units in all. Contracts see the list of the nodes.
+#[derive(Drop)]
+pub struct Roster {
+    alloc: Global,
+    nodes: Vec<Node>,
+    ends: Vec<u64>,
+    total: u64,
+}
+
+impl Model for Roster {
+    ghost use Rattle.std.specs.Prelude.{List};
+    ghost use Rattle.snow_sample.specs.declared.roster.Node.{Node};
+    ghost use Rattle.snow_sample.specs.Roster.{IsRoster};
+
+    ghost Value = { List Node };
+
+    ghost view = { λ a. a.nodes.items };
+
+    ghost invariant = { λ a. IsRoster a.nodes.items a.ends.items a.total };
+}
+
+impl Roster {
+    /// The roster of these nodes, in their order. `Duplicate` names the first node that stands
+    /// earlier too, and `ZeroWeight` the first without weight.
+    pub fn new(alloc: Global, nodes: &[Node]) -> Result<Roster, RosterFault>
+        ensures { IsRosterOf nodes.now result }
+    {
+        if nodes.is_empty() {
+            return Err(RosterFault::Empty);
+        }
+        if let Some(node) = weighing::find_repeated(alloc, nodes)? {
+            return Err(RosterFault::Duplicate { node });
+        }
+        if let Some(node) = weighing::find_weightless(nodes) {
+            return Err(RosterFault::ZeroWeight { node });
+        }
+        let Some(total) = weighing::total_of(nodes) else {
+            return Err(RosterFault::TooHeavy);
+        };
+        let ends = weighing::ends_of(alloc, nodes)?;
+        let nodes = Vec::from_slice(alloc, nodes)?;
+        Ok(Roster {
+            alloc,
+            nodes,
+            ends,
+            total,
+        })
+    }
+
+    /// How many units of weight there are in all.
+    pub fn total(&self) -> u64
+        ensures total { result ≡ total_weight self.now }
+        ensures small { result < 2 ^ 63 }
+    {
+        self.total
+    }
+
+    /// The nodes, in order.
+    pub fn nodes(&self) -> &[Node]
+        ensures nodes { result.now ≡ self.now }
+        ensures good { first_fault result.now ≡ None }
+    {
+        self.nodes.as_slice()
+    }
+
+    pub(crate) fn alloc(&self) -> Global {
+        self.alloc
+    }
+
+    // The node that has a unit.
+    pub(crate) fn owner(&self, unit: u64) -> NodeId
+        requires { unit < total_weight self.now }
+        ensures { result ≡ owner self.now unit }
+    {
+        self.nodes[weighing::place_of(self.ends.as_slice(), unit)].id
+    }
+}

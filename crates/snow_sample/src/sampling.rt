@@ -1,0 +1,88 @@
+ghost use Rattle.std.specs.Prelude.{◌≡◌, ◌<◌, ◌≤◌, [], Ok, Err, IfErr, OnOk, OnErr};
+ghost use Rattle.snow_sample.specs.Roster.{total_weight};
+ghost use Rattle.snow_sample.specs.Sampling.{sample_of, IsFault, draw_count, AreOfDistinctNodes};
+
+use crate::draws::Draws;
+use crate::places::Places;
+use crate::roster::Roster;
+use crate::shuffle::Shuffle;
+use crate::words::Words;
+use std::alloc::{AllocError, Global};
+use thiserror::Error;
+
+/// Why there is no sample.
+#[derive(Clone, Copy, Debug, PartialEq, Eq, Error)]
+pub enum SampleFault {
+    #[error("there are only {total} units of weight")]
+    TooFewUnits { total: u64 },
+    #[error("the random words ran out")]
+    WordsOut,
+    #[error("no memory")]
+    Memory,
+}
+
+impl From<AllocError> for SampleFault {
+    ghost use Rattle.std.specs.Prelude.{◌≡◌};
+    ghost use Rattle.snow_sample.specs.declared.sampling.SampleFault.TheVariants.{Memory};
+
+    ghost from_gives = { λ _ fault. fault ≡ Memory };
+
+    fn from(_: AllocError) -> Self {
+        SampleFault::Memory
+    }
+}
+
+impl Roster {
+    /// Draws `k` units of weight without replacement, by the words at the front of `words`, and
+    /// leaves in `out` how often each node was drawn. At a fault no draws are left: `TooFewUnits`
+    /// comes where there are fewer than `k` units, and leaves the words as they were; `WordsOut`
+    /// comes where the words don't suffice, and leaves none; after want of memory some first words
+    /// may be gone.
+    pub fn sample(&self, k: u32, words: &mut Words, out: &mut Draws) -> Result<(), SampleFault>
+        ensures sample { OnOk result (sample_of self.now k words.old ≡ Ok (out.new, words.new)) }
+        ensures few { total_weight self.now < k → result ≡ Err (SampleFault.TooFewUnits (total_weight self.now)) }
+        ensures fault { IfErr result (λ fault. IsFault (sample_of self.now k words.old) words.old fault words.new) }
+        ensures empty { OnErr result (out.new ≡ []) }
+        ensures counts { OnOk result (draw_count out.new ≡ k) }
+        ensures nodes { OnOk result (AreOfDistinctNodes out.new) }
+    {
+        out.clear();
+        if self.total() < u64::from(k) {
+            return Err(SampleFault::TooFewUnits {
+                total: self.total(),
+            });
+        }
+        let drawn = draw_all(self, k, words, out);
+        if drawn.is_err() {
+            out.clear();
+        }
+        drawn
+    }
+}
+
+// Draws `k` units, at most all, and counts the draws of their nodes.
+fn draw_all(
+    roster: &Roster,
+    k: u32,
+    words: &mut Words,
+    out: &mut Draws,
+) -> Result<(), SampleFault>
+    requires enough { k ≤ total_weight roster.now }
+    requires empty { out.old ≡ [] }
+    ensures sample { OnOk result (sample_of roster.now k words.old ≡ Ok (out.new, words.new)) }
+    ensures fault { IfErr result (λ fault. IsFault (sample_of roster.now k words.old) words.old fault words.new) }
+    ensures counts { OnOk result (draw_count out.new ≡ k) }
+    ensures nodes { OnOk result (AreOfDistinctNodes out.new) }
+{
+    let total = roster.total();
+    let mut shuffle = Shuffle::new(roster.alloc());
+    let mut places = Places::new(roster.alloc());
+    for j in 0..u64::from(k) {
+        let Some(r) = words.choose(total - 1 - j) else {
+            return Err(SampleFault::WordsOut);
+        };
+        let unit = shuffle.draw(j, r)?;
+        places.count(out, roster.owner(unit))?;
+    }
+    Ok(())
+}
