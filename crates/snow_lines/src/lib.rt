@@ -1,12 +1,15 @@
 //! The lines that the program writes, each with its one text.
 #![tactic(auto)]
 
+mod gathering;
 mod line;
 mod printing;
 mod text;
+mod why;
 
-pub use line::{DropWhy, Line, Lines, SkipKind};
+pub use line::{Line, Lines};
 pub use printing::{print, print_all};
+pub use why::{DropWhy, QueryWhy, RestartWhy, SkipKind};
 
 #[cfg(test)]
 mod tests;
