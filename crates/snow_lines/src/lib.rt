@@ -1,7 +1,9 @@
 //! The lines that the program writes, each with its one text.
 #![tactic(auto)]
 
+mod field;
 mod gathering;
+mod kind;
 mod line;
 mod printing;
 mod text;

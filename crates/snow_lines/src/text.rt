@@ -1,4 +1,5 @@
 ghost use Rattle.std.specs.Prelude.{◌≡◌, ◌+◌, ◌≤◌, [], ◌∷◌, ◌++◌, length, decimal};
+ghost use Rattle.std.specs.Str.{bytes_eq};
 ghost use Rattle.hex.specs.Hex.{encode_lower};
 ghost use Rattle.snow_sample.specs.declared.draws.Draw.{Draw};
 ghost use Rattle.snow_lines.specs.Text.{draw_word};
@@ -59,6 +60,14 @@ impl Text {
         let end = self.len + piece.len();
         self.bytes[self.len..end].copy_from_slice(piece);
         self.len = end;
+    }
+
+    /// Whether it is this word with a space in front.
+    pub fn is_spaced(&self, word: &[u8]) -> bool
+        ensures { result ≡ bytes_eq self.now (32 ∷ word.now) }
+    {
+        let bytes = self.as_slice();
+        !bytes.is_empty() && bytes[0] == b' ' && &bytes[1..] == word
     }
 
     /// Takes all bytes out.

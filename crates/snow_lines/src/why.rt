@@ -126,3 +126,97 @@ impl SkipKind {
         }
     }
 }
+
+impl DropWhy {
+    ghost use Rattle.std.specs.Prelude.{◌≡◌};
+    ghost use Rattle.snow_lines.specs.Names.{why_of};
+
+    /// The one with this word.
+    pub(crate) fn of(word: &[u8]) -> Option<Self>
+        ensures { result ≡ why_of word.now }
+    {
+        if word == b"parent".as_slice() {
+            Some(DropWhy::Parent)
+        } else if word == b"full".as_slice() {
+            Some(DropWhy::Full)
+        } else if word == b"invalid".as_slice() {
+            Some(DropWhy::Invalid)
+        } else if word == b"old".as_slice() {
+            Some(DropWhy::Old)
+        } else {
+            None
+        }
+    }
+}
+
+impl QueryWhy {
+    ghost use Rattle.std.specs.Prelude.{◌≡◌};
+    ghost use Rattle.snow_lines.specs.Names.{query_of};
+
+    /// The one with this word.
+    pub(crate) fn of(word: &[u8]) -> Option<Self>
+        ensures { result ≡ query_of word.now }
+    {
+        if word == b"full".as_slice() {
+            Some(QueryWhy::Full)
+        } else if word == b"units".as_slice() {
+            Some(QueryWhy::Units)
+        } else if word == b"words".as_slice() {
+            Some(QueryWhy::Words)
+        } else {
+            None
+        }
+    }
+}
+
+impl RestartWhy {
+    ghost use Rattle.std.specs.Prelude.{◌≡◌};
+    ghost use Rattle.snow_lines.specs.Names.{restart_of};
+
+    /// The one with this word.
+    pub(crate) fn of(word: &[u8]) -> Option<Self>
+        ensures { result ≡ restart_of word.now }
+    {
+        if word == b"frontier".as_slice() {
+            Some(RestartWhy::Frontier)
+        } else if word == b"accepted".as_slice() {
+            Some(RestartWhy::Accepted)
+        } else {
+            None
+        }
+    }
+}
+
+impl SkipKind {
+    ghost use Rattle.std.specs.Prelude.{◌≡◌};
+    ghost use Rattle.snow_lines.specs.Names.{kind_of};
+
+    /// The one with this word.
+    pub(crate) fn of(word: &[u8]) -> Option<Self>
+        ensures { result ≡ kind_of word.now }
+    {
+        if word == b"tag".as_slice() {
+            Some(SkipKind::Tag)
+        } else if word == b"short".as_slice() {
+            Some(SkipKind::Short)
+        } else if word == b"extra".as_slice() {
+            Some(SkipKind::Extra)
+        } else if word == b"count".as_slice() {
+            Some(SkipKind::Count)
+        } else if word == b"task".as_slice() {
+            Some(SkipKind::Task)
+        } else if word == b"stage".as_slice() {
+            Some(SkipKind::Stage)
+        } else if word == b"votes".as_slice() {
+            Some(SkipKind::Votes)
+        } else if word == b"full".as_slice() {
+            Some(SkipKind::Full)
+        } else if word == b"block".as_slice() {
+            Some(SkipKind::Block)
+        } else if word == b"nodes".as_slice() {
+            Some(SkipKind::Nodes)
+        } else {
+            None
+        }
+    }
+}
