@@ -1,6 +1,6 @@
-ghost use Rattle.std.specs.Prelude.{◌≡◌, ◌^◌, nat_lt, if◌then◌else◌, Some, None, IfOk};
+ghost use Rattle.std.specs.Prelude.{◌≡◌, ◌≤◌, ◌^◌, IfSome, nat_lt, length, take, drop, if◌then◌else◌, Some, None, IfOk};
 ghost use Rattle.hex.specs.Hex.{decode_of};
-ghost use Rattle.snow_lines.specs.Reading.{number_of, bytes_of, block_of, draw_of, if_digits, value_after};
+ghost use Rattle.snow_lines.specs.Reading.{number_of, bytes_of, block_of, draw_of, if_digits, if_draw, value_after};
 
 use crate::text::{Text, id_digits, node_digits};
 use hex::FromHexError;
@@ -75,15 +75,39 @@ pub fn node(word: &[u8]) -> Option<NodeId>
 /// The draw whose word it is.
 #[tactic(auto, unfolding(crate::specs::Reading::draw_of))]
 pub fn draw(word: &[u8]) -> Option<Draw>
-    ensures { result ≡ draw_of word.now }
+    ensures draw { result ≡ draw_of word.now }
+    ensures count { IfSome result (λ d. 1 ≤ d.count) }
 {
     if word.len() < 41 {
         return None;
     }
-    let node = node(&word[..40])?;
-    let count = number(&word[41..])?;
-    let draw = Draw { node, count };
-    if 1 <= count && Text::draw(&draw).is_spaced(word) {
+    let node = node(front(word, 40))?;
+    let count = number(behind(word, 41))?;
+    drawn(Draw { node, count }, word)
+}
+
+// So many bytes in front.
+fn front(word: &[u8], at: usize) -> &[u8]
+    requires { at ≤ length word.now }
+    ensures { result.now ≡ take at word.now }
+{
+    &word[..at]
+}
+
+// The bytes behind so many.
+fn behind(word: &[u8], at: usize) -> &[u8]
+    requires { at ≤ length word.now }
+    ensures { result.now ≡ drop at word.now }
+{
+    &word[at..]
+}
+
+// The draw, where the word is its.
+fn drawn(draw: Draw, word: &[u8]) -> Option<Draw>
+    ensures draw { result ≡ if_draw word.now draw }
+    ensures count { IfSome result (λ d. 1 ≤ d.count) }
+{
+    if 1 <= draw.count && Text::draw(&draw).is_spaced(word) {
         Some(draw)
     } else {
         None

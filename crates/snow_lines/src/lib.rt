@@ -8,6 +8,7 @@ mod line;
 mod printing;
 mod text;
 mod why;
+mod words;
 
 pub use line::{Line, Lines};
 pub use printing::{print, print_all};
