@@ -1,3 +1,4 @@
+pub mod Cutting
 pub mod Joined
 pub mod Printed
 pub mod Values

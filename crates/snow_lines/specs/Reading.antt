@@ -1,5 +1,5 @@
 -- Lines read from their bytes.
-use Rattle.std.specs.Prelude.{◌≡◌, ℕ, ◌+◌, ◌-◌, ◌*◌, ◌^◌, nat_lt, nat_le, if◌then◌else◌, ◌==◌, ◌&&◌, List, [], ◌∷◌, length, take, drop, codes, decimal, Option, Some, None, is_none, Result, Ok, Err}
+use Rattle.std.specs.Prelude.{◌≡◌, ℕ, ◌+◌, ◌-◌, ◌*◌, ◌^◌, ◌<◌, nat_lt, nat_le, if◌then◌else◌, ◌==◌, ◌&&◌, List, [], ◌∷◌, length, take, drop, codes, decimal, Option, Some, None, is_none, Result, Ok, Err}
 use Rattle.std.specs.List.{slice_split}
 use Rattle.std.specs.Str.{bytes_eq}
 use Rattle.hex.specs.Hex.{encode_lower, decode_of, decode_sized}
@@ -94,6 +94,15 @@ ended read = if is_none (first read.1) then Some read.0 else None
 abbrev pub Reads : {A : Type 0} → Option A → List (List ℕ) → Option (A × List (List ℕ)) → Type 0
 Reads (Some x) rest read = read ≡ Some (x, rest)
 Reads None rest read = read ≡ None
+
+-- the words of bytes
+abbrev pub split : List ℕ → List (List ℕ)
+split bytes = slice_split (λ b. b == 32) bytes
+
+-- the first word ends at this place, or is all bytes
+abbrev pub IsCut : List ℕ → Option ℕ → Type 0
+IsCut bytes None = split bytes ≡ bytes ∷ []
+IsCut bytes (Some at) = (at < length bytes) × (split bytes ≡ take at bytes ∷ split (drop (at + 1) bytes))
 
 -- ---- fields
 
@@ -241,4 +250,4 @@ before_newline bytes =
 unfoldable pub line_of : List ℕ → Option Line
 line_of bytes = do
   front ← before_newline bytes
-  words_of (slice_split (λ b. b == 32) front)
+  words_of (split front)

@@ -6,12 +6,14 @@ mod gathering;
 mod kind;
 mod line;
 mod printing;
+mod reading;
 mod text;
 mod why;
 mod words;
 
 pub use line::{Line, Lines};
 pub use printing::{print, print_all};
+pub use reading::read;
 pub use why::{DropWhy, QueryWhy, RestartWhy, SkipKind};
 
 #[cfg(test)]

@@ -2,7 +2,7 @@ ghost use Rattle.std.specs.Prelude.{◌≡◌, ◌==◌, ◌^◌, [], drop, is_n
 ghost use Rattle.std.specs.List.{slice_split};
 ghost use Rattle.std.specs.Option.{option_map};
 ghost use Rattle.snow_lines.specs.Names.{kind_of, query_of, restart_of, why_of};
-ghost use Rattle.snow_lines.specs.Reading.{Reads, asked_at, block_of, bytes_of, draw_of, field, first, id_at, items, long_at, node_at, number_at, told_at};
+ghost use Rattle.snow_lines.specs.Reading.{IsCut, Reads, block_of, bytes_of, draw_of, field, first, id_at, items, long_at, node_at, number_at, told_at};
 
 use crate::field;
 use crate::why::{DropWhy, QueryWhy, RestartWhy, SkipKind};
@@ -41,7 +41,7 @@ impl<'a> Words<'a> {
         ensures rest { self.new ≡ drop 1 self.old }
     {
         let rest = self.rest?;
-        match rest.iter().position(|byte| *byte == b' ') {
+        match space(rest) {
             None => {
                 self.rest = None;
                 Some(rest)
@@ -135,6 +135,7 @@ impl<'a> Words<'a> {
     }
 
     /// Takes all words, which are identifiers.
+    #[tactic(auto, using(crate::proofs::Cutting::listing))]
     pub fn ids(&mut self, alloc: Global) -> Result<Option<Ids>, AllocError>
         ensures { IfOk result (λ r. r ≡ items (bytes_of 32) self.old) }
     {
@@ -149,6 +150,7 @@ impl<'a> Words<'a> {
     }
 
     /// Takes all words, which are draws.
+    #[tactic(auto, using(crate::proofs::Cutting::listing))]
     pub fn draws(&mut self, alloc: Global) -> Result<Option<Draws>, AllocError>
         ensures { IfOk result (λ r. r ≡ items draw_of self.old) }
     {
@@ -163,6 +165,7 @@ impl<'a> Words<'a> {
     }
 
     /// Takes all words, which are blocks.
+    #[tactic(auto, using(crate::proofs::Cutting::listing))]
     pub fn blocks(&mut self, alloc: Global) -> Result<Option<Blocks>, AllocError>
         ensures { IfOk result (λ r. r ≡ items block_of self.old) }
     {
@@ -175,4 +178,17 @@ impl<'a> Words<'a> {
         }
         Ok(Some(blocks))
     }
+}
+
+// The place of the first space.
+#[tactic(auto, using(crate::proofs::Cutting::cut_end, crate::proofs::Cutting::cut_at, crate::proofs::Cutting::no_space_next))]
+fn space(bytes: &[u8]) -> Option<usize>
+    ensures { IsCut bytes.now result }
+{
+    for at in 0..bytes.len() {
+        if bytes[at] == b' ' {
+            return Some(at);
+        }
+    }
+    None
 }
