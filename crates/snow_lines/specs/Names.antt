@@ -35,7 +35,6 @@ line_name line.ToAccepted = codes "to-accepted"
 line_name line.ToAncestors = codes "to-ancestors"
 line_name line.ToBlock = codes "to-block"
 
-
 -- the first with this word
 abbrev pub why_of : List ℕ → Option DropWhy
 why_of word = find (λ x. bytes_eq word (why_word x)) (drop.Parent ∷ drop.Full ∷ drop.Invalid ∷ drop.Old ∷ [])

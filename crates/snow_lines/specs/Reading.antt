@@ -182,6 +182,12 @@ plain_at kind.ToChits words = chits_at words
 plain_at kind.ToFrontier words = frontier_at words
 plain_at other words = None
 
+-- a line without a list, and nothing behind it
+unfoldable pub whole_at : Kind → List (List ℕ) → Option Line
+whole_at kind words = do
+  line ← plain_at kind words
+  ended line
+
 -- a query
 unfoldable pub asks : List (List ℕ) → Option Line
 asks words = do
@@ -228,9 +234,7 @@ fields_of kind.Accepted words = asks_accepted words
 fields_of kind.ToAccepted words = tells_accepted words
 fields_of kind.ToAncestors words = tells_ancestors words
 fields_of kind.ToBlock words = tells_block words
-fields_of other words = do
-  line ← plain_at other words
-  ended line
+fields_of other words = whole_at other words
 
 -- the line with these words
 unfoldable pub words_of : List (List ℕ) → Option Line

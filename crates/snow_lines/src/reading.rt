@@ -1,6 +1,6 @@
 ghost use Rattle.std.specs.Prelude.{◌≡◌, ◌^◌, IfOk};
 ghost use Rattle.std.specs.Option.{option_map};
-ghost use Rattle.snow_lines.specs.Reading.{◌>>=◌, Reads, asked_at, both_at, bytes_of, ended, number_of, only_at, asks, asks_accepted, before_newline, chits_at, fields_of, frontier_at, line_of, plain_at, tells_accepted, tells_ancestors, tells_block, words_of};
+ghost use Rattle.snow_lines.specs.Reading.{Reads, asked_at, both_at, bytes_of, number_of, only_at, asks, asks_accepted, before_newline, chits_at, fields_of, frontier_at, line_of, plain_at, tells_accepted, tells_ancestors, tells_block, whole_at, words_of};
 ghost use Rattle.snow_lines.specs.Names.{kind_of, query_of, restart_of, why_of};
 ghost use Rattle.snow_lines.specs.declared.line.Line.TheVariants as line;
 
@@ -59,9 +59,9 @@ fn fields(alloc: Global, kind: Kind, words: &mut Words) -> Result<Option<Line>, 
     }
 }
 
-#[tactic(auto, unfolding(crate::specs::Reading::fields_of))]
+#[tactic(auto, unfolding(crate::specs::Reading::whole_at))]
 fn whole(kind: Kind, words: &mut Words) -> Option<Line>
-    ensures { result ≡ plain_at kind words.old >>= ended }
+    ensures { result ≡ whole_at kind words.old }
 {
     let line = plain(kind, words)?;
     if words.is_at_end() { Some(line) } else { None }
@@ -271,7 +271,12 @@ fn to_chits(words: &mut Words) -> Option<Line>
     let (node, number) = words.told()?;
     let preference = words.id()?;
     let last = words.id()?;
-    Some(Line::ToChits { node, number, preference, last })
+    Some(Line::ToChits {
+        node,
+        number,
+        preference,
+        last,
+    })
 }
 
 #[tactic(auto, unfolding(crate::specs::Reading::frontier_at))]
