@@ -1,5 +1,9 @@
 pub mod Cutting
+pub mod Fielded
 pub mod Joined
+pub mod Named
 pub mod Printed
+pub mod Shown
+pub mod Spelled
 pub mod Values
 pub mod Waiting
