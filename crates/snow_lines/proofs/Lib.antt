@@ -1,3 +1,4 @@
+pub mod Again
 pub mod Cutting
 pub mod Fielded
 pub mod Joined

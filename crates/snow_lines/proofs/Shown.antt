@@ -66,8 +66,8 @@ plain_shows kind.ToAncestors words r h = cc h
 plain_shows kind.ToBlock words r h = cc h
 
 -- a line of this kind whose fields are all words
-abbrev pub Reads_as : Kind → Words → Line → Type 0
-Reads_as k words l = (line_name k ≡ name l) × (words ≡ fields l ++ listed l) × IsLine l
+abbrev pub ReadsAs : Kind → Words → Line → Type 0
+ReadsAs k words l = (line_name k ≡ name l) × (words ≡ fields l ++ listed l) × IsLine l
 
 -- nothing is behind what was read
 ended_shows : {A : Type 0} (r : A × Words) (x : A) → ended r ≡ Some x → (r.0 ≡ x) × (r.1 ≡ [])
@@ -75,13 +75,13 @@ ended_shows (y, []) x h = (unsome y x h, refl)
 ended_shows (y, word ∷ words) x h = cc h
 
 -- a line without a list, and nothing behind it
-whole_shows : (k : Kind) (words : Words) (l : Line) → whole_at k words ≡ Some l → Reads_as k words l
+whole_shows : (k : Kind) (words : Words) (l : Line) → whole_at k words ≡ Some l → ReadsAs k words l
 unfolding whole_at
 whole_shows k words l h =
     let r = bind_shows (plain_at k words) ended l h in
     let end = ended_shows r.0 l r.2 in
     let shown = plain_shows k words r.0 r.1 in
-    subst (Reads_as k words) end.0
+    subst (ReadsAs k words) end.0
     (shown.0, shown.1 ∙ ap (λ ws. fields r.0.0 ++ listed r.0.0 ++ ws) end.1 ∙ append-nil (fields r.0.0 ++ listed r.0.0), shown.2)
 
 -- a list that isn't empty
@@ -94,7 +94,7 @@ some_shows (x ∷ xs) ys h = by (length (x ∷ xs) == 0) refl h
     by false e k = (unsome (x ∷ xs) ys k, omega arith)
 
 -- a query
-asks_shows : (words : Words) (l : Line) → asks words ≡ Some l → Reads_as kind.Query words l
+asks_shows : (words : Words) (l : Line) → asks words ≡ Some l → ReadsAs kind.Query words l
 unfolding asks
 asks_shows words l h =
     let n = bind_shows (number_at words) (λ n. id_at n.1 >>= (λ id. items draw_of id.1 >>= (λ ds. if_some ds >>= (λ some. Some (line.Query n.0 id.0 some))))) l h in
@@ -105,11 +105,11 @@ asks_shows words l h =
     let b = field_shows (bytes_field 32) n.0.1 id.0 id.1 in
     let c = items_shows draw_field id.0.1 ds.0 ds.1 in
     let d = some_shows ds.0 some.0 some.1 in
-    subst (Reads_as kind.Query words) (ap (line.Query n.0.0 id.0.0) d.0 ∙ unsome (line.Query n.0.0 id.0.0 some.0) l some.2)
+    subst (ReadsAs kind.Query words) (ap (line.Query n.0.0 id.0.0) d.0 ∙ unsome (line.Query n.0.0 id.0.0 some.0) l some.2)
     (refl, a.0 ∙ ap (λ ws. decimal n.0.0 ∷ ws) (b.0 ∙ ap (λ ws. encode_lower id.0.0 ∷ ws) c.0), (a.1, b.1, d.1, c.1))
 
 -- a question which of these are accepted
-asks_accepted_shows : (words : Words) (l : Line) → asks_accepted words ≡ Some l → Reads_as kind.Accepted words l
+asks_accepted_shows : (words : Words) (l : Line) → asks_accepted words ≡ Some l → ReadsAs kind.Accepted words l
 unfolding asks_accepted
 asks_accepted_shows words l h =
     let n = bind_shows (number_at words) (λ n. items (bytes_of 32) n.1 >>= (λ ids. if_some ids >>= (λ some. Some (line.Accepted n.0 some)))) l h in
@@ -118,22 +118,22 @@ asks_accepted_shows words l h =
     let a = field_shows short_field words n.0 n.1 in
     let c = items_shows (bytes_field 32) n.0.1 ids.0 ids.1 in
     let d = some_shows ids.0 some.0 some.1 in
-    subst (Reads_as kind.Accepted words) (ap (line.Accepted n.0.0) d.0 ∙ unsome (line.Accepted n.0.0 some.0) l some.2)
+    subst (ReadsAs kind.Accepted words) (ap (line.Accepted n.0.0) d.0 ∙ unsome (line.Accepted n.0.0 some.0) l some.2)
     (refl, a.0 ∙ ap (λ ws. decimal n.0.0 ∷ ws) c.0, (a.1, d.1, c.1))
 
 -- an answer which are accepted
-tells_accepted_shows : (words : Words) (l : Line) → tells_accepted words ≡ Some l → Reads_as kind.ToAccepted words l
+tells_accepted_shows : (words : Words) (l : Line) → tells_accepted words ≡ Some l → ReadsAs kind.ToAccepted words l
 unfolding tells_accepted
 tells_accepted_shows words l h =
     let told = bind_shows (told_at words) (λ told. items (bytes_of 32) told.1 >>= (λ ids. Some (line.ToAccepted told.0.0 told.0.1 ids))) l h in
     let ids = bind_shows (items (bytes_of 32) told.0.1) (λ ids. Some (line.ToAccepted told.0.0.0 told.0.0.1 ids)) l told.2 in
     let a = told_shows words told.0 told.1 in
     let c = items_shows (bytes_field 32) told.0.1 ids.0 ids.1 in
-    subst (Reads_as kind.ToAccepted words) (unsome (line.ToAccepted told.0.0.0 told.0.0.1 ids.0) l ids.2)
+    subst (ReadsAs kind.ToAccepted words) (unsome (line.ToAccepted told.0.0.0 told.0.0.1 ids.0) l ids.2)
     (refl, a.0 ∙ ap (λ ws. encode_lower told.0.0.0 ∷ decimal told.0.0.1 ∷ ws) c.0, (a.1, a.2, c.1))
 
 -- an answer of blocks
-tells_ancestors_shows : (words : Words) (l : Line) → tells_ancestors words ≡ Some l → Reads_as kind.ToAncestors words l
+tells_ancestors_shows : (words : Words) (l : Line) → tells_ancestors words ≡ Some l → ReadsAs kind.ToAncestors words l
 unfolding tells_ancestors
 tells_ancestors_shows words l h =
     let told = bind_shows (told_at words) (λ told. items block_of told.1 >>= (λ bs. if_some bs >>= (λ some. Some (line.ToAncestors told.0.0 told.0.1 some)))) l h in
@@ -142,11 +142,11 @@ tells_ancestors_shows words l h =
     let a = told_shows words told.0 told.1 in
     let c = items_shows block_field told.0.1 bs.0 bs.1 in
     let d = some_shows bs.0 some.0 some.1 in
-    subst (Reads_as kind.ToAncestors words) (ap (line.ToAncestors told.0.0.0 told.0.0.1) d.0 ∙ unsome (line.ToAncestors told.0.0.0 told.0.0.1 some.0) l some.2)
+    subst (ReadsAs kind.ToAncestors words) (ap (line.ToAncestors told.0.0.0 told.0.0.1) d.0 ∙ unsome (line.ToAncestors told.0.0.0 told.0.0.1 some.0) l some.2)
     (refl, a.0 ∙ ap (λ ws. encode_lower told.0.0.0 ∷ decimal told.0.0.1 ∷ ws) c.0, (a.1, a.2, d.1, c.1))
 
 -- an answer of a block
-tells_block_shows : (words : Words) (l : Line) → tells_block words ≡ Some l → Reads_as kind.ToBlock words l
+tells_block_shows : (words : Words) (l : Line) → tells_block words ≡ Some l → ReadsAs kind.ToBlock words l
 unfolding tells_block
 tells_block_shows words l h =
     let told = bind_shows (told_at words) (λ told. field block_of told.1 >>= (λ b. ended (line.ToBlock told.0.0 told.0.1 b.0, b.1))) l h in
@@ -154,11 +154,11 @@ tells_block_shows words l h =
     let a = told_shows words told.0 told.1 in
     let c = field_shows block_field told.0.1 b.0 b.1 in
     let end = ended_shows (line.ToBlock told.0.0.0 told.0.0.1 b.0.0, b.0.1) l b.2 in
-    subst (Reads_as kind.ToBlock words) end.0
+    subst (ReadsAs kind.ToBlock words) end.0
     (refl, a.0 ∙ ap (λ ws. encode_lower told.0.0.0 ∷ decimal told.0.0.1 ∷ ws) (c.0 ∙ ap (λ ws. block_word b.0.0 ∷ ws) end.1), (a.1, a.2, c.1))
 
 -- a line that was read
-pub fields_show : (k : Kind) (words : Words) (l : Line) → fields_of k words ≡ Some l → Reads_as k words l
+pub fields_show : (k : Kind) (words : Words) (l : Line) → fields_of k words ≡ Some l → ReadsAs k words l
 unfolding fields_of
 fields_show kind.Query words l h = asks_shows words l h
 fields_show kind.Get words l h = whole_shows kind.Get words l h

@@ -1,5 +1,8 @@
-ghost use Rattle.std.specs.Prelude.{◌≡◌, ◌^◌, IfOk};
+ghost use Rattle.std.specs.Prelude.{◌≡◌, ◌^◌, IfOk, IfSome, Some};
 ghost use Rattle.std.specs.Option.{option_map};
+ghost use Rattle.snow_lines.specs.Range.{IsLine};
+ghost use Rattle.snow_lines.specs.Text.{text};
+ghost use Rattle.snow_lines.specs.declared.line.Line.{Line};
 ghost use Rattle.snow_lines.specs.Reading.{Reads, asked_at, both_at, bytes_of, number_of, only_at, asks, asks_accepted, before_newline, chits_at, fields_of, frontier_at, line_of, plain_at, tells_accepted, tells_ancestors, tells_block, whole_at, words_of};
 ghost use Rattle.snow_lines.specs.Names.{kind_of, query_of, restart_of, why_of};
 ghost use Rattle.snow_lines.specs.declared.line.Line.TheVariants as line;
@@ -12,9 +15,18 @@ use std::alloc::{AllocError, Global};
 
 /// The line whose text the bytes are, and none where they are no line's text. It fails for want of
 /// memory alone.
-#[tactic(auto, unfolding(crate::specs::Reading::line_of))]
+#[tactic(auto, using(crate::proofs::Again::line_found, crate::proofs::Again::line_only))]
 pub fn read(alloc: Global, bytes: &[u8]) -> Result<Option<Line>, AllocError>
-    ensures exact { IfOk result (λ r. r ≡ line_of bytes.now) }
+    ensures found { IfOk result (λ r. IfSome r (λ l. IsLine l × (bytes.now ≡ text l))) }
+    ensures only { (l : Line) → IsLine l → bytes.now ≡ text l → IfOk result (λ r. r ≡ Some l) }
+{
+    read_line(alloc, bytes)
+}
+
+// The line that is read from the bytes.
+#[tactic(auto, unfolding(crate::specs::Reading::line_of))]
+fn read_line(alloc: Global, bytes: &[u8]) -> Result<Option<Line>, AllocError>
+    ensures { IfOk result (λ r. r ≡ line_of bytes.now) }
 {
     let Some(front) = front_of(bytes) else {
         return Ok(None);
