@@ -1,12 +1,20 @@
 //! The lines that the program writes, each with its one text.
 #![tactic(auto)]
 
+mod field;
+mod gathering;
+mod kind;
 mod line;
 mod printing;
+mod reading;
 mod text;
+mod why;
+mod words;
 
-pub use line::{DropWhy, Line, Lines, SkipKind};
+pub use line::{Line, Lines};
 pub use printing::{print, print_all};
+pub use reading::read;
+pub use why::{DropWhy, QueryWhy, RestartWhy, SkipKind};
 
 #[cfg(test)]
 mod tests;

@@ -1,94 +1,104 @@
-use snow_base::{Id, Items};
-
-/// Why a block is given up.
-#[derive(Clone, Copy, Debug, PartialEq, Eq)]
-pub enum DropWhy {
-    /// Its parent isn't on the board.
-    Parent,
-    /// There is no room for it.
-    Full,
-    /// Its height doesn't fit its parent's, or its chain refuses it.
-    Invalid,
-    /// It was decided before, or is too low.
-    Old,
-}
-
-/// Why a frame is passed over.
-#[derive(Clone, Copy, Debug, PartialEq, Eq)]
-pub enum SkipKind {
-    /// Its first byte is no tag.
-    Tag,
-    /// It ends inside a field.
-    Short,
-    /// Bytes are left behind its fields.
-    Extra,
-    /// A field is outside its range.
-    Count,
-    /// Its event isn't one of the task's.
-    Task,
-    /// Its event isn't one of this stage.
-    Stage,
-    /// It has more votes than a poll may have.
-    Votes,
-    /// There is no room for what it brings.
-    Full,
-    /// Its block can't be read.
-    Block,
-}
+use crate::why::{DropWhy, QueryWhy, RestartWhy, SkipKind};
+use snow_base::{Blocks, Bytes, Id, Ids, Items, NodeId};
+use snow_sample::Draws;
 
 /// A line of output.
-#[derive(Clone, Copy, Debug, PartialEq, Eq)]
+#[derive(Debug, Drop)]
 pub enum Line {
+    /// Nodes are asked for their preference, each as often as it was drawn.
+    Query {
+        number: u32,
+        id: Id,
+        draws: Draws,
+    },
+    /// A node is asked for a block.
+    Get {
+        number: u32,
+        node: NodeId,
+        id: Id,
+    },
+    /// All nodes are asked for their accepted frontier.
+    Frontier {
+        number: u32,
+    },
+    /// All nodes are asked which of these they hold accepted.
+    Accepted {
+        number: u32,
+        ids: Ids,
+    },
+    /// A node is asked for a block and its ancestors.
+    Ancestors {
+        number: u32,
+        node: NodeId,
+        id: Id,
+    },
     /// A block is accepted.
-    Accept { id: Id },
+    Accept {
+        id: Id,
+    },
     /// A block is rejected.
-    Reject { id: Id },
+    Reject {
+        id: Id,
+    },
     /// The preference changed, and is this block.
-    Prefer { id: Id },
+    Prefer {
+        id: Id,
+    },
     /// A block is given up.
-    Drop { id: Id, why: DropWhy },
+    Drop {
+        id: Id,
+        why: DropWhy,
+    },
+    /// A query isn't sent.
+    DropQuery {
+        why: QueryWhy,
+    },
     /// A frame, counted from 1, is passed over.
-    Skip { frame: u64, kind: SkipKind },
+    Skip {
+        frame: u64,
+        kind: SkipKind,
+    },
+    /// Bootstrapping begins again.
+    Restart {
+        why: RestartWhy,
+    },
+    /// Bootstrapping is over, with this block accepted last.
+    Bootstrapped {
+        id: Id,
+        height: u64,
+    },
+    /// A node is told the preference and the last accepted block.
+    ToChits {
+        node: NodeId,
+        number: u32,
+        preference: Id,
+        last: Id,
+    },
+    /// A node is told the last accepted block.
+    ToFrontier {
+        node: NodeId,
+        number: u32,
+        id: Id,
+    },
+    /// A node is told which of its blocks are accepted.
+    ToAccepted {
+        node: NodeId,
+        number: u32,
+        ids: Ids,
+    },
+    /// A node is given a block and its ancestors.
+    ToAncestors {
+        node: NodeId,
+        number: u32,
+        blocks: Blocks,
+    },
+    /// A node is given a block.
+    ToBlock {
+        node: NodeId,
+        number: u32,
+        bytes: Bytes,
+    },
 }
 
 /// Lines in the order in which they are written.
 pub type Lines = Items<Line>;
-
-impl DropWhy {
-    ghost use Rattle.std.specs.Prelude.{◌≡◌, ◌≤◌, length};
-    ghost use Rattle.snow_lines.specs.Text.{why_word};
-
-    pub(crate) fn word(&self) -> &'static [u8]
-        ensures word { result.now ≡ why_word self.now }
-        ensures short { length result.now ≤ 7 }
-    {
-        match self {
-            DropWhy::Parent => b"parent",
-            DropWhy::Full => b"full",
-            DropWhy::Invalid => b"invalid",
-            DropWhy::Old => b"old",
-        }
-    }
-}
-
-impl SkipKind {
-    ghost use Rattle.std.specs.Prelude.{◌≡◌, ◌≤◌, length};
-    ghost use Rattle.snow_lines.specs.Text.{kind_word};
-
-    pub(crate) fn word(&self) -> &'static [u8]
-        ensures word { result.now ≡ kind_word self.now }
-        ensures short { length result.now ≤ 5 }
-    {
-        match self {
-            SkipKind::Tag => b"tag",
-            SkipKind::Short => b"short",
-            SkipKind::Extra => b"extra",
-            SkipKind::Count => b"count",
-            SkipKind::Task => b"task",
-            SkipKind::Stage => b"stage",
-            SkipKind::Votes => b"votes",
-            SkipKind::Full => b"full",
-            SkipKind::Block => b"block",
-        }
-    }
-}

@@ -1,4 +1,4 @@
-use crate::{DropWhy, Line, SkipKind, print, print_all};
+use crate::{DropWhy, Line, SkipKind, print, print_all, read};
 use snow_base::{Id, MemSink, Nums};
 use std::test::Fail;
 
@@ -50,12 +50,13 @@ const SKIPS: &[(SkipKind, &str)] = &[
     (SkipKind::Votes, "skip 18446744073709551615 votes\n"),
     (SkipKind::Full, "skip 18446744073709551615 full\n"),
     (SkipKind::Block, "skip 18446744073709551615 block\n"),
+    (SkipKind::Nodes, "skip 18446744073709551615 nodes\n"),
 ];
 
 #[test]
 fn a_failing_sink_takes_a_front(rt: HostRuntime) -> Result<(), Fail> {
     let mut failing = Nums::new(rt.alloc());
-    failing.push(10)?;
+    failing.push(11)?;
     let mut sink = MemSink::new(rt.alloc(), failing);
     sink.reserve(1000)?;
     let mut wanted = Vec::new(rt.alloc());
@@ -73,5 +74,75 @@ fn a_failing_sink_takes_a_front(rt: HostRuntime) -> Result<(), Fail> {
     };
     assert!(rt; print(&last, &mut sink).is_err());
     assert!(rt; sink.bytes() == wanted.as_slice());
+    Ok(())
+}
+
+/// A line of each kind.
+const LINES: &[&str] = &[
+    "query 7 0aff000000000000000000000000000000000000000000000000000000000000 1f1f1f1f1f1f1f1f1f1f1f1f1f1f1f1f1f1f1f1f*1 0202020202020202020202020202020202020202*4294967295\n",
+    "get 0 1f1f1f1f1f1f1f1f1f1f1f1f1f1f1f1f1f1f1f1f 0aff000000000000000000000000000000000000000000000000000000000000\n",
+    "frontier 4294967295\n",
+    "accepted 10 0aff000000000000000000000000000000000000000000000000000000000000 b9b9b9b9b9b9b9b9b9b9b9b9b9b9b9b9b9b9b9b9b9b9b9b9b9b9b9b9b9b9b9b9\n",
+    "ancestors 3 0202020202020202020202020202020202020202 b9b9b9b9b9b9b9b9b9b9b9b9b9b9b9b9b9b9b9b9b9b9b9b9b9b9b9b9b9b9b9b9\n",
+    "accept 0aff000000000000000000000000000000000000000000000000000000000000\n",
+    "reject b9b9b9b9b9b9b9b9b9b9b9b9b9b9b9b9b9b9b9b9b9b9b9b9b9b9b9b9b9b9b9b9\n",
+    "prefer 0aff000000000000000000000000000000000000000000000000000000000000\n",
+    "drop 0aff000000000000000000000000000000000000000000000000000000000000 invalid\n",
+    "drop-query units\n",
+    "skip 18446744073709551615 nodes\n",
+    "restart frontier\n",
+    "bootstrapped b9b9b9b9b9b9b9b9b9b9b9b9b9b9b9b9b9b9b9b9b9b9b9b9b9b9b9b9b9b9b9b9 0\n",
+    "to-chits 1f1f1f1f1f1f1f1f1f1f1f1f1f1f1f1f1f1f1f1f 7 0aff000000000000000000000000000000000000000000000000000000000000 b9b9b9b9b9b9b9b9b9b9b9b9b9b9b9b9b9b9b9b9b9b9b9b9b9b9b9b9b9b9b9b9\n",
+    "to-frontier 1f1f1f1f1f1f1f1f1f1f1f1f1f1f1f1f1f1f1f1f 8 0aff000000000000000000000000000000000000000000000000000000000000\n",
+    "to-accepted 1f1f1f1f1f1f1f1f1f1f1f1f1f1f1f1f1f1f1f1f 9 0aff000000000000000000000000000000000000000000000000000000000000 b9b9b9b9b9b9b9b9b9b9b9b9b9b9b9b9b9b9b9b9b9b9b9b9b9b9b9b9b9b9b9b9\n",
+    "to-accepted 1f1f1f1f1f1f1f1f1f1f1f1f1f1f1f1f1f1f1f1f 10\n",
+    "to-ancestors 1f1f1f1f1f1f1f1f1f1f1f1f1f1f1f1f1f1f1f1f 12 . 0a\n",
+    "to-block 1f1f1f1f1f1f1f1f1f1f1f1f1f1f1f1f1f1f1f1f 11 00ff\n",
+];
+
+#[test]
+fn each_kind_is_read_and_printed(rt: HostRuntime) -> Result<(), Fail> {
+    let mut sink = MemSink::new(rt.alloc(), Nums::new(rt.alloc()));
+    sink.reserve(10000)?;
+    let mut wanted = Vec::new(rt.alloc());
+    for text in LINES {
+        let line = read(rt.alloc(), text.as_bytes())?;
+        assert!(rt; line.is_some());
+        if let Some(line) = line {
+            assert!(rt; print(&line, &mut sink).is_ok());
+        }
+        wanted.extend_from_slice(text.as_bytes())?;
+    }
+    assert!(rt; sink.bytes() == wanted.as_slice());
+    Ok(())
+}
+
+/// Texts that are nearly those of lines.
+const MISSES: &[&str] = &[
+    "accept 0AFF000000000000000000000000000000000000000000000000000000000000\n",
+    "skip 1  tag\n",
+    "skip 01 tag\n",
+    "skip 1 tag",
+    "skip 1 tag\n\n",
+    "skip +1 tag\n",
+    "skip 18446744073709551616 tag\n",
+    "frontier 4294967296\n",
+    "query 7 0aff000000000000000000000000000000000000000000000000000000000000 1f1f1f1f1f1f1f1f1f1f1f1f1f1f1f1f1f1f1f1f*0\n",
+    "query 7 0aff000000000000000000000000000000000000000000000000000000000000\n",
+    "accepted 10\n",
+    "to-ancestors 1f1f1f1f1f1f1f1f1f1f1f1f1f1f1f1f1f1f1f1f 12\n",
+    "to-block 1f1f1f1f1f1f1f1f1f1f1f1f1f1f1f1f1f1f1f1f 11 \n",
+    "frontier \n",
+    "restart later\n",
+    "\n",
+    "",
+];
+
+#[test]
+fn near_misses_are_no_lines(rt: HostRuntime) -> Result<(), Fail> {
+    for text in MISSES {
+        let line = read(rt.alloc(), text.as_bytes())?;
+        assert!(rt; line.is_none());
+    }
     Ok(())
 }

@@ -1,16 +1,20 @@
-ghost use Rattle.std.specs.Prelude.{◌≡◌, ◌+◌, ◌≤◌, [], ◌++◌, length, decimal};
+ghost use Rattle.std.specs.Prelude.{◌≡◌, ◌+◌, ◌≤◌, [], ◌∷◌, ◌++◌, length, decimal};
+ghost use Rattle.std.specs.Str.{bytes_eq};
 ghost use Rattle.hex.specs.Hex.{encode_lower};
+ghost use Rattle.snow_sample.specs.declared.draws.Draw.{Draw};
+ghost use Rattle.snow_lines.specs.Text.{draw_word};
 
-use snow_base::Id;
+use snow_base::{Id, NodeId};
+use snow_sample::Draw;
 use std::marker::Model;
 
-/// No line but one with a list is longer than this.
-pub const LONGEST: usize = 128;
+/// So many bytes a text has at most. A line without a list is shorter.
+pub const LONGEST: usize = 256;
 
 /// A text as it is built, of at most `LONGEST` bytes. It takes no memory.
 #[derive(Debug, Drop)]
 pub struct Text {
-    bytes: [u8; 128],
+    bytes: [u8; 256],
     len: usize,
 }
 
@@ -21,27 +25,35 @@ impl Model for Text {
 
     ghost view = { λ a. take a.len a.bytes };
 
-    ghost invariant = { λ a. a.len ≤ 128 };
+    ghost invariant = { λ a. a.len ≤ 256 };
 }
 
 impl Text {
-    pub fn new() -> Self
-        ensures { result ≡ [] }
+    /// The text of this word alone.
+    pub fn of(word: &[u8]) -> Self
+        requires { length word.now ≤ 256 }
+        ensures text { result ≡ word.now }
+        ensures length { length result ≡ length word.now }
     {
-        Text {
-            bytes: [0; 128],
+        let mut text = Text {
+            bytes: [0; 256],
             len: 0,
-        }
+        };
+        text.push(word);
+        text
     }
 
+    /// Its bytes.
     pub fn as_slice(&self) -> &[u8]
-        ensures { result.now ≡ self.now }
+        ensures text { result.now ≡ self.now }
+        ensures length { length self.now ≤ 256 }
     {
         &self.bytes[..self.len]
     }
 
+    /// Appends a piece.
     pub fn push(&mut self, piece: &[u8])
-        requires { length self.old + length piece.now ≤ 128 }
+        requires { length self.old + length piece.now ≤ 256 }
         ensures text { self.new ≡ self.old ++ piece.now }
         ensures length { length self.new ≡ length self.old + length piece.now }
     {
@@ -50,45 +62,105 @@ impl Text {
         self.len = end;
     }
 
-    /// Appends an identifier as 64 digits.
-    pub fn push_id(&mut self, id: &Id)
-        requires { length self.old + 64 ≤ 128 }
-        ensures text { self.new ≡ self.old ++ encode_lower id.now }
-        ensures length { length self.new ≡ length self.old + 64 }
+    /// Whether it is this word with a space in front.
+    pub fn is_spaced(&self, word: &[u8]) -> bool
+        ensures { result ≡ bytes_eq self.now (32 ∷ word.now) }
+    {
+        let bytes = self.as_slice();
+        !bytes.is_empty() && bytes[0] == b' ' && &bytes[1..] == word
+    }
+
+    /// Takes all bytes out.
+    pub fn clear(&mut self)
+        ensures { self.new ≡ [] }
+    {
+        self.len = 0;
+    }
+
+    /// The text with a space and a word behind it.
+    pub fn word(mut self, word: &[u8]) -> Self
+        requires { length self + 1 + length word.now ≤ 256 }
+        ensures text { result ≡ self ++ 32 ∷ word.now }
+        ensures length { length result ≡ length self + 1 + length word.now }
+    {
+        self.push(b" ");
+        self.push(word);
+        self
+    }
+
+    /// The text with a space and an identifier's 64 digits behind it.
+    pub fn id(self, id: &Id) -> Self
+        requires { length self + 65 ≤ 256 }
+        ensures text { result ≡ self ++ 32 ∷ encode_lower id.now }
+        ensures length { length result ≡ length self + 65 }
     {
         let digits = id_digits(id);
-        self.push(&digits);
+        self.word(&digits)
     }
 
-    /// A word of at most eight bytes, its space among them, and an identifier.
-    pub fn named(word: &[u8], id: &Id) -> Self
-        requires { length word.now ≤ 8 }
-        ensures text { result ≡ word.now ++ encode_lower id.now }
-        ensures length { length result ≤ 72 }
+    /// The text with a space and a node's 40 digits behind it.
+    pub fn node(self, node: &NodeId) -> Self
+        requires { length self + 41 ≤ 256 }
+        ensures text { result ≡ self ++ 32 ∷ encode_lower node.now }
+        ensures length { length result ≡ length self + 41 }
     {
-        let mut text = Text::new();
-        text.push(word);
-        text.push_id(id);
-        text
+        let digits = node_digits(node);
+        self.word(&digits)
     }
 
-    /// Appends a number in decimal.
-    pub fn push_number(&mut self, number: u64)
-        requires { length self.old + 20 ≤ 128 }
-        ensures text { self.new ≡ self.old ++ decimal number }
-        ensures length { length self.new ≤ length self.old + 20 }
+    /// The text with a space and a number in decimal behind it.
+    pub fn number(self, number: u64) -> Self
+        requires { length self + 21 ≤ 256 }
+        ensures text { result ≡ self ++ 32 ∷ decimal number }
+        ensures length { length result ≤ length self + 21 }
     {
         let mut buffer = itoa::Buffer::new();
-        self.push(buffer.format(number).as_bytes());
+        self.word(buffer.format(number).as_bytes())
+    }
+
+    /// A space, a node and how often it was drawn.
+    pub fn draw(draw: &Draw) -> Self
+        ensures text { result ≡ 32 ∷ draw_word draw.now }
+        ensures length { length result ≤ 62 }
+    {
+        let mut text = Text::of(b"").node(&draw.node);
+        text.push(b"*");
+        let mut buffer = itoa::Buffer::new();
+        text.push(buffer.format(draw.count).as_bytes());
+        text
     }
 }
 
 /// The lower-case hexadecimal digits of an identifier.
-fn id_digits(id: &Id) -> [u8; 64]
+pub fn id_digits(id: &Id) -> [u8; 64]
     ensures { result ≡ encode_lower id.now }
 {
     let bytes: &[u8] = id.as_bytes();
     let mut digits = [0; 64];
+    let encoded = hex::encode_to_slice(bytes, &mut digits);
+    prove!(encoded.is_ok());
+    let _ = encoded;
+    digits
+}
+
+/// The lower-case hexadecimal digits of a node.
+pub fn node_digits(node: &NodeId) -> [u8; 40]
+    ensures { result ≡ encode_lower node.now }
+{
+    let bytes: &[u8] = node.as_bytes();
+    let mut digits = [0; 40];
+    let encoded = hex::encode_to_slice(bytes, &mut digits);
+    prove!(encoded.is_ok());
+    let _ = encoded;
+    digits
+}
+
+/// The two lower-case hexadecimal digits of a byte.
+pub fn byte_digits(byte: u8) -> [u8; 2]
+    ensures { result ≡ encode_lower (byte ∷ []) }
+{
+    let bytes: &[u8] = &[byte];
+    let mut digits = [0; 2];
     let encoded = hex::encode_to_slice(bytes, &mut digits);
     prove!(encoded.is_ok());
     let _ = encoded;

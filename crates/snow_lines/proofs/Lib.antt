@@ -1,0 +1,10 @@
+pub mod Again
+pub mod Cutting
+pub mod Fielded
+pub mod Joined
+pub mod Named
+pub mod Printed
+pub mod Shown
+pub mod Spelled
+pub mod Values
+pub mod Waiting

@@ -1,0 +1,10 @@
+use Rattle.std.proofs.Common.{◌≤◌, [], ◌∷◌, flat_map, take}
+use Rattle.hex.specs.Hex.{encode_lower}
+use Rattle.snow_lines.specs.Gathered.{Gathers}
+use Rattle.snow_lines.specs.Text.{spaced, draw_word}
+use Rattle.snow_lines.proofs.gathering.put_bytes.Given as goal
+
+abbrev pub invariant-loop-byte : goal.invariant-loop-byte
+invariant-loop-byte g l =
+    Gathers (g.K.Sink.written l.initial.sink) l.initial.text (g.K.Sink.written l.sink) l.text (flat_map (λ b. encode_lower (b ∷ [])) (take l.byte-index l.bytes))
+    × (g.K.Sink.faults l.initial.sink ≤ g.K.Sink.faults l.sink)

@@ -1,0 +1,147 @@
+ghost use Rattle.std.specs.Prelude.{◌≡◌, ◌≤◌, ◌^◌, IfSome, nat_lt, length, take, drop, if◌then◌else◌, Some, None, IfOk};
+ghost use Rattle.hex.specs.Hex.{decode_of};
+ghost use Rattle.snow_lines.specs.Reading.{number_of, bytes_of, block_of, draw_of, if_digits, if_draw, value_after};
+
+use crate::text::{Text, id_digits, node_digits};
+use hex::FromHexError;
+use snow_base::{Bytes, Id, NodeId};
+use snow_sample::Draw;
+use std::alloc::{AllocError, Global};
+
+/// The number of 64 bits whose text the word is.
+#[tactic(auto, unfolding(crate::specs::Reading::number_of))]
+pub fn long(word: &[u8]) -> Option<u64>
+    ensures { result ≡ number_of (2 ^ 64) word.now }
+{
+    let number = value(word)?;
+    let mut buffer = itoa::Buffer::new();
+    if buffer.format(number).as_bytes() == word {
+        Some(number)
+    } else {
+        None
+    }
+}
+
+/// The number of 32 bits whose text the word is.
+#[tactic(auto, unfolding(crate::specs::Reading::number_of))]
+pub fn number(word: &[u8]) -> Option<u32>
+    ensures { result ≡ number_of (2 ^ 32) word.now }
+{
+    u32::try_from(long(word)?).ok()
+}
+
+// The number that the bytes write as if each was a digit, where it has 64 bits.
+fn value(word: &[u8]) -> Option<u64>
+    ensures { result ≡ (if nat_lt (value_after 0 word.now) (2 ^ 64) then Some (value_after 0 word.now) else None) }
+{
+    let mut value = 0u64;
+    for byte in word {
+        let digit = u64::from(byte.saturating_sub(b'0'));
+        value = value.checked_mul(10)?.checked_add(digit)?;
+    }
+    Some(value)
+}
+
+/// The identifier whose digits the word is.
+#[tactic(auto, unfolding(crate::specs::Reading::bytes_of))]
+pub fn id(word: &[u8]) -> Option<Id>
+    ensures { result ≡ bytes_of 32 word.now }
+{
+    let mut bytes = [0; 32];
+    let decoded = hex::decode_to_slice(word, &mut bytes);
+    let id = Id::from_bytes(bytes);
+    if decoded.is_ok() && id_digits(&id).as_slice() == word {
+        Some(id)
+    } else {
+        None
+    }
+}
+
+/// The node whose digits the word is.
+#[tactic(auto, unfolding(crate::specs::Reading::bytes_of))]
+pub fn node(word: &[u8]) -> Option<NodeId>
+    ensures { result ≡ bytes_of 20 word.now }
+{
+    let mut bytes = [0; 20];
+    let decoded = hex::decode_to_slice(word, &mut bytes);
+    let node = NodeId::from_bytes(bytes);
+    if decoded.is_ok() && node_digits(&node).as_slice() == word {
+        Some(node)
+    } else {
+        None
+    }
+}
+
+/// The draw whose word it is.
+#[tactic(auto, unfolding(crate::specs::Reading::draw_of))]
+pub fn draw(word: &[u8]) -> Option<Draw>
+    ensures draw { result ≡ draw_of word.now }
+    ensures count { IfSome result (λ d. 1 ≤ d.count) }
+{
+    if word.len() < 41 {
+        return None;
+    }
+    let node = node(front(word, 40))?;
+    let count = number(behind(word, 41))?;
+    drawn(Draw { node, count }, word)
+}
+
+// So many bytes in front.
+fn front(word: &[u8], at: usize) -> &[u8]
+    requires { at ≤ length word.now }
+    ensures { result.now ≡ take at word.now }
+{
+    &word[..at]
+}
+
+// The bytes behind so many.
+fn behind(word: &[u8], at: usize) -> &[u8]
+    requires { at ≤ length word.now }
+    ensures { result.now ≡ drop at word.now }
+{
+    &word[at..]
+}
+
+// The draw, where the word is its.
+fn drawn(draw: Draw, word: &[u8]) -> Option<Draw>
+    ensures draw { result ≡ if_draw word.now draw }
+    ensures count { IfSome result (λ d. 1 ≤ d.count) }
+{
+    if 1 <= draw.count && Text::draw(&draw).is_spaced(word) {
+        Some(draw)
+    } else {
+        None
+    }
+}
+
+/// The block whose word it is.
+#[tactic(auto, unfolding(crate::specs::Reading::block_of))]
+pub fn block(alloc: Global, word: &[u8]) -> Result<Option<Bytes>, AllocError>
+    ensures { IfOk result (λ r. r ≡ block_of word.now) }
+{
+    if word.is_empty() {
+        return Ok(None);
+    }
+    if word == b".".as_slice() {
+        return Ok(Some(Bytes::new(alloc)));
+    }
+    digits(alloc, word)
+}
+
+// The bytes whose digits the word is.
+fn digits(alloc: Global, word: &[u8]) -> Result<Option<Bytes>, AllocError>
+    ensures { IfOk result (λ r. r ≡ if_digits word.now (decode_of word.now)) }
+{
+    match hex::decode(alloc, word) {
+        Err(FromHexError::OutOfMemory) => Err(AllocError),
+        Err(_) => Ok(None),
+        Ok(bytes) => {
+            let again = hex::encode(alloc, bytes.as_slice())?;
+            if again.as_bytes() == word {
+                Ok(Some(Bytes::from_slice(alloc, bytes.as_slice())?))
+            } else {
+                Ok(None)
+            }
+        }
+    }
+}

@@ -1,0 +1,301 @@
+ghost use Rattle.std.specs.Prelude.{◌≡◌, ◌^◌, IfOk, IfSome, Some};
+ghost use Rattle.std.specs.Option.{option_map};
+ghost use Rattle.snow_lines.specs.Range.{IsLine};
+ghost use Rattle.snow_lines.specs.Text.{text};
+ghost use Rattle.snow_lines.specs.declared.line.Line.{Line};
+ghost use Rattle.snow_lines.specs.Reading.{Reads, asked_at, both_at, bytes_of, number_of, only_at, asks, asks_accepted, before_newline, chits_at, fields_of, frontier_at, line_of, plain_at, tells_accepted, tells_ancestors, tells_block, whole_at, words_of};
+ghost use Rattle.snow_lines.specs.Names.{kind_of, query_of, restart_of, why_of};
+ghost use Rattle.snow_lines.specs.declared.line.Line.TheVariants as line;
+
+use crate::field;
+use crate::kind::Kind;
+use crate::line::Line;
+use crate::words::Words;
+use std::alloc::{AllocError, Global};
+
+/// The line whose text the bytes are, and none where they are no line's text. It fails for want of
+/// memory alone.
+#[tactic(auto, using(crate::proofs::Again::line_found, crate::proofs::Again::line_only))]
+pub fn read(alloc: Global, bytes: &[u8]) -> Result<Option<Line>, AllocError>
+    ensures found { IfOk result (λ r. IfSome r (λ l. IsLine l × (bytes.now ≡ text l))) }
+    ensures only { (l : Line) → IsLine l → bytes.now ≡ text l → IfOk result (λ r. r ≡ Some l) }
+{
+    read_line(alloc, bytes)
+}
+
+// The line that is read from the bytes.
+#[tactic(auto, unfolding(crate::specs::Reading::line_of))]
+fn read_line(alloc: Global, bytes: &[u8]) -> Result<Option<Line>, AllocError>
+    ensures { IfOk result (λ r. r ≡ line_of bytes.now) }
+{
+    let Some(front) = front_of(bytes) else {
+        return Ok(None);
+    };
+    line(alloc, &mut Words::new(front))
+}
+
+// The bytes before the newline at the end.
+#[tactic(auto, unfolding(crate::specs::Reading::before_newline))]
+fn front_of(bytes: &[u8]) -> Option<&[u8]>
+    ensures { option_map (λ b. b.now) result ≡ before_newline bytes.now }
+{
+    bytes.strip_suffix(b"\n".as_slice())
+}
+
+// The line with these words.
+#[tactic(auto, unfolding(crate::specs::Reading::words_of))]
+fn line(alloc: Global, words: &mut Words) -> Result<Option<Line>, AllocError>
+    ensures { IfOk result (λ r. r ≡ words_of words.old) }
+{
+    let Some(name) = words.next() else {
+        return Ok(None);
+    };
+    let Some(kind) = Kind::of(name) else {
+        return Ok(None);
+    };
+    fields(alloc, kind, words)
+}
+
+// The line of a kind with these words behind its first.
+#[tactic(auto, unfolding(crate::specs::Reading::fields_of))]
+fn fields(alloc: Global, kind: Kind, words: &mut Words) -> Result<Option<Line>, AllocError>
+    ensures { IfOk result (λ r. r ≡ fields_of kind words.old) }
+{
+    match kind {
+        Kind::Query => query(alloc, words),
+        Kind::Accepted => accepted(alloc, words),
+        Kind::ToAccepted => to_accepted(alloc, words),
+        Kind::ToAncestors => to_ancestors(alloc, words),
+        Kind::ToBlock => to_block(alloc, words),
+        _ => Ok(whole(kind, words)),
+    }
+}
+
+#[tactic(auto, unfolding(crate::specs::Reading::whole_at))]
+fn whole(kind: Kind, words: &mut Words) -> Option<Line>
+    ensures { result ≡ whole_at kind words.old }
+{
+    let line = plain(kind, words)?;
+    if words.is_at_end() { Some(line) } else { None }
+}
+
+#[tactic(auto, unfolding(crate::specs::Reading::asks))]
+fn query(alloc: Global, words: &mut Words) -> Result<Option<Line>, AllocError>
+    ensures { IfOk result (λ r. r ≡ asks words.old) }
+{
+    let Some(number) = words.number() else {
+        return Ok(None);
+    };
+    let Some(id) = words.id() else {
+        return Ok(None);
+    };
+    match words.draws(alloc)? {
+        Some(draws) if !draws.list().is_empty() => Ok(Some(Line::Query { number, id, draws })),
+        _ => Ok(None),
+    }
+}
+
+#[tactic(auto, unfolding(crate::specs::Reading::asks_accepted))]
+fn accepted(alloc: Global, words: &mut Words) -> Result<Option<Line>, AllocError>
+    ensures { IfOk result (λ r. r ≡ asks_accepted words.old) }
+{
+    let Some(number) = words.number() else {
+        return Ok(None);
+    };
+    match words.ids(alloc)? {
+        Some(ids) if !ids.list().is_empty() => Ok(Some(Line::Accepted { number, ids })),
+        _ => Ok(None),
+    }
+}
+
+#[tactic(auto, unfolding(crate::specs::Reading::tells_accepted))]
+fn to_accepted(alloc: Global, words: &mut Words) -> Result<Option<Line>, AllocError>
+    ensures { IfOk result (λ r. r ≡ tells_accepted words.old) }
+{
+    let Some((node, number)) = words.told() else {
+        return Ok(None);
+    };
+    match words.ids(alloc)? {
+        Some(ids) => Ok(Some(Line::ToAccepted { node, number, ids })),
+        None => Ok(None),
+    }
+}
+
+#[tactic(auto, unfolding(crate::specs::Reading::tells_ancestors))]
+fn to_ancestors(alloc: Global, words: &mut Words) -> Result<Option<Line>, AllocError>
+    ensures { IfOk result (λ r. r ≡ tells_ancestors words.old) }
+{
+    let Some((node, number)) = words.told() else {
+        return Ok(None);
+    };
+    match words.blocks(alloc)? {
+        Some(blocks) if !blocks.list().is_empty() => Ok(Some(Line::ToAncestors {
+            node,
+            number,
+            blocks,
+        })),
+        _ => Ok(None),
+    }
+}
+
+#[tactic(auto, unfolding(crate::specs::Reading::tells_block, crate::specs::Reading::field))]
+fn to_block(alloc: Global, words: &mut Words) -> Result<Option<Line>, AllocError>
+    ensures { IfOk result (λ r. r ≡ tells_block words.old) }
+{
+    let Some((node, number)) = words.told() else {
+        return Ok(None);
+    };
+    let Some(word) = words.next() else {
+        return Ok(None);
+    };
+    match field::block(alloc, word)? {
+        Some(bytes) if words.is_at_end() => Ok(Some(Line::ToBlock {
+            node,
+            number,
+            bytes,
+        })),
+        _ => Ok(None),
+    }
+}
+
+// A line without a list, up to its last word.
+#[tactic(auto, unfolding(crate::specs::Reading::plain_at))]
+fn plain(kind: Kind, words: &mut Words) -> Option<Line>
+    ensures { Reads result words.new (plain_at kind words.old) }
+{
+    match kind {
+        Kind::Get => get(words),
+        Kind::Frontier => frontier(words),
+        Kind::Ancestors => ancestors(words),
+        Kind::Accept => accept(words),
+        Kind::Reject => reject(words),
+        Kind::Prefer => prefer(words),
+        Kind::Drop => drop_block(words),
+        Kind::DropQuery => drop_query(words),
+        Kind::Skip => skip(words),
+        Kind::Restart => restart(words),
+        Kind::Bootstrapped => bootstrapped(words),
+        Kind::ToChits => to_chits(words),
+        Kind::ToFrontier => to_frontier(words),
+        _ => None,
+    }
+}
+
+#[tactic(auto, unfolding(crate::specs::Reading::asked_at))]
+fn get(words: &mut Words) -> Option<Line>
+    ensures { Reads result words.new (asked_at line.Get words.old) }
+{
+    let number = words.number()?;
+    let node = words.node()?;
+    let id = words.id()?;
+    Some(Line::Get { number, node, id })
+}
+
+#[tactic(auto, unfolding(crate::specs::Reading::asked_at))]
+fn ancestors(words: &mut Words) -> Option<Line>
+    ensures { Reads result words.new (asked_at line.Ancestors words.old) }
+{
+    let number = words.number()?;
+    let node = words.node()?;
+    let id = words.id()?;
+    Some(Line::Ancestors { number, node, id })
+}
+
+#[tactic(auto, unfolding(crate::specs::Reading::only_at))]
+fn frontier(words: &mut Words) -> Option<Line>
+    ensures { Reads result words.new (only_at (number_of (2 ^ 32)) line.Frontier words.old) }
+{
+    let number = words.number()?;
+    Some(Line::Frontier { number })
+}
+
+#[tactic(auto, unfolding(crate::specs::Reading::only_at))]
+fn accept(words: &mut Words) -> Option<Line>
+    ensures { Reads result words.new (only_at (bytes_of 32) line.Accept words.old) }
+{
+    let id = words.id()?;
+    Some(Line::Accept { id })
+}
+
+#[tactic(auto, unfolding(crate::specs::Reading::only_at))]
+fn reject(words: &mut Words) -> Option<Line>
+    ensures { Reads result words.new (only_at (bytes_of 32) line.Reject words.old) }
+{
+    let id = words.id()?;
+    Some(Line::Reject { id })
+}
+
+#[tactic(auto, unfolding(crate::specs::Reading::only_at))]
+fn prefer(words: &mut Words) -> Option<Line>
+    ensures { Reads result words.new (only_at (bytes_of 32) line.Prefer words.old) }
+{
+    let id = words.id()?;
+    Some(Line::Prefer { id })
+}
+
+#[tactic(auto, unfolding(crate::specs::Reading::both_at))]
+fn drop_block(words: &mut Words) -> Option<Line>
+    ensures { Reads result words.new (both_at (bytes_of 32) why_of line.Drop words.old) }
+{
+    let id = words.id()?;
+    let why = words.drop_why()?;
+    Some(Line::Drop { id, why })
+}
+
+#[tactic(auto, unfolding(crate::specs::Reading::only_at))]
+fn drop_query(words: &mut Words) -> Option<Line>
+    ensures { Reads result words.new (only_at query_of line.DropQuery words.old) }
+{
+    let why = words.query_why()?;
+    Some(Line::DropQuery { why })
+}
+
+#[tactic(auto, unfolding(crate::specs::Reading::both_at))]
+fn skip(words: &mut Words) -> Option<Line>
+    ensures { Reads result words.new (both_at (number_of (2 ^ 64)) kind_of line.Skip words.old) }
+{
+    let frame = words.long()?;
+    let kind = words.skip_kind()?;
+    Some(Line::Skip { frame, kind })
+}
+
+#[tactic(auto, unfolding(crate::specs::Reading::only_at))]
+fn restart(words: &mut Words) -> Option<Line>
+    ensures { Reads result words.new (only_at restart_of line.Restart words.old) }
+{
+    let why = words.restart_why()?;
+    Some(Line::Restart { why })
+}
+
+#[tactic(auto, unfolding(crate::specs::Reading::both_at))]
+fn bootstrapped(words: &mut Words) -> Option<Line>
+    ensures { Reads result words.new (both_at (bytes_of 32) (number_of (2 ^ 64)) line.Bootstrapped words.old) }
+{
+    let id = words.id()?;
+    let height = words.long()?;
+    Some(Line::Bootstrapped { id, height })
+}
+
+#[tactic(auto, unfolding(crate::specs::Reading::chits_at))]
+fn to_chits(words: &mut Words) -> Option<Line>
+    ensures { Reads result words.new (chits_at words.old) }
+{
+    let (node, number) = words.told()?;
+    let preference = words.id()?;
+    let last = words.id()?;
+    Some(Line::ToChits {
+        node,
+        number,
+        preference,
+        last,
+    })
+}
+
+#[tactic(auto, unfolding(crate::specs::Reading::frontier_at))]
+fn to_frontier(words: &mut Words) -> Option<Line>
+    ensures { Reads result words.new (frontier_at words.old) }
+{
+    let (node, number) = words.told()?;
+    let id = words.id()?;
+    Some(Line::ToFrontier { node, number, id })
+}

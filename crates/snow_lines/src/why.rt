@@ -1,0 +1,222 @@
+/// Why a block is given up.
+#[derive(Clone, Copy, Debug, PartialEq, Eq)]
+pub enum DropWhy {
+    /// Its parent isn't on the board.
+    Parent,
+    /// There is no room for it.
+    Full,
+    /// Its height doesn't fit its parent's, or its chain refuses it.
+    Invalid,
+    /// It was decided before, or is too low.
+    Old,
+}
+
+/// Why a query isn't sent.
+#[derive(Clone, Copy, Debug, PartialEq, Eq)]
+pub enum QueryWhy {
+    /// There is no room for another poll.
+    Full,
+    /// The nodes have too little weight together.
+    Units,
+    /// There are too few random words.
+    Words,
+}
+
+/// Why bootstrapping begins again.
+#[derive(Clone, Copy, Debug, PartialEq, Eq)]
+pub enum RestartWhy {
+    /// Too little came back of the accepted frontier.
+    Frontier,
+    /// Too little came back of what is accepted.
+    Accepted,
+}
+
+/// Why a frame is passed over.
+#[derive(Clone, Copy, Debug, PartialEq, Eq)]
+pub enum SkipKind {
+    /// Its first byte is no tag.
+    Tag,
+    /// It ends inside a field.
+    Short,
+    /// Bytes are left behind its fields.
+    Extra,
+    /// A field is outside its range.
+    Count,
+    /// Its event isn't one of the task's.
+    Task,
+    /// Its event isn't one of this stage.
+    Stage,
+    /// It has more votes than a poll may have.
+    Votes,
+    /// There is no room for what it brings.
+    Full,
+    /// Its block can't be read.
+    Block,
+    /// Its nodes can't be the validators.
+    Nodes,
+}
+
+impl DropWhy {
+    ghost use Rattle.std.specs.Prelude.{◌≡◌, ◌≤◌, length};
+    ghost use Rattle.snow_lines.specs.Text.{why_word};
+
+    pub(crate) fn word(&self) -> &'static [u8]
+        ensures word { result.now ≡ why_word self.now }
+        ensures short { length result.now ≤ 12 }
+    {
+        match self {
+            DropWhy::Parent => b"parent",
+            DropWhy::Full => b"full",
+            DropWhy::Invalid => b"invalid",
+            DropWhy::Old => b"old",
+        }
+    }
+}
+
+impl QueryWhy {
+    ghost use Rattle.std.specs.Prelude.{◌≡◌, ◌≤◌, length};
+    ghost use Rattle.snow_lines.specs.Text.{query_word};
+
+    pub(crate) fn word(&self) -> &'static [u8]
+        ensures word { result.now ≡ query_word self.now }
+        ensures short { length result.now ≤ 12 }
+    {
+        match self {
+            QueryWhy::Full => b"full",
+            QueryWhy::Units => b"units",
+            QueryWhy::Words => b"words",
+        }
+    }
+}
+
+impl RestartWhy {
+    ghost use Rattle.std.specs.Prelude.{◌≡◌, ◌≤◌, length};
+    ghost use Rattle.snow_lines.specs.Text.{restart_word};
+
+    pub(crate) fn word(&self) -> &'static [u8]
+        ensures word { result.now ≡ restart_word self.now }
+        ensures short { length result.now ≤ 12 }
+    {
+        match self {
+            RestartWhy::Frontier => b"frontier",
+            RestartWhy::Accepted => b"accepted",
+        }
+    }
+}
+
+impl SkipKind {
+    ghost use Rattle.std.specs.Prelude.{◌≡◌, ◌≤◌, length};
+    ghost use Rattle.snow_lines.specs.Text.{kind_word};
+
+    pub(crate) fn word(&self) -> &'static [u8]
+        ensures word { result.now ≡ kind_word self.now }
+        ensures short { length result.now ≤ 12 }
+    {
+        match self {
+            SkipKind::Tag => b"tag",
+            SkipKind::Short => b"short",
+            SkipKind::Extra => b"extra",
+            SkipKind::Count => b"count",
+            SkipKind::Task => b"task",
+            SkipKind::Stage => b"stage",
+            SkipKind::Votes => b"votes",
+            SkipKind::Full => b"full",
+            SkipKind::Block => b"block",
+            SkipKind::Nodes => b"nodes",
+        }
+    }
+}
+
+impl DropWhy {
+    ghost use Rattle.std.specs.Prelude.{◌≡◌};
+    ghost use Rattle.snow_lines.specs.Names.{why_of};
+
+    /// The one with this word.
+    pub(crate) fn of(word: &[u8]) -> Option<Self>
+        ensures { result ≡ why_of word.now }
+    {
+        if word == b"parent".as_slice() {
+            Some(DropWhy::Parent)
+        } else if word == b"full".as_slice() {
+            Some(DropWhy::Full)
+        } else if word == b"invalid".as_slice() {
+            Some(DropWhy::Invalid)
+        } else if word == b"old".as_slice() {
+            Some(DropWhy::Old)
+        } else {
+            None
+        }
+    }
+}
+
+impl QueryWhy {
+    ghost use Rattle.std.specs.Prelude.{◌≡◌};
+    ghost use Rattle.snow_lines.specs.Names.{query_of};
+
+    /// The one with this word.
+    pub(crate) fn of(word: &[u8]) -> Option<Self>
+        ensures { result ≡ query_of word.now }
+    {
+        if word == b"full".as_slice() {
+            Some(QueryWhy::Full)
+        } else if word == b"units".as_slice() {
+            Some(QueryWhy::Units)
+        } else if word == b"words".as_slice() {
+            Some(QueryWhy::Words)
+        } else {
+            None
+        }
+    }
+}
+
+impl RestartWhy {
+    ghost use Rattle.std.specs.Prelude.{◌≡◌};
+    ghost use Rattle.snow_lines.specs.Names.{restart_of};
+
+    /// The one with this word.
+    pub(crate) fn of(word: &[u8]) -> Option<Self>
+        ensures { result ≡ restart_of word.now }
+    {
+        if word == b"frontier".as_slice() {
+            Some(RestartWhy::Frontier)
+        } else if word == b"accepted".as_slice() {
+            Some(RestartWhy::Accepted)
+        } else {
+            None
+        }
+    }
+}
+
+impl SkipKind {
+    ghost use Rattle.std.specs.Prelude.{◌≡◌};
+    ghost use Rattle.snow_lines.specs.Names.{kind_of};
+
+    /// The one with this word.
+    pub(crate) fn of(word: &[u8]) -> Option<Self>
+        ensures { result ≡ kind_of word.now }
+    {
+        if word == b"tag".as_slice() {
+            Some(SkipKind::Tag)
+        } else if word == b"short".as_slice() {
+            Some(SkipKind::Short)
+        } else if word == b"extra".as_slice() {
+            Some(SkipKind::Extra)
+        } else if word == b"count".as_slice() {
+            Some(SkipKind::Count)
+        } else if word == b"task".as_slice() {
+            Some(SkipKind::Task)
+        } else if word == b"stage".as_slice() {
+            Some(SkipKind::Stage)
+        } else if word == b"votes".as_slice() {
+            Some(SkipKind::Votes)
+        } else if word == b"full".as_slice() {
+            Some(SkipKind::Full)
+        } else if word == b"block".as_slice() {
+            Some(SkipKind::Block)
+        } else if word == b"nodes".as_slice() {
+            Some(SkipKind::Nodes)
+        } else {
+            None
+        }
+    }
+}

@@ -1,0 +1,194 @@
+ghost use Rattle.std.specs.Prelude.{◌≡◌, ◌==◌, ◌^◌, [], drop, is_none, IfOk};
+ghost use Rattle.std.specs.List.{slice_split};
+ghost use Rattle.std.specs.Option.{option_map};
+ghost use Rattle.snow_lines.specs.Names.{kind_of, query_of, restart_of, why_of};
+ghost use Rattle.snow_lines.specs.Reading.{IsCut, Reads, block_of, bytes_of, draw_of, field, first, id_at, items, long_at, node_at, number_at, told_at};
+
+use crate::field;
+use crate::why::{DropWhy, QueryWhy, RestartWhy, SkipKind};
+use snow_base::{Blocks, Id, Ids, NodeId};
+use snow_sample::Draws;
+use std::alloc::{AllocError, Global};
+use std::marker::Model;
+
+/// The words of some bytes, of which each is taken once. Contracts see those that are left.
+#[derive(Debug, Drop)]
+pub struct Words<'a> {
+    rest: Option<&'a [u8]>,
+}
+
+impl<'a> Model for Words<'a> {
+    ghost use Rattle.std.specs.Prelude.{ℕ, List, [], ◌==◌};
+    ghost use Rattle.std.specs.List.{slice_split};
+    ghost use Rattle.std.specs.Option.{option_map_or};
+
+    ghost Value = { List (List ℕ) };
+
+    ghost view = { λ a. option_map_or (λ rest. slice_split (λ b. b == 32) rest.now) a.rest [] };
+}
+
+impl<'a> Words<'a> {
+    /// The words of these bytes, cut at each space.
+    pub fn new(bytes: &'a [u8]) -> Self
+        ensures { result ≡ slice_split (λ b. b == 32) bytes.now }
+    {
+        Words { rest: Some(bytes) }
+    }
+
+    /// Takes the next word.
+    pub fn next(&mut self) -> Option<&'a [u8]>
+        ensures word { option_map (λ w. w.now) result ≡ first self.old }
+        ensures rest { self.new ≡ drop 1 self.old }
+    {
+        let rest = self.rest?;
+        match space(rest) {
+            None => {
+                self.rest = None;
+                Some(rest)
+            }
+            Some(at) => {
+                self.rest = Some(&rest[at + 1..]);
+                Some(&rest[..at])
+            }
+        }
+    }
+
+    /// Whether no word is left.
+    pub fn is_at_end(&mut self) -> bool
+        ensures { result ≡ is_none (first self.old) }
+    {
+        self.next().is_none()
+    }
+
+    /// Takes a number of 32 bits.
+    #[tactic(auto, unfolding(crate::specs::Reading::field))]
+    pub fn number(&mut self) -> Option<u32>
+        ensures { Reads result self.new (number_at self.old) }
+    {
+        field::number(self.next()?)
+    }
+
+    /// Takes a number of 64 bits.
+    #[tactic(auto, unfolding(crate::specs::Reading::field))]
+    pub fn long(&mut self) -> Option<u64>
+        ensures { Reads result self.new (long_at self.old) }
+    {
+        field::long(self.next()?)
+    }
+
+    /// Takes an identifier.
+    #[tactic(auto, unfolding(crate::specs::Reading::field))]
+    pub fn id(&mut self) -> Option<Id>
+        ensures { Reads result self.new (id_at self.old) }
+    {
+        field::id(self.next()?)
+    }
+
+    /// Takes a node.
+    #[tactic(auto, unfolding(crate::specs::Reading::field))]
+    pub fn node(&mut self) -> Option<NodeId>
+        ensures { Reads result self.new (node_at self.old) }
+    {
+        field::node(self.next()?)
+    }
+
+    /// Takes why a block is given up.
+    #[tactic(auto, unfolding(crate::specs::Reading::field))]
+    pub fn drop_why(&mut self) -> Option<DropWhy>
+        ensures { Reads result self.new (field why_of self.old) }
+    {
+        DropWhy::of(self.next()?)
+    }
+
+    /// Takes why a query isn't sent.
+    #[tactic(auto, unfolding(crate::specs::Reading::field))]
+    pub fn query_why(&mut self) -> Option<QueryWhy>
+        ensures { Reads result self.new (field query_of self.old) }
+    {
+        QueryWhy::of(self.next()?)
+    }
+
+    /// Takes why bootstrapping begins again.
+    #[tactic(auto, unfolding(crate::specs::Reading::field))]
+    pub fn restart_why(&mut self) -> Option<RestartWhy>
+        ensures { Reads result self.new (field restart_of self.old) }
+    {
+        RestartWhy::of(self.next()?)
+    }
+
+    /// Takes why a frame is passed over.
+    #[tactic(auto, unfolding(crate::specs::Reading::field))]
+    pub fn skip_kind(&mut self) -> Option<SkipKind>
+        ensures { Reads result self.new (field kind_of self.old) }
+    {
+        SkipKind::of(self.next()?)
+    }
+
+    /// Takes a node and a number.
+    #[tactic(auto, unfolding(crate::specs::Reading::told_at))]
+    pub fn told(&mut self) -> Option<(NodeId, u32)>
+        ensures { Reads result self.new (told_at self.old) }
+    {
+        let node = self.node()?;
+        let number = self.number()?;
+        Some((node, number))
+    }
+
+    /// Takes all words, which are identifiers.
+    #[tactic(auto, using(crate::proofs::Cutting::listing))]
+    pub fn ids(&mut self, alloc: Global) -> Result<Option<Ids>, AllocError>
+        ensures { IfOk result (λ r. r ≡ items (bytes_of 32) self.old) }
+    {
+        let mut ids = Ids::new(alloc);
+        while let Some(word) = self.next() {
+            match field::id(word) {
+                None => return Ok(None),
+                Some(id) => ids.push(id)?,
+            }
+        }
+        Ok(Some(ids))
+    }
+
+    /// Takes all words, which are draws.
+    #[tactic(auto, using(crate::proofs::Cutting::listing))]
+    pub fn draws(&mut self, alloc: Global) -> Result<Option<Draws>, AllocError>
+        ensures { IfOk result (λ r. r ≡ items draw_of self.old) }
+    {
+        let mut draws = Draws::new(alloc);
+        while let Some(word) = self.next() {
+            match field::draw(word) {
+                None => return Ok(None),
+                Some(draw) => draws.push(draw)?,
+            }
+        }
+        Ok(Some(draws))
+    }
+
+    /// Takes all words, which are blocks.
+    #[tactic(auto, using(crate::proofs::Cutting::listing))]
+    pub fn blocks(&mut self, alloc: Global) -> Result<Option<Blocks>, AllocError>
+        ensures { IfOk result (λ r. r ≡ items block_of self.old) }
+    {
+        let mut blocks = Blocks::new(alloc);
+        while let Some(word) = self.next() {
+            match field::block(alloc, word)? {
+                None => return Ok(None),
+                Some(block) => blocks.push(block)?,
+            }
+        }
+        Ok(Some(blocks))
+    }
+}
+
+// The place of the first space.
+#[tactic(auto, using(crate::proofs::Cutting::cut_end, crate::proofs::Cutting::cut_at, crate::proofs::Cutting::no_space_next))]
+fn space(bytes: &[u8]) -> Option<usize>
+    ensures { IsCut bytes.now result }
+{
+    for at in 0..bytes.len() {
+        if bytes[at] == b' ' {
+            return Some(at);
+        }
+    }
+    None
+}
