@@ -17,7 +17,11 @@ fn main(rt: HostRuntime) -> anyhow::Result<()> {
     let events = events_in(rt.alloc(), &small)?;
     let elapsed = start.elapsed(&rt)?;
     println!(rt; "{events} blocks")?;
-    eprintln!(rt; "small frames: {} bytes in {} ms", small.len(), elapsed.as_millis())?;
+    eprintln!(rt;
+        "small frames: {} bytes in {} ms",
+        small.len(),
+        elapsed.as_millis()
+    )?;
     large_frames(&rt)?;
     lines(&rt)
 }
@@ -29,7 +33,11 @@ fn large_frames(rt: &HostRuntime) -> anyhow::Result<()> {
     let events = events_in(rt.alloc(), &large)?;
     let elapsed = start.elapsed(rt)?;
     println!(rt; "{events} replies")?;
-    eprintln!(rt; "large frames: {} bytes in {} ms", large.len(), elapsed.as_millis())?;
+    eprintln!(rt;
+        "large frames: {} bytes in {} ms",
+        large.len(),
+        elapsed.as_millis()
+    )?;
     Ok(())
 }
 
@@ -41,7 +49,11 @@ fn lines(rt: &HostRuntime) -> anyhow::Result<()> {
     let printed = print_often(&line, &mut sink, 100_000).is_ok();
     let elapsed = start.elapsed(rt)?;
     println!(rt; "{printed}, {} bytes", sink.taken())?;
-    eprintln!(rt; "query lines: {} bytes in {} ms", sink.taken(), elapsed.as_millis())?;
+    eprintln!(rt;
+        "query lines: {} bytes in {} ms",
+        sink.taken(),
+        elapsed.as_millis()
+    )?;
     Ok(())
 }
 
