@@ -10,7 +10,7 @@ use Rattle.snow_plain.specs.Board.{Board, height_of}
 use Rattle.snow_wire.specs.declared.event.Event.{Event}
 use Rattle.snow_wire.specs.declared.event.Event.TheVariants as event
 use Rattle.snow_lines.specs.declared.line.Line.{Line}
-use Rattle.snow_lines.specs.declared.line.DropWhy.{DropWhy}
+use Rattle.snow_lines.specs.declared.why.DropWhy.{DropWhy}
 use Rattle.snow_lines.specs.Text.{text, texts}
 use Rattle.snow_cli.specs.Chain.{header_of, is_valid}
 use Rattle.snow_cli.specs.Node.{step, lines_from, told, placed, offered, refusal, received, recorded, votes_for}

@@ -12,9 +12,9 @@ use Rattle.snow_wire.specs.declared.event.Event.{Event}
 use Rattle.snow_wire.specs.declared.event.Event.TheVariants as event
 use Rattle.snow_lines.specs.declared.line.Line.{Line}
 use Rattle.snow_lines.specs.declared.line.Line.TheVariants as line
-use Rattle.snow_lines.specs.declared.line.DropWhy.{DropWhy}
-use Rattle.snow_lines.specs.declared.line.DropWhy.TheVariants as why
-use Rattle.snow_lines.specs.declared.line.SkipKind.TheVariants as kind
+use Rattle.snow_lines.specs.declared.why.DropWhy.{DropWhy}
+use Rattle.snow_lines.specs.declared.why.DropWhy.TheVariants as why
+use Rattle.snow_lines.specs.declared.why.SkipKind.TheVariants as kind
 use Rattle.snow_cli.specs.Chain.{header_of, is_valid}
 
 -- the line of a decision
