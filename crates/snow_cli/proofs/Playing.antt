@@ -1,5 +1,5 @@
 -- The events of a stream one after the other.
-use Rattle.std.proofs.Common.{◌≡◌, ℕ, zero, suc, ◌+◌, ◌<◌, ◌≤◌, Bool, true, false, ◌&&◌, cond, List, [], ◌∷◌, ◌++◌, length, drop, get_or, Option, Some, None, refl, sym, ap, ◌∙◌, subst, append_assoc, append-nil, add-one, drop-cons, drop_of_length-le, arith, if◌then◌else◌, nat_le, nat_lt}
+use Rattle.std.proofs.Common.{◌≡◌, ℕ, ◌+◌, ◌<◌, ◌≤◌, Bool, true, false, List, [], ◌∷◌, ◌++◌, length, drop, get_or, Option, Some, None, refl, sym, ap, ◌∙◌, subst, append_assoc, append-nil, add-one, drop-cons, drop_of_length-le, arith, if◌then◌else◌, nat_lt}
 use Rattle.std.proofs.lemmas.List.Concat.{flat_map-append}
 use Rattle.std.specs.Io.KnownBytes.{Appends}
 use Rattle.snow_base.specs.declared.header.Header.{Header}
@@ -13,7 +13,7 @@ use Rattle.snow_lines.specs.declared.line.Line.{Line}
 use Rattle.snow_lines.specs.declared.why.DropWhy.{DropWhy}
 use Rattle.snow_lines.specs.Text.{text, texts}
 use Rattle.snow_cli.specs.Chain.{header_of, is_valid}
-use Rattle.snow_cli.specs.Node.{step, lines_from, told, placed, offered, refusal, received, recorded, votes_for}
+use Rattle.snow_cli.specs.Node.{step, lines_from, placed, offered, refusal, received, votes_for}
 use Rattle.snow_cli.proofs.Steps.{poll_keeps}
 
 -- ---- the parameters stay

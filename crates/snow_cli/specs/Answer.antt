@@ -1,10 +1,9 @@
 -- What the top call owes for its words and for the bytes that come in.
-use Rattle.std.specs.Prelude.{◌≡◌, ℕ, Bool, true, false, List, [], ◌∷◌, ◌++◌, length, map, Option, Some, None, codes, nat_lt, ◌==◌, if◌then◌else◌, IsSome, ⊤, String, string_bytes, bytes_eq, ◌⊎◌}
+use Rattle.std.specs.Prelude.{◌≡◌, ℕ, Bool, false, List, [], ◌∷◌, length, Option, Some, None, codes, nat_lt, ◌==◌, if◌then◌else◌, ⊤, bytes_eq, ◌⊎◌}
 use Rattle.std.specs.Io.KnownBytes.{Appends, Keeps}
 use Rattle.snow_base.specs.Outside.{AppendsFront, Rose}
 use Rattle.snow_flake.specs.Rule.{Answer}
 use Rattle.snow_lines.specs.declared.line.Line.{Line}
-use Rattle.snow_lines.specs.Text.{texts}
 use Rattle.snow_cli.specs.declared.status.Status.{Status}
 use Rattle.snow_cli.specs.declared.status.Status.TheVariants as status
 use Rattle.snow_plain.specs.Board.{Board}

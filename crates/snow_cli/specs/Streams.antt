@@ -1,5 +1,5 @@
 -- What a stream that was read says.
-use Rattle.std.specs.Prelude.{ℕ, List}
+use Rattle.std.specs.Prelude.{List}
 use Rattle.snow_plain.specs.Board.{Board, begin}
 use Rattle.snow_wire.specs.declared.event.Event.{Event}
 use Rattle.snow_cli.specs.declared.stream.Beginning.{Beginning}

@@ -66,7 +66,7 @@ blocks_after child [] = refl
 blocks_after child (q ∷ pending) = ap (λ l. q.block ∷ l) (blocks_after child pending)
 
 -- the latest first after an issue
-reversed_after : (child : Header) (pending : List Pending)
+pub reversed_after : (child : Header) (pending : List Pending)
     → reverse (blocks_of (map (after_issue child) pending ++ new_pending child ∷ [])) ≡ child ∷ reverse (blocks_of pending)
 reversed_after child pending =
     ap reverse (map-append (λ q. q.block) (map (after_issue child) pending) (new_pending child ∷ []))
@@ -90,7 +90,7 @@ present (q ∷ pending) id height h =
     (λ t. let k = rw t at h in or_right (bytes_eq q.block.id id) (has_block (blocks_of pending) id) (present pending id height k))
 
 -- what has no height isn't on the board
-unknown_off : (board : Board) (id : List ℕ) → height_of board id ≡ None → is_on board.last (reverse (blocks_of board.pending)) id ≡ false
+pub unknown_off : (board : Board) (id : List ℕ) → height_of board id ≡ None → is_on board.last (reverse (blocks_of board.pending)) id ≡ false
 unknown_off board id h =
     split_on (bytes_eq board.last id)
     (λ t. let k = rw t at h in absurd (none-some board.height (sym k)))

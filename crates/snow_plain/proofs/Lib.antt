@@ -20,3 +20,13 @@ pub mod Gathered
 pub mod Climbed
 pub mod Swept
 pub mod Polled
+pub mod Ended
+pub mod Excluding
+pub mod Standing
+pub mod Children
+pub mod Order
+pub mod Below
+pub mod Confidence
+pub mod Heights
+pub mod Pruning
+pub mod FlakeDecides

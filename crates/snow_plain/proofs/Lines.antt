@@ -11,7 +11,7 @@ use Rattle.snow_base.specs.Ancestry.{is_below}
 use Rattle.snow_plain.specs.Board.{Board, blocks_of}
 use Rattle.snow_plain.specs.Reached.{Reached}
 use Rattle.snow_plain.specs.LineLaw.{has_child_on}
-use Rattle.snow_plain.proofs.Invariant.{IsSound, sound_kept, reached_keeps}
+use Rattle.snow_plain.proofs.Invariant.{reached_sound}
 use Rattle.snow_plain.specs.Grown.{has_block, is_on, IsGrown}
 use Rattle.snow_plain.proofs.Cases.{split_on, clash, same_id, id_itself}
 use Rattle.snow_plain.proofs.Grown.{grown_new, grown_parent, grown_rest, grown_before, on_more, older, childless, no_child_on, line_passes}
@@ -108,7 +108,7 @@ one_child last (b ∷ earlier) parent front id g =
 pub line_law : (board : Board) (parent : List ℕ) (front : List Bool) (id : List ℕ) → Reached board
     → has_child_on (blocks_of board.pending) parent front id ≡ is_below (blocks_of board.pending) parent front id
 line_law board parent front id reached =
-    one_child board.last (reverse (blocks_of board.pending)) parent front id (reached_keeps IsSound sound_kept board reached).grown
+    one_child board.last (reverse (blocks_of board.pending)) parent front id (reached_sound board reached).grown
 
 -- ---- lines through one block
 

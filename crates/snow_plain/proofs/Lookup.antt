@@ -1,22 +1,23 @@
 -- Lemmas on the counters of a block on the board, after each step.
-use Rattle.std.proofs.Common.{◌≡◌, ℕ, Bool, true, false, not, ◌&&◌, List, [], ◌∷◌, ◌++◌, map, reverse, filter, find, bytes_eq, Some, refl, sym, ap, ◌∙◌, subst, append_assoc}
+use Rattle.std.proofs.Common.{◌≡◌, Option, None, if◌then◌else◌, ℕ, Bool, true, false, not, ◌&&◌, List, [], ◌∷◌, ◌++◌, map, reverse, filter, find, bytes_eq, Some, refl, sym, ap, ◌∙◌, subst, append_assoc}
 use mathlib.Core.List.{reverse-cons}
-use Rattle.std.specs.Option.{option_map_or}
+use Rattle.std.specs.Option.{option_map, option_map_or}
 use Rattle.std.proofs.lemmas.List.{map-append, reverse-append}
+use Rattle.std.proofs.lemmas.List.Folds.{list_any-append}
 use Rattle.std.proofs.lemmas.Option.{none-some, same_Some}
-use Rattle.std.proofs.lemmas.Bool.{or_parts, or_from, and_parts}
+use Rattle.std.proofs.lemmas.Bool.{or_parts, or_from, or_left, or_right, and_parts}
 use Rattle.snow_base.specs.declared.header.Header.{Header}
 use Rattle.snow_base.specs.declared.vote.Vote.{Vote}
 use Rattle.snow_base.specs.Ancestry.{descends}
 use Rattle.snow_flake.specs.Parameters.{Parameters}
 use Rattle.snow_plain.specs.declared.pending.Pending.{Pending}
 use Rattle.snow_plain.specs.Conflict.{Counters, Blank, all_polled, decides}
-use Rattle.snow_plain.specs.Board.{Board, blocks_of, counters_on, with_issued, with_counters, new_pending, issued}
+use Rattle.snow_plain.specs.Board.{Board, blocks_of, counters_on, height_of, with_issued, with_counters, new_pending, issued}
 use Rattle.snow_plain.specs.Poll.{with_votes, counted, winner, promoted}
 use Rattle.snow_plain.specs.Grown.{has_block, is_on, IsGrown}
 use Rattle.snow_plain.proofs.Cases.{split_on, clash, same_id, id_itself}
 use Rattle.snow_plain.proofs.Grown.{grown_new, grown_before, not_last, has_block-reverse}
-use Rattle.snow_plain.proofs.Kept.{blocks-filter, has_filtered}
+use Rattle.snow_plain.proofs.Kept.{filter-reverse, blocks-filter, has_filtered}
 use Rattle.snow_plain.proofs.Settled.{wins}
 
 -- the counters of the first of these blocks with an identifier; none where there is no such block
@@ -101,19 +102,23 @@ found test (y ∷ xs) x h =
     record { front = y ∷ rest.front; back = rest.back; is = ap (λ l. y ∷ l) rest.is; passes = rest.passes })
 
 -- the latest first, around one block
-reversed_around : (front back : List Pending) (q : Pending) → reverse (blocks_of (front ++ q ∷ back)) ≡ reverse (blocks_of back) ++ q.block ∷ reverse (blocks_of front)
+pub reversed_around : (front back : List Pending) (q : Pending) → reverse (blocks_of (front ++ q ∷ back)) ≡ reverse (blocks_of back) ++ q.block ∷ reverse (blocks_of front)
 reversed_around front back q =
     ap reverse (map-append (λ q. q.block) front (q ∷ back))
     ∙ reverse-append (blocks_of front) (blocks_of (q ∷ back))
     ∙ ap (λ l. l ++ reverse (blocks_of front)) (reverse-cons q.block (blocks_of back))
     ∙ append_assoc (reverse (blocks_of back)) (q.block ∷ []) (reverse (blocks_of front))
 
--- the counters of a block behind others
-behind_in : (front rest : List Pending) (id : List ℕ) → has_block (blocks_of front) id ≡ false → counters_in (front ++ rest) id ≡ counters_in rest id
-behind_in [] rest id h = refl
-behind_in (q ∷ front) rest id h =
+-- the first of these blocks with an identifier
+abbrev pub sought : List Pending → List ℕ → Option Pending
+sought pending id = find (λ q. bytes_eq q.block.id id) pending
+
+-- a block behind others
+pub sought_behind : (front rest : List Pending) (id : List ℕ) → has_block (blocks_of front) id ≡ false → sought (front ++ rest) id ≡ sought rest id
+sought_behind [] rest id h = refl
+sought_behind (q ∷ front) rest id h =
     let parts = or_parts (bytes_eq q.block.id id) (has_block (blocks_of front) id) h in
-    rw parts.0 (behind_in front rest id parts.1)
+    rw parts.0 (sought_behind front rest id parts.1)
 
 -- what a winner is
 pub record IsWinner (board : Board) (child : Pending) : Type 0 where
@@ -122,7 +127,9 @@ pub record IsWinner (board : Board) (child : Pending) : Type 0 where
   pub is : reverse (blocks_of board.pending) ≡ later ++ child.block ∷ earlier
   pub parent : child.block.parent ≡ board.last
   pub decided : decides board.counters child.block.id ≡ true
-  pub own : counters_on board child.block.id ≡ child.counters
+  pub pending : has_block (blocks_of board.pending) child.block.id ≡ true
+  pub above : bytes_eq board.last child.block.id ≡ false
+  pub own : sought board.pending child.block.id ≡ Some child
 
 pub won : (board : Board) (child : Pending) → IsGrown board.last (reverse (blocks_of board.pending)) → winner board ≡ Some child → IsWinner board child
 unfolding winner
@@ -135,47 +142,100 @@ won board child g h =
     let new = or_parts (bytes_eq board.last child.block.id) (has_block (reverse (blocks_of place.front)) child.block.id) (grown_new here) in
     let parts = and_parts (bytes_eq child.block.parent board.last) (decides board.counters child.block.id) place.passes in
     let none : has_block (blocks_of place.front) child.block.id ≡ false = sym (has_block-reverse (blocks_of place.front) child.block.id) ∙ new.1 in
-    let in' : counters_in board.pending child.block.id ≡ child.counters =
-    ap (λ l. counters_in l child.block.id) place.is ∙ behind_in place.front (child ∷ place.back) child.block.id none ∙ rw (id_itself child.block.id) refl
-    in
     record {
       later = reverse (blocks_of place.back);
       earlier = reverse (blocks_of place.front);
       is = whole;
       parent = same_id child.block.parent board.last parts.0;
       decided = parts.1;
-      own = rw new.0 in';
+      pending =
+          sym (has_block-reverse (blocks_of board.pending) child.block.id)
+          ∙ ap (λ l. has_block l child.block.id) whole
+          ∙ list_any-append (λ b. bytes_eq b.id child.block.id) (reverse (blocks_of place.back)) (child.block ∷ reverse (blocks_of place.front))
+          ∙ or_right (has_block (reverse (blocks_of place.back)) child.block.id) (has_block (child.block ∷ reverse (blocks_of place.front)) child.block.id)
+          (or_left (bytes_eq child.block.id child.block.id) (has_block (reverse (blocks_of place.front)) child.block.id) (id_itself child.block.id));
+      above = new.0;
+      own =
+          ap (λ l. sought l child.block.id) place.is ∙ sought_behind place.front (child ∷ place.back) child.block.id none ∙ rw (id_itself child.block.id) refl;
     }
 
 -- ---- after an acceptance
 
--- the blocks that stay keep their counters
-filtered_in : (f : List ℕ → Bool) (pending : List Pending) (id : List ℕ) → f id ≡ true → counters_in (filter (λ q. f q.block.id) pending) id ≡ counters_in pending id
-filtered_in f [] id h = refl
-filtered_in f (q ∷ pending) id h =
+-- the blocks that stay are found as before
+pub sought_filtered : (f : List ℕ → Bool) (pending : List Pending) (id : List ℕ) → f id ≡ true → sought (filter (λ q. f q.block.id) pending) id ≡ sought pending id
+sought_filtered f [] id h = refl
+sought_filtered f (q ∷ pending) id h =
     split_on (bytes_eq q.block.id id)
     (λ t. let here : f q.block.id ≡ true = ap f (same_id q.block.id id t) ∙ h in rw (here, t) refl)
     (λ t. split_on (f q.block.id)
-    (λ s. rw (s, t) (filtered_in f pending id h))
-    (λ s. rw (s, t) (filtered_in f pending id h)))
+    (λ s. rw (s, t) (sought_filtered f pending id h))
+    (λ s. rw (s, t) (sought_filtered f pending id h)))
 
--- what is on the board after an acceptance has the counters that it had
+-- whether a pending block stays when the child is accepted
+abbrev pub stays : Board → Pending → List ℕ → Bool
+stays board child id = descends (blocks_of board.pending) child.block.id id && not (bytes_eq id child.block.id)
+
+-- what is on the board after an acceptance is the child, or was pending and stays
+pub on_promoted : (board : Board) (child : Pending) (id : List ℕ) → is_on (promoted board child).last (blocks_of (promoted board child).pending) id ≡ true
+    → bytes_eq child.block.id id ≡ false → (has_block (blocks_of board.pending) id ≡ true) × (stays board child id ≡ true)
+unfolding promoted
+on_promoted board child id on other =
+    let kept : has_block (blocks_of (filter (λ q. stays board child q.block.id) board.pending)) id ≡ true = rw other at on in
+    and_parts (has_block (blocks_of board.pending) id) (stays board child id)
+    (sym (ap (λ l. has_block l id) (blocks-filter (λ b. stays board child b.id) board.pending) ∙ has_filtered (stays board child) (blocks_of board.pending) id) ∙ kept)
+
+-- the blocks after an acceptance, the latest first
+pub reversed_promoted : (board : Board) (child : Pending)
+    → reverse (blocks_of (promoted board child).pending) ≡ filter (λ b. stays board child b.id) (reverse (blocks_of board.pending))
+unfolding promoted
+reversed_promoted board child =
+    ap reverse (blocks-filter (λ b. stays board child b.id) board.pending) ∙ sym (filter-reverse (λ b. stays board child b.id) (blocks_of board.pending))
+
+-- the last accepted block isn't pending
+pub last_not_pending : (board : Board) → IsGrown board.last (reverse (blocks_of board.pending)) → has_block (blocks_of board.pending) board.last ≡ false
+last_not_pending board g = sym (has_block-reverse (blocks_of board.pending) board.last) ∙ not_last board.last (reverse (blocks_of board.pending)) g
+
+-- what a block on the board has, from the last accepted one or from a pending one
+abbrev pub shown_on : {X : Type 0} → Board → X → (Pending → X) → X → List ℕ → X
+shown_on board of_last of_pending none id = if bytes_eq board.last id then of_last else option_map_or of_pending (sought board.pending id) none
+
+-- what is on the board after an acceptance has what it had
+shown_promoted : {X : Type 0} (of_pending : Pending → X) (of_last none : X) (board : Board) (child : Pending) (id : List ℕ)
+    → IsGrown board.last (reverse (blocks_of board.pending)) → winner board ≡ Some child
+    → is_on (promoted board child).last (blocks_of (promoted board child).pending) id ≡ true
+    → shown_on (promoted board child) (of_pending child) of_pending none id ≡ shown_on board of_last of_pending none id
+unfolding promoted
+shown_promoted of_pending of_last none board child id g h on =
+    let w = won board child g h in
+    split_on (bytes_eq child.block.id id)
+    (λ t.
+    let here : shown_on board of_last of_pending none child.block.id ≡ of_pending child = rw (w.above, w.own) refl in
+    rw t (sym here ∙ ap (shown_on board of_last of_pending none) (same_id child.block.id id t)))
+    (λ t.
+    let parts = on_promoted board child id on t in
+    split_on (bytes_eq board.last id)
+    (λ s. clash (has_block (blocks_of board.pending) id) parts.0
+    (ap (has_block (blocks_of board.pending)) (sym (same_id board.last id s)) ∙ last_not_pending board g))
+    (λ s. rw (t, s) (ap (λ o. option_map_or of_pending o none) (sought_filtered (stays board child) board.pending id parts.1))))
+
+-- its counters
 pub counters_promoted : (board : Board) (child : Pending) (id : List ℕ) → IsGrown board.last (reverse (blocks_of board.pending)) → winner board ≡ Some child
     → is_on (promoted board child).last (blocks_of (promoted board child).pending) id ≡ true
     → counters_on (promoted board child) id ≡ counters_on board id
 unfolding promoted
-counters_promoted board child id g h on =
-    let is = won board child g h in
-    let stays : List ℕ → Bool = λ id. descends (blocks_of board.pending) child.block.id id && not (bytes_eq id child.block.id) in
-    split_on (bytes_eq child.block.id id)
-    (λ t. rw t (sym is.own ∙ ap (counters_on board) (same_id child.block.id id t)))
-    (λ t.
-    let kept : has_block (blocks_of (filter (λ q. stays q.block.id) board.pending)) id ≡ true = rw t at on in
-    let parts = and_parts (has_block (blocks_of board.pending) id) (stays id)
-    (sym (ap (λ l. has_block l id) (blocks-filter (λ b. stays b.id) board.pending) ∙ has_filtered stays (blocks_of board.pending) id) ∙ kept)
-    in
-    split_on (bytes_eq board.last id)
-    (λ s. clash (has_block (blocks_of board.pending) id) parts.0
-    (ap (has_block (blocks_of board.pending)) (sym (same_id board.last id s))
-    ∙ sym (has_block-reverse (blocks_of board.pending) board.last) ∙ not_last board.last (reverse (blocks_of board.pending)) g))
-    (λ s. rw (t, s) (filtered_in stays board.pending id parts.1)))
+counters_promoted board child id g h on = shown_promoted (λ q. q.counters) board.counters Blank board child id g h on
+
+-- and its height
+pub height_promoted : (board : Board) (child : Pending) (id : List ℕ) → IsGrown board.last (reverse (blocks_of board.pending)) → winner board ≡ Some child
+    → is_on (promoted board child).last (blocks_of (promoted board child).pending) id ≡ true
+    → height_of (promoted board child) id ≡ height_of board id
+unfolding promoted
+height_promoted board child id g h on =
+    shown_height (promoted board child) id ∙ shown_promoted (λ q. Some q.block.height) (Some board.height) None board child id g h on ∙ sym (shown_height board id)
+  where
+    mapped : (o : Option Pending) → option_map (λ q. q.block.height) o ≡ option_map_or (λ q. Some q.block.height) o None
+    mapped None = refl
+    mapped (Some q) = refl
+
+    shown_height : (board : Board) (id : List ℕ) → height_of board id ≡ shown_on board (Some board.height) (λ q. Some q.block.height) None id
+    shown_height board id = ap (λ o. if bytes_eq board.last id then Some board.height else o) (mapped (sought board.pending id))

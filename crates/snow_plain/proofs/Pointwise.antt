@@ -1,6 +1,7 @@
 -- Lemmas on the counters of a conflict as a map from bit lists.
-use Rattle.std.proofs.Common.{◌≡◌, ℕ, Bool, true, false, not, ◌||◌, List, [], ◌∷◌, ◌++◌, Option, Some, None, is_some, if◌then◌else◌, refl, ap, ◌∙◌}
+use Rattle.std.proofs.Common.{◌≡◌, ℕ, Bool, true, false, not, ◌||◌, List, [], ◌∷◌, ◌++◌, Option, Some, None, is_some, if◌then◌else◌, refl, sym, ap, ◌∙◌}
 use Rattle.std.proofs.lemmas.Bool.{or_right}
+use Rattle.std.proofs.lemmas.Option.{none-some, same_Some}
 use Rattle.std.specs.Bool.{beq, Decides}
 use Rattle.snow_flake.specs.Parameters.{Parameters}
 use Rattle.snow_flake.specs.Counter.{Counter, Decided, Undecided, stepped, admits}
@@ -8,6 +9,19 @@ use Rattle.snow_plain.specs.Conflict.{Counters, Blank, At, counter_at, with_chil
 use Rattle.snow_plain.specs.Excluded.{lets, is_excluded, IsExcluded}
 use Rattle.snow_plain.specs.PointwiseLaw.{stepped_at, grown_at, fresh_at}
 use Rattle.snow_plain.proofs.Cases.{split_on}
+
+-- ---- a map
+
+-- what stands at each bit list says which counters they are
+pub same_map : (counters other : Counters) → ((place : List Bool) → counter_at counters place ≡ counter_at other place) → counters ≡ other
+same_map Blank Blank h = refl
+same_map Blank (At d y w) h = absurd (none-some d (h []))
+same_map (At c z o) Blank h = absurd (none-some c (sym (h [])))
+same_map (At c z o) (At d y w) h =
+    let here : c ≡ d = same_Some c d (h []) in
+    let zeros = same_map z y (λ place. h (false ∷ place)) in
+    let ones = same_map o w (λ place. h (true ∷ place)) in
+    λ i. At (here i) (zeros i) (ones i)
 
 -- ---- which lists are excluded
 

@@ -12,7 +12,8 @@ use Rattle.snow_flake.specs.Counter.{Counter, Decided, Undecided, class, voted, 
 use Rattle.snow_plain.specs.Conflict.{Counters, Blank, At, all_polled}
 use Rattle.snow_plain.specs.Board.{Board, blocks_of, with_counters}
 use Rattle.snow_plain.specs.Poll.{with_votes, counted, settled, poll}
-use Rattle.snow_plain.specs.Alike.{votes_for, AreAlike}
+use Rattle.snow_plain.specs.Alike.{votes_for, AreAlike, GivesAll}
+use Rattle.snow_plain.specs.declared.decision.Decision.{Decision}
 use Rattle.snow_plain.proofs.Cases.{split_on, clash, same_id, id_itself}
 
 -- ---- the bit step reads counts by class
@@ -114,3 +115,10 @@ same_board board votes others alike =
       counters = change i board.last board.counters;
       pending = map (with_counters (change i)) board.pending;
     })
+
+-- what a poll leaves is what each alike multiset of votes gives
+pub gives_all : (before : Board) (votes : List Vote) (after : Board) (decisions : List Decision)
+    → after ≡ (poll before votes).0 → decisions ≡ (poll before votes).1 → GivesAll before votes after decisions
+gives_all before votes after decisions board told others alike few =
+    let same = same_board before votes others alike in
+    (board ∙ ap (λ r. r.0) same, told ∙ ap (λ r. r.1) same)

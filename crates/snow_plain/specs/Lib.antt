@@ -7,6 +7,7 @@ pub mod BoardCode
 pub mod Grown
 pub mod Poll
 pub mod Preference
+pub mod Ending
 pub mod Reached
 pub mod Acceptance
 pub mod Excluded
@@ -17,3 +18,8 @@ pub mod FailingLaw
 pub mod LineLaw
 pub mod Cursors
 pub mod Shown
+pub mod StandingLaw
+pub mod ConfidenceLaw
+pub mod QuorumLaw
+pub mod Keeping
+pub mod KeepingLaw

@@ -8,6 +8,10 @@ use Rattle.snow_flake.specs.Counter.{Counter, fresh, stepped}
 use Rattle.snow_plain.specs.Conflict.{Counters, counter_at, with_child, all_polled}
 use Rattle.snow_plain.specs.Excluded.{is_excluded, IsExcluded}
 
+-- counters that are the same at each bit list are the same
+abbrev pub MapLaw : Type 0
+MapLaw = (counters other : Counters) → ((place : List Bool) → counter_at counters place ≡ counter_at other place) → counters ≡ other
+
 -- a bit list is excluded exactly where the counter at a proper front is decided, and not with the bit that follows
 abbrev pub ExcludedLaw : Type 0
 ExcludedLaw = (counters : List Bool → Option Counter) (place : List Bool) → Decides (is_excluded counters place) (IsExcluded counters place)
@@ -33,7 +37,6 @@ grown_at child counters place =
     let before : List Bool → Option Counter = counter_at counters in
     if is_some (before place) || is_excluded before place then before place else fresh_at child place
 
--- at each bit list an issue leaves what stands there, and makes fresh counters at just those proper fronts of
--- the child's bits where none stands and that no decided counter excludes
+-- an issue leaves what stands, and makes fresh counters at just those proper fronts of the child's bits where none stands and none is excluded
 abbrev pub IssueLaw : Type 0
 IssueLaw = (child : List Bool) (counters : Counters) (place : List Bool) → counter_at (with_child child counters) place ≡ grown_at child counters place

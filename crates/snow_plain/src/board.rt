@@ -13,6 +13,7 @@ use std::alloc::{AllocError, Global};
 pub trait Board: Sized + Drop {
     ghost use Rattle.snow_plain.specs.declared.decision.Decision.{Decision};
     ghost use Rattle.snow_plain.specs.Poll.{poll};
+    ghost use Rattle.snow_plain.specs.Alike.{GivesAll};
     ghost use Rattle.snow_plain.specs.Preference.{preferred, is_preferred};
     ghost use Rattle.snow_plain.specs.Reached.{MayIssue};
 
@@ -45,7 +46,9 @@ pub trait Board: Sized + Drop {
     fn apply_poll(&mut self, votes: &Bag)
         requires { total_count votes.now.list ≤ (board self.old).parameters.k }
         ensures board { board self.new ≡ (poll (board self.old) votes.now.list).0 }
-        ensures decided { decided self.new ≡ (poll (board self.old) votes.now.list).1 };
+        ensures decided { decided self.new ≡ (poll (board self.old) votes.now.list).1 }
+        // Each other multiset of at most K votes that is alike to these gives the same.
+        ensures alike { GivesAll (board self.old) votes.now.list (board self.new) (decided self.new) };
 
     /// The decisions of the last poll, in the order in which they are told. There are none before
     /// the first poll and after an issue.

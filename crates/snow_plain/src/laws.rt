@@ -1,9 +1,20 @@
 //! Laws of the board: what everyone who reads its definitions wants to know, each a function that
 //! does nothing and ensures the law.
-ghost use Rattle.snow_plain.specs.PointwiseLaw.{ExcludedLaw, PollLaw, IssueLaw};
+ghost use Rattle.snow_plain.specs.PointwiseLaw.{MapLaw, ExcludedLaw, PollLaw, IssueLaw};
 ghost use Rattle.snow_plain.specs.AlikeLaw.{AlikeLaw};
 ghost use Rattle.snow_plain.specs.FailingLaw.{FewVotesLaw, FewVotesOnBoardLaw, FailingTwiceLaw, FailingAndAddingLaw};
 ghost use Rattle.snow_plain.specs.LineLaw.{LineLaw};
+ghost use Rattle.snow_plain.specs.StandingLaw.{StandingLaw, ChildrenStayLaw, NoneExcludedLaw};
+ghost use Rattle.snow_plain.specs.ConfidenceLaw.{ConfidenceLaw};
+ghost use Rattle.snow_plain.specs.QuorumLaw.{OneQuorumLaw};
+ghost use Rattle.snow_plain.specs.KeepingLaw.{KeepingLaw};
+
+/// The counters of a conflict are a map from bit lists: those that are the same at each list are
+/// the same.
+#[tactic(auto, using(crate::proofs::Pointwise::same_map))]
+pub fn map_law()
+    ensures { MapLaw }
+{}
 
 /// A bit list is excluded exactly where the counter at a proper front of it is decided, and not
 /// with the bit that follows.
@@ -59,10 +70,54 @@ pub fn failing_and_adding_law()
     ensures { FailingAndAddingLaw }
 {}
 
+/// At each height of a board that can be reached at most one block has AlphaPreference votes, of at
+/// most K in all, for it and its descendants.
+#[tactic(auto, using(crate::proofs::Heights::one_quorum))]
+pub fn one_quorum_law()
+    ensures { OneQuorumLaw }
+{}
+
 /// By whose line a vote counts, on a board that can be reached: that a block or some ancestor of it
 /// is a child of the parent whose bits begin so, and that the one child of the parent on its line
 /// has such bits, are the same.
 #[tactic(auto, using(crate::proofs::Lines::line_law))]
 pub fn line_law()
     ensures { LineLaw }
+{}
+
+/// A counter stands where a child was issued, and only there: on a board that can be reached a block
+/// has a counter at a list of fewer than 256 bits exactly where it has a pending child whose bits
+/// begin so, and no decided counter excludes the list; it has none at longer lists.
+#[tactic(auto, using(crate::proofs::Standing::standing))]
+pub fn standing_law()
+    ensures { StandingLaw }
+{}
+
+/// No poll takes a child out while its parent stays on the board, so the children that were issued
+/// of a block on the board are pending.
+#[tactic(auto, using(crate::proofs::Children::children_stay))]
+pub fn children_stay_law()
+    ensures { ChildrenStayLaw }
+{}
+
+/// A board that can be reached keeps no counter that a decided one excludes.
+#[tactic(auto, using(crate::proofs::Standing::none_excluded))]
+pub fn none_excluded_law()
+    ensures { NoneExcludedLaw }
+{}
+
+/// The confidence law: on a board that can be reached, where a counter is undecided, so is each
+/// counter to which it leads, in its conflict or in one of the blocks below; and that one's
+/// confidence is at most its own, and 0 where it lies on the side other than its flake.
+#[tactic(auto, using(crate::proofs::Confidence::confident))]
+pub fn confidence_law()
+    ensures { ConfidenceLaw }
+{}
+
+/// Excluded counters are never read: after every list of issues and polls a board that kept them,
+/// and the numbers of decided counters, would have made the same decisions, and would have, by every
+/// rule, the same preference with the same path to it.
+#[tactic(auto, using(crate::proofs::Pruning::never_read))]
+pub fn keeping_law()
+    ensures { KeepingLaw }
 {}

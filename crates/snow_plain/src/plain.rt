@@ -1,6 +1,7 @@
 use crate::board::Board;
 use crate::cursor::Cursor;
 use crate::decision::Decision;
+use crate::leading::Leading;
 use crate::state::State;
 use snow_base::{Bag, Header, Id};
 use snow_flake::{Params, Rule};
@@ -9,12 +10,13 @@ use std::marker::{Model, PhantomData};
 
 /// A board with one counter for each bit list, all of which take the bit step at each poll. The
 /// rule says how they answer. A poll goes once over all counters, and for each pending block once
-/// over the votes; then once over the pending blocks for each decision.
+/// over the votes; then once over the pending blocks for each decision. An issue goes once over the
+/// pending blocks, and walks the answers only for the first block on the preference after a poll.
 #[derive(Debug, Drop)]
 pub struct PlainBoard<R: Rule> {
     state: State,
-    // The preference of this state, found anew where it may have changed.
-    leading: Id,
+    // The preference of this state, which an issue seldom has to find anew.
+    leading: Leading,
     decisions: Vec<Decision>,
     // Room for the votes of a poll, and for those that came to one block, by its children.
     cursors: Vec<Cursor>,
@@ -25,7 +27,7 @@ pub struct PlainBoard<R: Rule> {
 
 impl<R: Rule> Model for PlainBoard<R> {
     ghost use Rattle.std.specs.Prelude.{◌≡◌, ◌+◌, length, vec_capacity};
-    ghost use Rattle.snow_plain.specs.Preference.{preferred};
+    ghost use Rattle.snow_plain.specs.Ending.{IsLeading};
     ghost use Rattle.snow_plain.specs.Shown.{Shown, HasRoom, coded_shown};
 
     ghost Value = { Shown };
@@ -36,7 +38,7 @@ impl<R: Rule> Model for PlainBoard<R> {
 
     ghost invariant = { λ a.
         HasRoom a.state (vec_capacity a.decisions) (vec_capacity a.cursors) (a.children.room + length a.children.list)
-        × (a.leading ≡ preferred R.answer a.state) };
+        × IsLeading R.answer a.state a.leading };
 }
 
 impl<R: Rule> Board for PlainBoard<R> {
@@ -48,7 +50,6 @@ impl<R: Rule> Board for PlainBoard<R> {
 
     ghost agrees = { R.agrees };
 
-    #[tactic(auto, unfolding(crate::specs::Preference::path_from))]
     fn begin(alloc: Global, params: Params, last: Id, height: u64) -> Result<Self, AllocError> {
         let votes = params.k() as usize;
         let cursors = Vec::with_capacity(alloc, votes)?;
@@ -56,7 +57,10 @@ impl<R: Rule> Board for PlainBoard<R> {
         children.reserve(votes)?;
         Ok(PlainBoard {
             state: State::begin(alloc, params, last, height),
-            leading: last,
+            leading: Leading {
+                block: last,
+                is_top: true,
+            },
             decisions: Vec::new(alloc),
             cursors,
             children,
@@ -67,8 +71,9 @@ impl<R: Rule> Board for PlainBoard<R> {
 
     fn issue(&mut self, id: Id, parent: Id, height: u64) -> Result<(), AllocError> {
         self.decisions.reserve(self.state.pending_len() + 1)?;
-        self.state.issue(self.alloc, Header { id, parent, height })?;
-        self.leading = self.state.preference::<R>();
+        let child = Header { id, parent, height };
+        self.state.issue(self.alloc, child)?;
+        self.leading = self.leading.after_issue::<R>(&self.state, &child);
         self.decisions.clear();
         Ok(())
     }
@@ -78,7 +83,10 @@ impl<R: Rule> Board for PlainBoard<R> {
             .count(votes.entries(), &mut self.cursors, &mut self.children);
         self.decisions.clear();
         self.state.settle(&mut self.decisions);
-        self.leading = self.state.preference::<R>();
+        self.leading = Leading {
+            block: self.state.preference::<R>(),
+            is_top: false,
+        };
     }
 
     fn decisions(&self) -> &[Decision] {
@@ -86,7 +94,7 @@ impl<R: Rule> Board for PlainBoard<R> {
     }
 
     fn preference(&self) -> Id {
-        self.leading
+        self.leading.block
     }
 
     fn is_preferred(&self, id: &Id) -> bool {

@@ -43,7 +43,7 @@ impl Model for State {
 }
 
 impl State {
-    ghost use Rattle.std.specs.Prelude.{◌≡◌, ◌+◌, ◌^◌, ◌<◌, ◌≤◌, ◌++◌, ◌&&◌, true, length, All, OnOk, OnErr, bytes_eq, slice_get, vec_len, vec_capacity};
+    ghost use Rattle.std.specs.Prelude.{◌≡◌, ◌+◌, ◌^◌, ◌<◌, ◌≤◌, ◌++◌, ◌&&◌, true, false, length, All, OnOk, OnErr, bytes_eq, slice_get, vec_len, vec_capacity};
     ghost use Rattle.std.specs.List.{position};
     ghost use Rattle.std.specs.Option.{option_map};
     ghost use Rattle.snow_base.specs.Votes.{total_count};
@@ -51,6 +51,7 @@ impl State {
     ghost use Rattle.snow_plain.specs.Conflict.{decides};
     ghost use Rattle.snow_plain.specs.Poll.{winner, settled, counted};
     ghost use Rattle.snow_plain.specs.Preference.{preferred, is_preferred};
+    ghost use Rattle.snow_plain.specs.Ending.{has_pending_child};
     ghost use Rattle.snow_plain.specs.Reached.{MayIssue};
     ghost use Rattle.snow_plain.specs.Acceptance.{Accepts};
 
@@ -67,10 +68,11 @@ impl State {
         }
     }
 
-    /// A block is issued. After want of memory all is as before.
+    /// A block is issued: no other stands above it. After want of memory all is as before.
     pub fn issue(&mut self, alloc: Global, child: Header) -> Result<(), AllocError>
         requires { MayIssue self.old child }
         ensures ok { OnOk result (self.new ≡ issued self.old child) }
+        ensures alone { OnOk result (has_pending_child self.new.pending child.id ≡ false) }
         ensures err { OnErr result (self.new ≡ self.old) }
     {
         self.pending.reserve(1)?;

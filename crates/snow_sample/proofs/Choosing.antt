@@ -1,5 +1,5 @@
 -- Lemmas on how words choose a number: powers of two, and the words that are left.
-use Rattle.std.proofs.Common.{◌≡◌, ℕ, zero, suc, ◌+◌, ◌*◌, ◌/◌, ◌-◌, ◌%◌, ◌^◌, ◌<◌, ◌≤◌, Bool, true, false, List, [], ◌∷◌, ◌++◌, length, get_or, refl, sym, ap, ◌∙◌, arith, inl, inr, ◌==◌, Option, Some, None, cond, nat_le, bit_and, pow-suc, zero-add, append_assoc}
+use Rattle.std.proofs.Common.{◌≡◌, ℕ, zero, suc, ◌+◌, ◌*◌, ◌/◌, ◌-◌, ◌%◌, ◌^◌, ◌<◌, ◌≤◌, Bool, true, false, List, [], ◌∷◌, ◌++◌, get_or, refl, sym, ap, ◌∙◌, arith, inl, inr, ◌==◌, Option, Some, None, cond, nat_le, bit_and, pow-suc, zero-add, append_assoc}
 use Rattle.std.specs.Int.{is_power_of_two}
 use Rattle.std.specs.Int.Count.{ones, ones_step}
 use Rattle.std.specs.List.{list_any, range_with_len}
@@ -33,6 +33,7 @@ ones_power e =
     let whole : 2 ^ e ≡ 1 * 2 ^ e + 0 = omega arith in
     ap ones whole ∙ ones_cat e 1 0 (omega (arith, pow_pos e))
 
+-- two tests that hold together are one
 same_tests : (a b : Bool) → (a ≡ true → b ≡ true) → (b ≡ true → a ≡ true) → a ≡ b
 same_tests true b f g = sym (f refl)
 same_tests false true f g = g refl
@@ -60,9 +61,11 @@ same_power m h = same_tests (is_power_of_two m) (list_any (λ e. 2 ^ e == m) (ra
 
 -- ---- the rule for powers of two, and for other numbers
 
+-- where n + 1 is a power of two
 pub choice_masked : (n : ℕ) (words : List ℕ) → n + 1 < 2 ^ 64 → is_power_of_two (n + 1) ≡ true → choice n words ≡ masked n words
 choice_masked n words h power = cond-true _ (masked n words) (reduced n words) (sym (same_power (n + 1) h) ∙ power)
 
+-- and where it is not
 pub choice_reduced : (n : ℕ) (words : List ℕ) → n + 1 < 2 ^ 64 → is_power_of_two (n + 1) ≡ false → choice n words ≡ reduced n words
 choice_reduced n words h other = cond-false _ (masked n words) (reduced n words) (sym (same_power (n + 1) h) ∙ other)
 
@@ -87,10 +90,12 @@ rest_rest words some left first second =
 
 -- ---- what is chosen is small enough
 
+-- the number of an answer
 abbrev number_of : Option (ℕ × List ℕ) → ℕ
 number_of None = 0
 number_of (Some c) = c.0
 
+-- a remainder is small enough
 within_reduced : (n r : ℕ) (words left : List ℕ) → reduced n words ≡ Some (r, left) → r ≤ n
 within_reduced n r [] left is = absurd (cc)
 within_reduced n r (word ∷ words) left is =
@@ -100,6 +105,7 @@ within_reduced n r (word ∷ words) left is =
       | false ↦ λ h. within_reduced n r words left h
     ] is
 
+-- so are some bits of n
 within_masked : (n r : ℕ) (words left : List ℕ) → masked n words ≡ Some (r, left) → r ≤ n
 within_masked n r [] left is = absurd (cc)
 within_masked n r (word ∷ words) left is = let same : bit_and word n ≡ r = ap number_of is in omega (arith, and_le_r word n)

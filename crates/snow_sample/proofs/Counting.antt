@@ -1,13 +1,13 @@
 -- Lemmas on draws: where a node's are counted, and how many there are.
-use Rattle.std.proofs.Common.{◌≡◌, ◌≢◌, ℕ, zero, suc, ◌+◌, ◌<◌, ◌≤◌, Bool, true, false, cond, List, [], ◌∷◌, ◌++◌, length, get_or, set, None, Some, Option, All, refl, sym, ap, ◌∙◌, arith}
+use Rattle.std.proofs.Common.{◌≡◌, ◌≢◌, ℕ, zero, suc, ◌+◌, ◌<◌, Bool, true, false, cond, List, [], ◌∷◌, ◌++◌, length, get_or, set, None, Some, Option, All, refl, sym, ap, ◌∙◌, arith}
 use Rattle.std.specs.BTreeMap.{BTreeMap, Updates, get}
 use Rattle.std.specs.Cmp.Lexicographic.{slice_cmp}
-use Rattle.std.specs.List.{AllPairs}
 use Rattle.std.specs.Option.{option_map}
 use Rattle.std.specs.Ordering.{nat_cmp}
 use Rattle.std.specs.Str.{bytes_eq}
 use Rattle.std.proofs.lemmas.Bool.{both_ways}
 use Rattle.std.proofs.lemmas.List.Elements.{All-cons, All-head, All-tail}
+use Rattle.std.proofs.lemmas.List.Kept.{AllPairs-cons}
 use Rattle.std.proofs.lemmas.List.Sums.{sum_by-cons}
 use Rattle.std.proofs.lemmas.Map.Text.{is_eq-slice_cmp}
 use Rattle.std.proofs.lemmas.Slice.Eq.{bytes_eq-Decides}
@@ -37,7 +37,7 @@ pub counted_at : (draws : List Draw) (node : List ℕ) (at : ℕ) → place draw
 counted_at [] node at is = absurd (cc)
 counted_at (d ∷ draws) node at is =
     let Goal : Bool → Type 0 = λ same. first_place same (place draws node) ≡ Some at
-      → (at < suc (length draws)) × (first_counted same d draws node ≡ one_more (d ∷ draws) at) in
+    → (at < suc (length draws)) × (first_counted same d draws node ≡ one_more (d ∷ draws) at) in
     let later : (o : Option ℕ) → place draws node ≡ o → option_map suc o ≡ Some at → (at < suc (length draws)) × (d ∷ counted draws node ≡ one_more (d ∷ draws) at) =
     λ o. elim o as (λ o. place draws node ≡ o → option_map suc o ≡ Some at → (at < suc (length draws)) × (d ∷ counted draws node ≡ one_more (d ∷ draws) at)) [
       | None ↦ λ was now. absurd (cc)
@@ -104,6 +104,7 @@ places_new places more draws node has none updates other =
 
 -- ---- how many draws, and of which nodes
 
+-- the count of a draw
 abbrev count_of : Draw → ℕ
 count_of d = d.count
 
@@ -124,12 +125,9 @@ first_differs d draws h = λ k e p. h 0 (suc k) e (omega arith) (omega arith)
 others : (d : Draw) (draws : List Draw) → AreOfDistinctNodes (d ∷ draws) → AreOfDistinctNodes draws
 others d draws h = λ i j e p q. h (suc i) (suc j) e (omega arith) (omega arith)
 
--- a draw in front of draws of other nodes
-in_front : (d : Draw) (draws : List Draw) → All (λ e. d.node ≢ e.node) draws → AreOfDistinctNodes draws → AreOfDistinctNodes (d ∷ draws)
-in_front d draws first rest zero zero e p q = absurd (omega arith)
-in_front d draws first rest zero (suc j) e p q = first j e (omega arith)
-in_front d draws first rest (suc i) zero e p q = absurd (omega arith)
-in_front d draws first rest (suc i) (suc j) e p q = rest i j e (omega arith) (omega arith)
+-- two draws are of different nodes
+abbrev Differ : Draw → Draw → Type 0
+Differ d e = d.node ≢ e.node
 
 -- a node that differs from all that were drawn, and from the next, differs from all then
 differs_more : (other : List ℕ) (draws : List Draw) (node : List ℕ) → other ≢ node → All (λ e. other ≢ e.node) draws → All (λ e. other ≢ e.node) (counted draws node)
@@ -144,9 +142,9 @@ differs_more other (d ∷ draws) node h all =
 
 -- nodes stay distinct
 pub distinct_more : (draws : List Draw) (node : List ℕ) → AreOfDistinctNodes draws → AreOfDistinctNodes (counted draws node)
-distinct_more [] node h = in_front _ [] (λ k e p. absurd (omega arith)) h
+distinct_more [] node h = AllPairs-cons Differ _ [] (λ k e p. absurd (omega arith)) h
 distinct_more (d ∷ draws) node h =
     elim (bytes_eq d.node node) as (λ same. bytes_eq d.node node ≡ same → AreOfDistinctNodes (first_counted same d draws node)) [
-      | true ↦ λ is. in_front _ draws (first_differs d draws h) (others d draws h)
-      | false ↦ λ is. in_front d (counted draws node) (differs_more d.node draws node (λ one. both_ways (bytes_eq d.node node) is ((bytes_eq-Decides d.node node).1 one)) (first_differs d draws h)) (distinct_more draws node (others d draws h))
+      | true ↦ λ is. AllPairs-cons Differ _ draws (first_differs d draws h) (others d draws h)
+      | false ↦ λ is. AllPairs-cons Differ d (counted draws node) (differs_more d.node draws node (λ one. both_ways (bytes_eq d.node node) is ((bytes_eq-Decides d.node node).1 one)) (first_differs d draws h)) (distinct_more draws node (others d draws h))
     ] refl

@@ -1,8 +1,8 @@
 -- Lemmas on drawing: what positions later draws look at, and how one draw more goes on.
-use Rattle.std.proofs.Common.{◌≡◌, ℕ, zero, suc, ◌+◌, ◌-◌, ◌<◌, ◌≤◌, Bool, true, false, cond, List, [], ◌∷◌, None, Some, Option, Result, Ok, Err, map, fold, ◌==◌, refl, sym, ap, ◌∙◌, arith, inl, inr}
+use Rattle.std.proofs.Common.{◌≡◌, ℕ, zero, suc, ◌+◌, ◌-◌, ◌<◌, ◌≤◌, cond, List, [], None, Some, Option, Result, Ok, Err, map, fold, ◌==◌, refl, sym, ap, ◌∙◌, arith, inl, inr}
 use Rattle.std.specs.BTreeMap.{BTreeMap}
 use Rattle.std.specs.Option.{option_and_then}
-use Rattle.std.proofs.lemmas.Bool.{cases_Bool, cases_eq, cond-true, cond-false, cond_both, eqb-true, eq-eqb, ne_eqb, le-ltb}
+use Rattle.std.proofs.lemmas.Bool.{cases_eq, cond-true, cond-false, cond_both, eq-eqb, ne_eqb, le-ltb}
 use Rattle.snow_sample.specs.declared.draws.Draw.{Draw}
 use Rattle.snow_sample.specs.declared.roster.Node.{Node}
 use Rattle.snow_sample.specs.declared.sampling.SampleFault.{SampleFault}
@@ -10,7 +10,7 @@ use Rattle.snow_sample.specs.declared.sampling.SampleFault.TheVariants.{WordsOut
 use Rattle.snow_sample.specs.Roster.{total_weight, owner}
 use Rattle.snow_sample.specs.Words.{choice, IsRest}
 use Rattle.snow_sample.specs.Sampling.{swapped, with_unit, drawn_from, drawn, counted, or_out, sample_of, draw_count, AreOfDistinctNodes}
-use Rattle.snow_sample.specs.Kept.{unit_at, HasPlaces}
+use Rattle.snow_sample.specs.Kept.{unit_at}
 use Rattle.snow_sample.proofs.Choosing.{rest_whole, rest_rest}
 use Rattle.snow_sample.proofs.Counting.{count_more, distinct_more}
 
@@ -41,11 +41,13 @@ swapped_within f i j p n at_i at_j at_p =
 abbrev pub after_choice : ℕ → ℕ → ℕ → (ℕ → ℕ) → ℕ × List ℕ → Option (List ℕ × List ℕ)
 after_choice k total j units (r, left) = with_unit (swapped units (j + r) j j) (drawn_from k total (j + 1) (swapped units (j + r) j) left)
 
+-- a step of the definition
 pub drawn_step : (k total j : ℕ) (units : ℕ → ℕ) (words : List ℕ)
     → drawn_from (suc k) total j units words ≡ option_and_then (after_choice k total j units) (choice (total - 1 - j) words)
 unfolding drawn_from
 drawn_step k total j units words = refl
 
+-- its end
 pub drawn_end : (total j : ℕ) (units : ℕ → ℕ) (words : List ℕ) → drawn_from zero total j units words ≡ Some ([], words)
 unfolding drawn_from
 drawn_end total j units words = refl
@@ -74,10 +76,12 @@ abbrev pub finished : List Node → List Draw → Option (List ℕ × List ℕ) 
 finished nodes draws None = Err WordsOut
 finished nodes draws (Some (units, words)) = Ok (fold counted draws (map (owner nodes) units), words)
 
+-- no draw was made so far
 pub from_none : (nodes : List Node) (o : Option (List ℕ × List ℕ)) → finished nodes [] o ≡ or_out nodes o
 from_none nodes None = refl
 from_none nodes (Some later) = refl
 
+-- a unit in front is one more draw of its node
 pub one_more_unit : (nodes : List Node) (draws : List Draw) (unit : ℕ) (o : Option (List ℕ × List ℕ))
     → finished nodes draws (with_unit unit o) ≡ finished nodes (counted draws (owner nodes unit)) o
 one_more_unit nodes draws unit None = refl
@@ -100,8 +104,8 @@ drawing_begins nodes k words moved own =
     let whole : k - 0 ≡ k = omega arith in
     record {
       later = ap (λ n. finished nodes [] (drawn_from n total 0 (unit_at moved) words)) whole
-        ∙ ap (finished nodes []) (same_drawn k total 0 (unit_at moved) (λ unit. unit) words (λ p h. own p))
-        ∙ from_none nodes (drawn k total words);
+          ∙ ap (finished nodes []) (same_drawn k total 0 (unit_at moved) (λ unit. unit) words (λ p h. own p))
+          ∙ from_none nodes (drawn k total words);
       within = λ p low high. rw own high;
       count = refl;
       distinct = λ i j d p q. absurd (omega arith);
@@ -127,7 +131,7 @@ drawing_more nodes k j r first words left moved more draws so_far low enough cho
     record {
       later = sym (ap (finished nodes draws) stepped ∙ one_more_unit nodes draws (units (j + r)) _) ∙ so_far.later;
       within = λ p above high. rw (behind p (omega arith))
-        (swapped_within units (j + r) j p total (so_far.within (j + r) (omega arith) (omega arith)) (so_far.within j (omega arith) (omega arith)) (so_far.within p (omega arith) high));
+          (swapped_within units (j + r) j p total (so_far.within (j + r) (omega arith) (omega arith)) (so_far.within j (omega arith) (omega arith)) (so_far.within p (omega arith) high));
       count = count_more draws (owner nodes (units (j + r))) ∙ ap (λ n. n + 1) so_far.count;
       distinct = distinct_more draws (owner nodes (units (j + r))) so_far.distinct;
       rest = rest_rest first words left so_far.rest taken;

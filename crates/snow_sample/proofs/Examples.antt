@@ -12,9 +12,11 @@ use Rattle.snow_sample.specs.Sampling.{drawn_from, drawn, sample_of}
 abbrev numbered : ℕ → List ℕ
 numbered n = replicate 20 n
 
+-- a node with its weight
 abbrev node : ℕ → ℕ → Node
 node n weight = record { id = numbered n; weight = weight }
 
+-- draws of a node
 abbrev draw : ℕ → ℕ → Draw
 draw n count = record { node = numbered n; count = count }
 
@@ -23,6 +25,7 @@ draw n count = record { node = numbered n; count = count }
 abbrev two : List Node
 two = node 1 3 ∷ node 2 1 ∷ []
 
+-- the first draw gives unit 1, and the second stands at position 2
 two-units : drawn 2 4 (5 ∷ 7 ∷ []) ≡ Some (1 ∷ 2 ∷ [], [])
 unfolding is_power drawn_from
 two-units = refl
@@ -31,14 +34,17 @@ two-sample : sample_of two 2 (5 ∷ 7 ∷ []) ≡ Ok (draw 1 2 ∷ [], [])
 unfolding is_power drawn_from
 two-sample = refl
 
+-- all four units are drawn, and a word is left
 two-all : sample_of two 4 (0 ∷ 0 ∷ 0 ∷ 0 ∷ 9 ∷ []) ≡ Ok (draw 1 3 ∷ draw 2 1 ∷ [], 9 ∷ [])
 unfolding is_power drawn_from
 two-all = refl
 
+-- there are only four units
 two-few : sample_of two 5 (5 ∷ 7 ∷ []) ≡ Err (TooFewUnits 4)
 unfolding is_power drawn_from
 two-few = refl
 
+-- the second word is missing
 two-out : sample_of two 2 (5 ∷ []) ≡ Err WordsOut
 unfolding is_power drawn_from
 two-out = refl

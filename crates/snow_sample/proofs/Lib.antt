@@ -1,5 +1,6 @@
 mod Choosing
 mod Counting
+mod Distinct
 mod Drawing
 mod Examples
 mod Listing

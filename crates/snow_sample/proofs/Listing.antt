@@ -1,5 +1,5 @@
 -- Exchanging positions draws what exchanging the elements of the whole list draws.
-use Rattle.std.proofs.Common.{◌≡◌, ℕ, zero, suc, ◌+◌, ◌-◌, ◌<◌, ◌≤◌, cond, List, [], ◌∷◌, length, get_or, set, None, Some, Option, ◌==◌, refl, sym, ap, ◌∙◌, arith, inl, inr, swap, zero-add}
+use Rattle.std.proofs.Common.{◌≡◌, ℕ, zero, suc, ◌+◌, ◌-◌, ◌<◌, ◌≤◌, List, [], length, get_or, set, None, Some, Option, refl, sym, ap, ◌∙◌, arith, inl, inr, swap, zero-add}
 use Rattle.std.specs.List.{range_with_len}
 use Rattle.std.specs.Option.{option_and_then}
 use Rattle.std.proofs.lemmas.Bool.{cases_eq, cond-true, cond-false, eq-eqb, ne_eqb}
@@ -8,7 +8,7 @@ use Rattle.std.proofs.lemmas.List.Edits.{swap_is, length-swap}
 use Rattle.std.proofs.lemmas.List.FromFn.{length-range_with_len, get_or-range_with_len}
 use Rattle.snow_sample.specs.Words.{choice}
 use Rattle.snow_sample.specs.Sampling.{swapped, with_unit, drawn_from, drawn}
-use Rattle.snow_sample.specs.Law.{listed_from, DrawsAsTheList}
+use Rattle.snow_sample.specs.Law.{listed_from}
 use Rattle.snow_sample.proofs.Choosing.{choice_within}
 use Rattle.snow_sample.proofs.Drawing.{swapped_same, after_choice, drawn_step, drawn_end}
 
@@ -41,10 +41,12 @@ at_swapped list i j p d at_i at_j at_p =
 abbrev listed_choice : ℕ → ℕ → ℕ → List ℕ → ℕ × List ℕ → Option (List ℕ × List ℕ)
 listed_choice k total j list (r, left) = with_unit (get_or (swap list (j + r) j) j 0) (listed_from k total (j + 1) (swap list (j + r) j) left)
 
+-- a step of the definition
 listed_step : (k total j : ℕ) (list words : List ℕ) → listed_from (suc k) total j list words ≡ option_and_then (listed_choice k total j list) (choice (total - 1 - j) words)
 unfolding listed_from
 listed_step k total j list words = refl
 
+-- its end
 listed_end : (total j : ℕ) (list words : List ℕ) → listed_from zero total j list words ≡ Some ([], words)
 unfolding listed_from
 listed_end total j list words = refl
@@ -56,7 +58,7 @@ same_listed zero total j units list words long enough same = drawn_end total j u
 same_listed (suc k) total j units list words long enough same =
     drawn_step k total j units words
     ∙ elim (choice (total - 1 - j) words) as (λ o. choice (total - 1 - j) words ≡ o
-      → option_and_then (after_choice k total j units) o ≡ option_and_then (listed_choice k total j list) o) [
+    → option_and_then (after_choice k total j units) o ≡ option_and_then (listed_choice k total j list) o) [
       | None ↦ λ is. refl
       | Some c ↦ λ is.
           let small : c.0 ≤ total - 1 - j = choice_within (total - 1 - j) c.0 words c.1 is in

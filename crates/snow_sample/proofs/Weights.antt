@@ -1,6 +1,5 @@
 -- Lemmas on the nodes of a roster: which stand twice, and where their units end.
-use Rattle.std.proofs.Common.{◌≡◌, ℕ, zero, suc, ◌+◌, ◌-◌, ◌<◌, ◌≤◌, Bool, true, false, not, cond, ◌||◌, List, [], ◌∷◌, ◌++◌, length, get_or, take, drop, None, Some, refl, sym, ap, ◌∙◌, arith, nat_le, nat_lt, inl, inr}
-use Rattle.std.specs.BTreeMap.{is_at}
+use Rattle.std.proofs.Common.{◌≡◌, ℕ, zero, suc, ◌+◌, ◌-◌, ◌<◌, ◌≤◌, Bool, true, false, not, cond, ◌||◌, List, [], ◌∷◌, ◌++◌, length, get_or, take, drop, Some, refl, sym, ap, ◌∙◌, arith, nat_le}
 use Rattle.std.specs.BTreeSet.{BTreeSet, contains, Updates}
 use Rattle.std.specs.Cmp.Lexicographic.{slice_cmp}
 use Rattle.std.specs.Ordering.{nat_cmp}
@@ -25,6 +24,7 @@ pub record HasSeen (nodes : List Node) (i : ℕ) (seen : BTreeSet (List ℕ)) : 
 next : (nodes : List Node) (i : ℕ) (n : Node) → i < length nodes → n ≡ get_or nodes i n → drop i nodes ≡ n ∷ drop (i + 1) nodes
 next nodes i n h is = drop_more nodes i n h ∙ ap (λ m. m ∷ drop (i + 1) nodes) (sym is)
 
+-- either test
 or_cond : (b c : Bool) → cond b true c ≡ (c || b)
 or_cond true true = refl
 or_cond true false = refl
@@ -47,12 +47,12 @@ sees nodes i n seen more h is has new updates =
     let taken : take (i + 1) nodes ≡ take i nodes ++ n ∷ [] = take_more nodes i n h ∙ ap (λ m. take i nodes ++ m ∷ []) (sym is) in
     record {
       rest = ap (λ front. repeated_behind front (drop (i + 1) nodes)) taken
-        ∙ sym (cond-false _ (Some n.id) (repeated_behind (take i nodes ++ n ∷ []) (drop (i + 1) nodes)) stood)
-        ∙ ap (repeated_behind (take i nodes)) (sym (next nodes i n h is)) ∙ has.rest;
+          ∙ sym (cond-false _ (Some n.id) (repeated_behind (take i nodes ++ n ∷ []) (drop (i + 1) nodes)) stood)
+          ∙ ap (repeated_behind (take i nodes)) (sym (next nodes i n h is)) ∙ has.rest;
       same = λ id.
-        updates.0 id ∙ ap (λ b. cond b true (contains (slice_cmp nat_cmp) seen id)) (is_eq-slice_cmp n.id id)
-        ∙ ap (cond (bytes_eq n.id id) true) (has.same id) ∙ or_cond (bytes_eq n.id id) (has_node (take i nodes) id)
-        ∙ ap (λ (m : Node). has_node (take i nodes) id || bytes_eq m.id id) is ∙ sym (list_any_more (λ m. bytes_eq m.id id) nodes i n h);
+          updates.0 id ∙ ap (λ b. cond b true (contains (slice_cmp nat_cmp) seen id)) (is_eq-slice_cmp n.id id)
+          ∙ ap (cond (bytes_eq n.id id) true) (has.same id) ∙ or_cond (bytes_eq n.id id) (has_node (take i nodes) id)
+          ∙ ap (λ (m : Node). has_node (take i nodes) id || bytes_eq m.id id) is ∙ sym (list_any_more (λ m. bytes_eq m.id id) nodes i n h);
     }
 
 -- ---- where units end
@@ -108,8 +108,7 @@ owned (m ∷ nodes) start unit (suc at) low high bound parts =
     let weight : Node → ℕ = λ x. x.weight in
     let later = owned nodes (start + m.weight) unit at above (omega (arith, sum_by-cons weight m nodes)) (omega arith)
     (λ k d p q. parts.0 (suc k) d (omega arith) (omega arith), λ k d p q. parts.1 (suc k) d (omega arith) (omega arith)) in
-    let behind : unit - (start + m.weight) ≡ unit - start - m.weight = omega arith in
-    (
+    let behind : unit - (start + m.weight) ≡ unit - start - m.weight = omega arith in (
       omega (arith, later.0),
       λ n is. later.1 n is ∙ ap (owner nodes) behind ∙ sym (cond-false _ m.id (owner nodes (unit - start - m.weight)) (le-ltb (unit - start) m.weight (omega arith))),
     )

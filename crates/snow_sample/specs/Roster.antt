@@ -1,5 +1,5 @@
 -- The nodes that are sampled: their weight, what is wrong with them, and which of them has a unit of weight.
-use Rattle.std.specs.Prelude.{◌≡◌, ℕ, ◌+◌, ◌-◌, ◌^◌, ◌<◌, Bool, List, [], ◌∷◌, ◌++◌, Option, Some, None, Result, Ok, Err, nat_lt, ◌==◌, find, sum_by, if◌then◌else◌}
+use Rattle.std.specs.Prelude.{◌≡◌, ℕ, ◌+◌, ◌-◌, ◌^◌, Bool, List, [], ◌∷◌, ◌++◌, Option, Some, None, Result, Ok, Err, nat_lt, ◌==◌, find, sum_by, if◌then◌else◌}
 use Rattle.std.specs.List.{list_any}
 use Rattle.std.specs.Option.{option_map, option_or}
 use Rattle.std.specs.Str.{bytes_eq}
@@ -28,10 +28,12 @@ first_repeated nodes = repeated_behind [] nodes
 abbrev pub first_weightless : List Node → Option (List ℕ)
 first_weightless nodes = option_map (λ n. n.id) (find (λ n. n.weight == 0) nodes)
 
+-- whether there is no node
 abbrev pub none_fault : List Node → Option RosterFault
 none_fault [] = Some faults.Empty
 none_fault (n ∷ nodes) = None
 
+-- whether there are too many units
 abbrev pub heavy_fault : List Node → Option RosterFault
 heavy_fault nodes = if nat_lt (2 ^ 63 - 1) (total_weight nodes) then Some faults.TooHeavy else None
 

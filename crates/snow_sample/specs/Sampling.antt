@@ -25,7 +25,7 @@ with_unit unit (Some (units, words)) = Some (unit ∷ units, words)
 unfoldable pub drawn_from : ℕ → ℕ → ℕ → (ℕ → ℕ) → List ℕ → Option (List ℕ × List ℕ)
 drawn_from zero total j units words = Some ([], words)
 drawn_from (suc k) total j units words =
-    option_and_then (λ (r, left). let units = swapped units (j + r) j in with_unit (units j) (drawn_from k total (j + 1) units left))
+    option_and_then (λ (r, left). let moved = swapped units (j + r) j in with_unit (moved j) (drawn_from k total (j + 1) moved left))
     (choice (total - 1 - j) words)
 
 -- k units of so many in all, which stand in order at first
@@ -42,6 +42,7 @@ counted (d ∷ draws) node =
 abbrev pub draws_of : List Node → List ℕ → List Draw
 draws_of nodes units = fold counted [] (map (owner nodes) units)
 
+-- the draws of the units, where the words suffice
 abbrev pub or_out : List Node → Option (List ℕ × List ℕ) → Result (List Draw × List ℕ) SampleFault
 or_out nodes None = Err faults.WordsOut
 or_out nodes (Some (units, words)) = Ok (draws_of nodes units, words)

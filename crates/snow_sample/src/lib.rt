@@ -11,7 +11,10 @@ mod weighing;
 mod words;
 
 pub use draws::{Draw, Draws};
-pub use laws::whole_list_law;
+pub use laws::{distinct_units_law, whole_list_law};
 pub use roster::{Node, Roster, RosterFault};
 pub use sampling::SampleFault;
 pub use words::Words;
+
+#[cfg(test)]
+mod tests;

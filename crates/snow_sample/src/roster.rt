@@ -44,7 +44,7 @@ impl From<AllocError> for RosterFault {
 
 /// Nodes that are sampled by weight: at least one, no two the same, each with weight, and at most
 /// 2^63-1 units in all. Contracts see the list of the nodes.
-#[derive(Drop)]
+#[derive(Debug, Drop)]
 pub struct Roster {
     alloc: Global,
     nodes: Vec<Node>,

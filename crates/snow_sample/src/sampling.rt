@@ -61,12 +61,7 @@ impl Roster {
 }
 
 // Draws `k` units, at most all, and counts the draws of their nodes.
-fn draw_all(
-    roster: &Roster,
-    k: u32,
-    words: &mut Words,
-    out: &mut Draws,
-) -> Result<(), SampleFault>
+fn draw_all(roster: &Roster, k: u32, words: &mut Words, out: &mut Draws) -> Result<(), SampleFault>
     requires enough { k ≤ total_weight roster.now }
     requires empty { out.old ≡ [] }
     ensures sample { OnOk result (sample_of roster.now k words.old ≡ Ok (out.new, words.new)) }

@@ -27,7 +27,10 @@ pub(crate) fn find_repeated(alloc: Global, nodes: &[Node]) -> Result<Option<Node
 pub(crate) fn find_weightless(nodes: &[Node]) -> Option<NodeId>
     ensures { result ≡ first_weightless nodes.now }
 {
-    nodes.iter().find(|node| node.weight == 0).map(|node| node.id)
+    nodes
+        .iter()
+        .find(|node| node.weight == 0)
+        .map(|node| node.id)
 }
 
 // How many units there are, where a roster may have so many.

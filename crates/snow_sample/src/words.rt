@@ -10,7 +10,7 @@ use std::marker::Model;
 const LOW_BITS: u64 = 0x7fff_ffff_ffff_ffff;
 
 /// Random words, first in first out, at most 65,536 of them. Contracts see the list of them.
-#[derive(Drop)]
+#[derive(Debug, Drop)]
 pub struct Words {
     words: VecDeque<u64>,
 }

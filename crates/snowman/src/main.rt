@@ -1,6 +1,9 @@
 //! The program `snowman`: the top call over standard input, output and error.
 #![tactic(auto)]
 
+ghost use Rattle.std.specs.Prelude.{◌≡◌, codes, if◌then◌else◌};
+ghost use Rattle.snow_cli.specs.Answer.{TookLine};
+
 use snow_base::{ReadSource, Sink, WriteSink, write_whole};
 use snow_cli::top;
 use std::alloc::Global;
@@ -34,12 +37,15 @@ fn words(rt: &HostRuntime) -> io::Result<Vec<String>> {
 }
 
 /// Tells on standard error why there are no words, and answers the exit status.
-fn without_words<E: Sink>(is_memory: bool, err: &mut E) -> u8 {
+fn without_words<E: Sink>(is_memory: bool, err: &mut E) -> u8
+    ensures code { result ≡ (if is_memory then 6 else 10) }
+    ensures line { TookLine (E.written err.old) (E.written err.new) (E.faults err.old) (E.faults err.new)
+        (if is_memory then codes "snowman: out of memory\n" else codes "snowman: no words\n") }
+{
     if is_memory {
         let _ = write_whole(err, b"snowman: out of memory\n");
-        NO_MEMORY
-    } else {
-        let _ = write_whole(err, b"snowman: no words\n");
-        NO_WORDS
+        return NO_MEMORY;
     }
+    let _ = write_whole(err, b"snowman: no words\n");
+    NO_WORDS
 }

@@ -1,5 +1,5 @@
 -- One vote for each identifier so far.
-use Rattle.std.proofs.Common.{◌≡◌, take, fold, []}
+use Rattle.std.proofs.Common.{◌≡◌, take}
 use Rattle.snow_base.specs.Votes.{total_count}
 use Rattle.snow_cli.specs.Node.{votes_for}
 use Rattle.snow_cli.proofs.node.votes_for.Given as goal

@@ -1,10 +1,9 @@
 -- One event more, the end, or a payload that is neither a block nor a poll.
-use Rattle.std.proofs.Common.{◌≡◌, sym, ◌∙◌, ap, arith, subst, List, ◌++◌, ◌∷◌, [], Option, ◌<◌, length, true, false}
-use Rattle.snow_wire.specs.declared.event.Event.{Event}
+use Rattle.std.proofs.Common.{◌≡◌, sym, ◌∙◌, ◌++◌, ◌∷◌, [], ◌<◌, length, true, false}
 use Rattle.snow_wire.specs.Frame.{frames_of}
 use Rattle.snow_wire.proofs.Streams.{behind_shorter}
 use Rattle.snow_cli.specs.Output.{later_in}
-use Rattle.snow_cli.proofs.Later.{goes_on, stops, ends, with_front}
+use Rattle.snow_cli.proofs.Later.{goes_on, stops, ends}
 use Rattle.snow_cli.proofs.reading.read_later.Goals as goal
 
 pub returns-in_default-2 : goal.returns-in_default-2

@@ -1,9 +1,9 @@
 -- The first frame, and those behind it.
-use Rattle.std.proofs.Common.{◌≡◌, sym, ◌∙◌, ap, Option, Some, None, List, refl}
+use Rattle.std.proofs.Common.{sym, ◌∙◌, ap, Some, None, refl}
 use Rattle.std.specs.Option.{option_map}
 use Rattle.snow_wire.specs.Frame.{frames_of}
 use Rattle.snow_cli.specs.Output.{later_in}
-use Rattle.snow_cli.specs.Streams.{board_of, said}
+use Rattle.snow_cli.specs.Streams.{board_of}
 use Rattle.snow_cli.proofs.Later.{simple_front}
 use Rattle.snow_cli.proofs.reading.read_stream.Goals as goal
 

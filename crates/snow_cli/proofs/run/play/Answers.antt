@@ -1,8 +1,7 @@
 -- One event more, the end, or an event at which the run stops.
-use Rattle.std.proofs.Common.{◌≡◌, ℕ, ◌+◌, ◌<◌, ◌≤◌, ◌∙◌, sym, ap, arith, length, le_trans}
+use Rattle.std.proofs.Common.{◌≡◌, ◌+◌, ◌∙◌, ap, le_trans}
 use Rattle.std.proofs.lemmas.Result.{err_from_is_err_and}
 use Rattle.snow_plain.specs.Board.{Board}
-use Rattle.snow_flake.specs.Parameters.{Parameters}
 use Rattle.snow_cli.proofs.Playing.{goes_on, ends, fails, step_keeps}
 use Rattle.snow_cli.proofs.run.play.Goals as goal
 

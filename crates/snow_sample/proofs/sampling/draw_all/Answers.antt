@@ -11,10 +11,10 @@ loop-j-init c =
 
 pub returns-in_default-clause-fault : goal.returns-in_default-clause-fault
 returns-in_default-clause-fault c = (
-    drawing_fails c.args.roster.now c.args.k c.loop-j.j c.args.words.now c.loop-j.words c.loop-j.shuffle.moved c.loop-j.out c.loop-j.invariant.0
-    (omega arith) c.requires.enough (rw c.total-total.ensures.total at c.in_default.ensures.chosen),
-    c.in_default.ensures.out,
-  )
+  drawing_fails c.args.roster.now c.args.k c.loop-j.j c.args.words.now c.loop-j.words c.loop-j.shuffle.moved c.loop-j.out c.loop-j.invariant.0
+      (omega arith) c.requires.enough (rw c.total-total.ensures.total at c.in_default.ensures.chosen),
+  c.in_default.ensures.out,
+)
 
 pub returns-in_err-unit-clause-fault : goal.returns-in_err-unit-clause-fault
 returns-in_err-unit-clause-fault c =
@@ -28,13 +28,13 @@ returns-in_err-count-clause-fault c =
 
 pub loop-j-preserved : goal.loop-j-preserved
 loop-j-preserved c = (
-    rw (c.in_ok-count.ensures.counted, c.owner.ensures, c.in_ok-unit.ensures.unit)
-    (drawing_more c.args.roster.now c.args.k c.loop-j.j c.in-Some.r c.args.words.now c.loop-j.words c.choose.new.self
-    c.loop-j.shuffle.moved c.draw.new.self.moved c.loop-j.out c.loop-j.invariant.0 (omega arith) c.requires.enough
-    (rw c.total-total.ensures.total at c.in-Some.ensures.chosen) (rw c.total-total.ensures.total at c.in-Some.ensures.within)
-    c.choose.ensures.rest c.in_ok-unit.ensures.behind),
-    c.in_ok-count.ensures.places,
-  )
+  rw (c.in_ok-count.ensures.counted, c.owner.ensures, c.in_ok-unit.ensures.unit)
+      (drawing_more c.args.roster.now c.args.k c.loop-j.j c.in-Some.r c.args.words.now c.loop-j.words c.choose.new.self
+      c.loop-j.shuffle.moved c.draw.new.self.moved c.loop-j.out c.loop-j.invariant.0 (omega arith) c.requires.enough
+      (rw c.total-total.ensures.total at c.in-Some.ensures.chosen) (rw c.total-total.ensures.total at c.in-Some.ensures.within)
+      c.choose.ensures.rest c.in_ok-unit.ensures.behind),
+  c.in_ok-count.ensures.places,
+)
 
 pub returns-clause-sample : goal.returns-clause-sample
 returns-clause-sample c =

@@ -14,10 +14,9 @@ loop-node-preserved c =
     let weight : Node → ℕ = λ x. x.weight in
     let end : c.loop-node.end + n.weight ≡ total_weight (take (i + 1) nodes) =
     omega (arith, c.loop-node.invariant.0, sum_by_more weight nodes i n c.loop-node-test.true, ap weight c.node-item.is) in
-    let more : 0 + total_weight (take i nodes) + n.weight ≡ c.loop-node.end + n.weight = omega (arith, c.loop-node.invariant.0) in
-    (
+    let more : 0 + total_weight (take i nodes) + n.weight ≡ c.loop-node.end + n.weight = omega (arith, c.loop-node.invariant.0) in (
       end,
       c.in_ok-push.ensures.items ∙ ap (λ l. l ++ (c.loop-node.end + n.weight) ∷ []) c.loop-node.invariant.1
-      ∙ ap (λ e. ends_from 0 (take i nodes) ++ e ∷ []) (sym more)
-      ∙ rw add-one (sym (ends_more nodes 0 i n c.loop-node-test.true c.node-item.is)),
+          ∙ ap (λ e. ends_from 0 (take i nodes) ++ e ∷ []) (sym more)
+          ∙ rw add-one (sym (ends_more nodes 0 i n c.loop-node-test.true c.node-item.is)),
     )

@@ -1,5 +1,4 @@
 -- The nodes so far are distinct, and their identifiers are those that were seen.
-use Rattle.std.proofs.Common.{take, drop}
 use Rattle.snow_sample.proofs.Weights.{HasSeen}
 use Rattle.snow_sample.proofs.weighing.find_repeated.Given as goal
 

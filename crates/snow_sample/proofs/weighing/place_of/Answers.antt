@@ -1,3 +1,4 @@
+-- The ends in front are those that are at most the unit.
 use Rattle.std.proofs.Common.{nat_le, rules}
 use Rattle.std.proofs.lemmas.List.Sorted.{IsPartitionPoint-from_clause}
 use Rattle.snow_sample.proofs.weighing.place_of.Goals as goal

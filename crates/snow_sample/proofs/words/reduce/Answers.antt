@@ -1,5 +1,5 @@
 -- One more word is taken, or passed over.
-use Rattle.std.proofs.Common.{◌≡◌, ◌∙◌, sym, ap, arith}
+use Rattle.std.proofs.Common.{◌∙◌, sym, ap}
 use Rattle.snow_sample.specs.Words.{reduced}
 use Rattle.snow_sample.proofs.Choosing.{rest_more, passed}
 use Rattle.snow_sample.proofs.words.reduce.Goals as goal
@@ -10,7 +10,7 @@ returns-then-value-greatest-clause-rest c =
 
 pub loop-word-preserved : goal.loop-word-preserved
 loop-word-preserved c = (
-    sym (passed c.args.n c.in-Some.word c.pop_front.new.self.items c.if-value-greatest.false)
-    ∙ ap (reduced c.args.n) (sym c.in-Some.ensures.items) ∙ c.loop-word.invariant.0,
-    rest_more c.args.queue.now.items c.pop_front.new.self.items c.in-Some.word (rw c.in-Some.ensures.items at c.loop-word.invariant.1),
-  )
+  sym (passed c.args.n c.in-Some.word c.pop_front.new.self.items c.if-value-greatest.false)
+      ∙ ap (reduced c.args.n) (sym c.in-Some.ensures.items) ∙ c.loop-word.invariant.0,
+  rest_more c.args.queue.now.items c.pop_front.new.self.items c.in-Some.word (rw c.in-Some.ensures.items at c.loop-word.invariant.1),
+)

@@ -1,9 +1,10 @@
-use Rattle.std.proofs.Common.{◌≡◌, ◌++◌, length, ap, ◌∙◌, arith}
+use Rattle.std.proofs.Common.{◌≡◌, ◌++◌, length, sym, ap, ◌∙◌, true≢false, arith}
 use Rattle.snow_base.specs.Votes.{total_count}
 use Rattle.snow_flake.specs.Parameters.{Parameters}
 use Rattle.snow_plain.specs.Board.{Board}
 use Rattle.snow_plain.specs.Poll.{counted, settled, poll}
 use Rattle.snow_plain.specs.Shown.{Shown}
+use Rattle.snow_plain.proofs.Same.{gives_all}
 use Rattle.snow_plain.proofs.Polled.{few_votes, counted_length, poll_is, settled_counted}
 use Rattle.snow_plain.proofs.plain.PlainBoardBoard.apply_poll.Given as given
 use Rattle.snow_plain.proofs.plain.PlainBoardBoard.apply_poll.Goals as goal
@@ -75,7 +76,7 @@ invariant_of-self g c =
         counts = omega (arith, k, count.room, c.self.invariant.0.counts);
         gathers = omega (arith, k, count.places, c.self.invariant.0.gathers);
       },
-      c.preference-self-inside.ensures,
+      record { block = c.preference.ensures; top = λ is. absurd (true≢false (sym is)) },
     )
 
 pub returns-clause-board : goal.returns-clause-board
@@ -86,3 +87,8 @@ returns-clause-decided g c =
     c.settle.ensures.told
     ∙ ap (λ l. l ++ (settled (length c.count.new.self.pending) c.count.new.self).1) c.clear.ensures.items
     ∙ ap (λ r. r.1) (whole g c)
+
+pub returns-clause-alike : goal.returns-clause-alike
+returns-clause-alike g c =
+    gives_all c.args.self.now.board c.args.votes.now.list c.settle.new.self c.settle.new.decisions.items
+    (returns-clause-board g c) (returns-clause-decided g c)

@@ -1,5 +1,5 @@
 -- A node that was drawn is counted at its place, and another at the end.
-use Rattle.std.proofs.Common.{sym, ◌∙◌, ap}
+use Rattle.std.proofs.Common.{sym, ◌∙◌}
 use Rattle.snow_sample.proofs.Counting.{counted_at, counted_new, place_kept, places_new}
 use Rattle.snow_sample.proofs.places.Places.count.Goals as goal
 

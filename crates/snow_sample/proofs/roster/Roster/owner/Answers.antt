@@ -1,5 +1,5 @@
 -- The node at the place of the unit.
-use Rattle.std.proofs.Common.{◌≡◌, List, ap, arith, ◌∙◌}
+use Rattle.std.proofs.Common.{List, ap, arith, ◌∙◌}
 use Rattle.snow_sample.specs.declared.roster.Node.{Node}
 use Rattle.snow_sample.specs.Roster.{total_weight, owner}
 use Rattle.snow_sample.proofs.Weights.{ends_partitioned, owner_place}
