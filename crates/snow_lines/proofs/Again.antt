@@ -1,12 +1,11 @@
 -- Each line is read from its own bytes.
-use Rattle.std.proofs.Common.{◌≡◌, ℕ, ◌+◌, ◌-◌, ◌^◌, ◌<◌, ◌≤◌, ◌==◌, Bool, true, false, List, [], ◌∷◌, ◌++◌, All, map, length, take, drop, codes, decimal, Option, Some, None, refl, sym, ap, ◌∙◌, subst, append-nil, arith}
-use Rattle.std.specs.Prelude.{⊤, if◌then◌else◌}
+use Rattle.std.proofs.Common.{◌≡◌, ℕ, ◌-◌, ◌<◌, ◌==◌, List, [], ◌∷◌, ◌++◌, All, map, length, take, drop, codes, decimal, Option, Some, refl, sym, ap, ◌∙◌, arith}
 use Rattle.std.specs.List.{join_with_byte}
 use Rattle.std.specs.Str.{bytes_eq}
 use Rattle.std.proofs.Math.Seq.{take-append_seam, drop-append_seam}
 use Rattle.std.proofs.lemmas.Bool.{ne_eqb}
 use Rattle.std.proofs.lemmas.List.{length-append, take-append-drop}
-use Rattle.std.proofs.lemmas.List.Elements.{All-nil, All-cons, All-head, All-tail, All-append}
+use Rattle.std.proofs.lemmas.List.Elements.{All-nil, All-cons, All-head, All-tail}
 use Rattle.std.proofs.lemmas.List.Splits.{join_with_byte-slice_split, slice_split_none, slice_split_at}
 use Rattle.hex.specs.Hex.{IsBytes, encode_lower}
 use Rattle.snow_sample.specs.declared.draws.Draw.{Draw}
@@ -14,13 +13,13 @@ use Rattle.snow_lines.specs.declared.kind.Kind.{Kind}
 use Rattle.snow_lines.specs.declared.kind.Kind.TheVariants as kind
 use Rattle.snow_lines.specs.declared.line.Line.{Line}
 use Rattle.snow_lines.specs.declared.line.Line.TheVariants as line
-use Rattle.snow_lines.specs.Names.{line_kind_of, line_name}
-use Rattle.snow_lines.specs.Range.{IsDraw, IsId, IsLine, IsLong, IsNode, IsNumber}
-use Rattle.snow_lines.specs.Reading.{asks, asks_accepted, before_newline, block_of, bytes_of, chits_at, draw_of, field, fields_of, first, frontier_at, id_at, if_some, items, line_of, plain_at, split, tells_accepted, tells_ancestors, tells_block, told_at, whole_at, words_of, ◌>>=◌}
+use Rattle.snow_lines.specs.Names.{line_kind_of}
+use Rattle.snow_lines.specs.Range.{IsDraw, IsId, IsLine, IsNode, IsNumber}
+use Rattle.snow_lines.specs.Reading.{asks, asks_accepted, before_newline, chits_at, fields_of, frontier_at, if_some, line_of, plain_at, split, tells_accepted, tells_ancestors, tells_block, whole_at, words_of, ◌>>=◌}
 use Rattle.snow_lines.specs.Text.{block_word, draw_word, fields, kind_word, listed, name, query_word, restart_word, text, why_word, words}
 use Rattle.snow_lines.proofs.Spelled.{IsField, NoSpace, bind_shows, block_field, bytes_field, draw_field, hex_no_space, if_holds, if_shows, no_space_from, same_bytes, told_same}
 use Rattle.snow_lines.proofs.Named.{kind_field, kind_shows, query_field, restart_field, why_field}
-use Rattle.snow_lines.proofs.Fielded.{Words, asked_again, both_again, field_again, items_again, long_field, only_again, short_field, told_again, unsome}
+use Rattle.snow_lines.proofs.Fielded.{Words, asked_again, both_again, field_again, items_again, long_field, only_again, short_field, told_again}
 use Rattle.snow_lines.proofs.Shown.{fields_show}
 
 -- ---- from the words

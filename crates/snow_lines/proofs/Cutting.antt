@@ -1,5 +1,5 @@
 -- Bytes cut at their first space, and lists read word by word.
-use Rattle.std.proofs.Common.{◌≡◌, ℕ, ◌+◌, ◌<◌, ◌≤◌, ◌==◌, List, [], ◌∷◌, ◌++◌, All, length, take, drop, get_or, Option, Some, None, false, true, eqb, subst, refl, sym, ap, ◌∙◌, add-one, drop-cons, take-append-drop, append_assoc, append-nil, arith}
+use Rattle.std.proofs.Common.{◌≡◌, ℕ, ◌+◌, ◌<◌, ◌≤◌, ◌==◌, List, [], ◌∷◌, ◌++◌, All, length, take, drop, get_or, Option, Some, None, false, subst, refl, sym, ap, ◌∙◌, add-one, drop-cons, take-append-drop, append_assoc, append-nil, arith}
 use Rattle.std.specs.Option.{option_map}
 use Rattle.std.proofs.lemmas.List.{take_more, take_all}
 use Rattle.std.proofs.lemmas.List.Elements.{All-nil, All-cons, All-append}

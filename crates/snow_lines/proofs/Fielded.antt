@@ -1,11 +1,10 @@
 -- Fields of lines, read from words and spelled as words.
-use Rattle.std.proofs.Common.{◌≡◌, ℕ, ◌+◌, ◌^◌, ◌<◌, ◌≤◌, Bool, true, false, List, [], ◌∷◌, ◌++◌, All, map, length, drop, decimal, Option, Some, None, refl, sym, ap, ◌∙◌, subst, arith}
+use Rattle.std.proofs.Common.{◌≡◌, ℕ, ◌^◌, List, [], ◌∷◌, All, map, decimal, Option, Some, refl, sym, ap, ◌∙◌, subst, arith}
 use Rattle.std.proofs.lemmas.List.Elements.{All-nil, All-cons, All-head, All-tail}
 use Rattle.hex.specs.Hex.{encode_lower}
 use Rattle.snow_lines.specs.declared.line.Line.{Line}
-use Rattle.snow_lines.specs.declared.line.Line.TheVariants as line
 use Rattle.snow_lines.specs.Range.{IsId, IsLong, IsNode, IsNumber}
-use Rattle.snow_lines.specs.Reading.{asked_at, both_at, bytes_of, chits_at, field, first, frontier_at, id_at, items, node_at, number_at, number_of, only_at, told_at, ◌>>=◌}
+use Rattle.snow_lines.specs.Reading.{asked_at, both_at, field, id_at, items, node_at, number_at, number_of, only_at, told_at, ◌>>=◌}
 use Rattle.snow_lines.proofs.Spelled.{IsField, bind_shows, bytes_field, number_field}
 
 -- words

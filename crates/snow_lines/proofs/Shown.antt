@@ -1,19 +1,18 @@
 -- Lines read from the words that spell them, and no others.
-use Rattle.std.proofs.Common.{◌≡◌, ℕ, ◌^◌, ◌<◌, ◌==◌, Bool, true, false, List, [], ◌∷◌, ◌++◌, All, map, length, drop, decimal, Option, Some, None, is_none, refl, sym, ap, ◌∙◌, subst, append-nil, arith}
-use Rattle.std.specs.Prelude.{⊤, if◌then◌else◌}
-use Rattle.hex.specs.Hex.{IsBytes, encode_lower}
-use Rattle.snow_sample.specs.declared.draws.Draw.{Draw}
+use Rattle.std.proofs.Common.{◌≡◌, ◌<◌, ◌==◌, Bool, true, false, List, [], ◌∷◌, ◌++◌, length, decimal, Some, None, refl, ap, ◌∙◌, subst, append-nil, arith}
+use Rattle.std.specs.Prelude.{if◌then◌else◌}
+use Rattle.hex.specs.Hex.{encode_lower}
 use Rattle.snow_lines.specs.declared.kind.Kind.{Kind}
 use Rattle.snow_lines.specs.declared.kind.Kind.TheVariants as kind
 use Rattle.snow_lines.specs.declared.line.Line.{Line}
 use Rattle.snow_lines.specs.declared.line.Line.TheVariants as line
-use Rattle.snow_lines.specs.Names.{kind_of, line_name, query_of, restart_of, why_of}
-use Rattle.snow_lines.specs.Range.{IsDraw, IsId, IsLine, IsLong, IsNode, IsNumber}
-use Rattle.snow_lines.specs.Reading.{asks, asks_accepted, block_of, bytes_of, chits_at, draw_of, ended, field, fields_of, first, frontier_at, id_at, if_some, items, number_at, number_of, plain_at, tells_accepted, tells_ancestors, tells_block, told_at, whole_at, ◌>>=◌}
-use Rattle.snow_lines.specs.Text.{block_word, draw_word, fields, kind_word, listed, name, query_word, restart_word, why_word}
-use Rattle.snow_lines.proofs.Spelled.{bind_shows, block_field, bytes_field, draw_field, if_shows}
+use Rattle.snow_lines.specs.Names.{line_name}
+use Rattle.snow_lines.specs.Range.{IsLine}
+use Rattle.snow_lines.specs.Reading.{asks, asks_accepted, block_of, bytes_of, chits_at, draw_of, ended, field, fields_of, frontier_at, id_at, if_some, items, number_at, plain_at, tells_accepted, tells_ancestors, tells_block, told_at, whole_at, ◌>>=◌}
+use Rattle.snow_lines.specs.Text.{block_word, fields, listed, name}
+use Rattle.snow_lines.proofs.Spelled.{bind_shows, block_field, bytes_field, draw_field}
 use Rattle.snow_lines.proofs.Named.{kind_field, query_field, restart_field, why_field}
-use Rattle.snow_lines.proofs.Fielded.{Words, asked_again, asked_shows, both_again, both_shows, field_again, field_shows, items_again, items_shows, long_field, only_again, only_shows, short_field, told_again, told_shows, unsome}
+use Rattle.snow_lines.proofs.Fielded.{Words, asked_shows, both_shows, field_shows, items_shows, long_field, only_shows, short_field, told_shows, unsome}
 
 -- a line of this kind, the words of its fields in front, and the words behind them
 abbrev pub Shows : Kind → Words → Line × Words → Type 0

@@ -1,5 +1,4 @@
-use Rattle.std.proofs.Common.{◌≤◌, [], ◌∷◌, flat_map, take}
-use Rattle.hex.specs.Hex.{encode_lower}
+use Rattle.std.proofs.Common.{◌≤◌, flat_map, take}
 use Rattle.snow_lines.specs.Gathered.{Gathers}
 use Rattle.snow_lines.specs.Text.{spaced, draw_word}
 use Rattle.snow_lines.proofs.gathering.put_draws.Given as goal

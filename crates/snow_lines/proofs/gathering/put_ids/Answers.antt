@@ -1,7 +1,7 @@
-use Rattle.std.proofs.Common.{rules, arith, ◌<◌, ◌≡◌, [], ◌∷◌, length, get_or, ℕ, List}
+use Rattle.std.proofs.Common.{rules, ◌<◌, ◌≡◌, length, get_or, ℕ, List}
 use Rattle.std.proofs.lemmas.Result.{err_from_is_err_and}
 use Rattle.hex.specs.Hex.{encode_lower}
-use Rattle.snow_lines.specs.Text.{spaced, draw_word}
+use Rattle.snow_lines.specs.Text.{spaced}
 use Rattle.snow_lines.proofs.Waiting.{gathers_next, gathers_inside}
 use Rattle.snow_lines.proofs.gathering.put_ids.Goals as goal
 

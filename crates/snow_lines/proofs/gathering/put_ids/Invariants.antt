@@ -1,7 +1,7 @@
-use Rattle.std.proofs.Common.{◌≤◌, [], ◌∷◌, flat_map, take}
+use Rattle.std.proofs.Common.{◌≤◌, flat_map, take}
 use Rattle.hex.specs.Hex.{encode_lower}
 use Rattle.snow_lines.specs.Gathered.{Gathers}
-use Rattle.snow_lines.specs.Text.{spaced, draw_word}
+use Rattle.snow_lines.specs.Text.{spaced}
 use Rattle.snow_lines.proofs.gathering.put_ids.Given as goal
 
 abbrev pub invariant-loop-id : goal.invariant-loop-id

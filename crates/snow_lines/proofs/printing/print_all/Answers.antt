@@ -1,5 +1,5 @@
 -- A line failed: what was written of it is in front of what is left.
-use Rattle.std.proofs.Common.{◌≡◌, sym, subst, Option, List, ℕ}
+use Rattle.std.proofs.Common.{subst}
 use Rattle.std.proofs.lemmas.Result.{err_from_is_err_and}
 use Rattle.snow_base.specs.Outside.{AppendsFront}
 use Rattle.snow_base.proofs.Known.{fails_inside}

@@ -1,4 +1,4 @@
-use Rattle.std.proofs.Common.{rules, ◌≡◌, ◌<◌, ◌≤◌, length, get_or}
+use Rattle.std.proofs.Common.{rules, ◌≡◌, ◌≤◌, length, get_or}
 use Rattle.snow_lines.proofs.Cutting.{cut_at, cut_end}
 use Rattle.snow_lines.proofs.words.space.Goals as goal
 
