@@ -4,6 +4,7 @@
 mod end;
 mod stop;
 mod task;
+mod telling;
 
 pub use end::{BadKind, End};
 pub use stop::EngineStop;
