@@ -1,2 +1,6 @@
+pub mod Following
+pub mod Deciding
+pub mod Told
 pub mod Logs
 pub mod Offers
+pub mod Good

@@ -1,11 +1,13 @@
-ghost use Rattle.std.specs.Prelude.{◌≡◌, ◌++◌, OnOk, IfOk};
+ghost use Rattle.std.specs.Prelude.{◌≡◌, IfOk};
+ghost use Rattle.snow_flake.specs.Parameters.{AreGood, checked};
+ghost use Rattle.snow_engine.specs.Node.{stated};
 
 use crate::offering::receive;
 use crate::recording::record;
 use crate::stop::EngineStop;
 use crate::task::Task;
 use snow_chain::{Chain, ChainFault};
-use snow_flake::Params;
+use snow_flake::{ParamFault, Params};
 use snow_lines::{Line, Lines, SkipKind};
 use snow_plain::Board;
 use snow_wire::{Event, Start};
@@ -55,14 +57,10 @@ impl<C: Chain, B: Board> Engine<C, B> {
         ensures answer { Starts result (model.started C.rules task first.now).1 }
         ensures lines { Logs result log.old log.new (model.started C.rules task first.now).0 }
     {
-        let params = Params::check(
-            first.k,
-            first.alpha_preference,
-            first.alpha_confidence,
-            first.beta,
-            first.repolls,
-        )
-        .map_err(EngineStop::Params)?;
+        let params = match parameters_of(first) {
+            Ok(params) => params,
+            Err(fault) => return Err(EngineStop::Params(fault)),
+        };
         let chain = C::begin(alloc, first.last, first.state.list())?;
         let board = B::begin(alloc, params, first.last, first.height)?;
         Ok(Engine {
@@ -86,14 +84,17 @@ impl<C: Chain, B: Board> Engine<C, B> {
     }
 
     /// One event of a node that decides.
-    #[tactic(auto, unfolding(crate::specs::Node::decides_on))]
+    #[tactic(auto, unfolding(crate::specs::Node::decides_on), using(crate::proofs::Logs::logs_nothing))]
     fn decide(&mut self, frame: u64, event: &Event, log: &mut Lines) -> Result<(), EngineStop>
         ensures answer { Steps result self.new (model.decides_on C.rules B.answer self.old frame event.now).1 }
         ensures lines { Logs result log.old log.new (model.decides_on C.rules B.answer self.old frame event.now).0 }
     {
         match event {
             Event::Start(_) => Err(EngineStop::SecondStart),
-            Event::Block { bytes, .. } => { receive(&mut self.board, &mut self.chain, frame, bytes.list(), log)?; Ok(()) }
+            Event::Block { bytes, .. } => {
+                receive(&mut self.board, &mut self.chain, frame, bytes.list(), log)?;
+                Ok(())
+            }
             Event::Poll { ids } => { record(
                 self.alloc,
                 &self.params,
@@ -109,4 +110,19 @@ impl<C: Chain, B: Board> Engine<C, B> {
             })?; Ok(()) }
         }
     }
+}
+
+/// The parameters that a Start states, or the first thing that is wrong with them.
+#[tactic(auto, using(crate::proofs::Good::checked_good))]
+fn parameters_of(first: &Start) -> Result<Params, ParamFault>
+    ensures checked { result ≡ checked (stated first.now) }
+    ensures good { IfOk result (λ params. AreGood params) }
+{
+    Params::check(
+        first.k,
+        first.alpha_preference,
+        first.alpha_confidence,
+        first.beta,
+        first.repolls,
+    )
 }

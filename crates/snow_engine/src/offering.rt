@@ -32,6 +32,7 @@ pub fn receive<C: Chain, B: Board>(
     ensures front { OnErr result (LogsFront log.old log.new (model.received C.rules B.answer
         (model.deciding (B.board board.old) (C.held chain.old)) frame bytes.now (C.rules.header_of bytes.now)).1) }
     ensures steady { IsSteady (B.board board.new) (C.held chain.new) }
+    ensures parameters { (B.board board.new).parameters ≡ (B.board board.old).parameters }
 {
     match chain.parse(bytes) {
         None => log.push(Line::Skip {
@@ -61,6 +62,7 @@ fn offer<C: Chain, B: Board>(
         (model.deciding (B.board board.old) (C.held chain.old)) block.now
         (next_on C.rules (C.held chain.old) block.now.parent bytes.now) (height_of (B.board board.old) block.now.id)).1) }
     ensures steady { IsSteady (B.board board.new) (C.held chain.new) }
+    ensures parameters { (B.board board.new).parameters ≡ (B.board board.old).parameters }
 {
     match board.height_of(&block.id) {
         Some(_) => Ok(()),
@@ -91,6 +93,7 @@ fn place<C: Chain, B: Board>(
         (next_on C.rules (C.held chain.old) block.now.parent bytes.now)
         (model.opposed (B.board board.old) block.now (height_of (B.board board.old) block.now.parent))).1) }
     ensures steady { IsSteady (B.board board.new) (C.held chain.new) }
+    ensures parameters { (B.board board.new).parameters ≡ (B.board board.old).parameters }
 {
     match opposition(board, block) {
         Some(why) => log.push(Line::Drop { id: block.id, why }),
@@ -126,7 +129,7 @@ fn is_above(height: u64, below: u64) -> bool
 }
 
 /// A block is issued where its chain takes it, and a change of the preference told.
-#[tactic(auto, using(crate::proofs::Logs::logging))]
+#[tactic(auto, using(crate::proofs::Logs::logging, crate::proofs::Offers::may_take_back))]
 fn issue<C: Chain, B: Board>(
     board: &mut B,
     chain: &mut C,
@@ -146,6 +149,7 @@ fn issue<C: Chain, B: Board>(
         (model.deciding (B.board board.old) (C.held chain.old)) block.now
         (next_on C.rules (C.held chain.old) block.now.parent bytes.now)).1) }
     ensures steady { IsSteady (B.board board.new) (C.held chain.new) }
+    ensures parameters { (B.board board.new).parameters ≡ (B.board board.old).parameters }
 {
     if !chain.verify(&block.parent, &block.id, bytes)? {
         return log.push(Line::Drop {

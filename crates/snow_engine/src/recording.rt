@@ -14,7 +14,7 @@ use snow_plain::Board;
 use std::alloc::{AllocError, Global};
 
 /// A poll with one vote for each of these identifiers came.
-#[tactic(auto, using(crate::proofs::Logs::logging))]
+#[tactic(auto, using(crate::proofs::Logs::logging, crate::proofs::Offers::poll_keeps))]
 pub fn record<C: Chain, B: Board>(
     alloc: Global,
     params: &Params,
@@ -33,6 +33,7 @@ pub fn record<C: Chain, B: Board>(
     ensures front { OnErr result (LogsFront log.old log.new (model.recorded B.answer
         (model.deciding (B.board board.old) (C.held chain.old)) frame ids.now).1) }
     ensures steady { IsSteady (B.board board.new) (C.held chain.new) }
+    ensures parameters { (B.board board.new).parameters ≡ (B.board board.old).parameters }
 {
     if ids.list().len() > params.k() as usize {
         return log.push(Line::Skip {
