@@ -4,3 +4,4 @@ pub mod Told
 pub mod Logs
 pub mod Offers
 pub mod Good
+pub mod Recorded
