@@ -5,3 +5,4 @@ pub mod Logs
 pub mod Offers
 pub mod Good
 pub mod Recorded
+pub mod Worked

@@ -40,27 +40,36 @@ standing frame (Err stop) = Stopped (end_at frame stop)
 abbrev pub came : ℕ → Outcome → List Line × Stand
 came frame outcome = (outcome.0, standing frame outcome.1)
 
--- the word of a payload that is no event
+-- the word for a payload that is no event
 abbrev pub kind_of : Fault → SkipKind
 kind_of Tag = skip.Tag
 kind_of Short = skip.Short
 kind_of Extra = skip.Extra
 kind_of Count = skip.Count
 
+-- an event, or the word for what is none
+abbrev pub named : Result Event Fault → Result Event SkipKind
+named (Ok e) = Ok e
+named (Err fault) = Err (kind_of fault)
+
+-- the event that a payload is, or the word for what is none
+abbrev pub read : List ℕ → Result Event SkipKind
+read payload = named (event_of payload)
+
 -- the first frame has to be a Start
-abbrev pub opened : Rules → Task → ℕ → Result Event Fault → List Line × Stand
+unfoldable pub opened : Rules → Task → ℕ → Result Event SkipKind → List Line × Stand
 opened rules task frame (Ok (event.Start s)) = came frame (started rules task s)
 opened rules task frame _ = ([], Stopped (end.BadInput frame kind.NotStart))
 
 -- a later frame is a step, or is passed over where its payload is no event
-abbrev pub followed : Rules → Answer → Node → ℕ → Result Event Fault → List Line × Stand
-followed rules answer node frame (Err fault) = (line.Skip frame (kind_of fault) ∷ [], Going node)
+abbrev pub followed : Rules → Answer → Node → ℕ → Result Event SkipKind → List Line × Stand
+followed rules answer node frame (Err word) = (line.Skip frame word ∷ [], Going node)
 followed rules answer node frame (Ok e) = came frame (step rules answer node frame e)
 
 -- one frame: behind a stop nothing is looked at
 unfoldable pub after_frame : Rules → Answer → Task → Stand → ℕ → List ℕ → List Line × Stand
-after_frame rules answer task Fresh frame payload = opened rules task frame (event_of payload)
-after_frame rules answer task (Going node) frame payload = followed rules answer node frame (event_of payload)
+after_frame rules answer task Fresh frame payload = opened rules task frame (read payload)
+after_frame rules answer task (Going node) frame payload = followed rules answer node frame (read payload)
 after_frame rules answer task (Stopped end) frame payload = ([], Stopped end)
 
 -- lines, and then those that follow

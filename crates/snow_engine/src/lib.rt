@@ -9,6 +9,7 @@ mod reporting;
 mod stop;
 mod task;
 mod telling;
+mod working;
 
 pub use end::{BadKind, End};
 pub use engine::Engine;

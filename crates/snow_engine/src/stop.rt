@@ -1,5 +1,6 @@
 ghost use Rattle.std.specs.Prelude.{◌≡◌};
 
+use crate::end::{BadKind, End};
 use snow_chain::ChainFault;
 use snow_flake::ParamFault;
 use std::alloc::AllocError;
@@ -15,6 +16,23 @@ pub enum EngineStop {
     SecondStart,
     /// Memory ran out.
     Memory,
+}
+
+impl EngineStop {
+    ghost use Rattle.snow_engine.specs.Run.{end_at};
+
+    /// The end of the run that this stop makes in a frame.
+    pub(crate) fn in_frame(self, frame: u64) -> End
+        ensures { result ≡ end_at frame self }
+    {
+        let kind = match self {
+            EngineStop::Params(fault) => BadKind::Params(fault),
+            EngineStop::State => BadKind::State,
+            EngineStop::SecondStart => BadKind::SecondStart,
+            EngineStop::Memory => return End::Memory,
+        };
+        End::BadInput { frame, kind }
+    }
 }
 
 impl From<AllocError> for EngineStop {
