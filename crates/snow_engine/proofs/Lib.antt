@@ -1,3 +1,4 @@
 pub mod Following
 pub mod Deciding
 pub mod Told
+pub mod ToldExamples
