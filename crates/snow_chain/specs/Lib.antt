@@ -1,1 +1,4 @@
 pub mod Chain
+pub mod Coded
+pub mod Fields
+pub mod Plain

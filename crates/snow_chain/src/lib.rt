@@ -3,7 +3,12 @@
 
 mod chain;
 mod fault;
+mod fields;
+mod plain;
+mod states;
 
 pub use chain::Chain;
 pub use fault::ChainFault;
+pub use plain::PlainChain;
 pub use snow_base::Header;
+pub use states::States;

@@ -1,3 +1,5 @@
 pub mod Matching
 pub mod Node
+pub mod NodeCode
 pub mod Run
+pub mod Stepping

@@ -30,6 +30,10 @@ pub record Node : Type 0 where
   pub board : Board
   pub chain : Held
 
+-- a node that decides
+abbrev pub deciding : Board → Held → Node
+deciding board held = record { task = task.Decide; board = board; chain = held }
+
 -- lines, and then the node, or why it goes no further
 abbrev pub Outcome : Type 0
 Outcome = List Line × Result Node EngineStop
@@ -89,26 +93,26 @@ just node l = (node, l ∷ [])
 
 -- ---- blocks
 
--- the state that a block has, or that it is invalid
-abbrev pub valid_state : Option (List ℕ) → Result (List ℕ) DropWhy
-valid_state None = Err why.Invalid
-valid_state (Some state) = Ok state
+-- what stands against a block above a parent at this height, if the parent is on the board
+abbrev pub opposed : Board → Header → Option ℕ → Option DropWhy
+opposed board block None = Some why.Parent
+opposed board block (Some below) =
+    if nat_le 4096 (length board.pending) then Some why.Full
+    else (if block.height == below + 1 then None else Some why.Invalid)
 
--- the state with which a block is issued above a parent at this height, if the parent is on the board; else why it isn't issued
-abbrev pub judged : Board → Header → Option (List ℕ) → Option ℕ → Result (List ℕ) DropWhy
-judged board block state None = Err why.Parent
-judged board block state (Some below) =
-    if nat_le 4096 (length board.pending) then Err why.Full
-    else (if block.height == below + 1 then valid_state state else Err why.Invalid)
+-- a block is issued with its state; one that has none is invalid
+abbrev pub issued_with : Answer → Node → Header → Option (List ℕ) → Node × List Line
+issued_with answer node block None = just node (line.Drop block.id why.Invalid)
+issued_with answer node block (Some state) = moved answer node (issued node.board block, []) (with_state node.chain block.id state)
 
 -- a block is issued, unless something stands against it
-abbrev pub placed : Answer → Node → Header → Result (List ℕ) DropWhy → Node × List Line
-placed answer node block (Err why) = just node (line.Drop block.id why)
-placed answer node block (Ok state) = moved answer node (issued node.board block, []) (with_state node.chain block.id state)
+abbrev pub placed : Answer → Node → Header → Option (List ℕ) → Option DropWhy → Node × List Line
+placed answer node block state (Some why) = just node (line.Drop block.id why)
+placed answer node block state None = issued_with answer node block state
 
 -- a block that isn't on the board is placed above its parent; one that is changes nothing
 abbrev pub offered : Answer → Node → Header → Option (List ℕ) → Option ℕ → Node × List Line
-offered answer node block state None = placed answer node block (judged node.board block state (height_of node.board block.parent))
+offered answer node block state None = placed answer node block state (opposed node.board block (height_of node.board block.parent))
 offered answer node block state (Some height) = (node, [])
 
 -- a block's bytes came

@@ -2,10 +2,15 @@
 #![tactic(auto)]
 
 mod end;
+mod engine;
+mod offering;
+mod recording;
+mod reporting;
 mod stop;
 mod task;
 mod telling;
 
 pub use end::{BadKind, End};
+pub use engine::Engine;
 pub use stop::EngineStop;
 pub use task::Task;

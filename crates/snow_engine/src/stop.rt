@@ -1,4 +1,8 @@
+ghost use Rattle.std.specs.Prelude.{◌≡◌};
+
+use snow_chain::ChainFault;
 use snow_flake::ParamFault;
+use std::alloc::AllocError;
 
 /// Why an engine doesn't start, or goes no further.
 #[derive(Clone, Copy, Debug, PartialEq, Eq)]
@@ -11,4 +15,29 @@ pub enum EngineStop {
     SecondStart,
     /// Memory ran out.
     Memory,
+}
+
+impl From<AllocError> for EngineStop {
+    ghost use Rattle.std.specs.Prelude.{◌≡◌};
+    ghost use Rattle.snow_engine.specs.declared.stop.EngineStop.TheVariants.{Memory};
+
+    ghost from_gives = { λ _ e. e ≡ Memory };
+
+    fn from(_error: AllocError) -> EngineStop {
+        EngineStop::Memory
+    }
+}
+
+impl From<ChainFault> for EngineStop {
+    ghost use Rattle.std.specs.Prelude.{◌≡◌};
+    ghost use Rattle.snow_engine.specs.Stepping.{stop_of};
+
+    ghost from_gives = { λ fault stop. stop ≡ stop_of fault };
+
+    fn from(fault: ChainFault) -> EngineStop {
+        match fault {
+            ChainFault::State => EngineStop::State,
+            ChainFault::Memory => EngineStop::Memory,
+        }
+    }
 }

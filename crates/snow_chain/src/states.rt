@@ -1,0 +1,93 @@
+ghost use Rattle.std.specs.Prelude.{◌≡◌, IfOk, OnOk, OnErr};
+ghost use Rattle.std.specs.Option.{option_copied};
+
+use snow_base::{Id, Nums};
+use std::alloc::{AllocError, Global};
+use std::collections::BTreeMap;
+use std::marker::Model;
+
+/// The last accepted block, and states by identifier: what any chain can be built on. A state is a
+/// list of numbers, and what they mean is the chain's own.
+#[derive(Drop)]
+pub struct States {
+    alloc: Global,
+    last: Id,
+    states: BTreeMap<Id, Nums>,
+}
+
+impl Model for States {
+    ghost use Rattle.std.specs.FinMap.{from_entries};
+    ghost use Rattle.snow_chain.specs.Chain.{Held};
+    ghost use Rattle.snow_chain.specs.Coded.{coded_held};
+
+    ghost Value = { Held };
+
+    ghost coded = { coded_held };
+
+    ghost view = { λ a. record { last = a.last; states = from_entries a.states.entries } };
+}
+
+impl States {
+    ghost use Rattle.snow_chain.specs.Chain.{begun, state_of, with_state, accepted, rejected};
+
+    /// The state of the last accepted block alone.
+    pub fn begin(alloc: Global, last: Id, state: Nums) -> Result<Self, AllocError>
+        ensures { IfOk result (λ made. made ≡ begun last state) }
+    {
+        let mut states = BTreeMap::new(alloc);
+        states.insert(last, state)?;
+        Ok(States {
+            alloc,
+            last,
+            states,
+        })
+    }
+
+    /// Where a chain takes memory for a state.
+    pub fn alloc(&self) -> Global {
+        self.alloc
+    }
+
+    /// The last accepted block.
+    pub fn last(&self) -> Id
+        ensures { result ≡ self.now.last }
+    {
+        self.last
+    }
+
+    /// The state that is held for a block, if there is one.
+    pub fn state_of(&self, id: &Id) -> Option<&[u64]>
+        ensures { option_copied result ≡ state_of self.now id.now }
+    {
+        match self.states.get(id) {
+            Some(state) => Some(state.list()),
+            None => None,
+        }
+    }
+
+    /// Holds a state for a block, in place of the one that was held, if there was one. After want of
+    /// memory all is as before.
+    pub fn hold(&mut self, id: Id, state: Nums) -> Result<(), AllocError>
+        ensures ok { OnOk result (self.new ≡ with_state self.old id state) }
+        ensures err { OnErr result (self.new ≡ self.old) }
+    {
+        self.states.insert(id, state)?;
+        Ok(())
+    }
+
+    /// A block becomes the last accepted one, and the state of the one before it goes. It takes no
+    /// memory.
+    pub fn accept(&mut self, id: &Id)
+        ensures { self.new ≡ accepted self.old id.now }
+    {
+        let _ = self.states.remove(&self.last);
+        self.last = *id;
+    }
+
+    /// The state of a block goes. It takes no memory.
+    pub fn reject(&mut self, id: &Id)
+        ensures { self.new ≡ rejected self.old id.now }
+    {
+        let _ = self.states.remove(id);
+    }
+}
