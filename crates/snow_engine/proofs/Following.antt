@@ -23,12 +23,12 @@ abbrev pub holds : Held → List ℕ → Bool
 holds held id = is_some (state_of held id)
 
 -- after a state was put in
-state_with : (held : Held) (id state q : List ℕ) → state_of (with_state held id state) q ≡ cond (bytes_eq q id) (Some state) (state_of held q)
+pub state_with : (held : Held) (id state q : List ℕ) → state_of (with_state held id state) q ≡ cond (bytes_eq q id) (Some state) (state_of held q)
 state_with held id state q =
     get-insert nat_list_cmp_total held.states id state q ∙ ap (λ b. cond b (Some state) (state_of held q)) (is_eq-slice_cmp q id)
 
 -- after a state went
-state_without : (held : Held) (id q : List ℕ) → state_of (rejected held id) q ≡ cond (bytes_eq q id) None (state_of held q)
+pub state_without : (held : Held) (id q : List ℕ) → state_of (rejected held id) q ≡ cond (bytes_eq q id) None (state_of held q)
 state_without held id q =
     get-remove nat_list_cmp_total held.states id q ∙ ap (λ b. cond b None (state_of held q)) (is_eq-slice_cmp q id)
 

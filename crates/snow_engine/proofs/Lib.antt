@@ -1,6 +1,7 @@
 pub mod Following
 pub mod Deciding
 pub mod Told
+pub mod ToldExamples
 pub mod Logs
 pub mod Offers
 pub mod Good
