@@ -7,3 +7,4 @@ pub mod Offers
 pub mod Good
 pub mod Recorded
 pub mod Worked
+pub mod Going

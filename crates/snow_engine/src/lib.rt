@@ -4,6 +4,7 @@
 mod end;
 mod engine;
 mod offering;
+mod piece;
 mod recording;
 mod reporting;
 mod stop;
