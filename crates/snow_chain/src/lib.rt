@@ -6,9 +6,14 @@ mod fault;
 mod fields;
 mod plain;
 mod states;
+mod tally;
 
 pub use chain::Chain;
 pub use fault::ChainFault;
 pub use plain::PlainChain;
 pub use snow_base::Header;
 pub use states::States;
+pub use tally::TallyChain;
+
+#[cfg(test)]
+mod tests;
