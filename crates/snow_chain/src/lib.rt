@@ -10,6 +10,7 @@ mod tally;
 
 pub use chain::Chain;
 pub use fault::ChainFault;
+pub use fields::{id_at, number_at};
 pub use plain::PlainChain;
 pub use snow_base::Header;
 pub use states::States;
