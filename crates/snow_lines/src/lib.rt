@@ -5,6 +5,7 @@ mod field;
 mod gathering;
 mod kind;
 mod line;
+mod page;
 mod printing;
 mod reading;
 mod text;
@@ -12,8 +13,10 @@ mod why;
 mod words;
 
 pub use line::{Line, Lines};
+pub use page::Page;
 pub use printing::{print, print_all};
 pub use reading::read;
+pub use text::Text;
 pub use why::{DropWhy, QueryWhy, RestartWhy, SkipKind};
 
 #[cfg(test)]

@@ -5,7 +5,7 @@ ghost use Rattle.hex.specs.Hex.{encode_lower};
 ghost use Rattle.snow_base.specs.Outside.{AppendsFront, HasCause};
 ghost use Rattle.snow_lines.specs.Text.{fields, name, text, texts};
 
-use crate::gathering::{put, put_list};
+use crate::gathering::{Gather, put_list};
 use crate::line::Line;
 use crate::text::Text;
 use snow_base::{Failed, Id, NodeId, Sink, write_whole};
@@ -20,7 +20,7 @@ pub fn print<K: Sink>(line: &Line, sink: &mut K) -> Result<(), Failed>
 {
     let mut text = front_of(line);
     put_list(&mut text, line, sink)?;
-    put(&mut text, b"\n", sink)?;
+    text.put(b"\n", sink)?;
     write_whole(sink, text.as_slice())
 }
 
@@ -38,7 +38,7 @@ pub fn print_all<K: Sink>(lines: &[Line], sink: &mut K) -> Result<(), Failed>
 }
 
 /// The text of a line without its list and its newline.
-fn front_of(line: &Line) -> Text
+pub fn front_of(line: &Line) -> Text
     ensures text { result ≡ join_with_byte 32 (name line.now ∷ fields line.now) }
     ensures length { length result ≤ 210 }
 {

@@ -1,5 +1,6 @@
-use crate::{DropWhy, Line, SkipKind, print, print_all, read};
-use snow_base::{Id, MemSink, Nums};
+use crate::{DropWhy, Line, Page, QueryWhy, RestartWhy, SkipKind, Text, print, print_all, read};
+use snow_base::{Id, Ids, MemSink, Nums};
+use std::alloc::{AllocError, Global};
 use std::test::Fail;
 
 /// An identifier with these first two bytes and zeros behind.
@@ -144,5 +145,117 @@ fn near_misses_are_no_lines(rt: HostRuntime) -> Result<(), Fail> {
         let line = read(rt.alloc(), text.as_bytes())?;
         assert!(rt; line.is_none());
     }
+    Ok(())
+}
+
+/// A sink with room for so many bytes, which fails at this call.
+fn failing_at(alloc: Global, call: u64, room: usize) -> Result<MemSink, AllocError> {
+    let mut failing = Nums::new(alloc);
+    failing.push(call)?;
+    let mut sink = MemSink::new(alloc, failing);
+    sink.reserve(room)?;
+    Ok(sink)
+}
+
+/// Lines of three kinds.
+fn three() -> [Line; 3] {
+    [
+        Line::Frontier { number: u32::MAX },
+        Line::DropQuery {
+            why: QueryWhy::Units,
+        },
+        Line::Restart {
+            why: RestartWhy::Frontier,
+        },
+    ]
+}
+
+/// Their text.
+const THREE_TEXT: &[u8] = b"frontier 4294967295\ndrop-query units\nrestart frontier\n";
+
+#[test]
+fn lines_on_a_page_come_in_one_write(rt: HostRuntime) -> Result<(), Fail> {
+    let mut sink = failing_at(rt.alloc(), 2, 1000)?;
+    let mut page = Page::new(rt.alloc())?;
+    assert!(rt; page.print_all(&three(), &mut sink).is_ok());
+    assert!(rt; sink.bytes().is_empty());
+    assert!(rt; page.flush(&mut sink).is_ok());
+    assert!(rt; sink.bytes() == THREE_TEXT);
+    // Nothing waits: the sink, which would fail now, isn't called.
+    assert!(rt; page.flush(&mut sink).is_ok());
+    assert!(rt; page.print_all(&three(), &mut sink).is_ok());
+    assert!(rt; page.flush(&mut sink).is_err());
+    assert!(rt; sink.bytes() == THREE_TEXT);
+    Ok(())
+}
+
+/// So many lines of 72 bytes are a page, but for 16 bytes.
+const PAGE_LINES: u32 = 910;
+
+#[test]
+fn a_thousand_lines_come_in_two_writes(rt: HostRuntime) -> Result<(), Fail> {
+    let line = Line::Prefer { id: id(0x0a, 0xff) };
+    let mut sink = failing_at(rt.alloc(), 3, 72_000)?;
+    let mut page = Page::new(rt.alloc())?;
+    for _ in 0..PAGE_LINES {
+        assert!(rt; page.print(&line, &mut sink).is_ok());
+    }
+    assert!(rt; sink.bytes().is_empty());
+    for _ in PAGE_LINES..1000 {
+        assert!(rt; page.print(&line, &mut sink).is_ok());
+        assert!(rt; sink.bytes().len() == 65_520);
+    }
+    assert!(rt; page.flush(&mut sink).is_ok());
+    let mut wanted = Vec::new(rt.alloc());
+    for _ in 0..1000 {
+        wanted.extend_from_slice(b"prefer 0aff")?;
+        wanted.extend_from_slice(&[b'0'; 60])?;
+        wanted.extend_from_slice(b"\n")?;
+    }
+    assert!(rt; sink.bytes() == wanted.as_slice());
+    Ok(())
+}
+
+#[test]
+fn a_full_page_fails_with_its_sink(rt: HostRuntime) -> Result<(), Fail> {
+    let line = Line::Prefer { id: id(0x0a, 0xff) };
+    let mut sink = failing_at(rt.alloc(), 1, 72_000)?;
+    let mut page = Page::new(rt.alloc())?;
+    for _ in 0..PAGE_LINES {
+        assert!(rt; page.print(&line, &mut sink).is_ok());
+    }
+    assert!(rt; page.print(&line, &mut sink).is_err());
+    assert!(rt; sink.bytes().is_empty());
+    Ok(())
+}
+
+#[test]
+fn a_line_longer_than_a_page_goes_through(rt: HostRuntime) -> Result<(), Fail> {
+    let mut ids = Ids::new(rt.alloc());
+    let mut wanted = Vec::new(rt.alloc());
+    wanted.extend_from_slice(b"accepted 7")?;
+    for _ in 0..1000 {
+        ids.push(id(0x0a, 0xff))?;
+        ids.push(id(0xb9, 0x01))?;
+        wanted.extend_from_slice(b" 0aff")?;
+        wanted.extend_from_slice(&[b'0'; 60])?;
+        wanted.extend_from_slice(b" b901")?;
+        wanted.extend_from_slice(&[b'0'; 60])?;
+    }
+    wanted.extend_from_slice(b"\n")?;
+    let line = Line::Accepted { number: 7, ids };
+    let mut sink = failing_at(rt.alloc(), 3, 131_000)?;
+    let mut page = Page::new(rt.alloc())?;
+    assert!(rt; page.print(&line, &mut sink).is_ok());
+    assert!(rt; page.flush(&mut sink).is_ok());
+    assert!(rt; sink.bytes() == wanted.as_slice());
+    Ok(())
+}
+
+#[test]
+fn a_short_text_is_built_of_words(rt: HostRuntime) -> Result<(), Fail> {
+    let mut text = Text::of(b"err").word(b"input").number(u64::MAX);
+    text.push(b"\n");
+    assert!(rt; text.as_slice() == b"err input 18446744073709551615\n".as_slice());
     Ok(())
 }

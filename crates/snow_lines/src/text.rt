@@ -11,7 +11,7 @@ use std::marker::Model;
 /// So many bytes a text has at most. A line without a list is shorter.
 pub const LONGEST: usize = 256;
 
-/// A text as it is built, of at most `LONGEST` bytes. It takes no memory.
+/// A short text as it is built, of at most 256 bytes. It takes no memory. Contracts see its bytes.
 #[derive(Debug, Drop)]
 pub struct Text {
     bytes: [u8; 256],

@@ -8,4 +8,4 @@ pub returns-in_err-put-clause-err : goal.returns-in_err-put-clause-err
 returns-in_err-put-clause-err g c =
     let e = err_from_is_err_and c.from_residual.result c.from_residual.ensures.1 in
     let more = block_word c.args.bytes.now in
-    rw e.1 (front_of_more _ _ (c.args.text.now ++ 32 ∷ []) more _ c.in_err-put.ensures.err (append_assoc c.args.text.now (32 ∷ []) more))
+    rw e.1 (front_of_more _ _ (g.G.Gather.waiting c.args.out.now ++ 32 ∷ []) more _ c.in_err-put.ensures.err (append_assoc (g.G.Gather.waiting c.args.out.now) (32 ∷ []) more))

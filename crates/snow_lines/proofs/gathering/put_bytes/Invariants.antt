@@ -5,5 +5,5 @@ use Rattle.snow_lines.proofs.gathering.put_bytes.Given as goal
 
 abbrev pub invariant-loop-byte : goal.invariant-loop-byte
 invariant-loop-byte g l =
-    Gathers (g.K.Sink.written l.initial.sink) l.initial.text (g.K.Sink.written l.sink) l.text (flat_map (λ b. encode_lower (b ∷ [])) (take l.byte-index l.bytes))
+    Gathers (g.K.Sink.written l.initial.sink) (g.G.Gather.waiting l.initial.out) (g.K.Sink.written l.sink) (g.G.Gather.waiting l.out) (flat_map (λ b. encode_lower (b ∷ [])) (take l.byte-index l.bytes))
     × (g.K.Sink.faults l.initial.sink ≤ g.K.Sink.faults l.sink)

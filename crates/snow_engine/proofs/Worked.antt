@@ -1,0 +1,98 @@
+-- One frame was worked: its lines, and where the run stands.
+use Rattle.std.proofs.Common.{◌≡◌, ℕ, ◌+◌, true, false, List, [], ◌++◌, append_assoc, append-nil, Option, Some, None, Result, Ok, Err, refl, sym, ap, ◌∙◌, subst, inl, inr}
+use Rattle.std.proofs.lemmas.List.Concat.{flat_map-append}
+use Rattle.snow_base.specs.Outside.{AppendsFront, Rose}
+use Rattle.snow_base.proofs.Known.{front_of_more}
+use Rattle.snow_flake.specs.Rule.{Answer}
+use Rattle.snow_chain.specs.Chain.{Rules}
+use Rattle.snow_wire.specs.Frame.{first_of, is_too_long, length_word}
+use Rattle.snow_wire.specs.Stream.{Intake}
+use Rattle.snow_wire.specs.declared.frame.TooLong.{TooLong}
+use Rattle.snow_wire.proofs.Streams.{long_first}
+use Rattle.snow_lines.specs.declared.line.Line.{Line}
+use Rattle.snow_lines.specs.Gathered.{Gathers}
+use Rattle.snow_lines.specs.Text.{text, texts}
+use Rattle.snow_lines.proofs.Waiting.{gathers_none}
+use Rattle.snow_engine.specs.declared.task.Task.{Task}
+use Rattle.snow_engine.specs.declared.end.BadKind.TheVariants as kind
+use Rattle.snow_engine.specs.declared.end.End.{End}
+use Rattle.snow_engine.specs.declared.end.End.TheVariants as end
+use Rattle.snow_engine.specs.Node.{Node}
+use Rattle.snow_engine.specs.Run.{Stand, is_stopped}
+use Rattle.snow_engine.specs.Stepping.{LogsFront}
+use Rattle.snow_engine.specs.Serving.{stand_of, Stands, LogsFrame, GathersLines, GathersFront, SinkFails, Halts, front_worked, one_worked}
+
+-- the texts of lines in front and of those behind
+pub texts_parts : (front rest lines : List Line) → front ++ rest ≡ lines → texts front ++ texts rest ≡ texts lines
+texts_parts front rest lines e = sym (flat_map-append text front rest) ∙ ap texts e
+
+-- a front of the lines was logged, and all of that was gathered
+logged_front : (new lines : List Line) (before : Option (List ℕ)) (held : List ℕ) (after : Option (List ℕ)) (kept : List ℕ)
+    → LogsFront [] new lines → Gathers before held after kept (texts new) → GathersFront before held after kept (texts lines)
+logged_front new lines before held after kept p g = record {
+  front = texts p.front;
+  rest = texts p.rest;
+  whole = texts_parts p.front p.rest lines p.whole;
+  gathered = subst (λ (l : List Line). Gathers before held after kept (texts l)) p.grown g;
+}
+
+all_logged : (new lines : List Line) (before : Option (List ℕ)) (held : List ℕ) (after : Option (List ℕ)) (kept : List ℕ)
+    → new ≡ lines → Gathers before held after kept (texts new) → Gathers before held after kept (texts lines)
+all_logged new lines before held after kept e g = subst (λ (l : List Line). Gathers before held after kept (texts l)) e g
+
+-- what a frame logged was gathered
+pub gathered : (result : Result (Unit {0}) End) (now : Option Node) (stand : Stand) (new lines : List Line) (before : Option (List ℕ)) (held : List ℕ) (after : Option (List ℕ)) (kept : List ℕ)
+    → Stands result now stand → LogsFrame result [] new lines → Gathers before held after kept (texts new) → GathersLines result before held after kept lines
+gathered (Ok u) now stand new lines before held after kept s l g = all_logged new lines before held after kept l g
+gathered (Err end.Done) now stand new lines before held after kept s l g = all_logged new lines before held after kept l g
+gathered (Err (end.BadInput f k)) now stand new lines before held after kept s l g = all_logged new lines before held after kept l g
+gathered (Err end.SourceFault) now stand new lines before held after kept s l g = all_logged new lines before held after kept l g
+gathered (Err end.SinkFault) now stand new lines before held after kept s l g = absurd s
+gathered (Err end.Memory) now stand new lines before held after kept s l g = logged_front new lines before held after kept l g
+gathered (Err end.InputLimit) now stand new lines before held after kept s l g = all_logged new lines before held after kept l g
+
+-- what a frame logged are its lines, or a front of them
+logged : (result : Result (Unit {0}) End) (new lines : List Line) → LogsFrame result [] new lines → LogsFront [] new lines
+logged (Ok u) new lines l = record { front = new; rest = []; whole = append-nil new ∙ l; grown = refl }
+logged (Err end.Done) new lines l = record { front = new; rest = []; whole = append-nil new ∙ l; grown = refl }
+logged (Err (end.BadInput f k)) new lines l = record { front = new; rest = []; whole = append-nil new ∙ l; grown = refl }
+logged (Err end.SourceFault) new lines l = record { front = new; rest = []; whole = append-nil new ∙ l; grown = refl }
+logged (Err end.SinkFault) new lines l = record { front = new; rest = []; whole = append-nil new ∙ l; grown = refl }
+logged (Err end.Memory) new lines l = l
+logged (Err end.InputLimit) new lines l = record { front = new; rest = []; whole = append-nil new ∙ l; grown = refl }
+
+-- what a frame logged failed to be gathered
+pub failed : (result : Result (Unit {0}) End) (new lines : List Line) (before : Option (List ℕ)) (held : List ℕ) (after : Option (List ℕ))
+    → LogsFrame result [] new lines → AppendsFront before after (held ++ texts new) → AppendsFront before after (held ++ texts lines)
+failed result new lines before held after l p =
+    let f = logged result new lines l in
+    front_of_more before after (held ++ texts new) (texts f.rest) (held ++ texts lines) p
+    (append_assoc held (texts new) (texts f.rest) ∙ ap (λ (bs : List ℕ). held ++ bs) (ap (λ (ls : List Line). texts ls ++ texts f.rest) f.grown ∙ texts_parts f.front f.rest lines f.whole))
+
+-- a frame alone never ends in a fault of the sink
+pub faultless : (result : Result (Unit {0}) End) (now : Option Node) (stand : Stand) (before after : ℕ) → Stands result now stand → SinkFails result before after
+faultless (Ok u) now stand before after s = tt
+faultless (Err end.Done) now stand before after s = tt
+faultless (Err (end.BadInput f k)) now stand before after s = tt
+faultless (Err end.SourceFault) now stand before after s = tt
+faultless (Err end.SinkFault) now stand before after s = absurd s
+faultless (Err end.Memory) now stand before after s = tt
+faultless (Err end.InputLimit) now stand before after s = tt
+
+-- ---- a length that no frame has
+
+-- no node has stopped
+pub never_stopped : (o : Option Node) → is_stopped (stand_of o) ≡ false
+never_stopped None = refl
+never_stopped (Some node) = refl
+
+-- without a first frame nothing is worked
+pub none_worked : (rules : Rules) (answer : Answer) (task : Task) (stand : Stand) (intake : Intake) → first_of intake.rest ≡ None
+    → one_worked rules answer task stand intake ≡ record { lines = []; stand = stand; intake = intake }
+none_worked rules answer task stand intake e = ap (front_worked rules answer task stand intake) e
+
+-- a length that no frame has ends the run
+pub long_halts : (rules : Rules) (answer : Answer) (task : Task) (o : Option Node) (intake : Intake) → is_too_long intake.rest ≡ true
+    → Halts (one_worked rules answer task (stand_of o) intake) (end.BadInput (intake.given + 1) kind.Length)
+long_halts rules answer task o intake long =
+    rw (none_worked rules answer task (stand_of o) intake (long_first intake.rest long)) (inr (never_stopped o, long, refl))

@@ -1,0 +1,40 @@
+use snow_flake::ParamFault;
+
+/// What is wrong with an input, at the frame where the run stops.
+#[derive(Clone, Copy, Debug, PartialEq, Eq)]
+pub enum BadKind {
+    /// A length word says more than 2,097,152.
+    Length,
+    /// The input ends inside the frame.
+    Cut,
+    /// The input ends before any byte.
+    NoStart,
+    /// The first frame is no Start.
+    NotStart,
+    /// The parameters of the Start are refused.
+    Params(ParamFault),
+    /// The chain doesn't take the state of the Start.
+    State,
+    /// A Start came though the run has begun.
+    SecondStart,
+}
+
+/// How a run over a source ended.
+#[derive(Clone, Copy, Debug, PartialEq, Eq)]
+pub enum End {
+    /// All lines were written, and the end of the input was read.
+    Done,
+    /// The input is bad at this frame, counted from 1.
+    BadInput {
+        frame: u64,
+        kind: BadKind,
+    },
+    /// The source failed.
+    SourceFault,
+    /// The sink failed.
+    SinkFault,
+    /// Memory ran out.
+    Memory,
+    /// 2^40 bytes were taken, and no stop lies in them.
+    InputLimit,
+}

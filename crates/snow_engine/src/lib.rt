@@ -1,0 +1,17 @@
+//! The engine of one node: from the events of a stream to lines.
+#![tactic(auto)]
+
+mod end;
+mod engine;
+mod offering;
+mod recording;
+mod reporting;
+mod stop;
+mod task;
+mod telling;
+mod working;
+
+pub use end::{BadKind, End};
+pub use engine::Engine;
+pub use stop::EngineStop;
+pub use task::Task;

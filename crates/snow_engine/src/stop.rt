@@ -1,0 +1,61 @@
+ghost use Rattle.std.specs.Prelude.{◌≡◌};
+
+use crate::end::{BadKind, End};
+use snow_chain::ChainFault;
+use snow_flake::ParamFault;
+use std::alloc::AllocError;
+
+/// Why an engine doesn't start, or goes no further.
+#[derive(Clone, Copy, Debug, PartialEq, Eq)]
+pub enum EngineStop {
+    /// The parameters of the Start are refused.
+    Params(ParamFault),
+    /// The chain doesn't take the state of the Start.
+    State,
+    /// A Start came though the run has begun.
+    SecondStart,
+    /// Memory ran out.
+    Memory,
+}
+
+impl EngineStop {
+    ghost use Rattle.snow_engine.specs.Run.{end_at};
+
+    /// The end of the run that this stop makes in a frame.
+    pub(crate) fn in_frame(self, frame: u64) -> End
+        ensures { result ≡ end_at frame self }
+    {
+        let kind = match self {
+            EngineStop::Params(fault) => BadKind::Params(fault),
+            EngineStop::State => BadKind::State,
+            EngineStop::SecondStart => BadKind::SecondStart,
+            EngineStop::Memory => return End::Memory,
+        };
+        End::BadInput { frame, kind }
+    }
+}
+
+impl From<AllocError> for EngineStop {
+    ghost use Rattle.std.specs.Prelude.{◌≡◌};
+    ghost use Rattle.snow_engine.specs.declared.stop.EngineStop.TheVariants.{Memory};
+
+    ghost from_gives = { λ _ e. e ≡ Memory };
+
+    fn from(_error: AllocError) -> EngineStop {
+        EngineStop::Memory
+    }
+}
+
+impl From<ChainFault> for EngineStop {
+    ghost use Rattle.std.specs.Prelude.{◌≡◌};
+    ghost use Rattle.snow_engine.specs.Stepping.{stop_of};
+
+    ghost from_gives = { λ fault stop. stop ≡ stop_of fault };
+
+    fn from(fault: ChainFault) -> EngineStop {
+        match fault {
+            ChainFault::State => EngineStop::State,
+            ChainFault::Memory => EngineStop::Memory,
+        }
+    }
+}

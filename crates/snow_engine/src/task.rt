@@ -1,0 +1,6 @@
+/// What a node does with the events of its stream.
+#[derive(Clone, Copy, Debug, PartialEq, Eq)]
+pub enum Task {
+    /// It takes blocks and whole polls, and asks nobody.
+    Decide,
+}

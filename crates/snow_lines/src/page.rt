@@ -1,0 +1,121 @@
+ghost use Rattle.std.specs.Prelude.{◌≡◌, [], ◌++◌, nat_lt, length, IfOk, OnOk, OnErr};
+ghost use Rattle.std.specs.Io.KnownBytes.{Appends};
+ghost use Rattle.snow_base.specs.Outside.{AppendsFront, HasCause};
+ghost use Rattle.snow_lines.specs.Gathered.{Gathers};
+ghost use Rattle.snow_lines.specs.Text.{listed, text, texts};
+
+use crate::gathering::{Gather, put_list};
+use crate::line::Line;
+use crate::printing::front_of;
+use snow_base::{Failed, Sink, write_whole};
+use std::alloc::{AllocError, Global};
+use std::marker::Model;
+
+/// So many bytes a page has at most.
+const ROOM: usize = 65_536;
+
+/// Text of lines that waits to be written, of at most 65,536 bytes. A new page takes the memory for
+/// all of them, and no later call takes any. Contracts see the bytes that wait.
+#[derive(Debug, Drop)]
+pub struct Page {
+    bytes: Vec<u8>,
+}
+
+impl Model for Page {
+    ghost use Rattle.std.specs.Prelude.{ℕ, List, ◌≤◌, vec_len, vec_capacity};
+
+    ghost Value = { List ℕ };
+
+    ghost view = { λ a. a.bytes.items };
+
+    ghost invariant = { λ a. (vec_len a.bytes ≤ 65536) × (65536 ≤ vec_capacity a.bytes) };
+}
+
+impl Page {
+    /// A page on which nothing waits. It fails for want of memory alone.
+    pub fn new(alloc: Global) -> Result<Self, AllocError>
+        ensures { IfOk result (λ page. page ≡ []) }
+    {
+        let bytes = Vec::with_capacity(alloc, ROOM)?;
+        Ok(Page { bytes })
+    }
+
+    /// Appends a line. Where there is no room for a piece of it, what waits is written first, as one
+    /// piece. At `Failed` a front of what waited and of the line was written, and what then waits is
+    /// left open.
+    #[tactic(auto, using(crate::proofs::Printed::gathered))]
+    pub fn print<K: Sink>(&mut self, line: &Line, sink: &mut K) -> Result<(), Failed>
+        ensures ok { OnOk result (Gathers (K.written sink.old) self.old (K.written sink.new) self.new (text line.now)) }
+        ensures err { OnErr result (AppendsFront (K.written sink.old) (K.written sink.new) (self.old ++ text line.now)) }
+        ensures cause { HasCause (K.faults sink.old) (K.faults sink.new) result }
+    {
+        let mut text = front_of(line);
+        if has_list(line) {
+            self.put(text.as_slice(), sink)?;
+            put_list(self, line, sink)?;
+            return self.put(b"\n", sink);
+        }
+        text.push(b"\n");
+        self.put(text.as_slice(), sink)
+    }
+
+    /// Appends lines, one after another, as `print` does.
+    #[tactic(auto, using(crate::proofs::Waiting::gathering, snow_base::proofs::Known::appending))]
+    pub fn print_all<K: Sink>(&mut self, lines: &[Line], sink: &mut K) -> Result<(), Failed>
+        ensures ok { OnOk result (Gathers (K.written sink.old) self.old (K.written sink.new) self.new (texts lines.now)) }
+        ensures err { OnErr result (AppendsFront (K.written sink.old) (K.written sink.new) (self.old ++ texts lines.now)) }
+        ensures cause { HasCause (K.faults sink.old) (K.faults sink.new) result }
+    {
+        for line in lines {
+            self.print(line, sink)?;
+        }
+        Ok(())
+    }
+
+    /// Writes what waits, so that nothing waits any more. Where nothing waits the sink isn't called.
+    /// At `Failed` a front of it was written, and the page is as before.
+    pub fn flush<K: Sink>(&mut self, sink: &mut K) -> Result<(), Failed>
+        ensures ok { OnOk result (Appends (K.written sink.old) (K.written sink.new) self.old) }
+        ensures empty { OnOk result (self.new ≡ []) }
+        ensures err { OnErr result (AppendsFront (K.written sink.old) (K.written sink.new) self.old) }
+        ensures kept { OnErr result (self.new ≡ self.old) }
+        ensures uncalled { self.old ≡ [] → sink.new ≡ sink.old }
+        ensures cause { HasCause (K.faults sink.old) (K.faults sink.new) result }
+    {
+        if self.bytes.is_empty() {
+            return Ok(());
+        }
+        write_whole(sink, self.bytes.as_slice())?;
+        self.bytes.clear();
+        Ok(())
+    }
+}
+
+impl Gather for Page {
+    ghost waiting = { λ page. page };
+
+    #[tactic(auto, using(crate::proofs::Waiting::gathering, snow_base::proofs::Known::appending))]
+    fn put<K: Sink>(&mut self, piece: &[u8], sink: &mut K) -> Result<(), Failed> {
+        if piece.len() > ROOM - self.bytes.len() {
+            self.flush(sink)?;
+        }
+        let taken = self.bytes.extend_from_slice(piece);
+        prove!(taken.is_ok());
+        let _ = taken;
+        Ok(())
+    }
+}
+
+/// Whether words of a list stand in a line.
+fn has_list(line: &Line) -> bool
+    ensures { result ≡ nat_lt 0 (length (listed line.now)) }
+{
+    match line {
+        Line::Query { draws, .. } => !draws.list().is_empty(),
+        Line::Accepted { ids, .. } => !ids.list().is_empty(),
+        Line::ToAccepted { ids, .. } => !ids.list().is_empty(),
+        Line::ToAncestors { blocks, .. } => !blocks.list().is_empty(),
+        Line::ToBlock { .. } => true,
+        _ => false,
+    }
+}
