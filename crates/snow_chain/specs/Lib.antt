@@ -2,3 +2,4 @@ pub mod Chain
 pub mod Coded
 pub mod Fields
 pub mod Plain
+pub mod Tally

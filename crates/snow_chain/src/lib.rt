@@ -6,9 +6,15 @@ mod fault;
 mod fields;
 mod plain;
 mod states;
+mod tally;
 
 pub use chain::Chain;
 pub use fault::ChainFault;
+pub use fields::{id_at, number_at};
 pub use plain::PlainChain;
 pub use snow_base::Header;
 pub use states::States;
+pub use tally::TallyChain;
+
+#[cfg(test)]
+mod tests;

@@ -27,6 +27,15 @@ impl Model for PlainChain {
     ghost view = { λ a. a.states };
 }
 
+impl PlainChain {
+    /// The states that it holds.
+    pub fn states(&self) -> &States
+        ensures { result.now ≡ self.now }
+    {
+        &self.states
+    }
+}
+
 impl Chain for PlainChain {
     ghost use Rattle.snow_chain.specs.Plain.{plain_needs_header};
 

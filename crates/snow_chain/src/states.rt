@@ -1,4 +1,4 @@
-ghost use Rattle.std.specs.Prelude.{◌≡◌, IfOk, OnOk, OnErr};
+ghost use Rattle.std.specs.Prelude.{◌≡◌, ◌↔◌, IsTrue, IfOk, OnOk, OnErr};
 ghost use Rattle.std.specs.Option.{option_copied};
 
 use snow_base::{Id, Nums};
@@ -28,7 +28,7 @@ impl Model for States {
 }
 
 impl States {
-    ghost use Rattle.snow_chain.specs.Chain.{begun, state_of, with_state, accepted, rejected};
+    ghost use Rattle.snow_chain.specs.Chain.{begun, state_of, with_state, accepted, rejected, MayVerify, MayAccept, MayReject};
 
     /// The state of the last accepted block alone.
     pub fn begin(alloc: Global, last: Id, state: Nums) -> Result<Self, AllocError>
@@ -63,6 +63,30 @@ impl States {
             Some(state) => Some(state.list()),
             None => None,
         }
+    }
+
+    /// Whether a chain that holds these states may verify a block: its parent's state is held, and its
+    /// own isn't.
+    pub fn may_verify(&self, parent: &Id, id: &Id) -> bool
+        ensures { IsTrue result ↔ MayVerify self.now parent.now id.now }
+    {
+        self.state_of(parent).is_some() && self.state_of(id).is_none()
+    }
+
+    /// Whether a chain that holds these states may accept a block: its state is held, it isn't the last
+    /// accepted one, and that one's state is held.
+    pub fn may_accept(&self, id: &Id) -> bool
+        ensures { IsTrue result ↔ MayAccept self.now id.now }
+    {
+        self.may_reject(id) && self.state_of(&self.last).is_some()
+    }
+
+    /// Whether a chain that holds these states may reject a block: its state is held, and it isn't the
+    /// last accepted one.
+    pub fn may_reject(&self, id: &Id) -> bool
+        ensures { IsTrue result ↔ MayReject self.now id.now }
+    {
+        self.state_of(id).is_some() && self.last != *id
     }
 
     /// Holds a state for a block, in place of the one that was held, if there was one. After want of
