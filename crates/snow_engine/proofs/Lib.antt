@@ -8,3 +8,4 @@ pub mod Good
 pub mod Recorded
 pub mod Worked
 pub mod Going
+pub mod Flushed
