@@ -18,7 +18,7 @@ use Rattle.snow_engine.specs.declared.end.BadKind.TheVariants as kind
 use Rattle.snow_engine.specs.declared.end.End.{End}
 use Rattle.snow_engine.specs.declared.end.End.TheVariants as end
 use Rattle.snow_engine.specs.Node.{Node}
-use Rattle.snow_engine.specs.Run.{Stand, is_stopped}
+use Rattle.snow_engine.specs.Run.{Stand, after_frame, is_stopped}
 use Rattle.snow_engine.specs.Stepping.{LogsFront}
 use Rattle.snow_engine.specs.Serving.{stand_of, Stands, LogsFrame, GathersLines, GathersFront, SinkFails, Halts, front_worked, one_worked}
 
@@ -68,6 +68,17 @@ failed result new lines before held after l p =
     let f = logged result new lines l in
     front_of_more before after (held ++ texts new) (texts f.rest) (held ++ texts lines) p
     (append_assoc held (texts new) (texts f.rest) ∙ ap (λ (bs : List ℕ). held ++ bs) (ap (λ (ls : List Line). texts ls ++ texts f.rest) f.grown ∙ texts_parts f.front f.rest lines f.whole))
+
+-- the same where the frame was the first of a decoder
+pub failed_first : (rules : Rules) (answer : Answer) (task : Task) (stand : Stand) (intake : Intake) (payload rest : List ℕ) (frame : ℕ) (result : Result (Unit {0}) End) (new : List Line)
+    (before : Option (List ℕ)) (held : List ℕ) (after : Option (List ℕ)) → first_of intake.rest ≡ Some (payload, rest) → frame ≡ intake.given + 1
+    → LogsFrame result [] new (after_frame rules answer task stand frame payload).0 → AppendsFront before after (held ++ texts new)
+    → AppendsFront before after (held ++ texts (one_worked rules answer task stand intake).lines)
+failed_first rules answer task stand intake payload rest frame result new before held after first number l p =
+    let lines : (after_frame rules answer task stand frame payload).0 ≡ (one_worked rules answer task stand intake).lines =
+    ap (λ (n : ℕ). (after_frame rules answer task stand n payload).0) number
+    ∙ sym (ap (λ (o : Option (List ℕ × List ℕ)). (front_worked rules answer task stand intake o).lines) first) in
+    failed result new (one_worked rules answer task stand intake).lines before held after (subst (λ (ls : List Line). LogsFrame result [] new ls) lines l) p
 
 -- a frame alone never ends in a fault of the sink
 pub faultless : (result : Result (Unit {0}) End) (now : Option Node) (stand : Stand) (before after : ℕ) → Stands result now stand → SinkFails result before after

@@ -1,21 +1,13 @@
 -- Codes for the value of an engine, which its model asks for.
-use Rattle.std.specs.Prelude.{◌≡◌, ℕ, List, refl}
-use Rattle.std.specs.Coded.{Coded, coded_ℕ, coded_list, coded×, code_by}
-use Rattle.std.specs.FinMap.{code}
+use Rattle.std.specs.Prelude.{◌≡◌, ℕ, refl}
+use Rattle.std.specs.Coded.{Coded, coded_ℕ, coded×, code_by}
 use Rattle.snow_plain.specs.Board.{Board}
 use Rattle.snow_plain.specs.BoardCode.{coded_board}
-use Rattle.snow_chain.specs.Chain.{Held, States}
+use Rattle.snow_chain.specs.Chain.{Held}
+use Rattle.snow_chain.specs.Coded.{coded_held}
 use Rattle.snow_engine.specs.declared.task.Task.{Task}
 use Rattle.snow_engine.specs.declared.task.Task.TheVariants as task
 use Rattle.snow_engine.specs.Node.{Node}
-
--- the code of an identifier, and of a state
-abbrev coded_numbers : Coded (List ℕ)
-coded_numbers = coded_list coded_ℕ
-
--- the code of what a chain holds
-abbrev pub coded_held : Coded Held
-coded_held = code_by (List ℕ × States) (coded× coded_numbers (code coded_numbers coded_numbers)) (λ h. (h.last, h.states)) (λ f. record { last = f.0; states = f.1 }) (λ _. refl)
 
 -- a task as a number
 abbrev number_of : Task → ℕ

@@ -4,13 +4,13 @@
 mod end;
 mod engine;
 mod offering;
-mod piece;
 mod recording;
 mod reporting;
+mod runner;
+mod session;
 mod stop;
 mod task;
 mod telling;
-mod working;
 
 pub use end::{BadKind, End};
 pub use engine::Engine;

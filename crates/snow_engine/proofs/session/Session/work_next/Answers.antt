@@ -1,0 +1,35 @@
+-- A length that no frame has ends the run, and no line comes of it.
+use Rattle.std.proofs.Common.{◌≡◌, ◌++◌, ap, sym, subst, List, ℕ}
+use Rattle.snow_lines.specs.declared.line.Line.{Line}
+use Rattle.snow_lines.specs.Gathered.{Gathers}
+use Rattle.snow_lines.specs.Text.{texts}
+use Rattle.snow_lines.proofs.Waiting.{gathers_none}
+use Rattle.snow_wire.specs.declared.frame.TooLong.{TooLong}
+use Rattle.snow_wire.proofs.Streams.{long_first}
+use Rattle.snow_engine.specs.declared.end.BadKind.TheVariants as kind
+use Rattle.snow_engine.specs.declared.end.End.TheVariants as end
+use Rattle.snow_engine.specs.Serving.{Halts, Worked, stand_of, one_worked}
+use Rattle.snow_base.specs.Outside.{AppendsFront}
+use Rattle.snow_wire.specs.Stream.{taken}
+use Rattle.snow_engine.proofs.Worked.{failed_first, long_halts, none_worked}
+use Rattle.snow_engine.proofs.session.Session.work_next.Goals as goal
+
+pub returns-in-Err-clause-goes : goal.returns-in-Err-clause-goes
+returns-in-Err-clause-goes g c =
+    subst (λ (n : ℕ). Halts (one_worked g.C.Chain.rules g.B.Board.answer c.args.self.now.runner.task (stand_of c.args.self.now.runner.engine) c.args.self.now.decoder) (end.BadInput n kind.Length))
+    (sym (ap (λ (t : TooLong). t.number) c.in-Err.ensures.answer.1))
+    (long_halts g.C.Chain.rules g.B.Board.answer c.args.self.now.runner.task c.args.self.now.runner.engine c.args.self.now.decoder c.in-Err.ensures.answer.0)
+
+pub returns-in-Err-clause-lines : goal.returns-in-Err-clause-lines
+returns-in-Err-clause-lines g c =
+    subst (λ (w : Worked). Gathers (g.O.Sink.written c.args.out.now) c.args.self.now.page (g.O.Sink.written c.args.out.now) c.args.self.now.page (texts w.lines))
+    (sym (none_worked g.C.Chain.rules g.B.Board.answer c.args.self.now.runner.task (stand_of c.args.self.now.runner.engine) c.args.self.now.decoder (long_first c.args.self.now.decoder.rest c.in-Err.ensures.answer.0)))
+    (gathers_none (g.O.Sink.written c.args.out.now) c.args.self.now.page)
+
+pub returns-in-Err-print_all-clause-lines : goal.returns-in-Err-print_all-clause-lines
+returns-in-Err-print_all-clause-lines g c =
+    let frame = rw c.in-Ok-Some.field-0-is at c.in-Ok-Some.ensures.answer in
+    failed_first g.C.Chain.rules g.B.Board.answer c.args.self.now.runner.task (stand_of c.args.self.now.runner.engine) c.args.self.now.decoder
+    c.in-Ok-Some.frame.payload.now (taken c.args.self.now.decoder).rest c.in-Ok-Some.frame.number c.work-worked.result c.work-worked.new.self.log
+    (g.O.Sink.written c.args.out.now) c.args.self.now.page (g.O.Sink.written c.print_all.new.sink) frame.0 frame.1 c.work-worked.ensures.lines
+    (subst (λ (l : List Line). AppendsFront (g.O.Sink.written c.args.out.now) (g.O.Sink.written c.print_all.new.sink) (c.args.self.now.page ++ texts l)) c.list.ensures c.in-Err-print_all.ensures.err)

@@ -1,0 +1,122 @@
+ghost use Rattle.std.specs.Prelude.{◌≡◌, [], Some, IfOk};
+ghost use Rattle.snow_engine.specs.Run as model;
+ghost use Rattle.snow_engine.specs.Run.{after_frame};
+ghost use Rattle.snow_engine.specs.Serving.{stand_of, Opens, Stands, LogsFrame};
+
+use crate::end::{BadKind, End};
+use crate::engine::Engine;
+use crate::task::Task;
+use snow_chain::Chain;
+use snow_lines::{Line, Lines, SkipKind};
+use snow_plain::Board;
+use snow_wire::{Event, Skip, decode};
+use std::alloc::{AllocError, Global};
+
+/// An engine, once a Start came, and the lines of the frame that was worked last.
+#[derive(Drop)]
+pub struct Runner<C: Chain, B: Board> {
+    pub task: Task,
+    pub engine: Option<Engine<C, B>>,
+    pub log: Lines,
+    pub alloc: Global,
+}
+
+impl<C: Chain, B: Board> Runner<C, B> {
+    /// Works one frame: the first has to be a Start, and each later one is a step of the engine. Its
+    /// lines alone stand in the log.
+    #[tactic(auto, unfolding(crate::specs::Run::after_frame))]
+    pub fn work(&mut self, frame: u64, payload: &[u8]) -> Result<(), End>
+        ensures stand { Stands result self.new.engine (after_frame C.rules B.answer self.old.task (stand_of self.old.engine) frame payload.now).1 }
+        ensures lines { LogsFrame result [] self.new.log (after_frame C.rules B.answer self.old.task (stand_of self.old.engine) frame payload.now).0 }
+        ensures task { self.new.task ≡ self.old.task }
+    {
+        self.log.clear();
+        match &mut self.engine {
+            None => {
+                self.engine = Some(open(self.alloc, self.task, frame, payload, &mut self.log)?);
+                Ok(())
+            }
+            Some(engine) => follow(self.alloc, engine, frame, payload, &mut self.log),
+        }
+    }
+}
+
+/// The engine that begins with the first frame.
+fn open<C: Chain, B: Board>(
+    alloc: Global,
+    task: Task,
+    frame: u64,
+    payload: &[u8],
+    log: &mut Lines,
+) -> Result<Engine<C, B>, End>
+    ensures stand { Opens result (model.opened C.rules task frame (model.read payload.now)).1 }
+    ensures lines { LogsFrame result log.old log.new (model.opened C.rules task frame (model.read payload.now)).0 }
+{
+    match read(alloc, payload) {
+        Ok(first) => open_with(alloc, task, frame, &first, log),
+        Err(_) => Err(End::Memory),
+    }
+}
+
+/// The engine that begins with this event of the first frame, which has to be a Start.
+#[tactic(auto, unfolding(crate::specs::Run::opened), using(crate::proofs::Logs::logs_nothing))]
+fn open_with<C: Chain, B: Board>(
+    alloc: Global,
+    task: Task,
+    frame: u64,
+    first: &Result<Event, SkipKind>,
+    log: &mut Lines,
+) -> Result<Engine<C, B>, End>
+    ensures stand { Opens result (model.opened C.rules task frame first.now).1 }
+    ensures lines { LogsFrame result log.old log.new (model.opened C.rules task frame first.now).0 }
+{
+    match first {
+        Ok(Event::Start(start)) => match Engine::start(alloc, task, start, log) {
+            Ok(engine) => Ok(engine),
+            Err(stop) => Err(stop.in_frame(frame)),
+        },
+        _ => Err(End::BadInput {
+            frame,
+            kind: BadKind::NotStart,
+        }),
+    }
+}
+
+/// A step of the engine; a payload that is no event is passed over.
+#[tactic(auto, using(crate::proofs::Logs::logs_nothing))]
+fn follow<C: Chain, B: Board>(
+    alloc: Global,
+    engine: &mut Engine<C, B>,
+    frame: u64,
+    payload: &[u8],
+    log: &mut Lines,
+) -> Result<(), End>
+    ensures stand { Stands result (Some engine.new) (model.followed C.rules B.answer engine.old frame (model.read payload.now)).1 }
+    ensures lines { LogsFrame result log.old log.new (model.followed C.rules B.answer engine.old frame (model.read payload.now)).0 }
+{
+    match read(alloc, payload) {
+        Ok(Ok(event)) => match engine.step(frame, event, log) {
+            Ok(()) => Ok(()),
+            Err(stop) => Err(stop.in_frame(frame)),
+        },
+        Ok(Err(kind)) => match log.push(Line::Skip { frame, kind }) {
+            Ok(()) => Ok(()),
+            Err(_) => Err(End::Memory),
+        },
+        Err(_) => Err(End::Memory),
+    }
+}
+
+/// The event that a payload is, or the word for what is none.
+fn read(alloc: Global, payload: &[u8]) -> Result<Result<Event, SkipKind>, AllocError>
+    ensures { IfOk result (λ found. found ≡ model.read payload.now) }
+{
+    match decode(alloc, payload) {
+        Ok(event) => Ok(Ok(event)),
+        Err(Skip::Tag) => Ok(Err(SkipKind::Tag)),
+        Err(Skip::Short) => Ok(Err(SkipKind::Short)),
+        Err(Skip::Extra) => Ok(Err(SkipKind::Extra)),
+        Err(Skip::Count) => Ok(Err(SkipKind::Count)),
+        Err(Skip::Memory) => Err(AllocError),
+    }
+}

@@ -1,0 +1,93 @@
+ghost use Rattle.std.specs.Prelude.{◌≡◌, ◌+◌, ◌*◌, ◌^◌, ◌-◌, ◌≤◌, ◌<◌, [], length, Ok, false, is_some, IfOk, OnOk};
+ghost use Rattle.snow_wire.specs.Frame.{first_of, is_too_long};
+ghost use Rattle.snow_engine.specs.Serving.{stand_of, Goes, GathersLines, WritesLines, SinkFails, one_worked, all_worked};
+
+use crate::end::{BadKind, End};
+use crate::runner::Runner;
+use snow_base::Sink;
+use snow_chain::Chain;
+use snow_lines::Page;
+use snow_plain::Board;
+use snow_wire::Decoder;
+
+/// A run over a stream: the bytes that wait for a whole frame, the engine, and the text that waits
+/// to be written.
+#[derive(Drop)]
+pub struct Session<C: Chain, B: Board> {
+    pub decoder: Decoder,
+    pub runner: Runner<C, B>,
+    pub page: Page,
+}
+
+impl<C: Chain, B: Board> Session<C, B> {
+    /// Works the first frame that the decoder holds, and gathers its lines; false where it holds no
+    /// whole one.
+    fn work_next<O: Sink>(&mut self, out: &mut O) -> Result<bool, End>
+        requires { self.old.decoder.given < 2 ^ 64 - 1 }
+        ensures goes { Goes result self.new.runner.engine self.new.decoder
+            (one_worked C.rules B.answer self.old.runner.task (stand_of self.old.runner.engine) self.old.decoder) }
+        ensures lines { GathersLines result (O.written out.old) self.old.page (O.written out.new) self.new.page
+            (one_worked C.rules B.answer self.old.runner.task (stand_of self.old.runner.engine) self.old.decoder).lines }
+        ensures one { IfOk result (λ found. found ≡ is_some (first_of self.old.decoder.rest)) }
+        ensures fine { result ≡ Ok false → is_too_long self.old.decoder.rest ≡ false }
+        ensures fault { SinkFails result (O.faults out.old) (O.faults out.new) }
+        ensures later { O.faults out.old ≤ O.faults out.new }
+        ensures task { self.new.runner.task ≡ self.old.runner.task }
+    {
+        match self.decoder.next() {
+            Err(long) => Err(End::BadInput {
+                frame: long.number,
+                kind: BadKind::Length,
+            }),
+            Ok(None) => Ok(false),
+            Ok(Some(frame)) => {
+                let worked = self.runner.work(frame.number, frame.payload);
+                match self.page.print_all(self.runner.log.list(), out) {
+                    Ok(()) => worked.map(|()| true),
+                    Err(_) => Err(End::SinkFault),
+                }
+            }
+        }
+    }
+
+    /// Works all whole frames that the decoder holds, and gathers their lines.
+    fn work_frames<O: Sink>(&mut self, out: &mut O) -> Result<(), End>
+        requires { 4 * self.old.decoder.given + length self.old.decoder.rest ≤ 2 ^ 40 }
+        ensures goes { Goes result self.new.runner.engine self.new.decoder
+            (all_worked C.rules B.answer self.old.runner.task (stand_of self.old.runner.engine) self.old.decoder) }
+        ensures lines { GathersLines result (O.written out.old) self.old.page (O.written out.new) self.new.page
+            (all_worked C.rules B.answer self.old.runner.task (stand_of self.old.runner.engine) self.old.decoder).lines }
+        ensures fine { OnOk result (is_too_long self.new.decoder.rest ≡ false) }
+        ensures fault { SinkFails result (O.faults out.old) (O.faults out.new) }
+        ensures later { O.faults out.old ≤ O.faults out.new }
+        ensures task { self.new.runner.task ≡ self.old.runner.task }
+    {
+        while self.work_next(out)? {}
+        Ok(())
+    }
+
+    /// Works all whole frames that the decoder holds, and writes their lines. Nothing may wait to be
+    /// written before.
+    pub fn work<O: Sink>(&mut self, out: &mut O) -> Result<(), End>
+        requires small { 4 * self.old.decoder.given + length self.old.decoder.rest ≤ 2 ^ 40 }
+        requires empty { self.old.page ≡ [] }
+        ensures goes { Goes result self.new.runner.engine self.new.decoder
+            (all_worked C.rules B.answer self.old.runner.task (stand_of self.old.runner.engine) self.old.decoder) }
+        ensures lines { WritesLines result (O.written out.old) (O.written out.new)
+            (all_worked C.rules B.answer self.old.runner.task (stand_of self.old.runner.engine) self.old.decoder).lines }
+        ensures fine { OnOk result (is_too_long self.new.decoder.rest ≡ false) }
+        ensures empty { OnOk result (self.new.page ≡ []) }
+        ensures fault { SinkFails result (O.faults out.old) (O.faults out.new) }
+        ensures later { O.faults out.old ≤ O.faults out.new }
+        ensures task { self.new.runner.task ≡ self.old.runner.task }
+    {
+        let worked = self.work_frames(out);
+        if worked == Err(End::SinkFault) {
+            return worked;
+        }
+        match self.page.flush(out) {
+            Ok(()) => worked,
+            Err(_) => Err(End::SinkFault),
+        }
+    }
+}
