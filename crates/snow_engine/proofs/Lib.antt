@@ -9,3 +9,6 @@ pub mod Recorded
 pub mod Worked
 pub mod Going
 pub mod Flushed
+pub mod Position
+pub mod Served
+pub mod Ended

@@ -44,12 +44,12 @@ all_logged new lines before held after kept e g = subst (λ (l : List Line). Gat
 pub gathered : (result : Result (Unit {0}) End) (now : Option Node) (stand : Stand) (new lines : List Line) (before : Option (List ℕ)) (held : List ℕ) (after : Option (List ℕ)) (kept : List ℕ)
     → Stands result now stand → LogsFrame result [] new lines → Gathers before held after kept (texts new) → GathersLines result before held after kept lines
 gathered (Ok u) now stand new lines before held after kept s l g = all_logged new lines before held after kept l g
-gathered (Err end.Done) now stand new lines before held after kept s l g = all_logged new lines before held after kept l g
+gathered (Err end.Done) now stand new lines before held after kept s l g = absurd s
 gathered (Err (end.BadInput f k)) now stand new lines before held after kept s l g = all_logged new lines before held after kept l g
-gathered (Err end.SourceFault) now stand new lines before held after kept s l g = all_logged new lines before held after kept l g
+gathered (Err end.SourceFault) now stand new lines before held after kept s l g = absurd s
 gathered (Err end.SinkFault) now stand new lines before held after kept s l g = absurd s
 gathered (Err end.Memory) now stand new lines before held after kept s l g = logged_front new lines before held after kept l g
-gathered (Err end.InputLimit) now stand new lines before held after kept s l g = all_logged new lines before held after kept l g
+gathered (Err end.InputLimit) now stand new lines before held after kept s l g = absurd s
 
 -- what a frame logged are its lines, or a front of them
 logged : (result : Result (Unit {0}) End) (new lines : List Line) → LogsFrame result [] new lines → LogsFront [] new lines
@@ -83,12 +83,12 @@ failed_first rules answer task stand intake payload rest frame result new before
 -- a frame alone never ends in a fault of the sink
 pub faultless : (result : Result (Unit {0}) End) (now : Option Node) (stand : Stand) (before after : ℕ) → Stands result now stand → SinkFails result before after
 faultless (Ok u) now stand before after s = tt
-faultless (Err end.Done) now stand before after s = tt
+faultless (Err end.Done) now stand before after s = absurd s
 faultless (Err (end.BadInput f k)) now stand before after s = tt
-faultless (Err end.SourceFault) now stand before after s = tt
+faultless (Err end.SourceFault) now stand before after s = absurd s
 faultless (Err end.SinkFault) now stand before after s = absurd s
 faultless (Err end.Memory) now stand before after s = tt
-faultless (Err end.InputLimit) now stand before after s = tt
+faultless (Err end.InputLimit) now stand before after s = absurd s
 
 -- ---- a length that no frame has
 

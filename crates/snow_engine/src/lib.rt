@@ -7,6 +7,7 @@ mod offering;
 mod recording;
 mod reporting;
 mod runner;
+mod serving;
 mod session;
 mod stop;
 mod task;
@@ -14,5 +15,6 @@ mod telling;
 
 pub use end::{BadKind, End};
 pub use engine::Engine;
+pub use serving::serve;
 pub use stop::EngineStop;
 pub use task::Task;

@@ -1,14 +1,18 @@
-ghost use Rattle.std.specs.Prelude.{◌≡◌, ◌+◌, ◌*◌, ◌^◌, ◌-◌, ◌≤◌, ◌<◌, [], length, Ok, false, is_some, IfOk, OnOk};
+ghost use Rattle.std.specs.Prelude.{◌≡◌, ◌+◌, ◌*◌, ◌^◌, ◌-◌, ◌≤◌, ◌<◌, [], length, None, Ok, false, ◌==◌, if◌then◌else◌, is_some, IfOk, OnOk};
 ghost use Rattle.snow_wire.specs.Frame.{first_of, is_too_long};
+ghost use Rattle.snow_wire.specs.Stream.{fed, fresh};
+ghost use Rattle.snow_engine.specs.Run.{end_behind};
 ghost use Rattle.snow_engine.specs.Serving.{stand_of, Goes, GathersLines, WritesLines, SinkFails, one_worked, all_worked};
 
 use crate::end::{BadKind, End};
 use crate::runner::Runner;
+use crate::task::Task;
 use snow_base::Sink;
 use snow_chain::Chain;
-use snow_lines::Page;
+use snow_lines::{Lines, Page};
 use snow_plain::Board;
 use snow_wire::Decoder;
+use std::alloc::{AllocError, Global};
 
 /// A run over a stream: the bytes that wait for a whole frame, the engine, and the text that waits
 /// to be written.
@@ -20,6 +24,68 @@ pub struct Session<C: Chain, B: Board> {
 }
 
 impl<C: Chain, B: Board> Session<C, B> {
+    /// A session to which nothing came yet.
+    pub fn begin(alloc: Global, task: Task) -> Result<Self, AllocError>
+        ensures decoder { IfOk result (λ session. session.decoder ≡ fresh) }
+        ensures engine { IfOk result (λ session. session.runner.engine ≡ None) }
+        ensures task { IfOk result (λ session. session.runner.task ≡ task) }
+        ensures page { IfOk result (λ session. session.page ≡ []) }
+    {
+        let page = Page::new(alloc)?;
+        Ok(Session {
+            decoder: Decoder::new(alloc),
+            runner: Runner {
+                task,
+                engine: None,
+                log: Lines::new(alloc),
+                alloc,
+            },
+            page,
+        })
+    }
+
+    /// Takes the next bytes of the stream, works all frames that are whole then, and writes their
+    /// lines. Nothing may wait to be written before.
+    pub fn take<O: Sink>(&mut self, piece: &[u8], out: &mut O) -> Result<(), End>
+        requires small { 4 * self.old.decoder.given + length self.old.decoder.rest + length piece.now ≤ 2 ^ 40 }
+        requires empty { self.old.page ≡ [] }
+        ensures goes { Goes result self.new.runner.engine self.new.decoder
+            (all_worked C.rules B.answer self.old.runner.task (stand_of self.old.runner.engine) (fed self.old.decoder piece.now)) }
+        ensures lines { WritesLines result (O.written out.old) (O.written out.new)
+            (all_worked C.rules B.answer self.old.runner.task (stand_of self.old.runner.engine) (fed self.old.decoder piece.now)).lines }
+        ensures fine { OnOk result (is_too_long self.new.decoder.rest ≡ false) }
+        ensures empty { OnOk result (self.new.page ≡ []) }
+        ensures fault { SinkFails result (O.faults out.old) (O.faults out.new) }
+        ensures later { O.faults out.old ≤ O.faults out.new }
+        ensures task { self.new.runner.task ≡ self.old.runner.task }
+    {
+        match self.decoder.feed(piece) {
+            Ok(()) => self.work(out),
+            Err(_) => Err(End::Memory),
+        }
+    }
+
+    /// How a run ends where the source has no further byte.
+    pub fn end_of_input(&self) -> End
+        requires { self.now.decoder.given < 2 ^ 64 - 1 }
+        ensures { result ≡ (if length self.now.decoder.rest == 0 then end_behind (stand_of self.now.runner.engine)
+            else End.BadInput (self.now.decoder.given + 1) BadKind.Cut) }
+    {
+        if self.decoder.rest_len() > 0 {
+            return End::BadInput {
+                frame: self.decoder.given() + 1,
+                kind: BadKind::Cut,
+            };
+        }
+        match &self.runner.engine {
+            None => End::BadInput {
+                frame: 1,
+                kind: BadKind::NoStart,
+            },
+            Some(_) => End::Done,
+        }
+    }
+
     /// Works the first frame that the decoder holds, and gathers its lines; false where it holds no
     /// whole one.
     fn work_next<O: Sink>(&mut self, out: &mut O) -> Result<bool, End>
@@ -68,7 +134,7 @@ impl<C: Chain, B: Board> Session<C, B> {
 
     /// Works all whole frames that the decoder holds, and writes their lines. Nothing may wait to be
     /// written before.
-    pub fn work<O: Sink>(&mut self, out: &mut O) -> Result<(), End>
+    fn work<O: Sink>(&mut self, out: &mut O) -> Result<(), End>
         requires small { 4 * self.old.decoder.given + length self.old.decoder.rest ≤ 2 ^ 40 }
         requires empty { self.old.page ≡ [] }
         ensures goes { Goes result self.new.runner.engine self.new.decoder

@@ -1,0 +1,87 @@
+-- A run while its pieces come, and its end.
+use Rattle.std.proofs.Common.{◌≡◌, ℕ, ◌+◌, ◌-◌, ◌^◌, ◌<◌, ◌≤◌, ◌==◌, ◌||◌, true, false, Bool, cond, nat_le, List, [], ◌∷◌, ◌++◌, take, length, append_assoc, append-nil, Option, Some, None, Result, Ok, Err, refl, sym, ap, ◌∙◌, subst, inl, inr, arith, IfSome}
+use Rattle.std.proofs.lemmas.List.{length-append}
+use Rattle.std.proofs.lemmas.Bool.Decides.{nat_tests}
+use Rattle.std.specs.Io.KnownBytes.{Appends, Consumes, Keeps, IsAtEnd}
+use Rattle.snow_base.specs.Outside.{AppendsFront}
+use Rattle.snow_base.proofs.Known.{appends_none, appends_then, appends_then_front, front_of_more, front_of_whole, consumes_none, consumes_then}
+use Rattle.snow_flake.specs.Rule.{Answer}
+use Rattle.snow_chain.specs.Chain.{Rules}
+use Rattle.snow_wire.specs.Frame.{first_of, frames_of, is_too_long}
+use Rattle.snow_wire.specs.Stream.{Intake, fed, fresh}
+use Rattle.snow_wire.proofs.Streams.{frames_end}
+use Rattle.snow_lines.specs.declared.line.Line.{Line}
+use Rattle.snow_lines.specs.Text.{texts}
+use Rattle.snow_engine.specs.declared.task.Task.{Task}
+use Rattle.snow_engine.specs.declared.end.BadKind.TheVariants as kind
+use Rattle.snow_engine.specs.declared.end.End.{End}
+use Rattle.snow_engine.specs.declared.end.End.TheVariants as end
+use Rattle.snow_engine.specs.Node.{Node}
+use Rattle.snow_engine.specs.Run.{Stand, Fresh, Going, Stopped, after_frames, ran, lines_of, seen, end_behind, ended, end_of, is_stopped, shows_stop}
+use Rattle.snow_engine.specs.Serving.{stand_of, Goes, Halts, Worked, WritesLines, all_worked, IsEnd, Wrote, Broke}
+use Rattle.snow_engine.proofs.Worked.{never_stopped, texts_parts}
+use Rattle.snow_engine.proofs.Position.{after_bytes, behind, more_bytes, ends_there, ends_calm, seen_front, seen_all}
+
+module _ (rules : Rules) (answer : Answer) (task : Task) where
+  -- what is known after some pieces: the bytes that came, where the run stands behind them, and that exactly their lines were written
+  pub record Served (left_before left_now out_before out_now : Option (List ℕ)) (engine : Option Node) (intake : Intake) (room : ℕ) : Type 0 where
+    pub gone : List ℕ
+    pub consumed : Consumes left_before left_now gone
+    pub count : length gone + room ≡ 2 ^ 40
+    pub stand : (ran rules answer task gone).1 ≡ stand_of engine
+    pub intake_is : (after_bytes rules answer task gone).intake ≡ intake
+    pub written : Appends out_before out_now (texts (lines_of rules answer task gone))
+    pub calm : is_too_long intake.rest ≡ false
+
+  no_frames : frames_of [] ≡ ([], [])
+  unfolding first_of
+  no_frames = frames_end [] refl
+
+  -- nothing came yet
+  pub begins : (left out : Option (List ℕ)) → Served left left out out None fresh (2 ^ 40)
+  unfolding after_frames
+  begins left out =
+      let none : ran rules answer task [] ≡ ([], Fresh) = ap (λ (f : List (List ℕ) × List ℕ). after_frames rules answer task Fresh 1 f.0) no_frames in
+      record {
+        gone = [];
+        consumed = consumes_none left;
+        count = refl;
+        stand = ap (λ (a : List Line × Stand). a.1) none;
+        intake_is = ap (λ (f : List (List ℕ) × List ℕ). record { given = length f.0; rest = f.1 }) no_frames;
+        written = subst (λ (a : List Line × Stand). Appends out out (texts a.0)) (sym none) (appends_none out);
+        calm = refl;
+      }
+
+  module _ (left_before left_now out_before out_now : Option (List ℕ)) (engine : Option Node) (intake : Intake) (room : ℕ) (served : Served left_before left_now out_before out_now engine intake room) where
+    -- what a piece brings
+    abbrev brings : List ℕ → Worked
+    brings piece = all_worked rules answer task (stand_of engine) (fed intake piece)
+
+    pub whole : (piece : List ℕ) → after_bytes rules answer task (served.gone ++ piece) ≡ behind (lines_of rules answer task served.gone) (brings piece)
+    whole piece =
+        more_bytes rules answer task served.gone piece
+        ∙ ap (λ (s : Stand). behind (lines_of rules answer task served.gone) (all_worked rules answer task s (fed (after_bytes rules answer task served.gone).intake piece))) served.stand
+        ∙ ap (λ (i : Intake). behind (lines_of rules answer task served.gone) (all_worked rules answer task (stand_of engine) (fed i piece))) served.intake_is
+
+    pub texts_whole : (piece : List ℕ) → texts (lines_of rules answer task served.gone) ++ texts (brings piece).lines ≡ texts (lines_of rules answer task (served.gone ++ piece))
+    texts_whole piece =
+        texts_parts (lines_of rules answer task served.gone) (brings piece).lines (lines_of rules answer task served.gone ++ (brings piece).lines) refl
+        ∙ sym (ap (λ (w : Worked). texts w.lines) (whole piece))
+
+    -- a piece came, and the run goes on
+    pub goes_on : (piece : List ℕ) (left_next out_next : Option (List ℕ)) (next : Option Node) (rest : Intake) (less : ℕ) → Consumes left_now left_next piece → length piece + less ≡ room
+        → (brings piece).stand ≡ stand_of next → (brings piece).intake ≡ rest → Appends out_now out_next (texts (brings piece).lines) → is_too_long rest.rest ≡ false
+        → Served left_before left_next out_before out_next next rest less
+    goes_on piece left_next out_next next rest less took fits stand intake_is wrote calm = record {
+      gone = served.gone ++ piece;
+      consumed = consumes_then left_before left_now left_next served.gone piece (served.gone ++ piece) served.consumed took refl;
+      count = length_parts (length served.gone) (length piece) fits served.count (length-append served.gone piece);
+      stand = ap (λ (w : Worked). w.stand) (whole piece) ∙ stand;
+      intake_is = ap (λ (w : Worked). w.intake) (whole piece) ∙ intake_is;
+      written = appends_then out_before out_now out_next (texts (lines_of rules answer task served.gone)) (texts (brings piece).lines) (texts (lines_of rules answer task (served.gone ++ piece)))
+          served.written wrote (texts_whole piece);
+      calm = calm;
+    }
+      where
+        length_parts : (n m : ℕ) → m + less ≡ room → n + room ≡ 2 ^ 40 → length (served.gone ++ piece) ≡ n + m → length (served.gone ++ piece) + less ≡ 2 ^ 40
+        length_parts n m a b c = omega arith
