@@ -155,7 +155,7 @@ module _ (rules : Rules) (answer : Answer) (task : Task) where
       → IfSome left_before (λ bytes. IsEnd end.InputLimit (end_of rules answer task bytes))
       × IfSome left_before (λ bytes. Wrote end.InputLimit out_before out_now (texts (lines_of rules answer task (seen bytes))))
   limited left_before left_now out_before out_now engine intake room served none =
-      let at = λ rest. limit_at served.gone rest engine intake (full (length served.gone) served.count none) served.stand served.intake_is served.calm in (
+      let at = λ (rest : List ℕ). limit_at served.gone rest engine intake (full (length served.gone) served.count none) served.stand served.intake_is served.calm in (
         of_all (λ bytes. IsEnd end.InputLimit (end_of rules answer task bytes)) left_before left_now served.gone served.consumed (λ rest. sym (at rest).1),
         of_all (λ bytes. Appends out_before out_now (texts (lines_of rules answer task (seen bytes)))) left_before left_now served.gone served.consumed
         (λ rest. subst (λ (ls : List Line). Appends out_before out_now (texts ls)) (sym (at rest).0) served.written),

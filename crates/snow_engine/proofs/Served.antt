@@ -1,15 +1,15 @@
 -- A run while its pieces come, and its end.
-use Rattle.std.proofs.Common.{◌≡◌, ℕ, ◌+◌, ◌-◌, ◌^◌, ◌<◌, ◌≤◌, ◌==◌, ◌||◌, true, false, Bool, cond, nat_le, List, [], ◌∷◌, ◌++◌, take, length, append_assoc, append-nil, Option, Some, None, Result, Ok, Err, refl, sym, ap, ◌∙◌, subst, inl, inr, arith, IfSome}
-use Rattle.std.proofs.lemmas.List.{length-append}
+use Rattle.std.proofs.Common.{◌≡◌, ℕ, zero, suc, ◌*◌, ◌+◌, ◌-◌, ◌^◌, ◌<◌, ◌≤◌, ◌==◌, ◌||◌, true, false, Bool, cond, nat_le, List, [], ◌∷◌, ◌++◌, take, length, append_assoc, append-nil, Option, Some, None, Result, Ok, Err, refl, sym, ap, ◌∙◌, subst, inl, inr, arith, IfSome}
+use Rattle.std.proofs.lemmas.List.{length-append, length-drop, length-take}
 use Rattle.std.proofs.lemmas.Bool.Decides.{nat_tests}
 use Rattle.std.specs.Io.KnownBytes.{Appends, Consumes, Keeps, IsAtEnd}
 use Rattle.snow_base.specs.Outside.{AppendsFront}
 use Rattle.snow_base.proofs.Known.{appends_none, appends_then, appends_then_front, front_of_more, front_of_whole, consumes_none, consumes_then}
 use Rattle.snow_flake.specs.Rule.{Answer}
 use Rattle.snow_chain.specs.Chain.{Rules}
-use Rattle.snow_wire.specs.Frame.{first_of, frames_of, is_too_long}
+use Rattle.snow_wire.specs.Frame.{first_of, led_by, frames_in, frames_of, is_too_long}
 use Rattle.snow_wire.specs.Stream.{Intake, fed, fresh}
-use Rattle.snow_wire.proofs.Streams.{frames_end}
+use Rattle.snow_wire.proofs.Streams.{frames_end, off_front}
 use Rattle.snow_lines.specs.declared.line.Line.{Line}
 use Rattle.snow_lines.specs.Text.{texts}
 use Rattle.snow_engine.specs.declared.task.Task.{Task}
@@ -21,6 +21,27 @@ use Rattle.snow_engine.specs.Run.{Stand, Fresh, Going, Stopped, after_frames, ra
 use Rattle.snow_engine.specs.Serving.{stand_of, Goes, Halts, Worked, WritesLines, all_worked, IsEnd, Wrote, Broke}
 use Rattle.snow_engine.proofs.Worked.{never_stopped, texts_parts}
 use Rattle.snow_engine.proofs.Position.{after_bytes, behind, more_bytes, ends_there, ends_calm, seen_front, seen_all}
+
+-- each frame takes at least four bytes
+small_led : (n : ℕ) (bytes : List ℕ) (o : Option (List ℕ × List ℕ)) → first_of bytes ≡ o
+    → ((b : List ℕ) → 4 * length (frames_in n b).0 + length (frames_in n b).1 ≤ length b)
+    → 4 * length (led_by (frames_in n) bytes o).0 + length (led_by (frames_in n) bytes o).1 ≤ length bytes
+small_led n bytes None e others = omega arith
+small_led n bytes (Some first) e others =
+    let placed = off_front bytes first e in
+    let room : 4 + length first.0 ≤ length bytes = placed.1 in
+    let rest : length first.1 ≡ length bytes - (4 + length first.0) = ap length placed.0 ∙ length-drop (4 + length first.0) bytes in
+    let behind : 4 * length (frames_in n first.1).0 + length (frames_in n first.1).1 ≤ length first.1 = others first.1 in
+    omega arith
+
+small_in : (n : ℕ) (bytes : List ℕ) → 4 * length (frames_in n bytes).0 + length (frames_in n bytes).1 ≤ length bytes
+unfolding frames_in
+small_in zero bytes = omega arith
+small_in (suc n) bytes = small_led n bytes (first_of bytes) refl (small_in n)
+
+frames_small : (bytes : List ℕ) → 4 * length (frames_of bytes).0 + length (frames_of bytes).1 ≤ length bytes
+unfolding frames_of
+frames_small bytes = small_in (length bytes) bytes
 
 module _ (rules : Rules) (answer : Answer) (task : Task) where
   -- what is known after some pieces: the bytes that came, where the run stands behind them, and that exactly their lines were written
@@ -52,6 +73,10 @@ module _ (rules : Rules) (answer : Answer) (task : Task) where
         calm = refl;
       }
 
+  -- the same for a session as it begins
+  pub begins_as : (left out : Option (List ℕ)) (o : Option Node) (i : Intake) → o ≡ None → i ≡ fresh → Served left left out out o i (2 ^ 40)
+  begins_as left out o i none new = rw (none, new) (begins left out)
+
   module _ (left_before left_now out_before out_now : Option (List ℕ)) (engine : Option Node) (intake : Intake) (room : ℕ) (served : Served left_before left_now out_before out_now engine intake room) where
     -- what a piece brings
     abbrev brings : List ℕ → Worked
@@ -67,6 +92,19 @@ module _ (rules : Rules) (answer : Answer) (task : Task) where
     texts_whole piece =
         texts_parts (lines_of rules answer task served.gone) (brings piece).lines (lines_of rules answer task served.gone ++ (brings piece).lines) refl
         ∙ sym (ap (λ (w : Worked). texts w.lines) (whole piece))
+
+    -- what a decoder has is as small as what came
+    pub has_room : (n : ℕ) → n ≤ room → 4 * intake.given + length intake.rest + n ≤ 2 ^ 40
+    has_room n fits =
+        let small = frames_small served.gone in
+        let sized : 4 * intake.given + length intake.rest ≤ length served.gone = subst (λ (i : Intake). 4 * i.given + length i.rest ≤ length served.gone) served.intake_is small in
+        let count : length served.gone + room ≡ 2 ^ 40 = served.count in
+        omega arith
+
+    pub counts : intake.given < 2 ^ 64 - 1
+    counts =
+        let small : 4 * intake.given + length intake.rest + 0 ≤ 2 ^ 40 = has_room 0 (omega arith) in
+        omega arith
 
     -- a piece came, and the run goes on
     pub goes_on : (piece : List ℕ) (left_next out_next : Option (List ℕ)) (next : Option Node) (rest : Intake) (less : ℕ) → Consumes left_now left_next piece → length piece + less ≡ room
@@ -85,3 +123,14 @@ module _ (rules : Rules) (answer : Answer) (task : Task) where
       where
         length_parts : (n m : ℕ) → m + less ≡ room → n + room ≡ 2 ^ 40 → length (served.gone ++ piece) ≡ n + m → length (served.gone ++ piece) + less ≡ 2 ^ 40
         length_parts n m a b c = omega arith
+
+-- ---- the bytes of a piece
+
+pub taken_few : (n room : ℕ) (piece : List ℕ) → n ≤ room → length (take n piece) ≤ room
+taken_few n room piece few = omega (arith, length-take n piece)
+
+pub less_room : (n room : ℕ) (piece : List ℕ) → n ≤ length piece → n ≤ room → length (take n piece) + (room - n) ≡ room
+less_room n room piece whole few = omega (arith, length-take n piece)
+
+pub nothing_taken : (left_now left_next : Option (List ℕ)) (n : ℕ) (piece : List ℕ) → n ≡ 0 → Consumes left_now left_next (take n piece) → Consumes left_now left_next []
+nothing_taken left_now left_next n piece none took = subst (λ (k : ℕ). Consumes left_now left_next (take k piece)) none took
