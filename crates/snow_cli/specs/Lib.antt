@@ -4,3 +4,4 @@ pub mod Node
 pub mod Output
 pub mod Streams
 pub mod Answer
+pub mod Words

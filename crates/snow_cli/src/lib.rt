@@ -2,6 +2,7 @@
 #![tactic(auto)]
 
 mod chain;
+mod command;
 mod input;
 mod node;
 mod reading;
@@ -10,6 +11,7 @@ mod serving;
 mod status;
 mod stream;
 
+pub use command::{ChainName, Command, RuleName};
 pub use serving::top;
 pub use status::Status;
 
