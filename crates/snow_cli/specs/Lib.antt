@@ -5,3 +5,4 @@ pub mod Output
 pub mod Streams
 pub mod Answer
 pub mod Words
+pub mod Request

@@ -47,14 +47,19 @@ dashed_form rest = if has_dash rest then option_form (drop 1 rest) else Dashed
 abbrev pub form_of : List ℕ → Form
 form_of word = if has_dash word then dashed_form (drop 1 word) else Alone
 
+-- the items of an option's name and the words behind it, where `later` are those behind the next
+-- word; a next word that begins with `-` is no value
+abbrev pub named_items : List ℕ → List (List ℕ) → List Item → List Item
+named_items name [] later = Wrong ∷ []
+named_items name (value ∷ words) later = if has_dash value then Wrong ∷ [] else Given name value ∷ later
+
 -- the items of a word of this form and the words behind it, of which `from` are the items, and
--- `later` those without the next word; a next word that begins with `-` is no value
+-- `later` those without the next word
 abbrev pub first_items : Form → List ℕ → List (List ℕ) → List Item → List Item → List Item
 first_items Alone word words from later = Plain word ∷ from
 first_items Ends word words from later = map Plain words
 first_items (Sets name value) word words from later = Given name value ∷ from
-first_items (Names name) word [] from later = Wrong ∷ []
-first_items (Names name) word (value ∷ words) from later = if has_dash value then Wrong ∷ [] else Given name value ∷ later
+first_items (Names name) word words from later = named_items name words later
 first_items Dashed word words from later = Wrong ∷ []
 
 -- the items of words, split from the left; nothing is split behind a wrong one
