@@ -6,3 +6,4 @@ pub mod Streams
 pub mod Answer
 pub mod Words
 pub mod Request
+pub mod Parsing
