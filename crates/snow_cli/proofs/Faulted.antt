@@ -36,27 +36,27 @@ fault_behind a turn w options =
     (check_fault a.top (finished a.top.rules end.held) (is_some (entered a end.stopped))))))
 
 -- the kinds of values that are tested
-abbrev values_fault : Choice → Text → Kinds
+abbrev pub values_fault : Choice → Text → Kinds
 values_fault choice v = or_else (value_kinds false (parser.Names choice) v) []
 
-abbrev fault_given : Choice → Option Text → List Kinds
+abbrev pub fault_given : Choice → Option Text → List Kinds
 fault_given choice None = []
 fault_given choice (Some v) = values_fault choice v ∷ []
 
-abbrev fault_open : Option Text → List Kinds
+abbrev pub fault_open : Option Text → List Kinds
 fault_open None = []
 fault_open (Some v) = [] ∷ []
 
-abbrev fault_left : Choice → Text → Option Text → Kinds
+abbrev pub fault_left : Choice → Text → Option Text → Kinds
 fault_left choice default None = values_fault choice default
 fault_left choice default (Some v) = []
 
 -- the task is tested at the first option, or at the end
-abbrev fault_turns : Kinds → List Kinds → Kinds
+abbrev pub fault_turns : Kinds → List Kinds → Kinds
 fault_turns task [] = []
 fault_turns task (own ∷ more) = or_else (or_else (or_else task own) []) (fault_turns [] more)
 
-abbrev fault_end : Kinds → List Kinds → Kinds
+abbrev pub fault_end : Kinds → List Kinds → Kinds
 fault_end task [] = task
 fault_end task (own ∷ more) = []
 

@@ -100,7 +100,7 @@ module _ (tasks chains rules : Choice) where
   rows_are task (Some c) (Some u) (Some s) (Some b) = refl
 
   -- what the rows say of each
-  abbrev Says : Text → Option Text → Option Text → Option Text → Option Text → List Row → Type 0
+  abbrev pub Says : Text → Option Text → Option Text → Option Text → Option Text → List Row → Type 0
   Says task c u s b rows = (first_of (codes "task") rows ≡ Some task)
       × (first_of (codes "chain") rows ≡ Some (unwrap_or c (codes "plain")))
       × (first_of (codes "rule") rows ≡ Some (unwrap_or u (codes "snowball")))

@@ -1,13 +1,17 @@
 -- The words in order, as `clap` reads them.
-use Rattle.std.specs.Prelude.{◌≡◌, ℕ, Bool, true, false, not, ◌&&◌, ◌==◌, List, [], ◌∷◌, ◌++◌, length, Option, Some, None, codes, if◌then◌else◌}
-use Rattle.std.specs.Option.{option_map_or}
+use Rattle.std.specs.Prelude.{◌≡◌, ℕ, Bool, true, false, not, ◌&&◌, ◌==◌, List, [], ◌∷◌, ◌++◌, ◌||◌, Option, Some, None, is_some, codes, if◌then◌else◌, bytes_eq}
 use Rattle.std.specs.Borrow.{Bor}
-use Rattle.clap.specs.Walk.{Rule, Text, texts}
+use Rattle.clap.specs.Walk.{Rule, Text}
 use Rattle.clap.specs.Simple.{App, new_app, new_rule, with_rule}
 use Rattle.clap.specs.declared.builder.value_parser.ValueParser.{ValueParser}
 use Rattle.clap.specs.declared.builder.value_parser.ValueParser.TheVariants as parser
-use Rattle.snow_cli.specs.Words.{has_dash}
-use Rattle.snow_cli.specs.Request.{Request}
+use Rattle.snow_cli.specs.declared.command.ChainName.{ChainName}
+use Rattle.snow_cli.specs.declared.command.ChainName.TheVariants as chain
+use Rattle.snow_cli.specs.declared.command.RuleName.{RuleName}
+use Rattle.snow_cli.specs.declared.command.RuleName.TheVariants as rule
+use Rattle.snow_cli.specs.declared.command.Command.{Command}
+use Rattle.snow_cli.specs.declared.command.Command.TheVariants as command
+use Rattle.snow_cli.specs.Request.{Request, command_in}
 
 -- the names that a value may have
 abbrev pub Choice : Type 0
@@ -46,3 +50,44 @@ option_word name (Some value) = (45 ∷ 45 ∷ name ++ 61 ∷ value) ∷ []
 abbrev pub option_words : Option Text → Option Text → Option Text → Option Text → List Text
 option_words chain rule seed blocks = option_word (codes "chain") chain ++ (option_word (codes "rule") rule
     ++ (option_word (codes "seed") seed ++ option_word (codes "blocks") blocks))
+
+-- a word that is neither empty nor begins with `-`
+abbrev pub is_word : Text → Bool
+is_word [] = false
+is_word (c ∷ cs) = not (c == 45)
+
+abbrev pub is_word_or_none : Option Text → Bool
+is_word_or_none None = true
+is_word_or_none (Some word) = is_word word
+
+abbrev pub has_words : Request → Bool
+has_words r = is_word_or_none r.chain && (is_word_or_none r.rule && (is_word_or_none r.seed && is_word_or_none r.blocks))
+
+-- the words in order, the program's name first, where all others are words
+abbrev pub in_order : Option Text → Request → Option (List Text)
+in_order None r = None
+in_order (Some task) r =
+    if is_word task && has_words r then Some (codes "snowman" ∷ task ∷ option_words r.chain r.rule r.seed r.blocks) else None
+
+unfoldable pub ordered : Request → Option (List Text)
+ordered r = in_order r.task r
+
+-- ---- what the matches ask for, where their names were tested
+
+abbrev pub chain_read : Option Text → ChainName
+chain_read None = chain.Plain
+chain_read (Some value) = if bytes_eq value (codes "tally") then chain.Tally else chain.Plain
+
+abbrev pub rule_read : Option Text → RuleName
+rule_read None = rule.Snowball
+rule_read (Some value) = if bytes_eq value (codes "snowflake") then rule.Snowflake else rule.Snowball
+
+-- `decide` takes neither a seed nor a number of blocks
+abbrev pub command_read : (Text → Option Text) → Option Command
+command_read value =
+    if is_some (value (codes "seed")) || is_some (value (codes "blocks")) then None
+    else Some (command.Decide (chain_read (value (codes "chain"))) (rule_read (value (codes "rule"))))
+
+-- the command is what each request asks for whose words in order these are
+abbrev pub AsksFor : List Text → Option Command → Type 0
+AsksFor words command = (r : Request) → ordered r ≡ Some words → command ≡ command_in r

@@ -6,6 +6,7 @@ mod command;
 mod input;
 mod node;
 mod ordering;
+mod parsing;
 mod reading;
 mod run;
 mod serving;

@@ -1,14 +1,13 @@
-ghost use Rattle.std.specs.Prelude.{◌≡◌, ◌<◌, ◌≤◌, [], ◌∷◌, drop, length, map, option_map, MatchOption, IfSome};
-ghost use Rattle.snow_cli.specs.Request.{Advances, Comes, Puts, behind_dash, blank, command_in, form_seen, named_or, texts, with_items};
-ghost use Rattle.snow_cli.specs.declared.command.ChainName.TheVariants as chain;
-ghost use Rattle.snow_cli.specs.declared.command.RuleName.TheVariants as rule;
-ghost use Rattle.snow_cli.specs.Words.{Plain, chain_named, rule_named, first_items, form_of, has_dash, items, named_items, option_form};
+ghost use Rattle.std.specs.Prelude.{◌≡◌, ◌<◌, ◌≤◌, [], ◌∷◌, ◌++◌, drop, length, map, option_and_then, option_map, string_bytes, IfOk, IfSome, MatchOption, OnOk};
+ghost use Rattle.snow_cli.specs.Request.{Advances, Comes, Puts, behind_dash, blank, form_seen, texts, with_items};
+ghost use Rattle.snow_cli.specs.Parsing.{is_word, is_word_or_none, option_word, ordered};
+ghost use Rattle.snow_cli.specs.Words.{Plain, first_items, form_of, has_dash, items, named_items, option_form};
 
-use crate::command::{ChainName, Command, RuleName};
+use std::alloc::{AllocError, Global};
 use std::marker::Model;
 
 /// What a word looks like, where no `--` came before.
-#[derive(Clone, Copy, Debug)]
+#[derive(Clone, Copy)]
 enum Look<'a> {
     /// It is plain.
     Alone,
@@ -23,8 +22,8 @@ enum Look<'a> {
 }
 
 /// The words of the command line: the one plain word, and the one value of each option.
-#[derive(Debug, Drop)]
-pub struct Asked<'a> {
+#[derive(Drop)]
+struct Asked<'a> {
     task: Option<&'a str>,
     chain: Option<&'a str>,
     rule: Option<&'a str>,
@@ -48,8 +47,9 @@ impl<'a> Model for Asked<'a> {
 }
 
 impl<'a> Asked<'a> {
-    ghost use Rattle.std.specs.Prelude.{◌≡◌, option_map};
-    ghost use Rattle.snow_cli.specs.Request.{Comes, blank, with_item, with_value};
+    ghost use Rattle.std.specs.Prelude.{◌≡◌, ◌∷◌, codes, option_map, IfOk};
+    ghost use Rattle.snow_cli.specs.Parsing.{has_words, option_words, ordered};
+    ghost use Rattle.snow_cli.specs.Request.{Comes, blank, texts, with_item, with_value};
     ghost use Rattle.snow_cli.specs.Words.{Plain};
 
     /// Nothing was asked yet.
@@ -89,6 +89,48 @@ impl<'a> Asked<'a> {
             return put(&mut self.blocks, value);
         }
         false
+    }
+
+    /// Whether the values that stand are neither empty nor begin with `-`.
+    fn has_words(&self) -> bool
+        ensures { result ≡ has_words self.now }
+    {
+        is_word_or_none(self.chain)
+            && is_word_or_none(self.rule)
+            && is_word_or_none(self.seed)
+            && is_word_or_none(self.blocks)
+    }
+
+    /// The words in order, where there is a task and all are words.
+    #[tactic(auto, unfolding(crate::specs::Parsing::ordered))]
+    fn in_order(&self, alloc: Global) -> Result<Option<Vec<String>>, AllocError>
+        ensures { IfOk result (λ list. option_map (λ l. texts l.items) list ≡ ordered self.now) }
+    {
+        let Some(task) = self.task else {
+            return Ok(None);
+        };
+        if !is_word(task) {
+            return Ok(None);
+        }
+        if !self.has_words() {
+            return Ok(None);
+        }
+        Ok(Some(self.list(alloc, task)?))
+    }
+
+    /// The program's name, this task, and the options that stand.
+    fn list(&self, alloc: Global, task: &str) -> Result<Vec<String>, AllocError>
+        ensures { IfOk result (λ list. texts list.items ≡ codes "snowman" ∷ task.now
+            ∷ option_words self.now.chain self.now.rule self.now.seed self.now.blocks) }
+    {
+        let mut list = Vec::new(alloc);
+        list.push(String::from_str(alloc, "snowman")?)?;
+        list.push(String::from_str(alloc, task)?)?;
+        put_option(alloc, &mut list, "chain", self.chain)?;
+        put_option(alloc, &mut list, "rule", self.rule)?;
+        put_option(alloc, &mut list, "seed", self.seed)?;
+        put_option(alloc, &mut list, "blocks", self.blocks)?;
+        Ok(list)
     }
 }
 
@@ -206,7 +248,7 @@ fn take<'a>(asked: &mut Asked<'a>, word: &'a str, words: &'a [String]) -> Option
 
 /// What words ask for, where each is an item that may stand.
 #[tactic(auto, unfolding(crate::specs::Request::with_items), using(crate::proofs::Walks::items_first, crate::proofs::Walks::all_came))]
-pub fn ask<'a>(words: &'a [String]) -> Option<Asked<'a>>
+fn ask<'a>(words: &'a [String]) -> Option<Asked<'a>>
     ensures { result ≡ with_items blank (items (texts words.now)) }
 {
     let mut asked = Asked::new();
@@ -220,48 +262,58 @@ pub fn ask<'a>(words: &'a [String]) -> Option<Asked<'a>>
     Some(asked)
 }
 
-/// The command that the words ask for.
-#[tactic(auto, unfolding(crate::specs::Request::command_in))]
-pub fn command_of(asked: &Asked) -> Option<Command>
-    ensures { result ≡ command_in asked.now }
+/// The words in order: the program's name, the one plain word, and `--name=value` for each option
+/// that stands, in the order chain, rule, seed, blocks. There are none where a word has no place, an
+/// option stands twice, or the plain word or a value is empty or begins with `-`.
+pub fn order(alloc: Global, words: &[String]) -> Result<Option<Vec<String>>, AllocError>
+    ensures { IfOk result (λ list. option_map (λ l. texts l.items) list
+        ≡ option_and_then ordered (with_items blank (items (texts words.now)))) }
 {
-    if asked.task? != "decide" || asked.seed.is_some() || asked.blocks.is_some() {
-        return None;
-    }
-    Some(Command::Decide {
-        chain: chain_of(asked.chain)?,
-        rule: rule_of(asked.rule)?,
-    })
+    let Some(asked) = ask(words) else {
+        return Ok(None);
+    };
+    asked.in_order(alloc)
 }
 
-/// The chain that is named, or the usual one.
-fn chain_of(name: Option<&str>) -> Option<ChainName>
-    ensures { result ≡ named_or chain.Plain chain_named (option_map (λ s. s.now) name.entry) }
+/// Whether a word is neither empty nor begins with `-`.
+fn is_word(word: &str) -> bool
+    ensures { result ≡ is_word word.now }
 {
-    let Some(name) = name else {
-        return Some(ChainName::Plain);
-    };
-    if name == "plain" {
-        return Some(ChainName::Plain);
-    }
-    if name == "tally" {
-        return Some(ChainName::Tally);
-    }
-    None
+    !word.is_empty() && !has_dash(word)
 }
 
-/// The rule that is named, or the usual one.
-fn rule_of(name: Option<&str>) -> Option<RuleName>
-    ensures { result ≡ named_or rule.Snowball rule_named (option_map (λ s. s.now) name.entry) }
+fn is_word_or_none(word: Option<&str>) -> bool
+    ensures { result ≡ is_word_or_none (option_map (λ s. s.now) word.entry) }
 {
-    let Some(name) = name else {
-        return Some(RuleName::Snowball);
+    match word {
+        Some(word) => is_word(word),
+        None => true,
+    }
+}
+
+/// Puts the word of an option that stands behind those of a list.
+fn put_option(
+    alloc: Global,
+    list: &mut Vec<String>,
+    name: &str,
+    value: Option<&str>,
+) -> Result<(), AllocError>
+    ensures { OnOk result (texts list.new.items ≡ texts list.old.items ++ option_word name.now (option_map (λ s. s.now) value.entry)) }
+{
+    let Some(value) = value else {
+        return Ok(());
     };
-    if name == "snowball" {
-        return Some(RuleName::Snowball);
-    }
-    if name == "snowflake" {
-        return Some(RuleName::Snowflake);
-    }
-    None
+    list.push(option_word(alloc, name, value)?)?;
+    Ok(())
+}
+
+/// `--name=value`.
+fn option_word(alloc: Global, name: &str, value: &str) -> Result<String, AllocError>
+    ensures { IfOk result (λ word. string_bytes word ≡ 45 ∷ 45 ∷ name.now ++ 61 ∷ value.now) }
+{
+    let mut word = String::from_str(alloc, "--")?;
+    word.push_str(name)?;
+    word.push_str("=")?;
+    word.push_str(value)?;
+    Ok(word)
 }
