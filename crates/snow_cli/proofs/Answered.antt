@@ -1,5 +1,5 @@
 -- The command that the words in order ask for, by what `clap` says of them.
-use Rattle.std.proofs.Common.{◌≡◌, ◌∙◌, ℕ, Bool, true, false, not, cond, ◌&&◌, ◌||◌, ◌==◌, List, [], ◌∷◌, subst, Option, Some, None, is_some, refl, sym, ap, codes, unwrap_or}
+use Rattle.std.proofs.Common.{◌≡◌, ◌∙◌, Bool, true, false, cond, ◌&&◌, ◌||◌, ◌==◌, List, [], ◌∷◌, subst, Option, Some, None, is_some, refl, sym, ap, codes, unwrap_or}
 use Rattle.clap.specs.Walk.{Row, Text, texts, first_of, rows_of}
 use Rattle.clap.specs.Simple.{matches_of}
 use Rattle.clap.specs.Kinds.{IsAmong}

@@ -1,16 +1,16 @@
 -- Where `clap` refuses the words in order.
-use Rattle.std.proofs.Common.{◌≡◌, ◌∙◌, ℕ, Bool, true, false, cond, List, [], ◌∷◌, ◌++◌, map, Option, Some, None, refl, sym, ap, ap₂, codes, is_some}
+use Rattle.std.proofs.Common.{◌≡◌, ◌∙◌, Bool, false, cond, List, [], ◌∷◌, ◌++◌, Option, Some, None, refl, ap, ap₂, codes, is_some}
 use Rattle.std.specs.List.{fold}
 use Rattle.std.specs.Option.{option_map_or}
-use Rattle.clap.specs.Lexer.{long_of, short_of}
-use Rattle.clap.specs.Walk.{Held, Rule, Step, Text, Walk, finished, idle, nothing_held, settled, value, walk_from, walked}
+use Rattle.clap.specs.Lexer.{long_of}
+use Rattle.clap.specs.Walk.{Held, Step, Text, Walk, finished, idle, nothing_held, settled, value, walk_from, walked}
 use Rattle.clap.specs.Simple.{App, Shape, built, entered}
 use Rattle.clap.specs.Kinds.{Kinds, or_else, value_kinds}
 use Rattle.clap.specs.Faults.{bundle_fault, check_fault, defaults_fault, entered_fault, fault_of, flag_word_fault, settle_fault, step_fault, turn_fault, walk_fault, word_fault}
 use Rattle.clap.proofs.OnLiterals.{clap_on_literals}
 use Rattle.clap.specs.declared.builder.value_parser.ValueParser.TheVariants as parser
 use Rattle.snow_cli.specs.Words.{has_dash}
-use Rattle.snow_cli.specs.Parsing.{Choice, snowman, option_word, option_words}
+use Rattle.snow_cli.specs.Parsing.{Choice, snowman, option_words}
 use Rattle.snow_cli.proofs.Ordered.{met, no_end, no_long, no_short, started, starts}
 
 -- a word that doesn't begin with `-` is refused as no flag

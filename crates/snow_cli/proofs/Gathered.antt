@@ -1,6 +1,6 @@
 -- A walk over the items gathers what the tests on all of them find.
-use Rattle.std.proofs.Common.{◌≡◌, ◌∙◌, ℕ, Bool, true, false, cond, ◌&&◌, List, [], ◌∷◌, ◌++◌, map, subst, Option, Some, None, refl, sym, ap, codes, arith}
-use Rattle.std.specs.List.{list_all, list_any, filter_map}
+use Rattle.std.proofs.Common.{◌≡◌, ◌∙◌, ℕ, Bool, true, false, cond, ◌&&◌, List, [], ◌∷◌, ◌++◌, subst, Option, Some, None, refl, sym, ap, codes}
+use Rattle.std.specs.List.{list_all}
 use Rattle.std.specs.Option.{option_and_then}
 use Rattle.std.specs.Str.{bytes_eq}
 use Rattle.std.proofs.lemmas.Slice.Eq.{bytes_eq-Decides}
@@ -8,8 +8,8 @@ use Rattle.snow_cli.specs.declared.command.Command.{Command}
 use Rattle.snow_cli.specs.declared.command.ChainName.{ChainName}
 use Rattle.snow_cli.specs.declared.command.ChainName.TheVariants as chain
 use Rattle.snow_cli.specs.declared.command.RuleName.TheVariants as rule
-use Rattle.snow_cli.specs.Words.{Item, Plain, Given, Wrong, items, plain_word, plain_words, value_of, values, is_among, one_of, chain_named, rule_named, deciding, decide_with, task_with, command_of}
-use Rattle.snow_cli.specs.Request.{Request, blank, once, with_value, with_item, with_items, command_in}
+use Rattle.snow_cli.specs.Words.{Item, Plain, Given, Wrong, items, plain_words, values, is_among, one_of, chain_named, rule_named, deciding, task_with, command_of}
+use Rattle.snow_cli.specs.Request.{Request, blank, with_items, command_in}
 
 abbrev Word : Type 0
 Word = List ℕ

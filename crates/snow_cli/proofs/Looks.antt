@@ -1,10 +1,10 @@
 -- What a word looks like: a first `-`, and a first `=`.
-use Rattle.std.proofs.Common.{◌≡◌, ◌≢◌, ℕ, ◌+◌, zero, suc, Bool, true, false, not, cond, ◌==◌, List, [], ◌∷◌, length, Option, Some, None, option_map, refl, sym, ap, ◌∙◌, arith}
+use Rattle.std.proofs.Common.{◌≡◌, ◌≢◌, ℕ, ◌+◌, Bool, true, false, ◌==◌, List, [], ◌∷◌, length, Option, Some, None, option_map, refl, sym, ap, arith}
 use Rattle.std.specs.Prelude.{MatchOption}
 use Rattle.std.specs.Borrow.{Bor}
 use Rattle.std.specs.List.{list_any, position_or_len}
 use Rattle.std.proofs.lemmas.Bool.Decides.{nat_tests}
-use Rattle.snow_cli.specs.Words.{Form, Names, is_equals, option_form}
+use Rattle.snow_cli.specs.Words.{Names, is_equals, option_form}
 use Rattle.snow_cli.specs.Request.{behind_dash}
 
 -- the clause of `strip_prefix` at `-`

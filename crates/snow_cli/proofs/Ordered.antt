@@ -1,17 +1,17 @@
 -- What `clap` makes of the words in order.
-use Rattle.std.proofs.Common.{◌≡◌, ◌∙◌, ℕ, Bool, true, false, cond, ◌&&◌, ◌==◌, List, [], ◌∷◌, ◌++◌, map, subst, Option, Some, None, refl, sym, ap, codes, arith, unwrap_or}
+use Rattle.std.proofs.Common.{◌≡◌, ◌∙◌, ℕ, Bool, true, false, cond, List, [], ◌∷◌, ◌++◌, subst, Option, Some, None, refl, sym, ap, codes, unwrap_or}
 use Rattle.std.specs.List.{fold}
 use Rattle.std.specs.Option.{option_and_then}
 use Rattle.std.specs.Str.{bytes_eq}
 use Rattle.clap.specs.Lexer.{long_of, long_of_rest, short_of, short_of_rest, strip_byte}
-use Rattle.clap.specs.Walk.{Held, Row, Rule, Step, Text, Walk, after_step, finished, first_of, idle, long_or_other, nothing_held, short_or_plain, texts, trailing, value, walk_from, walked, word_met}
-use Rattle.clap.specs.Simple.{App, Shape, built, is_simple, matches_of}
-use Rattle.clap.specs.Faults.{is_simple_and_free, fault_of}
+use Rattle.clap.specs.Walk.{Held, Row, Rule, Step, Text, Walk, after_step, finished, first_of, idle, long_or_other, nothing_held, short_or_plain, trailing, value, walk_from, walked, word_met}
+use Rattle.clap.specs.Simple.{App, built, matches_of}
+use Rattle.clap.specs.Faults.{is_simple_and_free}
 use Rattle.clap.proofs.OnLiterals.{clap_on_literals}
 use Rattle.clap.specs.declared.builder.value_parser.Reading.TheVariants as reading
 use Rattle.clap.specs.declared.parser.matches.ValueSource.TheVariants.{DefaultValue, CommandLine}
 use Rattle.snow_cli.specs.Words.{has_dash}
-use Rattle.snow_cli.specs.Parsing.{Choice, snowman, option_word, option_words}
+use Rattle.snow_cli.specs.Parsing.{Choice, snowman, option_words}
 
 -- ---- a word that doesn't begin with `-`
 

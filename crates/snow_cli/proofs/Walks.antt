@@ -1,6 +1,6 @@
 -- Words, split one item after another.
-use Rattle.std.proofs.Common.{◌≡◌, ℕ, List, [], ◌∷◌, drop, Option, Some, refl}
-use Rattle.snow_cli.specs.Words.{Item, first_items, form_of, items}
+use Rattle.std.proofs.Common.{◌≡◌, ℕ, List, [], ◌∷◌, drop, Some, refl}
+use Rattle.snow_cli.specs.Words.{first_items, form_of, items}
 use Rattle.snow_cli.specs.Request.{Request, with_items}
 
 -- the items of a first word and of those behind it

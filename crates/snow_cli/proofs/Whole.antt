@@ -1,5 +1,5 @@
 -- The words of the command line, by the words in order.
-use Rattle.std.proofs.Common.{◌≡◌, ◌∙◌, ℕ, Bool, true, false, not, cond, ◌&&◌, ◌==◌, List, [], ◌∷◌, subst, Option, Some, None, is_some, refl, sym, ap, codes, Result}
+use Rattle.std.proofs.Common.{◌≡◌, ◌∙◌, ℕ, Bool, true, false, not, cond, ◌&&◌, ◌==◌, List, [], ◌∷◌, subst, Option, Some, None, refl, sym, ap, codes, Result}
 use Rattle.std.specs.Prelude.{IfOk}
 use Rattle.std.specs.Option.{option_and_then}
 use Rattle.std.proofs.lemmas.Result.{IfOk-weaker}
@@ -8,7 +8,7 @@ use Rattle.clap.specs.Walk.{Text}
 use Rattle.snow_cli.specs.declared.command.Command.{Command}
 use Rattle.snow_cli.specs.Words.{command_of, items}
 use Rattle.snow_cli.specs.Request.{Request, blank, command_in, with_items}
-use Rattle.snow_cli.specs.Parsing.{AsksFor, has_words, in_order, is_word, is_word_or_none, option_words, ordered}
+use Rattle.snow_cli.specs.Parsing.{AsksFor, is_word, is_word_or_none, option_words, ordered}
 use Rattle.snow_cli.proofs.Gathered.{a_request, no_request}
 use Rattle.snow_cli.proofs.Tested.{asked, chain_names, comes, fits, is_one, is_one_or_none, req, rule_names, task_names}
 

@@ -1,9 +1,8 @@
 -- The words in order, as `clap` reads them.
-use Rattle.std.specs.Prelude.{◌≡◌, ℕ, Bool, true, false, not, ◌&&◌, ◌==◌, List, [], ◌∷◌, ◌++◌, ◌||◌, Option, Some, None, is_some, codes, if◌then◌else◌, bytes_eq}
+use Rattle.std.specs.Prelude.{◌≡◌, Bool, true, false, not, ◌&&◌, ◌==◌, List, [], ◌∷◌, ◌++◌, ◌||◌, Option, Some, None, is_some, codes, if◌then◌else◌, bytes_eq}
 use Rattle.std.specs.Borrow.{Bor}
 use Rattle.clap.specs.Walk.{Rule, Text}
 use Rattle.clap.specs.Simple.{App, new_app, new_rule, with_rule}
-use Rattle.clap.specs.declared.builder.value_parser.ValueParser.{ValueParser}
 use Rattle.clap.specs.declared.builder.value_parser.ValueParser.TheVariants as parser
 use Rattle.snow_cli.specs.declared.command.ChainName.{ChainName}
 use Rattle.snow_cli.specs.declared.command.ChainName.TheVariants as chain
@@ -17,6 +16,7 @@ use Rattle.snow_cli.specs.Request.{Request, command_in}
 abbrev pub Choice : Type 0
 Choice = Bor (List (Bor Text))
 
+-- the one plain word
 abbrev pub task_rule : Choice → Rule
 task_rule tasks = record (new_rule (codes "task")) { required = true; parser = Some (parser.Names tasks) }
 
@@ -56,10 +56,12 @@ abbrev pub is_word : Text → Bool
 is_word [] = false
 is_word (c ∷ cs) = not (c == 45)
 
+-- a value that is a word, or isn't there
 abbrev pub is_word_or_none : Option Text → Bool
 is_word_or_none None = true
 is_word_or_none (Some word) = is_word word
 
+-- the values that are there are words
 abbrev pub has_words : Request → Bool
 has_words r = is_word_or_none r.chain && (is_word_or_none r.rule && (is_word_or_none r.seed && is_word_or_none r.blocks))
 
@@ -69,20 +71,23 @@ in_order None r = None
 in_order (Some task) r =
     if is_word task && has_words r then Some (codes "snowman" ∷ task ∷ option_words r.chain r.rule r.seed r.blocks) else None
 
+-- the words of a request in order
 unfoldable pub ordered : Request → Option (List Text)
 ordered r = in_order r.task r
 
 -- ---- what the matches ask for, where their names were tested
 
+-- the chain of a tested name, or the default
 abbrev pub chain_read : Option Text → ChainName
 chain_read None = chain.Plain
 chain_read (Some value) = if bytes_eq value (codes "tally") then chain.Tally else chain.Plain
 
+-- the rule of a tested name, or the default
 abbrev pub rule_read : Option Text → RuleName
 rule_read None = rule.Snowball
 rule_read (Some value) = if bytes_eq value (codes "snowflake") then rule.Snowflake else rule.Snowball
 
--- `decide` takes neither a seed nor a number of blocks
+-- the command of the values found by their options' names; `decide` takes neither a seed nor blocks
 abbrev pub command_read : (Text → Option Text) → Option Command
 command_read value =
     if is_some (value (codes "seed")) || is_some (value (codes "blocks")) then None

@@ -1,11 +1,9 @@
 -- The words of the command line, gathered from the left.
-use Rattle.std.specs.Prelude.{◌≡◌, ◌<◌, ℕ, Bool, true, false, List, [], ◌∷◌, map, drop, length, Option, Some, None, is_some, codes, if◌then◌else◌, bytes_eq, string_bytes, String}
+use Rattle.std.specs.Prelude.{◌≡◌, ℕ, Bool, true, false, List, [], ◌∷◌, map, drop, Option, Some, None, is_some, codes, if◌then◌else◌, bytes_eq, string_bytes, String}
 use Rattle.std.specs.Option.{option_and_then}
 use Rattle.std.specs.Borrow.{Bor}
 use Rattle.snow_cli.specs.declared.command.Command.{Command}
-use Rattle.snow_cli.specs.declared.command.ChainName.{ChainName}
 use Rattle.snow_cli.specs.declared.command.ChainName.TheVariants as chain
-use Rattle.snow_cli.specs.declared.command.RuleName.{RuleName}
 use Rattle.snow_cli.specs.declared.command.RuleName.TheVariants as rule
 use Rattle.snow_cli.specs.declared.ordering.Look.{Look}
 use Rattle.snow_cli.specs.declared.ordering.Look.TheVariants as look
@@ -71,6 +69,7 @@ Puts true old new word = (old ≡ None) × (new ≡ Some word)
 Puts false old new word = (is_some old ≡ true) × (new ≡ old)
 
 module _ {Z : Type 0} where
+  -- the bytes of words
   abbrev pub texts : List (String Z) → List (List ℕ)
   texts words = map string_bytes words
 
@@ -81,6 +80,7 @@ module _ {Z : Type 0} where
 
 -- ---- what a request asks for
 
+-- what the value names, or the default where there is none
 abbrev pub named_or : {A : Type 0} → A → (List ℕ → Option A) → Option (List ℕ) → Option A
 named_or default named None = Some default
 named_or default named (Some value) = named value
@@ -92,6 +92,7 @@ decision r =
     else if is_some r.blocks then None
     else deciding (named_or chain.Plain chain_named r.chain) (named_or rule.Snowball rule_named r.rule)
 
+-- the command of the task of a name
 abbrev pub task_of : Option (List ℕ) → Request → Option Command
 task_of None r = None
 task_of (Some task) r = if bytes_eq task (codes "decide") then decision r else None

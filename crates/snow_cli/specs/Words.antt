@@ -16,8 +16,8 @@ pub data Item : Type 0 where
   Given : (name value : List ℕ) → Item
   Wrong : Item
 
--- what a word is by itself, where no `--` came before: it is plain, it ends the options as `--`, it is
--- an option as `--name=value`, it names an option as `--name`, or it begins with one `-` alone
+-- the forms of a word where no `--` came before: it is plain, it ends the options as `--`, it is an
+-- option as `--name=value`, it names an option as `--name`, or it begins with one `-` alone
 pub data Form : Type 0 where
   Alone : Form
   Ends : Form
@@ -30,6 +30,7 @@ abbrev pub has_dash : List ℕ → Bool
 has_dash [] = false
 has_dash (c ∷ cs) = c == 45
 
+-- whether a byte is `=`
 abbrev pub is_equals : ℕ → Bool
 is_equals c = c == 61
 
@@ -44,6 +45,7 @@ option_form (c ∷ cs) =
 abbrev pub dashed_form : List ℕ → Form
 dashed_form rest = if has_dash rest then option_form (drop 1 rest) else Dashed
 
+-- what a word is by itself
 abbrev pub form_of : List ℕ → Form
 form_of word = if has_dash word then dashed_form (drop 1 word) else Alone
 
@@ -70,6 +72,7 @@ items (word ∷ next ∷ words) = first_items (form_of word) word (next ∷ word
 
 -- ---- what items hold
 
+-- the word of a plain item
 abbrev pub plain_word : Item → Option (List ℕ)
 plain_word (Plain word) = Some word
 plain_word item = None
@@ -78,6 +81,7 @@ plain_word item = None
 abbrev pub plain_words : List Item → List (List ℕ)
 plain_words = filter_map plain_word
 
+-- the value that an item gives the option of a name
 abbrev pub value_of : List ℕ → Item → Option (List ℕ)
 value_of name (Given other value) = if bytes_eq other name then Some value else None
 value_of name item = None
@@ -100,12 +104,14 @@ one_of default named [] = Some default
 one_of default named (value ∷ []) = named value
 one_of default named (value ∷ another ∷ more) = None
 
+-- the chain of a name
 abbrev pub chain_named : List ℕ → Option ChainName
 chain_named value =
     if bytes_eq value (codes "plain") then Some chain.Plain
     else if bytes_eq value (codes "tally") then Some chain.Tally
     else None
 
+-- the rule of a name
 abbrev pub rule_named : List ℕ → Option RuleName
 rule_named value =
     if bytes_eq value (codes "snowball") then Some rule.Snowball

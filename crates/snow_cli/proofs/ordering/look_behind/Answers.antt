@@ -1,6 +1,5 @@
-use Rattle.std.proofs.Common.{rules, ◌≡◌, length, ◌==◌, false, arith}
+use Rattle.std.proofs.Common.{rules, ◌≡◌, length, ◌==◌, false}
 use Rattle.std.specs.List.{position_or_len}
-use Rattle.std.proofs.lemmas.Str.Pattern.{split_once_first}
 use Rattle.snow_cli.specs.Words.{is_equals}
 use Rattle.snow_cli.proofs.Looks.{name_alone}
 use Rattle.snow_cli.proofs.ordering.look_behind.Goals as goal

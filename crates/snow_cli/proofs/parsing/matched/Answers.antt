@@ -1,6 +1,4 @@
-use Rattle.std.proofs.Common.{◌≡◌, rules}
 use Rattle.clap.specs.Words.{app_of}
-use Rattle.snow_cli.specs.Parsing.{snowman}
 use Rattle.snow_cli.specs.Request.{texts}
 use Rattle.snow_cli.proofs.Matching.{rows_are, faults_are}
 use Rattle.snow_cli.proofs.parsing.matched.Goals as goal
