@@ -4,3 +4,6 @@ pub mod Node
 pub mod Output
 pub mod Streams
 pub mod Answer
+pub mod Words
+pub mod Request
+pub mod Parsing

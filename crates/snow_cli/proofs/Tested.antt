@@ -1,0 +1,125 @@
+-- The names that `clap` tests, and the command that they ask for.
+use Rattle.std.proofs.Common.{◌≡◌, ◌∙◌, Bool, true, false, cond, ◌&&◌, ◌||◌, List, [], ◌∷◌, subst, Option, Some, None, is_some, refl, sym, ap₂, codes}
+use Rattle.std.specs.List.{list_any}
+use Rattle.std.specs.Str.{bytes_eq}
+use Rattle.std.proofs.lemmas.Slice.Eq.{bytes_eq-Decides}
+use Rattle.clap.specs.Walk.{Text}
+use Rattle.snow_cli.specs.declared.command.Command.{Command}
+use Rattle.snow_cli.specs.declared.command.Command.TheVariants as command
+use Rattle.snow_cli.specs.declared.command.ChainName.{ChainName}
+use Rattle.snow_cli.specs.declared.command.ChainName.TheVariants as chain
+use Rattle.snow_cli.specs.declared.command.RuleName.{RuleName}
+use Rattle.snow_cli.specs.declared.command.RuleName.TheVariants as rule
+use Rattle.snow_cli.specs.Words.{chain_named, rule_named, deciding}
+use Rattle.snow_cli.specs.Request.{Request, command_in, named_or}
+use Rattle.snow_cli.specs.Parsing.{chain_read, rule_read}
+
+abbrev pub task_names : List Text
+task_names = codes "decide" ∷ []
+
+abbrev pub chain_names : List Text
+chain_names = codes "plain" ∷ codes "tally" ∷ []
+
+abbrev pub rule_names : List Text
+rule_names = codes "snowball" ∷ codes "snowflake" ∷ []
+
+-- the text is one of the names
+abbrev pub is_one : List Text → Text → Bool
+is_one names v = list_any (λ name. bytes_eq name v) names
+
+abbrev pub is_one_or_none : List Text → Option Text → Bool
+is_one_or_none names None = true
+is_one_or_none names (Some v) = is_one names v
+
+same : (a b : Text) → bytes_eq a b ≡ true → a ≡ b
+same a b e = (bytes_eq-Decides a b).0 e
+
+turned : (a b : Text) → bytes_eq a b ≡ false → bytes_eq b a ≡ false
+turned a b e = go (bytes_eq b a) refl
+  where
+    go : (is : Bool) → bytes_eq b a ≡ is → is ≡ false
+    go false t = refl
+    go true t =
+        let bad : bytes_eq a b ≡ true = (bytes_eq-Decides a b).1 (sym (same b a t)) in
+        sym bad ∙ e
+
+abbrev ChainIs : Text → Type 0
+ChainIs v = chain_named v ≡ cond (is_one chain_names v) (Some (chain_read (Some v))) None
+
+chain_is : (v : Text) → ChainIs v
+chain_is v = at_plain (bytes_eq v (codes "plain")) refl
+  where
+    at_tally : (is : Bool) → bytes_eq v (codes "tally") ≡ is → bytes_eq v (codes "plain") ≡ false → ChainIs v
+    at_tally true e plain = subst ChainIs (sym (same v (codes "tally") e)) refl
+    at_tally false e plain = rw (plain, e, turned v (codes "plain") plain, turned v (codes "tally") e) refl
+
+    at_plain : (is : Bool) → bytes_eq v (codes "plain") ≡ is → ChainIs v
+    at_plain true e = subst ChainIs (sym (same v (codes "plain") e)) refl
+    at_plain false e = at_tally (bytes_eq v (codes "tally")) refl e
+
+abbrev RuleIs : Text → Type 0
+RuleIs v = rule_named v ≡ cond (is_one rule_names v) (Some (rule_read (Some v))) None
+
+rule_is : (v : Text) → RuleIs v
+rule_is v = at_ball (bytes_eq v (codes "snowball")) refl
+  where
+    at_flake : (is : Bool) → bytes_eq v (codes "snowflake") ≡ is → bytes_eq v (codes "snowball") ≡ false → RuleIs v
+    at_flake true e ball = subst RuleIs (sym (same v (codes "snowflake") e)) refl
+    at_flake false e ball = rw (ball, e, turned v (codes "snowball") ball, turned v (codes "snowflake") e) refl
+
+    at_ball : (is : Bool) → bytes_eq v (codes "snowball") ≡ is → RuleIs v
+    at_ball true e = subst RuleIs (sym (same v (codes "snowball") e)) refl
+    at_ball false e = at_flake (bytes_eq v (codes "snowflake")) refl e
+
+chains_are : (c : Option Text) → named_or chain.Plain chain_named c ≡ cond (is_one_or_none chain_names c) (Some (chain_read c)) None
+chains_are None = refl
+chains_are (Some v) = chain_is v
+
+rules_are : (u : Option Text) → named_or rule.Snowball rule_named u ≡ cond (is_one_or_none rule_names u) (Some (rule_read u)) None
+rules_are None = refl
+rules_are (Some v) = rule_is v
+
+-- each word is a name
+abbrev pub fits : Text → Option Text → Option Text → Bool
+fits task c u = is_one task_names task && (is_one_or_none chain_names c && is_one_or_none rule_names u)
+
+-- what tested words ask for
+abbrev pub asked : Option Text → Option Text → Option Text → Option Text → Option Command
+asked c u s b = cond (is_some s || is_some b) None (Some (command.Decide (chain_read c) (rule_read u)))
+
+both : (x : ChainName) (y : RuleName) (p q : Bool)
+    → deciding (cond p (Some x) None) (cond q (Some y) None) ≡ cond (p && q) (Some (command.Decide x y)) None
+both x y true true = refl
+both x y true false = refl
+both x y false q = refl
+
+abbrev no_command : Option Command
+no_command = None
+
+nothing : (p : Bool) → no_command ≡ cond p no_command no_command
+nothing true = refl
+nothing false = refl
+
+abbrev pub req : Option Text → Option Text → Option Text → Option Text → Option Text → Request
+req t c u s b = record { task = t; chain = c; rule = u; seed = s; blocks = b }
+
+decided : (c u s b : Option Text)
+    → command_in (req (Some (codes "decide")) c u s b) ≡ cond (is_one_or_none chain_names c && is_one_or_none rule_names u) (asked c u s b) None
+unfolding command_in
+decided c u None None = ap₂ deciding (chains_are c) (rules_are u) ∙ both (chain_read c) (rule_read u) (is_one_or_none chain_names c) (is_one_or_none rule_names u)
+decided c u None (Some v) = nothing (is_one_or_none chain_names c && is_one_or_none rule_names u)
+decided c u (Some v) b = nothing (is_one_or_none chain_names c && is_one_or_none rule_names u)
+
+another : (task : Text) (c u s b : Option Text) → bytes_eq task (codes "decide") ≡ false
+    → command_in (req (Some task) c u s b) ≡ cond (fits task c u) (asked c u s b) None
+unfolding command_in
+another task c u s b e = rw (e, turned task (codes "decide") e) refl
+
+-- a request for a task asks for what its words ask for, where each is a name
+pub comes : (task : Text) (c u s b : Option Text) → command_in (req (Some task) c u s b) ≡ cond (fits task c u) (asked c u s b) None
+comes task c u s b = at_decide (bytes_eq task (codes "decide")) refl
+  where
+    at_decide : (is : Bool) → bytes_eq task (codes "decide") ≡ is → command_in (req (Some task) c u s b) ≡ cond (fits task c u) (asked c u s b) None
+    at_decide true e = subst (λ t. command_in (req (Some t) c u s b) ≡ cond (fits t c u) (asked c u s b) None)
+        (sym (same task (codes "decide") e)) (decided c u s b)
+    at_decide false e = another task c u s b e

@@ -1,0 +1,104 @@
+-- The words of the command line, by the words in order.
+use Rattle.std.proofs.Common.{◌≡◌, ◌∙◌, ℕ, Bool, true, false, not, cond, ◌&&◌, ◌==◌, List, [], ◌∷◌, subst, Option, Some, None, refl, sym, ap, codes, Result}
+use Rattle.std.specs.Prelude.{IfOk}
+use Rattle.std.specs.Option.{option_and_then}
+use Rattle.std.proofs.lemmas.Result.{IfOk-weaker}
+use Rattle.std.proofs.lemmas.Bool.{eqb-true}
+use Rattle.clap.specs.Walk.{Text}
+use Rattle.snow_cli.specs.declared.command.Command.{Command}
+use Rattle.snow_cli.specs.Words.{command_of, items}
+use Rattle.snow_cli.specs.Request.{Request, blank, command_in, with_items}
+use Rattle.snow_cli.specs.Parsing.{AsksFor, is_word, is_word_or_none, option_words, ordered}
+use Rattle.snow_cli.proofs.Gathered.{a_request, no_request}
+use Rattle.snow_cli.proofs.Tested.{asked, chain_names, comes, fits, is_one, is_one_or_none, req, rule_names, task_names}
+
+-- ---- a name is a word
+
+abbrev AreWords : List Text → Type 0
+AreWords names = (is_one names [] ≡ false) × ((rest : Text) → is_one names (45 ∷ rest) ≡ false)
+
+is_word_at : (names : List Text) → AreWords names → (x : ℕ) (xs : Text) (dash : Bool) → (x == 45) ≡ dash → is_one names (x ∷ xs) ≡ true → not dash ≡ true
+is_word_at names are x xs false d e = refl
+is_word_at names are x xs true d e =
+    let bad : is_one names (45 ∷ xs) ≡ true = subst (λ y. is_one names (y ∷ xs) ≡ true) (eqb-true x 45 d) e in
+    sym (are.1 xs) ∙ bad
+
+one_is_word : (names : List Text) → AreWords names → (v : Text) → is_one names v ≡ true → is_word v ≡ true
+one_is_word names are [] e = sym (are.0) ∙ e
+one_is_word names are (x ∷ xs) e = is_word_at names are x xs (x == 45) refl e
+
+one_or_none : (names : List Text) → AreWords names → (o : Option Text) → is_one_or_none names o ≡ true → is_word_or_none o ≡ true
+one_or_none names are None e = refl
+one_or_none names are (Some v) e = one_is_word names are v e
+
+tasks_are : AreWords task_names
+tasks_are = (refl, λ rest. refl)
+
+chains_are : AreWords chain_names
+chains_are = (refl, λ rest. refl)
+
+rules_are : AreWords rule_names
+rules_are = (refl, λ rest. refl)
+
+-- ---- a request that has no words in order asks for nothing
+
+abbrev no_command : Option Command
+no_command = None
+
+nothing : (p : Bool) → cond p no_command no_command ≡ None
+nothing true = refl
+nothing false = refl
+
+-- where each is a name, the words in order are there
+listed : (task : Text) (c u : Option Text) → is_one task_names task ≡ true → is_one_or_none chain_names c ≡ true → is_one_or_none rule_names u ≡ true
+    → ordered (req (Some task) c u None None) ≡ Some (codes "snowman" ∷ task ∷ option_words c u None None)
+unfolding ordered
+listed task c u t x y = rw (one_is_word task_names tasks_are task t, one_or_none chain_names chains_are c x, one_or_none rule_names rules_are u y) refl
+
+unlisted : (task : Text) (c u : Option Text) (t x y : Bool) → is_one task_names task ≡ t → is_one_or_none chain_names c ≡ x → is_one_or_none rule_names u ≡ y
+    → ordered (req (Some task) c u None None) ≡ None → cond (t && (x && y)) (asked c u None None) None ≡ None
+unlisted task c u false x y et ex ey none = refl
+unlisted task c u true false y et ex ey none = refl
+unlisted task c u true true false et ex ey none = refl
+unlisted task c u true true true et ex ey none =
+    let bad : Some (codes "snowman" ∷ task ∷ option_words c u None None) ≡ None = sym (listed task c u et ex ey) ∙ none in
+    cc
+
+unfit : (task : Text) (c u s b : Option Text) → ordered (req (Some task) c u s b) ≡ None → cond (fits task c u) (asked c u s b) None ≡ None
+unfit task c u (Some v) b none = nothing (fits task c u)
+unfit task c u None (Some v) none = nothing (fits task c u)
+unfit task c u None None none = unlisted task c u (is_one task_names task) (is_one_or_none chain_names c) (is_one_or_none rule_names u) refl refl refl none
+
+taskless : (c u s b : Option Text) → command_in (req None c u s b) ≡ None
+unfolding command_in
+taskless c u s b = refl
+
+unordered : (t c u s b : Option Text) → ordered (req t c u s b) ≡ None → None ≡ command_in (req t c u s b)
+unordered None c u s b none = sym (taskless c u s b)
+unordered (Some task) c u s b none = sym (comes task c u s b ∙ unfit task c u s b none)
+
+-- ---- the words
+
+-- where no words in order come of words, they ask for nothing
+pub none_in_order : (words : List Text) → None ≡ option_and_then ordered (with_items blank (items words)) → None ≡ command_of words
+none_in_order words none = go (with_items blank (items words)) refl
+  where
+    go : (o : Option Request) → o ≡ with_items blank (items words) → None ≡ command_of words
+    go None is = no_request words None is refl
+    go (Some r) is = a_request words (Some r) r None is refl
+        (unordered r.task r.chain r.rule r.seed r.blocks (ap (option_and_then ordered) is ∙ sym none))
+
+-- where some come, they ask for what these ask for
+asks_for : (words list : List Text) (command : Option Command) → Some list ≡ option_and_then ordered (with_items blank (items words))
+    → AsksFor list command → command ≡ command_of words
+asks_for words list command some is_asked = go (with_items blank (items words)) refl
+  where
+    go : (o : Option Request) → o ≡ with_items blank (items words) → command ≡ command_of words
+    go None is =
+        let bad : None ≡ Some list = ap (option_and_then ordered) is ∙ sym some in
+        cc
+    go (Some r) is = a_request words (Some r) r command is refl (is_asked r (ap (option_and_then ordered) is ∙ sym some))
+
+pub asks : {E : Type 0} (words list : List Text) (r : Result (Option Command) E) → Some list ≡ option_and_then ordered (with_items blank (items words))
+    → IfOk r (AsksFor list) → IfOk r (λ command. command ≡ command_of words)
+asks words list r some given = IfOk-weaker r _ _ (λ command is_asked. asks_for words list command some is_asked) given

@@ -1,0 +1,114 @@
+-- Worked examples: what words ask for.
+use Rattle.std.proofs.Common.{◌≡◌, [], ◌∷◌, Option, Some, None, refl, codes}
+use Rattle.snow_cli.specs.declared.command.ChainName.TheVariants as chain
+use Rattle.snow_cli.specs.declared.command.RuleName.TheVariants as rule
+use Rattle.snow_cli.specs.declared.command.Command.{Command}
+use Rattle.snow_cli.specs.declared.command.Command.TheVariants as command
+use Rattle.snow_cli.specs.Words.{items, command_of}
+
+-- the defaults
+abbrev usual : Option Command
+usual = Some (command.Decide chain.Plain rule.Snowball)
+
+pub no_word : command_of [] ≡ None
+unfolding command_of items
+no_word = refl
+
+pub alone : command_of (codes "decide" ∷ []) ≡ usual
+unfolding command_of items
+alone = refl
+
+pub behind_the_end : command_of (codes "--" ∷ codes "decide" ∷ []) ≡ usual
+unfolding command_of items
+behind_the_end = refl
+
+pub before_the_end : command_of (codes "decide" ∷ codes "--" ∷ []) ≡ usual
+unfolding command_of items
+before_the_end = refl
+
+pub option_first : command_of (codes "--chain=plain" ∷ codes "decide" ∷ []) ≡ usual
+unfolding command_of items
+option_first = refl
+
+pub both_options : command_of (codes "decide" ∷ codes "--chain" ∷ codes "tally" ∷ codes "--rule=snowflake" ∷ [])
+    ≡ Some (command.Decide chain.Tally rule.Snowflake)
+unfolding command_of items
+both_options = refl
+
+pub another_rule : command_of (codes "decide" ∷ codes "--rule" ∷ codes "snowflake" ∷ [])
+    ≡ Some (command.Decide chain.Plain rule.Snowflake)
+unfolding command_of items
+another_rule = refl
+
+-- an option stands once at most
+pub twice_for_another_task : command_of (codes "run" ∷ codes "--chain" ∷ codes "plain" ∷ codes "--chain" ∷ codes "tally" ∷ []) ≡ None
+unfolding command_of items
+twice_for_another_task = refl
+
+pub twice : command_of (codes "decide" ∷ codes "--chain" ∷ codes "plain" ∷ codes "--chain" ∷ codes "tally" ∷ []) ≡ None
+unfolding command_of items
+twice = refl
+
+-- an option of another task, and another task
+pub another_option : command_of (codes "decide" ∷ codes "--seed" ∷ codes "1" ∷ []) ≡ None
+unfolding command_of items
+another_option = refl
+
+pub another_task : command_of (codes "drill" ∷ codes "--seed" ∷ codes "1" ∷ []) ≡ None
+unfolding command_of items
+another_task = refl
+
+pub run : command_of (codes "run" ∷ []) ≡ None
+unfolding command_of items
+run = refl
+
+pub help : command_of (codes "--help" ∷ []) ≡ None
+unfolding command_of items
+help = refl
+
+-- two plain words
+pub two_tasks : command_of (codes "decide" ∷ codes "decide" ∷ []) ≡ None
+unfolding command_of items
+two_tasks = refl
+
+pub plain_behind_the_end : command_of (codes "decide" ∷ codes "--" ∷ codes "--chain" ∷ []) ≡ None
+unfolding command_of items
+plain_behind_the_end = refl
+
+-- values that are missing, empty, or no name
+pub no_value : command_of (codes "decide" ∷ codes "--chain" ∷ []) ≡ None
+unfolding command_of items
+no_value = refl
+
+pub no_value_before_the_end : command_of (codes "decide" ∷ codes "--chain" ∷ codes "--" ∷ codes "plain" ∷ []) ≡ None
+unfolding command_of items
+no_value_before_the_end = refl
+
+pub no_value_but_the_end : command_of (codes "--chain" ∷ codes "--" ∷ codes "decide" ∷ []) ≡ None
+unfolding command_of items
+no_value_but_the_end = refl
+
+pub empty_value : command_of (codes "decide" ∷ codes "--chain=" ∷ []) ≡ None
+unfolding command_of items
+empty_value = refl
+
+pub second_equals : command_of (codes "--chain==plain" ∷ codes "decide" ∷ []) ≡ None
+unfolding command_of items
+second_equals = refl
+
+pub another_value : command_of (codes "decide" ∷ codes "--chain" ∷ codes "ledger" ∷ []) ≡ None
+unfolding command_of items
+another_value = refl
+
+-- words with one dash
+pub dashed : command_of (codes "decide" ∷ codes "-x" ∷ []) ≡ None
+unfolding command_of items
+dashed = refl
+
+pub dash : command_of (codes "decide" ∷ codes "-" ∷ []) ≡ None
+unfolding command_of items
+dash = refl
+
+pub empty_word : command_of ([] ∷ []) ≡ None
+unfolding command_of items
+empty_word = refl

@@ -1,0 +1,141 @@
+-- What the words of the command line, without the program's name, ask for.
+use Rattle.std.specs.Prelude.{ℕ, Bool, true, false, ◌==◌, List, [], ◌∷◌, map, drop, Option, Some, None, codes, if◌then◌else◌, bytes_eq}
+use Rattle.std.specs.List.{list_all, list_any, filter_map, before_first, after_first}
+use Rattle.snow_cli.specs.declared.command.ChainName.{ChainName}
+use Rattle.snow_cli.specs.declared.command.ChainName.TheVariants as chain
+use Rattle.snow_cli.specs.declared.command.RuleName.{RuleName}
+use Rattle.snow_cli.specs.declared.command.RuleName.TheVariants as rule
+use Rattle.snow_cli.specs.declared.command.Command.{Command}
+use Rattle.snow_cli.specs.declared.command.Command.TheVariants as command
+
+-- ---- the items that words are
+
+-- a plain word, an option's name with its value, or a word that is neither
+pub data Item : Type 0 where
+  Plain : (word : List ℕ) → Item
+  Given : (name value : List ℕ) → Item
+  Wrong : Item
+
+-- the forms of a word where no `--` came before: it is plain, it ends the options as `--`, it is an
+-- option as `--name=value`, it names an option as `--name`, or it begins with one `-` alone
+pub data Form : Type 0 where
+  Alone : Form
+  Ends : Form
+  Sets : (name value : List ℕ) → Form
+  Names : (name : List ℕ) → Form
+  Dashed : Form
+
+-- whether a word begins with `-`
+abbrev pub has_dash : List ℕ → Bool
+has_dash [] = false
+has_dash (c ∷ cs) = c == 45
+
+-- whether a byte is `=`
+abbrev pub is_equals : ℕ → Bool
+is_equals c = c == 61
+
+-- what stands behind `--`: nothing, or a name up to the first `=`
+abbrev pub option_form : List ℕ → Form
+option_form [] = Ends
+option_form (c ∷ cs) =
+    if list_any is_equals (c ∷ cs) then Sets (before_first is_equals (c ∷ cs)) (after_first is_equals (c ∷ cs))
+    else Names (c ∷ cs)
+
+-- what stands behind a first `-`
+abbrev pub dashed_form : List ℕ → Form
+dashed_form rest = if has_dash rest then option_form (drop 1 rest) else Dashed
+
+-- what a word is by itself
+abbrev pub form_of : List ℕ → Form
+form_of word = if has_dash word then dashed_form (drop 1 word) else Alone
+
+-- the items of an option's name and the words behind it, where `later` are those behind the next
+-- word; a next word that begins with `-` is no value
+abbrev pub named_items : List ℕ → List (List ℕ) → List Item → List Item
+named_items name [] later = Wrong ∷ []
+named_items name (value ∷ words) later = if has_dash value then Wrong ∷ [] else Given name value ∷ later
+
+-- the items of a word of this form and the words behind it, of which `from` are the items, and
+-- `later` those without the next word
+abbrev pub first_items : Form → List ℕ → List (List ℕ) → List Item → List Item → List Item
+first_items Alone word words from later = Plain word ∷ from
+first_items Ends word words from later = map Plain words
+first_items (Sets name value) word words from later = Given name value ∷ from
+first_items (Names name) word words from later = named_items name words later
+first_items Dashed word words from later = Wrong ∷ []
+
+-- the items of words, split from the left; nothing is split behind a wrong one
+unfoldable pub items : List (List ℕ) → List Item
+items [] = []
+items (word ∷ []) = first_items (form_of word) word [] [] []
+items (word ∷ next ∷ words) = first_items (form_of word) word (next ∷ words) (items (next ∷ words)) (items words)
+
+-- ---- what items hold
+
+-- the word of a plain item
+abbrev pub plain_word : Item → Option (List ℕ)
+plain_word (Plain word) = Some word
+plain_word item = None
+
+-- the plain words among items
+abbrev pub plain_words : List Item → List (List ℕ)
+plain_words = filter_map plain_word
+
+-- the value that an item gives the option of a name
+abbrev pub value_of : List ℕ → Item → Option (List ℕ)
+value_of name (Given other value) = if bytes_eq other name then Some value else None
+value_of name item = None
+
+-- the values that items give the option of a name
+abbrev pub values : List ℕ → List Item → List (List ℕ)
+values name = filter_map (value_of name)
+
+-- whether an item is a plain word, or an option of one of these names
+abbrev pub is_among : List (List ℕ) → Item → Bool
+is_among names (Plain word) = true
+is_among names (Given name value) = list_any (bytes_eq name) names
+is_among names Wrong = false
+
+-- ---- the command
+
+-- the one value, or the default where there is none
+abbrev pub one_of : {A : Type 0} → A → (List ℕ → Option A) → List (List ℕ) → Option A
+one_of default named [] = Some default
+one_of default named (value ∷ []) = named value
+one_of default named (value ∷ another ∷ more) = None
+
+-- the chain of a name
+abbrev pub chain_named : List ℕ → Option ChainName
+chain_named value =
+    if bytes_eq value (codes "plain") then Some chain.Plain
+    else if bytes_eq value (codes "tally") then Some chain.Tally
+    else None
+
+-- the rule of a name
+abbrev pub rule_named : List ℕ → Option RuleName
+rule_named value =
+    if bytes_eq value (codes "snowball") then Some rule.Snowball
+    else if bytes_eq value (codes "snowflake") then Some rule.Snowflake
+    else None
+
+-- `decide` with a chain and a rule, where both are named
+abbrev pub deciding : Option ChainName → Option RuleName → Option Command
+deciding (Some c) (Some r) = Some (command.Decide c r)
+deciding c r = None
+
+-- `decide` with these items, where its options alone stand among them
+abbrev pub decide_with : List Item → Option Command
+decide_with all =
+    if list_all (is_among (codes "chain" ∷ codes "rule" ∷ [])) all
+    then deciding (one_of chain.Plain chain_named (values (codes "chain") all)) (one_of rule.Snowball rule_named (values (codes "rule") all))
+    else None
+
+-- the task that the one plain word names, with these items
+abbrev pub task_with : List (List ℕ) → List Item → Option Command
+task_with [] all = None
+task_with (task ∷ []) all = if bytes_eq task (codes "decide") then decide_with all else None
+task_with (task ∷ another ∷ more) all = None
+
+-- what the words ask for, where they ask for a task
+unfoldable pub command_of : List (List ℕ) → Option Command
+command_of words = task_with (plain_words (items words)) (items words)

@@ -1,0 +1,151 @@
+ghost use Rattle.std.specs.Prelude.{◌≡◌, option_map, IfOk};
+ghost use Rattle.clap.specs.Words.{app_of, found_of, first_value, rows_of, with_rule, FailsBy, fault_of, matches_of};
+ghost use Rattle.snow_cli.specs.Parsing.{AsksFor, chain_read, choice_rule, command_read, rule_read, open_rule, snowman, task_rule};
+ghost use Rattle.snow_cli.specs.Request.{texts};
+
+use crate::command::{ChainName, Command, RuleName};
+use clap::builder::ValueParser;
+use clap::error::ErrorKind;
+use clap::{Arg, ArgMatches, Error};
+use std::alloc::{AllocError, Global};
+
+/// The names of the tasks.
+static TASKS: [&str; 1] = ["decide"];
+
+/// The names of the chains.
+static CHAINS: [&str; 2] = ["plain", "tally"];
+
+/// The names of the rules.
+static RULES: [&str; 2] = ["snowball", "snowflake"];
+
+/// The task, as the one plain word.
+fn with_task<'a>(
+    alloc: Global,
+    command: clap::Command<'a>,
+    tasks: &'a [&'a str],
+) -> Result<clap::Command<'a>, AllocError>
+    ensures { IfOk result (λ r. app_of r ≡ with_rule (app_of command.entry) (task_rule tasks.entry)) }
+{
+    command.arg(
+        Arg::new(alloc, "task")
+            .required(true)
+            .value_parser(ValueParser::Names(tasks)),
+    )
+}
+
+/// An option whose value is one of these names.
+fn with_choice<'a>(
+    alloc: Global,
+    command: clap::Command<'a>,
+    name: &'a str,
+    default: &'a str,
+    names: &'a [&'a str],
+) -> Result<clap::Command<'a>, AllocError>
+    ensures { IfOk result (λ r. app_of r ≡ with_rule (app_of command.entry) (choice_rule name.entry.now default.entry.now names.entry)) }
+{
+    command.arg(
+        Arg::new(alloc, name)
+            .long(name)
+            .default_value(default)
+            .value_parser(ValueParser::Names(names)),
+    )
+}
+
+/// An option with any value.
+fn with_option<'a>(
+    alloc: Global,
+    command: clap::Command<'a>,
+    name: &'a str,
+) -> Result<clap::Command<'a>, AllocError>
+    ensures { IfOk result (λ r. app_of r ≡ with_rule (app_of command.entry) (open_rule name.entry.now)) }
+{
+    command.arg(Arg::new(alloc, name).long(name))
+}
+
+/// The command line.
+fn snowman<'a>(
+    alloc: Global,
+    tasks: &'a [&'a str],
+    chains: &'a [&'a str],
+    rules: &'a [&'a str],
+) -> Result<clap::Command<'a>, AllocError>
+    ensures { IfOk result (λ r. app_of r ≡ snowman tasks.entry chains.entry rules.entry) }
+{
+    let command = clap::Command::new(alloc, "snowman");
+    let command = with_task(alloc, command, tasks)?;
+    let command = with_choice(alloc, command, "chain", "plain", chains)?;
+    let command = with_choice(alloc, command, "rule", "snowball", rules)?;
+    let command = with_option(alloc, command, "seed")?;
+    with_option(alloc, command, "blocks")
+}
+
+/// What `clap` finds in words.
+fn matched<'a>(
+    alloc: Global,
+    words: &'a [String],
+    tasks: &'a [&'a str],
+    chains: &'a [&'a str],
+    rules: &'a [&'a str],
+) -> Result<ArgMatches<'a>, Error>
+    ensures rows { IfOk result (λ m. rows_of (found_of m)
+        ≡ matches_of (snowman tasks.entry chains.entry rules.entry) (texts words.entry.now)) }
+    ensures fails { FailsBy (fault_of (snowman tasks.entry chains.entry rules.entry) (texts words.entry.now)) result }
+{
+    let command = snowman(alloc, tasks, chains, rules)?;
+    command.try_get_matches_from(words)
+}
+
+/// The command that words in order ask for: those of a request, as `ordering` writes them.
+pub fn command_of_ordered(alloc: Global, words: &[String]) -> Result<Option<Command>, AllocError>
+    ensures { IfOk result (AsksFor (texts words.now)) }
+{
+    let found = matched(
+        alloc,
+        words,
+        TASKS.as_slice(),
+        CHAINS.as_slice(),
+        RULES.as_slice(),
+    );
+    match found {
+        Ok(matches) => Ok(read(&matches)),
+        Err(error) => {
+            if error.kind() == ErrorKind::OutOfMemory {
+                return Err(AllocError);
+            }
+            Ok(None)
+        }
+    }
+}
+
+/// The command that matches ask for.
+fn read(matches: &ArgMatches) -> Option<Command>
+    ensures { result ≡ command_read (first_value (found_of matches.now)) }
+{
+    if matches.get_str("seed").is_some() || matches.get_str("blocks").is_some() {
+        return None;
+    }
+    Some(Command::Decide {
+        chain: chain_of(matches.get_str("chain")),
+        rule: rule_of(matches.get_str("rule")),
+    })
+}
+
+/// The chain of this tested name, or the usual one.
+fn chain_of(name: Option<&str>) -> ChainName
+    ensures { result ≡ chain_read (option_map (λ s. s.now) name.entry) }
+{
+    match name {
+        Some("tally") => ChainName::Tally,
+        _ => ChainName::Plain,
+    }
+}
+
+/// The rule of this tested name, or the usual one.
+fn rule_of(name: Option<&str>) -> RuleName
+    ensures { result ≡ rule_read (option_map (λ s. s.now) name.entry) }
+{
+    match name {
+        Some("snowflake") => RuleName::Snowflake,
+        _ => RuleName::Snowball,
+    }
+}

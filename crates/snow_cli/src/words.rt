@@ -1,0 +1,23 @@
+ghost use Rattle.std.specs.Prelude.{◌≡◌, map, string_bytes, IfOk};
+ghost use Rattle.snow_cli.specs.Words.{command_of};
+
+use crate::command::Command;
+use crate::ordering::order;
+use crate::parsing::command_of_ordered;
+use std::alloc::{AllocError, Global};
+
+/// What the words of the command line, without the program's name, ask for: the task `decide` with
+/// `--chain plain` or `--chain tally`, and `--rule snowball` or `--rule snowflake`, where the first of
+/// each is the default. There is none where a word has no place, or an option stands twice.
+#[tactic(auto, using(crate::proofs::Whole::none_in_order, crate::proofs::Whole::asks))]
+pub fn read_words(alloc: Global, words: &Vec<String>) -> Result<Option<Command>, AllocError>
+    ensures { IfOk result (λ command. command ≡ command_of (map string_bytes words.now.items)) }
+{
+    let Some(list) = order(alloc, words.as_slice())? else {
+        return Ok(None);
+    };
+    command_of_ordered(alloc, list.as_slice())
+}
+
+#[cfg(test)]
+mod tests;
