@@ -1,83 +1,154 @@
--- What the top call owes for its words and for the bytes that come in.
-use Rattle.std.specs.Prelude.{◌≡◌, ℕ, Bool, false, List, [], ◌∷◌, length, Option, Some, None, codes, nat_lt, ◌==◌, if◌then◌else◌, ⊤, bytes_eq, ◌⊎◌}
-use Rattle.std.specs.Io.KnownBytes.{Appends, Keeps}
+-- What the program owes for its words and for the bytes that come in.
+use Rattle.std.specs.Prelude.{◌≡◌, ℕ, List, [], ◌∷◌, ◌++◌, decimal, Option, Some, None, codes, ⊤, ◌⊎◌}
+use Rattle.std.specs.Io.KnownBytes.{Appends}
 use Rattle.snow_base.specs.Outside.{AppendsFront, Rose}
-use Rattle.snow_flake.specs.Rule.{Answer}
+use Rattle.snow_flake.specs.Rule.{Answer, by_preference, by_flake}
+use Rattle.snow_flake.specs.declared.params.ParamFault.{ParamFault}
+use Rattle.snow_flake.specs.declared.params.ParamFault.TheVariants as params
+use Rattle.snow_chain.specs.Chain.{Rules}
+use Rattle.snow_chain.specs.Plain.{plain_rules}
+use Rattle.snow_chain.specs.Tally.{tally_rules}
 use Rattle.snow_lines.specs.declared.line.Line.{Line}
+use Rattle.snow_engine.specs.declared.task.Task.TheVariants as task
+use Rattle.snow_engine.specs.declared.end.BadKind.{BadKind}
+use Rattle.snow_engine.specs.declared.end.BadKind.TheVariants as kind
+use Rattle.snow_engine.specs.declared.end.End.{End}
+use Rattle.snow_engine.specs.declared.end.End.TheVariants as end
+use Rattle.snow_engine.specs.Run.{lines_of, seen, end_of}
+use Rattle.snow_engine.specs.Serving.{Broke}
+use Rattle.snow_cli.specs.declared.command.ChainName.{ChainName}
+use Rattle.snow_cli.specs.declared.command.ChainName.TheVariants as chain
+use Rattle.snow_cli.specs.declared.command.RuleName.{RuleName}
+use Rattle.snow_cli.specs.declared.command.RuleName.TheVariants as rule
+use Rattle.snow_cli.specs.declared.command.Command.{Command}
+use Rattle.snow_cli.specs.declared.command.Command.TheVariants as command
 use Rattle.snow_cli.specs.declared.status.Status.{Status}
 use Rattle.snow_cli.specs.declared.status.Status.TheVariants as status
-use Rattle.snow_plain.specs.Board.{Board}
-use Rattle.snow_wire.specs.declared.event.Event.{Event}
-use Rattle.snow_cli.specs.Output.{simple, lines_of}
 
--- the one word `decide`
-abbrev pub is_decide : List (List ℕ) → Bool
-is_decide [] = false
-is_decide (word ∷ []) = bytes_eq word (codes "decide")
-is_decide (word ∷ another ∷ words) = false
+-- ---- the model
 
--- the answer and the lines for a simple stream, or for another one
-abbrev pub answered : Answer → Option (Board × List Event) → Status × List Line
-answered answer None = (status.Unsupported, [])
-answered answer (Some stream) = (status.Done, lines_of answer stream)
+-- the chain that a name chooses
+abbrev pub rules_of : ChainName → Rules
+rules_of chain.Plain = plain_rules
+rules_of chain.Tally = tally_rules
 
--- the answer and the lines that the model gives for a whole input of at most 1,048,576 bytes
-unfoldable pub model_in : Answer → List ℕ → Status × List Line
-model_in answer bytes = if length bytes == 0 then (status.BadInput, []) else answered answer (simple bytes)
+-- the rule that a name chooses
+abbrev pub answer_of : RuleName → Answer
+answer_of rule.Snowball = by_preference
+answer_of rule.Snowflake = by_flake
 
--- the answer and the lines that the model gives for words and a whole input
-unfoldable pub model : Answer → List (List ℕ) → List ℕ → Status × List Line
-model answer words bytes =
-    if is_decide words then (if nat_lt 1048576 (length bytes) then (status.Unsupported, []) else model_in answer bytes)
-    else (status.Unsupported, [])
+-- the lines for a command and a stream, of which the first 2^40 bytes count; none without a command
+abbrev pub lines_for : Option Command → List ℕ → List Line
+lines_for None bytes = []
+lines_for (Some (command.Decide c r)) bytes = lines_of (rules_of c) (answer_of r) task.Decide (seen bytes)
+
+-- how the run of a command over a stream ends; without a command nothing is run
+abbrev pub end_for : Option Command → List ℕ → Option End
+end_for None bytes = None
+end_for (Some (command.Decide c r)) bytes = Some (end_of (rules_of c) (answer_of r) task.Decide bytes)
+
+-- the status for how a run ended, or that nothing was run
+abbrev pub status_of : Option End → Status
+status_of None = status.Usage
+status_of (Some end.Done) = status.Done
+status_of (Some (end.BadInput frame bad)) = status.BadInput
+status_of (Some end.SourceFault) = status.SourceFault
+status_of (Some end.SinkFault) = status.SinkFault
+status_of (Some end.Memory) = status.Memory
+status_of (Some end.InputLimit) = status.Limit
+
+-- ---- the line on standard error
+
+-- the word for refused parameters
+abbrev pub fault_word : ParamFault → List ℕ
+fault_word params.AlphaLow = codes "alpha-low"
+fault_word params.AlphaOrder = codes "alpha-order"
+fault_word params.AlphaHigh = codes "alpha-high"
+fault_word params.BetaZero = codes "beta-zero"
+fault_word params.RepollsZero = codes "repolls-zero"
+fault_word params.RepollsHigh = codes "repolls-high"
+fault_word params.KLarge = codes "k-large"
+fault_word params.BetaLarge = codes "beta-large"
+
+-- the word for what is wrong with an input
+abbrev pub kind_word : BadKind → List ℕ
+kind_word kind.Length = codes "length"
+kind_word kind.Cut = codes "cut"
+kind_word kind.NoStart = codes "no-start"
+kind_word kind.NotStart = codes "not-start"
+kind_word (kind.Params fault) = fault_word fault
+kind_word kind.State = codes "state"
+kind_word kind.SecondStart = codes "second-start"
+
+-- the line for a bad input
+abbrev pub bad_line : ℕ → BadKind → List ℕ
+bad_line frame bad = codes "snowman: bad input at frame " ++ decimal frame ++ codes ": " ++ kind_word bad ++ codes "\n"
+
+-- the line for how a run ended, or that nothing was run; nothing where all is done
+abbrev pub error_line : Option End → List ℕ
+error_line None = codes "snowman: usage\n"
+error_line (Some end.Done) = []
+error_line (Some (end.BadInput frame bad)) = bad_line frame bad
+error_line (Some end.SourceFault) = codes "snowman: source fault\n"
+error_line (Some end.SinkFault) = codes "snowman: sink fault\n"
+error_line (Some end.Memory) = codes "snowman: out of memory\n"
+error_line (Some end.InputLimit) = codes "snowman: input limit\n"
+
+-- ---- the answer
+
+-- the end of a run that a status tells of, where a fault or want of memory ended it, and else the model's
+abbrev pub told_by : Status → Option End → Option End
+told_by status.SourceFault expected = Some end.SourceFault
+told_by status.SinkFault expected = Some end.SinkFault
+told_by status.Memory expected = Some end.Memory
+told_by given expected = expected
 
 -- the status is the model's, unless a source fault, a sink fault or want of memory ended the run
-abbrev pub IsAnswer : Status → Status → Type 0
-IsAnswer status.SourceFault expected = ⊤
-IsAnswer status.SinkFault expected = ⊤
-IsAnswer status.Memory expected = ⊤
-IsAnswer given expected = given ≡ expected
+abbrev pub IsAnswer : Status → Option End → Type 0
+IsAnswer given expected = given ≡ status_of (told_by given expected)
 
--- what was written: the whole text, nothing where no stream was taken, or else a front of the text
+-- what was written: the whole text, or a front of it where a fault or want of memory ended the run
 abbrev pub Wrote : Status → Option (List ℕ) → Option (List ℕ) → List ℕ → Type 0
-Wrote status.Done before after text = Appends before after text
+Wrote status.SourceFault before after text = AppendsFront before after text
 Wrote status.SinkFault before after text = AppendsFront before after text
 Wrote status.Memory before after text = AppendsFront before after text
-Wrote _ before after text = Keeps before after
+Wrote given before after text = Appends before after text
 
--- nothing was written where no stream was taken
-abbrev pub IsQuiet : Status → Option (List ℕ) → Option (List ℕ) → Type 0
-IsQuiet status.Unsupported before after = Keeps before after
-IsQuiet status.BadInput before after = Keeps before after
-IsQuiet status.SourceFault before after = Keeps before after
-IsQuiet _ before after = ⊤
+-- the source failed: exactly the lines of the whole frames that came were written, and these frames show no stop
+abbrev pub BrokeFor : Option Command → Option (List ℕ) → Option (List ℕ) → Option (List ℕ) → Option (List ℕ) → Type 0
+BrokeFor None left_before left_after out_before out_after = ⊥
+BrokeFor (Some (command.Decide c r)) left_before left_after out_before out_after =
+    Broke (rules_of c) (answer_of r) task.Decide left_before left_after out_before out_after
 
--- a source fault is told only where the source's count rose or stands at its last value, and a sink
--- fault only where the sink's did
+-- words that ask for nothing are answered before anything is read or written
+abbrev pub IsUsage : {S O : Type 0} → Status → S → S → O → O → Type 0
+IsUsage given source_before source_after out_before out_after =
+    ((given ≡ status.Usage) ⊎ (given ≡ status.Memory)) × (source_after ≡ source_before) × (out_after ≡ out_before)
+
+-- a source fault is told only where the source's count of faults rose or stands at its last value, and a sink fault only where the
+-- sink's did
 abbrev pub HasFault : Status → ℕ → ℕ → ℕ → ℕ → Type 0
 HasFault status.SourceFault source_before source_after sink_before sink_after = Rose source_before source_after
 HasFault status.SinkFault source_before source_after sink_before sink_after = Rose sink_before sink_after
-HasFault _ source_before source_after sink_before sink_after = ⊤
-
--- the line for standard error
-abbrev pub error_line : Status → List ℕ
-error_line status.Done = []
-error_line status.Unsupported = codes "snowman: unsupported\n"
-error_line status.BadInput = codes "snowman: bad input at frame 1: no-start\n"
-error_line status.SourceFault = codes "snowman: source fault\n"
-error_line status.SinkFault = codes "snowman: sink fault\n"
-error_line status.Memory = codes "snowman: out of memory\n"
+HasFault given source_before source_after sink_before sink_after = ⊤
 
 -- a line was taken whole, or a front of it where the count of faults rose or stands at its last value
 abbrev pub TookLine : Option (List ℕ) → Option (List ℕ) → ℕ → ℕ → List ℕ → Type 0
 TookLine before after faults_before faults_after line =
     Appends before after line ⊎ (AppendsFront before after line × Rose faults_before faults_after)
 
+-- a line of a run that ended with this status was taken
+pub record TookOne (given : Status) (before after : Option (List ℕ)) (faults_before faults_after : ℕ) : Type 0 where
+  pub ended : Option End
+  pub status_is : status_of ended ≡ given
+  pub line : TookLine before after faults_before faults_after (error_line ended)
+
 -- the exit status of the program
 abbrev pub exit_code : Status → ℕ
 exit_code status.Done = 0
-exit_code status.Unsupported = 1
+exit_code status.Usage = 2
 exit_code status.BadInput = 3
 exit_code status.SourceFault = 4
 exit_code status.SinkFault = 5
 exit_code status.Memory = 6
+exit_code status.Limit = 7

@@ -1,18 +1,18 @@
-/// What a chain's blocks say, as a word of the command line names it.
+/// The kind of blocks, as a word of the command line names it.
 #[derive(Clone, Copy, Debug, PartialEq, Eq)]
 pub enum ChainName {
-    /// Blocks that state their own validity.
+    /// `plain`: blocks that state their identifier and whether they are valid.
     Plain,
-    /// Blocks that move units between accounts.
+    /// `tally`: blocks known by their SHA-256, each with an amount that may not lift a sum above a cap.
     Tally,
 }
 
-/// How polls raise a choice to a decision, as a word of the command line names it.
+/// How a counter that isn't decided answers, as a word of the command line names it.
 #[derive(Clone, Copy, Debug, PartialEq, Eq)]
 pub enum RuleName {
-    /// The preference is the choice with the most successful polls.
+    /// `snowball`: its preference, which moves once the other bit was followed more often.
     Snowball,
-    /// The preference is the choice of the last successful poll.
+    /// `snowflake`: its flake, the bit that was followed last.
     Snowflake,
 }
 

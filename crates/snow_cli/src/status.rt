@@ -1,11 +1,16 @@
-/// How a run ended.
+ghost use Rattle.std.specs.Prelude.{◌≡◌};
+ghost use Rattle.snow_cli.specs.Answer.{exit_code, status_of};
+
+use snow_engine::End;
+
+/// How the program ended.
 #[derive(Clone, Copy, Debug, PartialEq, Eq)]
 pub enum Status {
     /// All lines were written, and the end of the input was read.
     Done,
-    /// The words, or the stream, are none that this program takes yet.
-    Unsupported,
-    /// The input is none that a run can begin with.
+    /// The words ask for nothing that this program does.
+    Usage,
+    /// The input is bad at some frame.
     BadInput,
     /// The source failed.
     SourceFault,
@@ -13,37 +18,38 @@ pub enum Status {
     SinkFault,
     /// Memory ran out.
     Memory,
+    /// More input came than is taken.
+    Limit,
 }
 
 impl Status {
-    ghost use Rattle.std.specs.Prelude.{◌≡◌};
-    ghost use Rattle.snow_cli.specs.Answer.{exit_code, error_line};
-
     /// The exit status of the program.
     pub fn code(self) -> u8
         ensures { result ≡ exit_code self }
     {
         match self {
             Status::Done => 0,
-            Status::Unsupported => 1,
+            Status::Usage => 2,
             Status::BadInput => 3,
             Status::SourceFault => 4,
             Status::SinkFault => 5,
             Status::Memory => 6,
+            Status::Limit => 7,
         }
     }
 
-    /// The line for standard error; nothing at `Done`.
-    pub(crate) fn error_line(self) -> &'static [u8]
-        ensures { result.now ≡ error_line self }
+    /// The status for how a run ended; `Usage` where nothing was run.
+    pub(crate) fn of(ended: Option<End>) -> Status
+        ensures { result ≡ status_of ended }
     {
-        match self {
-            Status::Done => b"",
-            Status::Unsupported => b"snowman: unsupported\n",
-            Status::BadInput => b"snowman: bad input at frame 1: no-start\n",
-            Status::SourceFault => b"snowman: source fault\n",
-            Status::SinkFault => b"snowman: sink fault\n",
-            Status::Memory => b"snowman: out of memory\n",
+        match ended {
+            None => Status::Usage,
+            Some(End::Done) => Status::Done,
+            Some(End::BadInput { .. }) => Status::BadInput,
+            Some(End::SourceFault) => Status::SourceFault,
+            Some(End::SinkFault) => Status::SinkFault,
+            Some(End::Memory) => Status::Memory,
+            Some(End::InputLimit) => Status::Limit,
         }
     }
 }

@@ -1,0 +1,99 @@
+ghost use Rattle.std.specs.Prelude.{◌≡◌, ◌≤◌, None, Some, map, IfSome, string_bytes};
+ghost use Rattle.std.specs.Io.KnownBytes.{IsAtEnd};
+ghost use Rattle.snow_lines.specs.Text.{texts};
+ghost use Rattle.snow_engine.specs.Run.{lines_of, seen, end_of};
+ghost use Rattle.snow_engine.specs.Serving as serving;
+ghost use Rattle.snow_cli.specs.Words.{command_of};
+ghost use Rattle.snow_cli.specs.Answer as model;
+
+use crate::command::{ChainName, Command, RuleName};
+use crate::report::report;
+use crate::status::Status;
+use crate::words::read_words;
+use snow_base::{Sink, Source};
+use snow_chain::{Chain, PlainChain, TallyChain};
+use snow_engine::{End, Task, serve};
+use snow_flake::{Snowball, Snowflake};
+use snow_plain::PlainBoard;
+use std::alloc::Global;
+
+/// The top call: all that the program does. The words, without the program's name, ask for a command;
+/// where they ask for none, nothing is read. The line on `err` tells how it ended, unless it is `Done`.
+pub fn top<S: Source, O: Sink, E: Sink>(
+    alloc: Global,
+    words: &Vec<String>,
+    source: &mut S,
+    out: &mut O,
+    err: &mut E,
+) -> Status
+    // Words that ask for nothing are answered before anything is read.
+    ensures usage { command_of (map string_bytes words.now.items) ≡ None → model.IsUsage result source.old source.new out.old out.new }
+    // No others are.
+    ensures only { result ≡ Status.Usage → command_of (map string_bytes words.now.items) ≡ None }
+    // The status is the model's, but for the three exceptions.
+    ensures status { IfSome (S.left source.old) (λ bytes. model.IsAnswer result (model.end_for (command_of (map string_bytes words.now.items)) bytes)) }
+    // The bytes written are the model's.
+    ensures output { IfSome (S.left source.old) (λ bytes. model.Wrote result (O.written out.old) (O.written out.new)
+        (texts (model.lines_for (command_of (map string_bytes words.now.items)) bytes))) }
+    // Where the source failed, exactly the lines of the whole frames that came were written.
+    ensures broken { result ≡ Status.SourceFault → model.BrokeFor (command_of (map string_bytes words.now.items))
+        (S.left source.old) (S.left source.new) (O.written out.old) (O.written out.new) }
+    ensures read { result ≡ Status.Done → IsAtEnd (S.left source.new) }
+    ensures fault { model.HasFault result (S.faults source.old) (S.faults source.new) (O.faults out.old) (O.faults out.new) }
+    // The line on standard error is the model's, or that of the exception.
+    ensures error_line { IfSome (S.left source.old) (λ bytes. model.TookLine (E.written err.old) (E.written err.new) (E.faults err.old) (E.faults err.new)
+        (model.error_line (model.told_by result (model.end_for (command_of (map string_bytes words.now.items)) bytes)))) }
+    // It is one of the status, whatever the source tells.
+    ensures one_line { model.TookOne result (E.written err.old) (E.written err.new) (E.faults err.old) (E.faults err.new) }
+{
+    let ended = match read_words(alloc, words) {
+        Ok(Some(command)) => Some(perform(alloc, command, source, out)),
+        Ok(None) => None,
+        Err(_) => Some(End::Memory),
+    };
+    report(ended, err);
+    Status::of(ended)
+}
+
+/// The run of a command.
+fn perform<S: Source, O: Sink>(
+    alloc: Global,
+    command: Command,
+    source: &mut S,
+    out: &mut O,
+) -> End
+    ensures end { IfSome (S.left source.old) (λ bytes. IfSome (model.end_for (Some command) bytes) (λ expected. serving.IsEnd result expected)) }
+    ensures output { IfSome (S.left source.old) (λ bytes.
+        serving.Wrote result (O.written out.old) (O.written out.new) (texts (model.lines_for (Some command) bytes))) }
+    ensures broken { result ≡ End.SourceFault
+        → model.BrokeFor (Some command) (S.left source.old) (S.left source.new) (O.written out.old) (O.written out.new) }
+    ensures read { result ≡ End.Done → IsAtEnd (S.left source.new) }
+    ensures fault { serving.HasFault result (S.faults source.old) (S.faults source.new) (O.faults out.old) (O.faults out.new) }
+{
+    let Command::Decide { chain, rule } = command;
+    match chain {
+        ChainName::Plain => decide::<PlainChain, S, O>(alloc, rule, source, out),
+        ChainName::Tally => decide::<TallyChain, S, O>(alloc, rule, source, out),
+    }
+}
+
+/// The run of `decide` over this chain.
+fn decide<C: Chain, S: Source, O: Sink>(
+    alloc: Global,
+    rule: RuleName,
+    source: &mut S,
+    out: &mut O,
+) -> End
+    ensures end { IfSome (S.left source.old) (λ bytes. serving.IsEnd result (end_of C.rules (model.answer_of rule) Task.Decide bytes)) }
+    ensures output { IfSome (S.left source.old) (λ bytes.
+        serving.Wrote result (O.written out.old) (O.written out.new) (texts (lines_of C.rules (model.answer_of rule) Task.Decide (seen bytes)))) }
+    ensures broken { result ≡ End.SourceFault
+        → serving.Broke C.rules (model.answer_of rule) Task.Decide (S.left source.old) (S.left source.new) (O.written out.old) (O.written out.new) }
+    ensures read { result ≡ End.Done → IsAtEnd (S.left source.new) }
+    ensures fault { serving.HasFault result (S.faults source.old) (S.faults source.new) (O.faults out.old) (O.faults out.new) }
+{
+    match rule {
+        RuleName::Snowball => serve::<C, PlainBoard<Snowball>, S, O>(alloc, Task::Decide, source, out),
+        RuleName::Snowflake => serve::<C, PlainBoard<Snowflake>, S, O>(alloc, Task::Decide, source, out),
+    }
+}
