@@ -1,8 +1,7 @@
 -- Worked examples: what runs write and how they end, computed on the definitions.
-use Rattle.std.proofs.Common.{◌≡◌, ℕ, ◌+◌, List, [], ◌∷◌, ◌++◌, replicate, take, Option, Some, None, refl, ap, ◌∙◌}
+use Rattle.std.proofs.Common.{◌≡◌, ℕ, List, [], ◌∷◌, ◌++◌, replicate, Option, Some, refl, ap}
 use Rattle.std.specs.FinMap.{empty}
 use Rattle.std.specs.Option.{option_and_then}
-use Rattle.snow_base.specs.declared.header.Header.{Header}
 use Rattle.snow_base.specs.Identifier.{bits}
 use Rattle.snow_base.specs.Votes.{added}
 use Rattle.snow_flake.specs.Rule.{by_preference}
@@ -14,7 +13,7 @@ use Rattle.snow_plain.specs.Preference.{path_from}
 use Rattle.snow_chain.specs.Chain.{Held, begun, next_on}
 use Rattle.snow_chain.specs.Plain.{header_of, plain_rules}
 use Rattle.snow_wire.specs.declared.event.Event.TheVariants as event
-use Rattle.snow_wire.specs.Reading.{bytes_at, number_at, limited_at, flag_at, sized_at, items_at, counted_at, start_at, single_at, message_at, fields_at, event_of}
+use Rattle.snow_wire.specs.Reading.{bytes_at, number_at, limited_at, flag_at, items_at, counted_at, start_at, fields_at, event_of}
 use Rattle.snow_wire.specs.Frame.{first_of, frames_in, frames_of}
 use Rattle.snow_lines.specs.declared.line.Line.{Line}
 use Rattle.snow_lines.specs.declared.line.Line.TheVariants as line
