@@ -114,9 +114,9 @@ ends_there rules answer task gone more is_full e (inr h) =
     let same : ran rules answer task (gone ++ more) ≡ ran rules answer task gone = ap (λ (f : List (List ℕ) × List ℕ). after_frames rules answer task Fresh 1 f.0) frames in (
       ap (λ (a : List Line × Stand). a.0) same,
       ap (λ (a : List Line × Stand). ended a.1 (length (frames_of (gone ++ more)).0) (frames_of (gone ++ more)).1 is_full) same
-      ∙ ap (λ (f : List (List ℕ) × List ℕ). ended (ran rules answer task gone).1 (length f.0) f.1 is_full) frames
-      ∙ too_long (ran rules answer task gone).1 now.intake.given (now.intake.rest ++ more) is_full h.0 long
-      ∙ sym h.2,
+          ∙ ap (λ (f : List (List ℕ) × List ℕ). ended (ran rules answer task gone).1 (length f.0) f.1 is_full) frames
+          ∙ too_long (ran rules answer task gone).1 now.intake.given (now.intake.rest ++ more) is_full h.0 long
+          ∙ sym h.2,
     )
   where
     first_test : (b : Bool) (x y : End) → b ≡ true → cond b x y ≡ x

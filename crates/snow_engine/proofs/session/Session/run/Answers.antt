@@ -64,7 +64,7 @@ loop-room-preserved g c =
     let lines = rw c.loop-room.invariant.task at c.in_default-take.ensures.lines in
     record {
       served = goes_on g.C.Chain.rules g.B.Board.answer c.args.self.now.runner.task (g.S.Source.left c.args.source.now) (g.S.Source.left c.loop-room.source) (g.O.Sink.written c.args.out.now) (g.O.Sink.written c.loop-room.out)
-    c.loop-room.self.runner.engine c.loop-room.self.decoder c.loop-room.room c.loop-room.invariant.served
+          c.loop-room.self.runner.engine c.loop-room.self.decoder c.loop-room.room c.loop-room.invariant.served
           (take c.in-Ok.taken c.read_some.new.piece) (g.S.Source.left c.read_some.new.source) (g.O.Sink.written c.take.new.out) c.take.new.self.runner.engine c.take.new.self.decoder (c.loop-room.room - c.in-Ok.taken)
           c.in-Ok.ensures.some (less_room c.in-Ok.taken c.loop-room.room c.read_some.new.piece c.in-Ok.ensures.few.0 c.in-Ok.ensures.few.1)
           goes.0 goes.1 lines c.in_default-take.ensures.fine;
