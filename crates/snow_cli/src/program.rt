@@ -59,12 +59,7 @@ pub fn top<S: Source, O: Sink, E: Sink>(
 }
 
 /// The run of a command.
-fn perform<S: Source, O: Sink>(
-    alloc: Global,
-    command: Command,
-    source: &mut S,
-    out: &mut O,
-) -> End
+fn perform<S: Source, O: Sink>(alloc: Global, command: Command, source: &mut S, out: &mut O) -> End
     ensures end { IfSome (S.left source.old) (λ bytes. IfSome (model.end_for (Some command) bytes) (λ expected. serving.IsEnd result expected)) }
     ensures output { IfSome (S.left source.old) (λ bytes.
         serving.Wrote result (O.written out.old) (O.written out.new) (texts (model.lines_for (Some command) bytes))) }
@@ -96,7 +91,17 @@ fn decide<C: Chain, S: Source, O: Sink>(
     ensures fault { serving.HasFault result (S.faults source.old) (S.faults source.new) (O.faults out.old) (O.faults out.new) }
 {
     match rule {
-        RuleName::Snowball => serve::<C, PlainBoard<Snowball>, S, O>(alloc, Task::Decide, source, out),
-        RuleName::Snowflake => serve::<C, PlainBoard<Snowflake>, S, O>(alloc, Task::Decide, source, out),
+        RuleName::Snowball => serve::<C, PlainBoard<Snowball>, S, O>(
+            alloc,
+            Task::Decide,
+            source,
+            out,
+        ),
+        RuleName::Snowflake => serve::<C, PlainBoard<Snowflake>, S, O>(
+            alloc,
+            Task::Decide,
+            source,
+            out,
+        ),
     }
 }
