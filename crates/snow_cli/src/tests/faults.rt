@@ -69,6 +69,7 @@ fn failing_writes(rt: HostRuntime) -> Result<(), Fail> {
 
 /// Words, the read and the write that fail, and the status and the lines where standard error fails too.
 const FAILING_REPORTS: &[(&[&str], u64, u64, Status, &str)] = &[
+    (DECIDE, 0, 0, Status::Done, ONE_LINES),
     (&[], 0, 0, Status::Usage, ""),
     (&["decide", "--chain", "tally"], 0, 0, Status::BadInput, ""),
     (DECIDE, 1, 0, Status::SourceFault, ""),
