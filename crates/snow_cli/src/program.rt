@@ -17,8 +17,11 @@ use snow_flake::{Snowball, Snowflake};
 use snow_plain::PlainBoard;
 use std::alloc::Global;
 
-/// The top call: all that the program does. The words, without the program's name, ask for a command;
-/// where they ask for none, nothing is read. The line on `err` tells how it ended, unless it is `Done`.
+/// The top call: all that the program does. The words, without the program's name, ask for a command,
+/// and its lines for the stream of `source` go to `out`. `Usage` where the words ask for none: then
+/// nothing is read. `BadInput` at the first frame that stops the run, with all lines before it written,
+/// and `Limit` where 2^40 bytes hold no stop. `SourceFault`, `SinkFault` and `Memory` end a run behind a
+/// front of its lines. The line on `err` tells how it ended, unless it is `Done`.
 pub fn top<S: Source, O: Sink, E: Sink>(
     alloc: Global,
     words: &Vec<String>,

@@ -1,5 +1,5 @@
 -- How a run ends, on all bytes of its source.
-use Rattle.std.proofs.Common.{◌≡◌, ℕ, ◌+◌, ◌-◌, ◌^◌, ◌<◌, ◌≤◌, ◌==◌, ◌||◌, true, false, Bool, cond, nat_le, List, [], ◌++◌, take, length, append-nil, Option, Some, None, Result, Ok, Err, refl, sym, ap, ◌∙◌, subst, arith, IfSome}
+use Rattle.std.proofs.Common.{◌≡◌, ℕ, ◌+◌, ◌-◌, ◌^◌, ◌<◌, ◌≤◌, ◌==◌, ◌||◌, true, false, Bool, cond, nat_le, List, [], ◌++◌, take, length, append-nil, Option, Some, None, Err, refl, sym, ap, ◌∙◌, subst, arith, IfSome}
 use Rattle.std.proofs.lemmas.List.{length-append}
 use Rattle.std.proofs.Math.Seq.{take-append_seam}
 use Rattle.std.proofs.lemmas.Bool.Decides.{nat_tests}
@@ -17,7 +17,7 @@ use Rattle.snow_engine.specs.declared.end.BadKind.TheVariants as kind
 use Rattle.snow_engine.specs.declared.end.End.{End}
 use Rattle.snow_engine.specs.declared.end.End.TheVariants as end
 use Rattle.snow_engine.specs.Node.{Node}
-use Rattle.snow_engine.specs.Run.{Stand, ran, lines_of, seen, end_behind, ended, end_of, is_stopped, shows_stop}
+use Rattle.snow_engine.specs.Run.{Stand, ran, lines_of, seen, end_behind, ended, end_of, is_stopped}
 use Rattle.snow_engine.specs.Serving.{stand_of, Goes, Halts, Worked, WritesLines, all_worked, IsEnd, Wrote, Broke}
 use Rattle.snow_engine.proofs.Worked.{never_stopped, texts_parts}
 use Rattle.snow_engine.proofs.Position.{after_bytes, behind, more_bytes, ends_there, ends_calm, seen_front, seen_all}
@@ -71,10 +71,10 @@ module _ (rules : Rules) (answer : Answer) (task : Task) where
       let all : nat_le (2 ^ 40) (length (gone ++ rest)) ≡ true = reaches (length gone) (length rest) (length (gone ++ rest)) full (length-append gone rest) in (
         looks.0,
         looks.1
-        ∙ ap (λ (s : Stand). ended s (length (frames_of gone).0) (frames_of gone).1 (nat_le (2 ^ 40) (length (gone ++ rest)))) stand
-        ∙ ap (λ (i : Intake). ended (stand_of o) i.given i.rest (nat_le (2 ^ 40) (length (gone ++ rest)))) intake_is
-        ∙ ap (ended (stand_of o) intake.given intake.rest) all
-        ∙ ends_calm o intake.given intake.rest true calm,
+            ∙ ap (λ (s : Stand). ended s (length (frames_of gone).0) (frames_of gone).1 (nat_le (2 ^ 40) (length (gone ++ rest)))) stand
+            ∙ ap (λ (i : Intake). ended (stand_of o) i.given i.rest (nat_le (2 ^ 40) (length (gone ++ rest)))) intake_is
+            ∙ ap (ended (stand_of o) intake.given intake.rest) all
+            ∙ ends_calm o intake.given intake.rest true calm,
       )
     where
       reaches : (n m k : ℕ) → n ≡ 2 ^ 40 → k ≡ n + m → nat_le (2 ^ 40) k ≡ true
@@ -90,10 +90,10 @@ module _ (rules : Rules) (answer : Answer) (task : Task) where
       let more : nat_le (2 ^ 40) (length gone) ≡ false = misses (length gone) few in (
         looks.0,
         looks.1
-        ∙ ap (λ (s : Stand). ended s (length (frames_of gone).0) (frames_of gone).1 (nat_le (2 ^ 40) (length gone))) stand
-        ∙ ap (λ (i : Intake). ended (stand_of o) i.given i.rest (nat_le (2 ^ 40) (length gone))) intake_is
-        ∙ ap (ended (stand_of o) intake.given intake.rest) more
-        ∙ ends_calm o intake.given intake.rest false calm,
+            ∙ ap (λ (s : Stand). ended s (length (frames_of gone).0) (frames_of gone).1 (nat_le (2 ^ 40) (length gone))) stand
+            ∙ ap (λ (i : Intake). ended (stand_of o) i.given i.rest (nat_le (2 ^ 40) (length gone))) intake_is
+            ∙ ap (ended (stand_of o) intake.given intake.rest) more
+            ∙ ends_calm o intake.given intake.rest false calm,
       )
     where
       below : (n : ℕ) → n < 2 ^ 40 → n ≤ 2 ^ 40
@@ -158,7 +158,7 @@ module _ (rules : Rules) (answer : Answer) (task : Task) where
       let at = λ (rest : List ℕ). limit_at served.gone rest engine intake (full (length served.gone) served.count none) served.stand served.intake_is served.calm in (
         of_all (λ bytes. IsEnd end.InputLimit (end_of rules answer task bytes)) left_before left_now served.gone served.consumed (λ rest. sym (at rest).1),
         of_all (λ bytes. Appends out_before out_now (texts (lines_of rules answer task (seen bytes)))) left_before left_now served.gone served.consumed
-        (λ rest. subst (λ (ls : List Line). Appends out_before out_now (texts ls)) (sym (at rest).0) served.written),
+            (λ rest. subst (λ (ls : List Line). Appends out_before out_now (texts ls)) (sym (at rest).0) served.written),
       )
     where
       full : (n : ℕ) → n + room ≡ 2 ^ 40 → room ≡ 0 → n ≡ 2 ^ 40
@@ -187,10 +187,10 @@ module _ (rules : Rules) (answer : Answer) (task : Task) where
       let at = done_at served.gone engine intake (few (length served.gone) served.count) served.stand served.intake_is served.calm in
       let consumed = consumes_then left_before left_now left_next served.gone [] served.gone served.consumed took (append-nil served.gone) in (
         of_whole (λ bytes. IsEnd e (end_of rules answer task bytes)) left_before left_next served.gone consumed at_end
-        (at_end_is e (end_of rules answer task served.gone) b engine (intake.given + 1) is (is ∙ sym at.1)),
+            (at_end_is e (end_of rules answer task served.gone) b engine (intake.given + 1) is (is ∙ sym at.1)),
         of_whole (λ bytes. Wrote e out_before out_now (texts (lines_of rules answer task (seen bytes)))) left_before left_next served.gone consumed at_end
-        (at_end_writes e b engine (intake.given + 1) out_before out_now (texts (lines_of rules answer task (seen served.gone))) is
-        (subst (λ (ls : List Line). Appends out_before out_now (texts ls)) (sym at.0) served.written)),
+            (at_end_writes e b engine (intake.given + 1) out_before out_now (texts (lines_of rules answer task (seen served.gone))) is
+            (subst (λ (ls : List Line). Appends out_before out_now (texts ls)) (sym at.0) served.written)),
       )
     where
       few : (n : ℕ) → n + room ≡ 2 ^ 40 → n < 2 ^ 40

@@ -1,8 +1,8 @@
 -- The lines of a piece, once what waited was written.
-use Rattle.std.proofs.Common.{◌≡◌, ℕ, List, [], ◌++◌, append-nil, Option, Result, Ok, Err, refl, sym, ap, ◌∙◌, subst}
+use Rattle.std.proofs.Common.{◌≡◌, ℕ, List, [], append-nil, Option, Result, Ok, Err, refl, sym, subst}
 use Rattle.std.specs.Io.KnownBytes.{Appends}
 use Rattle.snow_base.specs.Outside.{AppendsFront}
-use Rattle.snow_base.proofs.Known.{appends_then_front, front_of_more, front_of_whole}
+use Rattle.snow_base.proofs.Known.{front_of_more, front_of_whole}
 use Rattle.snow_lines.specs.declared.line.Line.{Line}
 use Rattle.snow_lines.specs.Gathered.{Gathers}
 use Rattle.snow_lines.specs.Text.{texts}

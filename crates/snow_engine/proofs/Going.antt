@@ -1,12 +1,11 @@
 -- The frames of a decoder worked one after another.
-use Rattle.std.proofs.Common.{◌≡◌, ℕ, zero, suc, ◌+◌, ◌-◌, ◌*◌, ◌^◌, ◌<◌, ◌≤◌, true, false, Bool, List, [], ◌∷◌, ◌++◌, length, append_assoc, append-nil, add-one, Option, Some, None, is_some, Result, Ok, Err, refl, sym, ap, ◌∙◌, subst, inl, inr, arith}
+use Rattle.std.proofs.Common.{◌≡◌, ℕ, suc, ◌+◌, ◌-◌, ◌*◌, ◌^◌, ◌<◌, ◌≤◌, true, false, Bool, List, [], ◌∷◌, ◌++◌, length, append_assoc, append-nil, Option, Some, None, is_some, Err, refl, sym, ap, ◌∙◌, subst, inl, inr, arith}
 use Rattle.std.proofs.lemmas.List.{length-drop}
-use Rattle.std.specs.Io.KnownBytes.{Appends}
 use Rattle.snow_base.specs.Outside.{AppendsFront}
 use Rattle.snow_base.proofs.Known.{front_of_more}
 use Rattle.snow_flake.specs.Rule.{Answer}
 use Rattle.snow_chain.specs.Chain.{Rules}
-use Rattle.snow_wire.specs.Frame.{first_of, frames_of, is_too_long}
+use Rattle.snow_wire.specs.Frame.{first_of, frames_of}
 use Rattle.snow_wire.specs.Stream.{Intake}
 use Rattle.snow_wire.proofs.Streams.{frames_front, frames_end, long_first, off_front, behind_shorter}
 use Rattle.snow_lines.specs.declared.line.Line.{Line}
@@ -17,7 +16,7 @@ use Rattle.snow_engine.specs.declared.task.Task.{Task}
 use Rattle.snow_engine.specs.declared.end.End.{End}
 use Rattle.snow_engine.specs.declared.end.End.TheVariants as end
 use Rattle.snow_engine.specs.Node.{Node}
-use Rattle.snow_engine.specs.Run.{Stand, Stopped, after_frame, after_frames, lines_then, is_stopped}
+use Rattle.snow_engine.specs.Run.{Stand, Stopped, after_frame, after_frames, lines_then}
 use Rattle.snow_engine.specs.Serving.{Goes, GathersLines, GathersFront, Halts, Worked, front_worked, one_worked, all_worked}
 use Rattle.snow_engine.proofs.Worked.{texts_parts, none_worked}
 

@@ -1,5 +1,5 @@
 -- Parameters that pass the check are good.
-use Rattle.std.proofs.Common.{◌≡◌, ℕ, ◌*◌, Bool, true, false, cond, nat_le, nat_lt, ◌==◌, Option, Some, None, Result, Ok, Err, refl, sym, subst, arith}
+use Rattle.std.proofs.Common.{◌≡◌, ◌*◌, Bool, true, false, cond, nat_le, nat_lt, ◌==◌, Option, Some, None, Ok, refl, subst, arith}
 use Rattle.std.proofs.lemmas.Bool.Decides.{nat_tests}
 use Rattle.snow_flake.specs.Parameters.{Parameters, AreGood, checked, first_fault, or_fault}
 use Rattle.snow_flake.specs.declared.params.ParamFault.{ParamFault}

@@ -12,3 +12,4 @@ pub mod Flushed
 pub mod Position
 pub mod Served
 pub mod Ended
+pub mod Examples

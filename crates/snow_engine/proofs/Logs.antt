@@ -1,8 +1,7 @@
 -- Lemmas on lines that are appended, wholly or in front.
-use Rattle.std.proofs.Common.{◌≡◌, ℕ, ◌<◌, List, [], ◌++◌, map, take, drop, refl, sym, ap, ◌∙◌, append_assoc, append-nil, take-append-drop}
+use Rattle.std.proofs.Common.{◌≡◌, ℕ, List, [], ◌++◌, map, take, drop, refl, sym, ap, ◌∙◌, append_assoc, append-nil, take-append-drop}
 use Rattle.std.proofs.lemmas.List.{map-append}
 use Rattle.snow_lines.specs.declared.line.Line.{Line}
-use Rattle.snow_plain.specs.declared.decision.Decision.{Decision}
 use Rattle.snow_engine.specs.Stepping.{LogsFront}
 
 -- nothing was appended

@@ -1,24 +1,20 @@
 -- Where a run stands behind the bytes that it has taken.
-use Rattle.std.proofs.Common.{◌≡◌, ℕ, zero, suc, ◌+◌, ◌-◌, ◌^◌, ◌<◌, ◌≤◌, ◌==◌, ◌||◌, true, false, Bool, cond, nat_le, List, [], ◌∷◌, ◌++◌, take, drop, length, append_assoc, append-nil, Option, Some, None, refl, sym, ap, ◌∙◌, subst, inl, inr, arith, IfSome}
+use Rattle.std.proofs.Common.{◌≡◌, ℕ, suc, ◌+◌, ◌-◌, ◌^◌, ◌≤◌, ◌==◌, true, false, Bool, cond, List, [], ◌∷◌, ◌++◌, take, length, append_assoc, append-nil, Option, Some, None, refl, sym, ap, ◌∙◌, inl, inr, arith}
 use Rattle.std.proofs.lemmas.List.{length-append, take_all}
 use Rattle.std.proofs.Math.Seq.{take-append-add}
-use Rattle.std.proofs.lemmas.Bool.Decides.{nat_tests}
-use Rattle.std.specs.Io.KnownBytes.{Appends, Consumes, IsAtEnd}
-use Rattle.snow_base.specs.Outside.{AppendsFront}
 use Rattle.snow_flake.specs.Rule.{Answer}
 use Rattle.snow_chain.specs.Chain.{Rules}
-use Rattle.snow_wire.specs.Frame.{first_of, frames_of, is_too_long}
-use Rattle.snow_wire.specs.Stream.{Intake, fed}
+use Rattle.snow_wire.specs.Frame.{frames_of, is_too_long}
+use Rattle.snow_wire.specs.Stream.{fed}
 use Rattle.snow_wire.proofs.Streams.{frames_end, long_first}
 use Rattle.snow_wire.proofs.Pieces.{ahead, pieces, long_more}
 use Rattle.snow_lines.specs.declared.line.Line.{Line}
-use Rattle.snow_lines.specs.Text.{texts}
 use Rattle.snow_engine.specs.declared.task.Task.{Task}
 use Rattle.snow_engine.specs.declared.end.BadKind.TheVariants as kind
 use Rattle.snow_engine.specs.declared.end.End.{End}
 use Rattle.snow_engine.specs.declared.end.End.TheVariants as end
 use Rattle.snow_engine.specs.Node.{Node}
-use Rattle.snow_engine.specs.Run.{Stand, Fresh, Going, Stopped, after_frame, after_frames, lines_then, ran, lines_of, seen, end_behind, end_after, ended, end_of, is_stopped, shows_stop}
+use Rattle.snow_engine.specs.Run.{Stand, Fresh, Going, Stopped, after_frame, after_frames, lines_then, ran, lines_of, seen, end_behind, ended, is_stopped}
 use Rattle.snow_engine.specs.Serving.{stand_of, Halts, Worked, all_worked}
 use Rattle.snow_engine.proofs.Going.{stopped_stays}
 
@@ -114,9 +110,9 @@ ends_there rules answer task gone more is_full e (inr h) =
     let same : ran rules answer task (gone ++ more) ≡ ran rules answer task gone = ap (λ (f : List (List ℕ) × List ℕ). after_frames rules answer task Fresh 1 f.0) frames in (
       ap (λ (a : List Line × Stand). a.0) same,
       ap (λ (a : List Line × Stand). ended a.1 (length (frames_of (gone ++ more)).0) (frames_of (gone ++ more)).1 is_full) same
-      ∙ ap (λ (f : List (List ℕ) × List ℕ). ended (ran rules answer task gone).1 (length f.0) f.1 is_full) frames
-      ∙ too_long (ran rules answer task gone).1 now.intake.given (now.intake.rest ++ more) is_full h.0 long
-      ∙ sym h.2,
+          ∙ ap (λ (f : List (List ℕ) × List ℕ). ended (ran rules answer task gone).1 (length f.0) f.1 is_full) frames
+          ∙ too_long (ran rules answer task gone).1 now.intake.given (now.intake.rest ++ more) is_full h.0 long
+          ∙ sym h.2,
     )
   where
     first_test : (b : Bool) (x y : End) → b ≡ true → cond b x y ≡ x

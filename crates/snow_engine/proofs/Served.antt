@@ -1,10 +1,8 @@
 -- A run while its pieces come, and its end.
-use Rattle.std.proofs.Common.{◌≡◌, ℕ, zero, suc, ◌*◌, ◌+◌, ◌-◌, ◌^◌, ◌<◌, ◌≤◌, ◌==◌, ◌||◌, true, false, Bool, cond, nat_le, List, [], ◌∷◌, ◌++◌, take, length, append_assoc, append-nil, Option, Some, None, Result, Ok, Err, refl, sym, ap, ◌∙◌, subst, inl, inr, arith, IfSome}
+use Rattle.std.proofs.Common.{◌≡◌, ℕ, zero, suc, ◌*◌, ◌+◌, ◌-◌, ◌^◌, ◌<◌, ◌≤◌, false, List, [], ◌++◌, take, length, Option, Some, None, refl, sym, ap, ◌∙◌, subst, arith}
 use Rattle.std.proofs.lemmas.List.{length-append, length-drop, length-take}
-use Rattle.std.proofs.lemmas.Bool.Decides.{nat_tests}
-use Rattle.std.specs.Io.KnownBytes.{Appends, Consumes, Keeps, IsAtEnd}
-use Rattle.snow_base.specs.Outside.{AppendsFront}
-use Rattle.snow_base.proofs.Known.{appends_none, appends_then, appends_then_front, front_of_more, front_of_whole, consumes_none, consumes_then}
+use Rattle.std.specs.Io.KnownBytes.{Appends, Consumes}
+use Rattle.snow_base.proofs.Known.{appends_none, appends_then, consumes_none, consumes_then}
 use Rattle.snow_flake.specs.Rule.{Answer}
 use Rattle.snow_chain.specs.Chain.{Rules}
 use Rattle.snow_wire.specs.Frame.{first_of, led_by, frames_in, frames_of, is_too_long}
@@ -13,14 +11,11 @@ use Rattle.snow_wire.proofs.Streams.{frames_end, off_front}
 use Rattle.snow_lines.specs.declared.line.Line.{Line}
 use Rattle.snow_lines.specs.Text.{texts}
 use Rattle.snow_engine.specs.declared.task.Task.{Task}
-use Rattle.snow_engine.specs.declared.end.BadKind.TheVariants as kind
-use Rattle.snow_engine.specs.declared.end.End.{End}
-use Rattle.snow_engine.specs.declared.end.End.TheVariants as end
 use Rattle.snow_engine.specs.Node.{Node}
-use Rattle.snow_engine.specs.Run.{Stand, Fresh, Going, Stopped, after_frames, ran, lines_of, seen, end_behind, ended, end_of, is_stopped, shows_stop}
-use Rattle.snow_engine.specs.Serving.{stand_of, Goes, Halts, Worked, WritesLines, all_worked, IsEnd, Wrote, Broke}
-use Rattle.snow_engine.proofs.Worked.{never_stopped, texts_parts}
-use Rattle.snow_engine.proofs.Position.{after_bytes, behind, more_bytes, ends_there, ends_calm, seen_front, seen_all}
+use Rattle.snow_engine.specs.Run.{Stand, Fresh, after_frames, ran, lines_of}
+use Rattle.snow_engine.specs.Serving.{stand_of, Worked, all_worked}
+use Rattle.snow_engine.proofs.Worked.{texts_parts}
+use Rattle.snow_engine.proofs.Position.{after_bytes, behind, more_bytes}
 
 -- each frame takes at least four bytes
 small_led : (n : ℕ) (bytes : List ℕ) (o : Option (List ℕ × List ℕ)) → first_of bytes ≡ o

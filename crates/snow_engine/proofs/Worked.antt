@@ -1,18 +1,16 @@
 -- One frame was worked: its lines, and where the run stands.
-use Rattle.std.proofs.Common.{◌≡◌, ℕ, ◌+◌, true, false, List, [], ◌++◌, append_assoc, append-nil, Option, Some, None, Result, Ok, Err, refl, sym, ap, ◌∙◌, subst, inl, inr}
+use Rattle.std.proofs.Common.{◌≡◌, ℕ, ◌+◌, true, false, List, [], ◌++◌, append_assoc, append-nil, Option, Some, None, Result, Ok, Err, refl, sym, ap, ◌∙◌, subst, inr}
 use Rattle.std.proofs.lemmas.List.Concat.{flat_map-append}
-use Rattle.snow_base.specs.Outside.{AppendsFront, Rose}
+use Rattle.snow_base.specs.Outside.{AppendsFront}
 use Rattle.snow_base.proofs.Known.{front_of_more}
 use Rattle.snow_flake.specs.Rule.{Answer}
 use Rattle.snow_chain.specs.Chain.{Rules}
-use Rattle.snow_wire.specs.Frame.{first_of, is_too_long, length_word}
+use Rattle.snow_wire.specs.Frame.{first_of, is_too_long}
 use Rattle.snow_wire.specs.Stream.{Intake}
-use Rattle.snow_wire.specs.declared.frame.TooLong.{TooLong}
 use Rattle.snow_wire.proofs.Streams.{long_first}
 use Rattle.snow_lines.specs.declared.line.Line.{Line}
 use Rattle.snow_lines.specs.Gathered.{Gathers}
 use Rattle.snow_lines.specs.Text.{text, texts}
-use Rattle.snow_lines.proofs.Waiting.{gathers_none}
 use Rattle.snow_engine.specs.declared.task.Task.{Task}
 use Rattle.snow_engine.specs.declared.end.BadKind.TheVariants as kind
 use Rattle.snow_engine.specs.declared.end.End.{End}

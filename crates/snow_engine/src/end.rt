@@ -25,10 +25,7 @@ pub enum End {
     /// All lines were written, and the end of the input was read.
     Done,
     /// The input is bad at this frame, counted from 1.
-    BadInput {
-        frame: u64,
-        kind: BadKind,
-    },
+    BadInput { frame: u64, kind: BadKind },
     /// The source failed.
     SourceFault,
     /// The sink failed.

@@ -95,19 +95,25 @@ impl<C: Chain, B: Board> Engine<C, B> {
                 receive(&mut self.board, &mut self.chain, frame, bytes.list(), log)?;
                 Ok(())
             }
-            Event::Poll { ids } => { record(
-                self.alloc,
-                &self.params,
-                &mut self.board,
-                &mut self.chain,
-                frame,
-                ids,
-                log,
-            )?; Ok(()) }
-            _ => { log.push(Line::Skip {
-                frame,
-                kind: SkipKind::Task,
-            })?; Ok(()) }
+            Event::Poll { ids } => {
+                record(
+                    self.alloc,
+                    &self.params,
+                    &mut self.board,
+                    &mut self.chain,
+                    frame,
+                    ids,
+                    log,
+                )?;
+                Ok(())
+            }
+            _ => {
+                log.push(Line::Skip {
+                    frame,
+                    kind: SkipKind::Task,
+                })?;
+                Ok(())
+            }
         }
     }
 }

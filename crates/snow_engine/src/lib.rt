@@ -18,3 +18,6 @@ pub use engine::Engine;
 pub use serving::serve;
 pub use stop::EngineStop;
 pub use task::Task;
+
+#[cfg(test)]
+mod tests;

@@ -1,5 +1,5 @@
 -- A valid block is taken, or taken back where the board has no room for it.
-use Rattle.std.proofs.Common.{◌≡◌, rules}
+use Rattle.std.proofs.Common.{rules}
 use Rattle.snow_chain.specs.Chain.{next_on}
 use Rattle.snow_engine.proofs.Offers.{taken, taken_back}
 use Rattle.snow_engine.proofs.offering.issue.Goals as goal

@@ -1,5 +1,5 @@
 -- A board with nothing pending belongs to a chain that holds one state.
-use Rattle.std.proofs.Common.{◌≡◌, ap}
+use Rattle.std.proofs.Common.{ap}
 use Rattle.snow_plain.specs.Board.{Board, begin}
 use Rattle.snow_chain.specs.Chain.{begun}
 use Rattle.snow_engine.proofs.Following.{begun_steady}

@@ -1,7 +1,5 @@
 -- The first piece, one piece more, and each end of a run.
-use Rattle.std.proofs.Common.{◌≡◌, ◌≤◌, ◌-◌, ℕ, ap, sym, ◌∙◌, le_trans, take, length, Ok, rules}
-use Rattle.std.proofs.lemmas.List.{length-take}
-use Rattle.std.specs.Io.KnownBytes.{Consumes}
+use Rattle.std.proofs.Common.{◌-◌, ap, ◌∙◌, take, length, Ok, rules}
 use Rattle.snow_engine.proofs.Served.{begins_as, has_room, counts, goes_on, taken_few, less_room, nothing_taken}
 use Rattle.snow_engine.proofs.Ended.{broke_wrote, limited, finished, stopped_is, stopped_wrote}
 use Rattle.snow_engine.proofs.session.Session.run.Goals as goal
@@ -64,7 +62,7 @@ loop-room-preserved g c =
     let lines = rw c.loop-room.invariant.task at c.in_default-take.ensures.lines in
     record {
       served = goes_on g.C.Chain.rules g.B.Board.answer c.args.self.now.runner.task (g.S.Source.left c.args.source.now) (g.S.Source.left c.loop-room.source) (g.O.Sink.written c.args.out.now) (g.O.Sink.written c.loop-room.out)
-    c.loop-room.self.runner.engine c.loop-room.self.decoder c.loop-room.room c.loop-room.invariant.served
+          c.loop-room.self.runner.engine c.loop-room.self.decoder c.loop-room.room c.loop-room.invariant.served
           (take c.in-Ok.taken c.read_some.new.piece) (g.S.Source.left c.read_some.new.source) (g.O.Sink.written c.take.new.out) c.take.new.self.runner.engine c.take.new.self.decoder (c.loop-room.room - c.in-Ok.taken)
           c.in-Ok.ensures.some (less_room c.in-Ok.taken c.loop-room.room c.read_some.new.piece c.in-Ok.ensures.few.0 c.in-Ok.ensures.few.1)
           goes.0 goes.1 lines c.in_default-take.ensures.fine;

@@ -1,7 +1,6 @@
 -- One frame more, none any more, or the end of the run.
-use Rattle.std.proofs.Common.{◌≡◌, ℕ, sym, ◌∙◌, ap, le_trans, true, false, length, ◌<◌, subst}
+use Rattle.std.proofs.Common.{sym, ◌∙◌, le_trans}
 use Rattle.std.proofs.lemmas.Result.{err_from_is_err_and}
-use Rattle.snow_wire.specs.Stream.{Intake}
 use Rattle.snow_engine.specs.Serving.{stand_of}
 use Rattle.snow_engine.proofs.Going.{goes_all, gathers_all, goes_on, all_gone, smaller_as, shorter_as, none_behind}
 use Rattle.snow_engine.proofs.session.Session.work_frames.Goals as goal
@@ -34,13 +33,13 @@ loop-preserved g c =
     let goes = rw c.loop.invariant.task at c.in_ok-work_next.ensures.goes in
     let lines = rw c.loop.invariant.task at c.in_ok-work_next.ensures.lines in
     record {
-  gone = goes_on g.C.Chain.rules g.B.Board.answer c.args.self.now.runner.task (stand_of c.args.self.now.runner.engine) (stand_of c.loop.self.runner.engine) c.args.self.now.decoder c.loop.self.decoder
-    (g.O.Sink.written c.args.out.now) c.args.self.now.page (g.O.Sink.written c.loop.out) c.loop.self.page (g.O.Sink.written c.work_next.new.out) c.work_next.new.self.page c.loop.invariant.gone
-      (stand_of c.work_next.new.self.runner.engine) c.work_next.new.self.decoder goes.0 goes.1 lines;
-  small = smaller_as g.C.Chain.rules g.B.Board.answer c.args.self.now.runner.task (stand_of c.loop.self.runner.engine) c.loop.self.decoder c.work_next.new.self.decoder goes.1 c.loop.invariant.small;
-  task = c.work_next.ensures.task ∙ c.loop.invariant.task;
-  later = le_trans c.loop.invariant.later c.work_next.ensures.later;
-}
+      gone = goes_on g.C.Chain.rules g.B.Board.answer c.args.self.now.runner.task (stand_of c.args.self.now.runner.engine) (stand_of c.loop.self.runner.engine) c.args.self.now.decoder c.loop.self.decoder
+          (g.O.Sink.written c.args.out.now) c.args.self.now.page (g.O.Sink.written c.loop.out) c.loop.self.page (g.O.Sink.written c.work_next.new.out) c.work_next.new.self.page c.loop.invariant.gone
+          (stand_of c.work_next.new.self.runner.engine) c.work_next.new.self.decoder goes.0 goes.1 lines;
+      small = smaller_as g.C.Chain.rules g.B.Board.answer c.args.self.now.runner.task (stand_of c.loop.self.runner.engine) c.loop.self.decoder c.work_next.new.self.decoder goes.1 c.loop.invariant.small;
+      task = c.work_next.ensures.task ∙ c.loop.invariant.task;
+      later = le_trans c.loop.invariant.later c.work_next.ensures.later;
+    }
 
 pub returns-clause-goes : goal.returns-clause-goes
 returns-clause-goes g c =

@@ -1,5 +1,5 @@
 -- A length that no frame has ends the run, and no line comes of it.
-use Rattle.std.proofs.Common.{◌≡◌, ◌++◌, ap, sym, subst, List, ℕ}
+use Rattle.std.proofs.Common.{◌++◌, ap, sym, subst, List, ℕ}
 use Rattle.snow_lines.specs.declared.line.Line.{Line}
 use Rattle.snow_lines.specs.Gathered.{Gathers}
 use Rattle.snow_lines.specs.Text.{texts}

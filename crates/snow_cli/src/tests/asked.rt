@@ -1,0 +1,36 @@
+use crate::Status;
+use crate::tests::runs::{asking, tried, writes};
+use crate::tests::streams::{ONE, ONE_LINES, stream_of};
+use std::test::Fail;
+
+/// Words that ask for nothing that there is.
+const NOTHING: &[&[&str]] = &[
+    &[],
+    &["run", "--chain", "plain", "--chain", "tally"],
+    &["drill", "--seed", "1"],
+    &["run"],
+    &["decide", "--rule", "avalanche"],
+    &["--help"],
+];
+
+/// Nothing is read then: all 215 bytes are left.
+#[test]
+fn words_that_ask_for_nothing(rt: HostRuntime) -> Result<(), Fail> {
+    let stream = stream_of(rt.alloc(), ONE)?;
+    for (i, words) in NOTHING.iter().enumerate() {
+        let run = asking(words, &stream);
+        let outcome = tried(rt.alloc(), &run)?;
+        let usage = outcome.is(rt.alloc(), Status::Usage, "", "snowman: usage\n")?;
+        assert!(rt; usage && outcome.left == Ok(215), "words {i}");
+    }
+    assert_eq!(rt; Status::Usage.code(), 2);
+    Ok(())
+}
+
+#[test]
+fn words_in_other_orders(rt: HostRuntime) -> Result<(), Fail> {
+    for words in [["--", "decide"], ["--chain=plain", "decide"]] {
+        assert!(rt; writes(rt.alloc(), &words, ONE, ONE_LINES)?, "{words:?}");
+    }
+    Ok(())
+}

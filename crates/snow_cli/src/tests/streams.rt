@@ -1,0 +1,179 @@
+use std::alloc::{AllocError, Global};
+
+/// An identifier with this first and this last byte, and zeros between.
+#[derive(Clone, Copy)]
+pub struct Name(pub u8, pub u8);
+
+/// The last accepted block at the beginning, at height 0.
+pub const ROOT: Name = Name(0xff, 0);
+
+/// Blocks by their first bytes.
+pub const A: Name = Name(0x00, 0);
+
+pub const B: Name = Name(0x01, 0);
+
+pub const C: Name = Name(0x02, 0);
+
+pub const D: Name = Name(0x03, 0);
+
+pub const E: Name = Name(0x04, 0);
+
+pub const FAR: Name = Name(0x80, 0);
+
+/// What stands in a stream.
+#[derive(Clone, Copy)]
+pub enum Frame {
+    /// A Start with K, the two quorums, Beta and ConcurrentRepolls; else plain.
+    Start([u32; 5]),
+    /// A Start on this last accepted block with this state; the parameters are all 1.
+    StartOn(Name, &'static [u64]),
+    /// A block of the plain chain: it, its parent, its height and its flag.
+    Block(Name, Name, u8, u8),
+    /// A block of these bytes.
+    Whole(&'static [u8]),
+    /// A poll for these blocks.
+    Poll(&'static [Name]),
+    /// A payload of so many bytes, all the same.
+    Same(usize, u8),
+    /// A payload of a tag and so many zero bytes.
+    Zeros(u8, usize),
+    /// Bytes with no length word before them.
+    Bare(&'static [u8]),
+}
+
+/// A plain Start whose parameters are all 1.
+pub const START: Frame = Frame::Start([1, 1, 1, 1, 1]);
+
+/// One block and one poll for it: 215 bytes, of which the frames end behind the bytes 70, 176 and 215.
+pub const ONE: &[Frame] = &[START, Frame::Block(B, ROOT, 1, 1), Frame::Poll(&[B])];
+
+/// The lines of that stream.
+pub const ONE_LINES: &str = "prefer 01~00\naccept 01~00\n";
+
+/// The bytes of a stream.
+pub fn stream_of(alloc: Global, frames: &[Frame]) -> Result<Vec<u8>, AllocError> {
+    let mut bytes = Vec::new(alloc);
+    for frame in frames {
+        put_frame(alloc, &mut bytes, *frame)?;
+    }
+    Ok(bytes)
+}
+
+/// The text of lines, where `~` stands for 60 digits 0.
+pub fn text_of(alloc: Global, lines: &str) -> Result<Vec<u8>, AllocError> {
+    let mut text = Vec::new(alloc);
+    for byte in lines.as_bytes() {
+        put_digits(&mut text, *byte)?;
+    }
+    Ok(text)
+}
+
+fn put_digits(out: &mut Vec<u8>, byte: u8) -> Result<(), AllocError> {
+    match byte {
+        b'~' => out.extend_from_slice(&[b'0'; 60])?,
+        _ => out.push(byte)?,
+    }
+    Ok(())
+}
+
+fn put_frame(alloc: Global, out: &mut Vec<u8>, frame: Frame) -> Result<(), AllocError> {
+    if let Frame::Bare(bytes) = frame {
+        return out.extend_from_slice(bytes);
+    }
+    let payload = payload_of(alloc, frame)?;
+    out.extend_from_slice(&word(payload.len()).to_be_bytes())?;
+    out.extend_from_slice(&payload)
+}
+
+fn word(n: usize) -> u32 {
+    u32::try_from(n).unwrap_or(u32::MAX)
+}
+
+fn payload_of(alloc: Global, frame: Frame) -> Result<Vec<u8>, AllocError> {
+    let mut out = Vec::new(alloc);
+    match frame {
+        Frame::Start(parameters) => put_start(&mut out, parameters, ROOT, &[])?,
+        Frame::StartOn(last, state) => put_start(&mut out, [1; 5], last, state)?,
+        Frame::Block(id, parent, height, flag) => put_block(&mut out, id, parent, height, flag)?,
+        Frame::Whole(bytes) => put_whole(&mut out, bytes)?,
+        Frame::Poll(votes) => put_poll(&mut out, votes)?,
+        Frame::Same(count, byte) => out.resize(count, byte)?,
+        Frame::Zeros(tag, count) => put_zeros(&mut out, tag, count)?,
+        Frame::Bare(bytes) => out.extend_from_slice(bytes)?,
+    }
+    Ok(out)
+}
+
+fn put_name(out: &mut Vec<u8>, name: Name) -> Result<(), AllocError> {
+    let mut bytes = [0; 32];
+    bytes[0] = name.0;
+    bytes[31] = name.1;
+    out.extend_from_slice(&bytes)
+}
+
+fn put_count(out: &mut Vec<u8>, count: usize) -> Result<(), AllocError> {
+    let short = u16::try_from(count).unwrap_or(u16::MAX);
+    out.extend_from_slice(&short.to_be_bytes())
+}
+
+fn put_start(
+    out: &mut Vec<u8>,
+    parameters: [u32; 5],
+    last: Name,
+    state: &[u64],
+) -> Result<(), AllocError> {
+    out.push(1)?;
+    for number in parameters {
+        out.extend_from_slice(&number.to_be_bytes())?;
+    }
+    out.push(0)?;
+    put_name(out, last)?;
+    out.extend_from_slice(&[0; 8])?;
+    put_state(out, state)?;
+    put_count(out, 0)
+}
+
+fn put_state(out: &mut Vec<u8>, state: &[u64]) -> Result<(), AllocError> {
+    put_count(out, state.len())?;
+    for number in state {
+        out.extend_from_slice(&number.to_be_bytes())?;
+    }
+    Ok(())
+}
+
+fn put_block(
+    out: &mut Vec<u8>,
+    id: Name,
+    parent: Name,
+    height: u8,
+    flag: u8,
+) -> Result<(), AllocError> {
+    put_zeros(out, 2, 24)?;
+    out.extend_from_slice(&[0, 0, 0, 73])?;
+    put_name(out, id)?;
+    put_name(out, parent)?;
+    out.extend_from_slice(&[0, 0, 0, 0, 0, 0, 0, height, flag])
+}
+
+fn put_whole(out: &mut Vec<u8>, bytes: &[u8]) -> Result<(), AllocError> {
+    put_zeros(out, 2, 24)?;
+    out.extend_from_slice(&word(bytes.len()).to_be_bytes())?;
+    out.extend_from_slice(bytes)
+}
+
+fn put_poll(out: &mut Vec<u8>, votes: &[Name]) -> Result<(), AllocError> {
+    out.push(3)?;
+    put_count(out, votes.len())?;
+    for vote in votes {
+        put_name(out, *vote)?;
+    }
+    Ok(())
+}
+
+fn put_zeros(out: &mut Vec<u8>, tag: u8, count: usize) -> Result<(), AllocError> {
+    out.push(tag)?;
+    for _ in 0..count {
+        out.push(0)?;
+    }
+    Ok(())
+}
