@@ -6,7 +6,8 @@ use std::alloc::{AllocError, Global};
 
 /// A kind of blocks, and the states of those that a node holds: of the last accepted block and of
 /// blocks above it. A block's bytes say its identifier, its parent and its height, and whether it is
-/// valid is said by its bytes and its parent's state.
+/// valid is said by its bytes and its parent's state. Blocks are verified on their parents and accepted
+/// in order, as in the package `snow` of AvalancheGo; the states are this project's own.
 pub trait Chain: Sized + Drop {
     ghost use Rattle.snow_chain.specs.Chain as model;
 

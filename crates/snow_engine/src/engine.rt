@@ -15,7 +15,8 @@ use std::alloc::{AllocError, Global};
 use std::marker::Model;
 
 /// The engine of one node, over any chain and any board. Contracts see the node of the definitions.
-/// Each call appends its lines to a log.
+/// Each call appends its lines to a log. How blocks are issued and polls recorded is the behaviour of
+/// AvalancheGo's package `snow`; the events and the lines are this project's own.
 #[derive(Drop)]
 pub struct Engine<C: Chain, B: Board> {
     task: Task,

@@ -22,7 +22,7 @@ const PIECE: usize = 65_536;
 
 /// Runs a task over a source: each whole frame is worked as it comes, and its lines are written before
 /// the next bytes are read. A fault of the source or of the sink, or want of memory, ends the run
-/// behind a front of its lines.
+/// behind a front of its lines. Frames, events and lines are this project's own.
 pub fn serve<C: Chain, B: Board, S: Source, O: Sink>(
     alloc: Global,
     task: Task,
