@@ -16,7 +16,8 @@ use std::alloc::AllocError;
 /// The most blocks that may be pending.
 const MOST_PENDING: usize = 4096;
 
-/// A block's bytes came. After want of memory board and chain are as before.
+/// A block's bytes came. After want of memory board and chain still belong together, and a front of
+/// the lines was appended.
 pub fn receive<C: Chain, B: Board>(
     board: &mut B,
     chain: &mut C,
