@@ -1,5 +1,5 @@
 pub mod Following
-pub mod Deciding
+pub mod Follows
 pub mod Told
 pub mod ToldExamples
 pub mod Logs

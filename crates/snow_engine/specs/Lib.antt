@@ -1,6 +1,12 @@
+pub mod Again
+pub mod Deciding
+pub mod Ends
 pub mod Matching
 pub mod Node
 pub mod NodeCode
+pub mod Outcome
+pub mod Placing
 pub mod Run
 pub mod Serving
 pub mod Stepping
+pub mod Telling

@@ -1,27 +1,15 @@
--- Codes for the value of an engine, which its model asks for.
-use Rattle.std.specs.Prelude.{◌≡◌, ℕ, refl}
-use Rattle.std.specs.Coded.{Coded, coded_ℕ, coded×, code_by}
+-- Codes for the values of nodes, which their models ask for.
+use Rattle.std.specs.Prelude.{refl}
+use Rattle.std.specs.Coded.{Coded, coded×, code_by}
 use Rattle.snow_plain.specs.Board.{Board}
 use Rattle.snow_plain.specs.BoardCode.{coded_board}
 use Rattle.snow_chain.specs.Chain.{Held}
 use Rattle.snow_chain.specs.Coded.{coded_held}
-use Rattle.snow_engine.specs.declared.task.Task.{Task}
-use Rattle.snow_engine.specs.declared.task.Task.TheVariants as task
-use Rattle.snow_engine.specs.Node.{Node}
+use Rattle.snow_engine.specs.Deciding.{Deciding}
 
--- a task as a number
-abbrev number_of : Task → ℕ
-number_of task.Decide = 0
-
-abbrev task_of : ℕ → Task
-task_of n = task.Decide
-
-abbrev pub same_task : (t : Task) → task_of (number_of t) ≡ t
-same_task task.Decide = refl
-
--- the code of a node
-abbrev pub coded_node : Coded Node
-coded_node = code_by (ℕ × (Board × Held)) (coded× coded_ℕ (coded× coded_board coded_held))
-    (λ n. (number_of n.task, (n.board, n.chain)))
-    (λ f. record { task = task_of f.0; board = f.1.0; chain = f.1.1 })
-    (λ n i. record { task = same_task n.task i; board = n.board; chain = n.chain })
+-- the code of a node that decides
+abbrev pub coded_deciding : Coded Deciding
+coded_deciding = code_by (Board × Held) (coded× coded_board coded_held)
+    (λ n. (n.board, n.chain))
+    (λ f. record { board = f.0; chain = f.1 })
+    (λ _. refl)

@@ -1,17 +1,17 @@
 ghost use Rattle.std.specs.Prelude.{◌≡◌, IfOk};
 ghost use Rattle.snow_flake.specs.Parameters.{AreGood, checked};
-ghost use Rattle.snow_engine.specs.Node.{stated};
+ghost use Rattle.snow_engine.specs.Node as model;
+ghost use Rattle.snow_engine.specs.Stepping.{Logs, Starts, Steps};
 
-use crate::offering::receive;
-use crate::recording::record;
+use crate::deciding::Deciding;
 use crate::stop::EngineStop;
 use crate::task::Task;
-use snow_chain::{Chain, ChainFault};
+use snow_chain::Chain;
 use snow_flake::{ParamFault, Params};
-use snow_lines::{Line, Lines, SkipKind};
+use snow_lines::Lines;
 use snow_plain::Board;
 use snow_wire::{Event, Start};
-use std::alloc::{AllocError, Global};
+use std::alloc::Global;
 use std::marker::Model;
 
 /// The engine of one node, over any chain and any board. Contracts see the node of the definitions.
@@ -19,32 +19,21 @@ use std::marker::Model;
 /// AvalancheGo's package `snow`; the events and the lines are this project's own.
 #[derive(Drop)]
 pub struct Engine<C: Chain, B: Board> {
-    task: Task,
-    params: Params,
-    board: B,
-    chain: C,
-    alloc: Global,
+    node: Deciding<C, B>,
 }
 
 impl<C: Chain, B: Board> Model for Engine<C, B> {
-    ghost use Rattle.std.specs.Prelude.{◌≡◌};
     ghost use Rattle.snow_engine.specs.Node.{Node};
-    ghost use Rattle.snow_engine.specs.NodeCode.{coded_node};
-    ghost use Rattle.snow_engine.specs.Matching.{IsSteady};
+    ghost use Rattle.snow_engine.specs.NodeCode.{coded_deciding};
 
     ghost Value = { Node };
 
-    ghost coded = { coded_node };
+    ghost coded = { coded_deciding };
 
-    ghost view = { λ e. record { task = e.task; board = B.board e.board; chain = C.held e.chain } };
-
-    ghost invariant = { λ e. ((B.board e.board).parameters ≡ e.params) × IsSteady (B.board e.board) (C.held e.chain) };
+    ghost view = { λ e. e.node };
 }
 
 impl<C: Chain, B: Board> Engine<C, B> {
-    ghost use Rattle.snow_engine.specs.Node as model;
-    ghost use Rattle.snow_engine.specs.Stepping.{Logs, Starts, Steps};
-
     /// The engine that begins with this Start. Its parameters are checked first, and then whether the
     /// chain takes its state: `Params` and `State` tell what is refused. Nodes and boot of the Start
     /// aren't looked at by `Decide`.
@@ -62,15 +51,11 @@ impl<C: Chain, B: Board> Engine<C, B> {
             Ok(params) => params,
             Err(fault) => return Err(EngineStop::Params(fault)),
         };
-        let chain = C::begin(alloc, first.last, first.state.list())?;
-        let board = B::begin(alloc, params, first.last, first.height)?;
-        Ok(Engine {
-            task,
-            params,
-            board,
-            chain,
-            alloc,
-        })
+        match task {
+            Task::Decide => Ok(Engine {
+                node: Deciding::start(alloc, first, params)?,
+            }),
+        }
     }
 
     /// One event, which came in this frame. A second Start stops the engine with `SecondStart`. After
@@ -79,50 +64,14 @@ impl<C: Chain, B: Board> Engine<C, B> {
         ensures answer { Steps result self.new (model.step C.rules B.answer self.old frame event).1 }
         ensures lines { Logs result log.old log.new (model.step C.rules B.answer self.old frame event).0 }
     {
-        match self.task {
-            Task::Decide => self.decide(frame, &event, log),
-        }
-    }
-
-    /// One event of a node that decides.
-    #[tactic(auto, unfolding(crate::specs::Node::decides_on), using(crate::proofs::Logs::logs_nothing))]
-    fn decide(&mut self, frame: u64, event: &Event, log: &mut Lines) -> Result<(), EngineStop>
-        ensures answer { Steps result self.new (model.decides_on C.rules B.answer self.old frame event.now).1 }
-        ensures lines { Logs result log.old log.new (model.decides_on C.rules B.answer self.old frame event.now).0 }
-    {
-        match event {
-            Event::Start(_) => Err(EngineStop::SecondStart),
-            Event::Block { bytes, .. } => {
-                receive(&mut self.board, &mut self.chain, frame, bytes.list(), log)?;
-                Ok(())
-            }
-            Event::Poll { ids } => {
-                record(
-                    self.alloc,
-                    &self.params,
-                    &mut self.board,
-                    &mut self.chain,
-                    frame,
-                    ids,
-                    log,
-                )?;
-                Ok(())
-            }
-            _ => {
-                log.push(Line::Skip {
-                    frame,
-                    kind: SkipKind::Task,
-                })?;
-                Ok(())
-            }
-        }
+        self.node.step(frame, &event, log)
     }
 }
 
 /// The parameters that a Start states, or the first thing that is wrong with them.
 #[tactic(auto, using(crate::proofs::Good::checked_good))]
 fn parameters_of(first: &Start) -> Result<Params, ParamFault>
-    ensures checked { result ≡ checked (stated first.now) }
+    ensures checked { result ≡ checked (model.stated first.now) }
     ensures good { IfOk result (λ params. AreGood params) }
 {
     Params::check(

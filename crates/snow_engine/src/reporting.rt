@@ -1,12 +1,23 @@
-ghost use Rattle.std.specs.Prelude.{◌≡◌, ◌++◌, map, OnOk, OnErr};
+ghost use Rattle.std.specs.Prelude.{◌≡◌, [], ◌∷◌, ◌++◌, map, Err, OnOk, OnErr};
 ghost use Rattle.snow_plain.specs.Preference.{preferred};
-ghost use Rattle.snow_engine.specs.Node as model;
+ghost use Rattle.snow_engine.specs.Telling as model;
 ghost use Rattle.snow_engine.specs.Stepping.{LogsFront};
 
+use crate::stop::EngineStop;
 use snow_base::Id;
 use snow_lines::{Line, Lines};
 use snow_plain::{Board, Decision};
 use std::alloc::AllocError;
+
+/// Writes a line.
+pub fn write(line: Line, log: &mut Lines) -> Result<(), EngineStop>
+    ensures ok { OnOk result (log.new ≡ log.old ++ line ∷ []) }
+    ensures memory { OnErr result (result ≡ Err EngineStop.Memory) }
+    ensures err { OnErr result (log.new ≡ log.old) }
+{
+    log.push(line)?;
+    Ok(())
+}
 
 /// The lines of the last poll's decisions, and that of the preference where it changed.
 #[tactic(auto, using(crate::proofs::Logs::logging))]

@@ -4,13 +4,13 @@ use Rattle.snow_plain.specs.Board.{Board, begin}
 use Rattle.snow_chain.specs.Chain.{begun}
 use Rattle.snow_engine.proofs.Following.{begun_steady}
 use Rattle.snow_engine.proofs.Offers.{steady_as}
-use Rattle.snow_engine.proofs.engine.Engine.start.Goals as goal
+use Rattle.snow_engine.proofs.deciding.Deciding.start.Goals as goal
 
 pub invariant_of-result : goal.invariant_of-result
 invariant_of-result g c = (
   ap (λ (b : Board). b.parameters) c.in_ok-board.ensures.board,
-  steady_as (g.B.Board.board c.in_ok-board.board) (begin c.in-Ok.params c.args.first.now.last c.args.first.now.height)
+  steady_as (g.B.Board.board c.in_ok-board.board) (begin c.args.params c.args.first.now.last c.args.first.now.height)
       (g.C.Chain.held c.in_ok-chain.chain) (begun c.args.first.now.last c.list.result.now)
       c.in_ok-board.ensures.board c.in_ok-chain.ensures.held
-      (begun_steady c.in-Ok.params c.args.first.now.last c.args.first.now.height c.list.result.now c.in-Ok.ensures.good),
+      (begun_steady c.args.params c.args.first.now.last c.args.first.now.height c.list.result.now c.requires),
 )

@@ -20,7 +20,7 @@ use Rattle.snow_plain.proofs.Settled.{settled_done, settled_won}
 use Rattle.snow_plain.proofs.Invariant.{IsSound, sound_kept, reached_sound, blocks_counted}
 use Rattle.snow_plain.proofs.Lookup.{IsWinner, won, stays, reversed_around, last_not_pending}
 use Rattle.snow_chain.specs.Chain.{Held, accepted, rejected, MayAccept, MayReject}
-use Rattle.snow_engine.specs.Node.{with_decision, with_decisions}
+use Rattle.snow_engine.specs.Telling.{with_decision, with_decisions}
 use Rattle.snow_engine.specs.Matching.{Matches, IsSteady, MayFollow}
 use Rattle.snow_engine.proofs.Following.{holds, holds_without, turned, held_on, matching}
 
