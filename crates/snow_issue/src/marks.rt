@@ -1,0 +1,11 @@
+/// What is remembered of something that waits.
+#[derive(Clone, Copy, Debug, PartialEq, Eq)]
+pub enum Mark {
+    /// Nothing: it is to be looked at.
+    New,
+    /// It can't go on yet: a block's parent is not on the board but asked for or waiting right
+    /// below it, or a reply's block waits or is asked for.
+    Quiet,
+    /// The block's parent is on the board.
+    Ripe,
+}
