@@ -9,6 +9,7 @@ mod reporting;
 mod runner;
 mod serving;
 mod session;
+mod stage;
 mod stop;
 mod task;
 mod telling;
