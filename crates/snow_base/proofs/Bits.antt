@@ -1,5 +1,5 @@
 -- Lemmas on the bits of bytes and identifiers, and on bit order.
-use Rattle.std.proofs.Common.{◌≡◌, ◌≢◌, ℕ, zero, suc, ◌+◌, ◌*◌, ◌/◌, ◌%◌, ◌^◌, ◌<◌, ◌==◌, Bool, true, false, List, ◌∷◌, length, get_or, drop, map, bit_xor, w8, refl, sym, ap, ◌∙◌, inl, inr, arith, Ordering, Equal, eq-zero-or-pos, add-zero, zero-add, add-one, drop-cons, ext_get_or, Some, None}
+use Rattle.std.proofs.Common.{◌≡◌, ◌≢◌, ℕ, zero, suc, ◌+◌, ◌*◌, ◌/◌, ◌%◌, ◌^◌, ◌<◌, ◌==◌, Bool, true, false, List, ◌∷◌, length, get_or, drop, map, bit_xor, w8, refl, sym, ap, ◌∙◌, inl, inr, arith, Ordering, Equal, eq-zero-or-pos, add-zero, zero-add, add-one, drop-cons, ext_get_or}
 use Rattle.std.specs.Int.{bit_at, trailing_zeros}
 use Rattle.std.specs.List.{range_with_len}
 use Rattle.std.specs.Ordering.{bool_cmp, ordering_then}
@@ -11,7 +11,7 @@ use Rattle.std.proofs.lemmas.Cmp.{tied_itself}
 use Rattle.std.proofs.lemmas.Nat.{xor_lt}
 use Rattle.std.proofs.lemmas.Nat.Bits.{bit_at-lt, bit_at_xor, bit_at-zero, bit_at-trailing_zeros, same_from_bits_below}
 use Rattle.std.proofs.lemmas.List.FromFn.{length-map-range_with_len, get_or-map-range_with_len}
-use Rattle.snow_base.specs.Identifier.{bit, bits, bit_cmp, FirstDiffers}
+use Rattle.snow_base.specs.Identifier.{bit, bits, bit_cmp}
 
 -- ---- two bytes
 
@@ -100,12 +100,13 @@ cmp_from_zero f g n i h same other =
     cmp_at_first f g 0 n i h (λ k p. rw zero-add (same k p)) (rw zero-add other) ∙ ap (λ j. bool_cmp (f j) (g j)) (zero-add i)
 
 -- the first bit that differs decides bit order
-pub bit_cmp-first : (a b : List ℕ) (i : ℕ) → FirstDiffers a b (Some i) → bit_cmp a b ≡ bool_cmp (bit a i) (bit b i)
+pub bit_cmp-first : (a b : List ℕ) (i : ℕ) → i < 256 → ((k : ℕ) → k < i → bit a k ≡ bit b k) → (bit a i ≢ bit b i)
+    → bit_cmp a b ≡ bool_cmp (bit a i) (bit b i)
 unfolding bits
-bit_cmp-first a b i h = cmp_from_zero (bit a) (bit b) 256 i h.0 h.1 h.2
+bit_cmp-first a b i h same other = cmp_from_zero (bit a) (bit b) 256 i h same other
 
 -- identifiers whose bits agree are equal in bit order
-pub bit_cmp-same : (a b : List ℕ) → FirstDiffers a b None → bit_cmp a b ≡ Equal
+pub bit_cmp-same : (a b : List ℕ) → ((k : ℕ) → k < 256 → bit a k ≡ bit b k) → bit_cmp a b ≡ Equal
 bit_cmp-same a b h =
     let same : bits a ≡ bits b =
     ext_get_or false (bits a) (bits b) (length-bits a ∙ sym (length-bits b))

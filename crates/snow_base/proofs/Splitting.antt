@@ -17,7 +17,7 @@ zero_first false y f e = refl
 
 -- of two identifiers that agree below bit n, the first in bit order has a 0 there where the other has
 pub zero_before : (a b : List ℕ) (n : ℕ) → n < 256 → ((k : ℕ) → k < n → bit a k ≡ bit b k) → bit_cmp a b ≡ Less → not (bit b n) ≡ true → not (bit a n) ≡ true
-zero_before a b n h agree less = zero_first (bit a n) (bit b n) (λ other. sym (bit_cmp-first a b n (h, agree, other)) ∙ less)
+zero_before a b n h agree less = zero_first (bit a n) (bit b n) (λ other. sym (bit_cmp-first a b n h agree other) ∙ less)
 
 -- votes in bit order that agree below bit n have those with a 0 there in front
 pub partitioned : (n : ℕ) (votes : List Vote) → n < 256 → IsInBitOrder votes → AgreeBelow n votes → IsPartitionedBy (λ v. not (bit v.id n)) votes

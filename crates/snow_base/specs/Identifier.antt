@@ -1,5 +1,5 @@
 -- The bits of an identifier, and the order that they give.
-use Rattle.std.specs.Prelude.{◌≡◌, ◌≢◌, ℕ, ◌/◌, ◌%◌, ◌<◌, Bool, List, map, Option, Some, None, slice_index, ◌==◌}
+use Rattle.std.specs.Prelude.{◌≡◌, ◌≢◌, ℕ, ◌/◌, ◌%◌, ◌<◌, ◌≤◌, Bool, List, map, Option, Some, None, slice_index, ◌==◌}
 use Rattle.std.specs.List.{range_with_len}
 use Rattle.std.specs.Int.{bit_at}
 use Rattle.std.specs.Ordering.{bool_cmp}
@@ -18,7 +18,11 @@ bits id = map (bit id) (range_with_len 0 256)
 abbrev pub bit_cmp : List ℕ → List ℕ → Ordering
 bit_cmp a b = slice_cmp bool_cmp (bits a) (bits b)
 
--- the first bit in which the two differ; none where all 256 bits agree
-abbrev pub FirstDiffers : List ℕ → List ℕ → Option ℕ → Type 0
-FirstDiffers a b None = (k : ℕ) → k < 256 → bit a k ≡ bit b k
-FirstDiffers a b (Some i) = (i < 256) × ((k : ℕ) → k < i → bit a k ≡ bit b k) × (bit a i ≢ bit b i)
+-- two identifiers have the same bits from one place up to, not including, another
+abbrev pub AgreeFrom : ℕ → ℕ → List ℕ → List ℕ → Type 0
+AgreeFrom from to a b = (k : ℕ) → from ≤ k → k < to → bit a k ≡ bit b k
+
+-- the first bit between two places in which the two differ; none where they agree there
+abbrev pub FirstDiffers : ℕ → ℕ → List ℕ → List ℕ → Option ℕ → Type 0
+FirstDiffers from to a b None = AgreeFrom from to a b
+FirstDiffers from to a b (Some i) = (from ≤ i) × (i < to) × AgreeFrom from i a b × (bit a i ≢ bit b i)

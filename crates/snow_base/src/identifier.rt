@@ -1,4 +1,4 @@
-ghost use Rattle.std.specs.Prelude.{◌≡◌, ◌≢◌, ℕ, ◌<◌, List, IsTrue, length};
+ghost use Rattle.std.specs.Prelude.{◌≡◌, ◌≢◌, ℕ, ◌*◌, ◌<◌, ◌≤◌, List, IsTrue, length};
 ghost use Rattle.std.specs.Int.{bit_at};
 
 use std::cmp::Ordering;
@@ -45,21 +45,54 @@ impl Id {
     {
         (self.bytes[usize::from(i / 8)] >> (i % 8)) & 1 == 1
     }
+
     /// Bit order: bit 0 is compared first, then bit 1, and so on; a 0 stands before a 1.
     pub fn bit_cmp(&self, other: &Id) -> Ordering
         ensures { result ≡ bit_cmp self.now other.now }
     {
-        match self.first_differing(other) {
+        match self.first_difference(other, 0, 256) {
             None => Ordering::Equal,
             Some(i) => self.bit(i).cmp(&other.bit(i)),
         }
     }
 
-    // The first bit in which the two differ, if there is one. Bytes that agree are passed whole.
-    fn first_differing(&self, other: &Id) -> Option<u16>
-        ensures { FirstDiffers self.now other.now result }
+    /// The first bit from `from` up to, not including, `to` in which the two differ; none where they
+    /// agree there.
+    pub fn first_difference(&self, other: &Id, from: u16, to: u16) -> Option<u16>
+        requires order { from ≤ to }
+        requires within { to ≤ 256 }
+        ensures { FirstDiffers from to self.now other.now result }
     {
-        for at in 0..32u16 {
+        let whole = from.div_ceil(8);
+        let found = match self.first_bit(other, from, 8 * whole) {
+            Some(i) => Some(i),
+            None => self.first_past(other, whole),
+        };
+        match found {
+            Some(i) if i < to => Some(i),
+            _ => None,
+        }
+    }
+
+    // The same bit by bit, for the rest of a byte.
+    fn first_bit(&self, other: &Id, from: u16, to: u16) -> Option<u16>
+        requires { to ≤ 256 }
+        ensures { FirstDiffers from to self.now other.now result }
+    {
+        for i in from..to {
+            if self.bit(i) != other.bit(i) {
+                return Some(i);
+            }
+        }
+        None
+    }
+
+    // The same from a byte on: bytes that agree are passed whole.
+    fn first_past(&self, other: &Id, from: u16) -> Option<u16>
+        requires { from ≤ 32 }
+        ensures { FirstDiffers (8 * from) 256 self.now other.now result }
+    {
+        for at in from..32 {
             let a = self.bytes[usize::from(at)];
             let b = other.bytes[usize::from(at)];
             if a != b {

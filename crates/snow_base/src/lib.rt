@@ -8,9 +8,11 @@ mod identifier;
 mod items;
 mod memory;
 mod node;
+mod numbers;
 mod outside;
 mod pure;
 mod sides;
+mod steps;
 mod vote;
 
 pub use adapter::{ReadSource, WriteSink};
@@ -20,9 +22,11 @@ pub use identifier::Id;
 pub use items::{Blocks, Bytes, Ids, Items, Nodes, Nums};
 pub use memory::{MemSink, MemSource};
 pub use node::NodeId;
+pub use numbers::Numbers;
 pub use outside::{Failed, Sink, Source, write_whole};
 pub use pure::{PureSink, PureSource};
 pub use sides::split;
+pub use steps::Steps;
 pub use vote::Vote;
 
 #[cfg(test)]

@@ -1,6 +1,6 @@
 use crate::{
-    Bag, Bytes, Failed, Id, Items, MemSink, MemSource, Nums, PureSink, PureSource, ReadSource,
-    Sink, Source, Vote, WriteSink, write_whole,
+    Bag, Bytes, Failed, Id, Items, MemSink, MemSource, Numbers, Nums, PureSink, PureSource,
+    ReadSource, Sink, Source, Vote, WriteSink, write_whole,
 };
 use std::io::{self, ErrorKind, Read, Write};
 use std::test::Fail;
@@ -125,4 +125,27 @@ fn interruptions_are_no_faults(rt: HostRuntime) {
     assert_eq!(rt; sink.write(b"ab"), Ok(1));
     assert_eq!(rt; sink.write(b"ab"), Err(Failed));
     assert_eq!(rt; sink.write(b"ab"), Err(Failed));
+}
+
+#[test]
+fn first_differences(rt: HostRuntime) {
+    let mut bytes = [0; 32];
+    bytes[1] = 0x20;
+    bytes[31] = 0x80;
+    let (zero, other) = (id_of(0), Id::from_bytes(bytes));
+    assert_eq!(rt; zero.first_difference(&other, 0, 256), Some(13));
+    assert_eq!(rt; zero.first_difference(&other, 13, 14), Some(13));
+    assert_eq!(rt; zero.first_difference(&other, 14, 256), Some(255));
+    assert_eq!(rt; zero.first_difference(&other, 14, 255), None);
+    assert_eq!(rt; zero.first_difference(&other, 5, 13), None);
+    assert_eq!(rt; zero.first_difference(&other, 256, 256), None);
+}
+
+#[test]
+fn numbers_come_in_order(rt: HostRuntime) {
+    let mut numbers = Numbers::new();
+    for expected in [1, 2, 3] {
+        let drawn = numbers.draw();
+        assert_eq!(rt; drawn, Some(expected));
+    }
 }

@@ -1,0 +1,39 @@
+ghost use Rattle.std.specs.Prelude.{◌≡◌};
+
+use std::marker::Model;
+
+/// Numbers that are drawn one after the other, each once. Contracts see the last one drawn, 0 at
+/// first.
+#[derive(Debug, Drop)]
+pub struct Numbers {
+    last: u32,
+}
+
+impl Model for Numbers {
+    ghost use Rattle.std.specs.Prelude.{ℕ};
+
+    ghost Value = { ℕ };
+
+    ghost view = { λ n. n.last };
+}
+
+impl Numbers {
+    ghost use Rattle.snow_base.specs.Numbers.{next_number, last_after};
+
+    /// No number is drawn yet.
+    pub fn new() -> Self
+        ensures { result ≡ 0 }
+    {
+        Numbers { last: 0 }
+    }
+
+    /// The next number: 1, 2, and so on. None exactly after 2^32 - 1 draws; the last number then stays.
+    pub fn draw(&mut self) -> Option<u32>
+        ensures number { result ≡ next_number self.old }
+        ensures last { self.new ≡ last_after self.old }
+    {
+        let next = self.last.checked_add(1)?;
+        self.last = next;
+        Some(next)
+    }
+}
