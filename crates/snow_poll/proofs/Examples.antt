@@ -1,13 +1,13 @@
 -- Worked examples, computed on the definitions.
-use Rattle.std.proofs.Common.{◌≡◌, ℕ, true, false, Bool, List, [], ◌∷◌, map, replicate, refl, None, Some, Option}
+use Rattle.std.proofs.Common.{◌≡◌, ℕ, true, false, Bool, List, [], ◌∷◌, map, replicate, refl, None, Some}
 use Rattle.snow_base.specs.declared.vote.Vote.{Vote}
 use Rattle.snow_base.specs.Identifier.{bits}
 use Rattle.snow_base.specs.Votes.{added}
 use Rattle.snow_flake.specs.Parameters.{Parameters}
 use Rattle.snow_sample.specs.declared.draws.Draw.{Draw}
-use Rattle.snow_poll.specs.declared.polls.Answered.TheVariants.{Counted, NotAwaited}
+use Rattle.snow_poll.specs.declared.polls.Answered.TheVariants.{NotAwaited}
 use Rattle.snow_poll.specs.Poll.{Poll, with_reply, votes_of, received, outstanding}
-use Rattle.snow_poll.specs.Closing.{is_answered, is_hopeless, has_preference_alone, has_confidence, is_closed}
+use Rattle.snow_poll.specs.Closing.{is_answered, is_hopeless, has_preference_alone, has_confidence}
 use Rattle.snow_poll.specs.Completion.{completed}
 use Rattle.snow_poll.specs.Table.{Table, no_polls, new_poll, begun, voted, answer, finished, shortened}
 

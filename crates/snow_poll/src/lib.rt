@@ -6,6 +6,7 @@ mod laws;
 mod poll;
 mod polls;
 mod reply;
+mod tally;
 mod turns;
 
 pub use laws::early_closing_law;

@@ -1,10 +1,11 @@
-ghost use Rattle.std.specs.Prelude.{◌≡◌, ◌+◌, ◌^◌, ◌<◌, ◌≤◌, max, true, IfOk};
-ghost use Rattle.snow_base.specs.Votes.{added, total_count, most_count, IsInBitOrder};
+ghost use Rattle.std.specs.Prelude.{◌≡◌, ◌+◌, ◌≤◌, true, IfOk};
+ghost use Rattle.snow_flake.specs.Parameters.{AreGood};
 ghost use Rattle.snow_sample.specs.Sampling.{draw_count, AreOfDistinctNodes};
-ghost use Rattle.snow_poll.specs.Kept.{HasTimes, count_of};
+ghost use Rattle.snow_poll.specs.Kept.{HasTimes, closes_by};
 
 use crate::reply::Reply;
-use snow_base::{Bag, Id, NodeId, Vote};
+use crate::tally;
+use snow_base::{Bag, Id, NodeId};
 use snow_flake::Params;
 use snow_sample::{Draw, Draws};
 use std::alloc::{AllocError, Global};
@@ -87,24 +88,20 @@ impl Poll {
         requires { awaits self.old node.now ≡ true }
         ensures { self.new ≡ with_reply self.old node.now id }
     {
+        let reply = Reply { node: *node, id };
         let times = self.awaited.remove(node).unwrap_or(0);
         self.outstanding -= times;
-        if let Some(id) = id {
-            self.most = self.most.max(give(&mut self.votes, id, times));
-        }
-        let reply = Reply { node: *node, id };
+        self.most = tally::give(&mut self.votes, self.most, &reply, times);
         self.replies.push_reserved(reply);
     }
 
     /// Whether it is closed, by one of the four cases.
     pub(crate) fn is_closed(&self, params: &Params) -> bool
-        ensures { result ≡ is_closed params.now self.now }
+        ensures closed { result ≡ is_closed params.now self.now }
+        ensures good { AreGood params.now }
     {
         let reach = self.votes.total() + self.outstanding;
-        self.outstanding == 0
-            || reach < params.alpha_preference()
-            || (params.alpha_preference() <= self.most && reach < params.alpha_confidence())
-            || params.alpha_confidence() <= self.most
+        closes(params, reach, self.outstanding, self.most)
     }
 
     /// Its votes.
@@ -129,27 +126,16 @@ fn awaited_of(alloc: Global, draws: &[Draw]) -> Result<BTreeMap<NodeId, u32>, Al
     Ok(awaited)
 }
 
-// Gives an identifier votes, for which there is room, and answers how many it has then.
-fn give(votes: &mut Bag, id: Id, times: u32) -> u32
-    requires some { 1 ≤ times }
-    requires total { total_count votes.old.list + times < 2 ^ 32 }
-    requires room { 0 < votes.old.room }
-    ensures list { votes.new.list ≡ added votes.old.list id times }
-    ensures most { most_count votes.new.list ≡ max (most_count votes.old.list) result }
-    ensures places { votes.old.room ≤ votes.new.room + 1 }
+// Whether a poll is closed that can reach so many votes, of which so many are outstanding, and where
+// one identifier has the most.
+fn closes(params: &Params, reach: u32, outstanding: u32, most: u32) -> bool
+    ensures closed { result ≡ closes_by params.now reach outstanding most }
+    ensures good { AreGood params.now }
 {
-    let added: Result<_, _> = votes.add(id, times);
-    let _ = added.unwrap();
-    count_for(votes.entries(), &id)
-}
-
-// How many votes an identifier has.
-fn count_for(votes: &[Vote], id: &Id) -> u32
-    requires { IsInBitOrder votes.now }
-    ensures { result ≡ count_of votes.now id.now }
-{
-    match votes.binary_search_by(|vote| vote.id.bit_cmp(id)) {
-        Ok(at) => votes[at].count,
-        Err(_) => 0,
-    }
+    let preference = params.alpha_preference();
+    let confidence = params.alpha_confidence();
+    outstanding == 0
+        || reach < preference
+        || (preference <= most && reach < confidence)
+        || confidence <= most
 }

@@ -140,11 +140,10 @@ impl Polls {
         let Some(at) = self.turns.place(number) else {
             return Answered::NotAwaited;
         };
-        let poll = &mut self.polls[at];
-        if !poll.awaits(node) {
+        if !self.polls[at].awaits(node) {
             return Answered::NotAwaited;
         }
-        poll.count(node, id);
+        self.polls[at].count(node, id);
         Answered::Counted
     }
 

@@ -1,4 +1,4 @@
-ghost use Rattle.std.specs.Prelude.{◌≡◌, ℕ, ◌≤◌, List, length, Some, None, OnOk, OnErr, ◌==◌, if◌then◌else◌};
+ghost use Rattle.std.specs.Prelude.{◌≡◌, ℕ, ◌^◌, ◌<◌, ◌≤◌, List, length, Some, None, OnOk, OnErr, ◌==◌, if◌then◌else◌};
 ghost use Rattle.std.specs.BTreeMap.{get};
 ghost use Rattle.std.specs.Ordering.{nat_cmp};
 ghost use Rattle.snow_poll.specs.Poll.{Poll};
@@ -32,8 +32,8 @@ impl Turns {
     pub(crate) fn place(&self, number: u32) -> Option<usize>
         ensures { (polls : List Poll) → length polls ≤ 1024 → ArePlaced self.now.turns self.now.gone polls → result ≡ place polls number }
     {
-        let turn = self.turns.get(&number)?;
-        Some(turn.wrapping_sub(self.gone) as usize)
+        let kept = self.turns.get(&number)?;
+        Some(place_of(*kept, self.gone))
     }
 
     // Enters a number, whose poll stands at this place.
@@ -55,4 +55,12 @@ impl Turns {
         let _ = self.turns.remove(&number);
         self.gone = self.gone.wrapping_add(1);
     }
+}
+
+// The place of a turn that is kept, where so many polls have left.
+#[tactic(auto, using(crate::proofs::Placed::place_back))]
+fn place_of(kept: u64, gone: u64) -> usize
+    ensures { (at : ℕ) → at < 2 ^ 64 → kept ≡ turn gone at → result ≡ at }
+{
+    kept.wrapping_sub(gone) as usize
 }
