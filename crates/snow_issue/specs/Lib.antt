@@ -4,3 +4,6 @@ pub mod Offering
 pub mod Settling
 pub mod Bubbling
 pub mod Known
+pub mod Index
+pub mod Windows
+pub mod Keeping
