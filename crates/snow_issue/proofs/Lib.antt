@@ -1,0 +1,4 @@
+mod GoneAppended
+mod GoneFiled
+mod GoneForgotten
+mod GoneLatest
