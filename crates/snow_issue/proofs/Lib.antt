@@ -1,4 +1,5 @@
 mod GoneAppended
+mod GoneExamples
 mod GoneFiled
 mod GoneForgotten
 mod GoneLatest

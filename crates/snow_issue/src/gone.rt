@@ -129,3 +129,77 @@ fn push(entries: &mut VecDeque<Gone>, id: Id, parent: Option<Id>)
 {
     entries.push_back_reserved(Gone { id, parent });
 }
+
+#[cfg(test)]
+mod tests {
+    use super::*;
+    use std::test::Fail;
+
+    // The identifier that begins with the bytes of a number.
+    fn numbered(number: u32) -> Id {
+        let mut bytes = [7; 32];
+        let [a, b, c, d] = number.to_be_bytes();
+        bytes[0] = a;
+        bytes[1] = b;
+        bytes[2] = c;
+        bytes[3] = d;
+        Id::from_bytes(bytes)
+    }
+
+    // A block that was accepted or rejected.
+    fn decided(number: u32) -> Gone {
+        Gone {
+            id: numbered(number),
+            parent: None,
+        }
+    }
+
+    // A block that its parent stands for.
+    fn invalid(number: u32, parent: u32) -> Gone {
+        Gone {
+            id: numbered(number),
+            parent: Some(numbered(parent)),
+        }
+    }
+
+    // Enters blocks from one number to before another, which were accepted or rejected.
+    fn enter_decided(list: &mut GoneList, from: u32, to: u32) {
+        for number in from..to {
+            list.enter(decided(number));
+        }
+    }
+
+    #[test]
+    fn the_oldest_entry_is_forgotten(rt: HostRuntime) -> Result<(), Fail> {
+        let mut list = GoneList::new(rt.alloc())?;
+        list.enter(invalid(0, 9_000));
+        enter_decided(&mut list, 1, 8_192);
+        assert_eq!(rt; (list.len(), list.holds(&numbered(0))), (8_192, true));
+        assert_eq!(rt; list.stands_for(&numbered(0)), Some(numbered(9_000)));
+        list.enter(invalid(8_192, 5));
+        assert_eq!(rt; (list.len(), list.holds(&numbered(0))), (8_192, false));
+        assert_eq!(rt; list.latest(&numbered(1)), Some(decided(1)));
+        assert_eq!(rt; list.latest(&numbered(8_192)), Some(invalid(8_192, 5)));
+        assert_eq!(rt; list.stands_for(&numbered(1)), None);
+        Ok(())
+    }
+
+    #[test]
+    fn the_latest_entry_counts(rt: HostRuntime) -> Result<(), Fail> {
+        let mut list = GoneList::new(rt.alloc())?;
+        list.enter(invalid(0, 1));
+        list.enter(invalid(0, 2));
+        assert_eq!(rt; list.stands_for(&numbered(0)), Some(numbered(2)));
+        enter_decided(&mut list, 3, 8_194);
+        assert_eq!(rt; list.stands_for(&numbered(0)), Some(numbered(2)));
+        list.enter(decided(8_194));
+        assert_eq!(rt; list.holds(&numbered(0)), false);
+        list.enter(invalid(0, 3));
+        assert_eq!(rt; list.stands_for(&numbered(0)), Some(numbered(3)));
+        assert_eq!(rt;
+            (list.holds(&numbered(3)), list.holds(&numbered(4))),
+            (false, true)
+        );
+        Ok(())
+    }
+}
