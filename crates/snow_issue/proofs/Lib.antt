@@ -1,5 +1,12 @@
+mod GoneAppended
+mod GoneExamples
+mod GoneFiled
+mod GoneForgotten
+mod GoneLatest
 pub mod Examples
-pub mod Noted
-pub mod Placed
-pub mod Tagged
-pub mod Windowed
+mod Looked
+mod Named
+mod Noted
+mod Placed
+mod Tagged
+mod Windowed

@@ -121,16 +121,16 @@ pub is_lost : (waiting : List Waiting) (gets : List Get) (board : Board) (w : Wa
     → is_hopeless_by waiting gets board w ≡ true
 is_lost waiting gets board w h = on_passes (is_on board w.header.parent) (asked_in gets w.header.parent || waits_below waiting w.header) h
 
+new_never : (on other : Bool) → cond on (Some Ripe) (cond other (Some Quiet) None) ≡ Some New → is_mark New New ≡ false
+new_never true other h = absurd cc
+new_never false true h = absurd cc
+new_never false false h = absurd cc
+
 -- a look tells something else than that nothing is known
 pub never_new : (on other : Bool) (mark : Mark) → cond on (Some Ripe) (cond other (Some Quiet) None) ≡ Some mark → is_mark New mark ≡ false
 never_new on other New h = new_never on other h
 never_new on other Quiet h = refl
 never_new on other Ripe h = refl
-
-new_never : (on other : Bool) → cond on (Some Ripe) (cond other (Some Quiet) None) ≡ Some New → is_mark New New ≡ false
-new_never true other h = absurd cc
-new_never false true h = absurd cc
-new_never false false h = absurd cc
 
 pub told : (waiting : List Waiting) (gets : List Get) (board : Board) (w : Waiting) (mark : Mark) → sight waiting gets board w.header ≡ Some mark → Tells waiting gets board (w, mark)
 told waiting gets board w New h = tt

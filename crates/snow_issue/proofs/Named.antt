@@ -46,6 +46,22 @@ apart_pushed name (y ∷ items) x h apart =
 -- ---- one item less
 
 -- another name's items stay
+pub or_true : (b : Bool) → (b || true) ≡ true
+or_true true = refl
+or_true false = refl
+
+pub none_named : {T : Type 0} (name : T → List ℕ) (items : List T) (id : List ℕ) → is_named name items id ≡ false → named name items id ≡ None
+none_named name [] id h = refl
+none_named name (y ∷ items) id h =
+    let parts = or_parts (bytes_eq (name y) id) (is_named name items id) h in
+    ap (λ b. cond b (Some y) (named name items id)) parts.0 ∙ none_named name items id parts.1
+
+pub some_named : {T : Type 0} (name : T → List ℕ) (items : List T) (at : ℕ) (d : T) (id : List ℕ) → at < length items → bytes_eq (name (get_or items at d)) id ≡ true → is_named name items id ≡ true
+some_named name [] at d id there h = absurd (omega (arith, there))
+some_named name (y ∷ items) zero d id there h = ap (λ b. b || is_named name items id) h
+some_named name (y ∷ items) (suc at) d id there h =
+    ap (λ b. bytes_eq (name y) id || b) (some_named name items at d id (omega (arith, there)) h) ∙ or_true (bytes_eq (name y) id)
+
 pub named_removed : {T : Type 0} (name : T → List ℕ) (items : List T) (at : ℕ) (x : T) (id : List ℕ) → at < length items → x ≡ get_or items at x → AreNamedApart name items
     → named name (remove items at) id ≡ cond (bytes_eq (name x) id) None (named name items id)
 named_removed name [] at x id there is apart = absurd (omega (arith, there))
@@ -72,27 +88,6 @@ named_removed {T} name (y ∷ items) (suc at) x id there is apart =
       | false ↦ λ e. rest
     ] refl
 
-pub none_named : {T : Type 0} (name : T → List ℕ) (items : List T) (id : List ℕ) → is_named name items id ≡ false → named name items id ≡ None
-none_named name [] id h = refl
-none_named name (y ∷ items) id h =
-    let parts = or_parts (bytes_eq (name y) id) (is_named name items id) h in
-    ap (λ b. cond b (Some y) (named name items id)) parts.0 ∙ none_named name items id parts.1
-
-pub some_named : {T : Type 0} (name : T → List ℕ) (items : List T) (at : ℕ) (d : T) (id : List ℕ) → at < length items → bytes_eq (name (get_or items at d)) id ≡ true → is_named name items id ≡ true
-some_named name [] at d id there h = absurd (omega (arith, there))
-some_named name (y ∷ items) zero d id there h = ap (λ b. b || is_named name items id) h
-some_named name (y ∷ items) (suc at) d id there h =
-    ap (λ b. bytes_eq (name y) id || b) (some_named name items at d id (omega (arith, there)) h) ∙ or_true (bytes_eq (name y) id)
-
-pub or_true : (b : Bool) → (b || true) ≡ true
-or_true true = refl
-or_true false = refl
-
-pub apart_removed : {T : Type 0} (name : T → List ℕ) (items : List T) (at : ℕ) → AreNamedApart name items → AreNamedApart name (remove items at)
-apart_removed name [] at apart = nothing_apart name at
-apart_removed name (y ∷ items) zero apart = apart.1
-apart_removed name (y ∷ items) (suc at) apart = (fewer_named name items at (name y) apart.0, apart_removed name items at apart.1)
-
 nothing_apart : {T : Type 0} (name : T → List ℕ) (at : ℕ) → AreNamedApart name (remove [] at)
 nothing_apart name zero = tt
 nothing_apart name (suc at) = tt
@@ -105,15 +100,24 @@ fewer_named name (y ∷ items) (suc at) id h =
     let parts = or_parts (bytes_eq (name y) id) (is_named name items id) h in
     ap (λ b. b || is_named name (remove items at) id) parts.0 ∙ fewer_named name items at id parts.1
 
+pub apart_removed : {T : Type 0} (name : T → List ℕ) (items : List T) (at : ℕ) → AreNamedApart name items → AreNamedApart name (remove items at)
+apart_removed name [] at apart = nothing_apart name at
+apart_removed name (y ∷ items) zero apart = apart.1
+apart_removed name (y ∷ items) (suc at) apart = (fewer_named name items at (name y) apart.0, apart_removed name items at apart.1)
+
 -- ---- whether there is an item, by the item
+
+by_first : {T : Type 0} (b : Bool) (y : T) (rest : Option T) (any : Bool) → is_some rest ≡ any → is_some (cond b (Some y) rest) ≡ (b || any)
+by_first true y rest any h = refl
+by_first false y rest any h = h
 
 pub named_is_some : {T : Type 0} (name : T → List ℕ) (items : List T) (id : List ℕ) → is_some (named name items id) ≡ is_named name items id
 named_is_some name [] id = refl
 named_is_some name (y ∷ items) id = by_first (bytes_eq (name y) id) y (named name items id) (is_named name items id) (named_is_some name items id)
 
-by_first : {T : Type 0} (b : Bool) (y : T) (rest : Option T) (any : Bool) → is_some rest ≡ any → is_some (cond b (Some y) rest) ≡ (b || any)
-by_first true y rest any h = refl
-by_first false y rest any h = h
+or_false : (b : Bool) → (b || false) ≡ b
+or_false true = refl
+or_false false = refl
 
 -- a test of a named item beside the name
 pub any_named : {T : Type 0} (name : T → List ℕ) (test : T → Bool) (items : List T) (id : List ℕ) → AreNamedApart name items
@@ -130,6 +134,3 @@ any_named {T} name test (y ∷ items) id apart =
       | false ↦ λ e. rest
     ] refl
 
-or_false : (b : Bool) → (b || false) ≡ b
-or_false true = refl
-or_false false = refl

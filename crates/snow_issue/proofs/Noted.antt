@@ -71,12 +71,12 @@ changed_twice false change row other h empty = h
 
 -- ---- what a row has
 
-pub has_pushed : (row : List ℕ) (place other : ℕ) → has_place other (row ++ place ∷ []) ≡ (has_place other row || (place == other))
-has_pushed row place other = list_any-append (λ p. p == other) row (place ∷ []) ∙ ap (λ b. has_place other row || b) (or_false (place == other))
-
 or_false : (b : Bool) → (b || false) ≡ b
 or_false true = refl
 or_false false = refl
+
+pub has_pushed : (row : List ℕ) (place other : ℕ) → has_place other (row ++ place ∷ []) ≡ (has_place other row || (place == other))
+has_pushed row place other = list_any-append (λ p. p == other) row (place ∷ []) ∙ ap (λ b. has_place other row || b) (or_false (place == other))
 
 -- another place stays in a row
 pub has_left : (row : List ℕ) (place other : ℕ) → (other ≡ place → ⊥) → has_place other (left_by place row) ≡ has_place other row

@@ -56,6 +56,26 @@ seats_set slots at s = map-set seat_of slots at s
 
 -- ---- one item more
 
+or_false : (b : Bool) → (b || false) ≡ b
+or_false true = refl
+or_false false = refl
+
+or_true : (b : Bool) → (b || true) ≡ true
+or_true true = refl
+or_true false = refl
+
+other_pushed : (b : Bool) (row : List ℕ) (next place : ℕ) → place < next → has_place place (cond b (row ++ next ∷ []) row) ≡ has_place place row
+other_pushed true row next place low = has_pushed row next place ∙ ap (λ b. has_place place row || b) (ne_eqb next place (λ e. absurd (omega (arith, e, low)))) ∙ or_false (has_place place row)
+other_pushed false row next place low = refl
+
+itself_pushed : (b : Bool) (row : List ℕ) (next : ℕ) → has_place next row ≡ false → has_place next (cond b (row ++ next ∷ []) row) ≡ b
+itself_pushed true row next h = has_pushed row next next ∙ ap (λ b. has_place next row || b) (eq-eqb next next refl) ∙ or_true (has_place next row)
+itself_pushed false row next h = h
+
+above_pushed : (b : Bool) (row : List ℕ) (next place : ℕ) → next + 1 ≤ place → has_place place row ≡ false → has_place place (cond b (row ++ next ∷ []) row) ≡ false
+above_pushed true row next place high h = has_pushed row next place ∙ ap (λ b. has_place place row || b) (ne_eqb next place (λ e. absurd (omega (arith, e, high)))) ∙ or_false (has_place place row) ∙ h
+above_pushed false row next place high h = h
+
 pub indexed_push : (tags : List Tag) (before now : RowMap) (next : ℕ) (key : List ℕ) → IsIndexed tags before next
     → ((q : List ℕ) → row_of now q ≡ cond (bytes_eq key q) (row_of before q ++ next ∷ []) (row_of before q))
     → IsIndexed (tags ++ (next, key) ∷ []) now (next + 1)
@@ -72,25 +92,22 @@ indexed_push tags before now next key is change =
       unused = λ id place high. ap (has_place place) (change id) ∙ above_pushed (bytes_eq key id) (row_of before id) next place high (is.unused id place (omega (arith, high)));
     }
 
-other_pushed : (b : Bool) (row : List ℕ) (next place : ℕ) → place < next → has_place place (cond b (row ++ next ∷ []) row) ≡ has_place place row
-other_pushed true row next place low = has_pushed row next place ∙ ap (λ b. has_place place row || b) (ne_eqb next place (λ e. absurd (omega (arith, e, low)))) ∙ or_false (has_place place row)
-other_pushed false row next place low = refl
+-- rows that are the same by key
+pub indexed_same : (tags : List Tag) (before now : RowMap) (next : ℕ) → IsIndexed tags before next → ((q : List ℕ) → row_of now q ≡ row_of before q) → IsIndexed tags now next
+indexed_same tags before now next is same = record {
+  rising = is.rising;
+  below = is.below;
+  found = λ k d within id. ap (has_place (get_or tags k d).0) (same id) ∙ is.found k d within id;
+  unused = λ id place high. ap (has_place place) (same id) ∙ is.unused id place high;
+}
 
-or_false : (b : Bool) → (b || false) ≡ b
-or_false true = refl
-or_false false = refl
-
-or_true : (b : Bool) → (b || true) ≡ true
-or_true true = refl
-or_true false = refl
-
-itself_pushed : (b : Bool) (row : List ℕ) (next : ℕ) → has_place next row ≡ false → has_place next (cond b (row ++ next ∷ []) row) ≡ b
-itself_pushed true row next h = has_pushed row next next ∙ ap (λ b. has_place next row || b) (eq-eqb next next refl) ∙ or_true (has_place next row)
-itself_pushed false row next h = h
-
-above_pushed : (b : Bool) (row : List ℕ) (next place : ℕ) → next + 1 ≤ place → has_place place row ≡ false → has_place place (cond b (row ++ next ∷ []) row) ≡ false
-above_pushed true row next place high h = has_pushed row next place ∙ ap (λ b. has_place place row || b) (ne_eqb next place (λ e. absurd (omega (arith, e, high)))) ∙ or_false (has_place place row) ∙ h
-above_pushed false row next place high h = h
+pub indexed_nothing : (rows : RowMap) → ((q : List ℕ) → row_of rows q ≡ []) → IsIndexed [] rows 0
+indexed_nothing rows empty = record {
+  rising = λ i j d less within. absurd (omega (arith, within));
+  below = λ k d within. absurd (omega (arith, within));
+  found = λ k d within id. absurd (omega (arith, within));
+  unused = λ id place high. ap (has_place place) (empty id);
+}
 
 -- ---- one item less
 
@@ -109,6 +126,14 @@ place_apart tags at k d rising there within same =
         omega (arith, less, e, same))
     (cases_lt k at)
 
+other_left : (b : Bool) (row : List ℕ) (gone place : ℕ) → (place ≡ gone → ⊥) → has_place place (cond b (left_by gone row) row) ≡ has_place place row
+other_left true row gone place apart = has_left row gone place apart
+other_left false row gone place apart = refl
+
+unused_left : (b : Bool) (row : List ℕ) (gone place : ℕ) → has_place place row ≡ false → has_place place (cond b (left_by gone row) row) ≡ false
+unused_left true row gone place h = none_left row gone place h
+unused_left false row gone place h = h
+
 pub indexed_remove : (tags : List Tag) (at : ℕ) (gone : Tag) (before now : RowMap) (next : ℕ) → at < length tags → gone ≡ get_or tags at gone → IsIndexed tags before next
     → ((q : List ℕ) → row_of now q ≡ cond (bytes_eq gone.1 q) (left_by gone.0 (row_of before q)) (row_of before q))
     → IsIndexed (remove tags at) now next
@@ -126,14 +151,6 @@ indexed_remove tags at gone before now next there is_gone is change =
           ∙ kept k d within id;
       unused = λ id place high. ap (has_place place) (change id) ∙ unused_left (bytes_eq gone.1 id) (row_of before id) gone.0 place (is.unused id place high);
     }
-
-other_left : (b : Bool) (row : List ℕ) (gone place : ℕ) → (place ≡ gone → ⊥) → has_place place (cond b (left_by gone row) row) ≡ has_place place row
-other_left true row gone place apart = has_left row gone place apart
-other_left false row gone place apart = refl
-
-unused_left : (b : Bool) (row : List ℕ) (gone place : ℕ) → has_place place row ≡ false → has_place place (cond b (left_by gone row) row) ≡ false
-unused_left true row gone place h = none_left row gone place h
-unused_left false row gone place h = h
 
 -- ---- the items that pass
 

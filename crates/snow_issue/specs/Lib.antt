@@ -1,4 +1,5 @@
 pub mod Gone
+pub mod GoneIndex
 pub mod Lists
 pub mod Offering
 pub mod Settling

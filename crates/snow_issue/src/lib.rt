@@ -1,9 +1,11 @@
-//! Blocks that wait for their ancestors, replies that wait for their blocks, and what is gone.
+//! What waits in a node: blocks whose parent isn't there yet, replies that aren't counted yet, and
+//! the list of identifiers that are gone.
 #![tactic(auto)]
 
 mod bubbling;
 mod gets;
 mod gone;
+mod gone_index;
 mod lineup;
 mod looking;
 mod marks;

@@ -182,7 +182,10 @@ fn find_place<T>(slots: &[Slot<T>], place: u64) -> usize
     let at = slots.partition_point(|slot: &Slot<T>| -> bool ensures { result ≡ nat_lt slot.now.place place } {
         slot.place < place
     });
-    if at < slots.len() && slots[at].place == place {
+    if at >= slots.len() {
+        return slots.len();
+    }
+    if slots[at].place == place {
         return at;
     }
     slots.len()

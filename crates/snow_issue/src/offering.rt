@@ -1,5 +1,4 @@
 ghost use Rattle.std.specs.Prelude.{◌≡◌, ◌||◌, [], nat_le};
-ghost use Rattle.snow_issue.specs.Gone.{stands_for};
 ghost use Rattle.snow_issue.specs.Offering.{is_on, is_gone, is_unknown, wanted, is_high, asks, refusal};
 ghost use Rattle.snow_issue.specs.Lists.{waits};
 ghost use Rattle.snow_issue.specs.Keeping.{parts};
@@ -18,24 +17,11 @@ pub(crate) fn is_on<B: Board>(board: &B, id: &Id) -> bool
     board.height_of(id).is_some()
 }
 
-/// The parent that stands for a gone block, if its latest entry has one.
-pub(crate) fn stands_for(gone: &GoneList, id: &Id) -> Option<Id>
-    ensures { result ≡ stands_for gone.now id.now }
-{
-    gone.latest(id)?.parent
-}
-
-fn is_gone(gone: &GoneList, id: &Id) -> bool
-    ensures { result ≡ is_gone (parts [] [] gone.now) id.now }
-{
-    gone.latest(id).is_some()
-}
-
 // Whether nothing is known of a block.
 fn is_unknown<B: Board>(waiting: &WaitingList, gets: &Gets, gone: &GoneList, board: &B, id: &Id) -> bool
     ensures { result ≡ is_unknown (parts waiting.now gets.now gone.now) (B.board board.now) id.now }
 {
-    !(is_on(board, id) || waiting.waits(id) || gets.asks_for(id) || is_gone(gone, id))
+    !(is_on(board, id) || waiting.waits(id) || gets.asks_for(id) || gone.holds(id))
 }
 
 /// Whether a block that a reply names is to be asked for.
@@ -76,7 +62,7 @@ fn is_known<B: Board>(waiting: &WaitingList, board: &B, id: &Id) -> bool
 fn is_old<B: Board>(gone: &GoneList, board: &B, block: &Header) -> bool
     ensures { result ≡ (is_gone (parts [] [] gone.now) block.now.id || nat_le block.now.height (B.board board.now).height) }
 {
-    is_gone(gone, &block.id) || block.height <= board.last_height()
+    gone.holds(&block.id) || block.height <= board.last_height()
 }
 
 /// The first reason, if there is one, for which an offered block doesn't wait.
@@ -86,7 +72,7 @@ pub(crate) fn refusal<B: Board>(waiting: &WaitingList, gone: &GoneList, board: &
     if is_known(waiting, board, &block.id) {
         return Some(Offered::Known);
     }
-    if stands_for(gone, &block.id).is_some() {
+    if gone.stands_for(&block.id).is_some() {
         return Some(Offered::Invalid);
     }
     if is_old(gone, board, block) {

@@ -11,7 +11,7 @@ ghost use Rattle.snow_issue.specs.Known.{lists_of, Knows, RestsAfter};
 
 use crate::bubbling;
 use crate::gets::Gets;
-use crate::gone::GoneList;
+use crate::gone::{Gone, GoneList};
 use crate::offering;
 use crate::replies::Replies;
 use crate::waiting::WaitingList;
@@ -52,7 +52,10 @@ impl Queue {
         ensures knows { IfOk result (λ made. (board : model.Board) → Knows made board) }
     {
         let mut gone = GoneList::new(alloc)?;
-        gone.enter(last, None);
+        gone.enter(Gone {
+            id: last,
+            parent: None,
+        });
         Ok(Queue {
             waiting: WaitingList::new(alloc),
             gets: Gets::new(alloc),
@@ -200,7 +203,7 @@ impl Queue {
         ensures knows { (b : model.Board) → Knows self.old b → Knows self.new b }
         ensures limits { AreWithinLimits (lists_of self.new) }
     {
-        self.gone.enter(id, parent);
+        self.gone.enter(Gone { id, parent });
     }
 
     /// The vote that a reply gives: a pending block is itself, the last accepted one gives none, and

@@ -1,4 +1,5 @@
-ghost use Rattle.std.specs.Prelude.{◌≡◌, ℕ, List, [], ◌∷◌, ◌++◌, OnOk, OnErr, bytes_eq, if◌then◌else◌};
+ghost use Rattle.std.specs.Prelude.{◌≡◌, ◌==◌, ℕ, List, [], ◌∷◌, ◌++◌, not, OnOk, OnErr, bytes_eq, if◌then◌else◌};
+ghost use Rattle.std.specs.Bool.{OnTrue};
 ghost use Rattle.snow_issue.specs.Index.{row_of, left_by};
 
 use snow_base::Id;
@@ -92,11 +93,10 @@ impl Rows {
     pub(crate) fn leave(&mut self, key: &Id, place: u64)
         ensures { (q : List ℕ) → row_of self.new.rows q ≡ (if bytes_eq key.now q then left_by place (row_of self.old.rows q) else row_of self.old.rows q) }
     {
-        let is_empty = match self.rows.get_mut(key) {
-            Some(row) => row.leave(place),
-            None => false,
+        let Some(row) = self.rows.get_mut(key) else {
+            return;
         };
-        if is_empty {
+        if row.leave(place) {
             let _ = self.rows.remove(key);
         }
     }

@@ -8,9 +8,9 @@ ghost use Rattle.snow_issue.specs.Lists.{without};
 ghost use Rattle.snow_issue.specs.Known.{lists_of, has, Knows, ForgetsChildren, NoneRipe};
 ghost use Rattle.snow_issue.specs.Index.{woken};
 
+use crate::gone::Gone;
 use crate::looking;
 use crate::marks::Mark;
-use crate::offering;
 use crate::queue::Queue;
 use crate::work::{Held, Waiting};
 use snow_plain::Board;
@@ -39,8 +39,11 @@ impl Queue {
         ensures gone { self.new.gone ≡ gone_with self.old.gone block.now.header }
     {
         let header = &block.header;
-        if offering::stands_for(&self.gone, &header.parent).is_some() {
-            self.gone.enter(header.id, Some(header.parent));
+        if self.gone.stands_for(&header.parent).is_some() {
+            self.gone.enter(Gone {
+                id: header.id,
+                parent: Some(header.parent),
+            });
         }
     }
 
