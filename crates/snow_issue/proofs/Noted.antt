@@ -65,8 +65,9 @@ both_same true x = refl
 both_same false x = refl
 
 -- two changes of one row, the second of which leaves nothing
-pub changed_twice : (b : Bool) (change : List ℕ → List ℕ) (row other : List ℕ) → other ≡ cond b (change row) row → change row ≡ [] → cond b [] other ≡ cond b (change row) row
-changed_twice true change row other h empty = sym empty
+pub changed_twice : (b : Bool) (change : List ℕ → List ℕ) (row other : List ℕ) → other ≡ cond b (change row) row → (b ≡ true → change row ≡ [])
+    → cond b [] other ≡ cond b (change row) row
+changed_twice true change row other h empty = sym (empty refl)
 changed_twice false change row other h empty = h
 
 -- ---- what a row has

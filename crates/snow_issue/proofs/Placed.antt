@@ -41,6 +41,25 @@ missing_place slots place d none =
     (λ k within. ne_eqb (get_or slots k d).place place (none k within))
     (λ h. absurd (omega (arith, h))))
 
+-- where the first slot that isn't below the place hasn't it, none has
+pub missing_behind : {T : Type 0} (slots : List (Slot T)) (place at : ℕ) → Rises slots
+    → IsPartitionPoint (λ s. ltb s.place place ≡ true) (λ s. ltb s.place place ≡ false) slots at
+    → ((d : Slot T) → at < length slots → (get_or slots at d).place ≡ place → ⊥)
+    → length slots ≡ position_or_len (λ s. s.place == place) slots
+missing_behind [] place at rises point here = refl
+missing_behind {T} (s ∷ slots) place at rises point here =
+    let all : List (Slot T) = s ∷ slots in
+    missing_place all place s (λ k within same. ⊎_elim
+        (λ (less : k < at). let l = ltb-true (get_or all k s).place place (point.0 k s (omega arith) less) in omega (arith, l, same))
+        (λ (more : at ≤ k). ⊎_elim
+            (λ (less : at < k).
+                let l = rises at k s less within in
+                let b = ltb-false (get_or all at s).place place (point.1 at s (omega arith) (omega (arith, less, within))) in
+                omega (arith, l, b, same))
+            (λ (le : k ≤ at). let e : k ≡ at = omega (arith, le, more) in here s (omega (arith, e, within)) (ap (λ k. (get_or all k s).place) (sym e) ∙ same))
+            (cases_lt at k))
+        (cases_lt k at))
+
 -- ---- one slot is woken
 
 one_place : {T : Type 0} (place : ℕ) (s : Slot T) → (place == s.place) ≡ true → reset s ≡ woken_at (place ∷ []) s

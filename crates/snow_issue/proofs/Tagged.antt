@@ -13,7 +13,7 @@ use Rattle.snow_issue.specs.declared.marks.Mark.{Mark}
 use Rattle.snow_issue.specs.Index.{row_of, has_place, left_by, tag_of, seat_of, IsIndexed, KeepsRows}
 use Rattle.snow_issue.proofs.Noted.{RowMap, same_id, id_itself, id_turned, has_pushed, has_left, none_left}
 
-abbrev Tag : Type 0
+abbrev pub Tag : Type 0
 Tag = ℕ × List ℕ
 
 -- ---- lists

@@ -1,11 +1,11 @@
 -- Lemmas on windows: where a mark may stand, after each change.
-use Rattle.std.proofs.Common.{◌≡◌, ℕ, ◌<◌, ◌≤◌, ◌+◌, ◌-◌, Bool, true, false, cond, List, [], ◌∷◌, ◌++◌, map, length, get_or, set, filter, All, refl, sym, ap, ◌∙◌, subst, arith, ⊎_elim}
+use Rattle.std.proofs.Common.{◌≡◌, ℕ, ◌<◌, ◌≤◌, ◌+◌, ◌-◌, Bool, true, false, cond, List, [], ◌∷◌, ◌++◌, map, length, min, get_or, set, filter, All, refl, sym, ap, ◌∙◌, subst, arith, ⊎_elim}
 use Rattle.std.specs.List.{remove, position_or_len}
 use Rattle.std.proofs.lemmas.Bool.{cases_eq, cases_lt, lt-ltb, le-ltb, false_from_ne_true, both_ways}
 use Rattle.std.proofs.lemmas.List.{length-set, length_push, get_or-set_same, get_or-set_other, get_or_push, get_or_append_left, get_or-map, length-map}
 use Rattle.std.proofs.lemmas.List.Edits.{length-remove, get_or-remove_below, get_or-remove_above}
 use Rattle.std.proofs.lemmas.List.Elements.{All-filter}
-use Rattle.std.proofs.lemmas.List.Sums.{fails_before_first}
+use Rattle.std.proofs.lemmas.List.Sums.{fails_before_first, position_or_len_is}
 use Rattle.snow_issue.specs.declared.marks.Mark.{Mark}
 use Rattle.snow_issue.specs.declared.marks.Mark.TheVariants.{New, Quiet, Ripe}
 use Rattle.snow_issue.specs.declared.window.Window.{Window}
@@ -169,3 +169,36 @@ within_forgotten seats = record {
       let no : has Ripe (forgotten (get_or seats k d)) ≡ true = sym (ap (has Ripe) e) ∙ marked in
       absurd cc;
 }
+
+-- ---- a walk for a mark
+
+-- no place below this one has the mark
+abbrev pub NoneBelow : {T : Type 0} → Mark → List (T × Mark) → ℕ → Type 0
+NoneBelow {T} mark seats at = (k : ℕ) (d : T × Mark) → k < at → k < length seats → has mark (get_or seats k d) ≡ false
+
+pub none_outside : {T : Type 0} (mark : Mark) (seats : List (T × Mark)) (w : Window) → IsWithin mark seats w → NoneBelow mark seats w.low
+none_outside mark seats w is k d less within = false_from_ne_true (has mark (get_or seats k d)) (λ t. let both = is k d within t in omega (arith, both, less))
+
+pub none_further : {T : Type 0} (mark : Mark) (seats : List (T × Mark)) (at : ℕ) → NoneBelow mark seats at
+    → ((d : T × Mark) → at < length seats → has mark (get_or seats at d) ≡ false) → NoneBelow mark seats (at + 1)
+none_further mark seats at before here k d less within =
+    ⊎_elim (λ (h : k < at). before k d h within)
+    (λ (h : at ≤ k). let same : at ≡ k = omega (arith, h, less) in subst (λ k. has mark (get_or seats k d) ≡ false) same (here d (omega (arith, same, within))))
+    (cases_lt k at)
+
+pub first_found : {T : Type 0} (mark : Mark) (seats : List (T × Mark)) (at : ℕ) (d : T × Mark) → NoneBelow mark seats at → at < length seats → has mark (get_or seats at d) ≡ true
+    → at ≡ position_or_len (has mark) seats
+first_found mark seats at d none there here =
+    sym (position_or_len_is (has mark) seats at d (omega (arith, there)) (λ k less. none k d less (omega (arith, less, there))) (λ _. here))
+
+pub first_missing : {T : Type 0} (mark : Mark) (seats : List (T × Mark)) (w : Window) (at high : ℕ) → IsWithin mark seats w → NoneBelow mark seats at
+    → high ≡ min w.high (length seats) → high ≤ at → length seats ≡ position_or_len (has mark) seats
+first_missing mark [] w at high is none top past = refl
+first_missing {T} mark (s ∷ seats) w at high is none top past =
+    let all : List (T × Mark) = s ∷ seats in
+    sym (position_or_len_is (has mark) all (length all) s (omega arith)
+    (λ k within. ⊎_elim
+        (λ (h : k < at). none k s h within)
+        (λ (h : at ≤ k). false_from_ne_true (has mark (get_or all k s)) (λ t. let both = is k s within t in omega (arith, both, top, past, h, within)))
+        (cases_lt k at))
+    (λ h. absurd (omega (arith, h))))
