@@ -3,7 +3,7 @@ use Rattle.std.proofs.Common.{◌≡◌, ℕ, zero, suc, ◌<◌, ◌≤◌, ◌
 use Rattle.std.specs.List.{position_or_len, remove, prefix_len}
 use Rattle.std.proofs.lemmas.Bool.{cases_lt, both_ways, false_from_ne_true}
 use Rattle.std.proofs.lemmas.List.{length-set, get_or-set_same, get_or-set_other, get_or-map, length-map, get_or_default, map-set, set-get_or}
-use Rattle.std.proofs.lemmas.List.Elements.{All-set}
+use Rattle.std.proofs.lemmas.List.Elements.{All-set, All-head, All-tail}
 use Rattle.std.proofs.lemmas.List.Sums.{position_or_len_is, fails_before_first, passes_at_first, prefix_len-le-length}
 use Rattle.snow_base.specs.declared.header.Header.{Header}
 use Rattle.snow_plain.specs.Board.{Board}
@@ -14,7 +14,7 @@ use Rattle.snow_issue.specs.declared.marks.Mark.{Mark}
 use Rattle.snow_issue.specs.declared.marks.Mark.TheVariants.{New, Quiet, Ripe}
 use Rattle.snow_issue.specs.Lists.{waits_below, asked_in}
 use Rattle.snow_issue.specs.Offering.{is_on}
-use Rattle.snow_issue.specs.Settling.{is_hopeless_by, is_free_by}
+use Rattle.snow_issue.specs.Settling.{is_hopeless_by, is_ready, is_free_by}
 use Rattle.snow_issue.specs.Known.{items_of, has, is_mark, sight, Tells}
 use Rattle.snow_issue.specs.Keeping.{Rests}
 
@@ -39,8 +39,9 @@ found_first {T} p (y ∷ xs) at x first there is =
     elim (p y) as Goal [
       | true ↦ λ e h. ap Some (is ∙ ap (λ k. get_or (y ∷ xs) k x) h)
       | false ↦ λ e h.
-          let next : x ≡ get_or xs (position_or_len p xs) x = is ∙ ap (λ k. get_or (y ∷ xs) k x) h in
-          found_first p xs (position_or_len p xs) x refl (omega (arith, h, there)) next
+          let step : at ≡ suc (position_or_len p xs) = omega (arith, h) in
+          let next : x ≡ get_or xs (position_or_len p xs) x = is ∙ ap (λ k. get_or (y ∷ xs) k x) step in
+          found_first p xs (position_or_len p xs) x refl (omega (arith, step, there)) next
     ] refl first
 
 pub found_none : {T : Type 0} (p : T → Bool) (xs : List T) → length xs ≤ position_or_len p xs → None ≡ find p xs
@@ -100,6 +101,12 @@ items_set {T} seats at x mark d there is =
     map-set (λ (s : T × Mark). s.0) seats at (x, mark)
     ∙ ap (λ y. set (items_of seats) at y) (is ∙ sym (items_at seats at d there))
     ∙ set-get_or (items_of seats) at d.0
+
+-- the same, by what a call leaves
+pub items_after_set : {T : Type 0} (seats after : List (T × Mark)) (at : ℕ) (mark : Mark) → at < length seats
+    → ((d : T × Mark) → after ≡ set seats at ((get_or seats at d).0, mark)) → items_of after ≡ items_of seats
+items_after_set [] after at mark there is = absurd (omega (arith, there))
+items_after_set (s ∷ seats) after at mark there is = ap items_of (is s) ∙ items_set (s ∷ seats) at (get_or (s ∷ seats) at s).0 mark s there refl
 
 -- ---- what a look tells
 
@@ -170,3 +177,83 @@ known_not_free waiting gets replies rests k d within old =
 pub rests_set : (waiting : List Waiting) (gets : List Get) (replies : List (Held × Mark)) (at : ℕ) (h : Held) → is_free_by waiting gets h ≡ false → All (Rests waiting gets) replies
     → All (Rests waiting gets) (set replies at (h, Quiet))
 rests_set waiting gets replies at h busy rests = All-set (Rests waiting gets) replies at (h, Quiet) busy rests
+
+-- ---- by what the calls leave
+
+pub tells_after : (gets : List Get) (board : Board) (seats after : List (Waiting × Mark)) (at : ℕ) (mark : Mark) → at < length seats
+    → ((d : Waiting × Mark) → after ≡ set seats at ((get_or seats at d).0, mark))
+    → ((d : Waiting × Mark) → sight (items_of seats) gets board (get_or seats at d).0.header ≡ Some mark)
+    → All (Tells (items_of seats) gets board) seats → All (Tells (items_of after) gets board) after
+tells_after gets board [] after at mark there is sees tells = absurd (omega (arith, there))
+tells_after gets board (s ∷ seats) after at mark there is sees tells =
+    let all : List (Waiting × Mark) = s ∷ seats in
+    subst (λ (l : List (Waiting × Mark)). All (Tells (items_of l) gets board) l) (sym (is s))
+    (tells_set gets board all at (get_or all at s).0 mark s there refl (sees s) tells)
+
+pub rests_after : (waiting : List Waiting) (gets : List Get) (replies after : List (Held × Mark)) (at : ℕ) → at < length replies
+    → ((d : Held × Mark) → after ≡ set replies at ((get_or replies at d).0, Quiet))
+    → ((d : Held × Mark) → is_free_by waiting gets (get_or replies at d).0 ≡ false)
+    → All (Rests waiting gets) replies → All (Rests waiting gets) after
+rests_after waiting gets [] after at there is busy rests = absurd (omega (arith, there))
+rests_after waiting gets (s ∷ replies) after at there is busy rests =
+    let all : List (Held × Mark) = s ∷ replies in
+    subst (λ (l : List (Held × Mark)). All (Rests waiting gets) l) (sym (is s)) (rests_set waiting gets all at (get_or all at s).0 (busy s) rests)
+
+pub smaller_after : {T : Type 0} (seats after : List (T × Mark)) (at : ℕ) (mark : Mark) → is_mark New mark ≡ false → at ≡ position_or_len (has New) seats → at < length seats
+    → ((d : T × Mark) → after ≡ set seats at ((get_or seats at d).0, mark))
+    → length after - position_or_len (has New) after < length seats - position_or_len (has New) seats
+smaller_after [] after at mark old first there is = absurd (omega (arith, there))
+smaller_after {T} (s ∷ seats) after at mark old first there is =
+    let all : List (T × Mark) = s ∷ seats in
+    subst (λ (l : List (T × Mark)). length l - position_or_len (has New) l < length all - position_or_len (has New) all) (sym (is s))
+    (smaller all at (get_or all at s).0 mark old first there)
+
+pub first_passing_at : {T : Type 0} (p : T → Bool) (seats : List (T × Mark)) (at : ℕ) → KnownToFail p seats → at ≡ position_or_len (has New) seats → at < length seats
+    → ((d : T × Mark) → p (get_or seats at d).0 ≡ true) → at ≡ position_or_len p (items_of seats)
+first_passing_at p [] at known first there passes = absurd (omega (arith, there))
+first_passing_at p (s ∷ seats) at known first there passes = first_passing p (s ∷ seats) at s known first (λ _. passes s)
+
+-- a walk over waiting blocks: the same blocks, and what is remembered is true
+pub record IsLooking (before now : List (Waiting × Mark)) (gets : List Get) (board : Board) : Type 0 where
+  pub same : items_of now ≡ items_of before
+  pub tells : All (Tells (items_of now) gets board) now
+
+-- a walk over held replies
+pub record IsChecking (before now : List (Held × Mark)) (waiting : List Waiting) (gets : List Get) : Type 0 where
+  pub same : items_of now ≡ items_of before
+  pub rests : All (Rests waiting gets) now
+
+-- ---- ready blocks
+
+-- a test of the items that is one of what is remembered has the same first place
+pub position_same : {T : Type 0} (p : T → Bool) (q : T × Mark → Bool) (seats : List (T × Mark)) → All (λ s. p s.0 ≡ q s) seats → position_or_len p (items_of seats) ≡ position_or_len q seats
+position_same p q [] h = refl
+position_same {T} p q (s ∷ seats) h =
+    ap (λ b. cond (not b) (1 + position_or_len p (items_of seats)) 0) (All-head (λ (s : T × Mark). p s.0 ≡ q s) s seats h)
+    ∙ ap (λ n. cond (not (q s)) (1 + n) 0) (position_same p q seats (All-tail (λ (s : T × Mark). p s.0 ≡ q s) s seats h))
+
+ripe_on : (on other : Bool) → cond on (Some Ripe) (cond other (Some Quiet) None) ≡ Some Ripe → on ≡ true
+ripe_on true other h = refl
+ripe_on false true h = absurd cc
+ripe_on false false h = absurd cc
+
+quiet_off : (on other : Bool) → cond on (Some Ripe) (cond other (Some Quiet) None) ≡ Some Quiet → on ≡ false
+quiet_off true other h = absurd cc
+quiet_off false other h = refl
+
+-- a block that was looked at is ready where it is ripe
+ready_is_ripe : (waiting : List Waiting) (gets : List Get) (board : Board) (w : Waiting) (mark : Mark) → Tells waiting gets board (w, mark) → is_mark New mark ≡ false
+    → is_ready board w ≡ is_mark Ripe mark
+ready_is_ripe waiting gets board w New h old = absurd cc
+ready_is_ripe waiting gets board w Quiet h old = quiet_off (is_on board w.header.parent) (asked_in gets w.header.parent || waits_below waiting w.header) h
+ready_is_ripe waiting gets board w Ripe h old = ripe_on (is_on board w.header.parent) (asked_in gets w.header.parent || waits_below waiting w.header) h
+
+pub ready_all : (gets : List Get) (board : Board) (seats : List (Waiting × Mark)) → All (Tells (items_of seats) gets board) seats → length seats ≡ position_or_len (has New) seats
+    → All (λ s. is_ready board s.0 ≡ has Ripe s) seats
+ready_all gets board seats tells seen k d within =
+    let s = get_or seats k d in
+    ready_is_ripe (items_of seats) gets board s.0 s.1 (tells k d within) (fails_before_first (has New) seats k d (omega (arith, within, seen)))
+
+-- where no block is ripe, none is ready
+pub none_ripe : {T : Type 0} (seats : List (T × Mark)) → length seats ≤ position_or_len (has Ripe) seats → All (λ s. has Ripe s ≡ false) seats
+none_ripe seats past k d within = fails_before_first (has Ripe) seats k d (omega (arith, within, past))

@@ -126,11 +126,11 @@ place_apart tags at k d rising there within same =
         omega (arith, less, e, same))
     (cases_lt k at)
 
-other_left : (b : Bool) (row : List ℕ) (gone place : ℕ) → (place ≡ gone → ⊥) → has_place place (cond b (left_by gone row) row) ≡ has_place place row
+pub other_left : (b : Bool) (row : List ℕ) (gone place : ℕ) → (place ≡ gone → ⊥) → has_place place (cond b (left_by gone row) row) ≡ has_place place row
 other_left true row gone place apart = has_left row gone place apart
 other_left false row gone place apart = refl
 
-unused_left : (b : Bool) (row : List ℕ) (gone place : ℕ) → has_place place row ≡ false → has_place place (cond b (left_by gone row) row) ≡ false
+pub unused_left : (b : Bool) (row : List ℕ) (gone place : ℕ) → has_place place row ≡ false → has_place place (cond b (left_by gone row) row) ≡ false
 unused_left true row gone place h = none_left row gone place h
 unused_left false row gone place h = h
 

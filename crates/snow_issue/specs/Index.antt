@@ -84,15 +84,14 @@ pub record HasAsked (ids : BTreeSet (List ℕ)) (gets : List Get) : Type 0 where
 abbrev pub has_reply : BTreeMap ℕ (BTreeSet (List ℕ)) → ℕ → List ℕ → Bool
 has_reply polls number node = option_map_or (λ nodes. contains (slice_cmp nat_cmp) nodes node) (get nat_cmp polls number) false
 
--- no node has two replies to a poll
-abbrev pub AreRepliesApart : List Held → Type 0
-AreRepliesApart [] = Unit {0}
-AreRepliesApart (h ∷ held) = (holds_in held h.number h.node ≡ false) × AreRepliesApart held
+-- the number of a reply's poll, and its node, in one list
+abbrev pub reply_key : Held → List ℕ
+reply_key h = h.number ∷ h.node
 
 -- the map has each held reply by poll and node, and none is held twice
 pub record HasReplies (polls : BTreeMap ℕ (BTreeSet (List ℕ))) (held : List Held) : Type 0 where
   pub known : (number : ℕ) (node : List ℕ) → has_reply polls number node ≡ holds_in held number node
-  pub apart : AreRepliesApart held
+  pub apart : AreNamedApart reply_key held
 
 -- the items that pass keep their places in the rows
 abbrev pub KeepsRows : {T : Type 0} → (Slot T → Bool) → List (Slot T) → BTreeMap (List ℕ) (List ℕ) → BTreeMap (List ℕ) (List ℕ) → Type 0

@@ -5,6 +5,7 @@ pub mod Offering
 pub mod Settling
 pub mod Bubbling
 pub mod Known
+pub mod KnownLaw
 pub mod Index
 pub mod Windows
 pub mod Keeping

@@ -17,7 +17,10 @@ pub(crate) fn bubble<B: Board>(gone: &GoneList, board: &B, id: &Id) -> Option<Id
         if board.last() == at {
             return None;
         }
-        at = gone.latest(&at)?.parent?;
+        let Some(parent) = gone.stands_for(&at) else {
+            return None;
+        };
+        at = parent;
     }
     if board.is_pending(&at) {
         return Some(at);

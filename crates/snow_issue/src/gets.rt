@@ -58,6 +58,13 @@ impl Gets {
         self.ids.contains(id)
     }
 
+    /// Whether a get with this number is open.
+    pub(crate) fn has_number(&self, number: u32) -> bool
+        ensures { result ≡ has_number self.now number }
+    {
+        self.open.contains_key(&number)
+    }
+
     /// Opens a get. After want of memory all is as before.
     pub(crate) fn open(&mut self, get: Get) -> Result<(), AllocError>
         requires number { has_number self.old get.number ≡ false }
@@ -67,9 +74,9 @@ impl Gets {
     {
         let Get { number, node, id } = get;
         self.ids.insert(id)?;
-        if self.open.insert(number, Asked { node, id }).is_err() {
+        if let Err(failed) = self.open.insert(number, Asked { node, id }) {
             let _ = self.ids.remove(&id);
-            return Err(AllocError);
+            return Err(failed.into());
         }
         Ok(())
     }
@@ -79,12 +86,17 @@ impl Gets {
         ensures answer { result ≡ option_map (λ g. g.id) (find (is_get number node.now) self.old) }
         ensures left { self.new ≡ without (is_get number node.now) self.old }
     {
-        match self.open.get(&number) {
-            Some(asked) if asked.node == *node => {}
-            _ => return None,
+        // Its numbers rise, so no other get has this one.
+        let _rising = self.open.len();
+        let Some(found) = self.open.get(&number) else {
+            return None;
+        };
+        if found.node != *node {
+            return None;
         }
-        let asked = self.open.remove(&number)?;
-        let _ = self.ids.remove(&asked.id);
-        Some(asked.id)
+        let id = found.id;
+        let _ = self.open.remove(&number);
+        let _ = self.ids.remove(&id);
+        Some(id)
     }
 }

@@ -6,6 +6,7 @@ mod bubbling;
 mod gets;
 mod gone;
 mod gone_index;
+mod laws;
 mod lineup;
 mod looking;
 mod marks;
@@ -19,5 +20,9 @@ mod window;
 mod work;
 
 pub use gone::Gone;
+pub use laws::{issue_stays_known_law, poll_stays_known_law};
 pub use queue::Queue;
 pub use work::{Get, Held, Offered, Waiting, Work};
+
+#[cfg(test)]
+mod tests;

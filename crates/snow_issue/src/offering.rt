@@ -35,8 +35,9 @@ pub(crate) fn is_wanted<B: Board>(waiting: &WaitingList, gets: &Gets, gone: &Gon
 fn is_high<B: Board>(board: &B, block: &Header) -> bool
     ensures { result ≡ is_high (B.board board.now) block.now }
 {
+    let height = block.height;
     match board.last_height().checked_add(1) {
-        Some(next) => next < block.height,
+        Some(next) => next < height,
         None => false,
     }
 }

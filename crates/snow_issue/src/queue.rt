@@ -106,7 +106,8 @@ impl Queue {
         ensures knows { (b : model.Board) → Knows self.old b → Knows self.new b }
         ensures limits { AreWithinLimits (lists_of self.new) }
     {
-        self.gets.open(Get { number, node, id })
+        self.gets.open(Get { number, node, id })?;
+        Ok(())
     }
 
     /// Closes the get of this number and node, and gives the block that was asked for; None, with
@@ -131,7 +132,8 @@ impl Queue {
         ensures knows { (b : model.Board) → Knows self.old b → Knows self.new b }
         ensures limits { AreWithinLimits (lists_of self.new) }
     {
-        self.replies.push(reply)
+        self.replies.push(reply)?;
+        Ok(())
     }
 
     /// Whether a node's reply to a poll is held.
@@ -148,6 +150,20 @@ impl Queue {
         ensures limits { AreWithinLimits (lists_of self.new) }
     {
         self.replies.forget(number);
+    }
+
+    /// Whether a block is asked for.
+    pub fn is_asked(&self, id: &Id) -> bool
+        ensures { result ≡ is_asked (lists_of self.now) id.now }
+    {
+        self.gets.asks_for(id)
+    }
+
+    /// Whether a get with this number is open.
+    pub fn has_number(&self, number: u32) -> bool
+        ensures { result ≡ has_number self.now.gets number }
+    {
+        self.gets.has_number(number)
     }
 
     /// How many gets are open.

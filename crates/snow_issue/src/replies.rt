@@ -1,8 +1,8 @@
-ghost use Rattle.std.specs.Prelude.{◌≡◌, ℕ, ◌<◌, ◌==◌, ◌&&◌, ◌||◌, ◌∷◌, ◌++◌, [], List, map, not, filter, false, bytes_eq, length, slice_set, HoldsAt, OnOk, OnErr};
+ghost use Rattle.std.specs.Prelude.{◌≡◌, ℕ, ◌<◌, ◌==◌, ◌&&◌, ◌||◌, ◌∷◌, ◌++◌, [], List, map, not, filter, false, bytes_eq, length, slice_set, HoldsAt, OnOk, OnErr, if◌then◌else◌};
 ghost use Rattle.std.specs.List.{AllPairs, position_or_len, remove};
 ghost use Rattle.snow_issue.specs.Known.{has, items_of};
 ghost use Rattle.snow_issue.specs.Lists.{holds_in};
-ghost use Rattle.snow_issue.specs.Index.{woken, row_of, has_place, has_reply, KeepsRows};
+ghost use Rattle.snow_issue.specs.Index.{woken, row_of, left_by, has_place, has_reply, KeepsRows};
 
 use crate::lineup::{Keyed, Lineup, Slot};
 use crate::marks::Mark;
@@ -81,11 +81,11 @@ impl Replies {
         ensures err { OnErr result (self.new ≡ self.old) }
     {
         enter(&mut self.polls, self.alloc, reply.number, reply.node)?;
-        let pushed = self.lineup.push(reply);
-        if pushed.is_err() {
+        if let Err(error) = self.lineup.push(reply) {
             leave(&mut self.polls, reply.number, &reply.node);
+            return Err(error);
         }
-        pushed
+        Ok(())
     }
 
     /// Where the first reply with this mark stands, or how many replies there are.
@@ -134,9 +134,10 @@ impl Replies {
     pub(crate) fn forget(&mut self, number: u32)
         ensures { self.new ≡ filter (λ s. not (s.0.number == number)) self.old }
     {
-        if self.polls.remove(&number).is_some() {
-            self.lineup.leave_poll(number);
-        }
+        let Some(_nodes) = self.polls.remove(&number) else {
+            return;
+        };
+        self.lineup.leave_poll(number);
     }
 }
 
@@ -161,9 +162,16 @@ fn leave_rows(slots: &[Slot<Held>], rows: &mut Rows, number: u32)
     ensures unused { (id : List ℕ) (place : ℕ) → has_place place (row_of rows.old.rows id) ≡ false → has_place place (row_of rows.new.rows id) ≡ false }
 {
     for slot in slots {
-        if slot.item.number == number {
-            rows.leave(&slot.item.id, slot.place);
-        }
+        leave_row(slot, rows, number);
+    }
+}
+
+// The place of a reply goes out of its row, where it is one to this poll.
+fn leave_row(slot: &Slot<Held>, rows: &mut Rows, number: u32)
+    ensures { (q : List ℕ) → row_of rows.new.rows q ≡ (if (slot.now.item.number == number) && bytes_eq slot.now.item.id q then left_by slot.now.place (row_of rows.old.rows q) else row_of rows.old.rows q) }
+{
+    if slot.item.number == number {
+        rows.leave(&slot.item.id, slot.place);
     }
 }
 
@@ -174,7 +182,7 @@ fn enter(
     number: u32,
     node: NodeId,
 ) -> Result<(), AllocError>
-    ensures ok { OnOk result ((n : ℕ) (other : List ℕ) → has_reply polls.new n other ≡ (((n == number) && bytes_eq other node) || has_reply polls.old n other)) }
+    ensures ok { OnOk result ((n : ℕ) (other : List ℕ) → has_reply polls.new n other ≡ (has_reply polls.old n other || ((number == n) && bytes_eq node other))) }
     ensures err { OnErr result ((n : ℕ) (other : List ℕ) → has_reply polls.new n other ≡ has_reply polls.old n other) }
 {
     if let Some(nodes) = polls.get_mut(&number) {
@@ -189,7 +197,7 @@ fn enter(
 
 // A node has no reply to a poll any more.
 fn leave(polls: &mut BTreeMap<u32, BTreeSet<NodeId>>, number: u32, node: &NodeId)
-    ensures { (n : ℕ) (other : List ℕ) → has_reply polls.new n other ≡ (not ((n == number) && bytes_eq other node.now) && has_reply polls.old n other) }
+    ensures { (n : ℕ) (other : List ℕ) → has_reply polls.new n other ≡ (if (number == n) && bytes_eq node.now other then false else has_reply polls.old n other) }
 {
     if let Some(nodes) = polls.get_mut(&number) {
         let _ = nodes.remove(node);

@@ -4,7 +4,7 @@ ghost use Rattle.std.specs.Option.{option_map};
 ghost use Rattle.snow_issue.specs.declared.marks.Mark.TheVariants.{New};
 ghost use Rattle.snow_issue.specs.declared.work.Work.TheVariants as work;
 ghost use Rattle.snow_issue.specs.Settling.{is_hopeless, is_ready, is_free, gone_with, after};
-ghost use Rattle.snow_issue.specs.Lists.{without};
+ghost use Rattle.snow_issue.specs.Lists.{without, AreWithinLimits};
 ghost use Rattle.snow_issue.specs.Known.{lists_of, has, Knows, ForgetsChildren, NoneRipe};
 ghost use Rattle.snow_issue.specs.Index.{woken};
 
@@ -24,6 +24,7 @@ impl Queue {
         ensures gets { self.new.gets ≡ self.old.gets }
         ensures held { self.new.held ≡ self.old.held }
         ensures gone { self.new.gone ≡ self.old.gone }
+        ensures limits { AreWithinLimits (lists_of self.new) }
     {
         let block = self.waiting.take(at);
         self.waiting.wake(&block.header.id);
@@ -37,6 +38,7 @@ impl Queue {
         ensures gets { self.new.gets ≡ self.old.gets }
         ensures held { self.new.held ≡ self.old.held }
         ensures gone { self.new.gone ≡ gone_with self.old.gone block.now.header }
+        ensures limits { AreWithinLimits (lists_of self.new) }
     {
         let header = &block.header;
         if self.gone.stands_for(&header.parent).is_some() {
@@ -54,6 +56,7 @@ impl Queue {
         ensures lists { lists_of self.new ≡ after (lists_of self.old) (B.board board.now) (option_map work.Hopeless result) }
         ensures knows { Knows self.new (B.board board.now) }
         ensures seen { result ≡ None → length self.new.seats ≡ position_or_len (has New) self.new.seats }
+        ensures limits { AreWithinLimits (lists_of self.new) }
     {
         let at = looking::first_hopeless(&mut self.waiting, &self.gets, board);
         if at >= self.waiting.len() {
@@ -73,6 +76,7 @@ impl Queue {
         ensures knows { Knows self.new (B.board board.now) }
         ensures forgets { IfSome result (λ block. ForgetsChildren block.header.id self.new.seats) }
         ensures none { result ≡ None → NoneRipe self.new.seats }
+        ensures limits { AreWithinLimits (lists_of self.new) }
     {
         let at = self.waiting.first(Mark::Ripe);
         if at >= self.waiting.len() {
@@ -88,6 +92,7 @@ impl Queue {
         ensures seats { self.new.seats ≡ self.old.seats }
         ensures gets { self.new.gets ≡ self.old.gets }
         ensures gone { self.new.gone ≡ self.old.gone }
+        ensures limits { AreWithinLimits (lists_of self.new) }
     {
         let at = looking::first_free(&mut self.replies, &self.waiting, &self.gets);
         if at >= self.replies.len() {

@@ -84,13 +84,13 @@ impl WaitingList {
         ensures ok { OnOk result (self.new ≡ self.old ++ (block, New) ∷ []) }
         ensures err { OnErr result (self.new ≡ self.old) }
     {
-        let Header { id, height, .. } = block.header;
-        self.heights.insert(id, height)?;
-        let pushed = self.lineup.push(block);
-        if pushed.is_err() {
-            let _ = self.heights.remove(&id);
+        let header = block.header;
+        self.heights.insert(header.id, header.height)?;
+        if let Err(error) = self.lineup.push(block) {
+            let _ = self.heights.remove(&header.id);
+            return Err(error);
         }
-        pushed
+        Ok(())
     }
 
     /// Where the first block with this mark stands, or how many blocks there are.
