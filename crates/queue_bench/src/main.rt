@@ -3,11 +3,12 @@
 #![tactic(auto)]
 
 ghost use Rattle.std.specs.Prelude.{◌≡◌, OnOk, IfOk};
+ghost use Rattle.snow_plain.specs.Board as model;
 ghost use Rattle.snow_issue.specs.Known.{Knows, ForgetsChildren};
 
 use snow_base::{Bytes, Header, Id, NodeId};
 use snow_flake::{Params, Snowball};
-use snow_issue::{Queue, Waiting, Work};
+use snow_issue::{Offered, Queue, Waiting, Work};
 use snow_plain::{Board, PlainBoard};
 use std::alloc::{AllocError, Global};
 use std::time::Instant;
@@ -119,6 +120,100 @@ fn settle<B: Board>(queue: &mut Queue, board: &mut B) -> Result<u32, AllocError>
             }
             Some(_) => {}
             None => return Ok(issued),
+        }
+    }
+    Ok(issued)
+}
+
+/// Opens a get, where that may be.
+fn ask(queue: &mut Queue, number: u32, id: Id) -> Result<(), AllocError>
+    ensures { (b : model.Board) → OnOk result (Knows queue.old b → Knows queue.new b) }
+{
+    if queue.gets_len() >= 4096 || queue.has_number(number) || queue.is_asked(&id) {
+        return Ok(());
+    }
+    queue.asked(number, node(), id)?;
+    Ok(())
+}
+
+/// A block comes: its own get is closed, and its parent is asked for under the parent's number.
+fn arrive<B: Board>(alloc: Global, queue: &mut Queue, board: &B, number: u16) -> Result<(), AllocError>
+    requires { Knows queue.old (B.board board.now) }
+    ensures { OnOk result (Knows queue.new (B.board board.now)) }
+{
+    let _closed = queue.close_get(u32::from(number), &node());
+    match queue.offer(block(alloc, number), board)? {
+        Offered::Waits { ask: Some(parent) } => ask(queue, u32::from(number.saturating_sub(1)), parent),
+        _ => Ok(()),
+    }
+}
+
+/// All blocks come in reverse order, and after each the queue settles. Counts the blocks issued.
+fn arrive_all<B: Board>(alloc: Global, queue: &mut Queue, board: &mut B) -> Result<u32, AllocError>
+    requires { Knows queue.old (B.board board.old) }
+{
+    let mut issued = 0u32;
+    for passed in 0..BLOCKS {
+        arrive(alloc, queue, board, BLOCKS - passed)?;
+        issued = issued.saturating_add(settle(queue, board)?);
+    }
+    Ok(issued)
+}
+
+/// The whole of it, from an empty queue.
+fn reversed(alloc: Global) -> anyhow::Result<u32> {
+    let mut board = above(alloc)?;
+    let mut queue = Queue::new(alloc, named(0))?;
+    Ok(arrive_all(alloc, &mut queue, &mut board)?)
+}
+
+/// A queue in which all blocks but the first wait, and the first is asked for.
+fn waiting<B: Board>(alloc: Global, board: &B) -> Result<Queue, AllocError>
+    ensures { IfOk result (λ queue. Knows queue (B.board board.now)) }
+{
+    let mut queue = Queue::new(alloc, named(0))?;
+    ask(&mut queue, 1, named(1))?;
+    for number in 1..BLOCKS {
+        let _answer = queue.offer(block(alloc, number + 1), board)?;
+    }
+    Ok(queue)
+}
+
+/// Timeouts of a number that nobody waits for. Counts the steps that they find.
+fn time_out<B: Board>(queue: &mut Queue, board: &B, times: u32) -> u32
+    requires { Knows queue.old (B.board board.now) }
+    ensures { Knows queue.new (B.board board.now) }
+{
+    let mut found = 0u32;
+    for _ in 0..times {
+        let _closed = queue.close_get(100_000, &node());
+        if queue.next_known(board).is_some() {
+            found = found.saturating_add(1);
+        }
+    }
+    found
+}
+
+/// Issues the block of a number on the one before it, where that may be.
+fn issue_one<B: Board>(board: &mut B, number: u16) -> Result<bool, AllocError> {
+    let id = named(number);
+    let parent = named(number.saturating_sub(1));
+    let Some(below) = board.height_of(&parent) else {
+        return Ok(false);
+    };
+    if below == u64::MAX || board.height_of(&id).is_some() || board.pending_len() >= 4096 {
+        return Ok(false);
+    }
+    board.issue(id, parent, below + 1)?;
+    Ok(true)
+}
+
+/// Issues all blocks in order, and counts them.
+fn issue_all<B: Board>(board: &mut B) -> Result<u32, AllocError> {
+    let mut issued = 0u32;
+    for number in 0..BLOCKS {
+        if issue_one(board, number + 1)? {
+            issued = issued.saturating_add(1);
         }
     }
     Ok(issued)

@@ -140,9 +140,9 @@ number_is a b =
     ⊎_elim
     (λ (same : a ≡ b). rw (← same, eq-eqb a a refl, le-ltb a a (omega arith)) refl)
     (λ apart. ⊎_elim
-        (λ (less : a < b). rw (lt-ltb a b less, ne_eqb b a (λ e. omega (arith, e, less))) refl)
-        (λ (more : b < a). rw (le-ltb a b (omega (arith, more)), ne_eqb a b (λ e. omega (arith, e, more)), ne_eqb b a (λ e. omega (arith, e, more))) refl)
-        apart)
+    (λ (less : a < b). rw (lt-ltb a b less, ne_eqb b a (λ e. omega (arith, e, less))) refl)
+    (λ (more : b < a). rw (le-ltb a b (omega (arith, more)), ne_eqb a b (λ e. omega (arith, e, more)), ne_eqb b a (λ e. omega (arith, e, more))) refl)
+    apart)
     (cases_order a b)
 
 missing_number : (es : Entries) (number : ℕ) (node : List ℕ) → None ≡ lookup (is_at (nat_cmp number)) es → find (is_get number node) (map get_of es) ≡ None
@@ -225,4 +225,4 @@ number_known [] number = refl
 number_known (e ∷ es) number =
     let Goal : Bool → Type 0 = λ b. is_some (cond b (Some e.1) (lookup (is_at (nat_cmp number)) es)) ≡ (b || has_number (map get_of es) number) in
     ap (λ b. is_some (cond b (Some e.1) (lookup (is_at (nat_cmp number)) es))) (number_is number e.0)
-    ∙ (elim (e.0 == number) as Goal [ | true ↦ refl | false ↦ number_known es number ])
+    ∙ (elim (e.0 == number) as Goal [ true ↦ refl | false ↦ number_known es number ])

@@ -70,8 +70,8 @@ first_passing {T} p seats at d known first passes =
     let short : position_or_len (has New) seats ≤ length seats = within_length (has New) seats in
     sym (position_or_len_is p (items_of seats) at d.0 (omega (arith, long, short, first))
     (λ k less.
-        let within : k < length seats = omega (arith, less, first, short) in
-        ap p (items_at seats k d within) ∙ known k d within (fails_before_first (has New) seats k d (omega (arith, less, first))))
+    let within : k < length seats = omega (arith, less, first, short) in
+    ap p (items_at seats k d within) ∙ known k d within (fails_before_first (has New) seats k d (omega (arith, less, first))))
     (λ within. let h : at < length seats = omega (arith, within, long) in ap p (items_at seats at d h) ∙ passes h))
 
 -- where nothing is new, none passes
@@ -89,9 +89,9 @@ smaller {T} seats at x mark old first there =
     let later : at + 1 ≤ position_or_len (has New) (set seats at new) =
     at_least (has New) (set seats at new) (at + 1) new (omega (arith, long, there))
     (λ k less. ⊎_elim
-        (λ (h : k < at). ap (has New) (get_or-set_other seats at k new new (λ e. omega (arith, e, h))) ∙ fails_before_first (has New) seats k new (omega (arith, h, first)))
-        (λ (h : at ≤ k). let same : k ≡ at = omega (arith, h, less) in ap (has New) (ap (λ k. get_or (set seats at new) k new) same ∙ get_or-set_same seats at new new there) ∙ old)
-        (cases_lt k at)) in
+    (λ (h : k < at). ap (has New) (get_or-set_other seats at k new new (λ e. omega (arith, e, h))) ∙ fails_before_first (has New) seats k new (omega (arith, h, first)))
+    (λ (h : at ≤ k). let same : k ≡ at = omega (arith, h, less) in ap (has New) (ap (λ k. get_or (set seats at new) k new) same ∙ get_or-set_same seats at new new there) ∙ old)
+    (cases_lt k at)) in
     omega (arith, long, later, first, there)
 
 -- the items stay

@@ -133,4 +133,3 @@ any_named {T} name test (y ∷ items) id apart =
           ap (λ b. test y || b) (rest ∙ ap (λ o. option_map_or test o false) none) ∙ or_false (test y)
       | false ↦ λ e. rest
     ] refl
-

@@ -98,9 +98,9 @@ none_left [] place other h = h
 none_left (p ∷ row) place other h =
     let Goal : Bool → Type 0 = λ b. ((p == other) || has_place other row) ≡ false → has_place other (cond (not b) (p ∷ left_by place row) (left_by place row)) ≡ false in
     let Part : Bool → Type 0 = λ b. (b || has_place other row) ≡ false → (b || has_place other (left_by place row)) ≡ false in
-    let part : (b : Bool) → Part b = λ b. elim b as Part [ | true ↦ λ k. k | false ↦ λ k. none_left row place other k ] in
+    let part : (b : Bool) → Part b = λ b. elim b as Part [ true ↦ λ k. k | false ↦ λ k. none_left row place other k ] in
     let rest : (b : Bool) → (b || has_place other row) ≡ false → has_place other (left_by place row) ≡ false =
-    λ b. elim b as (λ b. (b || has_place other row) ≡ false → has_place other (left_by place row) ≡ false) [ | true ↦ λ k. absurd cc | false ↦ λ k. none_left row place other k ] in
+    λ b. elim b as (λ b. (b || has_place other row) ≡ false → has_place other (left_by place row) ≡ false) [ true ↦ λ k. absurd cc | false ↦ λ k. none_left row place other k ] in
     elim (p == place) as Goal [
       | true ↦ λ k. rest (p == other) k
       | false ↦ λ k. part (p == other) k

@@ -53,15 +53,15 @@ missing_behind [] place at rises point here = refl
 missing_behind {T} (s ∷ slots) place at rises point here =
     let all : List (Slot T) = s ∷ slots in
     missing_place all place s (λ k within same. ⊎_elim
-        (λ (less : k < at). let l = ltb-true (get_or all k s).place place (point.0 k s (omega arith) less) in omega (arith, l, same))
-        (λ (more : at ≤ k). ⊎_elim
-            (λ (less : at < k).
-                let l = rises at k s less within in
-                let b = ltb-false (get_or all at s).place place (point.1 at s (omega arith) (omega (arith, less, within))) in
-                omega (arith, l, b, same))
-            (λ (le : k ≤ at). let e : k ≡ at = omega (arith, le, more) in here s (omega (arith, e, within)) (ap (λ k. (get_or all k s).place) (sym e) ∙ same))
-            (cases_lt at k))
-        (cases_lt k at))
+    (λ (less : k < at). let l = ltb-true (get_or all k s).place place (point.0 k s (omega arith) less) in omega (arith, l, same))
+    (λ (more : at ≤ k). ⊎_elim
+    (λ (less : at < k).
+    let l = rises at k s less within in
+    let b = ltb-false (get_or all at s).place place (point.1 at s (omega arith) (omega (arith, less, within))) in
+    omega (arith, l, b, same))
+    (λ (le : k ≤ at). let e : k ≡ at = omega (arith, le, more) in here s (omega (arith, e, within)) (ap (λ k. (get_or all k s).place) (sym e) ∙ same))
+    (cases_lt at k))
+    (cases_lt k at))
 
 -- ---- one slot is woken
 
@@ -78,35 +78,35 @@ woken_one slots place at s rises first there is =
     (subst (λ k. ((get_or slots k s).place == place) ≡ true) (sym first) (passes_at_first (λ s. s.place == place) slots s (omega (arith, first, there)))) in
     same_lists (set slots at (reset s)) (map (woken_at (place ∷ [])) slots) (length-set slots at (reset s) ∙ sym (length-map slots (woken_at (place ∷ []))))
     (λ k d within.
-        let long : k < length slots = omega (arith, length-set slots at (reset s), within) in
-        let right = get_or-map (woken_at (place ∷ [])) slots k d d long in
-        ⊎_elim
-        (λ (same : k ≡ at).
-            let here : get_or slots k d ≡ s = ap (λ k. get_or slots k d) same ∙ get_or_default slots at d s there ∙ sym is in
-            ap (λ k. get_or (set slots at (reset s)) k d) same ∙ get_or-set_same slots at (reset s) d there
-            ∙ one_place place s (eq-eqb place s.place (sym (ap (λ (s : Slot _). s.place) is ∙ passes)))
-            ∙ ap (woken_at (place ∷ [])) (sym here) ∙ sym right)
-        (λ other.
-            let apart : (place == (get_or slots k d).place) ≡ false = ne_eqb place (get_or slots k d).place (λ e.
-            let at_d : (get_or slots at d).place ≡ place = ap (λ (s : Slot _). s.place) (get_or_default slots at d s there) ∙ passes in
-            ⊎_elim
-            (λ (less : k < at). let l = rises k at d less there in absurd (omega (arith, l, at_d, e)))
-            (λ (more : at ≤ k). ⊎_elim
-                (λ (less : at < k). let l = rises at k d less long in absurd (omega (arith, l, at_d, e)))
-                (λ (le : k ≤ at). other (omega (arith, more, le)))
-                (cases_lt at k))
-            (cases_lt k at)) in
-            get_or-set_other slots at k (reset s) d other ∙ other_place place (get_or slots k d) apart ∙ sym right)
-        (cases_eq k at))
+    let long : k < length slots = omega (arith, length-set slots at (reset s), within) in
+    let right = get_or-map (woken_at (place ∷ [])) slots k d d long in
+    ⊎_elim
+    (λ (same : k ≡ at).
+    let here : get_or slots k d ≡ s = ap (λ k. get_or slots k d) same ∙ get_or_default slots at d s there ∙ sym is in
+    ap (λ k. get_or (set slots at (reset s)) k d) same ∙ get_or-set_same slots at (reset s) d there
+    ∙ one_place place s (eq-eqb place s.place (sym (ap (λ (s : Slot _). s.place) is ∙ passes)))
+    ∙ ap (woken_at (place ∷ [])) (sym here) ∙ sym right)
+    (λ other.
+    let apart : (place == (get_or slots k d).place) ≡ false = ne_eqb place (get_or slots k d).place (λ e.
+    let at_d : (get_or slots at d).place ≡ place = ap (λ (s : Slot _). s.place) (get_or_default slots at d s there) ∙ passes in
+    ⊎_elim
+    (λ (less : k < at). let l = rises k at d less there in absurd (omega (arith, l, at_d, e)))
+    (λ (more : at ≤ k). ⊎_elim
+    (λ (less : at < k). let l = rises at k d less long in absurd (omega (arith, l, at_d, e)))
+    (λ (le : k ≤ at). other (omega (arith, more, le)))
+    (cases_lt at k))
+    (cases_lt k at)) in
+    get_or-set_other slots at k (reset s) d other ∙ other_place place (get_or slots k d) apart ∙ sym right)
+    (cases_eq k at))
 
 pub woken_none : {T : Type 0} (slots : List (Slot T)) (place at : ℕ) → at ≡ position_or_len (λ s. s.place == place) slots → length slots ≤ at
     → slots ≡ map (woken_at (place ∷ [])) slots
 woken_none slots place at first past =
     same_lists slots (map (woken_at (place ∷ [])) slots) (sym (length-map slots (woken_at (place ∷ []))))
     (λ k d within.
-        let fails = fails_before_first (λ s. s.place == place) slots k d (omega (arith, first, past, within)) in
-        let apart = ne_eqb place (get_or slots k d).place (λ e. eqb-false (get_or slots k d).place place fails (sym e)) in
-        other_place place (get_or slots k d) apart ∙ sym (get_or-map (woken_at (place ∷ [])) slots k d d within))
+    let fails = fails_before_first (λ s. s.place == place) slots k d (omega (arith, first, past, within)) in
+    let apart = ne_eqb place (get_or slots k d).place (λ e. eqb-false (get_or slots k d).place place fails (sym e)) in
+    other_place place (get_or slots k d) apart ∙ sym (get_or-map (woken_at (place ∷ [])) slots k d d within))
 
 -- ---- the slots of a row are woken
 
@@ -175,11 +175,11 @@ keeps_left {T} stays slots before mid now at s key rises there is goes kept chan
     ⊎_elim
     (λ (less : k < at). let l = rises k at d less there in omega (arith, l, place, e))
     (λ (more : at ≤ k). ⊎_elim
-        (λ (less : at < k). let l = rises at k d less within in omega (arith, l, place, e))
-        (λ (le : k ≤ at).
-            let same : k ≡ at = omega (arith, le, more) in
-            both_ways (stays s) goes (sym (ap stays (ap (λ k. get_or slots k d) same ∙ here)) ∙ passes))
-        (cases_lt at k))
+    (λ (less : at < k). let l = rises at k d less within in omega (arith, l, place, e))
+    (λ (le : k ≤ at).
+    let same : k ≡ at = omega (arith, le, more) in
+    both_ways (stays s) goes (sym (ap stays (ap (λ k. get_or slots k d) same ∙ here)) ∙ passes))
+    (cases_lt at k))
     (cases_lt k at) in
     ap (has_place (get_or slots k d).place) (change id)
     ∙ other_left (bytes_eq key id) (row_of mid id) s.place (get_or slots k d).place apart
@@ -191,7 +191,7 @@ seats_filtered {T} test (s ∷ slots) =
     let rest = seats_filtered test slots in
     let Goal : Bool → Type 0 = λ b. map seat_of (cond b (s ∷ filter (λ s. test s.item) slots) (filter (λ s. test s.item) slots))
     ≡ cond b ((s.item, s.mark) ∷ filter (λ s. test s.0) (map seat_of slots)) (filter (λ s. test s.0) (map seat_of slots)) in
-    elim (test s.item) as Goal [ | true ↦ ap (λ l. (s.item, s.mark) ∷ l) rest | false ↦ rest ]
+    elim (test s.item) as Goal [ true ↦ ap (λ l. (s.item, s.mark) ∷ l) rest | false ↦ rest ]
 
 -- the place of a reply goes out of its row, where it is one to the poll that leaves
 pub keeps_row : (number : ℕ) (slots : List (Slot Held)) (before mid now : RowMap) (at : ℕ) (s : Slot Held) → Rises slots → at < length slots → s ≡ get_or slots at s

@@ -33,14 +33,14 @@ found_pends [] id = refl
 found_pends (q ∷ pending) id =
     let found = find (λ q. bytes_eq q.block.id id) pending in
     let Goal : Bool → Type 0 = λ b. is_some (option_map (λ q. q.block.height) (cond b (Some q) found)) ≡ (b || pends pending id) in
-    elim (bytes_eq q.block.id id) as Goal [ | true ↦ refl | false ↦ found_pends pending id ]
+    elim (bytes_eq q.block.id id) as Goal [ true ↦ refl | false ↦ found_pends pending id ]
 
 -- what is on the board is the last accepted block, or pending
 on_is : (board : Board) (id : List ℕ) → is_on board id ≡ (bytes_eq board.last id || pends board.pending id)
 on_is board id =
     let found = option_map (λ q. q.block.height) (find (λ q. bytes_eq q.block.id id) board.pending) in
     let Goal : Bool → Type 0 = λ b. is_some (cond b (Some board.height) found) ≡ (b || pends board.pending id) in
-    elim (bytes_eq board.last id) as Goal [ | true ↦ refl | false ↦ found_pends board.pending id ]
+    elim (bytes_eq board.last id) as Goal [ true ↦ refl | false ↦ found_pends board.pending id ]
 
 pends_changed : (change : List ℕ → Counters → Counters) (pending : List Pending) (id : List ℕ) → pends (map (with_counters change) pending) id ≡ pends pending id
 pends_changed change [] id = refl
@@ -81,7 +81,7 @@ fewer_pend test (q ∷ pending) id h =
     let parts = or_parts (bytes_eq q.block.id id) (pends pending id) h in
     let rest = fewer_pend test pending id parts.1 in
     let Goal : Bool → Type 0 = λ b. pends (cond b (q ∷ filter test pending) (filter test pending)) id ≡ false in
-    elim (test q) as Goal [ | true ↦ ap (λ b. b || pends (filter test pending) id) parts.0 ∙ rest | false ↦ rest ]
+    elim (test q) as Goal [ true ↦ ap (λ b. b || pends (filter test pending) id) parts.0 ∙ rest | false ↦ rest ]
 
 or_from_parts : (a b : Bool) → a ≡ false → b ≡ false → (a || b) ≡ false
 or_from_parts a b x y = ap (λ a. a || b) x ∙ y
@@ -129,11 +129,11 @@ tells_issued s board child knows forgets k d within =
     let parent = seat.0.header.parent in
     tells_by (items_of s.seats) s.gets board (issued board child) seat.0 seat.1
     (λ old.
-        let other : bytes_eq child.id parent ≡ false = false_from_ne_true (bytes_eq child.id parent) (λ t.
-        let new = forgets k d within (id_turned parent child.id ∙ t) in
-        both_ways (has New seat) old (ap (λ m. is_mark New m) new)) in
-        sight_same (items_of s.seats) s.gets board (issued board child) seat.0.header
-        (on_issued board child parent ∙ ap (λ b. is_on board parent || b) other ∙ or_false (is_on board parent)))
+    let other : bytes_eq child.id parent ≡ false = false_from_ne_true (bytes_eq child.id parent) (λ t.
+    let new = forgets k d within (id_turned parent child.id ∙ t) in
+    both_ways (has New seat) old (ap (λ m. is_mark New m) new)) in
+    sight_same (items_of s.seats) s.gets board (issued board child) seat.0.header
+    (on_issued board child parent ∙ ap (λ b. is_on board parent || b) other ∙ or_false (is_on board parent)))
     (knows k d within)
 
 -- a block that is known to wait on isn't a child of the board

@@ -57,7 +57,7 @@ pub nodes_changed : (before now : PollMap) (number : ℕ) (w : Option (BTreeSet 
     → (n : ℕ) (other : List ℕ) → has_reply now n other ≡ cond (number == n) (has_node w other) (has_reply before n other)
 nodes_changed before now number w h n other =
     let by : (b : Bool) → has_node (cond b w (get nat_cmp before n)) other ≡ cond b (has_node w other) (has_reply before n other) =
-    λ b. elim b as (λ b. has_node (cond b w (get nat_cmp before n)) other ≡ cond b (has_node w other) (has_reply before n other)) [ | true ↦ refl | false ↦ refl ] in
+    λ b. elim b as (λ b. has_node (cond b w (get nat_cmp before n)) other ≡ cond b (has_node w other) (has_reply before n other)) [ true ↦ refl | false ↦ refl ] in
     ap (λ o. has_node o other) (h n ∙ ap (λ b. cond b w (get nat_cmp before n)) (number_is number n ∙ turned n number)) ∙ by (number == n)
 
 -- a node more in a set
@@ -111,7 +111,7 @@ node_missing before number node missing n other =
     elim (number == n) as Goal [
       | true ↦ λ e.
           let here : false ≡ has_reply before n other = ap (λ o. has_node o other) missing ∙ ap (λ k. has_reply before k other) (eqb-true number n e) in
-          let either : (b : Bool) → false ≡ cond b false false = λ b. elim b as (λ b. false ≡ cond b false false) [ | true ↦ refl | false ↦ refl ] in
+          let either : (b : Bool) → false ≡ cond b false false = λ b. elim b as (λ b. false ≡ cond b false false) [ true ↦ refl | false ↦ refl ] in
           rw (← here) (either (bytes_eq node other))
       | false ↦ λ e. refl
     ] refl
@@ -211,17 +211,17 @@ held_filtered (x ∷ held) number n other =
     → (is_reply n other x || cond b false (holds_in held n other)) ≡ cond b false (is_reply n other x || holds_in held n other) in
     elim (x.number == number) as Goal [
       | true ↦ λ e. rest ∙ (elim (number == n) as Here [
-          | true ↦ λ same here. refl
-          | false ↦ λ apart here.
-              let not_n : (x.number == n) ≡ false = ap (λ k. k == n) (eqb-true x.number number here) ∙ apart in
-              sym (ap (λ b. (b && bytes_eq x.node other) || holds_in held n other) not_n)
-        ]) refl e
+        | true ↦ λ same here. refl
+        | false ↦ λ apart here.
+            let not_n : (x.number == n) ≡ false = ap (λ k. k == n) (eqb-true x.number number here) ∙ apart in
+            sym (ap (λ b. (b && bytes_eq x.node other) || holds_in held n other) not_n)
+      ]) refl e
       | false ↦ λ e. ap (λ b. is_reply n other x || b) rest ∙ (elim (number == n) as There [
-          | true ↦ λ same there.
-              let not_n : (x.number == n) ≡ false = ap (λ k. x.number == k) (sym (eqb-true number n same)) ∙ there in
-              ap (λ b. (b && bytes_eq x.node other) || false) not_n
-          | false ↦ λ apart there. refl
-        ]) refl e
+        | true ↦ λ same there.
+            let not_n : (x.number == n) ≡ false = ap (λ k. x.number == k) (sym (eqb-true number n same)) ∙ there in
+            ap (λ b. (b && bytes_eq x.node other) || false) not_n
+        | false ↦ λ apart there. refl
+      ]) refl e
     ] refl
 
 pub held_forgotten : (before now : PollMap) (held : List Held) (number : ℕ) → HasReplies before held
@@ -258,7 +258,7 @@ items_filtered [] number = refl
 items_filtered (s ∷ seats) number =
     let rest = items_filtered seats number in
     let Goal : Bool → Type 0 = λ b. items_of (cond b (s ∷ filter (λ s. stays number s.0) seats) (filter (λ s. stays number s.0) seats)) ≡ cond b (s.0 ∷ filter (stays number) (items_of seats)) (filter (stays number) (items_of seats)) in
-    elim (stays number s.0) as Goal [ | true ↦ ap (λ l. s.0 ∷ l) rest | false ↦ rest ]
+    elim (stays number s.0) as Goal [ true ↦ ap (λ l. s.0 ∷ l) rest | false ↦ rest ]
 
 pub seats_stay : (seats : List (Held × Mark)) (number : ℕ) → items_of seats ≡ filter (stays number) (items_of seats) → seats ≡ filter (λ s. stays number s.0) seats
 seats_stay [] number h = refl

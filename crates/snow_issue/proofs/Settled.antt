@@ -29,7 +29,7 @@ length_with [] get = refl
 length_with (g ∷ gets) get =
     let rest = length_with gets get in
     let Goal : Bool → Type 0 = λ b. length (cond b (get ∷ g ∷ gets) (g ∷ with_get gets get)) ≡ length (g ∷ gets) + 1 in
-    elim (ltb get.number g.number) as Goal [ | true ↦ omega arith | false ↦ omega (arith, rest) ]
+    elim (ltb get.number g.number) as Goal [ true ↦ omega arith | false ↦ omega (arith, rest) ]
 
 length_without : {T : Type 0} (test : T → Bool) (xs : List T) → length (without test xs) ≤ length xs
 length_without test xs =
@@ -110,7 +110,10 @@ kept_left seats gets replies gone at w there is kept =
 pub kept_gone : (seats : List (Waiting × Mark)) (gets : List Get) (replies : List (Held × Mark)) (gone : List Gone) (e : Gone) → IsKept seats gets replies gone
     → IsKept seats gets replies (with_gone gone e)
 kept_gone seats gets replies gone e kept = record {
-  quiet = kept.quiet; few_waiting = kept.few_waiting; few_gets = kept.few_gets; few_gone = length_gone gone e kept.few_gone;
+  quiet = kept.quiet;
+  few_waiting = kept.few_waiting;
+  few_gets = kept.few_gets;
+  few_gone = length_gone gone e kept.few_gone;
 }
 
 pub kept_forgotten : (seats : List (Waiting × Mark)) (gets : List Get) (replies : List (Held × Mark)) (gone : List Gone) → IsKept seats gets replies gone
@@ -118,14 +121,18 @@ pub kept_forgotten : (seats : List (Waiting × Mark)) (gets : List Get) (replies
 kept_forgotten seats gets replies gone kept = record {
   quiet = subst (λ (l : List Waiting). All (Rests l gets) replies) (sym (items_forgotten seats)) kept.quiet;
   few_waiting = omega (arith, length-map seats forgotten, kept.few_waiting);
-  few_gets = kept.few_gets; few_gone = kept.few_gone;
+  few_gets = kept.few_gets;
+  few_gone = kept.few_gone;
 }
 
 -- the same, with other replies
 pub kept_replies : (seats : List (Waiting × Mark)) (gets : List Get) (replies others : List (Held × Mark)) (gone : List Gone) → IsKept seats gets replies gone
     → All (Rests (items_of seats) gets) others → IsKept seats gets others gone
 kept_replies seats gets replies others gone kept rests = record {
-  quiet = rests; few_waiting = kept.few_waiting; few_gets = kept.few_gets; few_gone = kept.few_gone;
+  quiet = rests;
+  few_waiting = kept.few_waiting;
+  few_gets = kept.few_gets;
+  few_gone = kept.few_gone;
 }
 
 -- the same, with the same blocks
@@ -134,7 +141,8 @@ pub kept_seats : (seats others : List (Waiting × Mark)) (gets : List Get) (repl
 kept_seats seats others gets replies gone kept same = record {
   quiet = subst (λ (l : List Waiting). All (Rests l gets) replies) (sym same) kept.quiet;
   few_waiting = omega (arith, length-map seats (λ (s : Waiting × Mark). s.0), length-map others (λ (s : Waiting × Mark). s.0), ap (λ l. length l) same, kept.few_waiting);
-  few_gets = kept.few_gets; few_gone = kept.few_gone;
+  few_gets = kept.few_gets;
+  few_gone = kept.few_gone;
 }
 
 -- ---- lists and what is known, by their parts

@@ -87,8 +87,8 @@ indexed_push tags before now next key is change =
       rising = all_pairs_push (λ (a : Tag) (b : Tag). a.0 < b.0) tags new is.rising is.below;
       below = All-push (λ (t : Tag). t.0 < next + 1) tags new (λ k d h. omega (arith, is.below k d h)) (omega arith);
       found = All-push (λ (t : Tag). (id : List ℕ) → has_place t.0 (row_of now id) ≡ bytes_eq id t.1) tags new
-      (λ k d h id. old_place (get_or tags k d).0 id (is.below k d h) ∙ is.found k d h id)
-      (λ id. ap (has_place next) (change id) ∙ itself_pushed (bytes_eq key id) (row_of before id) next (is.unused id next (omega arith)) ∙ id_turned key id);
+          (λ k d h id. old_place (get_or tags k d).0 id (is.below k d h) ∙ is.found k d h id)
+          (λ id. ap (has_place next) (change id) ∙ itself_pushed (bytes_eq key id) (row_of before id) next (is.unused id next (omega arith)) ∙ id_turned key id);
       unused = λ id place high. ap (has_place place) (change id) ∙ above_pushed (bytes_eq key id) (row_of before id) next place high (is.unused id place (omega (arith, high)));
     }
 
@@ -116,14 +116,14 @@ place_apart : (tags : List Tag) (at k : ℕ) (d : Tag) → AllPairs (λ a b. a.0
 place_apart tags at k d rising there within same =
     ⊎_elim
     (λ (low : k < at).
-        let less = rising k at d low there in
-        let e = ap (λ (t : Tag). t.0) (get_or-remove_below tags at d k low there) in
-        omega (arith, less, e, same))
+    let less = rising k at d low there in
+    let e = ap (λ (t : Tag). t.0) (get_or-remove_below tags at d k low there) in
+    omega (arith, less, e, same))
     (λ (high : at ≤ k).
-        let long : k + 1 < length tags = omega (arith, length-remove tags at there, within) in
-        let less = rising at (k + 1) d (omega (arith, high)) long in
-        let e = ap (λ (t : Tag). t.0) (get_or-remove_above tags at d k high there) in
-        omega (arith, less, e, same))
+    let long : k + 1 < length tags = omega (arith, length-remove tags at there, within) in
+    let less = rising at (k + 1) d (omega (arith, high)) long in
+    let e = ap (λ (t : Tag). t.0) (get_or-remove_above tags at d k high there) in
+    omega (arith, less, e, same))
     (cases_lt k at)
 
 pub other_left : (b : Bool) (row : List ℕ) (gone place : ℕ) → (place ≡ gone → ⊥) → has_place place (cond b (left_by gone row) row) ≡ has_place place row
@@ -166,10 +166,10 @@ indexed_filter {T} key stays slots before now next is kept unused =
     let left : All Found (filter stays slots) = All-filter stays Found slots found in
     record {
       rising = AllPairs_map (λ (a : Tag) (b : Tag). a.0 < b.0) (tag_of key) (filter stays slots)
-      (AllPairs-filter (λ (s : Slot T) (t : Slot T). s.place < t.place) stays slots (AllPairs_unmap (λ (a : Tag) (b : Tag). a.0 < b.0) (tag_of key) slots is.rising));
+          (AllPairs-filter (λ (s : Slot T) (t : Slot T). s.place < t.place) stays slots (AllPairs_unmap (λ (a : Tag) (b : Tag). a.0 < b.0) (tag_of key) slots is.rising));
       below = All-map (λ (t : Tag). t.0 < next) (tag_of key) (filter stays slots)
-      (All-filter stays (λ (s : Slot T). s.place < next) slots (All_unmap (λ (t : Tag). t.0 < next) (tag_of key) slots is.below));
+          (All-filter stays (λ (s : Slot T). s.place < next) slots (All_unmap (λ (t : Tag). t.0 < next) (tag_of key) slots is.below));
       found = All-map (λ (t : Tag). (id : List ℕ) → has_place t.0 (row_of now id) ≡ bytes_eq id t.1) (tag_of key) (filter stays slots)
-      (λ k d within. left k d within (passed k d within));
+          (λ k d within. left k d within (passed k d within));
       unused = λ id place high. unused id place (is.unused id place high);
     }

@@ -141,9 +141,9 @@ pub tells_asked : (board : Board) (seats : List (Waiting × Mark)) (gets : List 
 tells_asked board seats gets get tells =
     All-weaker (Tells (items_of seats) gets board) (Tells (items_of seats) (with_get gets get) board)
     (λ s h. let head = s.0.header in
-        tells_more (items_of seats) (items_of seats) gets (with_get gets get) board s.0 s.1
-        (either_more (asked_in gets head.parent) (waits_below (items_of seats) head) (asked_in (with_get gets get) head.parent) (waits_below (items_of seats) head)
-        (λ e. asked_with gets get head.parent ∙ or_left_true (asked_in gets head.parent) (bytes_eq get.id head.parent) e) (λ e. e)) h)
+    tells_more (items_of seats) (items_of seats) gets (with_get gets get) board s.0 s.1
+    (either_more (asked_in gets head.parent) (waits_below (items_of seats) head) (asked_in (with_get gets get) head.parent) (waits_below (items_of seats) head)
+    (λ e. asked_with gets get head.parent ∙ or_left_true (asked_in gets head.parent) (bytes_eq get.id head.parent) e) (λ e. e)) h)
     seats tells
 
 -- a block came
@@ -154,11 +154,11 @@ tells_pushed board seats gets w tells =
     All-push (Tells other gets board) seats (w, New)
     (All-weaker (Tells (items_of seats) gets board) (Tells other gets board)
     (λ s h. let head = s.0.header in
-        tells_more (items_of seats) other gets gets board s.0 s.1
-        (either_more (asked_in gets head.parent) (waits_below (items_of seats) head) (asked_in gets head.parent) (waits_below other head) (λ e. e)
-        (λ e. ap (λ l. waits_below l head) (items_pushed seats w New)
-        ∙ list_any-append (λ w. bytes_eq w.header.id head.parent && (w.header.height + 1 == head.height)) (items_of seats) (w ∷ [])
-        ∙ or_left_true (waits_below (items_of seats) head) ((bytes_eq w.header.id head.parent && (w.header.height + 1 == head.height)) || false) e)) h)
+    tells_more (items_of seats) other gets gets board s.0 s.1
+    (either_more (asked_in gets head.parent) (waits_below (items_of seats) head) (asked_in gets head.parent) (waits_below other head) (λ e. e)
+    (λ e. ap (λ l. waits_below l head) (items_pushed seats w New)
+    ∙ list_any-append (λ w. bytes_eq w.header.id head.parent && (w.header.height + 1 == head.height)) (items_of seats) (w ∷ [])
+    ∙ or_left_true (waits_below (items_of seats) head) ((bytes_eq w.header.id head.parent && (w.header.height + 1 == head.height)) || false) e)) h)
     seats tells) tt
 
 -- nothing is remembered, so it is true of any board
@@ -173,7 +173,7 @@ woken_forgets id seats after is =
     let P : Waiting × Mark → Type 0 = λ s. bytes_eq s.0.header.parent id ≡ true → s.1 ≡ New in
     subst (λ (l : List (Waiting × Mark)). All P l) (sym is)
     (All-map P (woken key id) seats (λ k d within child.
-        let s = get_or seats k d in ap (λ b. cond b New s.1) (id_turned id s.0.header.parent ∙ child)))
+    let s = get_or seats k d in ap (λ b. cond b New s.1) (id_turned id s.0.header.parent ∙ child)))
 
 -- ---- held replies
 
@@ -200,7 +200,7 @@ rests_left gets waiting at w replies there is rests =
     All-map (Rests (remove waiting at) gets) (woken (λ h. h.id) w.header.id) replies
     (All-weaker (Rests waiting gets) (λ s. Rests (remove waiting at) gets (woken (λ h. h.id) w.header.id s))
     (λ s r. woken_rests waiting (remove waiting at) gets gets w.header.id s
-        (λ e. ap (λ b. not (b || asked_in gets s.0.id)) (without_other (λ x. bytes_eq x.header.id s.0.id) waiting at w there is e)) r)
+    (λ e. ap (λ b. not (b || asked_in gets s.0.id)) (without_other (λ x. bytes_eq x.header.id s.0.id) waiting at w there is e)) r)
     replies rests)
 
 -- a get was closed and the replies that name its block woken
@@ -212,7 +212,7 @@ rests_closed waiting gets number node get replies found rests =
     All-map (Rests waiting others) (woken (λ h. h.id) get.id) replies
     (All-weaker (Rests waiting gets) (λ s. Rests waiting others (woken (λ h. h.id) get.id s))
     (λ s r. woken_rests waiting waiting gets others get.id s
-        (λ e. ap (λ b. not (waits_among waiting s.0.id || b)) (without_other (λ g. bytes_eq g.id s.0.id) gets (position_or_len (is_get number node) gets) get place.0 place.1 e)) r)
+    (λ e. ap (λ b. not (waits_among waiting s.0.id || b)) (without_other (λ g. bytes_eq g.id s.0.id) gets (position_or_len (is_get number node) gets) get place.0 place.1 e)) r)
     replies rests)
 
 busy : (b : Bool) → not b ≡ false → b ≡ true
@@ -232,12 +232,12 @@ pub rests_asked : (waiting : List Waiting) (gets : List Get) (get : Get) (replie
 rests_asked waiting gets get replies rests =
     All-weaker (Rests waiting gets) (Rests waiting (with_get gets get))
     (λ s r. rests_more waiting waiting gets (with_get gets get) s.0 s.1 (λ e. e)
-        (λ e. asked_with gets get s.0.id ∙ or_left_true (asked_in gets s.0.id) (bytes_eq get.id s.0.id) e) r)
+    (λ e. asked_with gets get s.0.id ∙ or_left_true (asked_in gets s.0.id) (bytes_eq get.id s.0.id) e) r)
     replies rests
 
 pub rests_pushed : (waiting : List Waiting) (gets : List Get) (w : Waiting) (replies : List (Held × Mark)) → All (Rests waiting gets) replies → All (Rests (waiting ++ w ∷ []) gets) replies
 rests_pushed waiting gets w replies rests =
     All-weaker (Rests waiting gets) (Rests (waiting ++ w ∷ []) gets)
     (λ s r. rests_more waiting (waiting ++ w ∷ []) gets gets s.0 s.1
-        (λ e. list_any-append (λ x. bytes_eq x.header.id s.0.id) waiting (w ∷ []) ∙ or_left_true (waits_among waiting s.0.id) (bytes_eq w.header.id s.0.id || false) e) (λ e. e) r)
+    (λ e. list_any-append (λ x. bytes_eq x.header.id s.0.id) waiting (w ∷ []) ∙ or_left_true (waits_among waiting s.0.id) (bytes_eq w.header.id s.0.id || false) e) (λ e. e) r)
     replies rests

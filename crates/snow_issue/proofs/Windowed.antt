@@ -24,13 +24,13 @@ set_within : {T : Type 0} (mark : Mark) (seats : List (T × Mark)) (w v : Window
 set_within mark seats w v at x there is here low high k d within marked =
     ⊎_elim
     (λ (same : k ≡ at).
-        let e = ap (λ k. get_or (set seats at x) k d) same ∙ get_or-set_same seats at x d there in
-        let both = here (sym (ap (has mark) e) ∙ marked) in
-        (omega (arith, same, both), omega (arith, same, both)))
+    let e = ap (λ k. get_or (set seats at x) k d) same ∙ get_or-set_same seats at x d there in
+    let both = here (sym (ap (has mark) e) ∙ marked) in
+    (omega (arith, same, both), omega (arith, same, both)))
     (λ other.
-        let e = get_or-set_other seats at k x d other in
-        let both = is k d (omega (arith, length-set seats at x, within)) (sym (ap (has mark) e) ∙ marked) in
-        (omega (arith, low, both), omega (arith, high, both)))
+    let e = get_or-set_other seats at k x d other in
+    let both = is k d (omega (arith, length-set seats at x, within)) (sym (ap (has mark) e) ∙ marked) in
+    (omega (arith, low, both), omega (arith, high, both)))
     (cases_eq k at)
 
 push_within : {T : Type 0} (mark : Mark) (seats : List (T × Mark)) (w v : Window) (x : T × Mark) → IsWithin mark seats w
@@ -38,13 +38,13 @@ push_within : {T : Type 0} (mark : Mark) (seats : List (T × Mark)) (w v : Windo
 push_within mark seats w v x is here low high k d within marked =
     ⊎_elim
     (λ (before : k < length seats).
-        let e = get_or_append_left seats (x ∷ []) d k before in
-        let both = is k d before (sym (ap (has mark) e) ∙ marked) in
-        (omega (arith, low, both), omega (arith, high, both)))
+    let e = get_or_append_left seats (x ∷ []) d k before in
+    let both = is k d before (sym (ap (has mark) e) ∙ marked) in
+    (omega (arith, low, both), omega (arith, high, both)))
     (λ (behind : length seats ≤ k).
-        let same : length seats ≡ k = omega (arith, length_push seats x, within, behind) in
-        let both = here (sym (ap (has mark) (get_or_push seats x d k same)) ∙ marked) in
-        (omega (arith, same, both), omega (arith, same, both)))
+    let same : length seats ≡ k = omega (arith, length_push seats x, within, behind) in
+    let both = here (sym (ap (has mark) (get_or_push seats x d k same)) ∙ marked) in
+    (omega (arith, same, both), omega (arith, same, both)))
     (cases_lt k (length seats))
 
 pub within_marked : {T : Type 0} (seats : List (T × Mark)) (w : Windows) (at : ℕ) (x : T) (mark : Mark) → at < length seats → AreWithin seats w
@@ -82,18 +82,18 @@ low_moved : (at low k : ℕ) → (k < at → low ≤ k) → (at ≤ k → low �
 low_moved at low k before behind =
     ⊎_elim
     (λ (h : at < low). let m = moved_low at low h in
-        ⊎_elim (λ (b : k < at). let l = before b in omega (arith, m, l)) (λ (b : at ≤ k). let l = behind b in omega (arith, m, l, h)) (cases_lt k at))
+    ⊎_elim (λ (b : k < at). let l = before b in omega (arith, m, l)) (λ (b : at ≤ k). let l = behind b in omega (arith, m, l, h)) (cases_lt k at))
     (λ (h : low ≤ at). let m = moved_high at low h in
-        ⊎_elim (λ (b : k < at). let l = before b in omega (arith, m, l)) (λ (b : at ≤ k). omega (arith, m, b, h)) (cases_lt k at))
+    ⊎_elim (λ (b : k < at). let l = before b in omega (arith, m, l)) (λ (b : at ≤ k). omega (arith, m, b, h)) (cases_lt k at))
     (cases_lt at low)
 
 high_moved : (at high k : ℕ) → (k < at → k < high) → (at ≤ k → k + 1 < high) → k < moved at high
 high_moved at high k before behind =
     ⊎_elim
     (λ (h : at < high). let m = moved_low at high h in
-        ⊎_elim (λ (b : k < at). omega (arith, m, b, h)) (λ (b : at ≤ k). let l = behind b in omega (arith, m, l)) (cases_lt k at))
+    ⊎_elim (λ (b : k < at). omega (arith, m, b, h)) (λ (b : at ≤ k). let l = behind b in omega (arith, m, l)) (cases_lt k at))
     (λ (h : high ≤ at). let m = moved_high at high h in
-        ⊎_elim (λ (b : k < at). let l = before b in omega (arith, m, l)) (λ (b : at ≤ k). let l = behind b in omega (arith, b, h, l)) (cases_lt k at))
+    ⊎_elim (λ (b : k < at). let l = before b in omega (arith, m, l)) (λ (b : at ≤ k). let l = behind b in omega (arith, b, h, l)) (cases_lt k at))
     (cases_lt at high)
 
 remove_within : {T : Type 0} (mark : Mark) (seats : List (T × Mark)) (w : Window) (at : ℕ) → at < length seats → IsWithin mark seats w
@@ -125,7 +125,7 @@ filter_within {T} mark p seats w is =
     ⊎_elim
     (λ (h : w.low < w.high). subst Goal (sym (lt-ltb w.low w.high h)) (λ k d within marked. (omega arith, within)))
     (λ (h : w.high ≤ w.low). subst Goal (sym (le-ltb w.low w.high h)) (λ k d within marked.
-        absurd (both_ways (has mark (get_or left k d)) (All-filter p (λ (s : T × Mark). has mark s ≡ false) seats (no_mark mark seats w is h) k d within) marked)))
+    absurd (both_ways (has mark (get_or left k d)) (All-filter p (λ (s : T × Mark). has mark s ≡ false) seats (no_mark mark seats w is h) k d within) marked)))
     (cases_lt w.low w.high)
 
 pub within_filtered : {T : Type 0} (p : T × Mark → Bool) (seats : List (T × Mark)) (w : Windows) → AreWithin seats w
@@ -198,7 +198,7 @@ first_missing {T} mark (s ∷ seats) w at high is none top past =
     let all : List (T × Mark) = s ∷ seats in
     sym (position_or_len_is (has mark) all (length all) s (omega arith)
     (λ k within. ⊎_elim
-        (λ (h : k < at). none k s h within)
-        (λ (h : at ≤ k). false_from_ne_true (has mark (get_or all k s)) (λ t. let both = is k s within t in omega (arith, both, top, past, h, within)))
-        (cases_lt k at))
+    (λ (h : k < at). none k s h within)
+    (λ (h : at ≤ k). false_from_ne_true (has mark (get_or all k s)) (λ t. let both = is k s within t in omega (arith, both, top, past, h, within)))
+    (cases_lt k at))
     (λ h. absurd (omega (arith, h))))

@@ -179,9 +179,11 @@ fn find_place<T>(slots: &[Slot<T>], place: u64) -> usize
     requires { AllPairs (λ s t. s.place < t.place) slots.now }
     ensures { result ≡ position_or_len (λ s. s.place == place) slots.now }
 {
-    let at = slots.partition_point(|slot: &Slot<T>| -> bool ensures { result ≡ nat_lt slot.now.place place } {
-        slot.place < place
-    });
+    let at = slots.partition_point(
+        |slot: &Slot<T>| -> bool
+            ensures { result ≡ nat_lt slot.now.place place }
+        { slot.place < place },
+    );
     if at >= slots.len() {
         return slots.len();
     }

@@ -18,14 +18,26 @@ pub(crate) fn is_on<B: Board>(board: &B, id: &Id) -> bool
 }
 
 // Whether nothing is known of a block.
-fn is_unknown<B: Board>(waiting: &WaitingList, gets: &Gets, gone: &GoneList, board: &B, id: &Id) -> bool
+fn is_unknown<B: Board>(
+    waiting: &WaitingList,
+    gets: &Gets,
+    gone: &GoneList,
+    board: &B,
+    id: &Id,
+) -> bool
     ensures { result ≡ is_unknown (parts waiting.now gets.now gone.now) (B.board board.now) id.now }
 {
     !(is_on(board, id) || waiting.waits(id) || gets.asks_for(id) || gone.holds(id))
 }
 
 /// Whether a block that a reply names is to be asked for.
-pub(crate) fn is_wanted<B: Board>(waiting: &WaitingList, gets: &Gets, gone: &GoneList, board: &B, id: &Id) -> bool
+pub(crate) fn is_wanted<B: Board>(
+    waiting: &WaitingList,
+    gets: &Gets,
+    gone: &GoneList,
+    board: &B,
+    id: &Id,
+) -> bool
     ensures { result ≡ wanted (parts waiting.now gets.now gone.now) (B.board board.now) id.now }
 {
     is_unknown(waiting, gets, gone, board, id) && gets.len() < 4096
@@ -43,7 +55,13 @@ fn is_high<B: Board>(board: &B, block: &Header) -> bool
 }
 
 /// The parent of a block that waits, where it is to be asked for.
-pub(crate) fn ask<B: Board>(waiting: &WaitingList, gets: &Gets, gone: &GoneList, board: &B, block: &Header) -> Option<Id>
+pub(crate) fn ask<B: Board>(
+    waiting: &WaitingList,
+    gets: &Gets,
+    gone: &GoneList,
+    board: &B,
+    block: &Header,
+) -> Option<Id>
     ensures { result ≡ asks (parts waiting.now gets.now gone.now) (B.board board.now) block.now }
 {
     if is_high(board, block) && is_wanted(waiting, gets, gone, board, &block.parent) {
@@ -67,7 +85,12 @@ fn is_old<B: Board>(gone: &GoneList, board: &B, block: &Header) -> bool
 }
 
 /// The first reason, if there is one, for which an offered block doesn't wait.
-pub(crate) fn refusal<B: Board>(waiting: &WaitingList, gone: &GoneList, board: &B, block: &Header) -> Option<Offered>
+pub(crate) fn refusal<B: Board>(
+    waiting: &WaitingList,
+    gone: &GoneList,
+    board: &B,
+    block: &Header,
+) -> Option<Offered>
     ensures { result ≡ refusal (parts waiting.now [] gone.now) (B.board board.now) block.now }
 {
     if is_known(waiting, board, &block.id) {

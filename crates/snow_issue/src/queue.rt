@@ -9,13 +9,12 @@ ghost use Rattle.snow_issue.specs.Settling.{work_of, after};
 ghost use Rattle.snow_issue.specs.Bubbling.{bubbled};
 ghost use Rattle.snow_issue.specs.Known.{lists_of, Knows, RestsAfter};
 
-use crate::bubbling;
 use crate::gets::Gets;
 use crate::gone::{Gone, GoneList};
-use crate::offering;
 use crate::replies::Replies;
 use crate::waiting::WaitingList;
 use crate::work::{Get, Held, Offered, Waiting, Work};
+use crate::{bubbling, offering};
 use snow_base::{Id, NodeId};
 use snow_plain::Board;
 use std::alloc::{AllocError, Global};

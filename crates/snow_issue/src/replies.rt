@@ -147,10 +147,11 @@ impl Lineup<Held> {
         ensures { self.new ≡ filter (λ s. not (s.0.number == number)) self.old }
     {
         leave_rows(self.slots.as_slice(), &mut self.rows, number);
-        self.slots
-            .retain(|slot: &Slot<Held>| -> bool ensures { result ≡ not (slot.now.item.number == number) } {
-                slot.item.number != number
-            });
+        self.slots.retain(
+            |slot: &Slot<Held>| -> bool
+                ensures { result ≡ not (slot.now.item.number == number) }
+            { slot.item.number != number },
+        );
         self.windows = self.windows.left(self.slots.len());
     }
 }

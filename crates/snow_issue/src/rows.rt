@@ -46,9 +46,11 @@ impl Row {
         ensures left { self.new ≡ left_by place self.old }
         ensures empty { OnTrue result (self.new ≡ []) }
     {
-        self.places.retain(|other: &u64| -> bool ensures { result ≡ not (other.now == place) } {
-            *other != place
-        });
+        self.places.retain(
+            |other: &u64| -> bool
+                ensures { result ≡ not (other.now == place) }
+            { *other != place },
+        );
         self.places.is_empty()
     }
 

@@ -83,7 +83,12 @@ fn step<B: Board>(queue: &mut Queue, board: &B) -> Option<(char, Id)> {
 fn hopeless_blocks_go_one_after_another(rt: HostRuntime) -> Result<(), Fail> {
     let (board, mut queue) = begun(rt.alloc())?;
     let asks = queue.offer(block(rt.alloc(), 5, 4, 2), &board)?;
-    assert_eq!(rt; asks, Offered::Waits { ask: Some(named(4)) });
+    assert_eq!(rt;
+        asks,
+        Offered::Waits {
+            ask: Some(named(4))
+        }
+    );
     ask(&mut queue, 1, 4)?;
     let follows = queue.offer(block(rt.alloc(), 6, 5, 3), &board)?;
     assert_eq!(rt; follows, Offered::Waits { ask: None });
@@ -145,7 +150,13 @@ fn the_oldest_entry_is_forgotten(rt: HostRuntime) -> Result<(), Fail> {
 }
 
 // Offers blocks from one number to before another, each on the one before it and that high.
-fn offer_all<B: Board>(alloc: Global, queue: &mut Queue, board: &B, from: u16, to: u16) -> Result<(), AllocError> {
+fn offer_all<B: Board>(
+    alloc: Global,
+    queue: &mut Queue,
+    board: &B,
+    from: u16,
+    to: u16,
+) -> Result<(), AllocError> {
     for number in from..to {
         queue.offer(block(alloc, number, number - 1, u64::from(number)), board)?;
     }

@@ -37,8 +37,16 @@ impl Window {
         ensures { result ≡ closed_up self at }
     {
         Window {
-            low: if at < self.low { self.low - 1 } else { self.low },
-            high: if at < self.high { self.high - 1 } else { self.high },
+            low: if at < self.low {
+                self.low - 1
+            } else {
+                self.low
+            },
+            high: if at < self.high {
+                self.high - 1
+            } else {
+                self.high
+            },
         }
     }
 

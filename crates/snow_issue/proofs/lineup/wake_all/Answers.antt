@@ -14,7 +14,8 @@ pub loop-place-preserved : goal.loop-place-preserved
 loop-place-preserved g c =
     let places = c.args.places.now in
     let at = c.loop-place.place-index in
-    let place = slice_index places at in
-    (c.wake_one.ensures.slots ∙ ap (map (woken_at (place ∷ []))) c.loop-place.invariant.0 ∙ woken_more c.args.slots.now (take at places) place
-    ∙ ap (λ l. map (woken_at l) c.args.slots.now) (sym (take_more places at 0 c.loop-place-test.true)),
-    c.wake_one.ensures.within)
+    let place = slice_index places at in (
+      c.wake_one.ensures.slots ∙ ap (map (woken_at (place ∷ []))) c.loop-place.invariant.0 ∙ woken_more c.args.slots.now (take at places) place
+          ∙ ap (λ l. map (woken_at l) c.args.slots.now) (sym (take_more places at 0 c.loop-place-test.true)),
+      c.wake_one.ensures.within,
+    )

@@ -8,6 +8,7 @@ loop-slot-preserved c =
     let at = c.loop-slot.slot-index in
     let s = c.slot-item.result in
     let before = c.args.rows.now.rows in
-    let mid = c.loop-slot.rows.rows in
-    (keeps_row c.args.number slots before mid c.leave_row.new.rows.rows at s c.requires c.loop-slot-test.true c.slot-item.is c.loop-slot.invariant.0 c.leave_row.ensures,
-    unused_row (s.item.number == c.args.number) s.item.id s.place before mid c.leave_row.new.rows.rows c.loop-slot.invariant.1 c.leave_row.ensures)
+    let mid = c.loop-slot.rows.rows in (
+      keeps_row c.args.number slots before mid c.leave_row.new.rows.rows at s c.requires c.loop-slot-test.true c.slot-item.is c.loop-slot.invariant.0 c.leave_row.ensures,
+      unused_row (s.item.number == c.args.number) s.item.id s.place before mid c.leave_row.new.rows.rows c.loop-slot.invariant.1 c.leave_row.ensures,
+    )

@@ -12,6 +12,7 @@ invariant_of-self g c =
     let items = c.self.inside.slots.items in
     let seats = map seat_of items in
     let len : c.len-len.result ≡ length seats = c.len-len.ensures ∙ sym c.as_slice.ensures.len ∙ ap (λ l. length l) c.as_slice.ensures.value ∙ sym (length-map items seat_of) in
-    let at = c.first_in-at.ensures ∙ ap (λ l. position_or_len (has c.args.mark) (map seat_of l)) c.as_slice.ensures.value in
-    (c.self.invariant.0,
-     rw (c.narrowed-self-inside.ensures, len) (within_narrowed c.args.mark seats c.self.inside.windows c.first_in-at.result c.self.invariant.1 at))
+    let at = c.first_in-at.ensures ∙ ap (λ l. position_or_len (has c.args.mark) (map seat_of l)) c.as_slice.ensures.value in (
+      c.self.invariant.0,
+      rw (c.narrowed-self-inside.ensures, len) (within_narrowed c.args.mark seats c.self.inside.windows c.first_in-at.result c.self.invariant.1 at),
+    )

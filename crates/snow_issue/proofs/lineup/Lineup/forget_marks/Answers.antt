@@ -13,10 +13,11 @@ invariant_of-self g c =
     let inside = c.self.inside in
     let items = inside.slots.items in
     let left = with_items_is inside.slots c.forget_all.new.slots (c.forget_all.auto.slots ∙ c.deref_mut.ensures.len) ∙ c.forget_all.ensures ∙ ap (map reset) c.deref_mut.ensures.value in
-    let len : c.len.result ≡ length (map seat_of items) = c.len.ensures ∙ sym c.deref_mut.ensures.len ∙ ap (λ l. length l) c.deref_mut.ensures.value ∙ sym (length-map items seat_of) in
-    (subst (λ (l : List (Slot _)). IsIndexed (map (tag_of g.T.Keyed.key) l) inside.rows.rows inside.next) (sym left) (rw (tags_reset g.T.Keyed.key items) c.self.invariant.0),
-     subst (λ (l : List (Slot _)). AreWithin (map seat_of l) c.all_fresh-self-inside.result) (sym left)
-     (rw (seats_reset items, c.all_fresh-self-inside.ensures, len) (within_forgotten (map seat_of items))))
+    let len : c.len.result ≡ length (map seat_of items) = c.len.ensures ∙ sym c.deref_mut.ensures.len ∙ ap (λ l. length l) c.deref_mut.ensures.value ∙ sym (length-map items seat_of) in (
+      subst (λ (l : List (Slot _)). IsIndexed (map (tag_of g.T.Keyed.key) l) inside.rows.rows inside.next) (sym left) (rw (tags_reset g.T.Keyed.key items) c.self.invariant.0),
+      subst (λ (l : List (Slot _)). AreWithin (map seat_of l) c.all_fresh-self-inside.result) (sym left)
+          (rw (seats_reset items, c.all_fresh-self-inside.ensures, len) (within_forgotten (map seat_of items))),
+    )
 
 pub returns : goal.returns
 returns g c =

@@ -22,6 +22,7 @@ invariant_of-self-2 g c =
     let key = g.T.Keyed.key in
     let new : Slot _ = record { place = inside.next; mark = New; item = c.args.item } in
     let len : c.len.result ≡ length (map seat_of items) = grind (arith, common_steps) in
-    rw (c.push_reserved.ensures.items, c.reserve.ensures.items, map_push (tag_of key) items new, map_push seat_of items new, c.marked-self-inside.ensures, len)
-    (indexed_push (map (tag_of key) items) inside.rows.rows c.note.new.self.rows inside.next (key c.args.item) c.self.invariant.0 (rw c.key.ensures at c.in_ok-note.ensures.ok),
-     within_pushed (map seat_of items) inside.windows c.args.item c.self.invariant.1)
+    rw (c.push_reserved.ensures.items, c.reserve.ensures.items, map_push (tag_of key) items new, map_push seat_of items new, c.marked-self-inside.ensures, len) (
+      indexed_push (map (tag_of key) items) inside.rows.rows c.note.new.self.rows inside.next (key c.args.item) c.self.invariant.0 (rw c.key.ensures at c.in_ok-note.ensures.ok),
+      within_pushed (map seat_of items) inside.windows c.args.item c.self.invariant.1,
+    )

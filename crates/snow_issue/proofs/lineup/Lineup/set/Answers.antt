@@ -12,10 +12,11 @@ pub invariant_of-self : goal.invariant_of-self
 invariant_of-self g c =
     let inside = c.self.inside in
     let old = c.index_mut.result.now in
-    let there : c.args.at < length (map seat_of inside.slots.items) = subst (λ l. c.args.at < length l) (sym c.self.view_is) c.requires in
-    (rw (tags_set g.T.Keyed.key inside.slots.items c.args.at old c.args.mark c.index_mut.ensures.value) c.self.invariant.0,
-     rw (seats_set inside.slots.items c.args.at (record { place = old.place; mark = c.args.mark; item = old.item }), c.marked-self-inside.ensures)
-     (within_marked (map seat_of inside.slots.items) inside.windows c.args.at old.item c.args.mark there c.self.invariant.1))
+    let there : c.args.at < length (map seat_of inside.slots.items) = subst (λ l. c.args.at < length l) (sym c.self.view_is) c.requires in (
+      rw (tags_set g.T.Keyed.key inside.slots.items c.args.at old c.args.mark c.index_mut.ensures.value) c.self.invariant.0,
+      rw (seats_set inside.slots.items c.args.at (record { place = old.place; mark = c.args.mark; item = old.item }), c.marked-self-inside.ensures)
+          (within_marked (map seat_of inside.slots.items) inside.windows c.args.at old.item c.args.mark there c.self.invariant.1),
+    )
 
 pub returns : goal.returns
 returns g c d =

@@ -22,9 +22,10 @@ invariant_of-self g c =
     let inside = c.self.inside in
     let items = inside.slots.items in
     let same = with_items_is inside.slots c.wake_all.new.slots (c.wake_all.auto.slots ∙ c.deref_mut.ensures.len) in
-    let left = same ∙ c.wake_all.ensures.slots ∙ ap (map (woken_at c.of.result.now)) c.deref_mut.ensures.value in
-    (subst (λ (l : List (Slot _)). IsIndexed (map (tag_of g.T.Keyed.key) l) inside.rows.rows inside.next) (sym left) (rw (tags_woken g.T.Keyed.key items c.of.result.now) c.self.invariant.0),
-     subst (λ (l : List (Slot _)). AreWithin (map seat_of l) c.wake_all.new.windows) (sym same) c.wake_all.ensures.within)
+    let left = same ∙ c.wake_all.ensures.slots ∙ ap (map (woken_at c.of.result.now)) c.deref_mut.ensures.value in (
+      subst (λ (l : List (Slot _)). IsIndexed (map (tag_of g.T.Keyed.key) l) inside.rows.rows inside.next) (sym left) (rw (tags_woken g.T.Keyed.key items c.of.result.now) c.self.invariant.0),
+      subst (λ (l : List (Slot _)). AreWithin (map seat_of l) c.wake_all.new.windows) (sym same) c.wake_all.ensures.within,
+    )
 
 pub returns : goal.returns
 returns g c =

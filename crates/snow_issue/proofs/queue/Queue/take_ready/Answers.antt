@@ -1,5 +1,5 @@
 -- The earliest ready block is taken out: what was looked at and is ripe.
-use Rattle.std.proofs.Common.{◌≡◌, ◌<◌, ◌≤◌, true, List, All, length, find, get_or, map, refl, sym, ap, ◌∙◌, subst, arith}
+use Rattle.std.proofs.Common.{◌≡◌, ◌<◌, ◌≤◌, false, List, All, length, find, get_or, map, refl, sym, ap, ◌∙◌, subst, arith}
 use Rattle.std.specs.List.{remove, position_or_len}
 use Rattle.std.specs.Str.{bytes_eq}
 use Rattle.std.proofs.lemmas.List.{length-map}
@@ -38,7 +38,7 @@ returns-then-at-len-clause-found g c =
 
 pub returns-then-at-len-clause-none : goal.returns-then-at-len-clause-none
 returns-then-at-len-clause-none g c none =
-    subst (λ (l : List (Waiting × Mark)). All (λ s. has Ripe s ≡ _) l) (sym c.first-at.ensures.same)
+    subst (λ (l : List (Waiting × Mark)). All (λ s. has Ripe s ≡ false) l) (sym c.first-at.ensures.same)
     (none_ripe c.self.inside.waiting (omega (arith, c.if-at-len.true, c.len.ensures, c.first-at.ensures.at, ap (λ l. length l) c.first-at.ensures.same)))
 
 pub returns-clause-found : goal.returns-clause-found

@@ -32,11 +32,12 @@ invariant_of-self c =
     let seats = ap (map seat_of) is ∙ seats_filtered (λ (h : Held). not (h.number == c.args.number)) items in
     let len : c.len.result ≡ length (filter rest (map seat_of items)) =
     let n : c.len.result ≡ length c.retain.new.self.items = grind (arith, common_steps) in
-    n ∙ sym (length-map c.retain.new.self.items seat_of) ∙ ap (λ l. length l) seats in
-    (subst (λ (l : List (Slot Held)). IsIndexed (map (tag_of (λ h. h.id)) l) c.leave_rows.new.rows.rows inside.next) (sym is)
-     (indexed_filter (λ (h : Held). h.id) stays items inside.rows.rows c.leave_rows.new.rows.rows inside.next c.self.invariant.0 kept c.leave_rows.ensures.unused),
-     subst (λ (l : List (Held × Mark)). AreWithin l c.left-self-inside.result) (sym seats)
-     (rw (c.left-self-inside.ensures, len) (within_filtered rest (map seat_of items) inside.windows c.self.invariant.1)))
+    n ∙ sym (length-map c.retain.new.self.items seat_of) ∙ ap (λ l. length l) seats in (
+      subst (λ (l : List (Slot Held)). IsIndexed (map (tag_of (λ h. h.id)) l) c.leave_rows.new.rows.rows inside.next) (sym is)
+          (indexed_filter (λ (h : Held). h.id) stays items inside.rows.rows c.leave_rows.new.rows.rows inside.next c.self.invariant.0 kept c.leave_rows.ensures.unused),
+      subst (λ (l : List (Held × Mark)). AreWithin l c.left-self-inside.result) (sym seats)
+          (rw (c.left-self-inside.ensures, len) (within_filtered rest (map seat_of items) inside.windows c.self.invariant.1)),
+    )
 
 pub returns : goal.returns
 returns c =
