@@ -1,3 +1,6 @@
+ghost use Rattle.std.specs.Prelude.{◌≡◌};
+ghost use Rattle.snow_issue.specs.Known.{is_mark};
+
 /// What is remembered of something that waits.
 #[derive(Clone, Copy, Debug, PartialEq, Eq)]
 pub enum Mark {
@@ -8,4 +11,16 @@ pub enum Mark {
     Quiet,
     /// The block's parent is on the board.
     Ripe,
+}
+
+impl Mark {
+    /// Whether it is the other one.
+    pub(crate) fn is(self, other: Mark) -> bool
+        ensures { result ≡ is_mark other self }
+    {
+        match (other, self) {
+            (Mark::New, Mark::New) | (Mark::Quiet, Mark::Quiet) | (Mark::Ripe, Mark::Ripe) => true,
+            _ => false,
+        }
+    }
 }
