@@ -13,3 +13,11 @@ pub mod Position
 pub mod Served
 pub mod Ended
 pub mod Examples
+pub mod Keeping
+pub mod Looping
+pub mod Made
+pub mod Sequel
+pub mod Working
+pub mod Issuing
+pub mod RunExamples
+pub mod Staged

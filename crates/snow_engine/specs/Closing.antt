@@ -35,6 +35,10 @@ front_closed answer node (Some (number, votes)) =
 abbrev pub one_closed : Answer → Running → Comes (Running × Bool)
 one_closed answer node = front_closed answer node (finished node.polls.parameters node.polls.polls)
 
+-- how many polls run
+abbrev pub running_polls : Running → ℕ
+running_polls node = length node.polls.polls
+
 -- polls leave while the front one is closed
 abbrev pub closed_out : Answer → Running → Comes Running
-closed_out answer node = all_made (λ n. length n.polls.polls) (one_closed answer) node
+closed_out answer node = all_made running_polls (one_closed answer) node

@@ -92,9 +92,11 @@ abbrev pub vote_held : Running → ℕ → List ℕ → List ℕ → Comes Runni
 vote_held node number peer id =
     fetched_unknown (record node { queue = after_held node.queue (record { number = number; node = peer; id = id }) }) peer id
 
+abbrev pub vote_counts : Rules → Answer → Running → ℕ → List ℕ → List ℕ → Comes Running
+vote_counts rules answer node number peer id = then_comes (vote_held node number peer id) (settled rules answer)
+
 abbrev pub vote_came : Rules → Answer → Running → ℕ → List ℕ → List ℕ → Comes Running
-vote_came rules answer node number peer id =
-    if waits_for node number peer then then_comes (vote_held node number peer id) (settled rules answer) else quietly node
+vote_came rules answer node number peer id = if waits_for node number peer then vote_counts rules answer node number peer id else quietly node
 
 -- a peer gives no vote, and closed polls leave
 abbrev pub vote_lost : Answer → Running → ℕ → List ℕ → Comes Running

@@ -1,5 +1,6 @@
 -- Codes for the values of nodes, which their models ask for.
-use Rattle.std.specs.Prelude.{◌≡◌, ◌⊎◌, inl, inr, refl}
+use Rattle.std.specs.Prelude.{◌≡◌, ◌⊎◌, refl}
+use mathlib.Core.Logic.{inl, inr}
 use Rattle.std.specs.Coded.{Coded, coded×, coded⊎, code_by}
 use Rattle.snow_plain.specs.Board.{Board}
 use Rattle.snow_plain.specs.BoardCode.{coded_board}

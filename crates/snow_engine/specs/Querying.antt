@@ -45,6 +45,10 @@ lacks_polls node = nat_lt 0 (length node.board.pending) && nat_lt (length node.p
 abbrev pub one_repolled : Answer → Running → Comes (Running × Bool)
 one_repolled answer node = if lacks_polls node then queried answer node else quietly (node, false)
 
+-- how many more polls may run
+abbrev pub lacking : Running → ℕ
+lacking node = node.board.parameters.repolls - length node.polls.polls
+
 -- queries until enough polls run or one isn't sent
 abbrev pub repolled : Answer → Running → Comes Running
-repolled answer node = all_made (λ n. n.board.parameters.repolls - length n.polls.polls) (one_repolled answer) node
+repolled answer node = all_made lacking (one_repolled answer) node

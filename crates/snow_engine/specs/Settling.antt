@@ -69,11 +69,14 @@ done rules answer node (work.Hopeless w) = with_line (line.Drop w.header.id why.
 done rules answer node (work.Ready w) = readied rules answer node w
 done rules answer node (work.Vote reply) = heard answer node reply
 
+-- it was done, as there was something
+abbrev pub carried_out : Rules → Answer → Running → Work → Comes (Running × Bool)
+carried_out rules answer node w = then_comes (done rules answer node w) (λ n. quietly (n, true))
+
 -- the first thing that there is to do is done, and whether there was any
 abbrev pub worked : Rules → Answer → Running → Option Work → Comes (Running × Bool)
 worked rules answer node None = quietly (node, false)
-worked rules answer node (Some w) =
-    then_comes (done rules answer (record node { queue = after node.queue node.board (Some w) }) w) (λ n. quietly (n, true))
+worked rules answer node (Some w) = carried_out rules answer (record node { queue = after node.queue node.board (Some w) }) w
 
 abbrev pub one_settled : Rules → Answer → Running → Comes (Running × Bool)
 one_settled rules answer node = worked rules answer node (work_of node.queue node.board)

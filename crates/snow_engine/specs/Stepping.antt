@@ -25,17 +25,20 @@ abbrev pub Starts : {S : Type 0} → Result S EngineStop → Result S EngineStop
 Starts (Err stop.Memory) expected = ⊤
 Starts given expected = expected ≡ given
 
+-- this stop is expected, unless memory ran out
+abbrev pub StopsAs : {S : Type 0} → EngineStop → Result S EngineStop → Type 0
+StopsAs stop.Memory expected = ⊤
+StopsAs s expected = expected ≡ Err s
+
 -- a step left this node, or stopped so, unless memory ran out
 abbrev pub Steps : {S : Type 0} → Result (Unit {0}) EngineStop → S → Result S EngineStop → Type 0
 Steps (Ok u) after expected = expected ≡ Ok after
-Steps (Err stop.Memory) after expected = ⊤
-Steps (Err s) after expected = expected ≡ Err s
+Steps (Err s) after expected = StopsAs s expected
 
 -- the same for a step that gives an answer
 abbrev pub Answers : {S T : Type 0} → Result T EngineStop → S → Result (S × T) EngineStop → Type 0
 Answers (Ok x) after expected = expected ≡ Ok (after, x)
-Answers (Err stop.Memory) after expected = ⊤
-Answers (Err s) after expected = expected ≡ Err s
+Answers (Err s) after expected = StopsAs s expected
 
 -- the stop that a chain's fault is
 abbrev pub stop_of : ChainFault → EngineStop

@@ -4,6 +4,8 @@ ghost use Rattle.snow_engine.specs.Node as model;
 ghost use Rattle.snow_engine.specs.Stepping.{Logs, Starts, Steps};
 
 use crate::deciding::Deciding;
+use crate::running::Running;
+use crate::stage::Stage;
 use crate::stop::EngineStop;
 use crate::task::Task;
 use snow_chain::Chain;
@@ -15,28 +17,30 @@ use std::alloc::Global;
 use std::marker::Model;
 
 /// The engine of one node, over any chain and any board. Contracts see the node of the definitions.
-/// Each call appends its lines to a log. How blocks are issued and polls recorded is the behaviour of
-/// AvalancheGo's package `snow`; the events and the lines are this project's own.
+/// Each call appends its lines to a log. How blocks wait and are issued, and how polls are begun,
+/// closed and recorded, is the behaviour of AvalancheGo's package `snow`; the events and the lines are
+/// this project's own.
 #[derive(Drop)]
 pub struct Engine<C: Chain, B: Board> {
-    node: Deciding<C, B>,
+    stage: Stage<Deciding<C, B>, Running<C, B>>,
 }
 
 impl<C: Chain, B: Board> Model for Engine<C, B> {
     ghost use Rattle.snow_engine.specs.Node.{Node};
-    ghost use Rattle.snow_engine.specs.NodeCode.{coded_deciding};
+    ghost use Rattle.snow_engine.specs.NodeCode.{coded_node};
 
     ghost Value = { Node };
 
-    ghost coded = { coded_deciding };
+    ghost coded = { coded_node };
 
-    ghost view = { λ e. e.node };
+    ghost view = { λ e. e.stage };
 }
 
 impl<C: Chain, B: Board> Engine<C, B> {
-    /// The engine that begins with this Start. Its parameters are checked first, and then whether the
-    /// chain takes its state: `Params` and `State` tell what is refused. Nodes and boot of the Start
-    /// aren't looked at by `Decide`.
+    /// The engine that begins with this Start. Its parameters are checked first, then, by `Run` alone,
+    /// its nodes, and then whether the chain takes its state: `Params`, `Roster` and `State` tell what
+    /// is refused. Last, `Run` answers `Unsupported` where the node is to bootstrap first. Nodes and
+    /// boot of the Start aren't looked at by `Decide`.
     #[tactic(auto, unfolding(crate::specs::Node::started))]
     pub fn start(
         alloc: Global,
@@ -51,20 +55,24 @@ impl<C: Chain, B: Board> Engine<C, B> {
             Ok(params) => params,
             Err(fault) => return Err(EngineStop::Params(fault)),
         };
-        match task {
-            Task::Decide => Ok(Engine {
-                node: Deciding::start(alloc, first, params)?,
-            }),
-        }
+        let stage = match task {
+            Task::Decide => Stage::Deciding(Deciding::start(alloc, first, params)?),
+            Task::Run => Stage::Running(Running::start(alloc, first, params)?),
+        };
+        Ok(Engine { stage })
     }
 
-    /// One event, which came in this frame. A second Start stops the engine with `SecondStart`. After
-    /// a stop the engine is only let go; after `Memory` a front of the event's lines was appended.
+    /// One event, which came in this frame. A second Start stops the engine with `SecondStart`, and
+    /// `Requests` comes where a number is needed and all are used up. After a stop the engine is only
+    /// let go: all lines before the stop were appended, after `Memory` a front of the event's lines.
     pub fn step(&mut self, frame: u64, event: Event, log: &mut Lines) -> Result<(), EngineStop>
         ensures answer { Steps result self.new (model.step C.rules B.answer self.old frame event).1 }
         ensures lines { Logs result log.old log.new (model.step C.rules B.answer self.old frame event).0 }
     {
-        self.node.step(frame, &event, log)
+        match &mut self.stage {
+            Stage::Deciding(node) => node.step(frame, &event, log),
+            Stage::Running(node) => node.step(frame, event, log),
+        }
     }
 }
 

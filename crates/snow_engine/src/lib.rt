@@ -7,6 +7,7 @@ mod end;
 mod engine;
 mod reporting;
 mod runner;
+mod running;
 mod serving;
 mod session;
 mod stage;
