@@ -94,17 +94,7 @@ fn run<C: Chain, S: Source, O: Sink>(
     ensures fault { serving.HasFault result (S.faults source.old) (S.faults source.new) (O.faults out.old) (O.faults out.new) }
 {
     match rule {
-        RuleName::Snowball => serve::<C, PlainBoard<Snowball>, S, O>(
-            alloc,
-            task,
-            source,
-            out,
-        ),
-        RuleName::Snowflake => serve::<C, PlainBoard<Snowflake>, S, O>(
-            alloc,
-            task,
-            source,
-            out,
-        ),
+        RuleName::Snowball => serve::<C, PlainBoard<Snowball>, S, O>(alloc, task, source, out),
+        RuleName::Snowflake => serve::<C, PlainBoard<Snowflake>, S, O>(alloc, task, source, out),
     }
 }

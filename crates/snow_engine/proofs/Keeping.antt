@@ -223,16 +223,16 @@ module _ (p : Parameters) (board : Board) (held : Held) (table : Table) (queue :
       → states ≡ with_decisions held decisions → after ≡ all_gone queue decisions → IsKept p now states table after last false
   kept_polled now states decisions after steady same f g =
       subst (λ (q : Lists). IsKept p now states table q last false) (sym g) (
-        record {
-          steady = steady;
-          parameters = same ∙ kept.parameters;
-          table = kept.table;
-          small = kept.small;
-          numbers = kept.numbers;
-          gets = subst (AreAtMost (λ (get : Get). get.number) last) (sym (gone_gets queue decisions)) kept.gets;
-          waiting = subst (AreOff now) (sym (gone_waiting queue decisions)) (still_off queue.waiting kept.waiting);
-          rests = λ r. absurd cc;
-        })
+      record {
+        steady = steady;
+        parameters = same ∙ kept.parameters;
+        table = kept.table;
+        small = kept.small;
+        numbers = kept.numbers;
+        gets = subst (AreAtMost (λ (get : Get). get.number) last) (sym (gone_gets queue decisions)) kept.gets;
+        waiting = subst (AreOff now) (sym (gone_waiting queue decisions)) (still_off queue.waiting kept.waiting);
+        rests = λ r. absurd cc;
+      })
     where
       gone_waiting : (q : Lists) (ds : List Decision) → (all_gone q ds).waiting ≡ q.waiting
       gone_waiting q [] = refl

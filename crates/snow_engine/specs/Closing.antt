@@ -18,12 +18,18 @@ all_gone queue decisions = fold (λ lists d. after_gone lists (record { id = d.i
 
 -- a poll came to this board with these decisions; the chain and the queue are told
 abbrev pub moved_on : Answer → Running → Board × List Decision → Comes (Running × Bool)
-moved_on answer node after = (told answer node.board after, Ok (record node {
-    board = after.0;
-    chain = with_decisions node.chain after.1;
-    queue = all_gone node.queue after.1;
-    recorded = true;
-  }, true))
+moved_on answer node after = (
+  told answer node.board after,
+  Ok (
+    record node {
+      board = after.0;
+      chain = with_decisions node.chain after.1;
+      queue = all_gone node.queue after.1;
+      recorded = true;
+    },
+    true,
+  ),
+)
 
 -- the front poll has left with these votes, if it was closed; its held replies go with it
 abbrev pub front_closed : Answer → Running → Option (ℕ × List Vote) → Comes (Running × Bool)

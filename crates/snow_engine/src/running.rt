@@ -60,14 +60,14 @@ impl<C: Chain, B: Board> Model for Running<C, B> {
     ghost coded = { coded_running };
 
     ghost view = { λ r. record {
-        board = B.board r.board;
-        chain = C.held r.chain;
-        roster = r.roster;
-        polls = r.polls;
-        queue = lists_of r.queue;
-        words = r.words;
-        last = r.numbers;
-        recorded = r.recorded;
+      board = B.board r.board;
+      chain = C.held r.chain;
+      roster = r.roster;
+      polls = r.polls;
+      queue = lists_of r.queue;
+      words = r.words;
+      last = r.numbers;
+      recorded = r.recorded;
     } };
 
     ghost invariant = { λ r. IsKept r.params (B.board r.board) (C.held r.chain) (r.polls) (lists_of r.queue) r.numbers r.settled };

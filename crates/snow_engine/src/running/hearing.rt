@@ -205,12 +205,7 @@ impl<C: Chain, B: Board> Running<C, B> {
     }
 
     /// A peer is asked for a block, if nothing is known of it.
-    fn fetch_unknown(
-        &mut self,
-        peer: &NodeId,
-        id: Id,
-        log: &mut Lines,
-    ) -> Result<(), EngineStop>
+    fn fetch_unknown(&mut self, peer: &NodeId, id: Id, log: &mut Lines) -> Result<(), EngineStop>
         ensures answer { Steps result self.new (model.fetched_unknown self.old peer.now id).1 }
         ensures lines { Logs result log.old log.new (model.fetched_unknown self.old peer.now id).0 }
     {
@@ -236,12 +231,7 @@ impl<C: Chain, B: Board> Running<C, B> {
     }
 
     /// A get is closed, or a vote lost.
-    fn give_up_on(
-        &mut self,
-        number: u32,
-        peer: &NodeId,
-        log: &mut Lines,
-    ) -> Result<(), EngineStop>
+    fn give_up_on(&mut self, number: u32, peer: &NodeId, log: &mut Lines) -> Result<(), EngineStop>
         ensures answer { Steps result self.new (model.given_up_on B.answer self.old number peer.now (model.asked_by self.old.queue number peer.now)).1 }
         ensures lines { Logs result log.old log.new (model.given_up_on B.answer self.old number peer.now (model.asked_by self.old.queue number peer.now)).0 }
     {
@@ -252,12 +242,7 @@ impl<C: Chain, B: Board> Running<C, B> {
     }
 
     /// A peer gives no vote, and closed polls leave.
-    fn lose_vote(
-        &mut self,
-        number: u32,
-        peer: &NodeId,
-        log: &mut Lines,
-    ) -> Result<(), EngineStop>
+    fn lose_vote(&mut self, number: u32, peer: &NodeId, log: &mut Lines) -> Result<(), EngineStop>
         ensures answer { Steps result self.new (model.vote_lost B.answer self.old number peer.now).1 }
         ensures lines { Logs result log.old log.new (model.vote_lost B.answer self.old number peer.now).0 }
     {
