@@ -36,7 +36,7 @@ fn many_nodes(alloc: Global) -> Result<Vec<Node>, AllocError> {
     let mut nodes = Vec::new(alloc);
     for place in 0..1024u16 {
         let mut bytes = [0; 20];
-        bytes[18..].copy_from_slice(&place.to_be_bytes());
+        bytes[..2].copy_from_slice(&place.to_be_bytes());
         nodes.push(Node {
             id: NodeId::from_bytes(bytes),
             weight: 1,
@@ -83,7 +83,7 @@ fn answer_all(polls: &mut Polls, nodes: &[Node], blocks: u16) -> u32 {
     let mut place = 0u16;
     for node in nodes {
         let mut bytes = [0; 32];
-        bytes[30..].copy_from_slice(&(place % blocks.max(1)).to_be_bytes());
+        bytes[..2].copy_from_slice(&(place % blocks.max(1)).to_be_bytes());
         replies = replies.wrapping_add(answer(polls, &node.id, Id::from_bytes(bytes)));
         place = place.wrapping_add(1);
     }
