@@ -1,10 +1,11 @@
 ghost use Rattle.std.specs.Prelude.{◌≡◌, ◌≤◌, [], length};
-ghost use Rattle.snow_cli.specs.Answer.{TookLine, bad_line, error_line, fault_word, kind_word};
+ghost use Rattle.snow_cli.specs.Answer.{TookLine, bad_line, error_line, fault_word, kind_word, roster_word};
 
 use snow_base::{Sink, write_whole};
 use snow_engine::{BadKind, End};
 use snow_flake::ParamFault;
 use snow_lines::Text;
+use snow_sample::RosterFault;
 
 /// Tells on standard error how a run ended, or that nothing was run. A fault there changes nothing.
 pub fn report<E: Sink>(ended: Option<End>, err: &mut E)
@@ -28,6 +29,8 @@ fn put_line(ended: Option<End>, line: &mut Text)
         Some(End::SinkFault) => line.push(b"snowman: sink fault\n"),
         Some(End::Memory) => line.push(b"snowman: out of memory\n"),
         Some(End::InputLimit) => line.push(b"snowman: input limit\n"),
+        Some(End::RequestLimit) => line.push(b"snowman: request limit\n"),
+        Some(End::Unsupported) => line.push(b"snowman: unsupported\n"),
     }
 }
 
@@ -54,8 +57,23 @@ fn kind_word(kind: BadKind) -> &'static [u8]
         BadKind::NoStart => b"no-start",
         BadKind::NotStart => b"not-start",
         BadKind::Params(fault) => fault_word(fault),
+        BadKind::Roster(fault) => roster_word(fault),
         BadKind::State => b"state",
         BadKind::SecondStart => b"second-start",
+    }
+}
+
+/// The word for refused nodes; want of memory is told by a line of its own.
+fn roster_word(fault: RosterFault) -> &'static [u8]
+    ensures word { result.now ≡ roster_word fault }
+    ensures length { length result.now ≤ 12 }
+{
+    match fault {
+        RosterFault::Empty => b"nodes-empty",
+        RosterFault::Duplicate { .. } => b"node-twice",
+        RosterFault::ZeroWeight { .. } => b"node-weight",
+        RosterFault::TooHeavy => b"nodes-heavy",
+        RosterFault::Memory => b"",
     }
 }
 

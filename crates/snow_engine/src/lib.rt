@@ -1,14 +1,16 @@
 //! The engine of one node: from the events of a stream to lines.
 #![tactic(auto)]
 
+mod admitting;
+mod deciding;
 mod end;
 mod engine;
-mod offering;
-mod recording;
 mod reporting;
 mod runner;
+mod running;
 mod serving;
 mod session;
+mod stage;
 mod stop;
 mod task;
 mod telling;
