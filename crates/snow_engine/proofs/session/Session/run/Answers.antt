@@ -26,7 +26,7 @@ pub end_of_input-requires : goal.end_of_input-requires
 end_of_input-requires g c =
     let same = c.read_from.ensures.given in
     let small = counts g.C.Chain.rules g.B.Board.answer c.args.self.now.runner.task (g.S.Source.left c.args.source.now) (g.S.Source.left c.loop-room.source) (g.O.Sink.written c.args.out.now) (g.O.Sink.written c.loop-room.out)
-        c.loop-room.self.runner.engine c.loop-room.self.decoder c.loop-room.room c.loop-room.invariant.served in
+    c.loop-room.self.runner.engine c.loop-room.self.decoder c.loop-room.room c.loop-room.invariant.served in
     omega (arith, same, small)
 
 pub returns-then-taken-eq0-clause-end : goal.returns-then-taken-eq0-clause-end
@@ -55,24 +55,43 @@ pub work-requires-clause-small : goal.work-requires-clause-small
 work-requires-clause-small g c =
     let took = c.in-Ok.ensures.took in
     let small = has_room g.C.Chain.rules g.B.Board.answer c.args.self.now.runner.task (g.S.Source.left c.args.source.now) (g.S.Source.left c.loop-room.source) (g.O.Sink.written c.args.out.now) (g.O.Sink.written c.loop-room.out)
-        c.loop-room.self.runner.engine c.loop-room.self.decoder c.loop-room.room c.loop-room.invariant.served
-        (length took.piece) (taken_few c.in-Ok.taken c.loop-room.room took.piece took.long c.in-Ok.ensures.few) in
+    c.loop-room.self.runner.engine c.loop-room.self.decoder c.loop-room.room c.loop-room.invariant.served
+    (length took.piece) (taken_few c.in-Ok.taken c.loop-room.room took.piece took.long c.in-Ok.ensures.few) in
     let grown : length c.read_from.new.self.rest ≡ length c.loop-room.self.decoder.rest + length took.piece = ap length took.behind ∙ length-append _ _ in
     omega (arith, small, grown, c.read_from.ensures.given)
+
+pub returns-in-Err-clause-end : goal.returns-in-Err-clause-end
+returns-in-Err-clause-end g c =
+    let took = c.in-Ok.ensures.took in
+    let fed = fed_as c.loop-room.self.decoder c.read_from.new.self took.piece c.read_from.ensures.given took.behind in
+    let goes = rw (c.loop-room.invariant.task, fed) at c.in-Err.ensures.goes in
+    stopped_is g.C.Chain.rules g.B.Board.answer c.args.self.now.runner.task (g.S.Source.left c.args.source.now) (g.S.Source.left c.loop-room.source) (g.S.Source.left c.read_from.new.source) (g.O.Sink.written c.args.out.now) (g.O.Sink.written c.loop-room.out) (g.O.Sink.written c.work.new.out)
+    c.loop-room.self.runner.engine c.work.new.self.runner.engine c.loop-room.self.decoder c.work.new.self.decoder c.loop-room.room c.loop-room.invariant.served
+    took.piece took.consumed (taken_few c.in-Ok.taken c.loop-room.room took.piece took.long c.in-Ok.ensures.few) c.in-Err.end goes
+
+pub returns-in-Err-clause-output : goal.returns-in-Err-clause-output
+returns-in-Err-clause-output g c =
+    let took = c.in-Ok.ensures.took in
+    let fed = fed_as c.loop-room.self.decoder c.read_from.new.self took.piece c.read_from.ensures.given took.behind in
+    let goes = rw (c.loop-room.invariant.task, fed) at c.in-Err.ensures.goes in
+    let lines = rw (c.loop-room.invariant.task, fed) at c.in-Err.ensures.lines in
+    stopped_wrote g.C.Chain.rules g.B.Board.answer c.args.self.now.runner.task (g.S.Source.left c.args.source.now) (g.S.Source.left c.loop-room.source) (g.S.Source.left c.read_from.new.source) (g.O.Sink.written c.args.out.now) (g.O.Sink.written c.loop-room.out) (g.O.Sink.written c.work.new.out)
+    c.loop-room.self.runner.engine c.work.new.self.runner.engine c.loop-room.self.decoder c.work.new.self.decoder c.loop-room.room c.loop-room.invariant.served
+    took.piece took.consumed (taken_few c.in-Ok.taken c.loop-room.room took.piece took.long c.in-Ok.ensures.few) c.in-Err.end goes lines
 
 pub loop-room-preserved : goal.loop-room-preserved
 loop-room-preserved g c =
     let took = c.in-Ok.ensures.took in
     let fed = fed_as c.loop-room.self.decoder c.read_from.new.self took.piece c.read_from.ensures.given took.behind in
-    let goes = rw (c.loop-room.invariant.task, fed) at c.in_default-work.ensures.goes in
-    let lines = rw (c.loop-room.invariant.task, fed) at c.in_default-work.ensures.lines in
+    let goes = rw (c.loop-room.invariant.task, fed) at c.in_default.ensures.goes in
+    let lines = rw (c.loop-room.invariant.task, fed) at c.in_default.ensures.lines in
     record {
       served = goes_on g.C.Chain.rules g.B.Board.answer c.args.self.now.runner.task (g.S.Source.left c.args.source.now) (g.S.Source.left c.loop-room.source) (g.O.Sink.written c.args.out.now) (g.O.Sink.written c.loop-room.out)
           c.loop-room.self.runner.engine c.loop-room.self.decoder c.loop-room.room c.loop-room.invariant.served
           took.piece (g.S.Source.left c.read_from.new.source) (g.O.Sink.written c.work.new.out) c.work.new.self.runner.engine c.work.new.self.decoder (c.loop-room.room - c.in-Ok.taken)
           took.consumed (less_room c.in-Ok.taken c.loop-room.room took.piece took.long c.in-Ok.ensures.few)
-          goes.0 goes.1 lines c.in_default-work.ensures.fine;
-      page = c.in_default-work.ensures.empty;
+          goes.0 goes.1 lines c.in_default.ensures.fine;
+      page = c.in_default.ensures.empty;
       task = c.work.ensures.task ∙ c.loop-room.invariant.task;
       source_later = search rules;
       out_later = search rules;
