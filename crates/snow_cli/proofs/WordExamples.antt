@@ -41,9 +41,9 @@ pub another_rule : command_of (codes "decide" ∷ codes "--rule" ∷ codes "snow
 unfolding command_of items
 another_rule = refl
 
-pub another_task_alone : command_of (codes "run" ∷ []) ≡ Some (command.Serve task.Run chain.Plain rule.Snowball)
+pub a_running_task : command_of (codes "run" ∷ []) ≡ Some (command.Serve task.Run chain.Plain rule.Snowball)
 unfolding command_of items
-another_task_alone = refl
+a_running_task = refl
 
 -- an option stands once at most
 pub twice_for_another_task : command_of (codes "run" ∷ codes "--chain" ∷ codes "plain" ∷ codes "--chain" ∷ codes "tally" ∷ []) ≡ None
@@ -63,9 +63,9 @@ pub another_task : command_of (codes "drill" ∷ codes "--seed" ∷ codes "1" �
 unfolding command_of items
 another_task = refl
 
-pub run : command_of (codes "run" ∷ []) ≡ None
+pub audit : command_of (codes "audit" ∷ []) ≡ None
 unfolding command_of items
-run = refl
+audit = refl
 
 pub help : command_of (codes "--help" ∷ []) ≡ None
 unfolding command_of items

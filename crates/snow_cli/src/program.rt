@@ -56,7 +56,7 @@ pub fn top<S: Source, O: Sink, E: Sink>(
         Ok(None) => None,
         Err(_) => Some(End::Memory),
     };
-    report(ended, err);
+    report(&ended, err);
     Status::of(ended)
 }
 
