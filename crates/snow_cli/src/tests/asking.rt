@@ -102,7 +102,7 @@ const PASSED_OVER: &[Frame] = &[
 const EXAMPLES: &[Example] = &[
     (
         WORDS_RUN_OUT,
-        "prefer 01~00\ndrop-query words\nquery 1 01~00 P*2\n",
+        "prefer 01~00\ndrop-query words\nquery 1 01~00 P*1 Q*1\n",
     ),
     (
         POLLS_LEAVE_FROM_THE_FRONT,
