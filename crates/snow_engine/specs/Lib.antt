@@ -1,5 +1,6 @@
 pub mod Again
 pub mod Closing
+pub mod CompletionLaw
 pub mod Deciding
 pub mod Ends
 pub mod Hearing

@@ -5,6 +5,7 @@ mod admitting;
 mod deciding;
 mod end;
 mod engine;
+mod laws;
 mod reporting;
 mod runner;
 mod running;
@@ -17,6 +18,7 @@ mod telling;
 
 pub use end::{BadKind, End};
 pub use engine::Engine;
+pub use laws::completion_law;
 pub use serving::serve;
 pub use stop::EngineStop;
 pub use task::Task;

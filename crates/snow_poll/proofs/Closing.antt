@@ -11,7 +11,7 @@ use Rattle.snow_flake.specs.Parameters.{Parameters, AreGood}
 use Rattle.snow_sample.specs.declared.draws.Draw.{Draw}
 use Rattle.snow_sample.specs.Sampling.{draw_count}
 use Rattle.snow_poll.specs.Poll.{Poll, votes_of, received, unanswered, outstanding}
-use Rattle.snow_poll.specs.Closing.{some_has, is_answered, is_hopeless, has_preference_alone, has_confidence, is_closed}
+use Rattle.snow_poll.specs.Closing.{some_has, is_answered, cannot_reach_preference, has_preference_alone, has_confidence, is_closed}
 use Rattle.snow_poll.specs.Completion.{Choice, vote_of, chosen, completed, StandsForAll}
 use Rattle.snow_poll.proofs.Counting.{total_received}
 
@@ -110,9 +110,9 @@ same_class p poll ids n good few low high closed =
     let sides : (q : ℕ) → some_has q poll ≡ true → (q ≤ m) ⊎ (m + q ≤ total_count votes) = λ q has. on_or_off ids q votes has in
     elim (or_cases (is_answered poll) _ closed) [
       | inl answered ↦ let same : m ≡ n = omega (arith, eqb-true (outstanding poll) 0 answered, low, high) in ap (class p) same
-      | inr later ↦ elim (or_cases (is_hopeless p poll) _ later) [
-        | inl hopeless ↦
-            let reach = ltb-true _ _ hopeless in
+      | inr later ↦ elim (or_cases (cannot_reach_preference p poll) _ later) [
+        | inl far ↦
+            let reach = ltb-true _ _ far in
             both_low p m n (omega (arith, reach, within, got)) (omega (arith, reach, within, got, high))
         | inr last ↦ elim (or_cases (has_preference_alone p poll) (has_confidence p poll) last) [
           | inl alone ↦

@@ -3,11 +3,13 @@ use Rattle.std.proofs.Common.{◌≡◌, ℕ, true, false, Bool, List, [], ◌�
 use Rattle.snow_base.specs.declared.vote.Vote.{Vote}
 use Rattle.snow_base.specs.Identifier.{bits}
 use Rattle.snow_base.specs.Votes.{added}
+use Rattle.snow_flake.specs.Alike.{votes_for}
+use Rattle.snow_flake.specs.Counter.{class, Middle, High}
 use Rattle.snow_flake.specs.Parameters.{Parameters}
 use Rattle.snow_sample.specs.declared.draws.Draw.{Draw}
 use Rattle.snow_poll.specs.declared.polls.Answered.TheVariants.{NotAwaited}
 use Rattle.snow_poll.specs.Poll.{Poll, with_reply, votes_of, received, outstanding}
-use Rattle.snow_poll.specs.Closing.{is_answered, is_hopeless, has_preference_alone, has_confidence}
+use Rattle.snow_poll.specs.Closing.{is_answered, cannot_reach_preference, has_preference_alone, has_confidence}
 use Rattle.snow_poll.specs.Completion.{completed}
 use Rattle.snow_poll.specs.Table.{Table, no_polls, new_poll, begun, voted, answer, finished, shortened}
 
@@ -30,7 +32,7 @@ parameters k preference confidence =
 
 -- received, outstanding, and which of the four cases close a poll
 abbrev state : Parameters → Poll → ℕ × ℕ × List Bool
-state p q = (received q, outstanding q, is_answered q ∷ is_hopeless p q ∷ has_preference_alone p q ∷ has_confidence p q ∷ [])
+state p q = (received q, outstanding q, is_answered q ∷ cannot_reach_preference p q ∷ has_preference_alone p q ∷ has_confidence p q ∷ [])
 
 -- ---- five nodes, quorums 3 and 5
 
@@ -47,6 +49,15 @@ three_given = with_reply (with_reply (with_reply five (node 1) (Some (block 1)))
 three-open : state p35 three_given ≡ (3, 2, false ∷ false ∷ false ∷ false ∷ [])
 unfolding added bits
 three-open = refl
+
+-- so it stays open: the completion in which both vote for the block is of another class
+three-now : class p35 (votes_for (block 1 ∷ []) (votes_of three_given)) ≡ Middle
+unfolding added bits
+three-now = refl
+
+three-later : class p35 (votes_for (block 1 ∷ []) (completed three_given (λ n. Some (block 1)))) ≡ High
+unfolding added bits
+three-later = refl
 
 -- a fourth node gives no vote: five can no longer be reached
 fourth-drops : state p35 (with_reply three_given (node 4) None) ≡ (3, 1, false ∷ false ∷ true ∷ false ∷ [])

@@ -3,7 +3,7 @@ use Rattle.std.proofs.Common.{◌≡◌, ℕ, zero, suc, ◌+◌, ◌-◌, ◌%�
 use Rattle.std.specs.BTreeMap.{BTreeMap, get}
 use Rattle.std.specs.Option.{option_map}
 use Rattle.std.specs.Ordering.{nat_cmp}
-use Rattle.std.proofs.lemmas.Bool.{true≢false, or_parts, and_from, eqb-true, eq-eqb, false_from_ne_true}
+use Rattle.std.proofs.lemmas.Bool.{true≢false, or_parts, and_from, eqb-true, ne_eqb, eq-eqb, false_from_ne_true}
 use Rattle.std.proofs.lemmas.List.{length-map, length-append}
 use Rattle.std.proofs.lemmas.List.Elements.{All-map, All-append, All-cons}
 use Rattle.std.proofs.lemmas.List.Folds.{list_any-append}
@@ -11,7 +11,7 @@ use Rattle.snow_flake.specs.Parameters.{Parameters}
 use Rattle.snow_sample.specs.declared.draws.Draw.{Draw}
 use Rattle.snow_sample.specs.Sampling.{draw_count}
 use Rattle.snow_poll.specs.Poll.{Poll, awaits, with_reply}
-use Rattle.snow_poll.specs.Table.{has_number, new_poll, is_awaited_by, is_awaited, answered}
+use Rattle.snow_poll.specs.Table.{has_number, HasNoneFrom, new_poll, is_awaited_by, is_awaited, answered}
 use Rattle.snow_poll.specs.Kept.{place, turn, HaveOwnNumbers, IsTable}
 
 -- ---- turns
@@ -180,6 +180,11 @@ apart_back m n h = false_from_ne_true _ (λ same. let one : (m == n) ≡ true = 
 
 has_more : (polls : List Poll) (q : Poll) (m : ℕ) → has_number (polls ++ q ∷ []) m ≡ (has_number polls m || ((q.number == m) || false))
 has_more polls q m = list_any-append (λ (r : Poll). r.number == m) polls (q ∷ [])
+
+-- numbers in order
+pub none_from_more : (next : ℕ) (polls : List Poll) (draws : List Draw) → HasNoneFrom next polls → HasNoneFrom (next + 1) (polls ++ new_poll next draws ∷ [])
+none_from_more next polls draws none m h =
+    has_more polls (new_poll next draws) m ∙ ap (λ b. b || ((next == m) || false)) (none m (omega arith)) ∙ ap (λ b. b || false) (ne_eqb next m (λ same. absurd (omega (arith, same))))
 
 own_more : (polls : List Poll) (r : Poll) → HaveOwnNumbers polls → has_number polls r.number ≡ false → HaveOwnNumbers (polls ++ r ∷ [])
 own_more [] r own new = (refl, tt)

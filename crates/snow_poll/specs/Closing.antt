@@ -17,8 +17,8 @@ abbrev pub is_answered : Poll → Bool
 is_answered poll = outstanding poll == 0
 
 -- no identifier can reach AlphaPreference
-abbrev pub is_hopeless : Parameters → Poll → Bool
-is_hopeless p poll = is_out_of_reach p.alpha_preference poll
+abbrev pub cannot_reach_preference : Parameters → Poll → Bool
+cannot_reach_preference p poll = is_out_of_reach p.alpha_preference poll
 
 -- one identifier has AlphaPreference, and none can reach AlphaConfidence
 abbrev pub has_preference_alone : Parameters → Poll → Bool
@@ -29,4 +29,4 @@ abbrev pub has_confidence : Parameters → Poll → Bool
 has_confidence p poll = some_has p.alpha_confidence poll
 
 abbrev pub is_closed : Parameters → Poll → Bool
-is_closed p poll = is_answered poll || (is_hopeless p poll || (has_preference_alone p poll || has_confidence p poll))
+is_closed p poll = is_answered poll || (cannot_reach_preference p poll || (has_preference_alone p poll || has_confidence p poll))

@@ -1,5 +1,5 @@
 -- The table of polls: a list in order of beginning, of which the front one leaves, and only while it is closed.
-use Rattle.std.specs.Prelude.{ℕ, Bool, ◌&&◌, List, [], ◌∷◌, ◌++◌, map, Option, Some, None, ◌==◌, if◌then◌else◌}
+use Rattle.std.specs.Prelude.{◌≡◌, ℕ, ◌≤◌, Bool, false, ◌&&◌, List, [], ◌∷◌, ◌++◌, map, Option, Some, None, ◌==◌, if◌then◌else◌}
 use Rattle.std.specs.List.{list_any}
 use Rattle.snow_base.specs.declared.vote.Vote.{Vote}
 use Rattle.snow_flake.specs.Parameters.{Parameters}
@@ -21,6 +21,10 @@ no_polls p = record { parameters = p; polls = [] }
 -- whether a poll of this number stands in the table
 abbrev pub has_number : List Poll → ℕ → Bool
 has_number polls number = list_any (λ q. q.number == number) polls
+
+-- no poll has this number or a greater one, as where numbers are drawn in order and this is the next
+abbrev pub HasNoneFrom : ℕ → List Poll → Type 0
+HasNoneFrom next polls = (number : ℕ) → next ≤ number → has_number polls number ≡ false
 
 -- a poll without replies
 abbrev pub new_poll : ℕ → List Draw → Poll

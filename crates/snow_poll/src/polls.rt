@@ -63,7 +63,7 @@ pub struct Closed {
 /// where one has AlphaPreference and none can reach AlphaConfidence, or where one has
 /// AlphaConfidence, as in AvalancheGo's early termination. Only the front poll leaves, and only
 /// while it is closed; until it leaves, its late replies count.
-#[derive(Drop)]
+#[derive(Debug, Drop)]
 pub struct Polls {
     alloc: Global,
     params: Params,

@@ -10,7 +10,7 @@ use std::collections::BTreeMap;
 // At which place each number's poll stands, so that a reply needs no walk over the polls. The turn
 // of a poll is how many were begun before it, and its place is its turn less the polls that left;
 // both are counted modulo 2^64.
-#[derive(Drop)]
+#[derive(Debug, Drop)]
 pub(crate) struct Turns {
     pub(crate) turns: BTreeMap<u32, u64>,
     pub(crate) gone: u64,
