@@ -18,24 +18,42 @@ fn node() -> NodeId {
     NodeId::from_bytes([7; 20])
 }
 
-fn block(alloc: Global, id: u16, parent: u16, height: u64) -> Waiting {
-    Waiting {
-        node: node(),
-        header: Header {
-            id: named(id),
-            parent: named(parent),
-            height,
-        },
-        bytes: Bytes::new(alloc),
-    }
+// A board above the block 0 at height 0.
+fn above(alloc: Global) -> Result<PlainBoard<Snowball>, Fail> {
+    let params = Params::check(1, 1, 1, 1, 1)?;
+    Ok(PlainBoard::begin(alloc, params, named(0), 0)?)
 }
 
-// A board above the block 0 at height 0, and its queue.
-fn begun(alloc: Global) -> Result<(PlainBoard<Snowball>, Queue), Fail> {
-    let params = Params::check(1, 1, 1, 1, 1)?;
-    let board = PlainBoard::begin(alloc, params, named(0), 0)?;
-    let queue = Queue::new(alloc, named(0))?;
-    Ok((board, queue))
+// The queue of a node above the block 0.
+fn begun(alloc: Global) -> Result<Queue, AllocError> {
+    Queue::new(alloc, named(0))
+}
+
+// Offers the block of a number on another.
+fn offer<B: Board>(
+    alloc: Global,
+    queue: &mut Queue,
+    board: &B,
+    (id, parent, height): (u16, u16, u64),
+) -> Result<Offered, AllocError> {
+    let header = Header {
+        id: named(id),
+        parent: named(parent),
+        height,
+    };
+    let block = Waiting {
+        node: node(),
+        header,
+        bytes: Bytes::new(alloc),
+    };
+    queue.offer(block, board)
+}
+
+// A block waits, and this one is to be asked for.
+fn asking(ask: Option<u16>) -> Offered {
+    Offered::Waits {
+        ask: ask.map(|number| named(number)),
+    }
 }
 
 // Issues a block right above its parent, where that may be.
@@ -52,10 +70,15 @@ fn issue<B: Board>(board: &mut B, id: u16, parent: u16) -> Result<(), AllocError
 // Opens a get, where that may be.
 fn ask(queue: &mut Queue, number: u32, id: u16) -> Result<(), AllocError> {
     let id = named(id);
-    if queue.gets_len() < 4096 && !queue.has_number(number) && !queue.is_asked(&id) {
-        queue.asked(number, node(), id)?;
+    if queue.gets_len() >= 4096 || queue.has_number(number) || queue.is_asked(&id) {
+        return Ok(());
     }
-    Ok(())
+    queue.asked(number, node(), id)
+}
+
+// Closes a get.
+fn close(queue: &mut Queue, number: u32) -> Option<Id> {
+    queue.close_get(number, &node())
 }
 
 // Holds a reply, where none is held.
@@ -79,22 +102,34 @@ fn step<B: Board>(queue: &mut Queue, board: &B) -> Option<(char, Id)> {
     }
 }
 
+// Enters a block in the gone list.
+fn go(queue: &mut Queue, id: u16, parent: Option<u16>) {
+    queue.gone(named(id), parent.map(|number| named(number)));
+}
+
+// The block for which a reply votes.
+fn bubble<B: Board>(queue: &Queue, board: &B, id: u16) -> Option<Id> {
+    queue.bubble(&named(id), board)
+}
+
 #[test]
 fn hopeless_blocks_go_one_after_another(rt: HostRuntime) -> Result<(), Fail> {
-    let (board, mut queue) = begun(rt.alloc())?;
-    let asks = queue.offer(block(rt.alloc(), 5, 4, 2), &board)?;
+    let board = above(rt.alloc())?;
+    let mut queue = begun(rt.alloc())?;
     assert_eq!(rt;
-        asks,
-        Offered::Waits {
-            ask: Some(named(4))
-        }
+        offer(rt.alloc(), &mut queue, &board, (5, 4, 2))?,
+        asking(Some(4))
     );
     ask(&mut queue, 1, 4)?;
-    let follows = queue.offer(block(rt.alloc(), 6, 5, 3), &board)?;
-    assert_eq!(rt; follows, Offered::Waits { ask: None });
+    assert_eq!(rt;
+        offer(rt.alloc(), &mut queue, &board, (6, 5, 3))?,
+        asking(None)
+    );
     assert_eq!(rt; step(&mut queue, &board), None);
-    assert_eq!(rt; queue.close_get(1, &node()), Some(named(4)));
-    assert_eq!(rt; queue.close_get(1, &node()), None);
+    assert_eq!(rt;
+        (close(&mut queue, 1), close(&mut queue, 1)),
+        (Some(named(4)), None)
+    );
     assert_eq!(rt; step(&mut queue, &board), Some(('h', named(5))));
     assert_eq!(rt; step(&mut queue, &board), Some(('h', named(6))));
     assert_eq!(rt; step(&mut queue, &board), None);
@@ -103,49 +138,62 @@ fn hopeless_blocks_go_one_after_another(rt: HostRuntime) -> Result<(), Fail> {
 
 #[test]
 fn a_block_follows_its_invalid_parent(rt: HostRuntime) -> Result<(), Fail> {
-    let (board, mut queue) = begun(rt.alloc())?;
-    queue.gone(named(4), Some(named(0)));
-    let waits = queue.offer(block(rt.alloc(), 5, 4, 2), &board)?;
-    assert_eq!(rt; waits, Offered::Waits { ask: None });
+    let board = above(rt.alloc())?;
+    let mut queue = begun(rt.alloc())?;
+    go(&mut queue, 4, Some(0));
+    assert_eq!(rt;
+        offer(rt.alloc(), &mut queue, &board, (5, 4, 2))?,
+        asking(None)
+    );
     assert_eq!(rt; step(&mut queue, &board), Some(('h', named(5))));
-    let again = queue.offer(block(rt.alloc(), 5, 4, 2), &board)?;
-    assert_eq!(rt; again, Offered::Invalid);
-    let old = queue.offer(block(rt.alloc(), 6, 4, 0), &board)?;
-    assert_eq!(rt; old, Offered::Old);
+    assert_eq!(rt;
+        offer(rt.alloc(), &mut queue, &board, (5, 4, 2))?,
+        Offered::Invalid
+    );
+    assert_eq!(rt;
+        offer(rt.alloc(), &mut queue, &board, (6, 4, 0))?,
+        Offered::Old
+    );
     Ok(())
 }
 
 #[test]
 fn a_reply_bubbles_twice_and_a_circle_ends(rt: HostRuntime) -> Result<(), Fail> {
-    let (mut board, mut queue) = begun(rt.alloc())?;
+    let mut board = above(rt.alloc())?;
+    let mut queue = begun(rt.alloc())?;
     issue(&mut board, 4, 0)?;
-    queue.gone(named(5), Some(named(4)));
-    queue.gone(named(6), Some(named(5)));
-    assert_eq!(rt; queue.bubble(&named(6), &board), Some(named(4)));
-    queue.gone(named(8), Some(named(9)));
-    queue.gone(named(9), Some(named(8)));
-    assert_eq!(rt; queue.bubble(&named(8), &board), None);
-    assert_eq!(rt; queue.bubble(&named(0), &board), None);
+    go(&mut queue, 5, Some(4));
+    go(&mut queue, 6, Some(5));
+    go(&mut queue, 8, Some(9));
+    go(&mut queue, 9, Some(8));
+    assert_eq!(rt; bubble(&queue, &board, 6), Some(named(4)));
+    assert_eq!(rt; bubble(&queue, &board, 8), None);
+    assert_eq!(rt; bubble(&queue, &board, 0), None);
     Ok(())
 }
 
 // Enters blocks from one number to before another, without parents.
-fn go(queue: &mut Queue, from: u16, to: u16) {
+fn go_all(queue: &mut Queue, from: u16, to: u16) {
     for number in from..to {
-        queue.gone(named(number), None);
+        go(queue, number, None);
     }
 }
 
 #[test]
 fn the_oldest_entry_is_forgotten(rt: HostRuntime) -> Result<(), Fail> {
-    let (board, mut queue) = begun(rt.alloc())?;
-    queue.gone(named(1), Some(named(0)));
-    go(&mut queue, 10_000, 18_191);
-    let still = queue.offer(block(rt.alloc(), 1, 0, 1), &board)?;
-    assert_eq!(rt; still, Offered::Invalid);
-    go(&mut queue, 18_191, 18_192);
-    let forgotten = queue.offer(block(rt.alloc(), 1, 0, 1), &board)?;
-    assert_eq!(rt; forgotten, Offered::Waits { ask: None });
+    let board = above(rt.alloc())?;
+    let mut queue = begun(rt.alloc())?;
+    go(&mut queue, 1, Some(0));
+    go_all(&mut queue, 10_000, 18_191);
+    assert_eq!(rt;
+        offer(rt.alloc(), &mut queue, &board, (1, 0, 1))?,
+        Offered::Invalid
+    );
+    go(&mut queue, 18_191, None);
+    assert_eq!(rt;
+        offer(rt.alloc(), &mut queue, &board, (1, 0, 1))?,
+        asking(None)
+    );
     Ok(())
 }
 
@@ -158,18 +206,22 @@ fn offer_all<B: Board>(
     to: u16,
 ) -> Result<(), AllocError> {
     for number in from..to {
-        queue.offer(block(alloc, number, number - 1, u64::from(number)), board)?;
+        let block = (number, number.saturating_sub(1), u64::from(number));
+        let _answer = offer(alloc, queue, board, block)?;
     }
     Ok(())
 }
 
 #[test]
 fn no_more_than_4096_blocks_wait(rt: HostRuntime) -> Result<(), Fail> {
-    let (board, mut queue) = begun(rt.alloc())?;
+    let board = above(rt.alloc())?;
+    let mut queue = begun(rt.alloc())?;
     ask(&mut queue, 1, 1)?;
     offer_all(rt.alloc(), &mut queue, &board, 2, 4_098)?;
-    let full = queue.offer(block(rt.alloc(), 4_098, 4_097, 4_098), &board)?;
-    assert_eq!(rt; full, Offered::Full);
+    assert_eq!(rt;
+        offer(rt.alloc(), &mut queue, &board, (4_098, 4_097, 4_098))?,
+        Offered::Full
+    );
     assert_eq!(rt; step(&mut queue, &board), None);
     Ok(())
 }
@@ -184,55 +236,67 @@ fn ask_all(queue: &mut Queue, from: u16, to: u16) -> Result<(), AllocError> {
 
 #[test]
 fn no_more_than_4096_gets_are_open(rt: HostRuntime) -> Result<(), Fail> {
-    let (board, mut queue) = begun(rt.alloc())?;
+    let board = above(rt.alloc())?;
+    let mut queue = begun(rt.alloc())?;
     ask_all(&mut queue, 10_000, 14_095)?;
-    assert!(rt; queue.wants(&named(4), &board));
-    ask_all(&mut queue, 14_095, 14_096)?;
-    assert_eq!(rt; queue.gets_len(), 4_096);
-    assert!(rt; !queue.wants(&named(4), &board));
-    let quiet = queue.offer(block(rt.alloc(), 5, 4, 2), &board)?;
-    assert_eq!(rt; quiet, Offered::Waits { ask: None });
+    let wanted = queue.wants(&named(4), &board);
+    ask(&mut queue, 14_095, 14_095)?;
+    assert_eq!(rt; (wanted, queue.wants(&named(4), &board)), (true, false));
+    assert_eq!(rt;
+        offer(rt.alloc(), &mut queue, &board, (5, 4, 2))?,
+        asking(None)
+    );
     Ok(())
 }
 
 #[test]
 fn a_block_comes_by_itself(rt: HostRuntime) -> Result<(), Fail> {
-    let (mut board, mut queue) = begun(rt.alloc())?;
+    let mut board = above(rt.alloc())?;
+    let mut queue = begun(rt.alloc())?;
     ask(&mut queue, 1, 4)?;
     hold(&mut queue, 3, 4)?;
-    let waits = queue.offer(block(rt.alloc(), 4, 0, 1), &board)?;
-    assert_eq!(rt; waits, Offered::Waits { ask: None });
+    assert_eq!(rt;
+        offer(rt.alloc(), &mut queue, &board, (4, 0, 1))?,
+        asking(None)
+    );
     assert_eq!(rt; step(&mut queue, &board), Some(('r', named(4))));
     issue(&mut board, 4, 0)?;
     assert_eq!(rt; step(&mut queue, &board), None);
-    assert_eq!(rt; queue.close_get(1, &node()), Some(named(4)));
+    assert_eq!(rt; close(&mut queue, 1), Some(named(4)));
     assert_eq!(rt; step(&mut queue, &board), Some(('v', named(4))));
-    assert_eq!(rt; step(&mut queue, &board), None);
     Ok(())
 }
 
 #[test]
 fn a_poll_takes_its_replies(rt: HostRuntime) -> Result<(), Fail> {
-    let (board, mut queue) = begun(rt.alloc())?;
-    ask(&mut queue, 1, 4)?;
-    hold(&mut queue, 3, 4)?;
+    let board = above(rt.alloc())?;
+    let mut queue = begun(rt.alloc())?;
     hold(&mut queue, 5, 8)?;
     hold(&mut queue, 6, 9)?;
     queue.forget(5);
-    assert!(rt; queue.holds(3, &node()) && !queue.holds(5, &node()));
+    assert_eq!(rt;
+        (queue.holds(5, &node()), queue.holds(6, &node())),
+        (false, true)
+    );
     assert_eq!(rt; step(&mut queue, &board), Some(('v', named(9))));
     assert_eq!(rt; step(&mut queue, &board), None);
-    queue.forget(3);
-    assert!(rt; queue.close_get(1, &node()).is_some());
-    assert_eq!(rt; step(&mut queue, &board), None);
+    queue.forget(6);
     Ok(())
+}
+
+// Whether what is known finds the same block that a look at all finds, and then nothing.
+fn finds_the_same<B: Board>(queue: &mut Queue, board: &B) -> bool {
+    matches!(queue.next_work(board), Some(Work::Ready(_))) && queue.next_known(board).is_none()
 }
 
 #[test]
 fn what_is_known_finds_the_same(rt: HostRuntime) -> Result<(), Fail> {
-    let (board, mut queue) = begun(rt.alloc())?;
-    let _answer = queue.offer(block(rt.alloc(), 4, 0, 1), &board)?;
-    assert!(rt; matches!(queue.next_work(&board), Some(Work::Ready(_))));
-    assert!(rt; queue.next_known(&board).is_none());
+    let board = above(rt.alloc())?;
+    let mut queue = begun(rt.alloc())?;
+    assert_eq!(rt;
+        offer(rt.alloc(), &mut queue, &board, (4, 0, 1))?,
+        asking(None)
+    );
+    assert!(rt; finds_the_same(&mut queue, &board));
     Ok(())
 }
