@@ -9,15 +9,19 @@ use Rattle.snow_plain.specs.Preference.{preferred}
 use Rattle.snow_chain.specs.Chain.{Held, with_state}
 use Rattle.snow_lines.specs.declared.line.Line.{Line}
 use Rattle.snow_poll.specs.Table.{Table}
+use Rattle.snow_issue.specs.Known.{Seen}
 use Rattle.snow_issue.specs.Lists.{Lists}
 use Rattle.snow_engine.specs.declared.stop.EngineStop.{EngineStop}
 use Rattle.snow_engine.specs.Kept.{IsApart, IsKept}
 use Rattle.snow_engine.specs.Matching.{IsSteady, Admits}
+use Rattle.snow_engine.specs.declared.running.remembering.Remembered.{Remembered}
+use Rattle.snow_engine.specs.Remembering.{Remembers, when_issued}
 use Rattle.snow_engine.specs.Running.{Running}
 use Rattle.snow_engine.specs.Settling.{issued_by, asked_on_the_way}
 use Rattle.snow_engine.specs.Stepping.{Logs, LogsFront}
 use Rattle.snow_engine.specs.Telling.{decision_line, preference_line}
 use Rattle.snow_engine.proofs.Keeping.{kept_issued}
+use Rattle.snow_engine.proofs.Remembering.{kept_at_issue}
 use Rattle.snow_engine.proofs.Logs.{logs_front_of_more}
 use Rattle.snow_engine.proofs.Sequel.{logs_behind}
 
@@ -36,13 +40,19 @@ admitted true board held board_now held_now decisions block (Some state) v a =
 admitted true board held board_now held_now decisions block None v a = absurd a
 admitted false board held board_now held_now decisions block o v a = absurd cc
 
-module _ (p : Parameters) (board : Board) (held : Held) (table : Table) (queue : Lists) (last : ℕ) (at_rest : Bool) (kept : IsKept p board held table queue last at_rest) where
+module _ (p : Parameters) (board : Board) (held : Held) (table : Table) (queue : Lists) (last : ℕ) (kept : IsKept p board held table queue last) where
   pub kept_admitted : (valid : Bool) (board_now : Board) (held_now : Held) (decisions : List Decision) (block : Header) (o : Option (List ℕ))
       → valid ≡ true → Admits valid board held board_now held_now decisions block o → IsSteady board_now held_now → IsApart board queue.waiting block.id
-      → IsKept p board_now held_now table queue last false
+      → IsKept p board_now held_now table queue last
   kept_admitted valid board_now held_now decisions block o v a steady apart =
       let has = admitted valid board held board_now held_now decisions block o v a in
-      kept_issued p board held table queue last at_rest kept board_now held_now block has.state steady has.board_is has.held_is apart
+      kept_issued p board held table queue last kept board_now held_now block has.state steady has.board_is has.held_is apart
+
+-- what is known of the queue's memory
+pub remembers_admitted : (board : Board) (held : Held) (seen : Seen) (k : Remembered) (valid : Bool) (board_now : Board) (held_now : Held) (decisions : List Decision) (block : Header)
+    (o : Option (List ℕ)) → valid ≡ true → Admits valid board held board_now held_now decisions block o → Remembers board seen k → Remembers board_now seen (when_issued k block.id)
+remembers_admitted board held seen k valid board_now held_now decisions block o v a r =
+    kept_at_issue board board_now seen k block (admitted valid board held board_now held_now decisions block o v a).board_is r
 
 -- the lines of an issue, and then those of a query
 lines_of_both : (answer : Answer) (node : Running) (block : Header) (state before : List ℕ) (board_now : Board) (held_now : Held) (decisions : List Decision) (o : Option (List ℕ))

@@ -1,5 +1,5 @@
 -- What ties a node that runs is kept by each thing that it does.
-use Rattle.std.proofs.Common.{◌≡◌, ℕ, ◌-◌, ◌^◌, ◌+◌, ◌<◌, ◌≤◌, ◌==◌, Bool, true, false, not, ◌||◌, ◌&&◌, cond, nat_lt, min, List, [], ◌∷◌, ◌++◌, length, filter, fold, Option, Some, None, is_some, bytes_eq, refl, sym, ap, ◌∙◌, subst, arith}
+use Rattle.std.proofs.Common.{◌≡◌, ℕ, ◌-◌, ◌^◌, ◌+◌, ◌<◌, ◌≤◌, ◌==◌, Bool, true, false, not, ◌||◌, ◌&&◌, cond, nat_lt, min, List, [], ◌∷◌, ◌++◌, length, filter, fold, Option, Some, None, IfSome, is_some, bytes_eq, refl, sym, ap, ◌∙◌, subst, arith}
 use Rattle.std.proofs.lemmas.Bool.{or_parts}
 use Rattle.std.proofs.lemmas.List.Folds.{list_any-append}
 use Rattle.std.proofs.lemmas.Bool.Decides.{nat_tests}
@@ -97,7 +97,7 @@ offered_apart queue board w ask e = by (is_on board w.header.id || waits queue w
 
 -- a node that begins
 pub kept_new : (p : Parameters) (last : List ℕ) (height : ℕ) (state : List ℕ) (board : Board) (held : Held) (table : Table) (queue : Lists) (number : ℕ) → AreGood p
-    → board ≡ begin p last height → held ≡ first_states last state → table ≡ no_polls p → queue ≡ first_lists last → number ≡ 0 → IsKept p board held table queue number false
+    → board ≡ begin p last height → held ≡ first_states last state → table ≡ no_polls p → queue ≡ first_lists last → number ≡ 0 → IsKept p board held table queue number
 kept_new p last height state board held table queue number good a b c d e =
     rw (a, b, c, d, e) (record {
       steady = begun_steady p last height state good;
@@ -107,12 +107,11 @@ kept_new p last height state board held table queue number good a b c d e =
       numbers = tt;
       gets = tt;
       waiting = tt;
-      rests = λ r. absurd cc;
     })
 
-module _ (p : Parameters) (board : Board) (held : Held) (table : Table) (queue : Lists) (last : ℕ) (at_rest : Bool) (kept : IsKept p board held table queue last at_rest) where
+module _ (p : Parameters) (board : Board) (held : Held) (table : Table) (queue : Lists) (last : ℕ) (kept : IsKept p board held table queue last) where
   -- a number was asked for
-  pub kept_numbered : (next : ℕ) → next ≡ last_after last → IsKept p board held table queue next at_rest
+  pub kept_numbered : (next : ℕ) → next ≡ last_after last → IsKept p board held table queue next
   kept_numbered next e =
       let l = later last next e kept.small in
       record {
@@ -123,12 +122,11 @@ module _ (p : Parameters) (board : Board) (held : Held) (table : Table) (queue :
         numbers = all_below (λ (q : Poll). q.number) table.polls last next l.0 kept.numbers;
         gets = all_below (λ (g : Get). g.number) queue.gets last next l.0 kept.gets;
         waiting = kept.waiting;
-        rests = kept.rests;
       }
 
   -- and no poll was begun under it
-  pub kept_unbegun : (next : ℕ) (after : Table) → next ≡ last_after last → after ≡ table → IsKept p board held after queue next at_rest
-  kept_unbegun next after e f = subst (λ (t : Table). IsKept p board held t queue next at_rest) (sym f) (kept_numbered next e)
+  pub kept_unbegun : (next : ℕ) (after : Table) → next ≡ last_after last → after ≡ table → IsKept p board held after queue next
+  kept_unbegun next after e f = subst (λ (t : Table). IsKept p board held t queue next) (sym f) (kept_numbered next e)
 
   -- it is new to the table and to the gets
   pub new_to_polls : (number next : ℕ) → Some number ≡ next_number last → next ≡ last_after last → has_poll table.polls number ≡ false
@@ -139,12 +137,12 @@ module _ (p : Parameters) (board : Board) (held : Held) (table : Table) (queue :
 
   -- a poll was begun under it
   pub kept_begun : (number next : ℕ) (draws : List Draw) (after : Table) → Some number ≡ next_number last → next ≡ last_after last → after ≡ begun table number draws
-      → IsKept p board held after queue next at_rest
+      → IsKept p board held after queue next
   kept_begun number next draws after e f g =
       let drawn = number_drawn last number next e f in
       let k = kept_numbered next f in
       let is : number ≤ next = omega (arith, drawn.0) in
-      subst (λ (t : Table). IsKept p board held t queue next at_rest) (sym g)
+      subst (λ (t : Table). IsKept p board held t queue next) (sym g)
       (record {
         steady = k.steady;
         parameters = k.parameters;
@@ -153,18 +151,17 @@ module _ (p : Parameters) (board : Board) (held : Held) (table : Table) (queue :
         numbers = one_more (λ (q : Poll). q.number) next table.polls _ k.numbers is;
         gets = k.gets;
         waiting = k.waiting;
-        rests = k.rests;
       })
 
   -- a get was opened under it
   pub kept_asked : (number next : ℕ) (peer id : List ℕ) (after : Lists) → Some number ≡ next_number last → next ≡ last_after last
       → after ≡ record queue { gets = with_get queue.gets (record { number = number; node = peer; id = id }) }
-      → IsKept p board held table after next false
+      → IsKept p board held table after next
   kept_asked number next peer id after e f g =
       let drawn = number_drawn last number next e f in
       let k = kept_numbered next f in
       let is : number ≤ next = omega (arith, drawn.0) in
-      subst (λ (q : Lists). IsKept p board held table q next false) (sym g)
+      subst (λ (q : Lists). IsKept p board held table q next) (sym g)
       (record {
         steady = k.steady;
         parameters = k.parameters;
@@ -173,7 +170,6 @@ module _ (p : Parameters) (board : Board) (held : Held) (table : Table) (queue :
         numbers = k.numbers;
         gets = with_get_below next queue.gets (record { number = number; node = peer; id = id }) is k.gets;
         waiting = k.waiting;
-        rests = λ r. absurd cc;
       })
     where
       with_get_below : (next : ℕ) (gets : List Get) (get : Get) → get.number ≤ next → AreAtMost (λ (g : Get). g.number) next gets → AreAtMost (λ (g : Get). g.number) next (with_get gets get)
@@ -198,7 +194,7 @@ module _ (p : Parameters) (board : Board) (held : Held) (table : Table) (queue :
 
   -- a block was issued that is apart from all that waits
   pub kept_issued : (now : Board) (states : Held) (block : Header) (state : List ℕ) → IsSteady now states → now ≡ issued board block → states ≡ with_state held block.id state
-      → IsApart board queue.waiting block.id → IsKept p now states table queue last false
+      → IsApart board queue.waiting block.id → IsKept p now states table queue last
   kept_issued now states block state steady e f apart = record {
     steady = steady;
     parameters = ap (λ (b : Board). b.parameters) e ∙ kept.parameters;
@@ -207,7 +203,6 @@ module _ (p : Parameters) (board : Board) (held : Held) (table : Table) (queue :
     numbers = kept.numbers;
     gets = kept.gets;
     waiting = still_off queue.waiting apart.other kept.waiting;
-    rests = λ r. absurd cc;
   }
     where
       still_off : (waiting : List Waiting) → waits_among waiting block.id ≡ false → AreOff board waiting → AreOff now waiting
@@ -220,9 +215,9 @@ module _ (p : Parameters) (board : Board) (held : Held) (table : Table) (queue :
 
   -- a poll was recorded
   pub kept_polled : (now : Board) (states : Held) (decisions : List Decision) (after : Lists) → IsSteady now states → now.parameters ≡ board.parameters
-      → states ≡ with_decisions held decisions → after ≡ all_gone queue decisions → IsKept p now states table after last false
+      → states ≡ with_decisions held decisions → after ≡ all_gone queue decisions → IsKept p now states table after last
   kept_polled now states decisions after steady same f g =
-      subst (λ (q : Lists). IsKept p now states table q last false) (sym g) (
+      subst (λ (q : Lists). IsKept p now states table q last) (sym g) (
       record {
         steady = steady;
         parameters = same ∙ kept.parameters;
@@ -231,7 +226,6 @@ module _ (p : Parameters) (board : Board) (held : Held) (table : Table) (queue :
         numbers = kept.numbers;
         gets = subst (AreAtMost (λ (get : Get). get.number) last) (sym (gone_gets queue decisions)) kept.gets;
         waiting = subst (AreOff now) (sym (gone_waiting queue decisions)) (still_off queue.waiting kept.waiting);
-        rests = λ r. absurd cc;
       })
     where
       gone_waiting : (q : Lists) (ds : List Decision) → (all_gone q ds).waiting ≡ q.waiting
@@ -265,11 +259,11 @@ module _ (p : Parameters) (board : Board) (held : Held) (table : Table) (queue :
   -- ---- tables and queues that change
 
   -- another table with polls of no greater number
-  pub kept_table : (after : Table) → after.parameters ≡ table.parameters → AreAtMost (λ (q : Poll). q.number) last after.polls → IsKept p board held after queue last at_rest
-  kept_table after same numbers = record { steady = kept.steady; parameters = kept.parameters; table = same ∙ kept.table; small = kept.small; numbers = numbers; gets = kept.gets; waiting = kept.waiting; rests = kept.rests }
+  pub kept_table : (after : Table) → after.parameters ≡ table.parameters → AreAtMost (λ (q : Poll). q.number) last after.polls → IsKept p board held after queue last
+  kept_table after same numbers = record { steady = kept.steady; parameters = kept.parameters; table = same ∙ kept.table; small = kept.small; numbers = numbers; gets = kept.gets; waiting = kept.waiting }
 
-  pub kept_voted : (after : Table) (number : ℕ) (peer : List ℕ) (id : Option (List ℕ)) → after ≡ voted table number peer id → IsKept p board held after queue last at_rest
-  kept_voted after number peer id e = subst (λ (t : Table). IsKept p board held t queue last at_rest) (sym e) (kept_table (voted table number peer id) refl (still table.polls kept.numbers))
+  pub kept_voted : (after : Table) (number : ℕ) (peer : List ℕ) (id : Option (List ℕ)) → after ≡ voted table number peer id → IsKept p board held after queue last
+  kept_voted after number peer id e = subst (λ (t : Table). IsKept p board held t queue last) (sym e) (kept_table (voted table number peer id) refl (still table.polls kept.numbers))
     where
       one : (q : Poll) → q.number ≤ last → (answered number peer id q).number ≤ last
       one q h = split_on (is_awaited_by number peer q) (λ t. rw t h) (λ t. rw t h)
@@ -278,41 +272,47 @@ module _ (p : Parameters) (board : Board) (held : Held) (table : Table) (queue :
       still [] all = tt
       still (q ∷ polls) all = (one q all.0, still polls all.1)
 
-  pub kept_shortened : (after : Table) → after ≡ shortened table → IsKept p board held after queue last at_rest
-  kept_shortened after e = subst (λ (t : Table). IsKept p board held t queue last at_rest) (sym e) (kept_table (shortened table) refl (still table.polls kept.numbers))
+  pub kept_shortened : (after : Table) → after ≡ shortened table → IsKept p board held after queue last
+  kept_shortened after e = subst (λ (t : Table). IsKept p board held t queue last) (sym e) (kept_table (shortened table) refl (still table.polls kept.numbers))
     where
       still : (polls : List Poll) → AreAtMost (λ (q : Poll). q.number) last polls → AreAtMost (λ (q : Poll). q.number) last (unfinished table.parameters polls)
       still [] all = tt
       still (q ∷ polls) all = split_on (is_closed table.parameters q) (λ t. rw t all.1) (λ t. rw t all)
 
   -- another queue with the same blocks and no other gets
-  pub kept_queue : (after : Lists) → AreOff board after.waiting → AreAtMost (λ (get : Get). get.number) last after.gets → IsKept p board held table after last false
-  kept_queue after off gets = record { steady = kept.steady; parameters = kept.parameters; table = kept.table; small = kept.small; numbers = kept.numbers; gets = gets; waiting = off; rests = λ r. absurd cc }
+  pub kept_queue : (after : Lists) → AreOff board after.waiting → AreAtMost (λ (get : Get). get.number) last after.gets → IsKept p board held table after last
+  kept_queue after off gets = record { steady = kept.steady; parameters = kept.parameters; table = kept.table; small = kept.small; numbers = kept.numbers; gets = gets; waiting = off }
 
-  pub kept_queue_as : (after now : Lists) → now ≡ after → AreOff board after.waiting → AreAtMost (λ (get : Get). get.number) last after.gets → IsKept p board held table now last false
-  kept_queue_as after now e off gets = subst (λ (q : Lists). IsKept p board held table q last false) (sym e) (kept_queue after off gets)
+  pub kept_queue_as : (after now : Lists) → now ≡ after → AreOff board after.waiting → AreAtMost (λ (get : Get). get.number) last after.gets → IsKept p board held table now last
+  kept_queue_as after now e off gets = subst (λ (q : Lists). IsKept p board held table q last) (sym e) (kept_queue after off gets)
 
   -- the same queue
-  pub kept_same : (now : Lists) → now ≡ queue → IsKept p board held table now last at_rest
-  kept_same now e = subst (λ (q : Lists). IsKept p board held table q last at_rest) (sym e) kept
+  pub kept_same : (now : Lists) → now ≡ queue → IsKept p board held table now last
+  kept_same now e = subst (λ (q : Lists). IsKept p board held table q last) (sym e) kept
 
   -- a get wasn't opened after all
-  pub kept_unasked : (next : ℕ) (after : Lists) → next ≡ last_after last → after ≡ queue → IsKept p board held table after next false
+  pub kept_unasked : (next : ℕ) (after : Lists) → next ≡ last_after last → after ≡ queue → IsKept p board held table after next
   kept_unasked next after e f =
       let k = kept_numbered next e in
-      subst (λ (q : Lists). IsKept p board held table q next false) (sym f)
-      (record { steady = k.steady; parameters = k.parameters; table = k.table; small = k.small; numbers = k.numbers; gets = k.gets; waiting = k.waiting; rests = λ r. absurd cc })
+      subst (λ (q : Lists). IsKept p board held table q next) (sym f)
+      (record { steady = k.steady; parameters = k.parameters; table = k.table; small = k.small; numbers = k.numbers; gets = k.gets; waiting = k.waiting })
 
   -- a block more waits that is apart from all others
-  pub kept_waiting : (w : Waiting) (after : Lists) → IsApart board queue.waiting w.header.id → after ≡ with_waiting queue w → IsKept p board held table after last false
+  pub kept_waiting : (w : Waiting) (after : Lists) → IsApart board queue.waiting w.header.id → after ≡ with_waiting queue w → IsKept p board held table after last
   kept_waiting w after apart e = kept_queue_as (with_waiting queue w) after e (one_more_off board queue.waiting w kept.waiting apart) kept.gets
 
-  -- what there is to do was taken out, where the queue wasn't at rest
-  pub kept_worked : (w : Work) (after : Lists) → at_rest ≡ false → Some w ≡ work_of queue board → after ≡ left_by queue board (Some w)
-      → IsKept p board held table after last at_rest × MayWork board after w
-  kept_worked w now off e f =
+  -- what there is to do was taken out
+  pub kept_worked : (w : Work) (after : Lists) → Some w ≡ work_of queue board → after ≡ left_by queue board (Some w)
+      → IsKept p board held table after last × MayWork board after w
+  kept_worked w now e f =
       let out = work_out queue board w kept.waiting (sym e) in
       let k = kept_queue_as (left_by queue board (Some w)) now f out.0 (subst (AreAtMost (λ (get : Get). get.number) last) (sym (work_gets queue board w)) kept.gets) in (
-        subst (λ (b : Bool). IsKept p board held table now last b) (sym off) k,
+        k,
         subst (λ (q : Lists). MayWork board q w) (sym f) out.1,
       )
+
+  -- something was taken out, if there was anything to do
+  pub kept_taken_out : (o : Option Work) (after : Lists) → o ≡ work_of queue board → after ≡ left_by queue board o
+      → IsKept p board held table after last × IfSome o (λ w. MayWork board after w)
+  kept_taken_out None after e f = (kept_same after f, tt)
+  kept_taken_out (Some w) after e f = kept_worked w after e f

@@ -21,3 +21,4 @@ pub mod Working
 pub mod Issuing
 pub mod RunExamples
 pub mod Staged
+pub mod Remembering

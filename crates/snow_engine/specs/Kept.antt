@@ -1,5 +1,5 @@
 -- What ties the board, the chain, the polls and the queue of a node that runs.
-use Rattle.std.specs.Prelude.{◌≡◌, ℕ, ◌-◌, ◌^◌, ◌<◌, ◌≤◌, length, Bool, true, false, List, [], ◌∷◌, None, ⊤}
+use Rattle.std.specs.Prelude.{◌≡◌, ℕ, ◌-◌, ◌^◌, ◌<◌, ◌≤◌, length, false, List, [], ◌∷◌, None, ⊤}
 use Rattle.snow_flake.specs.Parameters.{Parameters}
 use Rattle.snow_plain.specs.Board.{Board, height_of}
 use Rattle.snow_chain.specs.Chain.{Held}
@@ -8,7 +8,6 @@ use Rattle.snow_issue.specs.declared.work.Waiting.{Waiting}
 use Rattle.snow_issue.specs.declared.work.Work.{Work}
 use Rattle.snow_issue.specs.declared.work.Work.TheVariants as work
 use Rattle.snow_issue.specs.Lists.{Lists, waits_among, is_asked}
-use Rattle.snow_issue.specs.Settling.{work_of}
 use Rattle.snow_engine.specs.Matching.{IsSteady}
 
 -- blocks that wait are off the board, and no two have one identifier
@@ -39,9 +38,8 @@ AreAtMost number n [] = Unit {0}
 AreAtMost number n (x ∷ items) = (number x ≤ n) × AreAtMost number n items
 
 -- board and chain belong together; all have the same parameters; no number of a poll or of a get is greater than the last one drawn,
--- which is one of 32 bits;
--- what waits is off the board; and where the queue is known to be at rest, it has nothing to do
-pub record IsKept (p : Parameters) (board : Board) (held : Held) (polls : Table) (queue : Lists) (last : ℕ) (at_rest : Bool) : Type 0 where
+-- which is one of 32 bits; and what waits is off the board
+pub record IsKept (p : Parameters) (board : Board) (held : Held) (polls : Table) (queue : Lists) (last : ℕ) : Type 0 where
   pub steady : IsSteady board held
   pub parameters : board.parameters ≡ p
   pub table : polls.parameters ≡ p
@@ -49,4 +47,3 @@ pub record IsKept (p : Parameters) (board : Board) (held : Held) (polls : Table)
   pub numbers : AreAtMost (λ q. q.number) last polls.polls
   pub gets : AreAtMost (λ g. g.number) last queue.gets
   pub waiting : AreOff board queue.waiting
-  pub rests : at_rest ≡ true → work_of queue board ≡ None

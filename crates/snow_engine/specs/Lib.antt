@@ -11,6 +11,7 @@ pub mod NodeCode
 pub mod Outcome
 pub mod Placing
 pub mod Querying
+pub mod Remembering
 pub mod Run
 pub mod Running
 pub mod RunningCode

@@ -73,10 +73,14 @@ done rules answer node (work.Vote reply) = heard answer node reply
 abbrev pub carried_out : Rules → Answer → Running → Work → Comes (Running × Bool)
 carried_out rules answer node w = then_comes (done rules answer node w) (λ n. quietly (n, true))
 
+-- it was taken out of the queue, if there is any
+abbrev pub without_work : Running → Option Work → Running
+without_work node work = record node { queue = after node.queue node.board work }
+
 -- the first thing that there is to do is done, and whether there was any
 abbrev pub worked : Rules → Answer → Running → Option Work → Comes (Running × Bool)
 worked rules answer node None = quietly (node, false)
-worked rules answer node (Some w) = carried_out rules answer (record node { queue = after node.queue node.board (Some w) }) w
+worked rules answer node (Some w) = carried_out rules answer (without_work node (Some w)) w
 
 abbrev pub one_settled : Rules → Answer → Running → Comes (Running × Bool)
 one_settled rules answer node = worked rules answer node (work_of node.queue node.board)

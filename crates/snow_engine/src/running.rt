@@ -12,9 +12,11 @@ ghost use Rattle.snow_engine.specs.Turning as model;
 mod closing;
 mod hearing;
 mod querying;
+mod remembering;
 mod settling;
 
 use crate::reporting::write;
+use crate::running::remembering::Remembered;
 use crate::stop::EngineStop;
 use snow_base::{Bytes, Id, NodeId, Nodes, Numbers, Nums};
 use snow_chain::Chain;
@@ -44,8 +46,8 @@ pub struct Running<C: Chain, B: Board> {
     numbers: Numbers,
     /// Whether a poll was recorded since the event began.
     recorded: bool,
-    /// Whether the queue is known to have nothing to do.
-    settled: bool,
+    /// What is known of that which the queue remembers of its blocks.
+    remembered: Remembered,
     alloc: Global,
 }
 
@@ -54,6 +56,7 @@ impl<C: Chain, B: Board> Model for Running<C, B> {
     ghost use Rattle.snow_engine.specs.Running.{Running};
     ghost use Rattle.snow_engine.specs.RunningCode.{coded_running};
     ghost use Rattle.snow_engine.specs.Kept.{IsKept};
+    ghost use Rattle.snow_engine.specs.Remembering.{Remembers};
 
     ghost Value = { Running };
 
@@ -70,7 +73,7 @@ impl<C: Chain, B: Board> Model for Running<C, B> {
       recorded = r.recorded;
     } };
 
-    ghost invariant = { λ r. IsKept r.params (B.board r.board) (C.held r.chain) (r.polls) (lists_of r.queue) r.numbers r.settled };
+    ghost invariant = { λ r. IsKept r.params (B.board r.board) (C.held r.chain) (r.polls) (lists_of r.queue) r.numbers × Remembers (B.board r.board) r.queue r.remembered };
 }
 
 impl<C: Chain, B: Board> Running<C, B> {
@@ -96,7 +99,7 @@ impl<C: Chain, B: Board> Running<C, B> {
             words: Words::new(alloc),
             numbers: Numbers::new(),
             recorded: false,
-            settled: false,
+            remembered: Remembered::Nothing,
             alloc,
         })
     }

@@ -1,7 +1,8 @@
 ghost use Rattle.std.specs.Prelude.{◌≡◌, ◌≤◌};
 ghost use Rattle.snow_base.specs.Votes.{total_count};
 ghost use Rattle.snow_plain.specs.Poll.{poll};
-ghost use Rattle.snow_issue.specs.Known.{lists_of};
+ghost use Rattle.snow_plain.specs.Board.{Board};
+ghost use Rattle.snow_issue.specs.Known.{Knows, lists_of};
 ghost use Rattle.snow_engine.specs.Closing as model;
 ghost use Rattle.snow_engine.specs.Stepping.{Answers, Logs, Steps};
 
@@ -33,7 +34,6 @@ impl<C: Chain, B: Board> Running<C, B> {
         let Some(closed) = self.polls.take_finished() else {
             return Ok(false);
         };
-        self.settled = false;
         self.queue.forget(closed.number);
         self.record(&closed.votes, log)
     }
@@ -48,7 +48,7 @@ impl<C: Chain, B: Board> Running<C, B> {
         apply(&mut self.board, &mut self.chain, votes);
         bury(&mut self.queue, self.board.decisions());
         self.recorded = true;
-        self.settled = false;
+        self.remembered = self.remembered.polled();
         tell(&self.board, &before, log)?;
         Ok(true)
     }
@@ -56,7 +56,9 @@ impl<C: Chain, B: Board> Running<C, B> {
 
 /// Each decided block is gone. It takes no memory.
 fn bury(queue: &mut Queue, decisions: &[Decision])
-    ensures { lists_of queue.new ≡ model.all_gone (lists_of queue.old) decisions.now }
+    ensures lists { lists_of queue.new ≡ model.all_gone (lists_of queue.old) decisions.now }
+    ensures knows { (board : Board) → Knows queue.old board → Knows queue.new board }
+    ensures seats { queue.new.seats ≡ queue.old.seats }
 {
     for decision in decisions {
         queue.gone(decision.id, None);

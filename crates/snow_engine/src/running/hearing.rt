@@ -94,7 +94,7 @@ impl<C: Chain, B: Board> Running<C, B> {
             Logs result log.old log.new (model.brought self.old block).0 }
     {
         let id = header.id;
-        self.settled = false;
+        self.remembered = self.remembered.woken();
         let block = Waiting {
             node: peer,
             header,
@@ -131,7 +131,6 @@ impl<C: Chain, B: Board> Running<C, B> {
         let Some(number) = self.numbers.draw() else {
             return Err(EngineStop::Requests);
         };
-        self.settled = false;
         self.queue.asked(number, *peer, id)?;
         log.push(Line::Get {
             number,
@@ -195,7 +194,6 @@ impl<C: Chain, B: Board> Running<C, B> {
         ensures answer { Steps result self.new (model.vote_held self.old number peer.now id).1 }
         ensures lines { Logs result log.old log.new (model.vote_held self.old number peer.now id).0 }
     {
-        self.settled = false;
         self.queue.hold(Held {
             number,
             node: *peer,
@@ -256,12 +254,11 @@ impl<C: Chain, B: Board> Running<C, B> {
     /// An open get is closed; the block that it asked for.
     fn close_get(&mut self, number: u32, peer: &NodeId) -> Option<Id>
         ensures found { result ≡ model.asked_by self.old.queue number peer.now }
-        ensures some { IfSome result (λ id. self.new ≡ model.without_get self.old number peer.now) }
+        ensures node { self.new ≡ model.without_get self.old number peer.now }
         ensures none { result ≡ None → self.new ≡ self.old }
     {
-        let asked = self.queue.close_get(number, peer)?;
-        self.settled = false;
-        Some(asked)
+        self.remembered = self.remembered.woken();
+        self.queue.close_get(number, peer)
     }
 }
 

@@ -1,7 +1,10 @@
-ghost use Rattle.std.specs.Prelude.{◌≡◌};
+ghost use Rattle.std.specs.Prelude.{◌≡◌, IfSome};
 ghost use Rattle.snow_plain.specs.Board.{height_of};
 ghost use Rattle.snow_plain.specs.Reached.{MayIssue};
 ghost use Rattle.snow_chain.specs.Chain.{next_on};
+ghost use Rattle.snow_issue.specs.Known.{Knows, RestsAfter, lists_of};
+ghost use Rattle.snow_issue.specs.Settling.{after, work_of};
+ghost use Rattle.snow_engine.specs.Remembering.{Remembers};
 ghost use Rattle.snow_engine.specs.Kept.{IsApart, MayWork};
 ghost use Rattle.snow_engine.specs.Placing.{opposed};
 ghost use Rattle.snow_engine.specs.Settling as model;
@@ -10,10 +13,11 @@ ghost use Rattle.snow_engine.specs.Stepping.{Answers, Logs, Steps};
 use crate::admitting::{admit, opposition};
 use crate::reporting::{drop_block, tell};
 use crate::running::Running;
+use crate::running::remembering::Remembered;
 use crate::stop::EngineStop;
 use snow_base::{Header, Id};
 use snow_chain::Chain;
-use snow_issue::{Held, Work};
+use snow_issue::{Held, Queue, Work};
 use snow_lines::{DropWhy, Lines};
 use snow_plain::Board;
 
@@ -32,16 +36,21 @@ impl<C: Chain, B: Board> Running<C, B> {
         ensures answer { Answers result self.new (model.one_settled C.rules B.answer self.old).1 }
         ensures lines { Logs result log.old log.new (model.one_settled C.rules B.answer self.old).0 }
     {
-        if self.settled {
-            return Ok(false);
-        }
-        match self.queue.next_work(&self.board) {
-            None => {
-                self.settled = true;
-                Ok(false)
-            }
+        match self.take_work() {
+            None => Ok(false),
             Some(work) => self.carry_out(work, log),
         }
+    }
+
+    /// Takes the first thing that is to do out of the queue, if there is any.
+    fn take_work(&mut self) -> Option<Work>
+        ensures work { result ≡ work_of self.old.queue self.old.board }
+        ensures node { self.new ≡ model.without_work self.old result }
+        ensures may { IfSome result (λ work. MayWork self.new.board self.new.queue work) }
+    {
+        let work = take_next(&mut self.queue, &self.board, &self.remembered);
+        self.remembered = Remembered::taken(&work);
+        work
     }
 
     /// Does what was taken out of the queue, as there was something.
@@ -93,10 +102,10 @@ impl<C: Chain, B: Board> Running<C, B> {
         ensures lines { Logs result log.old log.new (model.issued_by B.answer self.old block.now (next_on C.rules self.old.chain block.now.parent bytes.now)).0 }
     {
         let before = self.board.preference();
-        self.settled = false;
         if !admit(&mut self.board, &mut self.chain, block, bytes)? {
             return self.refuse(block, log);
         }
+        self.remembered = self.remembered.issued(&block.id);
         tell(&self.board, &before, log)?;
         self.ask_on_the_way(&block.id, log)
     }
@@ -106,7 +115,6 @@ impl<C: Chain, B: Board> Running<C, B> {
         ensures answer { Steps result self.new (model.refused self.old block.now).1 }
         ensures lines { Logs result log.old log.new (model.refused self.old block.now).0 }
     {
-        self.settled = false;
         self.queue.gone(block.id, Some(block.parent));
         drop_block(block.id, DropWhy::Invalid, log)
     }
@@ -130,5 +138,21 @@ impl<C: Chain, B: Board> Running<C, B> {
         let id = self.queue.bubble(&reply.id, &self.board);
         self.polls.vote(reply.number, &reply.node, id);
         self.close_polls(log)
+    }
+}
+
+/// Takes the first thing that is to do out of a queue, of which this is known.
+fn take_next<B: Board>(queue: &mut Queue, board: &B, remembered: &Remembered) -> Option<Work>
+    requires { Remembers (B.board board.now) queue.old remembered.now }
+    ensures work { result ≡ work_of (lists_of queue.old) (B.board board.now) }
+    ensures lists { lists_of queue.new ≡ after (lists_of queue.old) (B.board board.now) result }
+    ensures knows { Knows queue.new (B.board board.now) }
+    ensures rests { RestsAfter result queue.new.seats }
+{
+    match remembered {
+        Remembered::Nothing => queue.next_work(board),
+        Remembered::True => queue.next_known(board),
+        Remembered::Calm => queue.next_known(board),
+        Remembered::Ready(_) => queue.next_known(board),
     }
 }

@@ -4,25 +4,35 @@ use Rattle.std.proofs.lemmas.Result.{err_from_is_err_and}
 use Rattle.snow_chain.specs.Chain.{next_on}
 use Rattle.snow_issue.specs.Known.{lists_of}
 use Rattle.snow_engine.specs.Kept.{IsApart}
+use Rattle.snow_engine.specs.declared.running.remembering.Remembered.{Remembered}
+use Rattle.snow_engine.specs.Remembering.{Remembers}
 use Rattle.snow_engine.specs.Running.{Running}
 use Rattle.snow_engine.specs.Settling.{issued_by}
 use Rattle.snow_engine.specs.Stepping.{Logs, LogsFront}
-use Rattle.snow_engine.proofs.Issuing.{kept_admitted, issue_front, issue_lines}
+use Rattle.snow_engine.proofs.Issuing.{kept_admitted, remembers_admitted, issue_front, issue_lines}
 use Rattle.snow_engine.proofs.running.Running.issue.Goals as goal
 
 pub invariant_of-self-in_err-tell : goal.invariant_of-self-in_err-tell
-invariant_of-self-in_err-tell g c =
-    kept_admitted c.self.inside.params (g.B.Board.board c.self.inside.board) (g.C.Chain.held c.self.inside.chain) c.self.inside.polls (lists_of c.self.inside.queue) c.self.inside.numbers c.self.inside.settled c.self.invariant c.in_ok-admit.field-0 (g.B.Board.board c.admit.new.board) (g.C.Chain.held c.admit.new.chain) (g.B.Board.decided c.admit.new.board) c.args.block.now
-    (next_on g.C.Chain.rules (g.C.Chain.held c.self.inside.chain) c.args.block.now.parent c.args.bytes.now)
-    c.if-not-branch.false c.in_ok-admit.ensures.admits c.admit.ensures.steady
-    (subst (λ (n : Running). IsApart n.board n.queue.waiting c.args.block.now.id) (sym c.self.view_is) c.requires.apart)
+invariant_of-self-in_err-tell g c = (
+  kept_admitted c.self.inside.params (g.B.Board.board c.self.inside.board) (g.C.Chain.held c.self.inside.chain) c.self.inside.polls (lists_of c.self.inside.queue) c.self.inside.numbers c.self.invariant.0 c.in_ok-admit.field-0 (g.B.Board.board c.admit.new.board) (g.C.Chain.held c.admit.new.chain) (g.B.Board.decided c.admit.new.board) c.args.block.now
+      (next_on g.C.Chain.rules (g.C.Chain.held c.self.inside.chain) c.args.block.now.parent c.args.bytes.now)
+      c.if-not-branch.false c.in_ok-admit.ensures.admits c.admit.ensures.steady
+      (subst (λ (n : Running). IsApart n.board n.queue.waiting c.args.block.now.id) (sym c.self.view_is) c.requires.apart),
+  subst (λ (k : Remembered). Remembers (g.B.Board.board c.admit.new.board) c.self.inside.queue k) (sym c.issued-self-inside.ensures)
+      (remembers_admitted (g.B.Board.board c.self.inside.board) (g.C.Chain.held c.self.inside.chain) c.self.inside.queue c.self.inside.remembered c.in_ok-admit.field-0 (g.B.Board.board c.admit.new.board) (g.C.Chain.held c.admit.new.chain) (g.B.Board.decided c.admit.new.board) c.args.block.now
+      (next_on g.C.Chain.rules (g.C.Chain.held c.self.inside.chain) c.args.block.now.parent c.args.bytes.now) c.if-not-branch.false c.in_ok-admit.ensures.admits c.self.invariant.1),
+)
 
 pub invariant_of-self-2 : goal.invariant_of-self-2
-invariant_of-self-2 g c =
-    kept_admitted c.self.inside.params (g.B.Board.board c.self.inside.board) (g.C.Chain.held c.self.inside.chain) c.self.inside.polls (lists_of c.self.inside.queue) c.self.inside.numbers c.self.inside.settled c.self.invariant c.in_ok-admit.field-0 (g.B.Board.board c.admit.new.board) (g.C.Chain.held c.admit.new.chain) (g.B.Board.decided c.admit.new.board) c.args.block.now
-    (next_on g.C.Chain.rules (g.C.Chain.held c.self.inside.chain) c.args.block.now.parent c.args.bytes.now)
-    c.if-not-branch.false c.in_ok-admit.ensures.admits c.admit.ensures.steady
-    (subst (λ (n : Running). IsApart n.board n.queue.waiting c.args.block.now.id) (sym c.self.view_is) c.requires.apart)
+invariant_of-self-2 g c = (
+  kept_admitted c.self.inside.params (g.B.Board.board c.self.inside.board) (g.C.Chain.held c.self.inside.chain) c.self.inside.polls (lists_of c.self.inside.queue) c.self.inside.numbers c.self.invariant.0 c.in_ok-admit.field-0 (g.B.Board.board c.admit.new.board) (g.C.Chain.held c.admit.new.chain) (g.B.Board.decided c.admit.new.board) c.args.block.now
+      (next_on g.C.Chain.rules (g.C.Chain.held c.self.inside.chain) c.args.block.now.parent c.args.bytes.now)
+      c.if-not-branch.false c.in_ok-admit.ensures.admits c.admit.ensures.steady
+      (subst (λ (n : Running). IsApart n.board n.queue.waiting c.args.block.now.id) (sym c.self.view_is) c.requires.apart),
+  subst (λ (k : Remembered). Remembers (g.B.Board.board c.admit.new.board) c.self.inside.queue k) (sym c.issued-self-inside.ensures)
+      (remembers_admitted (g.B.Board.board c.self.inside.board) (g.C.Chain.held c.self.inside.chain) c.self.inside.queue c.self.inside.remembered c.in_ok-admit.field-0 (g.B.Board.board c.admit.new.board) (g.C.Chain.held c.admit.new.chain) (g.B.Board.decided c.admit.new.board) c.args.block.now
+      (next_on g.C.Chain.rules (g.C.Chain.held c.self.inside.chain) c.args.block.now.parent c.args.bytes.now) c.if-not-branch.false c.in_ok-admit.ensures.admits c.self.invariant.1),
+)
 
 pub returns-in_err-tell-clause-lines : goal.returns-in_err-tell-clause-lines
 returns-in_err-tell-clause-lines g c =
