@@ -17,38 +17,51 @@ use std::time::Instant;
 const BLOCKS: u16 = 4_096;
 
 fn main(rt: HostRuntime) -> anyhow::Result<()> {
-    let start = Instant::now(&rt)?;
-    let issued = reversed(rt.alloc())?;
-    let elapsed = start.elapsed(&rt)?;
+    let mut board = above(rt.alloc())?;
+    reversed(&rt, &mut board)?;
+    let mut board = above(rt.alloc())?;
+    alone(&rt, &mut board)?;
+    let mut board = above(rt.alloc())?;
+    timeouts(&rt, &mut board)
+}
+
+/// All blocks come in reverse order, each asked for by the one before, until they are ready.
+fn reversed<B: Board>(rt: &HostRuntime, board: &mut B) -> anyhow::Result<()> {
+    let start = Instant::now(rt)?;
+    let issued = issued_in_reverse(rt.alloc(), board)?;
+    let elapsed = start.elapsed(rt)?;
     println!(rt; "{issued} blocks in reverse order")?;
     eprintln!(rt; "reverse order: {} ms", elapsed.as_millis())?;
-    alone(&rt)?;
-    timeouts(&rt)
+    Ok(())
 }
 
 /// The same blocks issued without a queue: what the board takes of the time.
-fn alone(rt: &HostRuntime) -> anyhow::Result<()> {
-    let mut board = above(rt.alloc())?;
+fn alone<B: Board>(rt: &HostRuntime, board: &mut B) -> anyhow::Result<()> {
     let start = Instant::now(rt)?;
-    let issued = issue_all(&mut board)?;
+    let issued = issue_all(board)?;
     let elapsed = start.elapsed(rt)?;
     println!(rt; "{issued} blocks without a queue")?;
     eprintln!(rt; "the board alone: {} ms", elapsed.as_millis())?;
     Ok(())
 }
 
-/// 10,000 timeouts while 4,095 blocks wait, and then the block for which they wait.
-fn timeouts(rt: &HostRuntime) -> anyhow::Result<()> {
-    let mut board = above(rt.alloc())?;
-    let mut queue = waiting(rt.alloc(), &board)?;
+/// 10,000 timeouts while 4,095 blocks wait.
+fn timeouts<B: Board>(rt: &HostRuntime, board: &mut B) -> anyhow::Result<()> {
+    let mut queue = waiting(rt.alloc(), board)?;
     let start = Instant::now(rt)?;
-    let found = time_out(&mut queue, &board, 10_000);
+    let found = time_out(&mut queue, board, 10_000);
     let elapsed = start.elapsed(rt)?;
     println!(rt; "{found} steps after 10000 timeouts")?;
     eprintln!(rt; "timeouts: {} us", elapsed.as_micros())?;
+    in_order(rt, &mut queue, board)
+}
+
+/// Then the block comes for which they wait.
+fn in_order<B: Board>(rt: &HostRuntime, queue: &mut Queue, board: &mut B) -> anyhow::Result<()>
+    requires { Knows queue.old (B.board board.old) }
+{
     let start = Instant::now(rt)?;
-    queue.offer(block(rt.alloc(), 1), &board)?;
-    let issued = settle(&mut queue, &mut board)?;
+    let issued = issued_behind(rt.alloc(), queue, board)?;
     let elapsed = start.elapsed(rt)?;
     println!(rt; "{issued} blocks in order")?;
     eprintln!(rt; "in order: {} ms", elapsed.as_millis())?;
@@ -161,22 +174,37 @@ fn arrive_all<B: Board>(alloc: Global, queue: &mut Queue, board: &mut B) -> Resu
 }
 
 /// The whole of it, from an empty queue.
-fn reversed(alloc: Global) -> anyhow::Result<u32> {
-    let mut board = above(alloc)?;
+fn issued_in_reverse<B: Board>(alloc: Global, board: &mut B) -> Result<u32, AllocError> {
     let mut queue = Queue::new(alloc, named(0))?;
-    Ok(arrive_all(alloc, &mut queue, &mut board)?)
+    arrive_all(alloc, &mut queue, board)
 }
 
-/// A queue in which all blocks but the first wait, and the first is asked for.
+/// The first block comes, and what is then ready is issued.
+fn issued_behind<B: Board>(alloc: Global, queue: &mut Queue, board: &mut B) -> Result<u32, AllocError>
+    requires { Knows queue.old (B.board board.old) }
+{
+    arrive(alloc, queue, board, 1)?;
+    settle(queue, board)
+}
+
+/// A queue in which all blocks but the first came in order and wait.
 fn waiting<B: Board>(alloc: Global, board: &B) -> Result<Queue, AllocError>
     ensures { IfOk result (λ queue. Knows queue (B.board board.now)) }
 {
     let mut queue = Queue::new(alloc, named(0))?;
-    ask(&mut queue, 1, named(1))?;
-    for number in 1..BLOCKS {
-        let _answer = queue.offer(block(alloc, number + 1), board)?;
+    for passed in 1..BLOCKS {
+        arrive(alloc, &mut queue, board, passed + 1)?;
     }
     Ok(queue)
+}
+
+/// A timeout of a number that nobody waits for, and whether a step applies then.
+fn finds_work<B: Board>(queue: &mut Queue, board: &B) -> bool
+    requires { Knows queue.old (B.board board.now) }
+    ensures { Knows queue.new (B.board board.now) }
+{
+    let _closed = queue.close_get(100_000, &node());
+    queue.next_known(board).is_some()
 }
 
 /// Timeouts of a number that nobody waits for. Counts the steps that they find.
@@ -186,8 +214,7 @@ fn time_out<B: Board>(queue: &mut Queue, board: &B, times: u32) -> u32
 {
     let mut found = 0u32;
     for _ in 0..times {
-        let _closed = queue.close_get(100_000, &node());
-        if queue.next_known(board).is_some() {
+        if finds_work(queue, board) {
             found = found.saturating_add(1);
         }
     }
