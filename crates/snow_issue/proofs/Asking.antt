@@ -16,7 +16,9 @@ use Rattle.snow_issue.specs.declared.work.Get.{Get}
 use Rattle.snow_issue.specs.Lists.{asked_in, has_number, is_get, with_get, without}
 use Rattle.snow_issue.specs.Index.{AreNamedApart, HasAsked, get_of}
 use Rattle.snow_issue.proofs.Noted.{same_id, id_turned}
-use Rattle.snow_issue.proofs.Named.{is_named, named, named_removed, apart_removed, named_is_some, or_true}
+use Rattle.snow_issue.proofs.Named.{is_named, named, named_removed, apart_removed, named_is_some}
+use Rattle.snow_issue.proofs.Booleans.{or_true}
+use Rattle.snow_issue.proofs.Booleans.{or_false, or_true, or_turned, or_assoc, cond_or}
 
 abbrev Entries : Type 0
 Entries = List (ℕ × Asked)
@@ -28,26 +30,6 @@ pub asked_nothing : (ids : BTreeSet (List ℕ)) (es : Entries) → ids.keys ≡ 
 asked_nothing ids es none empty = rw empty (record { known = λ id. rw none refl; apart = tt })
 
 -- ---- booleans
-
-or_false : (b : Bool) → (b || false) ≡ b
-or_false true = refl
-or_false false = refl
-
-or_turned : (a b : Bool) → (a || b) ≡ (b || a)
-or_turned true true = refl
-or_turned true false = refl
-or_turned false true = refl
-or_turned false false = refl
-
-or_assoc : (a b c : Bool) → ((a || b) || c) ≡ (a || (b || c))
-or_assoc true b c = refl
-or_assoc false b c = refl
-
-cond_or : (a b : Bool) → cond a true b ≡ (b || a)
-cond_or true true = refl
-cond_or true false = refl
-cond_or false true = refl
-cond_or false false = refl
 
 undone : (a b : Bool) → (a ≡ true → b ≡ false) → cond a false (cond a true b) ≡ b
 undone true b none = sym (none refl)

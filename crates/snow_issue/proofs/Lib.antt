@@ -1,4 +1,5 @@
 mod Asking
+mod Booleans
 mod Bubbled
 mod GoneAppended
 mod GoneExamples

@@ -237,7 +237,7 @@ ripe_on true other h = refl
 ripe_on false true h = absurd cc
 ripe_on false false h = absurd cc
 
-quiet_off : (on other : Bool) → cond on (Some Ripe) (cond other (Some Quiet) None) ≡ Some Quiet → on ≡ false
+pub quiet_off : (on other : Bool) → cond on (Some Ripe) (cond other (Some Quiet) None) ≡ Some Quiet → on ≡ false
 quiet_off true other h = absurd cc
 quiet_off false other h = refl
 

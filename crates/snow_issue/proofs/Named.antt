@@ -7,6 +7,7 @@ use Rattle.std.proofs.lemmas.Bool.{or_parts, both_ways, false_from_ne_true}
 use Rattle.std.proofs.lemmas.List.Folds.{list_any-append}
 use Rattle.snow_issue.specs.Index.{AreNamedApart}
 use Rattle.snow_issue.proofs.Noted.{same_id, id_itself, id_turned}
+use Rattle.snow_issue.proofs.Booleans.{or_false, or_true}
 
 -- whether an item has the name
 abbrev pub is_named : {T : Type 0} → (T → List ℕ) → List T → List ℕ → Bool
@@ -46,10 +47,6 @@ apart_pushed name (y ∷ items) x h apart =
 -- ---- one item less
 
 -- another name's items stay
-pub or_true : (b : Bool) → (b || true) ≡ true
-or_true true = refl
-or_true false = refl
-
 pub none_named : {T : Type 0} (name : T → List ℕ) (items : List T) (id : List ℕ) → is_named name items id ≡ false → named name items id ≡ None
 none_named name [] id h = refl
 none_named name (y ∷ items) id h =
@@ -114,10 +111,6 @@ by_first false y rest any h = h
 pub named_is_some : {T : Type 0} (name : T → List ℕ) (items : List T) (id : List ℕ) → is_some (named name items id) ≡ is_named name items id
 named_is_some name [] id = refl
 named_is_some name (y ∷ items) id = by_first (bytes_eq (name y) id) y (named name items id) (is_named name items id) (named_is_some name items id)
-
-or_false : (b : Bool) → (b || false) ≡ b
-or_false true = refl
-or_false false = refl
 
 -- a test of a named item beside the name
 pub any_named : {T : Type 0} (name : T → List ℕ) (test : T → Bool) (items : List T) (id : List ℕ) → AreNamedApart name items

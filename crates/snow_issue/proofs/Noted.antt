@@ -10,6 +10,7 @@ use Rattle.std.proofs.lemmas.List.Folds.{list_any-append}
 use Rattle.std.proofs.lemmas.Map.Text.{is_eq-slice_cmp}
 use Rattle.std.proofs.lemmas.Slice.Eq.{bytes_eq-Decides}
 use Rattle.snow_issue.specs.Index.{row_of, has_place, left_by}
+use Rattle.snow_issue.proofs.Booleans.{or_false}
 
 abbrev pub RowMap : Type 0
 RowMap = BTreeMap (List ℕ) (List ℕ)
@@ -60,10 +61,6 @@ row_is m key row h = ap (λ o. unwrap_or o []) h
 pub no_row : (m : RowMap) (key : List ℕ) → None ≡ get (slice_cmp nat_cmp) m key → [] ≡ row_of m key
 no_row m key h = ap (λ o. unwrap_or o []) h
 
-pub both_same : {A : Type 0} (b : Bool) (x : A) → cond b x x ≡ x
-both_same true x = refl
-both_same false x = refl
-
 -- two changes of one row, the second of which leaves nothing
 pub changed_twice : (b : Bool) (change : List ℕ → List ℕ) (row other : List ℕ) → other ≡ cond b (change row) row → (b ≡ true → change row ≡ [])
     → cond b [] other ≡ cond b (change row) row
@@ -71,10 +68,6 @@ changed_twice true change row other h empty = sym (empty refl)
 changed_twice false change row other h empty = h
 
 -- ---- what a row has
-
-or_false : (b : Bool) → (b || false) ≡ b
-or_false true = refl
-or_false false = refl
 
 pub has_pushed : (row : List ℕ) (place other : ℕ) → has_place other (row ++ place ∷ []) ≡ (has_place other row || (place == other))
 has_pushed row place other = list_any-append (λ p. p == other) row (place ∷ []) ∙ ap (λ b. has_place other row || b) (or_false (place == other))

@@ -3,7 +3,7 @@ use Rattle.std.proofs.Common.{◌≡◌, ℕ, Bool, true, false, ◌||◌, ◌&&
 use Rattle.std.specs.List.{list_any}
 use Rattle.std.specs.Option.{is_some, option_map}
 use Rattle.std.specs.Str.{bytes_eq}
-use Rattle.std.proofs.lemmas.Bool.{both_ways, false_from_ne_true, or_parts}
+use Rattle.std.proofs.lemmas.Bool.{both_ways, false_from_ne_true, or_parts, or_from}
 use Rattle.std.proofs.lemmas.List.Elements.{All-weaker}
 use Rattle.std.proofs.lemmas.List.Folds.{list_any-append}
 use Rattle.snow_base.specs.declared.header.Header.{Header}
@@ -21,7 +21,9 @@ use Rattle.snow_issue.specs.declared.marks.Mark.TheVariants.{New, Quiet, Ripe}
 use Rattle.snow_issue.specs.Lists.{asked_in, waits_below}
 use Rattle.snow_issue.specs.Offering.{is_on}
 use Rattle.snow_issue.specs.Known.{Seen, items_of, is_mark, has, sight, Tells, Knows, ForgetsChildren, NoneRipe}
+use Rattle.snow_issue.proofs.Looked.{quiet_off}
 use Rattle.snow_issue.proofs.Noted.{same_id, id_turned}
+use Rattle.snow_issue.proofs.Booleans.{or_false, or_true, or_assoc}
 
 -- ---- what is on a board
 
@@ -46,14 +48,6 @@ pends_changed : (change : List ℕ → Counters → Counters) (pending : List Pe
 pends_changed change [] id = refl
 pends_changed change (q ∷ pending) id = ap (λ b. bytes_eq q.block.id id || b) (pends_changed change pending id)
 
-or_false : (b : Bool) → (b || false) ≡ b
-or_false true = refl
-or_false false = refl
-
-or_assoc : (a b c : Bool) → (a || (b || c)) ≡ ((a || b) || c)
-or_assoc true b c = refl
-or_assoc false b c = refl
-
 -- a block that is issued is on the board, beside what was there
 pub on_issued : (board : Board) (child : Header) (id : List ℕ) → is_on (issued board child) id ≡ (is_on board id || bytes_eq child.id id)
 on_issued board child id =
@@ -61,7 +55,7 @@ on_issued board child id =
     ∙ ap (λ b. bytes_eq board.last id || b) (list_any-append (λ q. bytes_eq q.block.id id) (map (with_counters (with_issued child)) board.pending) (new_pending child ∷ [])
     ∙ ap (λ b. b || (bytes_eq child.id id || false)) (pends_changed (with_issued child) board.pending id)
     ∙ ap (λ b. pends board.pending id || b) (or_false (bytes_eq child.id id)))
-    ∙ or_assoc (bytes_eq board.last id) (pends board.pending id) (bytes_eq child.id id)
+    ∙ sym (or_assoc (bytes_eq board.last id) (pends board.pending id) (bytes_eq child.id id))
     ∙ ap (λ b. b || bytes_eq child.id id) (sym (on_is board id))
 
 -- what isn't on the board isn't there after a poll either
@@ -83,13 +77,6 @@ fewer_pend test (q ∷ pending) id h =
     let Goal : Bool → Type 0 = λ b. pends (cond b (q ∷ filter test pending) (filter test pending)) id ≡ false in
     elim (test q) as Goal [ true ↦ ap (λ b. b || pends (filter test pending) id) parts.0 ∙ rest | false ↦ rest ]
 
-or_from_parts : (a b : Bool) → a ≡ false → b ≡ false → (a || b) ≡ false
-or_from_parts a b x y = ap (λ a. a || b) x ∙ y
-
-or_true : (b : Bool) → (b || true) ≡ true
-or_true true = refl
-or_true false = refl
-
 pends_found : (front back : List Pending) (q : Pending) (id : List ℕ) → bytes_eq q.block.id id ≡ true → pends (front ++ q ∷ back) id ≡ true
 pends_found [] back q id h = ap (λ b. b || pends back id) h
 pends_found (p ∷ front) back q id h = ap (λ b. bytes_eq p.block.id id || b) (pends_found front back q id h) ∙ or_true (bytes_eq p.block.id id)
@@ -102,7 +89,7 @@ off_promoted board child id off won =
     let other : bytes_eq child.block.id id ≡ false = false_from_ne_true (bytes_eq child.block.id id) (λ t.
     both_ways (pends board.pending id) parts.1 (ap (λ l. pends l id) at.is ∙ pends_found at.front at.back child id t)) in
     on_is (promoted board child) id
-    ∙ or_from_parts (bytes_eq child.block.id id) (pends (promoted board child).pending id) other (fewer_pend _ board.pending id parts.1)
+    ∙ or_from (bytes_eq child.block.id id) (pends (promoted board child).pending id) other (fewer_pend _ board.pending id parts.1)
 
 pub off_polled : (board : Board) (votes : List Vote) (id : List ℕ) → is_on board id ≡ false → is_on (poll board votes).0 id ≡ false
 unfolding poll
@@ -136,17 +123,12 @@ tells_issued s board child knows forgets k d within =
     (on_issued board child parent ∙ ap (λ b. is_on board parent || b) other ∙ or_false (is_on board parent)))
     (knows k d within)
 
--- a block that is known to wait on isn't a child of the board
-quiet_is_off : (on other : Bool) → cond on (Some Ripe) (cond other (Some Quiet) None) ≡ Some Quiet → on ≡ false
-quiet_is_off true other h = absurd cc
-quiet_is_off false other h = refl
-
 polled_by : (waiting : List Waiting) (gets : List Get) (board : Board) (votes : List Vote) (w : Waiting) (mark : Mark) → has Ripe (w, mark) ≡ false
     → Tells waiting gets board (w, mark) → Tells waiting gets (poll board votes).0 (w, mark)
 polled_by waiting gets board votes w New other h = tt
 polled_by waiting gets board votes w Quiet other h =
     let parent = w.header.parent in
-    let off = quiet_is_off (is_on board parent) (asked_in gets parent || waits_below waiting w.header) h in
+    let off = quiet_off (is_on board parent) (asked_in gets parent || waits_below waiting w.header) h in
     sight_same waiting gets board (poll board votes).0 w.header (off_polled board votes parent off ∙ sym off) ∙ h
 polled_by waiting gets board votes w Ripe other h = absurd cc
 

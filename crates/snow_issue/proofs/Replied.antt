@@ -20,6 +20,7 @@ use Rattle.snow_issue.specs.Index.{AreNamedApart, HasReplies, has_reply, reply_k
 use Rattle.snow_issue.proofs.Noted.{same_id, id_itself}
 use Rattle.snow_issue.proofs.Named.{is_named, named, apart_pushed, named_removed, apart_removed, named_is_some}
 use Rattle.snow_issue.proofs.Asking.{number_is, cond_none}
+use Rattle.snow_issue.proofs.Booleans.{or_false, cond_or, both_same}
 
 abbrev pub PollMap : Type 0
 PollMap = BTreeMap ℕ (BTreeSet (List ℕ))
@@ -32,16 +33,6 @@ pub replies_nothing : (polls : PollMap) → polls.entries ≡ [] → HasReplies 
 replies_nothing polls empty = record { known = λ number node. rw empty refl; apart = tt }
 
 -- ---- the map of nodes by poll
-
-or_false : (b : Bool) → (b || false) ≡ b
-or_false true = refl
-or_false false = refl
-
-or_cond : (a b : Bool) → cond a true b ≡ (b || a)
-or_cond true true = refl
-or_cond true false = refl
-or_cond false true = refl
-or_cond false false = refl
 
 turned : (a b : ℕ) → (a == b) ≡ (b == a)
 turned a b =
@@ -70,7 +61,7 @@ node_added before number nodes after node found added n other =
       | true ↦ λ e.
           let here : contains (slice_cmp nat_cmp) nodes other ≡ has_reply before n other = ap (λ o. has_node o other) found ∙ ap (λ k. has_reply before k other) (eqb-true number n e) in
           added other ∙ ap (λ b. cond b true (contains (slice_cmp nat_cmp) nodes other)) (is_eq-slice_cmp node other)
-          ∙ ap (λ b. cond (bytes_eq node other) true b) here ∙ or_cond (bytes_eq node other) (has_reply before n other)
+          ∙ ap (λ b. cond (bytes_eq node other) true b) here ∙ cond_or (bytes_eq node other) (has_reply before n other)
       | false ↦ λ e. sym (or_false (has_reply before n other))
     ] refl
 
@@ -85,7 +76,7 @@ node_first before number empty after node missing none added n other =
           let here : false ≡ has_reply before n other = ap (λ o. has_node o other) missing ∙ ap (λ k. has_reply before k other) (eqb-true number n e) in
           let nothing : contains (slice_cmp nat_cmp) empty other ≡ false = rw none refl in
           added other ∙ ap (λ b. cond b true (contains (slice_cmp nat_cmp) empty other)) (is_eq-slice_cmp node other)
-          ∙ ap (λ b. cond (bytes_eq node other) true b) (nothing ∙ here) ∙ or_cond (bytes_eq node other) (has_reply before n other)
+          ∙ ap (λ b. cond (bytes_eq node other) true b) (nothing ∙ here) ∙ cond_or (bytes_eq node other) (has_reply before n other)
       | false ↦ λ e. sym (or_false (has_reply before n other))
     ] refl
 
@@ -196,12 +187,8 @@ apart_filtered (x ∷ held) number apart =
     ]
 
 -- which replies to other polls are held stays so, and none to this one is
-nothing_either : (b : Bool) → false ≡ cond b false false
-nothing_either true = refl
-nothing_either false = refl
-
 held_filtered : (held : List Held) (number n : ℕ) (other : List ℕ) → holds_in (filter (stays number) held) n other ≡ cond (number == n) false (holds_in held n other)
-held_filtered [] number n other = nothing_either (number == n)
+held_filtered [] number n other = sym (both_same (number == n) false)
 held_filtered (x ∷ held) number n other =
     let rest = held_filtered held number n other in
     let Goal : Bool → Type 0 = λ b. (x.number == number) ≡ b
@@ -247,6 +234,11 @@ none_of_poll (x ∷ held) number none =
 
 pub no_replies : (polls : PollMap) (held : List Held) (number : ℕ) → HasReplies polls held → None ≡ get nat_cmp polls number → held ≡ filter (stays number) held
 no_replies polls held number is missing = none_of_poll held number (λ node. sym (is.known number node) ∙ ap (λ o. has_node o node) (sym missing))
+
+pub no_nodes : (polls : PollMap) (held : List Held) (number : ℕ) (nodes : BTreeSet (List ℕ)) → HasReplies polls held → Some nodes ≡ get nat_cmp polls number → nodes.keys ≡ []
+    → held ≡ filter (stays number) held
+no_nodes polls held number nodes is found empty =
+    none_of_poll held number (λ node. sym (is.known number node) ∙ ap (λ o. has_node o node) (sym found) ∙ rw empty refl)
 
 -- ---- items and what is remembered of them
 

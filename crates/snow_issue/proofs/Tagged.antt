@@ -12,6 +12,7 @@ use Rattle.snow_issue.specs.declared.lineup.Slot.{Slot}
 use Rattle.snow_issue.specs.declared.marks.Mark.{Mark}
 use Rattle.snow_issue.specs.Index.{row_of, has_place, left_by, tag_of, seat_of, IsIndexed, KeepsRows}
 use Rattle.snow_issue.proofs.Noted.{RowMap, same_id, id_itself, id_turned, has_pushed, has_left, none_left}
+use Rattle.snow_issue.proofs.Booleans.{or_false, or_true}
 
 abbrev pub Tag : Type 0
 Tag = ℕ × List ℕ
@@ -55,14 +56,6 @@ pub seats_set : {T : Type 0} (slots : List (Slot T)) (at : ℕ) (s : Slot T) →
 seats_set slots at s = map-set seat_of slots at s
 
 -- ---- one item more
-
-or_false : (b : Bool) → (b || false) ≡ b
-or_false true = refl
-or_false false = refl
-
-or_true : (b : Bool) → (b || true) ≡ true
-or_true true = refl
-or_true false = refl
 
 other_pushed : (b : Bool) (row : List ℕ) (next place : ℕ) → place < next → has_place place (cond b (row ++ next ∷ []) row) ≡ has_place place row
 other_pushed true row next place low = has_pushed row next place ∙ ap (λ b. has_place place row || b) (ne_eqb next place (λ e. absurd (omega (arith, e, low)))) ∙ or_false (has_place place row)

@@ -2,7 +2,7 @@
 use Rattle.std.proofs.Common.{◌≡◌, ℕ, zero, suc, ◌<◌, ◌≤◌, ◌+◌, ◌==◌, Bool, true, false, not, ◌&&◌, ◌||◌, cond, List, [], ◌∷◌, ◌++◌, map, length, get_or, set, find, All, Option, Some, None, refl, sym, ap, ◌∙◌, subst, arith, ⊎_elim}
 use Rattle.std.specs.List.{list_any, remove, position_or_len}
 use Rattle.std.specs.Str.{bytes_eq}
-use Rattle.std.proofs.lemmas.Bool.{both_ways, cases_Bool}
+use Rattle.std.proofs.lemmas.Bool.{or_left, not-false}
 use Rattle.std.proofs.lemmas.List.{get_or-map, length-map}
 use Rattle.std.proofs.lemmas.List.Elements.{All-map, All-weaker, All-push}
 use Rattle.std.proofs.lemmas.List.Folds.{list_any-append}
@@ -16,7 +16,7 @@ use Rattle.snow_issue.specs.declared.marks.Mark.TheVariants.{New, Quiet, Ripe}
 use Rattle.snow_issue.specs.Lists.{waits_among, waits_below, asked_in, with_get, is_get, without}
 use Rattle.snow_issue.specs.Offering.{is_on}
 use Rattle.snow_issue.specs.Settling.{is_free_by}
-use Rattle.snow_issue.specs.Known.{items_of, has, sight, Tells, ForgetsChildren}
+use Rattle.snow_issue.specs.Known.{items_of, is_mark, has, sight, Tells, ForgetsChildren, NoneRipe}
 use Rattle.snow_issue.proofs.Noted.{id_turned}
 use Rattle.snow_issue.specs.Index.{woken, forgotten}
 use Rattle.snow_issue.specs.Keeping.{Rests}
@@ -127,9 +127,6 @@ tells_closed board seats gets number node get found tells =
     All-map (Tells other others board) (woken key get.id) seats
     (All-weaker (Tells before gets board) (λ s. Tells other others board (woken key get.id s)) (λ s h. woken_tells before other gets others board get.id s (stays s) h) seats tells)
 
-or_left_true : (a b : Bool) → a ≡ true → (a || b) ≡ true
-or_left_true a b h = ap (λ x. x || b) h
-
 either_more : (a b c d : Bool) → (a ≡ true → c ≡ true) → (b ≡ true → d ≡ true) → (a || b) ≡ true → (c || d) ≡ true
 either_more true b c d ac bd h = ap (λ x. x || d) (ac refl)
 either_more false b true d ac bd h = refl
@@ -143,7 +140,7 @@ tells_asked board seats gets get tells =
     (λ s h. let head = s.0.header in
     tells_more (items_of seats) (items_of seats) gets (with_get gets get) board s.0 s.1
     (either_more (asked_in gets head.parent) (waits_below (items_of seats) head) (asked_in (with_get gets get) head.parent) (waits_below (items_of seats) head)
-    (λ e. asked_with gets get head.parent ∙ or_left_true (asked_in gets head.parent) (bytes_eq get.id head.parent) e) (λ e. e)) h)
+    (λ e. asked_with gets get head.parent ∙ or_left (asked_in gets head.parent) (bytes_eq get.id head.parent) e) (λ e. e)) h)
     seats tells
 
 -- a block came
@@ -158,13 +155,17 @@ tells_pushed board seats gets w tells =
     (either_more (asked_in gets head.parent) (waits_below (items_of seats) head) (asked_in gets head.parent) (waits_below other head) (λ e. e)
     (λ e. ap (λ l. waits_below l head) (items_pushed seats w New)
     ∙ list_any-append (λ w. bytes_eq w.header.id head.parent && (w.header.height + 1 == head.height)) (items_of seats) (w ∷ [])
-    ∙ or_left_true (waits_below (items_of seats) head) ((bytes_eq w.header.id head.parent && (w.header.height + 1 == head.height)) || false) e)) h)
+    ∙ or_left (waits_below (items_of seats) head) ((bytes_eq w.header.id head.parent && (w.header.height + 1 == head.height)) || false) e)) h)
     seats tells) tt
 
 -- nothing is remembered, so it is true of any board
 pub tells_forgotten : (gets : List Get) (board : Board) (seats : List (Waiting × Mark)) → All (Tells (items_of (map forgotten seats)) gets board) (map forgotten seats)
 tells_forgotten gets board seats =
     All-map (Tells (items_of (map forgotten seats)) gets board) forgotten seats (λ k d within. tt)
+
+unripe_either : (b : Bool) (mark : Mark) → is_mark Ripe mark ≡ false → is_mark Ripe (cond b New mark) ≡ false
+unripe_either true mark h = refl
+unripe_either false mark h = h
 
 -- a block's children were woken, so nothing is remembered of them
 pub woken_forgets : (id : List ℕ) (seats after : List (Waiting × Mark)) → after ≡ map (woken (λ w. w.header.parent) id) seats → ForgetsChildren id after
@@ -174,6 +175,17 @@ woken_forgets id seats after is =
     subst (λ (l : List (Waiting × Mark)). All P l) (sym is)
     (All-map P (woken key id) seats (λ k d within child.
     let s = get_or seats k d in ap (λ b. cond b New s.1) (id_turned id s.0.header.parent ∙ child)))
+
+-- ---- none is ripe
+
+pub unripe_pushed : (seats : List (Waiting × Mark)) (w : Waiting) → NoneRipe seats → NoneRipe (seats ++ (w, New) ∷ [])
+unripe_pushed seats w none = let new : Waiting × Mark = (w, New) in All-push (λ (s : Waiting × Mark). has Ripe s ≡ false) seats new none refl
+
+pub unripe_woken : (id : List ℕ) (seats : List (Waiting × Mark)) → NoneRipe seats → NoneRipe (map (woken (λ w. w.header.parent) id) seats)
+unripe_woken id seats none =
+    let key : Waiting → List ℕ = λ w. w.header.parent in
+    All-map (λ (s : Waiting × Mark). has Ripe s ≡ false) (woken key id) seats
+    (All-weaker (λ s. has Ripe s ≡ false) (λ s. has Ripe (woken key id s) ≡ false) (λ s h. unripe_either (bytes_eq id s.0.header.parent) s.1 h) seats none)
 
 -- ---- held replies
 
@@ -215,12 +227,8 @@ rests_closed waiting gets number node get replies found rests =
     (λ e. ap (λ b. not (waits_among waiting s.0.id || b)) (without_other (λ g. bytes_eq g.id s.0.id) gets (position_or_len (is_get number node) gets) get place.0 place.1 e)) r)
     replies rests)
 
-busy : (b : Bool) → not b ≡ false → b ≡ true
-busy true h = refl
-busy false h = absurd cc
-
 still_busy : (a b c d : Bool) → (a ≡ true → c ≡ true) → (b ≡ true → d ≡ true) → not (a || b) ≡ false → not (c || d) ≡ false
-still_busy a b c d ac bd h = ap not (either_more a b c d ac bd (busy (a || b) h))
+still_busy a b c d ac bd h = ap not (either_more a b c d ac bd (not-false (a || b) h))
 
 rests_more : (waiting other : List Waiting) (gets others : List Get) (h : Held) (mark : Mark) → (waits_among waiting h.id ≡ true → waits_among other h.id ≡ true)
     → (asked_in gets h.id ≡ true → asked_in others h.id ≡ true) → Rests waiting gets (h, mark) → Rests other others (h, mark)
@@ -232,12 +240,12 @@ pub rests_asked : (waiting : List Waiting) (gets : List Get) (get : Get) (replie
 rests_asked waiting gets get replies rests =
     All-weaker (Rests waiting gets) (Rests waiting (with_get gets get))
     (λ s r. rests_more waiting waiting gets (with_get gets get) s.0 s.1 (λ e. e)
-    (λ e. asked_with gets get s.0.id ∙ or_left_true (asked_in gets s.0.id) (bytes_eq get.id s.0.id) e) r)
+    (λ e. asked_with gets get s.0.id ∙ or_left (asked_in gets s.0.id) (bytes_eq get.id s.0.id) e) r)
     replies rests
 
 pub rests_pushed : (waiting : List Waiting) (gets : List Get) (w : Waiting) (replies : List (Held × Mark)) → All (Rests waiting gets) replies → All (Rests (waiting ++ w ∷ []) gets) replies
 rests_pushed waiting gets w replies rests =
     All-weaker (Rests waiting gets) (Rests (waiting ++ w ∷ []) gets)
     (λ s r. rests_more waiting (waiting ++ w ∷ []) gets gets s.0 s.1
-    (λ e. list_any-append (λ x. bytes_eq x.header.id s.0.id) waiting (w ∷ []) ∙ or_left_true (waits_among waiting s.0.id) (bytes_eq w.header.id s.0.id || false) e) (λ e. e) r)
+    (λ e. list_any-append (λ x. bytes_eq x.header.id s.0.id) waiting (w ∷ []) ∙ or_left (waits_among waiting s.0.id) (bytes_eq w.header.id s.0.id || false) e) (λ e. e) r)
     replies rests

@@ -6,7 +6,7 @@ use Rattle.snow_plain.specs.Board.{Board, height_of}
 use Rattle.snow_issue.specs.declared.work.Waiting.{Waiting}
 use Rattle.snow_issue.specs.declared.work.Offered.{Offered}
 use Rattle.snow_issue.specs.declared.work.Offered.TheVariants as offer
-use Rattle.snow_issue.specs.Gone.{latest, stands_for}
+use Rattle.snow_issue.specs.Gone.{holds, stands_for}
 use Rattle.snow_issue.specs.Lists.{Lists, waits, is_asked, with_waiting}
 
 -- whether a block is on the board: pending, or the last accepted one
@@ -15,7 +15,7 @@ is_on board id = is_some (height_of board id)
 
 -- whether a block has an entry in the gone list
 abbrev pub is_gone : Lists → List ℕ → Bool
-is_gone q id = is_some (latest q.gone id)
+is_gone q id = holds q.gone id
 
 -- whether nothing is known of a block
 abbrev pub is_unknown : Lists → Board → List ℕ → Bool

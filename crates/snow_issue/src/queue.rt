@@ -7,7 +7,7 @@ ghost use Rattle.snow_issue.specs.Lists.{begun, has_number, is_asked, is_get, ho
 ghost use Rattle.snow_issue.specs.Offering.{offered, after_offer, wanted};
 ghost use Rattle.snow_issue.specs.Settling.{work_of, after};
 ghost use Rattle.snow_issue.specs.Bubbling.{bubbled};
-ghost use Rattle.snow_issue.specs.Known.{lists_of, Knows, RestsAfter};
+ghost use Rattle.snow_issue.specs.Known.{lists_of, Knows, NoneRipe, RestsAfter};
 
 use crate::gets::Gets;
 use crate::gone::{Gone, GoneList};
@@ -74,6 +74,7 @@ impl Queue {
         ensures lists { IfOk result (λ answer. lists_of self.new ≡ after_offer (lists_of self.old) block answer) }
         ensures err { OnErr result (self.new ≡ self.old) }
         ensures knows { (b : model.Board) → Knows self.old b → Knows self.new b }
+        ensures ripe { NoneRipe self.old.seats → NoneRipe self.new.seats }
         ensures limits { AreWithinLimits (lists_of self.new) }
     {
         let header = block.header;
@@ -103,6 +104,7 @@ impl Queue {
         ensures lists { let get : Get = record { number = number; node = node; id = id } in OnOk result (lists_of self.new ≡ after_asked (lists_of self.old) get) }
         ensures err { OnErr result (self.new ≡ self.old) }
         ensures knows { (b : model.Board) → Knows self.old b → Knows self.new b }
+        ensures seats { self.new.seats ≡ self.old.seats }
         ensures limits { AreWithinLimits (lists_of self.new) }
     {
         self.gets.open(Get { number, node, id })?;
@@ -115,6 +117,7 @@ impl Queue {
         ensures answer { result ≡ option_map (λ get. get.id) (find (is_get number node.now) self.old.gets) }
         ensures lists { lists_of self.new ≡ after_closed (lists_of self.old) number node.now }
         ensures knows { (b : model.Board) → Knows self.old b → Knows self.new b }
+        ensures ripe { NoneRipe self.old.seats → NoneRipe self.new.seats }
         ensures limits { AreWithinLimits (lists_of self.new) }
     {
         let id = self.gets.close(number, node)?;
@@ -129,6 +132,7 @@ impl Queue {
         ensures lists { OnOk result (lists_of self.new ≡ after_held (lists_of self.old) reply) }
         ensures err { OnErr result (self.new ≡ self.old) }
         ensures knows { (b : model.Board) → Knows self.old b → Knows self.new b }
+        ensures seats { self.new.seats ≡ self.old.seats }
         ensures limits { AreWithinLimits (lists_of self.new) }
     {
         self.replies.push(reply)?;
@@ -146,6 +150,7 @@ impl Queue {
     pub fn forget(&mut self, number: u32)
         ensures lists { lists_of self.new ≡ after_forgotten (lists_of self.old) number }
         ensures knows { (b : model.Board) → Knows self.old b → Knows self.new b }
+        ensures seats { self.new.seats ≡ self.old.seats }
         ensures limits { AreWithinLimits (lists_of self.new) }
     {
         self.replies.forget(number);
@@ -216,6 +221,7 @@ impl Queue {
     pub fn gone(&mut self, id: Id, parent: Option<Id>)
         ensures lists { let entry : Gone = record { id = id; parent = parent } in lists_of self.new ≡ after_gone (lists_of self.old) entry }
         ensures knows { (b : model.Board) → Knows self.old b → Knows self.new b }
+        ensures seats { self.new.seats ≡ self.old.seats }
         ensures limits { AreWithinLimits (lists_of self.new) }
     {
         self.gone.enter(Gone { id, parent });

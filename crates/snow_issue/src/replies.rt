@@ -134,9 +134,12 @@ impl Replies {
     pub(crate) fn forget(&mut self, number: u32)
         ensures { self.new ≡ filter (λ s. not (s.0.number == number)) self.old }
     {
-        let Some(_nodes) = self.polls.remove(&number) else {
+        let Some(nodes) = self.polls.remove(&number) else {
             return;
         };
+        if nodes.is_empty() {
+            return;
+        }
         self.lineup.leave_poll(number);
     }
 }

@@ -5,6 +5,11 @@ use snow_plain::{Board, PlainBoard};
 use std::alloc::{AllocError, Global};
 use std::test::Fail;
 
+// What a call answers: a letter, and a block or 0.
+type Told = (char, u16);
+
+const NOTHING: Told = ('-', 0);
+
 // The identifier that begins with the bytes of a number.
 fn named(number: u16) -> Id {
     let mut bytes = [0; 32];
@@ -14,23 +19,115 @@ fn named(number: u16) -> Id {
     Id::from_bytes(bytes)
 }
 
+fn number_of(id: &Id) -> u16 {
+    let bytes = id.as_bytes();
+    u16::from_be_bytes([bytes[0], bytes[1]])
+}
+
 fn node() -> NodeId {
     NodeId::from_bytes([7; 20])
 }
 
-fn block(alloc: Global, id: u16, parent: u16, height: u64) -> Waiting {
-    Waiting {
-        node: node(),
-        header: Header {
-            id: named(id),
-            parent: named(parent),
-            height,
-        },
-        bytes: Bytes::new(alloc),
+fn told_of(letter: char, id: Option<Id>) -> Told {
+    match id {
+        Some(id) => (letter, number_of(&id)),
+        None => NOTHING,
     }
 }
 
-// A board above the block 0 at height 0, and its queue.
+// Offers the block of a number on another, so high.
+fn offer<B: Board>(
+    alloc: Global,
+    queue: &mut Queue,
+    board: &B,
+    (id, parent, height): (u16, u16, u64),
+) -> Result<Told, AllocError> {
+    let header = Header {
+        id: named(id),
+        parent: named(parent),
+        height,
+    };
+    let block = Waiting {
+        node: node(),
+        header,
+        bytes: Bytes::new(alloc),
+    };
+    let answer = queue.offer(block, board)?;
+    Ok(told_answer(answer))
+}
+
+fn told_answer(answer: Offered) -> Told {
+    match answer {
+        Offered::Known => ('k', 0),
+        Offered::Invalid => ('i', 0),
+        Offered::Old => ('o', 0),
+        Offered::Full => ('f', 0),
+        Offered::Waits { ask: Some(id) } => ('w', number_of(&id)),
+        Offered::Waits { ask: None } => ('w', 0),
+    }
+}
+
+fn ask(queue: &mut Queue, number: u32, id: u16) -> Result<(), AllocError> {
+    let id = named(id);
+    if queue.gets_len() >= 4096 || queue.has_number(number) || queue.is_asked(&id) {
+        return Ok(());
+    }
+    queue.asked(number, node(), id)
+}
+
+fn hold(queue: &mut Queue, number: u32, id: u16) -> Result<(), AllocError> {
+    let (node, id) = (node(), named(id));
+    if queue.holds(number, &node) {
+        return Ok(());
+    }
+    queue.hold(Held { number, node, id })
+}
+
+fn issue<B: Board>(board: &mut B, id: u16, parent: u16) -> Result<(), AllocError> {
+    let (id, parent) = (named(id), named(parent));
+    let Some(below) = board.height_of(&parent) else {
+        return Ok(());
+    };
+    if below == u64::MAX || board.height_of(&id).is_some() || board.pending_len() >= 4096 {
+        return Ok(());
+    }
+    board.issue(id, parent, below + 1)
+}
+
+fn told_work(work: Option<Work>) -> Told {
+    match work {
+        Some(Work::Hopeless(block)) => ('h', number_of(&block.header.id)),
+        Some(Work::Ready(block)) => ('r', number_of(&block.header.id)),
+        Some(Work::Vote(reply)) => ('v', number_of(&reply.id)),
+        None => NOTHING,
+    }
+}
+
+fn step<B: Board>(queue: &mut Queue, board: &B) -> Told {
+    told_work(queue.next_work(board))
+}
+
+// A step without a look at everything, behind one with it that found nothing.
+fn step_known<B: Board>(queue: &mut Queue, board: &B) -> Told {
+    if queue.next_work(board).is_some() {
+        return ('?', 0);
+    }
+    told_work(queue.next_known(board))
+}
+
+fn close(queue: &mut Queue, number: u32) -> Told {
+    told_of('c', queue.close_get(number, &node()))
+}
+
+fn go(queue: &mut Queue, id: u16, parent: Option<u16>) {
+    queue.gone(named(id), parent.map(|number| named(number)));
+}
+
+fn bubble<B: Board>(queue: &Queue, board: &B, id: u16) -> Told {
+    told_of('b', queue.bubble(&named(id), board))
+}
+
+// A board above the block 0, and the queue of a node that begins there.
 fn begun(alloc: Global) -> Result<(PlainBoard<Snowball>, Queue), Fail> {
     let params = Params::check(1, 1, 1, 1, 1)?;
     let board = PlainBoard::begin(alloc, params, named(0), 0)?;
@@ -38,201 +135,170 @@ fn begun(alloc: Global) -> Result<(PlainBoard<Snowball>, Queue), Fail> {
     Ok((board, queue))
 }
 
-// Issues a block right above its parent, where that may be.
-fn issue<B: Board>(board: &mut B, id: u16, parent: u16) -> Result<(), AllocError> {
-    let Some(below) = board.height_of(&named(parent)) else {
-        return Ok(());
-    };
-    if below == u64::MAX || board.height_of(&named(id)).is_some() || board.pending_len() >= 4096 {
-        return Ok(());
-    }
-    board.issue(named(id), named(parent), below + 1)
-}
-
-// Opens a get, where that may be.
-fn ask(queue: &mut Queue, number: u32, id: u16) -> Result<(), AllocError> {
-    let id = named(id);
-    if queue.gets_len() < 4096 && !queue.has_number(number) && !queue.is_asked(&id) {
-        queue.asked(number, node(), id)?;
-    }
-    Ok(())
-}
-
-// Holds a reply, where none is held.
-fn hold(queue: &mut Queue, number: u32, id: u16) -> Result<(), AllocError> {
-    if queue.holds(number, &node()) {
-        return Ok(());
-    }
-    queue.hold(Held {
-        number,
-        node: node(),
-        id: named(id),
-    })
-}
-
-// The next step, by its kind and its block.
-fn step<B: Board>(queue: &mut Queue, board: &B) -> Option<(char, Id)> {
-    match queue.next_work(board)? {
-        Work::Hopeless(block) => Some(('h', block.header.id)),
-        Work::Ready(block) => Some(('r', block.header.id)),
-        Work::Vote(reply) => Some(('v', reply.id)),
-    }
+fn hopeless<B: Board>(
+    alloc: Global,
+    queue: &mut Queue,
+    board: &B,
+) -> Result<([Told; 5], [Told; 3]), AllocError> {
+    let first = offer(alloc, queue, board, (5, 4, 2))?;
+    ask(queue, 1, 4)?;
+    let again = offer(alloc, queue, board, (5, 4, 2))?;
+    let second = offer(alloc, queue, board, (6, 5, 3))?;
+    let waits = step(queue, board);
+    let closed = close(queue, 1);
+    let steps = (step(queue, board), step(queue, board));
+    let rest = step_known(queue, board);
+    Ok((
+        [first, again, second, waits, closed],
+        [steps.0, steps.1, rest],
+    ))
 }
 
 #[test]
 fn hopeless_blocks_go_one_after_another(rt: HostRuntime) -> Result<(), Fail> {
     let (board, mut queue) = begun(rt.alloc())?;
-    let asks = queue.offer(block(rt.alloc(), 5, 4, 2), &board)?;
-    assert_eq!(rt;
-        asks,
-        Offered::Waits {
-            ask: Some(named(4))
-        }
-    );
-    ask(&mut queue, 1, 4)?;
-    let follows = queue.offer(block(rt.alloc(), 6, 5, 3), &board)?;
-    assert_eq!(rt; follows, Offered::Waits { ask: None });
-    assert_eq!(rt; step(&mut queue, &board), None);
-    assert_eq!(rt; queue.close_get(1, &node()), Some(named(4)));
-    assert_eq!(rt; queue.close_get(1, &node()), None);
-    assert_eq!(rt; step(&mut queue, &board), Some(('h', named(5))));
-    assert_eq!(rt; step(&mut queue, &board), Some(('h', named(6))));
-    assert_eq!(rt; step(&mut queue, &board), None);
+    let told = hopeless(rt.alloc(), &mut queue, &board)?;
+    let waits = [('w', 4), ('k', 0), ('w', 0), NOTHING, ('c', 4)];
+    let steps = [('h', 5), ('h', 6), NOTHING];
+    assert_eq!(rt; told, (waits, steps));
     Ok(())
+}
+
+fn invalid<B: Board>(alloc: Global, queue: &mut Queue, board: &B) -> Result<[Told; 4], AllocError> {
+    go(queue, 4, Some(0));
+    let waits = offer(alloc, queue, board, (5, 4, 2))?;
+    let goes = step(queue, board);
+    let again = offer(alloc, queue, board, (5, 4, 2))?;
+    let low = offer(alloc, queue, board, (6, 4, 0))?;
+    Ok([waits, goes, again, low])
 }
 
 #[test]
 fn a_block_follows_its_invalid_parent(rt: HostRuntime) -> Result<(), Fail> {
     let (board, mut queue) = begun(rt.alloc())?;
-    queue.gone(named(4), Some(named(0)));
-    let waits = queue.offer(block(rt.alloc(), 5, 4, 2), &board)?;
-    assert_eq!(rt; waits, Offered::Waits { ask: None });
-    assert_eq!(rt; step(&mut queue, &board), Some(('h', named(5))));
-    let again = queue.offer(block(rt.alloc(), 5, 4, 2), &board)?;
-    assert_eq!(rt; again, Offered::Invalid);
-    let old = queue.offer(block(rt.alloc(), 6, 4, 0), &board)?;
-    assert_eq!(rt; old, Offered::Old);
+    let told = invalid(rt.alloc(), &mut queue, &board)?;
+    assert_eq!(rt; told, [('w', 0), ('h', 5), ('i', 0), ('o', 0)]);
     Ok(())
+}
+
+fn bubbling<B: Board>(queue: &mut Queue, board: &mut B) -> Result<[Told; 3], AllocError> {
+    issue(board, 4, 0)?;
+    go(queue, 5, Some(4));
+    go(queue, 6, Some(5));
+    go(queue, 8, Some(9));
+    go(queue, 9, Some(8));
+    Ok([
+        bubble(queue, board, 6),
+        bubble(queue, board, 8),
+        bubble(queue, board, 0),
+    ])
 }
 
 #[test]
 fn a_reply_bubbles_twice_and_a_circle_ends(rt: HostRuntime) -> Result<(), Fail> {
     let (mut board, mut queue) = begun(rt.alloc())?;
-    issue(&mut board, 4, 0)?;
-    queue.gone(named(5), Some(named(4)));
-    queue.gone(named(6), Some(named(5)));
-    assert_eq!(rt; queue.bubble(&named(6), &board), Some(named(4)));
-    queue.gone(named(8), Some(named(9)));
-    queue.gone(named(9), Some(named(8)));
-    assert_eq!(rt; queue.bubble(&named(8), &board), None);
-    assert_eq!(rt; queue.bubble(&named(0), &board), None);
+    let told = bubbling(&mut queue, &mut board)?;
+    assert_eq!(rt; told, [('b', 4), NOTHING, NOTHING]);
     Ok(())
 }
 
-// Enters blocks from one number to before another, without parents.
-fn go(queue: &mut Queue, from: u16, to: u16) {
-    for number in from..to {
-        queue.gone(named(number), None);
-    }
-}
-
-#[test]
-fn the_oldest_entry_is_forgotten(rt: HostRuntime) -> Result<(), Fail> {
-    let (board, mut queue) = begun(rt.alloc())?;
-    queue.gone(named(1), Some(named(0)));
-    go(&mut queue, 10_000, 18_191);
-    let still = queue.offer(block(rt.alloc(), 1, 0, 1), &board)?;
-    assert_eq!(rt; still, Offered::Invalid);
-    go(&mut queue, 18_191, 18_192);
-    let forgotten = queue.offer(block(rt.alloc(), 1, 0, 1), &board)?;
-    assert_eq!(rt; forgotten, Offered::Waits { ask: None });
-    Ok(())
-}
-
-// Offers blocks from one number to before another, each on the one before it and that high.
-fn offer_all<B: Board>(
+fn by_itself<B: Board>(
     alloc: Global,
     queue: &mut Queue,
-    board: &B,
-    from: u16,
-    to: u16,
-) -> Result<(), AllocError> {
-    for number in from..to {
-        queue.offer(block(alloc, number, number - 1, u64::from(number)), board)?;
-    }
-    Ok(())
-}
-
-#[test]
-fn no_more_than_4096_blocks_wait(rt: HostRuntime) -> Result<(), Fail> {
-    let (board, mut queue) = begun(rt.alloc())?;
-    ask(&mut queue, 1, 1)?;
-    offer_all(rt.alloc(), &mut queue, &board, 2, 4_098)?;
-    let full = queue.offer(block(rt.alloc(), 4_098, 4_097, 4_098), &board)?;
-    assert_eq!(rt; full, Offered::Full);
-    assert_eq!(rt; step(&mut queue, &board), None);
-    Ok(())
-}
-
-// Opens gets for blocks from one number to before another.
-fn ask_all(queue: &mut Queue, from: u16, to: u16) -> Result<(), AllocError> {
-    for number in from..to {
-        ask(queue, u32::from(number), number)?;
-    }
-    Ok(())
-}
-
-#[test]
-fn no_more_than_4096_gets_are_open(rt: HostRuntime) -> Result<(), Fail> {
-    let (board, mut queue) = begun(rt.alloc())?;
-    ask_all(&mut queue, 10_000, 14_095)?;
-    assert!(rt; queue.wants(&named(4), &board));
-    ask_all(&mut queue, 14_095, 14_096)?;
-    assert_eq!(rt; queue.gets_len(), 4_096);
-    assert!(rt; !queue.wants(&named(4), &board));
-    let quiet = queue.offer(block(rt.alloc(), 5, 4, 2), &board)?;
-    assert_eq!(rt; quiet, Offered::Waits { ask: None });
-    Ok(())
+    board: &mut B,
+) -> Result<[Told; 5], AllocError> {
+    ask(queue, 1, 4)?;
+    hold(queue, 3, 4)?;
+    let comes = offer(alloc, queue, board, (4, 0, 1))?;
+    let ready = step(queue, board);
+    issue(board, 4, 0)?;
+    let waits = step_known(queue, board);
+    let closed = close(queue, 1);
+    Ok([comes, ready, waits, closed, step(queue, board)])
 }
 
 #[test]
 fn a_block_comes_by_itself(rt: HostRuntime) -> Result<(), Fail> {
     let (mut board, mut queue) = begun(rt.alloc())?;
-    ask(&mut queue, 1, 4)?;
-    hold(&mut queue, 3, 4)?;
-    let waits = queue.offer(block(rt.alloc(), 4, 0, 1), &board)?;
-    assert_eq!(rt; waits, Offered::Waits { ask: None });
-    assert_eq!(rt; step(&mut queue, &board), Some(('r', named(4))));
-    issue(&mut board, 4, 0)?;
-    assert_eq!(rt; step(&mut queue, &board), None);
-    assert_eq!(rt; queue.close_get(1, &node()), Some(named(4)));
-    assert_eq!(rt; step(&mut queue, &board), Some(('v', named(4))));
-    assert_eq!(rt; step(&mut queue, &board), None);
+    let told = by_itself(rt.alloc(), &mut queue, &mut board)?;
+    assert_eq!(rt; told, [('w', 0), ('r', 4), NOTHING, ('c', 4), ('v', 4)]);
     Ok(())
+}
+
+fn forgetting<B: Board>(queue: &mut Queue, board: &B) -> Result<[Told; 2], AllocError> {
+    hold(queue, 5, 8)?;
+    hold(queue, 6, 9)?;
+    queue.forget(5);
+    let steps = (step(queue, board), step(queue, board));
+    queue.forget(6);
+    Ok([steps.0, steps.1])
 }
 
 #[test]
 fn a_poll_takes_its_replies(rt: HostRuntime) -> Result<(), Fail> {
     let (board, mut queue) = begun(rt.alloc())?;
-    ask(&mut queue, 1, 4)?;
-    hold(&mut queue, 3, 4)?;
-    hold(&mut queue, 5, 8)?;
-    hold(&mut queue, 6, 9)?;
-    queue.forget(5);
-    assert!(rt; queue.holds(3, &node()) && !queue.holds(5, &node()));
-    assert_eq!(rt; step(&mut queue, &board), Some(('v', named(9))));
-    assert_eq!(rt; step(&mut queue, &board), None);
-    queue.forget(3);
-    assert!(rt; queue.close_get(1, &node()).is_some());
-    assert_eq!(rt; step(&mut queue, &board), None);
+    assert_eq!(rt; forgetting(&mut queue, &board)?, [('v', 9), NOTHING]);
     Ok(())
 }
 
+// Whether a block is wanted with 4,095 open gets, and with one more.
+fn gets_fill<B: Board>(queue: &mut Queue, board: &B) -> Result<[bool; 2], AllocError> {
+    for number in 0..4095u16 {
+        ask(queue, u32::from(number), 10_000 + number)?;
+    }
+    let wanted = queue.wants(&named(4), board);
+    ask(queue, 5_000, 5)?;
+    Ok([wanted, queue.wants(&named(4), board)])
+}
+
 #[test]
-fn what_is_known_finds_the_same(rt: HostRuntime) -> Result<(), Fail> {
+fn no_more_than_4096_gets_are_open(rt: HostRuntime) -> Result<(), Fail> {
     let (board, mut queue) = begun(rt.alloc())?;
-    let _answer = queue.offer(block(rt.alloc(), 4, 0, 1), &board)?;
-    assert!(rt; matches!(queue.next_work(&board), Some(Work::Ready(_))));
-    assert!(rt; queue.next_known(&board).is_none());
+    assert_eq!(rt; gets_fill(&mut queue, &board)?, [true, false]);
+    Ok(())
+}
+
+// What a block is told where 4,096 wait, and the step that then applies.
+fn blocks_fill<B: Board>(
+    alloc: Global,
+    queue: &mut Queue,
+    board: &B,
+) -> Result<[Told; 2], AllocError> {
+    ask(queue, 9_000, 10_000)?;
+    for number in 10_000..14_096u16 {
+        offer(alloc, queue, board, (number + 1, number, u64::from(number)))?;
+    }
+    let full = offer(alloc, queue, board, (5, 4, 2))?;
+    Ok([full, step(queue, board)])
+}
+
+#[test]
+fn no_more_than_4096_blocks_wait(rt: HostRuntime) -> Result<(), Fail> {
+    let (board, mut queue) = begun(rt.alloc())?;
+    let told = blocks_fill(rt.alloc(), &mut queue, &board)?;
+    assert_eq!(rt; told, [('f', 0), NOTHING]);
+    Ok(())
+}
+
+// What an invalid block is told where 8,191 others went after it, and where one more did.
+fn oldest_goes<B: Board>(
+    alloc: Global,
+    queue: &mut Queue,
+    board: &B,
+) -> Result<[Told; 2], AllocError> {
+    go(queue, 1, Some(0));
+    for number in 10_000..18_191u16 {
+        go(queue, number, None);
+    }
+    let still = offer(alloc, queue, board, (1, 0, 1))?;
+    go(queue, 9, None);
+    Ok([still, offer(alloc, queue, board, (1, 0, 1))?])
+}
+
+#[test]
+fn the_oldest_entry_is_forgotten(rt: HostRuntime) -> Result<(), Fail> {
+    let (board, mut queue) = begun(rt.alloc())?;
+    let told = oldest_goes(rt.alloc(), &mut queue, &board)?;
+    assert_eq!(rt; told, [('i', 0), ('w', 0)]);
     Ok(())
 }

@@ -5,12 +5,12 @@ use Rattle.snow_issue.specs.declared.work.Get.{Get}
 use Rattle.snow_issue.specs.declared.work.Held.{Held}
 use Rattle.snow_issue.specs.declared.marks.Mark.{Mark}
 use Rattle.snow_issue.specs.Lists.{Lists, is_get, without, after_closed}
-use Rattle.snow_issue.specs.Known.{Seen, items_of, lists_of, Tells}
+use Rattle.snow_issue.specs.Known.{Seen, items_of, lists_of, Tells, NoneRipe}
 use Rattle.snow_issue.specs.Index.{woken}
 use Rattle.snow_issue.specs.Keeping.{IsKept}
 use Rattle.snow_issue.proofs.Asking.{none_without}
 use Rattle.snow_issue.proofs.Settled.{seen, kept_closed, knows_by, closed_get, no_get}
-use Rattle.snow_issue.proofs.Taken.{tells_closed, items_woken}
+use Rattle.snow_issue.proofs.Taken.{tells_closed, items_woken, unripe_woken}
 use Rattle.snow_issue.proofs.queue.Queue.close_get.Goals as goal
 
 pub invariant_of-self : goal.invariant_of-self
@@ -57,3 +57,7 @@ returns-clause-knows c board knows =
     (subst (λ (l : List Get). All (Tells (items_of (map (woken (λ w. w.header.parent) got.0.id) inside.waiting)) l board) (map (woken (λ w. w.header.parent) got.0.id) inside.waiting)) (sym c.close.ensures.left)
     (tells_closed board inside.waiting inside.gets c.args.number c.args.node.now got.0 got.1
     (knows_by c.args.self.now board inside.waiting inside.gets (sym (ap (λ (s : Seen). s.seats) c.self.view_is)) (sym (ap (λ (s : Seen). s.gets) c.self.view_is)) knows)))
+
+pub returns-clause-ripe : goal.returns-clause-ripe
+returns-clause-ripe c none =
+    subst NoneRipe (sym c.wake.ensures) (unripe_woken c.in_ok-id.id c.self.inside.waiting (subst (λ (s : Seen). NoneRipe s.seats) (sym c.self.view_is) none))

@@ -1,9 +1,9 @@
 use Rattle.std.proofs.Common.{List, All, sym, ap, subst}
 use Rattle.snow_issue.specs.declared.work.Waiting.{Waiting}
 use Rattle.snow_issue.specs.declared.marks.Mark.{Mark}
-use Rattle.snow_issue.specs.Known.{Seen, items_of, Tells}
+use Rattle.snow_issue.specs.Known.{Seen, items_of, Tells, NoneRipe}
 use Rattle.snow_issue.proofs.Settled.{knows_by}
-use Rattle.snow_issue.proofs.Taken.{tells_pushed}
+use Rattle.snow_issue.proofs.Taken.{tells_pushed, unripe_pushed}
 use Rattle.snow_issue.proofs.queue.Queue.offer.Goals as goal
 
 pub returns-clause-knows : goal.returns-clause-knows
@@ -12,3 +12,7 @@ returns-clause-knows g c board knows =
     subst (λ (l : List (Waiting × Mark)). All (Tells (items_of l) inside.gets board) l) (sym c.in_ok-push.ensures.ok)
     (tells_pushed board inside.waiting inside.gets c.args.block
     (knows_by c.args.self.now board inside.waiting inside.gets (sym (ap (λ (s : Seen). s.seats) c.self.view_is)) (sym (ap (λ (s : Seen). s.gets) c.self.view_is)) knows))
+
+pub returns-clause-ripe : goal.returns-clause-ripe
+returns-clause-ripe g c none =
+    subst NoneRipe (sym c.in_ok-push.ensures.ok) (unripe_pushed c.self.inside.waiting c.args.block (subst (λ (s : Seen). NoneRipe s.seats) (sym c.self.view_is) none))

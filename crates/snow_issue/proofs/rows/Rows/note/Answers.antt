@@ -4,7 +4,8 @@ use Rattle.std.specs.Option.{is_some}
 use Rattle.std.specs.Str.{bytes_eq}
 use Rattle.std.proofs.lemmas.Result.{on_ok_weaker, on_err_weaker}
 use Rattle.snow_issue.specs.Index.{row_of}
-use Rattle.snow_issue.proofs.Noted.{changed, row_is, no_row, both_same}
+use Rattle.snow_issue.proofs.Noted.{changed, row_is, no_row}
+use Rattle.snow_issue.proofs.Booleans.{both_same}
 use Rattle.snow_issue.proofs.rows.Rows.note.Goals as goal
 
 pub returns-in-Some-clause-ok : goal.returns-in-Some-clause-ok
