@@ -5,6 +5,11 @@ use snow_plain::{Board, PlainBoard};
 use std::alloc::{AllocError, Global};
 use std::test::Fail;
 
+// What a call answers: a letter, and a block or 0.
+type Told = (char, u16);
+
+const NOTHING: Told = ('-', 0);
+
 // The identifier that begins with the bytes of a number.
 fn named(number: u16) -> Id {
     let mut bytes = [0; 32];
@@ -14,28 +19,29 @@ fn named(number: u16) -> Id {
     Id::from_bytes(bytes)
 }
 
+fn number_of(id: &Id) -> u16 {
+    let bytes = id.as_bytes();
+    u16::from_be_bytes([bytes[0], bytes[1]])
+}
+
 fn node() -> NodeId {
     NodeId::from_bytes([7; 20])
 }
 
-// A board above the block 0 at height 0.
-fn above(alloc: Global) -> Result<PlainBoard<Snowball>, Fail> {
-    let params = Params::check(1, 1, 1, 1, 1)?;
-    Ok(PlainBoard::begin(alloc, params, named(0), 0)?)
+fn told_of(letter: char, id: Option<Id>) -> Told {
+    match id {
+        Some(id) => (letter, number_of(&id)),
+        None => NOTHING,
+    }
 }
 
-// The queue of a node above the block 0.
-fn begun(alloc: Global) -> Result<Queue, AllocError> {
-    Queue::new(alloc, named(0))
-}
-
-// Offers the block of a number on another.
+// Offers the block of a number on another, so high.
 fn offer<B: Board>(
     alloc: Global,
     queue: &mut Queue,
     board: &B,
     (id, parent, height): (u16, u16, u64),
-) -> Result<Offered, AllocError> {
+) -> Result<Told, AllocError> {
     let header = Header {
         id: named(id),
         parent: named(parent),
@@ -46,28 +52,21 @@ fn offer<B: Board>(
         header,
         bytes: Bytes::new(alloc),
     };
-    queue.offer(block, board)
+    let answer = queue.offer(block, board)?;
+    Ok(told_answer(answer))
 }
 
-// A block waits, and this one is to be asked for.
-fn asking(ask: Option<u16>) -> Offered {
-    Offered::Waits {
-        ask: ask.map(|number| named(number)),
+fn told_answer(answer: Offered) -> Told {
+    match answer {
+        Offered::Known => ('k', 0),
+        Offered::Invalid => ('i', 0),
+        Offered::Old => ('o', 0),
+        Offered::Full => ('f', 0),
+        Offered::Waits { ask: Some(id) } => ('w', number_of(&id)),
+        Offered::Waits { ask: None } => ('w', 0),
     }
 }
 
-// Issues a block right above its parent, where that may be.
-fn issue<B: Board>(board: &mut B, id: u16, parent: u16) -> Result<(), AllocError> {
-    let Some(below) = board.height_of(&named(parent)) else {
-        return Ok(());
-    };
-    if below == u64::MAX || board.height_of(&named(id)).is_some() || board.pending_len() >= 4096 {
-        return Ok(());
-    }
-    board.issue(named(id), named(parent), below + 1)
-}
-
-// Opens a get, where that may be.
 fn ask(queue: &mut Queue, number: u32, id: u16) -> Result<(), AllocError> {
     let id = named(id);
     if queue.gets_len() >= 4096 || queue.has_number(number) || queue.is_asked(&id) {
@@ -76,227 +75,230 @@ fn ask(queue: &mut Queue, number: u32, id: u16) -> Result<(), AllocError> {
     queue.asked(number, node(), id)
 }
 
-// Closes a get.
-fn close(queue: &mut Queue, number: u32) -> Option<Id> {
-    queue.close_get(number, &node())
-}
-
-// Holds a reply, where none is held.
 fn hold(queue: &mut Queue, number: u32, id: u16) -> Result<(), AllocError> {
-    if queue.holds(number, &node()) {
+    let (node, id) = (node(), named(id));
+    if queue.holds(number, &node) {
         return Ok(());
     }
-    queue.hold(Held {
-        number,
-        node: node(),
-        id: named(id),
-    })
+    queue.hold(Held { number, node, id })
 }
 
-// The next step, by its kind and its block.
-fn step<B: Board>(queue: &mut Queue, board: &B) -> Option<(char, Id)> {
-    match queue.next_work(board)? {
-        Work::Hopeless(block) => Some(('h', block.header.id)),
-        Work::Ready(block) => Some(('r', block.header.id)),
-        Work::Vote(reply) => Some(('v', reply.id)),
+fn issue<B: Board>(board: &mut B, id: u16, parent: u16) -> Result<(), AllocError> {
+    let (id, parent) = (named(id), named(parent));
+    let Some(below) = board.height_of(&parent) else {
+        return Ok(());
+    };
+    if below == u64::MAX || board.height_of(&id).is_some() || board.pending_len() >= 4096 {
+        return Ok(());
+    }
+    board.issue(id, parent, below + 1)
+}
+
+fn told_work(work: Option<Work>) -> Told {
+    match work {
+        Some(Work::Hopeless(block)) => ('h', number_of(&block.header.id)),
+        Some(Work::Ready(block)) => ('r', number_of(&block.header.id)),
+        Some(Work::Vote(reply)) => ('v', number_of(&reply.id)),
+        None => NOTHING,
     }
 }
 
-// Enters a block in the gone list.
+fn step<B: Board>(queue: &mut Queue, board: &B) -> Told {
+    told_work(queue.next_work(board))
+}
+
+// A step without a look at everything, behind one with it that found nothing.
+fn step_known<B: Board>(queue: &mut Queue, board: &B) -> Told {
+    if queue.next_work(board).is_some() {
+        return ('?', 0);
+    }
+    told_work(queue.next_known(board))
+}
+
+fn close(queue: &mut Queue, number: u32) -> Told {
+    told_of('c', queue.close_get(number, &node()))
+}
+
 fn go(queue: &mut Queue, id: u16, parent: Option<u16>) {
     queue.gone(named(id), parent.map(|number| named(number)));
 }
 
-// The block for which a reply votes.
-fn bubble<B: Board>(queue: &Queue, board: &B, id: u16) -> Option<Id> {
-    queue.bubble(&named(id), board)
+fn bubble<B: Board>(queue: &Queue, board: &B, id: u16) -> Told {
+    told_of('b', queue.bubble(&named(id), board))
+}
+
+// A board above the block 0, and the queue of a node that begins there.
+fn begun(alloc: Global) -> Result<(PlainBoard<Snowball>, Queue), Fail> {
+    let params = Params::check(1, 1, 1, 1, 1)?;
+    let board = PlainBoard::begin(alloc, params, named(0), 0)?;
+    let queue = Queue::new(alloc, named(0))?;
+    Ok((board, queue))
+}
+
+fn hopeless<B: Board>(
+    alloc: Global,
+    queue: &mut Queue,
+    board: &B,
+) -> Result<([Told; 5], [Told; 3]), AllocError> {
+    let first = offer(alloc, queue, board, (5, 4, 2))?;
+    ask(queue, 1, 4)?;
+    let again = offer(alloc, queue, board, (5, 4, 2))?;
+    let second = offer(alloc, queue, board, (6, 5, 3))?;
+    let waits = step(queue, board);
+    let closed = close(queue, 1);
+    let steps = (step(queue, board), step(queue, board));
+    let rest = step_known(queue, board);
+    Ok((
+        [first, again, second, waits, closed],
+        [steps.0, steps.1, rest],
+    ))
 }
 
 #[test]
 fn hopeless_blocks_go_one_after_another(rt: HostRuntime) -> Result<(), Fail> {
-    let board = above(rt.alloc())?;
-    let mut queue = begun(rt.alloc())?;
-    assert_eq!(rt;
-        offer(rt.alloc(), &mut queue, &board, (5, 4, 2))?,
-        asking(Some(4))
-    );
-    ask(&mut queue, 1, 4)?;
-    assert_eq!(rt;
-        offer(rt.alloc(), &mut queue, &board, (6, 5, 3))?,
-        asking(None)
-    );
-    assert_eq!(rt; step(&mut queue, &board), None);
-    assert_eq!(rt;
-        (close(&mut queue, 1), close(&mut queue, 1)),
-        (Some(named(4)), None)
-    );
-    assert_eq!(rt; step(&mut queue, &board), Some(('h', named(5))));
-    assert_eq!(rt; step(&mut queue, &board), Some(('h', named(6))));
-    assert_eq!(rt; step(&mut queue, &board), None);
+    let (board, mut queue) = begun(rt.alloc())?;
+    let told = hopeless(rt.alloc(), &mut queue, &board)?;
+    let waits = [('w', 4), ('k', 0), ('w', 0), NOTHING, ('c', 4)];
+    let steps = [('h', 5), ('h', 6), NOTHING];
+    assert_eq!(rt; told, (waits, steps));
     Ok(())
+}
+
+fn invalid<B: Board>(alloc: Global, queue: &mut Queue, board: &B) -> Result<[Told; 4], AllocError> {
+    go(queue, 4, Some(0));
+    let waits = offer(alloc, queue, board, (5, 4, 2))?;
+    let goes = step(queue, board);
+    let again = offer(alloc, queue, board, (5, 4, 2))?;
+    let low = offer(alloc, queue, board, (6, 4, 0))?;
+    Ok([waits, goes, again, low])
 }
 
 #[test]
 fn a_block_follows_its_invalid_parent(rt: HostRuntime) -> Result<(), Fail> {
-    let board = above(rt.alloc())?;
-    let mut queue = begun(rt.alloc())?;
-    go(&mut queue, 4, Some(0));
-    assert_eq!(rt;
-        offer(rt.alloc(), &mut queue, &board, (5, 4, 2))?,
-        asking(None)
-    );
-    assert_eq!(rt; step(&mut queue, &board), Some(('h', named(5))));
-    assert_eq!(rt;
-        offer(rt.alloc(), &mut queue, &board, (5, 4, 2))?,
-        Offered::Invalid
-    );
-    assert_eq!(rt;
-        offer(rt.alloc(), &mut queue, &board, (6, 4, 0))?,
-        Offered::Old
-    );
+    let (board, mut queue) = begun(rt.alloc())?;
+    let told = invalid(rt.alloc(), &mut queue, &board)?;
+    assert_eq!(rt; told, [('w', 0), ('h', 5), ('i', 0), ('o', 0)]);
     Ok(())
+}
+
+fn bubbling<B: Board>(queue: &mut Queue, board: &mut B) -> Result<[Told; 3], AllocError> {
+    issue(board, 4, 0)?;
+    go(queue, 5, Some(4));
+    go(queue, 6, Some(5));
+    go(queue, 8, Some(9));
+    go(queue, 9, Some(8));
+    Ok([
+        bubble(queue, board, 6),
+        bubble(queue, board, 8),
+        bubble(queue, board, 0),
+    ])
 }
 
 #[test]
 fn a_reply_bubbles_twice_and_a_circle_ends(rt: HostRuntime) -> Result<(), Fail> {
-    let mut board = above(rt.alloc())?;
-    let mut queue = begun(rt.alloc())?;
-    issue(&mut board, 4, 0)?;
-    go(&mut queue, 5, Some(4));
-    go(&mut queue, 6, Some(5));
-    go(&mut queue, 8, Some(9));
-    go(&mut queue, 9, Some(8));
-    assert_eq!(rt; bubble(&queue, &board, 6), Some(named(4)));
-    assert_eq!(rt; bubble(&queue, &board, 8), None);
-    assert_eq!(rt; bubble(&queue, &board, 0), None);
+    let (mut board, mut queue) = begun(rt.alloc())?;
+    let told = bubbling(&mut queue, &mut board)?;
+    assert_eq!(rt; told, [('b', 4), NOTHING, NOTHING]);
     Ok(())
 }
 
-// Enters blocks from one number to before another, without parents.
-fn go_all(queue: &mut Queue, from: u16, to: u16) {
-    for number in from..to {
-        go(queue, number, None);
-    }
-}
-
-#[test]
-fn the_oldest_entry_is_forgotten(rt: HostRuntime) -> Result<(), Fail> {
-    let board = above(rt.alloc())?;
-    let mut queue = begun(rt.alloc())?;
-    go(&mut queue, 1, Some(0));
-    go_all(&mut queue, 10_000, 18_191);
-    assert_eq!(rt;
-        offer(rt.alloc(), &mut queue, &board, (1, 0, 1))?,
-        Offered::Invalid
-    );
-    go(&mut queue, 18_191, None);
-    assert_eq!(rt;
-        offer(rt.alloc(), &mut queue, &board, (1, 0, 1))?,
-        asking(None)
-    );
-    Ok(())
-}
-
-// Offers blocks from one number to before another, each on the one before it and that high.
-fn offer_all<B: Board>(
+fn by_itself<B: Board>(
     alloc: Global,
     queue: &mut Queue,
-    board: &B,
-    from: u16,
-    to: u16,
-) -> Result<(), AllocError> {
-    for number in from..to {
-        let block = (number, number.saturating_sub(1), u64::from(number));
-        let _answer = offer(alloc, queue, board, block)?;
-    }
-    Ok(())
-}
-
-#[test]
-fn no_more_than_4096_blocks_wait(rt: HostRuntime) -> Result<(), Fail> {
-    let board = above(rt.alloc())?;
-    let mut queue = begun(rt.alloc())?;
-    ask(&mut queue, 1, 1)?;
-    offer_all(rt.alloc(), &mut queue, &board, 2, 4_098)?;
-    assert_eq!(rt;
-        offer(rt.alloc(), &mut queue, &board, (4_098, 4_097, 4_098))?,
-        Offered::Full
-    );
-    assert_eq!(rt; step(&mut queue, &board), None);
-    Ok(())
-}
-
-// Opens gets for blocks from one number to before another.
-fn ask_all(queue: &mut Queue, from: u16, to: u16) -> Result<(), AllocError> {
-    for number in from..to {
-        ask(queue, u32::from(number), number)?;
-    }
-    Ok(())
-}
-
-#[test]
-fn no_more_than_4096_gets_are_open(rt: HostRuntime) -> Result<(), Fail> {
-    let board = above(rt.alloc())?;
-    let mut queue = begun(rt.alloc())?;
-    ask_all(&mut queue, 10_000, 14_095)?;
-    let wanted = queue.wants(&named(4), &board);
-    ask(&mut queue, 14_095, 14_095)?;
-    assert_eq!(rt; (wanted, queue.wants(&named(4), &board)), (true, false));
-    assert_eq!(rt;
-        offer(rt.alloc(), &mut queue, &board, (5, 4, 2))?,
-        asking(None)
-    );
-    Ok(())
+    board: &mut B,
+) -> Result<[Told; 5], AllocError> {
+    ask(queue, 1, 4)?;
+    hold(queue, 3, 4)?;
+    let comes = offer(alloc, queue, board, (4, 0, 1))?;
+    let ready = step(queue, board);
+    issue(board, 4, 0)?;
+    let waits = step_known(queue, board);
+    let closed = close(queue, 1);
+    Ok([comes, ready, waits, closed, step(queue, board)])
 }
 
 #[test]
 fn a_block_comes_by_itself(rt: HostRuntime) -> Result<(), Fail> {
-    let mut board = above(rt.alloc())?;
-    let mut queue = begun(rt.alloc())?;
-    ask(&mut queue, 1, 4)?;
-    hold(&mut queue, 3, 4)?;
-    assert_eq!(rt;
-        offer(rt.alloc(), &mut queue, &board, (4, 0, 1))?,
-        asking(None)
-    );
-    assert_eq!(rt; step(&mut queue, &board), Some(('r', named(4))));
-    issue(&mut board, 4, 0)?;
-    assert_eq!(rt; step(&mut queue, &board), None);
-    assert_eq!(rt; close(&mut queue, 1), Some(named(4)));
-    assert_eq!(rt; step(&mut queue, &board), Some(('v', named(4))));
+    let (mut board, mut queue) = begun(rt.alloc())?;
+    let told = by_itself(rt.alloc(), &mut queue, &mut board)?;
+    assert_eq!(rt; told, [('w', 0), ('r', 4), NOTHING, ('c', 4), ('v', 4)]);
     Ok(())
+}
+
+fn forgetting<B: Board>(queue: &mut Queue, board: &B) -> Result<[Told; 2], AllocError> {
+    hold(queue, 5, 8)?;
+    hold(queue, 6, 9)?;
+    queue.forget(5);
+    let steps = (step(queue, board), step(queue, board));
+    queue.forget(6);
+    Ok([steps.0, steps.1])
 }
 
 #[test]
 fn a_poll_takes_its_replies(rt: HostRuntime) -> Result<(), Fail> {
-    let board = above(rt.alloc())?;
-    let mut queue = begun(rt.alloc())?;
-    hold(&mut queue, 5, 8)?;
-    hold(&mut queue, 6, 9)?;
-    queue.forget(5);
-    assert_eq!(rt;
-        (queue.holds(5, &node()), queue.holds(6, &node())),
-        (false, true)
-    );
-    assert_eq!(rt; step(&mut queue, &board), Some(('v', named(9))));
-    assert_eq!(rt; step(&mut queue, &board), None);
-    queue.forget(6);
+    let (board, mut queue) = begun(rt.alloc())?;
+    assert_eq!(rt; forgetting(&mut queue, &board)?, [('v', 9), NOTHING]);
     Ok(())
 }
 
-// Whether what is known finds the same block that a look at all finds, and then nothing.
-fn finds_the_same<B: Board>(queue: &mut Queue, board: &B) -> bool {
-    matches!(queue.next_work(board), Some(Work::Ready(_))) && queue.next_known(board).is_none()
+// Whether a block is wanted with 4,095 open gets, and with one more.
+fn gets_fill<B: Board>(queue: &mut Queue, board: &B) -> Result<[bool; 2], AllocError> {
+    for number in 0..4095u16 {
+        ask(queue, u32::from(number), 10_000 + number)?;
+    }
+    let wanted = queue.wants(&named(4), board);
+    ask(queue, 5_000, 5)?;
+    Ok([wanted, queue.wants(&named(4), board)])
 }
 
 #[test]
-fn what_is_known_finds_the_same(rt: HostRuntime) -> Result<(), Fail> {
-    let board = above(rt.alloc())?;
-    let mut queue = begun(rt.alloc())?;
-    assert_eq!(rt;
-        offer(rt.alloc(), &mut queue, &board, (4, 0, 1))?,
-        asking(None)
-    );
-    assert!(rt; finds_the_same(&mut queue, &board));
+fn no_more_than_4096_gets_are_open(rt: HostRuntime) -> Result<(), Fail> {
+    let (board, mut queue) = begun(rt.alloc())?;
+    assert_eq!(rt; gets_fill(&mut queue, &board)?, [true, false]);
+    Ok(())
+}
+
+// What a block is told where 4,096 wait, and the step that then applies.
+fn blocks_fill<B: Board>(
+    alloc: Global,
+    queue: &mut Queue,
+    board: &B,
+) -> Result<[Told; 2], AllocError> {
+    ask(queue, 9_000, 10_000)?;
+    for number in 10_000..14_096u16 {
+        offer(alloc, queue, board, (number + 1, number, u64::from(number)))?;
+    }
+    let full = offer(alloc, queue, board, (5, 4, 2))?;
+    Ok([full, step(queue, board)])
+}
+
+#[test]
+fn no_more_than_4096_blocks_wait(rt: HostRuntime) -> Result<(), Fail> {
+    let (board, mut queue) = begun(rt.alloc())?;
+    let told = blocks_fill(rt.alloc(), &mut queue, &board)?;
+    assert_eq!(rt; told, [('f', 0), NOTHING]);
+    Ok(())
+}
+
+// What an invalid block is told where 8,191 others went after it, and where one more did.
+fn oldest_goes<B: Board>(
+    alloc: Global,
+    queue: &mut Queue,
+    board: &B,
+) -> Result<[Told; 2], AllocError> {
+    go(queue, 1, Some(0));
+    for number in 10_000..18_191u16 {
+        go(queue, number, None);
+    }
+    let still = offer(alloc, queue, board, (1, 0, 1))?;
+    go(queue, 9, None);
+    Ok([still, offer(alloc, queue, board, (1, 0, 1))?])
+}
+
+#[test]
+fn the_oldest_entry_is_forgotten(rt: HostRuntime) -> Result<(), Fail> {
+    let (board, mut queue) = begun(rt.alloc())?;
+    let told = oldest_goes(rt.alloc(), &mut queue, &board)?;
+    assert_eq!(rt; told, [('i', 0), ('w', 0)]);
     Ok(())
 }

@@ -1,5 +1,0 @@
-use Rattle.snow_issue.specs.Known.{Knows}
-use Rattle.queue_bench.proofs.settle.Given as goal
-
-abbrev pub invariant-loop : goal.invariant-loop
-invariant-loop g l = Knows l.queue (g.B.Board.board l.board)
