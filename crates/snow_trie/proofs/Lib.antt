@@ -1,0 +1,5 @@
+pub mod Grown
+pub mod Parting
+pub mod Stamps
+pub mod Standing
+pub mod Strands
