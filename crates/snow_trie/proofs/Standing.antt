@@ -24,7 +24,7 @@ placed_joined : (at : ℕ) (b : Bool) (fork : Fork) (old new : Tree) → at < 25
 placed_joined at true fork old new h p q = (h, q, p)
 placed_joined at false fork old new h p q = (h, p, q)
 
-placed_branch : (id : List ℕ) (at : ℕ) → at ≤ 256 → IsPlaced at (branch id at)
+pub placed_branch : (id : List ℕ) (at : ℕ) → at ≤ 256 → IsPlaced at (branch id at)
 placed_branch id at h = by_branch (IsPlaced at) id at (λ less. (less, omega arith, refl)) (λ more. omega arith)
 
 pub placed_grown : (from : ℕ) (id : List ℕ) (t : Tree) → IsPlaced from t → IsPlaced from (grown from id t)

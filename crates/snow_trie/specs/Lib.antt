@@ -5,3 +5,5 @@ pub mod Outline
 pub mod Shape
 pub mod Growing
 pub mod Peeling
+pub mod Polled
+pub mod Whole

@@ -2,7 +2,7 @@ ghost use Rattle.std.specs.Prelude.{◌≡◌, ◌+◌, ◌<◌, OnOk, OnErr};
 ghost use Rattle.snow_trie.specs.Tree.{tree_of};
 ghost use Rattle.snow_trie.specs.Shape.{IsPlaced};
 ghost use Rattle.snow_trie.specs.Growing.{grown, branch, parted, before, after, joined, fork_of};
-ghost use Rattle.snow_base.specs.Identifier.{bit};
+ghost use Rattle.snow_trie.specs.Whole.{added};
 
 use crate::fork::Fork;
 use crate::node::{self, Node};
@@ -11,8 +11,21 @@ use snow_base::Id;
 use std::alloc::{AllocError, Global};
 use std::mem;
 
-/// Adds an identifier to the tree that begins at a bit. After want of memory the tree is as before.
-pub fn add(node: &mut Node, alloc: Global, id: &Id, from: u16) -> Result<(), AllocError>
+/// Adds an identifier to the tree behind a decided prefix, which is a leader's. One that the prefix
+/// excludes is passed over. After want of memory the tree is as before.
+pub fn add_behind(root: &mut Node, alloc: Global, id: &Id, leader: &Id, decided: u16) -> Result<(), AllocError>
+    requires { IsPlaced decided (tree_of root.old) }
+    ensures ok { OnOk result (tree_of root.new ≡ added decided leader.now id.now (tree_of root.old)) }
+    ensures err { OnErr result (tree_of root.new ≡ tree_of root.old) }
+{
+    match leader.first_difference(id, 0, decided) {
+        Some(_) => Ok(()),
+        None => add(root, alloc, id, decided),
+    }
+}
+
+// Adds an identifier to the tree that begins at a bit. After want of memory the tree is as before.
+fn add(node: &mut Node, alloc: Global, id: &Id, from: u16) -> Result<(), AllocError>
     requires { IsPlaced from (tree_of node.old) }
     ensures ok { OnOk result (tree_of node.new ≡ grown from id.now (tree_of node.old)) }
     ensures err { OnErr result (tree_of node.new ≡ tree_of node.old) }

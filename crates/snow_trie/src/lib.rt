@@ -3,6 +3,11 @@
 
 mod fork;
 mod growing;
+mod narrowing;
 mod node;
 mod peeling;
+mod polling;
 mod run;
+mod trie;
+
+pub use trie::Trie;

@@ -2,8 +2,10 @@ ghost use Rattle.std.specs.Prelude.{◌≡◌, ◌+◌, ◌<◌};
 ghost use Rattle.snow_trie.specs.Tree.{tree_of};
 ghost use Rattle.snow_trie.specs.Shape.{IsPlaced};
 ghost use Rattle.snow_trie.specs.Peeling.{peeled};
+ghost use Rattle.snow_trie.specs.Whole.{next_leader};
 
-use crate::node::Node;
+use crate::node::{Node, first_leaf};
+use snow_base::Id;
 use snow_flake::Snowflake;
 
 /// A tree with the bit at which it begins.
@@ -41,5 +43,17 @@ pub fn peeled(node: Node, from: u16) -> Rest
             }
         }
         end => Rest { from, root: end },
+    }
+}
+
+/// The leader of the prefix before what is left: as before where nothing was taken off, else an
+/// identifier that stands there.
+pub fn leader_of(rest: &Rest, leader: &Id, decided: u16) -> Id
+    ensures { result ≡ next_leader leader.now decided (rest.now).from (tree_of (rest.now).root) }
+{
+    if rest.from == decided {
+        *leader
+    } else {
+        *first_leaf(&rest.root)
     }
 }
