@@ -90,7 +90,7 @@ no_more : (id : List ℕ) (at : ℕ) (rest : Counters) → 256 ≤ at → with_c
 unfolding with_child
 no_more id at rest h = rw (drop-bits_end id at h) refl
 
-branch_counters : (now at : ℕ) (id : List ℕ) → counters now at (branch id at) ≡ with_child (drop at (bits id)) Blank
+pub branch_counters : (now at : ℕ) (id : List ℕ) → counters now at (branch id at) ≡ with_child (drop at (bits id)) Blank
 branch_counters now at id =
     by_branch (λ t. counters now at t ≡ with_child (drop at (bits id)) Blank) id at
     (λ less. strand_same (between id at 256) (run_counter now (fresh_run id)) fresh Blank (fresh_stands now id)

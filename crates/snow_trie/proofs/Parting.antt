@@ -122,6 +122,10 @@ found a b from to (Some at) p h =
     let high = h.1 in
     sym (one_found a b from (to - from) at h.0 (omega arith) h.2 h.3)
 
+-- and so is that of a prefix
+pub prefix_found : (a b : List ℕ) (to : ℕ) (r : Option ℕ) → FirstDiffers 0 to a b r → differs_at a b 0 to ≡ r
+prefix_found a b to r h = let e : to ≡ to - 0 = omega arith in ap (differs_at a b 0) e ∙ sym (found a b 0 to r (omega arith) h)
+
 -- ---- a fresh counter
 
 abbrev some_standing : Standing

@@ -1,5 +1,5 @@
 -- Lemmas on a tree behind a decided prefix: what each call leaves true of it, and what its counters are then.
-use Rattle.std.proofs.Common.{◌≡◌, ◌⊎◌, inl, inr, ℕ, ◌+◌, ◌-◌, ◌*◌, ◌<◌, ◌≤◌, ◌==◌, max, Bool, true, false, not, List, [], ◌∷◌, ◌++◌, length, drop, All, Contains, get_or, Option, Some, None, is_some, if◌then◌else◌, refl, sym, ap, ◌∙◌, subst, length-append, arith}
+use Rattle.std.proofs.Common.{◌≡◌, ◌⊎◌, inl, inr, ℕ, ◌+◌, ◌-◌, ◌*◌, ◌^◌, ◌<◌, ◌≤◌, ◌==◌, max, Bool, true, false, not, List, [], ◌∷◌, ◌++◌, length, drop, All, Contains, get_or, Option, Some, None, is_some, if◌then◌else◌, refl, sym, ap, ◌∙◌, subst, length-append, arith}
 use Rattle.std.specs.Option.{option_map}
 use Rattle.std.proofs.lemmas.Bool.{eq-eqb, ne_eqb, eqb-true, cases_lt}
 use Rattle.std.proofs.lemmas.List.Elements.{All-contains, Contains-push, Contains-push_cases, Contains-append_left}
@@ -80,6 +80,7 @@ whole_begun id = record {
     | inr is ↦ subst (Leads (outline 0 (branch id 0))) is (λ k p q. refl, tt)
   ];
   few = omega arith;
+  fits = omega arith;
 }
 
 pub begun_counters : (id : List ℕ) → whole 0 0 id (branch id 0) ≡ with_child (bits id) Blank
@@ -114,9 +115,9 @@ apart true false e f = cc
 apart false true e f = cc
 apart false false e f = cc
 
-pub whole_added : (ids : List (List ℕ)) (polls decided : ℕ) (leader id : List ℕ) (t : Tree) → IsWhole ids polls decided leader t
+pub whole_added : (ids : List (List ℕ)) (polls decided : ℕ) (leader id : List ℕ) (t : Tree) → IsWhole ids polls decided leader t → length ids < 2 ^ 48
     → IsWhole (ids ++ id ∷ []) polls decided leader (added decided leader id t)
-whole_added ids polls decided leader id t h =
+whole_added ids polls decided leader id t h room =
     let more : length (ids ++ id ∷ []) ≡ length ids + 1 = length-append ids (id ∷ []) in
     by_prefix (IsWhole (ids ++ id ∷ []) polls decided leader) decided leader id t
     (λ agree. record {
@@ -137,6 +138,7 @@ whole_added ids polls decided leader id t h =
         | inr new ↦ subst (Leads (outline decided (grown decided id t))) new (leads_added decided id t h.placed)
       ];
       few = let few = h.few in let fewer = size_grown decided id t h.placed in omega arith;
+      fits = omega arith;
     })
     (λ at part. record {
       placed = h.placed;
@@ -150,6 +152,7 @@ whole_added ids polls decided leader id t h =
         | inr new ↦ let agree = subst (AgreeFrom 0 decided leader) (sym new) agrees in absurd (apart (bit leader at) (bit id at) (agree at (omega arith) part.high) part.differ)
       ];
       few = let few = h.few in omega arith;
+      fits = omega arith;
     })
 
 pub few_added : (decided : ℕ) (leader id : List ℕ) (t : Tree) → IsPlaced decided t → nodes_of (added decided leader id t) ≤ nodes_of t + 3
@@ -192,6 +195,7 @@ whole_restamped ids polls now decided leader old new h r = record {
   given = λ x leaf. h.given x (subst (λ s. IsLeaf s x) (r.outline decided) leaf);
   known = λ x given agree. subst (λ s. Leads s x) (sym (r.outline decided)) (h.known x given agree);
   few = let before = h.few in let same = same_size decided old new (r.outline decided) in omega arith;
+  fits = h.fits;
 }
 
 -- ---- a poll without votes
@@ -207,6 +211,7 @@ whole_failed ids p polls decided leader t good h = record {
   given = h.given;
   known = h.known;
   few = h.few;
+  fits = h.fits;
 }
 
 pub failed_counters : (p : Parameters) (polls decided : ℕ) (leader : List ℕ) (t : Tree) → AreGood p → IsStamped polls t
@@ -341,6 +346,7 @@ whole_polled ids p polls before decided leader votes rest t t1 t2 h =
           let leads = h.was.known x given (λ k p q. sorted first (over.leaf first stands) k p q ∙ by_first k p (omega arith)) in
           over.leads first x stands (λ k p q. by_first k (omega arith) q) (subst (λ s. Leads s x) (sym outlines) leads);
       few = let few = over.few in let was = h.was.few in let same = same_size decided t t2 outlines in omega arith;
+      fits = h.was.fits;
     }
 
 -- the tree has no more nodes

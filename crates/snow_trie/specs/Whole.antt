@@ -1,5 +1,5 @@
 -- A conflict as its tree is seen, and what is true of each tree with its prefix.
-use Rattle.std.specs.Prelude.{◌≡◌, ℕ, ◌+◌, ◌-◌, ◌*◌, ◌≤◌, max, List, [], ◌∷◌, length, Contains, ◌==◌, if◌then◌else◌, refl}
+use Rattle.std.specs.Prelude.{◌≡◌, ℕ, ◌+◌, ◌-◌, ◌*◌, ◌^◌, ◌≤◌, max, List, [], ◌∷◌, length, Contains, ◌==◌, if◌then◌else◌, refl}
 use Rattle.std.specs.Coded.{Coded, coded_ℕ, coded_list, coded×, code_by}
 use Rattle.snow_base.specs.Identifier.{bits, AgreeFrom}
 use Rattle.snow_flake.specs.Parameters.{Parameters}
@@ -68,3 +68,4 @@ pub record IsWhole (ids : List (List ℕ)) (polls decided : ℕ) (leader : List 
   -- each that was given goes down to the end, or is excluded
   pub known : (x : List ℕ) → Contains ids x → AgreeFrom 0 decided leader x → Leads (outline decided t) x
   pub few : size t + 2 ≤ 3 * length ids
+  pub fits : length ids ≤ 2 ^ 48

@@ -11,3 +11,6 @@ mod run;
 mod trie;
 
 pub use trie::Trie;
+
+#[cfg(test)]
+mod tests;

@@ -9,6 +9,7 @@ use snow_base::Id;
 use snow_flake::Snowflake;
 
 /// A tree with the bit at which it begins.
+#[derive(Drop)]
 pub struct Rest {
     pub from: u16,
     pub root: Node,

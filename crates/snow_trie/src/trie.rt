@@ -3,7 +3,7 @@ ghost use Rattle.std.specs.Prelude.{◌≡◌, ◌+◌, ◌<◌, ◌≤◌, is_s
 use crate::growing;
 use crate::narrowing::narrowed;
 use crate::node::{self, Node};
-use crate::peeling::{leader_of, peeled};
+use crate::peeling::{Rest, leader_of, peeled};
 use crate::polling::{poll, ready};
 use snow_base::{Id, Steps, Vote};
 use snow_flake::{Params, Rule};
@@ -112,6 +112,7 @@ impl<R: Rule> Trie<R> {
         ensures least { steps.old < steps.new }
         ensures most { steps.new ≤ steps.old + (self.old).nodes }
     {
+        let _k = self.params.k();
         let before = ready(&mut self.root, self.polls);
         let votes = narrowed(votes, &self.leader, self.decided);
         poll(&mut self.root, self.decided, &self.params, votes, before, steps);
@@ -119,8 +120,9 @@ impl<R: Rule> Trie<R> {
         let root = mem::replace(&mut self.root, Node::End(self.leader));
         let rest = peeled(root, self.decided);
         self.leader = leader_of(&rest, &self.leader, self.decided);
-        self.decided = rest.from;
-        self.root = rest.root;
+        let Rest { from, root } = rest;
+        self.decided = from;
+        self.root = root;
     }
 
     /// A poll without votes: one step, which touches no node. It takes no memory.
