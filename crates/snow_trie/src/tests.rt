@@ -88,15 +88,43 @@ impl<R: Rule> Pair<R> {
             && self.plain.decides(&preference) == self.trie.is_final()
     }
 
-    // Preference, finality, nodes and choices.
-    fn shown(&self) -> (Id, bool, usize, usize) {
-        (
-            self.trie.preference(),
-            self.trie.is_final(),
-            self.trie.nodes(),
-            self.trie.choices(),
-        )
+    fn call<L: Ledger>(
+        &mut self,
+        alloc: Global,
+        call: &Call,
+        steps: &mut Steps<L>,
+    ) -> Result<(), AllocError> {
+        match call {
+            Call::Add(id) => self.add(*id),
+            Call::Fail => {
+                self.fail(alloc, steps);
+                Ok(())
+            }
+            Call::Poll(picks) => self.poll(alloc, *picks, steps),
+        }
     }
+
+    // Whether it answers so, and as the plain counters do.
+    fn is(&self, answers: &Answers) -> bool {
+        self.is_same()
+            && self.trie.preference() == answers.preference
+            && self.trie.is_final() == answers.is_final
+            && self.trie.nodes() == answers.nodes
+            && self.trie.choices() == answers.choices
+    }
+}
+
+enum Call {
+    Add(Id),
+    Fail,
+    Poll([(usize, u32); 2]),
+}
+
+struct Answers {
+    preference: Id,
+    is_final: bool,
+    nodes: usize,
+    choices: usize,
 }
 
 fn holds(condition: bool) -> Result<(), Fail> {
@@ -121,47 +149,74 @@ fn params(k: u32, alpha: u32, beta: u32) -> Result<Params, Fail> {
         .ok_or("good parameters")?)
 }
 
-// Two choices fill the bound of four nodes; a failed poll lies between their votes.
-fn two_choices<L: Ledger>(alloc: Global, steps: &mut Steps<L>) -> Result<(), Fail> {
-    let mut pair = Pair::<Snowball>::new(alloc, params(1, 1, 2)?, named(0, 0))?;
-    holds(pair.shown() == (named(0, 0), false, 1, 1))?;
-    pair.poll(alloc, [(0, 1), (9, 1)], steps)?;
-    pair.fail(alloc, steps);
-    pair.add(named(0x80, 0))?;
-    holds(pair.shown() == (named(0, 0), false, 4, 2))?;
-    pair.poll(alloc, [(0, 1), (9, 1)], steps)?;
-    holds(pair.shown() == (named(0, 0), false, 4, 2))?;
-    pair.poll(alloc, [(0, 1), (9, 1)], steps)?;
-    holds(pair.shown() == (named(0, 0), true, 1, 2))?;
-    holds(pair.is_same())?;
+// One vote for the identifier that was given at this place.
+fn vote_for(place: usize) -> Call {
+    Call::Poll([(place, 1), (9, 1)])
+}
+
+fn answers(preference: Id, is_final: bool, nodes: usize, choices: usize) -> Answers {
+    Answers {
+        preference,
+        is_final,
+        nodes,
+        choices,
+    }
+}
+
+// Calls of a new tree, each with what it answers then.
+fn follow<R: Rule, L: Ledger>(
+    alloc: Global,
+    params: Params,
+    first: Id,
+    rows: &[(Call, Answers)],
+    steps: &mut Steps<L>,
+) -> Result<(), Fail> {
+    let mut pair = Pair::<R>::new(alloc, params, first)?;
+    for (call, answers) in rows {
+        pair.call(alloc, call, steps)?;
+        holds(pair.is(answers))?;
+    }
     Ok(())
 }
 
-// Splits at the last bit alone, at the first and behind it, and of a tree that is final.
-fn other_splits<L: Ledger>(alloc: Global, steps: &mut Steps<L>) -> Result<(), Fail> {
-    let mut last = Pair::<Snowball>::new(alloc, params(1, 1, 1)?, named(0, 0))?;
-    last.add(named(0, 0x80))?;
-    holds(last.shown() == (named(0, 0), false, 2, 2))?;
-    last.poll(alloc, [(1, 1), (9, 1)], steps)?;
-    holds(last.shown() == (named(0, 0x80), true, 1, 2))?;
-    holds(last.is_same())?;
+// Two choices fill the bound of four nodes; a failed poll lies between their votes.
+fn two_choices<L: Ledger>(alloc: Global, steps: &mut Steps<L>) -> Result<(), Fail> {
+    let (first, second) = (named(0, 0), named(0x80, 0));
+    let rows = [
+        (vote_for(0), answers(first, false, 1, 1)),
+        (Call::Fail, answers(first, false, 1, 1)),
+        (Call::Add(second), answers(first, false, 4, 2)),
+        (vote_for(0), answers(first, false, 4, 2)),
+        (vote_for(0), answers(first, true, 1, 2)),
+    ];
+    follow::<Snowball, L>(alloc, params(1, 1, 2)?, first, &rows, steps)
+}
 
-    let mut front = Pair::<Snowflake>::new(alloc, params(1, 1, 3)?, named(0, 0))?;
-    front.poll(alloc, [(0, 1), (9, 1)], steps)?;
-    front.add(named(1, 0))?;
-    holds(front.shown() == (named(0, 0), false, 3, 2))?;
-    front.poll(alloc, [(1, 1), (9, 1)], steps)?;
-    front.add(named(3, 0))?;
-    holds(front.shown() == (named(1, 0), false, 5, 3))?;
-    front.poll(alloc, [(2, 1), (9, 1)], steps)?;
-    holds(front.is_same())?;
+// Identifiers that differ in the last bit alone, and one that differs from both.
+fn last_bit<L: Ledger>(alloc: Global, steps: &mut Steps<L>) -> Result<(), Fail> {
+    let (first, second) = (named(0, 0), named(0, 0x80));
+    let rows = [
+        (Call::Add(second), answers(first, false, 2, 2)),
+        (vote_for(1), answers(second, true, 1, 2)),
+        (Call::Add(named(1, 0)), answers(second, true, 1, 3)),
+        (vote_for(0), answers(second, true, 1, 3)),
+    ];
+    follow::<Snowball, L>(alloc, params(1, 1, 1)?, first, &rows, steps)
+}
 
-    let mut alone = Pair::<Snowball>::new(alloc, params(1, 1, 1)?, named(0, 0))?;
-    alone.poll(alloc, [(0, 1), (9, 1)], steps)?;
-    alone.add(named(0x80, 0))?;
-    holds(alone.shown() == (named(0, 0), true, 1, 2))?;
-    holds(alone.is_same())?;
-    Ok(())
+// Three choices that differ at the first bits, with votes between.
+fn first_bits<L: Ledger>(alloc: Global, steps: &mut Steps<L>) -> Result<(), Fail> {
+    let (first, second, third) = (named(0, 0), named(1, 0), named(3, 0));
+    let rows = [
+        (vote_for(0), answers(first, false, 1, 1)),
+        (Call::Add(second), answers(first, false, 3, 2)),
+        (vote_for(1), answers(second, false, 3, 2)),
+        (Call::Add(third), answers(second, false, 5, 3)),
+        (vote_for(2), answers(third, false, 5, 3)),
+        (vote_for(2), answers(third, false, 5, 3)),
+        (vote_for(2), answers(third, true, 1, 3)),
+    ];
+    follow::<Snowflake, L>(alloc, params(1, 1, 3)?, first, &rows, steps)
 }
 
 fn examples<L: Ledger>(alloc: Global, blank: Blank) -> Result<(), Fail>
@@ -171,7 +226,8 @@ fn examples<L: Ledger>(alloc: Global, blank: Blank) -> Result<(), Fail>
 {
     let mut steps = Steps::<L>::new(blank);
     two_choices(alloc, &mut steps)?;
-    other_splits(alloc, &mut steps)
+    last_bit(alloc, &mut steps)?;
+    first_bits(alloc, &mut steps)
 }
 
 #[test]
@@ -207,24 +263,14 @@ fn some_id(draws: &mut Draws) -> Id {
     Id::from_bytes(bytes)
 }
 
-// One random call.
-fn call<R: Rule, L: Ledger>(
-    alloc: Global,
-    pair: &mut Pair<R>,
-    draws: &mut Draws,
-    steps: &mut Steps<L>,
-) -> Result<(), AllocError> {
+fn some_call(draws: &mut Draws) -> Call {
     match draws.next(8) {
-        0 => pair.add(some_id(draws)),
-        1 => {
-            pair.fail(alloc, steps);
-            Ok(())
-        }
-        _ => {
-            let first = (draws.next(6) as usize, draws.next(4) as u32);
-            let second = (draws.next(6) as usize, draws.next(3) as u32);
-            pair.poll(alloc, [first, second], steps)
-        }
+        0 => Call::Add(some_id(draws)),
+        1 => Call::Fail,
+        _ => Call::Poll([
+            (draws.next(6) as usize, draws.next(4) as u32),
+            (draws.next(6) as usize, draws.next(3) as u32),
+        ]),
     }
 }
 
@@ -237,7 +283,7 @@ fn random<R: Rule, L: Ledger>(
 ) -> Result<(), Fail> {
     let mut pair = Pair::<R>::new(alloc, params, some_id(draws))?;
     for _ in 0..100 {
-        call(alloc, &mut pair, draws, steps)?;
+        pair.call(alloc, &some_call(draws), steps)?;
         holds(pair.is_same())?;
     }
     Ok(())
@@ -250,7 +296,7 @@ fn compared<L: Ledger>(alloc: Global, blank: Blank) -> Result<(), Fail>
 {
     let mut steps = Steps::<L>::new(blank);
     let mut draws = Draws { state: 1 };
-    for beta in 1..21 {
+    for beta in 1..11 {
         let params = params(4, 3, beta)?;
         random::<Snowball, L>(alloc, params, &mut draws, &mut steps)?;
         random::<Snowflake, L>(alloc, params, &mut draws, &mut steps)?;
