@@ -1,4 +1,4 @@
-ghost use Rattle.std.specs.Prelude.{◌≡◌, ◌+◌, ◌≤◌, length};
+ghost use Rattle.std.specs.Prelude.{◌≡◌, ◌≤◌, [], length};
 ghost use Rattle.snow_cli.specs.Answer.{TookLine, bad_line, error_line, fault_word, kind_word};
 
 use snow_base::{Sink, write_whole};
@@ -10,33 +10,37 @@ use snow_lines::Text;
 pub fn report<E: Sink>(ended: Option<End>, err: &mut E)
     ensures { TookLine (E.written err.old) (E.written err.new) (E.faults err.old) (E.faults err.new) (error_line ended) }
 {
-    let _ = write_whole(err, line_of(ended).as_slice());
+    let mut line = Text::new();
+    put_line(ended, &mut line);
+    let _ = write_whole(err, line.as_slice());
 }
 
-/// The line for how a run ended, or that nothing was run. It is empty where all is done.
-fn line_of(ended: Option<End>) -> Text
-    ensures { result ≡ error_line ended }
+/// Puts the line for how a run ended, or that nothing was run. It is empty where all is done.
+fn put_line(ended: Option<End>, line: &mut Text)
+    requires { line.old ≡ [] }
+    ensures { line.new ≡ error_line ended }
 {
     match ended {
-        None => Text::of(b"snowman: usage\n"),
-        Some(End::Done) => Text::of(b""),
-        Some(End::BadInput { frame, kind }) => bad_line(frame, kind),
-        Some(End::SourceFault) => Text::of(b"snowman: source fault\n"),
-        Some(End::SinkFault) => Text::of(b"snowman: sink fault\n"),
-        Some(End::Memory) => Text::of(b"snowman: out of memory\n"),
-        Some(End::InputLimit) => Text::of(b"snowman: input limit\n"),
+        None => line.push(b"snowman: usage\n"),
+        Some(End::Done) => {}
+        Some(End::BadInput { frame, kind }) => put_bad_line(frame, kind, line),
+        Some(End::SourceFault) => line.push(b"snowman: source fault\n"),
+        Some(End::SinkFault) => line.push(b"snowman: sink fault\n"),
+        Some(End::Memory) => line.push(b"snowman: out of memory\n"),
+        Some(End::InputLimit) => line.push(b"snowman: input limit\n"),
     }
 }
 
-/// The line for a bad input.
-fn bad_line(frame: u64, kind: BadKind) -> Text
-    ensures { result ≡ bad_line frame kind }
+/// Puts the line for a bad input.
+fn put_bad_line(frame: u64, kind: BadKind, line: &mut Text)
+    requires { line.old ≡ [] }
+    ensures { line.new ≡ bad_line frame kind }
 {
-    let mut text = Text::of(b"snowman: bad input at frame").number(frame);
-    text.push(b": ");
-    text.push(kind_word(kind));
-    text.push(b"\n");
-    text
+    line.push(b"snowman: bad input at frame");
+    line.push_number(b' ', frame);
+    line.push(b": ");
+    line.push(kind_word(kind));
+    line.push(b"\n");
 }
 
 /// The word for what is wrong with an input.

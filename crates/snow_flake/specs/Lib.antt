@@ -2,3 +2,4 @@ pub mod Parameters
 pub mod Counter
 pub mod Instance
 pub mod Rule
+pub mod Alike

@@ -1,7 +1,6 @@
 -- The words of a line in a row, and those of its list behind the others.
 use Rattle.std.proofs.Common.{◌≡◌, ℕ, List, [], ◌∷◌, ◌++◌, flat_map, map, refl, sym, ap, ◌∙◌, append_assoc, append-nil}
 use Rattle.std.specs.List.{join_with_byte}
-use Rattle.hex.specs.Hex.{encode_lower, encode_with}
 use Rattle.snow_lines.specs.Text.{spaced}
 
 -- a word and further words
@@ -15,12 +14,6 @@ joined_both word [] more = joined_more word more
 joined_both word (next ∷ some) more =
     ap (λ l. word ++ 32 ∷ l) (joined_both next some more)
     ∙ sym (append_assoc word (32 ∷ join_with_byte 32 (next ∷ some)) (flat_map spaced more))
-
--- the digits of bytes are those of each byte in a row
-pub digits_of_each : (bytes : List ℕ) → flat_map (λ b. encode_lower (b ∷ [])) bytes ≡ encode_lower bytes
-unfolding encode_with
-digits_of_each [] = refl
-digits_of_each (b ∷ bytes) = ap (λ l. encode_lower (b ∷ []) ++ l) (digits_of_each bytes)
 
 -- words made of items, each with a space in front
 pub each_spaced : {A : Type 0} (word : A → List ℕ) (items : List A) → flat_map spaced (map word items) ≡ flat_map (λ x. spaced (word x)) items

@@ -1,6 +1,8 @@
 pub mod Again
 pub mod Cutting
+pub mod Encoded
 pub mod Fielded
+pub mod Figures
 pub mod Joined
 pub mod Named
 pub mod Printed

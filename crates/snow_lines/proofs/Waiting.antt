@@ -21,6 +21,22 @@ gathers_written None b t u piece p e = tt
 gathers_written (Some x) None t u piece p e = absurd p
 gathers_written (Some x) (Some y) t u piece p e = (t, p, ap (λ l. t ++ l) e)
 
+-- a piece was written as it came, and nothing waits
+pub gathers_through : (a b : Option (List ℕ)) (piece : List ℕ) → Appends a b piece → Gathers a [] b [] piece
+gathers_through None b piece p = tt
+gathers_through (Some x) None piece p = absurd p
+gathers_through (Some x) (Some y) piece p = (piece, p, append-nil piece)
+
+-- where nothing waited and nothing waits, all was written
+pub gathers_whole : (a b : Option (List ℕ)) (piece : List ℕ) → Gathers a [] b [] piece → Appends a b piece
+gathers_whole None b piece p = tt
+gathers_whole (Some x) None piece p = absurd p
+gathers_whole (Some x) (Some y) piece p = p.1 ∙ ap (λ l. x ++ l) (sym (append-nil p.0) ∙ p.2)
+
+-- the first of two pieces failed
+pub fails_first : (a b : Option (List ℕ)) (t first second : List ℕ) → AppendsFront a b (t ++ first) → AppendsFront a b (t ++ (first ++ second))
+fails_first a b t first second p = front_of_more a b (t ++ first) second _ p (append_assoc t first second)
+
 -- one piece and then another
 pub gathers_then : (a b c : Option (List ℕ)) (t u v first second all : List ℕ) → Gathers a t b u first → Gathers b u c v second → first ++ second ≡ all → Gathers a t c v all
 gathers_then None b c t u v first second all p q e = tt
@@ -67,4 +83,4 @@ gathers_next f xs i d a b c t u v piece h p q e =
     gathers_then a b c t u v (flat_map f (take i xs)) piece _ p q (ap (λ l. flat_map f (take i xs) ++ l) e ∙ sym (flat_map_more f xs i d h))
 
 -- what lemmas on gathered pieces a caller wants
-pub ruleset gathering = (gathers_none, gathers_waiting, gathers_written, gathers_then, gathers_then_front, gathers_then_written)
+pub ruleset gathering = (gathers_none, gathers_waiting, gathers_written, gathers_then, gathers_then_front, gathers_then_written, fails_first)

@@ -2,7 +2,8 @@ ghost use Rattle.std.specs.Prelude.{◌≡◌, ◌≤◌, ◌^◌, IfSome, nat_l
 ghost use Rattle.hex.specs.Hex.{decode_of};
 ghost use Rattle.snow_lines.specs.Reading.{number_of, bytes_of, block_of, draw_of, if_digits, if_draw, value_after};
 
-use crate::text::{Text, id_digits, node_digits};
+use crate::digits::{id_digits, node_digits};
+use crate::text::Text;
 use hex::FromHexError;
 use snow_base::{Bytes, Id, NodeId};
 use snow_sample::Draw;
@@ -107,7 +108,10 @@ fn drawn(draw: Draw, word: &[u8]) -> Option<Draw>
     ensures draw { result ≡ if_draw word.now draw }
     ensures count { IfSome result (λ d. 1 ≤ d.count) }
 {
-    if 1 <= draw.count && Text::draw(&draw).is_spaced(word) {
+    let mut text = Text::new();
+    text.push(&node_digits(&draw.node));
+    text.push_number(b'*', u64::from(draw.count));
+    if 1 <= draw.count && text.as_slice() == word {
         Some(draw)
     } else {
         None

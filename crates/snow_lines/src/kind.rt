@@ -22,8 +22,35 @@ pub enum Kind {
 }
 
 impl Kind {
-    ghost use Rattle.std.specs.Prelude.{◌≡◌};
-    ghost use Rattle.snow_lines.specs.Names.{line_kind_of};
+    ghost use Rattle.std.specs.Prelude.{◌≡◌, ◌≤◌, length};
+    ghost use Rattle.snow_lines.specs.Names.{line_kind_of, line_name};
+
+    /// The word with which the lines of this kind begin.
+    pub fn word(&self) -> &'static [u8]
+        ensures word { result.now ≡ line_name self.now }
+        ensures short { length result.now ≤ 12 }
+    {
+        match self {
+            Kind::Query => b"query",
+            Kind::Get => b"get",
+            Kind::Frontier => b"frontier",
+            Kind::Accepted => b"accepted",
+            Kind::Ancestors => b"ancestors",
+            Kind::Accept => b"accept",
+            Kind::Reject => b"reject",
+            Kind::Prefer => b"prefer",
+            Kind::Drop => b"drop",
+            Kind::DropQuery => b"drop-query",
+            Kind::Skip => b"skip",
+            Kind::Restart => b"restart",
+            Kind::Bootstrapped => b"bootstrapped",
+            Kind::ToChits => b"to-chits",
+            Kind::ToFrontier => b"to-frontier",
+            Kind::ToAccepted => b"to-accepted",
+            Kind::ToAncestors => b"to-ancestors",
+            Kind::ToBlock => b"to-block",
+        }
+    }
 
     /// The kind of the lines that begin with this word.
     pub fn of(word: &[u8]) -> Option<Self>

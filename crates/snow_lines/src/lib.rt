@@ -1,11 +1,13 @@
 //! The lines that the program writes, each with its one text.
 #![tactic(auto)]
 
+mod digits;
 mod field;
 mod gathering;
 mod kind;
 mod line;
 mod page;
+mod part;
 mod printing;
 mod reading;
 mod text;

@@ -1,12 +1,12 @@
-ghost use Rattle.std.specs.Prelude.{◌≡◌, [], ◌++◌, nat_lt, length, IfOk, OnOk, OnErr};
+ghost use Rattle.std.specs.Prelude.{◌≡◌, [], ◌++◌, IfOk, OnOk, OnErr};
 ghost use Rattle.std.specs.Io.KnownBytes.{Appends};
 ghost use Rattle.snow_base.specs.Outside.{AppendsFront, HasCause};
 ghost use Rattle.snow_lines.specs.Gathered.{Gathers};
-ghost use Rattle.snow_lines.specs.Text.{listed, text, texts};
+ghost use Rattle.snow_lines.specs.Text.{text, texts};
 
-use crate::gathering::{Gather, put_list};
+use crate::gathering::Gather;
 use crate::line::Line;
-use crate::printing::front_of;
+use crate::printing::put_line;
 use snow_base::{Failed, Sink, write_whole};
 use std::alloc::{AllocError, Global};
 use std::marker::Model;
@@ -40,23 +40,15 @@ impl Page {
         Ok(Page { bytes })
     }
 
-    /// Appends a line. Where there is no room for a piece of it, what waits is written first, as one
+    /// Appends a line. Where there is no room for a word of it, what waits is written first, as one
     /// piece. At `Failed` a front of what waited and of the line was written, and what then waits is
     /// left open.
-    #[tactic(auto, using(crate::proofs::Printed::gathered))]
     pub fn print<K: Sink>(&mut self, line: &Line, sink: &mut K) -> Result<(), Failed>
         ensures ok { OnOk result (Gathers (K.written sink.old) self.old (K.written sink.new) self.new (text line.now)) }
         ensures err { OnErr result (AppendsFront (K.written sink.old) (K.written sink.new) (self.old ++ text line.now)) }
         ensures cause { HasCause (K.faults sink.old) (K.faults sink.new) result }
     {
-        let mut text = front_of(line);
-        if has_list(line) {
-            self.put(text.as_slice(), sink)?;
-            put_list(self, line, sink)?;
-            return self.put(b"\n", sink);
-        }
-        text.push(b"\n");
-        self.put(text.as_slice(), sink)
+        put_line(self, line, sink)
     }
 
     /// Appends lines, one after another, as `print` does.
@@ -103,19 +95,5 @@ impl Gather for Page {
         prove!(taken.is_ok());
         let _ = taken;
         Ok(())
-    }
-}
-
-/// Whether words of a list stand in a line.
-fn has_list(line: &Line) -> bool
-    ensures { result ≡ nat_lt 0 (length (listed line.now)) }
-{
-    match line {
-        Line::Query { draws, .. } => !draws.list().is_empty(),
-        Line::Accepted { ids, .. } => !ids.list().is_empty(),
-        Line::ToAccepted { ids, .. } => !ids.list().is_empty(),
-        Line::ToAncestors { blocks, .. } => !blocks.list().is_empty(),
-        Line::ToBlock { .. } => true,
-        _ => false,
     }
 }

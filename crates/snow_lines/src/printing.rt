@@ -1,27 +1,24 @@
-ghost use Rattle.std.specs.Prelude.{◌≡◌, ◌≤◌, ℕ, [], ◌∷◌, ◌++◌, length, decimal, OnOk, OnErr};
+ghost use Rattle.std.specs.Prelude.{◌∷◌, ◌++◌, flat_map, OnOk, OnErr};
 ghost use Rattle.std.specs.List.{join_with_byte};
 ghost use Rattle.std.specs.Io.KnownBytes.{Appends};
-ghost use Rattle.hex.specs.Hex.{encode_lower};
 ghost use Rattle.snow_base.specs.Outside.{AppendsFront, HasCause};
-ghost use Rattle.snow_lines.specs.Text.{fields, name, text, texts};
+ghost use Rattle.snow_lines.specs.Gathered.{Gathers};
+ghost use Rattle.snow_lines.specs.Text.{fields, listed, name, spaced, text, texts};
 
-use crate::gathering::{Gather, put_list};
+use crate::gathering::{AtOnce, Gather};
+use crate::kind::Kind;
 use crate::line::Line;
-use crate::text::Text;
-use snow_base::{Failed, Id, NodeId, Sink, write_whole};
+use crate::part::{Part, put_all};
+use snow_base::{Failed, Sink};
 
-/// Writes a line: one without a list in one piece, one with a list in pieces of some 250 bytes. At
-/// `Failed` a front of it was written. It takes no memory.
-#[tactic(auto, using(crate::proofs::Printed::printed))]
+/// Writes a line, a word at a time. At `Failed` a front of it was written. It takes no memory.
+#[tactic(auto, using(crate::proofs::Waiting::gathers_whole))]
 pub fn print<K: Sink>(line: &Line, sink: &mut K) -> Result<(), Failed>
     ensures ok { OnOk result (Appends (K.written sink.old) (K.written sink.new) (text line.now)) }
     ensures err { OnErr result (AppendsFront (K.written sink.old) (K.written sink.new) (text line.now)) }
     ensures cause { HasCause (K.faults sink.old) (K.faults sink.new) result }
 {
-    let mut text = front_of(line);
-    put_list(&mut text, line, sink)?;
-    text.put(b"\n", sink)?;
-    write_whole(sink, text.as_slice())
+    put_line(&mut AtOnce, line, sink)
 }
 
 /// Writes lines, one after another. At `Failed` a front of their text was written.
@@ -37,52 +34,74 @@ pub fn print_all<K: Sink>(lines: &[Line], sink: &mut K) -> Result<(), Failed>
     Ok(())
 }
 
-/// The text of a line without its list and its newline.
-pub fn front_of(line: &Line) -> Text
-    ensures text { result ≡ join_with_byte 32 (name line.now ∷ fields line.now) }
-    ensures length { length result ≤ 210 }
+/// Appends a line to the bytes that wait. At `Failed` a front of both was written.
+#[tactic(auto, using(crate::proofs::Printed::gathered))]
+pub fn put_line<G: Gather, K: Sink>(out: &mut G, line: &Line, sink: &mut K) -> Result<(), Failed>
+    ensures ok { OnOk result (Gathers (K.written sink.old) (G.waiting out.old) (K.written sink.new) (G.waiting out.new) (text line.now)) }
+    ensures err { OnErr result (AppendsFront (K.written sink.old) (K.written sink.new) (G.waiting out.old ++ text line.now)) }
+    ensures cause { HasCause (K.faults sink.old) (K.faults sink.new) result }
+{
+    put_front(out, line, sink)?;
+    put_list(out, line, sink)?;
+    out.put(b"\n", sink)
+}
+
+/// Appends a line without its list and its newline.
+fn put_front<G: Gather, K: Sink>(out: &mut G, line: &Line, sink: &mut K) -> Result<(), Failed>
+    ensures ok { OnOk result (Gathers (K.written sink.old) (G.waiting out.old) (K.written sink.new) (G.waiting out.new) (join_with_byte 32 (name line.now ∷ fields line.now))) }
+    ensures err { OnErr result (AppendsFront (K.written sink.old) (K.written sink.new) (G.waiting out.old ++ join_with_byte 32 (name line.now ∷ fields line.now))) }
+    ensures cause { HasCause (K.faults sink.old) (K.faults sink.new) result }
 {
     match line {
-        Line::Query { number, id, .. } => Text::of(b"query").number(u64::from(*number)).id(id),
-        Line::Get { number, node, id } => asked(b"get", *number, node, id),
-        Line::Frontier { number } => Text::of(b"frontier").number(u64::from(*number)),
-        Line::Accepted { number, .. } => Text::of(b"accepted").number(u64::from(*number)),
-        Line::Ancestors { number, node, id } => asked(b"ancestors", *number, node, id),
-        Line::Accept { id } => Text::of(b"accept").id(id),
-        Line::Reject { id } => Text::of(b"reject").id(id),
-        Line::Prefer { id } => Text::of(b"prefer").id(id),
-        Line::Drop { id, why } => Text::of(b"drop").id(id).word(why.word()),
-        Line::DropQuery { why } => Text::of(b"drop-query").word(why.word()),
-        Line::Skip { frame, kind } => Text::of(b"skip").number(*frame).word(kind.word()),
-        Line::Restart { why } => Text::of(b"restart").word(why.word()),
-        Line::Bootstrapped { id, height } => Text::of(b"bootstrapped").id(id).number(*height),
+        Line::Query { number, id, .. } => (Kind::Query, (number, id)).put_into(out, sink),
+        Line::Get { number, node, id } => (Kind::Get, (number, (node, id))).put_into(out, sink),
+        Line::Frontier { number } => (Kind::Frontier, number).put_into(out, sink),
+        Line::Accepted { number, .. } => (Kind::Accepted, number).put_into(out, sink),
+        Line::Ancestors { number, node, id } => {
+            (Kind::Ancestors, (number, (node, id))).put_into(out, sink)
+        }
+        Line::Accept { id } => (Kind::Accept, id).put_into(out, sink),
+        Line::Reject { id } => (Kind::Reject, id).put_into(out, sink),
+        Line::Prefer { id } => (Kind::Prefer, id).put_into(out, sink),
+        Line::Drop { id, why } => (Kind::Drop, (id, why)).put_into(out, sink),
+        Line::DropQuery { why } => (Kind::DropQuery, why).put_into(out, sink),
+        Line::Skip { frame, kind } => (Kind::Skip, (frame, kind)).put_into(out, sink),
+        Line::Restart { why } => (Kind::Restart, why).put_into(out, sink),
+        Line::Bootstrapped { id, height } => {
+            (Kind::Bootstrapped, (id, height)).put_into(out, sink)
+        }
         Line::ToChits {
             node,
             number,
             preference,
             last,
-        } => told(b"to-chits", node, *number).id(preference).id(last),
-        Line::ToFrontier { node, number, id } => told(b"to-frontier", node, *number).id(id),
-        Line::ToAccepted { node, number, .. } => told(b"to-accepted", node, *number),
-        Line::ToAncestors { node, number, .. } => told(b"to-ancestors", node, *number),
-        Line::ToBlock { node, number, .. } => told(b"to-block", node, *number),
+        } => (Kind::ToChits, (node, (number, (preference, last)))).put_into(out, sink),
+        Line::ToFrontier { node, number, id } => {
+            (Kind::ToFrontier, (node, (number, id))).put_into(out, sink)
+        }
+        Line::ToAccepted { node, number, .. } => {
+            (Kind::ToAccepted, (node, number)).put_into(out, sink)
+        }
+        Line::ToAncestors { node, number, .. } => {
+            (Kind::ToAncestors, (node, number)).put_into(out, sink)
+        }
+        Line::ToBlock { node, number, .. } => (Kind::ToBlock, (node, number)).put_into(out, sink),
     }
 }
 
-/// The text of a line that asks a node for a block.
-fn asked(word: &[u8], number: u32, node: &NodeId, id: &Id) -> Text
-    requires { length word.now ≤ 12 }
-    ensures text { result ≡ join_with_byte 32 (word.now ∷ decimal number ∷ encode_lower node.now ∷ encode_lower id.now ∷ []) }
-    ensures length { length result ≤ 200 }
+/// Appends the words of a line's list.
+#[tactic(auto, using(crate::proofs::Waiting::gathering, snow_base::proofs::Known::appending, crate::proofs::Joined::each_spaced))]
+fn put_list<G: Gather, K: Sink>(out: &mut G, line: &Line, sink: &mut K) -> Result<(), Failed>
+    ensures ok { OnOk result (Gathers (K.written sink.old) (G.waiting out.old) (K.written sink.new) (G.waiting out.new) (flat_map spaced (listed line.now))) }
+    ensures err { OnErr result (AppendsFront (K.written sink.old) (K.written sink.new) (G.waiting out.old ++ flat_map spaced (listed line.now))) }
+    ensures cause { HasCause (K.faults sink.old) (K.faults sink.new) result }
 {
-    Text::of(word).number(u64::from(number)).node(node).id(id)
-}
-
-/// The text of a line that answers a node, up to its number.
-fn told(word: &[u8], node: &NodeId, number: u32) -> Text
-    requires { length word.now ≤ 12 }
-    ensures text { result ≡ join_with_byte 32 (word.now ∷ encode_lower node.now ∷ decimal number ∷ []) }
-    ensures length { length result ≤ 74 }
-{
-    Text::of(word).node(node).number(u64::from(number))
+    match line {
+        Line::Query { draws, .. } => put_all(out, draws.list(), sink),
+        Line::Accepted { ids, .. } => put_all(out, ids.list(), sink),
+        Line::ToAccepted { ids, .. } => put_all(out, ids.list(), sink),
+        Line::ToAncestors { blocks, .. } => put_all(out, blocks.list(), sink),
+        Line::ToBlock { bytes, .. } => bytes.put_into(out, sink),
+        _ => Ok(()),
+    }
 }

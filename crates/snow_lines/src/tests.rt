@@ -56,8 +56,9 @@ const SKIPS: &[(SkipKind, &str)] = &[
 
 #[test]
 fn a_failing_sink_takes_a_front(rt: HostRuntime) -> Result<(), Fail> {
+    // A skip comes in four writes: its name, its number, its kind and the newline.
     let mut failing = Nums::new(rt.alloc());
-    failing.push(11)?;
+    failing.push(43)?;
     let mut sink = MemSink::new(rt.alloc(), failing);
     sink.reserve(1000)?;
     let mut wanted = Vec::new(rt.alloc());
@@ -74,6 +75,7 @@ fn a_failing_sink_takes_a_front(rt: HostRuntime) -> Result<(), Fail> {
         kind: SkipKind::Tag,
     };
     assert!(rt; print(&last, &mut sink).is_err());
+    wanted.extend_from_slice(b"skip 1")?;
     assert!(rt; sink.bytes() == wanted.as_slice());
     Ok(())
 }
@@ -203,7 +205,7 @@ fn a_thousand_lines_come_in_two_writes(rt: HostRuntime) -> Result<(), Fail> {
     assert!(rt; sink.bytes().is_empty());
     for _ in PAGE_LINES..1000 {
         assert!(rt; page.print(&line, &mut sink).is_ok());
-        assert!(rt; sink.bytes().len() == 65_520);
+        assert!(rt; sink.bytes().len() == 65_526);
     }
     assert!(rt; page.flush(&mut sink).is_ok());
     let mut wanted = Vec::new(rt.alloc());
@@ -254,8 +256,10 @@ fn a_line_longer_than_a_page_goes_through(rt: HostRuntime) -> Result<(), Fail> {
 
 #[test]
 fn a_short_text_is_built_of_words(rt: HostRuntime) -> Result<(), Fail> {
-    let mut text = Text::of(b"err").word(b"input").number(u64::MAX);
+    let mut text = Text::new();
+    text.push(b"input");
+    text.push_number(b' ', u64::MAX);
     text.push(b"\n");
-    assert!(rt; text.as_slice() == b"err input 18446744073709551615\n".as_slice());
+    assert!(rt; text.as_slice() == b"input 18446744073709551615\n".as_slice());
     Ok(())
 }

@@ -58,71 +58,75 @@ pub enum SkipKind {
 
 impl DropWhy {
     ghost use Rattle.std.specs.Prelude.{◌≡◌, ◌≤◌, length};
-    ghost use Rattle.snow_lines.specs.Text.{why_word};
+    ghost use Rattle.snow_lines.specs.Text.{spaced, why_word};
 
-    pub(crate) fn word(&self) -> &'static [u8]
-        ensures word { result.now ≡ why_word self.now }
+    /// Its word with a space in front.
+    pub(crate) fn spaced_word(&self) -> &'static [u8]
+        ensures word { result.now ≡ spaced (why_word self.now) }
         ensures short { length result.now ≤ 12 }
     {
         match self {
-            DropWhy::Parent => b"parent",
-            DropWhy::Full => b"full",
-            DropWhy::Invalid => b"invalid",
-            DropWhy::Old => b"old",
+            DropWhy::Parent => b" parent",
+            DropWhy::Full => b" full",
+            DropWhy::Invalid => b" invalid",
+            DropWhy::Old => b" old",
         }
     }
 }
 
 impl QueryWhy {
     ghost use Rattle.std.specs.Prelude.{◌≡◌, ◌≤◌, length};
-    ghost use Rattle.snow_lines.specs.Text.{query_word};
+    ghost use Rattle.snow_lines.specs.Text.{spaced, query_word};
 
-    pub(crate) fn word(&self) -> &'static [u8]
-        ensures word { result.now ≡ query_word self.now }
+    /// Its word with a space in front.
+    pub(crate) fn spaced_word(&self) -> &'static [u8]
+        ensures word { result.now ≡ spaced (query_word self.now) }
         ensures short { length result.now ≤ 12 }
     {
         match self {
-            QueryWhy::Full => b"full",
-            QueryWhy::Units => b"units",
-            QueryWhy::Words => b"words",
+            QueryWhy::Full => b" full",
+            QueryWhy::Units => b" units",
+            QueryWhy::Words => b" words",
         }
     }
 }
 
 impl RestartWhy {
     ghost use Rattle.std.specs.Prelude.{◌≡◌, ◌≤◌, length};
-    ghost use Rattle.snow_lines.specs.Text.{restart_word};
+    ghost use Rattle.snow_lines.specs.Text.{spaced, restart_word};
 
-    pub(crate) fn word(&self) -> &'static [u8]
-        ensures word { result.now ≡ restart_word self.now }
+    /// Its word with a space in front.
+    pub(crate) fn spaced_word(&self) -> &'static [u8]
+        ensures word { result.now ≡ spaced (restart_word self.now) }
         ensures short { length result.now ≤ 12 }
     {
         match self {
-            RestartWhy::Frontier => b"frontier",
-            RestartWhy::Accepted => b"accepted",
+            RestartWhy::Frontier => b" frontier",
+            RestartWhy::Accepted => b" accepted",
         }
     }
 }
 
 impl SkipKind {
     ghost use Rattle.std.specs.Prelude.{◌≡◌, ◌≤◌, length};
-    ghost use Rattle.snow_lines.specs.Text.{kind_word};
+    ghost use Rattle.snow_lines.specs.Text.{spaced, kind_word};
 
-    pub(crate) fn word(&self) -> &'static [u8]
-        ensures word { result.now ≡ kind_word self.now }
+    /// Its word with a space in front.
+    pub(crate) fn spaced_word(&self) -> &'static [u8]
+        ensures word { result.now ≡ spaced (kind_word self.now) }
         ensures short { length result.now ≤ 12 }
     {
         match self {
-            SkipKind::Tag => b"tag",
-            SkipKind::Short => b"short",
-            SkipKind::Extra => b"extra",
-            SkipKind::Count => b"count",
-            SkipKind::Task => b"task",
-            SkipKind::Stage => b"stage",
-            SkipKind::Votes => b"votes",
-            SkipKind::Full => b"full",
-            SkipKind::Block => b"block",
-            SkipKind::Nodes => b"nodes",
+            SkipKind::Tag => b" tag",
+            SkipKind::Short => b" short",
+            SkipKind::Extra => b" extra",
+            SkipKind::Count => b" count",
+            SkipKind::Task => b" task",
+            SkipKind::Stage => b" stage",
+            SkipKind::Votes => b" votes",
+            SkipKind::Full => b" full",
+            SkipKind::Block => b" block",
+            SkipKind::Nodes => b" nodes",
         }
     }
 }

@@ -12,7 +12,8 @@ use Rattle.snow_flake.specs.Counter.{Counter, Decided, Undecided, class, voted, 
 use Rattle.snow_plain.specs.Conflict.{Counters, Blank, At, all_polled}
 use Rattle.snow_plain.specs.Board.{Board, blocks_of, with_counters}
 use Rattle.snow_plain.specs.Poll.{with_votes, counted, settled, poll}
-use Rattle.snow_plain.specs.Alike.{votes_for, AreAlike, GivesAll}
+use Rattle.snow_flake.specs.Alike.{votes_for, AreAlike}
+use Rattle.snow_plain.specs.Alike.{GivesAll}
 use Rattle.snow_plain.specs.declared.decision.Decision.{Decision}
 use Rattle.snow_plain.proofs.Cases.{split_on, clash, same_id, id_itself}
 

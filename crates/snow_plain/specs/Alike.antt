@@ -1,21 +1,11 @@
--- Votes that are alike: on every list of identifiers their numbers are of one class.
-use Rattle.std.specs.Prelude.{◌≡◌, ℕ, ◌≤◌, List, sum_by, bytes_eq, if◌then◌else◌}
-use Rattle.std.specs.List.{list_any}
+-- What each multiset of votes leaves that is alike to these.
+use Rattle.std.specs.Prelude.{◌≡◌, ℕ, ◌≤◌, List}
 use Rattle.snow_base.specs.declared.vote.Vote.{Vote}
 use Rattle.snow_base.specs.Votes.{total_count}
-use Rattle.snow_flake.specs.Parameters.{Parameters}
-use Rattle.snow_flake.specs.Counter.{class}
+use Rattle.snow_flake.specs.Alike.{AreAlike}
 use Rattle.snow_plain.specs.declared.decision.Decision.{Decision}
 use Rattle.snow_plain.specs.Board.{Board}
 use Rattle.snow_plain.specs.Poll.{poll}
-
--- how many of these votes are for identifiers on this list
-abbrev pub votes_for : List (List ℕ) → List Vote → ℕ
-votes_for ids votes = sum_by (λ v. if list_any (λ id. bytes_eq id v.id) ids then v.count else 0) votes
-
--- on every list of identifiers both have few votes, or both a quorum for preference alone, or both one for confidence
-abbrev pub AreAlike : Parameters → List Vote → List Vote → Type 0
-AreAlike p votes others = (ids : List (List ℕ)) → class p (votes_for ids votes) ≡ class p (votes_for ids others)
 
 -- what is left is what a poll with each multiset gives that is alike to these votes and has at most K
 abbrev pub GivesAll : Board → List Vote → Board → List Decision → Type 0

@@ -3,7 +3,7 @@ use Rattle.std.specs.Prelude.{◌≡◌, List}
 use Rattle.snow_base.specs.declared.vote.Vote.{Vote}
 use Rattle.snow_plain.specs.Board.{Board}
 use Rattle.snow_plain.specs.Poll.{poll}
-use Rattle.snow_plain.specs.Alike.{AreAlike}
+use Rattle.snow_flake.specs.Alike.{AreAlike}
 
 -- polls with alike votes leave the same board and make the same decisions
 abbrev pub AlikeLaw : Type 0

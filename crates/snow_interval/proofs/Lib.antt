@@ -1,0 +1,5 @@
+mod Apart
+mod Examples
+mod Growing
+mod Parting
+mod Running

@@ -1,0 +1,3 @@
+pub mod Heights
+pub mod Listed
+pub mod Spans

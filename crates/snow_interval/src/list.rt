@@ -1,0 +1,56 @@
+ghost use Rattle.std.specs.Prelude.{◌≡◌, ℕ, ◌<◌, true, false, IfOk, OnOk, OnErr};
+ghost use Rattle.snow_interval.specs.Heights.{with_height, begins_run, lowest};
+ghost use Rattle.snow_interval.specs.Listed.{listed};
+
+use crate::kept::Kept;
+use std::alloc::{AllocError, Global};
+use std::marker::Model;
+
+/// Heights in the order in which they were added. Each height that is looked for is looked for among
+/// them all.
+#[derive(Debug, Drop)]
+pub struct KeptList {
+    last: u64,
+    heights: Vec<u64>,
+}
+
+impl Model for KeptList {
+    ghost use Rattle.snow_interval.specs.Listed.{Listed, AreAbove};
+
+    ghost Value = { Listed };
+
+    ghost view = { λ a. record { floor = a.last; heights = a.heights.items } };
+
+    ghost invariant = { λ a. AreAbove a.last a.heights.items };
+}
+
+impl Kept for KeptList {
+    ghost floor = { λ a. a.floor };
+
+    ghost held = { λ a. listed a.heights };
+
+    fn begin(alloc: Global, last: u64) -> Self {
+        KeptList {
+            last,
+            heights: Vec::new(alloc),
+        }
+    }
+
+    fn add(&mut self, height: u64) -> Result<bool, AllocError> {
+        let begins = self.last < height - 1 && !self.contains(height - 1);
+        self.heights.push(height)?;
+        Ok(begins)
+    }
+
+    fn contains(&self, height: u64) -> bool {
+        self.heights.contains(&height)
+    }
+
+    fn lowest(&self, height: u64) -> u64 {
+        let mut low = height;
+        while low > 0 && self.contains(low - 1) {
+            low -= 1;
+        }
+        low
+    }
+}

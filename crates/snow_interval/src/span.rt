@@ -1,0 +1,8 @@
+/// Heights from a lowest to a highest one, both included.
+#[derive(Clone, Copy, Debug, PartialEq, Eq)]
+pub struct Span {
+    /// The lowest height.
+    pub low: u64,
+    /// The highest height.
+    pub high: u64,
+}

@@ -1,0 +1,58 @@
+ghost use Rattle.std.specs.Prelude.{◌≡◌, ◌*◌, ◌<◌, ◌≤◌, ◌∷◌, length, slice_index, decimal};
+ghost use Rattle.hex.specs.Hex.{encode_lower, lower_digits};
+
+use snow_base::{Id, NodeId};
+
+/// Writes the lower-case hexadecimal digits of bytes over a slice of just their length.
+pub fn write_hex(bytes: &[u8], digits: &mut [u8])
+    requires { length digits.old ≡ 2 * length bytes.now }
+    ensures { digits.new ≡ encode_lower bytes.now }
+{
+    for i in 0..bytes.len() {
+        let byte = bytes[i];
+        digits[2 * i] = digit(byte >> 4);
+        digits[2 * i + 1] = digit(byte & 0x0f);
+    }
+}
+
+// The digit of four bits. A sum, and no table, so that many digits are made at a time.
+#[tactic(auto, using(crate::proofs::Figures::decimal_digit, crate::proofs::Figures::letter_digit))]
+fn digit(value: u8) -> u8
+    requires { value < 16 }
+    ensures { result ≡ slice_index lower_digits value }
+{
+    if value < 10 {
+        b'0' + value
+    } else {
+        b'a' - 10 + value
+    }
+}
+
+/// The digits of an identifier.
+pub fn id_digits(id: &Id) -> [u8; 64]
+    ensures { result ≡ encode_lower id.now }
+{
+    let mut digits = [0; 64];
+    write_hex(id.as_bytes(), &mut digits);
+    digits
+}
+
+/// The digits of a node.
+pub fn node_digits(node: &NodeId) -> [u8; 40]
+    ensures { result ≡ encode_lower node.now }
+{
+    let mut digits = [0; 40];
+    write_hex(node.as_bytes(), &mut digits);
+    digits
+}
+
+/// A mark and a number in decimal behind it, written at the end of a buffer.
+#[tactic(auto, using(crate::proofs::Figures::decimal_short))]
+pub fn marked(mark: u8, number: u64, buffer: &mut [u8; 21]) -> &[u8]
+    ensures text { result.now ≡ mark ∷ decimal number }
+    ensures length { length result.now ≤ 21 }
+{
+    let start = itoa::write_digits(number, buffer, 21);
+    buffer[start - 1] = mark;
+    &buffer[start - 1..]
+}

@@ -1,0 +1,209 @@
+ghost use Rattle.std.specs.Prelude.{◌≡◌, ◌≤◌, ℕ, List, ◌∷◌, ◌++◌, length, flat_map, decimal, OnOk, OnErr};
+ghost use Rattle.hex.specs.Hex.{encode_lower};
+ghost use Rattle.snow_base.specs.Outside.{AppendsFront, HasCause};
+ghost use Rattle.snow_lines.specs.Gathered.{Gathers};
+ghost use Rattle.snow_lines.specs.Names.{line_name};
+ghost use Rattle.snow_lines.specs.Text.{spaced, draw_word, block_word, kind_word, query_word, restart_word, why_word};
+
+use crate::digits::{marked, write_hex};
+use crate::gathering::Gather;
+use crate::kind::Kind;
+use crate::why::{DropWhy, QueryWhy, RestartWhy, SkipKind};
+use snow_base::{Bytes, Failed, Id, NodeId, Sink};
+use snow_sample::Draw;
+
+/// A part of a line. Each but the first word begins with a space.
+pub trait Part {
+    /// Its bytes.
+    ghost text: { Self → List ℕ };
+
+    /// Appends it to the bytes that wait. At `Failed` a front of both was written.
+    fn put_into<G: Gather, K: Sink>(&self, out: &mut G, sink: &mut K) -> Result<(), Failed>
+        ensures ok { OnOk result (Gathers (K.written sink.old) (G.waiting out.old) (K.written sink.new) (G.waiting out.new) (text self.now)) }
+        ensures err { OnErr result (AppendsFront (K.written sink.old) (K.written sink.new) (G.waiting out.old ++ text self.now)) }
+        ensures cause { HasCause (K.faults sink.old) (K.faults sink.new) result };
+}
+
+/// One part and then another.
+impl<A: Part, B: Part> Part for (A, B) {
+    ghost text = { λ both. A.text both.0 ++ B.text both.1 };
+
+    #[tactic(auto, using(crate::proofs::Waiting::gathering, snow_base::proofs::Known::appending))]
+    fn put_into<G: Gather, K: Sink>(&self, out: &mut G, sink: &mut K) -> Result<(), Failed> {
+        self.0.put_into(out, sink)?;
+        self.1.put_into(out, sink)
+    }
+}
+
+impl<'a, T: Part> Part for &'a T {
+    ghost text = { λ part. T.text part.now };
+
+    fn put_into<G: Gather, K: Sink>(&self, out: &mut G, sink: &mut K) -> Result<(), Failed> {
+        (**self).put_into(out, sink)
+    }
+}
+
+impl Part for Kind {
+    ghost text = { line_name };
+
+    fn put_into<G: Gather, K: Sink>(&self, out: &mut G, sink: &mut K) -> Result<(), Failed> {
+        out.put(self.word(), sink)
+    }
+}
+
+impl Part for DropWhy {
+    ghost text = { λ why. spaced (why_word why) };
+
+    fn put_into<G: Gather, K: Sink>(&self, out: &mut G, sink: &mut K) -> Result<(), Failed> {
+        out.put(self.spaced_word(), sink)
+    }
+}
+
+impl Part for QueryWhy {
+    ghost text = { λ why. spaced (query_word why) };
+
+    fn put_into<G: Gather, K: Sink>(&self, out: &mut G, sink: &mut K) -> Result<(), Failed> {
+        out.put(self.spaced_word(), sink)
+    }
+}
+
+impl Part for RestartWhy {
+    ghost text = { λ why. spaced (restart_word why) };
+
+    fn put_into<G: Gather, K: Sink>(&self, out: &mut G, sink: &mut K) -> Result<(), Failed> {
+        out.put(self.spaced_word(), sink)
+    }
+}
+
+impl Part for SkipKind {
+    ghost text = { λ kind. spaced (kind_word kind) };
+
+    fn put_into<G: Gather, K: Sink>(&self, out: &mut G, sink: &mut K) -> Result<(), Failed> {
+        out.put(self.spaced_word(), sink)
+    }
+}
+
+impl Part for u64 {
+    ghost text = { λ number. spaced (decimal number) };
+
+    fn put_into<G: Gather, K: Sink>(&self, out: &mut G, sink: &mut K) -> Result<(), Failed> {
+        let mut buffer = [0; 21];
+        out.put(marked(b' ', *self, &mut buffer), sink)
+    }
+}
+
+impl Part for u32 {
+    ghost text = { λ number. spaced (decimal number) };
+
+    fn put_into<G: Gather, K: Sink>(&self, out: &mut G, sink: &mut K) -> Result<(), Failed> {
+        u64::from(*self).put_into(out, sink)
+    }
+}
+
+/// How often, behind what it counts.
+#[derive(Drop)]
+struct Times(u32);
+
+impl Part for Times {
+    ghost text = { λ times. 42 ∷ decimal times.0 };
+
+    fn put_into<G: Gather, K: Sink>(&self, out: &mut G, sink: &mut K) -> Result<(), Failed> {
+        let mut buffer = [0; 21];
+        out.put(marked(b'*', u64::from(self.0), &mut buffer), sink)
+    }
+}
+
+impl Part for Id {
+    ghost text = { λ id. spaced (encode_lower id) };
+
+    fn put_into<G: Gather, K: Sink>(&self, out: &mut G, sink: &mut K) -> Result<(), Failed> {
+        let mut word = [b' '; 65];
+        write_hex(self.as_bytes(), &mut word[1..]);
+        out.put(&word, sink)
+    }
+}
+
+impl Part for NodeId {
+    ghost text = { λ node. spaced (encode_lower node) };
+
+    fn put_into<G: Gather, K: Sink>(&self, out: &mut G, sink: &mut K) -> Result<(), Failed> {
+        let mut word = [b' '; 41];
+        write_hex(self.as_bytes(), &mut word[1..]);
+        out.put(&word, sink)
+    }
+}
+
+impl Part for Draw {
+    ghost text = { λ draw. spaced (draw_word draw) };
+
+    fn put_into<G: Gather, K: Sink>(&self, out: &mut G, sink: &mut K) -> Result<(), Failed> {
+        (&self.node, Times(self.count)).put_into(out, sink)
+    }
+}
+
+impl Part for Bytes {
+    ghost text = { λ bytes. spaced (block_word bytes) };
+
+    #[tactic(auto, using(crate::proofs::Waiting::gathering, snow_base::proofs::Known::appending))]
+    fn put_into<G: Gather, K: Sink>(&self, out: &mut G, sink: &mut K) -> Result<(), Failed> {
+        if self.list().is_empty() {
+            return out.put(b" .", sink);
+        }
+        out.put(b" ", sink)?;
+        put_digits(out, self.list(), sink)
+    }
+}
+
+/// So many bytes of a block have their digits made at a time.
+const SOME: usize = 64;
+
+/// Appends the digits of bytes.
+#[tactic(auto, using(crate::proofs::Waiting::gathering, snow_base::proofs::Known::appending))]
+fn put_digits<G: Gather, K: Sink>(out: &mut G, bytes: &[u8], sink: &mut K) -> Result<(), Failed>
+    ensures ok { OnOk result (Gathers (K.written sink.old) (G.waiting out.old) (K.written sink.new) (G.waiting out.new) (encode_lower bytes.now)) }
+    ensures err { OnErr result (AppendsFront (K.written sink.old) (K.written sink.new) (G.waiting out.old ++ encode_lower bytes.now)) }
+    ensures cause { HasCause (K.faults sink.old) (K.faults sink.new) result }
+{
+    let mut digits = [0; 2 * SOME];
+    let mut rest = bytes;
+    while !rest.is_empty() {
+        let len = rest.len().min(SOME);
+        put_some(out, &rest[..len], &mut digits, sink)?;
+        rest = &rest[len..];
+    }
+    Ok(())
+}
+
+// Appends the digits of a few bytes, which are made in a buffer.
+fn put_some<G: Gather, K: Sink>(
+    out: &mut G,
+    some: &[u8],
+    digits: &mut [u8; 2 * SOME],
+    sink: &mut K,
+) -> Result<(), Failed>
+    requires { length some.now ≤ 64 }
+    ensures ok { OnOk result (Gathers (K.written sink.old) (G.waiting out.old) (K.written sink.new) (G.waiting out.new) (encode_lower some.now)) }
+    ensures err { OnErr result (AppendsFront (K.written sink.old) (K.written sink.new) (G.waiting out.old ++ encode_lower some.now)) }
+    ensures cause { HasCause (K.faults sink.old) (K.faults sink.new) result }
+{
+    let digits = &mut digits[..2 * some.len()];
+    write_hex(some, digits);
+    out.put(digits, sink)
+}
+
+/// Appends parts, one after another.
+#[tactic(auto, using(crate::proofs::Waiting::gathering, snow_base::proofs::Known::appending))]
+pub fn put_all<T: Part, G: Gather, K: Sink>(
+    out: &mut G,
+    parts: &[T],
+    sink: &mut K,
+) -> Result<(), Failed>
+    ensures ok { OnOk result (Gathers (K.written sink.old) (G.waiting out.old) (K.written sink.new) (G.waiting out.new) (flat_map (λ part. T.text part) parts.now)) }
+    ensures err { OnErr result (AppendsFront (K.written sink.old) (K.written sink.new) (G.waiting out.old ++ flat_map (λ part. T.text part) parts.now)) }
+    ensures cause { HasCause (K.faults sink.old) (K.faults sink.new) result }
+{
+    for part in parts {
+        part.put_into(out, sink)?;
+    }
+    Ok(())
+}

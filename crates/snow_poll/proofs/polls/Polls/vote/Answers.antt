@@ -1,0 +1,108 @@
+-- The reply is counted in the poll of the number, where that awaits it.
+use Rattle.std.proofs.Common.{ap, arith, sym, set, List, ◌∙◌}
+use Rattle.std.proofs.lemmas.Bool.{cond-true, cond-false}
+use Rattle.snow_flake.specs.Parameters.{Parameters}
+use Rattle.snow_poll.specs.declared.polls.Answered.TheVariants.{Counted, NotAwaited}
+use Rattle.snow_poll.specs.Poll.{Poll}
+use Rattle.snow_poll.specs.Table.{Table, answer, voted}
+use Rattle.snow_poll.proofs.Placed.{none_awaits, unplaced, unchanged, place_within, awaited_at, voted_at, table_voted}
+use Rattle.snow_poll.proofs.polls.Polls.vote.Goals as goal
+
+-- a table of these polls
+abbrev to_table : Parameters → List Poll → Table
+to_table p polls = record { parameters = p; polls = polls }
+
+pub returns-in_default-clause-answer : goal.returns-in_default-clause-answer
+returns-in_default-clause-answer c =
+    let polls = c.self.inside.polls.items in
+    let stood = sym (c.place.ensures polls c.self.invariant.few c.self.invariant.placed) in
+    let none = none_awaits polls c.args.number c.args.node.now (unplaced polls c.args.number (stood ∙ c.in_default.is)) in
+    let answers = ap (λ (t : Table). answer t.polls c.args.number c.args.node.now) c.self.view_is in
+    sym (cond-false _ Counted NotAwaited none) ∙ answers
+
+pub returns-in_default-clause-table : goal.returns-in_default-clause-table
+returns-in_default-clause-table c =
+    let polls = c.self.inside.polls.items in
+    let stood = sym (c.place.ensures polls c.self.invariant.few c.self.invariant.placed) in
+    let none = none_awaits polls c.args.number c.args.node.now (unplaced polls c.args.number (stood ∙ c.in_default.is)) in
+    let same = ap (λ (t : Table). voted t c.args.number c.args.node.now c.args.id) c.self.view_is in
+    sym c.self.view_is
+    ∙ ap (λ (l : List Poll). to_table c.self.inside.params l) (sym (unchanged polls c.args.number c.args.node.now c.args.id none))
+    ∙ same
+
+pub index-requires : goal.index-requires
+index-requires c =
+    let polls = c.self.inside.polls.items in
+    let stood = sym (c.place.ensures polls c.self.invariant.few c.self.invariant.placed) in
+    omega (arith, place_within polls c.args.number c.in-Some.at (stood ∙ c.in-Some.is), c.self.inside.polls.ok.0)
+
+pub returns-then-not-awaits-clause-answer : goal.returns-then-not-awaits-clause-answer
+returns-then-not-awaits-clause-answer c =
+    let polls = c.self.inside.polls.items in
+    let stood = sym (c.place.ensures polls c.self.invariant.few c.self.invariant.placed) in
+    let is = stood ∙ c.in-Some.is in
+    let one = awaited_at polls c.args.number c.in-Some.at c.args.node.now c.index.result.now c.self.invariant.distinct is c.index.ensures in
+    let answers = ap (λ (t : Table). answer t.polls c.args.number c.args.node.now) c.self.view_is in
+    let none = sym one ∙ sym c.awaits.ensures ∙ c.if-not-awaits.true in
+    sym (cond-false _ Counted NotAwaited none) ∙ answers
+
+pub returns-then-not-awaits-clause-table : goal.returns-then-not-awaits-clause-table
+returns-then-not-awaits-clause-table c =
+    let polls = c.self.inside.polls.items in
+    let stood = sym (c.place.ensures polls c.self.invariant.few c.self.invariant.placed) in
+    let is = stood ∙ c.in-Some.is in
+    let one = awaited_at polls c.args.number c.in-Some.at c.args.node.now c.index.result.now c.self.invariant.distinct is c.index.ensures in
+    let same = ap (λ (t : Table). voted t c.args.number c.args.node.now c.args.id) c.self.view_is in
+    let none = sym one ∙ sym c.awaits.ensures ∙ c.if-not-awaits.true in
+    sym c.self.view_is
+    ∙ ap (λ (l : List Poll). to_table c.self.inside.params l) (sym (unchanged polls c.args.number c.args.node.now c.args.id none))
+    ∙ same
+
+pub index_mut-requires : goal.index_mut-requires
+index_mut-requires c =
+    let polls = c.self.inside.polls.items in
+    let stood = sym (c.place.ensures polls c.self.invariant.few c.self.invariant.placed) in
+    omega (arith, place_within polls c.args.number c.in-Some.at (stood ∙ c.in-Some.is), c.self.inside.polls.ok.0)
+
+pub count-requires : goal.count-requires
+count-requires c =
+    let polls = c.self.inside.polls.items in
+    let stood = sym (c.place.ensures polls c.self.invariant.few c.self.invariant.placed) in
+    let is = stood ∙ c.in-Some.is in
+    let one = awaited_at polls c.args.number c.in-Some.at c.args.node.now c.index.result.now c.self.invariant.distinct is c.index.ensures in
+    awaited_at polls c.args.number c.in-Some.at c.args.node.now c.index_mut.result.now c.self.invariant.distinct is c.index_mut.ensures.value
+    ∙ sym one ∙ sym c.awaits.ensures ∙ c.if-not-awaits.false
+
+pub invariant_of-self : goal.invariant_of-self
+invariant_of-self c =
+    let polls = c.self.inside.polls.items in
+    let stood = sym (c.place.ensures polls c.self.invariant.few c.self.invariant.placed) in
+    let is = stood ∙ c.in-Some.is in
+    let one = awaited_at polls c.args.number c.in-Some.at c.args.node.now c.index.result.now c.self.invariant.distinct is c.index.ensures in
+    let asked = awaited_at polls c.args.number c.in-Some.at c.args.node.now c.index_mut.result.now c.self.invariant.distinct is c.index_mut.ensures.value
+    ∙ sym one ∙ sym c.awaits.ensures ∙ c.if-not-awaits.false in
+    let noted = ap (set polls c.in-Some.at) c.count.ensures
+    ∙ voted_at polls c.args.number c.in-Some.at c.args.node.now c.args.id c.index_mut.result.now c.self.invariant.distinct is c.index_mut.ensures.value asked in
+    rw noted (table_voted c.self.inside.params polls c.self.inside.turns.turns c.self.inside.turns.gone c.args.number c.args.node.now c.args.id c.self.invariant)
+
+pub returns-clause-answer : goal.returns-clause-answer
+returns-clause-answer c =
+    let polls = c.self.inside.polls.items in
+    let stood = sym (c.place.ensures polls c.self.invariant.few c.self.invariant.placed) in
+    let is = stood ∙ c.in-Some.is in
+    let one = awaited_at polls c.args.number c.in-Some.at c.args.node.now c.index.result.now c.self.invariant.distinct is c.index.ensures in
+    let answers = ap (λ (t : Table). answer t.polls c.args.number c.args.node.now) c.self.view_is in
+    sym (cond-true _ Counted NotAwaited (sym one ∙ sym c.awaits.ensures ∙ c.if-not-awaits.false)) ∙ answers
+
+pub returns-clause-table : goal.returns-clause-table
+returns-clause-table c =
+    let polls = c.self.inside.polls.items in
+    let stood = sym (c.place.ensures polls c.self.invariant.few c.self.invariant.placed) in
+    let is = stood ∙ c.in-Some.is in
+    let one = awaited_at polls c.args.number c.in-Some.at c.args.node.now c.index.result.now c.self.invariant.distinct is c.index.ensures in
+    let asked = awaited_at polls c.args.number c.in-Some.at c.args.node.now c.index_mut.result.now c.self.invariant.distinct is c.index_mut.ensures.value
+    ∙ sym one ∙ sym c.awaits.ensures ∙ c.if-not-awaits.false in
+    let noted = ap (set polls c.in-Some.at) c.count.ensures
+    ∙ voted_at polls c.args.number c.in-Some.at c.args.node.now c.args.id c.index_mut.result.now c.self.invariant.distinct is c.index_mut.ensures.value asked in
+    let same = ap (λ (t : Table). voted t c.args.number c.args.node.now c.args.id) c.self.view_is in
+    ap (λ (l : List Poll). to_table c.self.inside.params l) noted ∙ same

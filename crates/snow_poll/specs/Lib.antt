@@ -1,0 +1,5 @@
+pub mod Poll
+pub mod Closing
+pub mod Completion
+pub mod Table
+pub mod Kept

@@ -1,0 +1,8 @@
+//! What everyone who reads the definitions of polls wants to know.
+ghost use Rattle.snow_poll.specs.Completion.{EarlyClosingLaw};
+
+/// Early closing is exact: the votes of a poll that is closed in any of the four cases are alike to
+/// those of each completion, whatever the nodes without a reply would still have given.
+pub fn early_closing_law()
+    ensures { EarlyClosingLaw }
+{}

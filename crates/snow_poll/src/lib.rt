@@ -1,0 +1,16 @@
+//! The table of polls: each counts the replies of the nodes that were drawn, and is closed as soon
+//! as no reply can change what it does.
+#![tactic(auto)]
+
+mod laws;
+mod poll;
+mod polls;
+mod reply;
+mod tally;
+mod turns;
+
+pub use laws::early_closing_law;
+pub use polls::{Answered, Closed, PollFault, Polls};
+
+#[cfg(test)]
+mod tests;

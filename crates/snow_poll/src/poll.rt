@@ -1,0 +1,141 @@
+ghost use Rattle.std.specs.Prelude.{◌≡◌, ◌+◌, ◌≤◌, true, IfOk};
+ghost use Rattle.snow_flake.specs.Parameters.{AreGood};
+ghost use Rattle.snow_sample.specs.Sampling.{draw_count, AreOfDistinctNodes};
+ghost use Rattle.snow_poll.specs.Kept.{HasTimes, closes_by};
+
+use crate::reply::Reply;
+use crate::tally;
+use snow_base::{Bag, Id, NodeId};
+use snow_flake::Params;
+use snow_sample::{Draw, Draws};
+use std::alloc::{AllocError, Global};
+use std::collections::BTreeMap;
+use std::marker::Model;
+
+/// A poll under way. Contracts see its number, its draws, and the replies in order of arrival.
+///
+/// The nodes that are awaited stand in a map with their counts, and go from it as they reply.
+#[derive(Debug, Drop)]
+pub(crate) struct Poll {
+    number: u32,
+    draws: Vec<Draw>,
+    replies: Vec<Reply>,
+    awaited: BTreeMap<NodeId, u32>,
+    votes: Bag,
+    most: u32,
+    outstanding: u32,
+}
+
+impl Model for Poll {
+    ghost use Rattle.std.specs.Prelude.{vec_capacity};
+    ghost use Rattle.snow_poll.specs.Poll as model;
+    ghost use Rattle.snow_poll.specs.Kept.{IsKept};
+
+    ghost Value = { model.Poll };
+
+    ghost view = { λ a. record { number = a.number; draws = a.draws.items; replies = a.replies.items } };
+
+    ghost invariant = { λ a. IsKept (record { number = a.number; draws = a.draws.items; replies = a.replies.items })
+        a.awaited a.votes a.most a.outstanding (vec_capacity a.replies) };
+}
+
+impl Poll {
+    ghost use Rattle.snow_poll.specs.Poll.{awaits, with_reply, votes_of, received, outstanding};
+    ghost use Rattle.snow_poll.specs.Closing.{is_closed};
+    ghost use Rattle.snow_poll.specs.Table.{new_poll};
+
+    /// A poll over these draws, without replies. All room that it will need is made here.
+    pub(crate) fn begin(
+        alloc: Global,
+        number: u32,
+        draws: &Draws,
+        outstanding: u32,
+    ) -> Result<Poll, AllocError>
+        requires count { draw_count draws.now ≡ outstanding }
+        requires nodes { AreOfDistinctNodes draws.now }
+        ensures { IfOk result (λ made. made ≡ new_poll number draws.now) }
+    {
+        let drawn = draws.list();
+        let mut votes = Bag::new(alloc);
+        votes.reserve(drawn.len())?;
+        Ok(Poll {
+            number,
+            draws: Vec::from_slice(alloc, drawn)?,
+            replies: Vec::with_capacity(alloc, drawn.len())?,
+            awaited: awaited_of(alloc, drawn)?,
+            votes,
+            most: 0,
+            outstanding,
+        })
+    }
+
+    /// Its number.
+    pub(crate) fn number(&self) -> u32
+        ensures { result ≡ self.now.number }
+    {
+        self.number
+    }
+
+    /// Whether it awaits a reply of this node.
+    pub(crate) fn awaits(&self, node: &NodeId) -> bool
+        ensures { result ≡ awaits self.now node.now }
+    {
+        self.awaited.contains_key(node)
+    }
+
+    /// Counts the reply of a node that is awaited. It takes no memory.
+    pub(crate) fn count(&mut self, node: &NodeId, id: Option<Id>)
+        requires { awaits self.old node.now ≡ true }
+        ensures { self.new ≡ with_reply self.old node.now id }
+    {
+        let reply = Reply { node: *node, id };
+        let times = self.awaited.remove(node).unwrap_or(0);
+        self.outstanding -= times;
+        self.most = tally::give(&mut self.votes, self.most, &reply, times);
+        self.replies.push_reserved(reply);
+    }
+
+    /// Whether it is closed, by one of the four cases.
+    pub(crate) fn is_closed(&self, params: &Params) -> bool
+        ensures closed { result ≡ is_closed params.now self.now }
+        ensures good { AreGood params.now }
+    {
+        let reach = self.votes.total() + self.outstanding;
+        closes(params, reach, self.outstanding, self.most)
+    }
+
+    /// Its votes.
+    pub(crate) fn into_votes(self) -> Bag
+        ensures votes { result.list ≡ votes_of self }
+        ensures within { received self + outstanding self ≤ draw_count self.draws }
+    {
+        let Poll { votes, .. } = self;
+        votes
+    }
+}
+
+// The nodes of these draws, each with how often it was drawn.
+fn awaited_of(alloc: Global, draws: &[Draw]) -> Result<BTreeMap<NodeId, u32>, AllocError>
+    requires { AreOfDistinctNodes draws.now }
+    ensures { IfOk result (λ awaited. HasTimes awaited draws.now) }
+{
+    let mut awaited = BTreeMap::new(alloc);
+    for draw in draws {
+        awaited.insert(draw.node, draw.count)?;
+    }
+    Ok(awaited)
+}
+
+// Whether a poll is closed that can reach so many votes, of which so many are outstanding, and where
+// one identifier has the most.
+fn closes(params: &Params, reach: u32, outstanding: u32, most: u32) -> bool
+    ensures closed { result ≡ closes_by params.now reach outstanding most }
+    ensures good { AreGood params.now }
+{
+    let preference = params.alpha_preference();
+    let confidence = params.alpha_confidence();
+    outstanding == 0
+        || reach < preference
+        || (preference <= most && reach < confidence)
+        || confidence <= most
+}

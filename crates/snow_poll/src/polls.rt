@@ -1,0 +1,179 @@
+ghost use Rattle.std.specs.Prelude.{◌≡◌, ◌≤◌, ◌↔◌, false, length, IfSome, OnOk, OnErr, Err};
+ghost use Rattle.std.specs.Option.{option_map};
+ghost use Rattle.snow_base.specs.Votes.{total_count};
+ghost use Rattle.snow_sample.specs.Sampling.{draw_count, AreOfDistinctNodes};
+
+use crate::poll::Poll;
+use crate::turns::Turns;
+use snow_base::{Bag, Id, NodeId};
+use snow_flake::Params;
+use snow_sample::Draws;
+use std::alloc::{AllocError, Global};
+use std::collections::VecDeque;
+use std::marker::Model;
+use thiserror::Error;
+
+// How many polls are in the table at most.
+const MOST_POLLS: usize = 1024;
+
+/// Why no poll is begun.
+#[derive(Clone, Copy, Debug, PartialEq, Eq, Error)]
+pub enum PollFault {
+    /// There are 1,024 polls in the table.
+    #[error("1,024 polls are in the table")]
+    Full,
+    #[error("no memory")]
+    Memory,
+}
+
+impl From<AllocError> for PollFault {
+    ghost use Rattle.std.specs.Prelude.{◌≡◌};
+    ghost use Rattle.snow_poll.specs.declared.polls.PollFault.TheVariants.{Memory};
+
+    ghost from_gives = { λ _ fault. fault ≡ Memory };
+
+    fn from(_: AllocError) -> Self {
+        PollFault::Memory
+    }
+}
+
+/// What became of a reply.
+#[derive(Clone, Copy, Debug, PartialEq, Eq)]
+pub enum Answered {
+    /// It was counted.
+    Counted,
+    /// No poll of that number awaits a reply of that node: nothing changed.
+    NotAwaited,
+}
+
+/// A closed poll that left the table.
+#[derive(Debug, Drop)]
+pub struct Closed {
+    /// Its number.
+    pub number: u32,
+    /// The votes that its nodes gave.
+    pub votes: Bag,
+}
+
+/// The table of polls, at most 1,024 of them. Contracts see the parameters, and the list of polls
+/// in order of beginning, each with its number, its draws and its replies.
+///
+/// A poll counts the reply of each node that was drawn as often as that node was drawn, and once
+/// only. It is closed where nothing is outstanding, where no identifier can reach AlphaPreference,
+/// where one has AlphaPreference and none can reach AlphaConfidence, or where one has
+/// AlphaConfidence, as in AvalancheGo's early termination. Only the front poll leaves, and only
+/// while it is closed; until it leaves, its late replies count.
+#[derive(Debug, Drop)]
+pub struct Polls {
+    alloc: Global,
+    params: Params,
+    polls: VecDeque<Poll>,
+    turns: Turns,
+}
+
+impl Model for Polls {
+    ghost use Rattle.snow_poll.specs.Table.{Table};
+    ghost use Rattle.snow_poll.specs.Kept.{IsTable};
+
+    ghost Value = { Table };
+
+    ghost view = { λ a. record { parameters = a.params; polls = a.polls.items } };
+
+    ghost invariant = { λ a. IsTable a.params a.polls.items a.turns.turns a.turns.gone };
+}
+
+impl Polls {
+    ghost use Rattle.snow_poll.specs.Table.{no_polls, has_number, begun, is_awaited, voted, answer, finished, shortened, StandsForFront};
+
+    /// The table without polls. It takes no memory.
+    pub fn new(alloc: Global, params: Params) -> Polls
+        ensures { result ≡ no_polls params }
+    {
+        Polls {
+            alloc,
+            params,
+            polls: VecDeque::new(alloc),
+            turns: Turns::new(alloc),
+        }
+    }
+
+    /// Begins a poll over draws that add up to K, no node twice, under a number that isn't in the
+    /// table. `Full` comes exactly where 1,024 polls are in the table. All room that the poll will
+    /// need is made here; after `Full` and after want of memory the table is as before.
+    pub fn begin(&mut self, number: u32, draws: &Draws) -> Result<(), PollFault>
+        requires number { has_number self.old.polls number ≡ false }
+        requires whole { draw_count draws.now ≡ self.old.parameters.k }
+        requires nodes { AreOfDistinctNodes draws.now }
+        ensures ok { OnOk result (self.new ≡ begun self.old number draws.now) }
+        ensures err { OnErr result (self.new ≡ self.old) }
+        ensures full { (result ≡ Err PollFault.Full) ↔ (length self.old.polls ≡ 1024) }
+    {
+        if self.polls.len() >= MOST_POLLS {
+            return Err(PollFault::Full);
+        }
+        let poll = Poll::begin(self.alloc, number, draws, self.params.k())?;
+        self.polls.reserve(1)?;
+        self.turns.enter(number, self.polls.len())?;
+        self.polls.push_back_reserved(poll);
+        Ok(())
+    }
+
+    /// Whether a poll of this number awaits a reply of this node: the node was drawn for it and has
+    /// not replied.
+    pub fn awaits(&self, number: u32, node: &NodeId) -> bool
+        ensures { result ≡ is_awaited self.now.polls number node.now }
+    {
+        match self.turns.place(number) {
+            Some(at) => self.polls[at].awaits(node),
+            None => false,
+        }
+    }
+
+    /// Counts the reply of a node to the poll of a number: an identifier, or none where the node
+    /// gives no vote. `NotAwaited` comes exactly where `awaits` is false, and nothing changed then.
+    /// It takes no memory.
+    pub fn vote(&mut self, number: u32, node: &NodeId, id: Option<Id>) -> Answered
+        ensures answer { result ≡ answer self.old.polls number node.now }
+        ensures table { self.new ≡ voted self.old number node.now id }
+        ensures unchanged { result ≡ Answered.NotAwaited → self.new ≡ self.old }
+    {
+        let Some(at) = self.turns.place(number) else {
+            return Answered::NotAwaited;
+        };
+        if !self.polls[at].awaits(node) {
+            return Answered::NotAwaited;
+        }
+        self.polls[at].count(node, id);
+        Answered::Counted
+    }
+
+    /// Takes the front poll out where it is closed. There is none exactly where no poll is in the
+    /// table or the front one isn't closed; nothing changes then. The votes stand for those of each
+    /// completion of the poll: they are alike to them, so a board makes the same of both. It takes
+    /// no memory.
+    pub fn take_finished(&mut self) -> Option<Closed>
+        ensures found { option_map (λ c. (c.number, c.votes.list)) result ≡ finished self.old.parameters self.old.polls }
+        ensures table { self.new ≡ shortened self.old }
+        ensures stands { IfSome result (λ c. StandsForFront self.old.parameters self.old.polls c.votes.list) }
+        ensures few { IfSome result (λ c. total_count c.votes.list ≤ self.old.parameters.k) }
+    {
+        if !self.polls.front()?.is_closed(&self.params) {
+            return None;
+        }
+        let poll = self.polls.pop_front()?;
+        let number = poll.number();
+        self.turns.leave(number);
+        Some(Closed {
+            number,
+            votes: poll.into_votes(),
+        })
+    }
+
+    /// How many polls there are.
+    pub fn len(&self) -> usize
+        ensures len { result ≡ length self.now.polls }
+        ensures few { result ≤ 1024 }
+    {
+        self.polls.len()
+    }
+}
