@@ -1,15 +1,14 @@
 -- Lemmas on what a tree answers: whether it is final, and which identifier it prefers.
-use Rattle.std.proofs.Common.{◌≡◌, ◌⊎◌, inl, inr, ℕ, ◌+◌, ◌-◌, ◌<◌, ◌≤◌, ◌==◌, Bool, true, false, List, [], ◌∷◌, ◌++◌, drop, Contains, Option, Some, None, is_some, if◌then◌else◌, refl, sym, ap, ◌∙◌, subst, arith}
+use Rattle.std.proofs.Common.{◌≡◌, inl, inr, ℕ, ◌+◌, ◌-◌, ◌<◌, ◌==◌, Bool, true, false, List, [], ◌∷◌, ◌++◌, drop, Contains, Option, Some, None, is_some, if◌then◌else◌, refl, sym, ap, ◌∙◌, subst, arith}
 use Rattle.std.specs.Option.{option_map}
 use Rattle.std.proofs.lemmas.Bool.{eq-eqb, ne_eqb, true≢false}
-use Rattle.snow_base.specs.Identifier.{bit, bits, AgreeFrom}
+use Rattle.snow_base.specs.Identifier.{bit, bits}
 use Rattle.snow_base.proofs.Bits.{drop-bits}
 use Rattle.snow_flake.specs.Counter.{Counter, Decided, Undecided, admits, is_decided}
 use Rattle.snow_flake.specs.Rule.{Answer, answer_of}
 use Rattle.snow_flake.specs.Instance.{at_bit}
 use Rattle.snow_plain.specs.Conflict.{Counters, Blank, At, chosen, decided_path}
 use Rattle.snow_plain.proofs.Walking.{drop-bits_end}
-use Rattle.snow_trie.specs.declared.run.Run.{Run}
 use Rattle.snow_trie.specs.declared.fork.Fork.{Fork}
 use Rattle.snow_trie.specs.Counted.{run_counter, fork_counter}
 use Rattle.snow_trie.specs.Tree.{Tree, Tip, Line, Two}

@@ -1,5 +1,5 @@
 -- Votes for identifiers that were given: where one more is added, all are.
-use Rattle.std.proofs.Common.{◌≡◌, ℕ, ◌+◌, List, [], ◌∷◌, All, Contains}
+use Rattle.std.proofs.Common.{ℕ, ◌+◌, List, [], ◌∷◌, All, Contains}
 use Rattle.std.specs.Ordering.{match_ordering}
 use Rattle.std.specs.declared.cmp.Ordering.{Ordering}
 use Rattle.std.specs.declared.cmp.Ordering.TheVariants.{Less, Equal, Greater}

@@ -1,21 +1,19 @@
 -- Lemmas on a tree to which an identifier is added.
-use Rattle.std.proofs.Common.{◌≡◌, ◌⊎◌, inl, inr, ℕ, zero, suc, ◌+◌, ◌-◌, ◌<◌, ◌≤◌, ◌==◌, Bool, true, false, not, List, ◌∷◌, drop, Option, Some, None, nat_lt, if◌then◌else◌, refl, sym, ap, ◌∙◌, subst, arith}
-use Rattle.std.proofs.lemmas.Bool.{ltb-true, ltb-false, true≢false}
+use Rattle.std.proofs.Common.{◌≡◌, ℕ, ◌+◌, ◌<◌, ◌≤◌, ◌==◌, Bool, true, false, List, ◌∷◌, drop, Option, Some, None, nat_lt, if◌then◌else◌, refl, sym, ap, ◌∙◌, subst, arith}
+use Rattle.std.proofs.lemmas.Bool.{ltb-true, ltb-false}
 use Rattle.snow_base.specs.Identifier.{bit, bits, AgreeFrom}
 use Rattle.snow_flake.specs.Counter.{Counter, fresh, admits}
-use Rattle.snow_flake.specs.Instance.{at_bit, counter_of}
 use Rattle.snow_plain.specs.Conflict.{Counters, Blank, At, with_child}
-use Rattle.snow_plain.proofs.Cases.{split_on, clash}
+use Rattle.snow_plain.proofs.Cases.{split_on}
 use Rattle.snow_plain.proofs.Walking.{drop-bits_end}
 use Rattle.snow_base.proofs.Bits.{drop-bits}
 use Rattle.snow_trie.specs.declared.run.Run.{Run}
 use Rattle.snow_trie.specs.declared.fork.Fork.{Fork}
-use Rattle.snow_trie.specs.Counted.{standing_at, run_counter, fork_counter}
+use Rattle.snow_trie.specs.Counted.{run_counter, fork_counter}
 use Rattle.snow_trie.specs.Tree.{Tree, Tip, Line, Two}
 use Rattle.snow_trie.specs.Stamped.{between, strand, pruned, counters}
-use Rattle.snow_trie.specs.Outline.{Outline, Split, outline, size, Leads, IsLeaf, IsSorted}
-use Rattle.snow_trie.specs.Shape.{IsPlaced, IsStamped, IsOpen}
-use Rattle.snow_trie.specs.Growing.{differs_at, parting, fresh_run, branch, after, before, fork_of, joined, parted, or_parted, grown}
+use Rattle.snow_trie.specs.Shape.{IsPlaced}
+use Rattle.snow_trie.specs.Growing.{parting, fresh_run, branch, after, before, fork_of, joined, parted, or_parted, grown}
 use Rattle.snow_trie.proofs.Strands.{between_split, between_none, strand-append, strand_same, grown_strand, fresh_strand, parted_strand, forked}
 use Rattle.snow_trie.proofs.Stamps.{own_bit}
 use Rattle.snow_trie.proofs.Parting.{IsParting, agrees, parts}
@@ -129,10 +127,10 @@ grown_counters now from id (Line run below) h =
     ∙ (λ i. forked b (c b) (after_counters now at run below high i) (branch_counters now (at + 1) id i))
     ∙ sym (parted_strand id run.id at run.to c (counters now run.to below) high h.1 part.differ (own_bit now run)))
     ∙ sym (
-      ap (with_child (drop from (bits id)))
-      ((λ i. strand (between_split run.id from at run.to low (omega arith) i) c (counters now run.to below))
-      ∙ strand-append (between run.id from at) (between run.id at run.to) c (counters now run.to below))
-      ∙ grown_strand id run.id from at c rest low (omega (arith, h.1)) part.agree (own_bit now run)
+    ap (with_child (drop from (bits id)))
+    ((λ i. strand (between_split run.id from at run.to low (omega arith) i) c (counters now run.to below))
+    ∙ strand-append (between run.id from at) (between run.id at run.to) c (counters now run.to below))
+    ∙ grown_strand id run.id from at c rest low (omega (arith, h.1)) part.agree (own_bit now run)
     ))
 grown_counters now from id (Two fork z o) h =
     let c = fork_counter now fork in

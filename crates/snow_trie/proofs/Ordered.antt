@@ -1,5 +1,5 @@
 -- Lemmas on the confidence law in one conflict: a poll and an issue keep it, and behind an undecided counter none is decided.
-use Rattle.std.proofs.Common.{◌≡◌, ℕ, ◌+◌, ◌<◌, ◌≤◌, ◌==◌, Bool, true, false, List, [], ◌∷◌, ◌++◌, drop, if◌then◌else◌, refl, sym, ap, ◌∙◌, subst, arith}
+use Rattle.std.proofs.Common.{◌≡◌, ℕ, ◌+◌, ◌≤◌, ◌==◌, Bool, true, false, List, [], ◌∷◌, ◌++◌, drop, if◌then◌else◌, refl, sym, ◌∙◌, subst, arith}
 use Rattle.std.specs.Bool.{beq}
 use Rattle.std.specs.List.{starts_with}
 use Rattle.std.proofs.lemmas.Bool.{true≢false}
@@ -10,16 +10,13 @@ use Rattle.snow_flake.specs.Parameters.{Parameters, AreGood}
 use Rattle.snow_flake.specs.Counter.{Counter, Decided, Undecided, Standing, fresh, stepped, admits, is_decided}
 use Rattle.snow_flake.specs.Instance.{Instance, at_bit, counter_of}
 use Rattle.snow_plain.specs.Conflict.{Counters, Blank, At, with_child, all_polled}
-use Rattle.snow_plain.specs.ConfidenceLaw.{Bounds}
 use Rattle.snow_plain.specs.Walk.{votes_from}
 use Rattle.snow_plain.proofs.Order.{bounded, kept}
 use Rattle.snow_plain.proofs.Below.{starts_front, one_side, counted_more, counted_apart}
 use Rattle.snow_plain.proofs.Cases.{split_on}
-use Rattle.snow_trie.specs.declared.run.Run.{Run}
-use Rattle.snow_trie.specs.declared.fork.Fork.{Fork}
 use Rattle.snow_trie.specs.Counted.{standing_at, run_counter, fork_counter}
 use Rattle.snow_trie.specs.Tree.{Tree, Tip, Line, Two}
-use Rattle.snow_trie.specs.Stamped.{between, linked, strand, pruned, counters}
+use Rattle.snow_trie.specs.Stamped.{between, linked, strand, counters}
 use Rattle.snow_trie.specs.Shape.{IsPlaced, IsOpenFirst, IsOpen, IsBelow, IsOrdered}
 use Rattle.snow_trie.proofs.Strands.{between_first}
 
@@ -60,13 +57,12 @@ unfolding all_polled
 below_polled p votes upper side m0 m1 Blank good few less h = tt
 below_polled p votes upper side m0 m1 (At c z o) good few less h =
     let next = stepped p c (votes (false ∷ [])) (votes (true ∷ [])) in
-    let upper' = stepped p upper m0 m1 in
-    (
+    let upper' = stepped p upper m0 m1 in (
       kept p upper c side m0 m1 (votes (false ∷ [])) (votes (true ∷ [])) good few (less (false ∷ [])) (less (true ∷ [])) h.0,
       below_if upper' side (admits next false) (all_polled p (λ front. votes (false ∷ front)) z)
-      (below_polled p (λ front. votes (false ∷ front)) upper side m0 m1 z good few (λ front. less (false ∷ front)) h.1),
+          (below_polled p (λ front. votes (false ∷ front)) upper side m0 m1 z good few (λ front. less (false ∷ front)) h.1),
       below_if upper' side (admits next true) (all_polled p (λ front. votes (true ∷ front)) o)
-      (below_polled p (λ front. votes (true ∷ front)) upper side m0 m1 o good few (λ front. less (true ∷ front)) h.2),
+          (below_polled p (λ front. votes (true ∷ front)) upper side m0 m1 o good few (λ front. less (true ∷ front)) h.2),
     )
 
 ordered_if : (x : Bool) (counters : Counters) → IsOrdered counters → IsOrdered (if x then counters else Blank)
@@ -82,12 +78,11 @@ ordered_polled p votes (At c z o) good counts h =
     let n1 = votes (true ∷ []) in
     let next = stepped p c n0 n1 in
     let zeros = all_polled p (λ front. votes (false ∷ front)) z in
-    let ones = all_polled p (λ front. votes (true ∷ front)) o in
-    (
+    let ones = all_polled p (λ front. votes (true ∷ front)) o in (
       below_if next false (admits next false) zeros
-      (below_polled p (λ front. votes (false ∷ front)) c false n0 n1 z good (counts.both []) (λ front. counts.falls (false ∷ []) front) h.0),
+          (below_polled p (λ front. votes (false ∷ front)) c false n0 n1 z good (counts.both []) (λ front. counts.falls (false ∷ []) front) h.0),
       below_if next true (admits next true) ones
-      (below_polled p (λ front. votes (true ∷ front)) c true n0 n1 o good (counts.both []) (λ front. counts.falls (true ∷ []) front) h.1),
+          (below_polled p (λ front. votes (true ∷ front)) c true n0 n1 o good (counts.both []) (λ front. counts.falls (true ∷ []) front) h.1),
       ordered_if (admits next false) zeros (ordered_polled p (λ front. votes (false ∷ front)) z good (deeper_counts p.k votes false counts) h.2),
       ordered_if (admits next true) ones (ordered_polled p (λ front. votes (true ∷ front)) o good (deeper_counts p.k votes true counts) h.3),
     )
@@ -178,14 +173,12 @@ all_open : (now from : ℕ) (t : Tree) → IsPlaced from t → IsUndecided (coun
 all_open now from (Tip id) h u = tt
 all_open now from (Line run below) h u =
     let front = subst (λ l. IsUndecided (strand l (run_counter now run) (counters now run.to below))) (between_first run.id from run.to h.0) u in
-    let b = bit run.id from in
-    (
+    let b = bit run.id from in (
       sym (decided_final now run.seen (at_bit run.counter b)) ∙ undecided_linked b (run_counter now run b) (strand (between run.id (from + 1) run.to) (run_counter now run) (counters now run.to below)) front,
       all_open now run.to below h.2 (undecided_behind (between run.id from run.to) (run_counter now run) (counters now run.to below) u),
     )
 all_open now from (Two fork z o) h u =
-    let c = fork_counter now fork in
-    (
+    let c = fork_counter now fork in (
       sym (decided_final now fork.seen fork.counter) ∙ u.0,
       all_open now (from + 1) z h.1 (undecided_if (admits c false) (counters now (from + 1) z) (open_admits c false u.0) u.1),
       all_open now (from + 1) o h.2 (undecided_if (admits c true) (counters now (from + 1) o) (open_admits c true u.0) u.2),

@@ -1,13 +1,12 @@
 -- Lemmas on a tree to which an identifier is added.
-use Rattle.std.proofs.Common.{◌≡◌, ◌≢◌, ◌⊎◌, inl, inr, ℕ, zero, suc, ◌+◌, ◌-◌, ◌<◌, ◌≤◌, ◌==◌, Bool, true, false, not, List, drop, Option, Some, None, nat_lt, if◌then◌else◌, refl, sym, ap, ◌∙◌, subst, arith}
+use Rattle.std.proofs.Common.{◌≡◌, ◌≢◌, ℕ, zero, suc, ◌+◌, ◌-◌, ◌<◌, ◌≤◌, ◌==◌, Bool, true, false, not, List, Option, Some, None, refl, sym, ap, ◌∙◌, subst, arith}
 use Rattle.std.specs.Bool.{beq}
-use Rattle.std.proofs.lemmas.Bool.{lt-ltb, le-ltb, ltb-true, ltb-false, eqb-true, eq-eqb, true≢false}
+use Rattle.std.proofs.lemmas.Bool.{eqb-true, eq-eqb, true≢false}
 use Rattle.std.proofs.lemmas.Option.{none-some, same_Some}
-use Rattle.snow_base.specs.Identifier.{bit, bits, AgreeFrom, FirstDiffers}
-use Rattle.snow_flake.specs.Counter.{Counter, Decided, Undecided, Standing, fresh, admits, is_decided}
+use Rattle.snow_base.specs.Identifier.{bit, AgreeFrom, FirstDiffers}
+use Rattle.snow_flake.specs.Counter.{Counter, Decided, Undecided, Standing, fresh, is_decided}
 use Rattle.snow_flake.specs.Instance.{Single, at_bit, counter_of}
-use Rattle.snow_plain.proofs.Cases.{split_on, clash}
-use Rattle.snow_trie.specs.declared.run.Run.{Run}
+use Rattle.snow_plain.proofs.Cases.{split_on}
 use Rattle.snow_trie.specs.Tree.{Tree, Tip, Line, Two}
 use Rattle.snow_trie.specs.Shape.{IsPlaced}
 use Rattle.snow_trie.specs.Growing.{differs_at, parting}

@@ -1,18 +1,17 @@
 -- Lemmas on a tree whose decided first nodes are taken off.
-use Rattle.std.proofs.Common.{◌≡◌, ◌⊎◌, inl, inr, ℕ, ◌+◌, ◌-◌, ◌<◌, ◌≤◌, ◌==◌, Bool, true, false, List, [], ◌∷◌, ◌++◌, if◌then◌else◌, refl, sym, ap, ◌∙◌, subst, arith}
-use Rattle.std.specs.Bool.{beq}
-use Rattle.std.proofs.lemmas.Bool.{true≢false, cases_lt}
+use Rattle.std.proofs.Common.{◌≡◌, inl, inr, ℕ, ◌+◌, ◌<◌, ◌≤◌, ◌==◌, Bool, true, false, List, if◌then◌else◌, refl, sym, ap, ◌∙◌, subst, arith}
+use Rattle.std.proofs.lemmas.Bool.{cases_lt}
 use Rattle.snow_base.specs.Identifier.{bit, AgreeFrom}
-use Rattle.snow_flake.specs.Counter.{Counter, Decided, Undecided, admits}
-use Rattle.snow_flake.specs.Instance.{Single, Instance, at_bit, counter_of}
-use Rattle.snow_plain.specs.Conflict.{Counters, Blank, At}
+use Rattle.snow_flake.specs.Counter.{Decided}
+use Rattle.snow_flake.specs.Instance.{Instance, at_bit, counter_of}
+use Rattle.snow_plain.specs.Conflict.{Counters}
 use Rattle.snow_plain.proofs.Cases.{split_on}
 use Rattle.snow_trie.specs.declared.run.Run.{Run}
 use Rattle.snow_trie.specs.declared.fork.Fork.{Fork}
-use Rattle.snow_trie.specs.Counted.{standing_at, run_counter, fork_counter}
+use Rattle.snow_trie.specs.Counted.{standing_at, run_counter}
 use Rattle.snow_trie.specs.Tree.{Tree, Tip, Line, Two}
 use Rattle.snow_trie.specs.Stamped.{between, linked, strand, pruned, counters}
-use Rattle.snow_trie.specs.Outline.{Outline, outline, size, Leads, IsLeaf, IsSorted}
+use Rattle.snow_trie.specs.Outline.{outline, size, Leads, IsLeaf, IsSorted}
 use Rattle.snow_trie.specs.Shape.{IsPlaced, IsStamped, IsOpenFirst}
 use Rattle.snow_trie.specs.Peeling.{peeled, first_leaf}
 use Rattle.snow_trie.proofs.Strands.{between_split, between_none, between_first, between_same, strand-append, strand_same}
@@ -49,7 +48,7 @@ stops from t placed sorted first = record {
 
 -- two that agree up to a place and from there on agree
 agree_both : (x y : List ℕ) (from at to : ℕ) → AgreeFrom from at x y → AgreeFrom at to x y → AgreeFrom from to x y
-agree_both x y from at to low high k p q = elim (cases_lt k at) [ | inl less ↦ low k p less | inr more ↦ high k more q ]
+agree_both x y from at to low high k p q = elim (cases_lt k at) [ inl less ↦ low k p less | inr more ↦ high k more q ]
 
 -- a final instance is decided with its flake
 final_counter : (now seen : ℕ) (i : Instance) → i.final ≡ true → counter_of (standing_at now seen i) ≡ Decided i.standing.flake
@@ -76,8 +75,8 @@ past_line from run below to rest less small sorted final h =
           ∙ strand_same (between x from run.to) (run_counter now run) Decided (strand (between x run.to to) Decided (counters now to rest))
           (λ b. final_counter now run.seen (at_bit run.counter b) final)
           ∙ sym (
-            ap (λ l. strand l Decided (counters now to rest)) (between_split x from run.to to (omega arith) later)
-            ∙ strand-append (between x from run.to) (between x run.to to) Decided (counters now to rest)
+          ap (λ l. strand l Decided (counters now to rest)) (between_split x from run.to to (omega arith) later)
+          ∙ strand-append (between x from run.to) (between x run.to to) Decided (counters now to rest)
           );
       same = λ e. absurd (omega arith);
     }

@@ -1,20 +1,15 @@
 -- Lemmas on stamps: a node that isn't visited fails by itself.
-use Rattle.std.proofs.Common.{◌≡◌, ℕ, ◌+◌, ◌<◌, ◌≤◌, ◌==◌, Bool, true, false, List, [], ◌∷◌, if◌then◌else◌, refl, sym, ap, ◌∙◌, arith}
-use Rattle.std.specs.Bool.{beq}
+use Rattle.std.proofs.Common.{◌≡◌, ℕ, ◌+◌, ◌≤◌, ◌==◌, Bool, true, false, refl, sym, ap, ◌∙◌, arith}
 use Rattle.std.proofs.lemmas.Bool.{eq-eqb, ne_eqb}
-use Rattle.snow_base.specs.declared.vote.Vote.{Vote}
-use Rattle.snow_base.specs.Votes.{total_count}
 use Rattle.snow_flake.specs.Parameters.{Parameters, AreGood}
-use Rattle.snow_flake.specs.Counter.{Counter, Decided, Undecided, fresh, stepped, admits}
+use Rattle.snow_flake.specs.Counter.{Counter, Decided, Undecided, admits}
 use Rattle.snow_flake.specs.Rule.{Answer, answer_of}
-use Rattle.snow_flake.specs.Instance.{Instance, Single, at_bit, counter_of, failed as instance_failed, on_side}
-use Rattle.snow_plain.specs.Conflict.{Counters, Blank, At, all_polled}
+use Rattle.snow_flake.specs.Instance.{Instance, Single, at_bit, counter_of, failed as instance_failed}
+use Rattle.snow_plain.specs.Conflict.{all_polled}
 use Rattle.snow_plain.specs.FailingLaw.{failed}
 use Rattle.snow_plain.proofs.Failing.{quiet}
-use Rattle.snow_plain.proofs.Excluding.{closed_stays}
 use Rattle.snow_plain.proofs.Cases.{split_on}
 use Rattle.snow_trie.specs.declared.run.Run.{Run}
-use Rattle.snow_trie.specs.declared.fork.Fork.{Fork}
 use Rattle.snow_trie.specs.Counted.{standing_at, run_counter, fork_counter}
 use Rattle.snow_trie.specs.Tree.{Tree, Tip, Line, Two}
 use Rattle.snow_trie.specs.Stamped.{between, strand, pruned, counters}

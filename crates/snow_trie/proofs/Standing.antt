@@ -1,14 +1,13 @@
 -- Lemmas on which identifiers stand in a tree, and where, once one is added.
-use Rattle.std.proofs.Common.{◌≡◌, ◌⊎◌, inl, inr, ℕ, ◌+◌, ◌-◌, ◌<◌, ◌≤◌, Bool, true, false, not, List, if◌then◌else◌, refl, sym, ap, ◌∙◌, subst, arith}
+use Rattle.std.proofs.Common.{◌≡◌, ◌⊎◌, inl, inr, ℕ, ◌+◌, ◌<◌, ◌≤◌, Bool, true, false, not, List, refl, sym, subst, arith}
 use Rattle.snow_base.specs.Identifier.{bit, AgreeFrom}
-use Rattle.snow_plain.proofs.Cases.{split_on, clash}
+use Rattle.snow_plain.proofs.Cases.{clash}
 use Rattle.snow_trie.specs.declared.run.Run.{Run}
 use Rattle.snow_trie.specs.declared.fork.Fork.{Fork}
 use Rattle.snow_trie.specs.Tree.{Tree, Tip, Line, Two}
-use Rattle.snow_trie.specs.Outline.{Outline, outline, size, Leads, IsLeaf, IsSorted}
+use Rattle.snow_trie.specs.Outline.{outline, size, Leads, IsLeaf, IsSorted}
 use Rattle.snow_trie.specs.Shape.{IsPlaced, IsStamped, IsOpen}
-use Rattle.snow_trie.specs.Growing.{fresh_run, branch, after, before, fork_of, joined, grown}
-use Rattle.snow_trie.proofs.Parting.{IsParting}
+use Rattle.snow_trie.specs.Growing.{branch, after, before, fork_of, joined, grown}
 use Rattle.snow_trie.proofs.Grown.{by_choice, by_before, by_after, by_branch, by_line}
 
 -- a bit is one of two
@@ -203,10 +202,10 @@ leaf_grown from id (Two fork z o) x h =
     (Two fork z (grown (from + 1) id o)) (Two fork (grown (from + 1) id z) o)
     (λ e leaf. elim leaf [
       | inl zero ↦ inl (inl zero)
-      | inr one ↦ elim (leaf_grown (from + 1) id o x h.2 one) [ | inl old ↦ inl (inr old) | inr new ↦ inr new ]
+      | inr one ↦ elim (leaf_grown (from + 1) id o x h.2 one) [ inl old ↦ inl (inr old) | inr new ↦ inr new ]
     ])
     (λ e leaf. elim leaf [
-      | inl zero ↦ elim (leaf_grown (from + 1) id z x h.1 zero) [ | inl old ↦ inl (inl old) | inr new ↦ inr new ]
+      | inl zero ↦ elim (leaf_grown (from + 1) id z x h.1 zero) [ inl old ↦ inl (inl old) | inr new ↦ inr new ]
       | inr one ↦ inl (inr one)
     ])
 
@@ -223,7 +222,7 @@ sorted_grown from id (Tip other) h s = s
 sorted_grown from id (Line run below) h s =
     by_line (λ t. IsSorted (outline from t)) from id run below h.0
     (λ agree. (
-      λ x leaf. elim (leaf_grown run.to id below x h.2 leaf) [ | inl old ↦ s.0 x old | inr new ↦ subst (AgreeFrom from run.to run.id) new agree ],
+      λ x leaf. elim (leaf_grown run.to id below x h.2 leaf) [ inl old ↦ s.0 x old | inr new ↦ subst (AgreeFrom from run.to run.id) new agree ],
       sorted_grown run.to id below h.2 s.1,
     ))
     (λ at part.
@@ -258,12 +257,12 @@ sorted_grown from id (Two fork z o) h s =
     by_choice (λ t. IsSorted (outline from t)) (bit id from) (Two fork z (grown (from + 1) id o)) (Two fork (grown (from + 1) id z) o)
     (λ e. (
       s.0,
-      λ x leaf. elim (leaf_grown (from + 1) id o x h.2 leaf) [ | inl old ↦ s.1 x old | inr new ↦ subst (λ y. bit y from ≡ true) new e ],
+      λ x leaf. elim (leaf_grown (from + 1) id o x h.2 leaf) [ inl old ↦ s.1 x old | inr new ↦ subst (λ y. bit y from ≡ true) new e ],
       s.2,
       sorted_grown (from + 1) id o h.2 s.3,
     ))
     (λ e. (
-      λ x leaf. elim (leaf_grown (from + 1) id z x h.1 leaf) [ | inl old ↦ s.0 x old | inr new ↦ subst (λ y. bit y from ≡ false) new e ],
+      λ x leaf. elim (leaf_grown (from + 1) id z x h.1 leaf) [ inl old ↦ s.0 x old | inr new ↦ subst (λ y. bit y from ≡ false) new e ],
       s.1,
       sorted_grown (from + 1) id z h.1 s.2,
       s.3,

@@ -1,13 +1,12 @@
 -- Lemmas on the bits of identifiers, and on counters for each of them, one below the other.
 use Rattle.std.proofs.Common.{◌≡◌, ℕ, zero, suc, ◌+◌, ◌-◌, ◌<◌, ◌≤◌, Bool, true, false, not, List, [], ◌∷◌, ◌++◌, drop, All, if◌then◌else◌, refl, sym, ap, ◌∙◌, add-zero, zero-add, arith}
-use Rattle.std.specs.Bool.{beq}
 use Rattle.snow_base.specs.declared.vote.Vote.{Vote}
 use Rattle.snow_base.specs.Identifier.{bit, bits, AgreeFrom}
 use Rattle.snow_base.specs.Split.{HaveBit}
 use Rattle.snow_base.specs.Votes.{total_count}
 use Rattle.snow_base.proofs.Bits.{drop-bits}
 use Rattle.snow_flake.specs.Parameters.{Parameters, AreGood}
-use Rattle.snow_flake.specs.Counter.{Counter, Decided, Undecided, fresh, stepped, admits}
+use Rattle.snow_flake.specs.Counter.{Counter, fresh, stepped, admits}
 use Rattle.snow_flake.specs.Instance.{on_side}
 use Rattle.snow_plain.specs.Conflict.{Counters, Blank, At, with_child, all_polled}
 use Rattle.snow_plain.specs.FailingLaw.{failed}
@@ -15,7 +14,6 @@ use Rattle.snow_plain.specs.Walk.{votes_from}
 use Rattle.snow_plain.proofs.Failing.{quiet, fails, admits-quiet}
 use Rattle.snow_plain.proofs.Excluding.{closed_stays}
 use Rattle.snow_plain.proofs.Polling.{votes_same, votes_other}
-use Rattle.snow_plain.proofs.Cases.{split_on, clash}
 use Rattle.snow_trie.specs.Stamped.{span, between, linked, strand, pruned}
 
 -- ---- the bits of an identifier

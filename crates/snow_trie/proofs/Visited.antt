@@ -1,17 +1,17 @@
 -- Lemmas on a poll of a tree: what a visit makes of a node, and what is so where none comes.
-use Rattle.std.proofs.Common.{◌≡◌, ℕ, ◌+◌, ◌<◌, ◌≤◌, Bool, true, false, List, [], ◌∷◌, take, drop, All, get_or, if◌then◌else◌, refl, sym, ap, ◌∙◌, subst, inl, inr, arith}
+use Rattle.std.proofs.Common.{◌≡◌, ℕ, ◌+◌, ◌<◌, ◌≤◌, Bool, true, false, List, [], ◌∷◌, take, drop, All, refl, sym, ap, ◌∙◌, subst, inl, inr, arith}
 use Rattle.std.specs.Bool.{beq}
 use Rattle.std.specs.List.{starts_with}
 use Rattle.std.proofs.lemmas.Bool.{cases_lt}
 use Rattle.std.proofs.lemmas.List.Sums.{sum_by-take-drop}
 use Rattle.snow_base.specs.declared.vote.Vote.{Vote}
-use Rattle.snow_base.specs.Identifier.{bit, bits, AgreeFrom}
+use Rattle.snow_base.specs.Identifier.{bits, AgreeFrom}
 use Rattle.snow_base.specs.Split.{AgreeBelow, HaveBit}
 use Rattle.snow_base.specs.Votes.{total_count}
 use Rattle.snow_flake.specs.Parameters.{Parameters, AreGood}
 use Rattle.snow_flake.specs.Counter.{Counter, stepped, admits, is_decided}
 use Rattle.snow_flake.specs.Instance.{on_side, at_bit}
-use Rattle.snow_plain.specs.Conflict.{Counters, all_polled}
+use Rattle.snow_plain.specs.Conflict.{all_polled}
 use Rattle.snow_plain.specs.Walk.{votes_from}
 use Rattle.snow_plain.proofs.Failing.{few_fail}
 use Rattle.snow_plain.proofs.Below.{counted_more}

@@ -1,7 +1,6 @@
 -- Lemmas on a tree behind a decided prefix: what each call leaves true of it, and what its counters are then.
-use Rattle.std.proofs.Common.{◌≡◌, ◌⊎◌, inl, inr, ℕ, ◌+◌, ◌-◌, ◌*◌, ◌^◌, ◌<◌, ◌≤◌, ◌==◌, max, Bool, true, false, not, List, [], ◌∷◌, ◌++◌, length, drop, All, Contains, get_or, Option, Some, None, is_some, if◌then◌else◌, refl, sym, ap, ◌∙◌, subst, length-append, arith}
-use Rattle.std.specs.Option.{option_map}
-use Rattle.std.proofs.lemmas.Bool.{eq-eqb, ne_eqb, eqb-true, cases_lt}
+use Rattle.std.proofs.Common.{◌≡◌, inl, inr, ℕ, ◌+◌, ◌-◌, ◌^◌, ◌<◌, ◌≤◌, ◌==◌, Bool, true, false, not, List, [], ◌∷◌, ◌++◌, length, drop, All, Contains, get_or, Option, Some, None, if◌then◌else◌, refl, sym, ap, ◌∙◌, subst, length-append, arith}
+use Rattle.std.proofs.lemmas.Bool.{eqb-true, cases_lt}
 use Rattle.std.proofs.lemmas.List.Elements.{All-contains, Contains-push, Contains-push_cases, Contains-append_left}
 use Rattle.snow_base.specs.declared.vote.Vote.{Vote}
 use Rattle.snow_base.specs.Identifier.{bit, bits, AgreeFrom}
@@ -14,7 +13,7 @@ use Rattle.snow_plain.specs.Walk.{votes_from}
 use Rattle.snow_trie.specs.Tree.{Tree, Tip, Line, Two}
 use Rattle.snow_trie.specs.Stamped.{between, linked, strand, counters, whole}
 use Rattle.snow_trie.specs.Outline.{Outline, Leaf, Straight, Split, outline, size, Leads, IsLeaf, IsSorted}
-use Rattle.snow_trie.specs.Shape.{IsPlaced, IsStamped, IsOpen, IsOrdered}
+use Rattle.snow_trie.specs.Shape.{IsPlaced, IsStamped, IsOrdered}
 use Rattle.snow_trie.specs.Growing.{differs_at, or_parted, branch, grown}
 use Rattle.snow_trie.specs.Peeling.{peeled, first_leaf}
 use Rattle.snow_trie.specs.Polled.{IsPolled, IsRestamped, IsNarrowed}
@@ -126,7 +125,7 @@ whole_added ids polls decided leader id t h room =
       undecided = open_grown decided id t h.placed h.undecided;
       ordered = subst IsOrdered (sym (grown_counters polls decided id t h.placed)) (ordered_grown (drop decided (bits id)) (counters polls decided t) h.ordered);
       sorted = (
-        λ x leaf. elim (leaf_grown decided id t x h.placed leaf) [ | inl old ↦ h.sorted.0 x old | inr new ↦ subst (AgreeFrom 0 decided leader) new agree ],
+        λ x leaf. elim (leaf_grown decided id t x h.placed leaf) [ inl old ↦ h.sorted.0 x old | inr new ↦ subst (AgreeFrom 0 decided leader) new agree ],
         sorted_grown decided id t h.placed h.sorted.1,
       );
       given = λ x leaf. elim (leaf_grown decided id t x h.placed leaf) [
@@ -244,7 +243,7 @@ agree_back : (a b : List ℕ) (from to : ℕ) → AgreeFrom from to a b → Agre
 agree_back a b from to p k low high = sym (p k low high)
 
 agree_both : (a b : List ℕ) (at to : ℕ) → AgreeFrom 0 at a b → AgreeFrom at to a b → AgreeFrom 0 to a b
-agree_both a b at to low high k p q = elim (cases_lt k at) [ | inl less ↦ low k p less | inr more ↦ high k more q ]
+agree_both a b at to low high k p q = elim (cases_lt k at) [ inl less ↦ low k p less | inr more ↦ high k more q ]
 
 -- what is known of a poll on its way: before it, with its stamps made ready, and after its visits
 pub record IsTaken (ids : List (List ℕ)) (p : Parameters) (polls before decided : ℕ) (leader : List ℕ) (votes rest : List Vote) (t t1 t2 : Tree) : Type 0 where
@@ -305,9 +304,9 @@ polled_counters ids p polls before decided leader votes rest t t1 t2 h =
     let left = left_over ids p polls before decided leader votes rest t t1 t2 h in
     peeled_counters (before + 1) decided leader t2 (peeled decided t2).0 (peeled decided t2).1 (sorted_on ids p polls before decided leader votes rest t t1 t2 h).0 left
     ∙ ap (strand front Decided) (
-      h.polled.counters
-      ∙ ap (all_polled p (votes_from decided rest)) (h.restamped.counters decided)
-      ∙ (λ i. all_polled p (λ more. h.narrowed.counts more i) (counters polls decided t))
+    h.polled.counters
+    ∙ ap (all_polled p (votes_from decided rest)) (h.restamped.counters decided)
+    ∙ (λ i. all_polled p (λ more. h.narrowed.counts more i) (counters polls decided t))
     )
     ∙ sym (polled_prefix p (votes_on votes) front (counters polls decided t))
 

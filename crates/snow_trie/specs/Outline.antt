@@ -1,5 +1,5 @@
 -- The outline of a tree: its nodes without their counters. What says which identifiers stand in it.
-use Rattle.std.specs.Prelude.{◌≡◌, ◌⊎◌, ℕ, ◌+◌, Bool, true, false, List, ⊤}
+use Rattle.std.specs.Prelude.{◌≡◌, ◌⊎◌, ℕ, ◌+◌, true, false, List, ⊤}
 use Rattle.snow_base.specs.Identifier.{bit, AgreeFrom}
 use Rattle.snow_trie.specs.Tree.{Tree, Tip, Line, Two}
 

@@ -1,5 +1,5 @@
 -- A tree whose decided first nodes are taken off, and what it answers.
-use Rattle.std.specs.Prelude.{ℕ, ◌+◌, ◌==◌, Bool, List, if◌then◌else◌}
+use Rattle.std.specs.Prelude.{ℕ, ◌+◌, List, if◌then◌else◌}
 use Rattle.snow_flake.specs.Rule.{Answer, answer_of}
 use Rattle.snow_trie.specs.Counted.{fork_counter}
 use Rattle.snow_trie.specs.Tree.{Tree, Tip, Line, Two}

@@ -1,5 +1,5 @@
 -- What a poll, a restamping and a narrowing of votes make, as facts on what was and what is.
-use Rattle.std.specs.Prelude.{◌≡◌, ℕ, ◌+◌, ◌*◌, ◌≤◌, Bool, List, ◌++◌, length, All, Contains}
+use Rattle.std.specs.Prelude.{◌≡◌, ℕ, ◌+◌, Bool, List, ◌++◌, All, Contains}
 use Rattle.snow_base.specs.declared.vote.Vote.{Vote}
 use Rattle.snow_base.specs.Identifier.{AgreeFrom}
 use Rattle.snow_base.specs.Split.{AgreeBelow}
@@ -9,7 +9,7 @@ use Rattle.snow_plain.specs.Conflict.{all_polled}
 use Rattle.snow_plain.specs.Walk.{votes_from}
 use Rattle.snow_trie.specs.Tree.{Tree}
 use Rattle.snow_trie.specs.Stamped.{between, counters}
-use Rattle.snow_trie.specs.Outline.{Outline, outline, Leads}
+use Rattle.snow_trie.specs.Outline.{outline}
 use Rattle.snow_trie.specs.Shape.{IsPlaced, IsStamped, IsOpen}
 
 -- every counter of a tree took the bit step with its own votes

@@ -1,5 +1,5 @@
 -- A conflict as its tree is seen, and what is true of each tree with its prefix.
-use Rattle.std.specs.Prelude.{◌≡◌, ℕ, ◌+◌, ◌-◌, ◌*◌, ◌^◌, ◌≤◌, max, List, [], ◌∷◌, length, Contains, ◌==◌, if◌then◌else◌, refl}
+use Rattle.std.specs.Prelude.{ℕ, ◌+◌, ◌-◌, ◌*◌, ◌^◌, ◌≤◌, max, List, [], ◌∷◌, length, Contains, ◌==◌, if◌then◌else◌, refl}
 use Rattle.std.specs.Coded.{Coded, coded_ℕ, coded_list, coded×, code_by}
 use Rattle.snow_base.specs.Identifier.{bits, AgreeFrom}
 use Rattle.snow_flake.specs.Parameters.{Parameters}
@@ -7,7 +7,7 @@ use Rattle.snow_plain.specs.Conflict.{Counters, Blank, with_child}
 use Rattle.snow_plain.specs.CountersCode.{coded_counters}
 use Rattle.snow_trie.specs.Tree.{Tree}
 use Rattle.snow_trie.specs.Stamped.{counters}
-use Rattle.snow_trie.specs.Outline.{Outline, Straight, outline, size, Leads, IsLeaf, IsSorted}
+use Rattle.snow_trie.specs.Outline.{Straight, outline, size, Leads, IsLeaf, IsSorted}
 use Rattle.snow_trie.specs.Shape.{IsPlaced, IsStamped, IsOpen, IsOrdered}
 use Rattle.snow_trie.specs.Growing.{differs_at, or_parted, grown}
 use Rattle.snow_trie.specs.Peeling.{first_leaf}

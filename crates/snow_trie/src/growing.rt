@@ -13,7 +13,13 @@ use std::mem;
 
 /// Adds an identifier to the tree behind a decided prefix, which is a leader's. One that the prefix
 /// excludes is passed over. After want of memory the tree is as before.
-pub fn add_behind(root: &mut Node, alloc: Global, id: &Id, leader: &Id, decided: u16) -> Result<(), AllocError>
+pub fn add_behind(
+    root: &mut Node,
+    alloc: Global,
+    id: &Id,
+    leader: &Id,
+    decided: u16,
+) -> Result<(), AllocError>
     requires { IsPlaced decided (tree_of root.old) }
     ensures ok { OnOk result (tree_of root.new ≡ added decided leader.now id.now (tree_of root.old)) }
     ensures err { OnErr result (tree_of root.new ≡ tree_of root.old) }
@@ -61,7 +67,14 @@ fn part(node: &mut Node, alloc: Global, id: &Id, from: u16, at: u16) -> Result<(
 }
 
 // The node parted at a bit, with a new branch. The other two nodes are room for its pieces.
-fn parted(old: Node, new: Box<Node>, first: Box<Node>, second: Box<Node>, from: u16, at: u16) -> Node
+fn parted(
+    old: Node,
+    new: Box<Node>,
+    first: Box<Node>,
+    second: Box<Node>,
+    from: u16,
+    at: u16,
+) -> Node
     requires { at < 256 }
     ensures { tree_of result ≡ parted from at (tree_of new.value) (tree_of old) }
 {

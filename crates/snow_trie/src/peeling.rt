@@ -34,7 +34,11 @@ pub fn peeled(node: Node, from: u16) -> Rest
         }
         Node::Apart(fork, zeros, ones) => {
             if fork.counter.is_final() {
-                let side = if fork.counter.preference::<Snowflake>() { ones } else { zeros };
+                let side = if fork.counter.preference::<Snowflake>() {
+                    ones
+                } else {
+                    zeros
+                };
                 peeled(Box::into_inner(side), from + 1)
             } else {
                 Rest {

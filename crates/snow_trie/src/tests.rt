@@ -105,22 +105,24 @@ impl<R: Rule> Pair<R> {
     }
 
     // Whether it answers so, and as the plain counters do.
-    fn is(&self, answers: &Answers) -> bool {
+    fn is(&self, expected: &Expected) -> bool {
         self.is_same()
-            && self.trie.preference() == answers.preference
-            && self.trie.is_final() == answers.is_final
-            && self.trie.nodes() == answers.nodes
-            && self.trie.choices() == answers.choices
+            && self.trie.preference() == expected.preference
+            && self.trie.is_final() == expected.is_final
+            && self.trie.nodes() == expected.nodes
+            && self.trie.choices() == expected.choices
     }
 }
 
+#[derive(Clone, Copy)]
 enum Call {
     Add(Id),
     Fail,
     Poll([(usize, u32); 2]),
 }
 
-struct Answers {
+#[derive(Clone, Copy)]
+struct Expected {
     preference: Id,
     is_final: bool,
     nodes: usize,
@@ -144,9 +146,11 @@ fn named(first: u8, last: u8) -> Id {
 }
 
 fn params(k: u32, alpha: u32, beta: u32) -> Result<Params, Fail> {
-    Ok(Params::check(k, alpha, alpha, beta, 1)
-        .ok()
-        .ok_or("good parameters")?)
+    Ok(
+        Params::check(k, alpha, alpha, beta, 1)
+            .ok()
+            .ok_or("good parameters")?,
+    )
 }
 
 // One vote for the identifier that was given at this place.
@@ -154,8 +158,8 @@ fn vote_for(place: usize) -> Call {
     Call::Poll([(place, 1), (9, 1)])
 }
 
-fn answers(preference: Id, is_final: bool, nodes: usize, choices: usize) -> Answers {
-    Answers {
+fn row(preference: Id, is_final: bool, nodes: usize, choices: usize) -> Expected {
+    Expected {
         preference,
         is_final,
         nodes,
@@ -168,13 +172,13 @@ fn follow<R: Rule, L: Ledger>(
     alloc: Global,
     params: Params,
     first: Id,
-    rows: &[(Call, Answers)],
+    rows: &[(Call, Expected)],
     steps: &mut Steps<L>,
 ) -> Result<(), Fail> {
     let mut pair = Pair::<R>::new(alloc, params, first)?;
-    for (call, answers) in rows {
+    for (call, expected) in rows {
         pair.call(alloc, call, steps)?;
-        holds(pair.is(answers))?;
+        holds(pair.is(expected))?;
     }
     Ok(())
 }
@@ -183,11 +187,11 @@ fn follow<R: Rule, L: Ledger>(
 fn two_choices<L: Ledger>(alloc: Global, steps: &mut Steps<L>) -> Result<(), Fail> {
     let (first, second) = (named(0, 0), named(0x80, 0));
     let rows = [
-        (vote_for(0), answers(first, false, 1, 1)),
-        (Call::Fail, answers(first, false, 1, 1)),
-        (Call::Add(second), answers(first, false, 4, 2)),
-        (vote_for(0), answers(first, false, 4, 2)),
-        (vote_for(0), answers(first, true, 1, 2)),
+        (vote_for(0), row(first, false, 1, 1)),
+        (Call::Fail, row(first, false, 1, 1)),
+        (Call::Add(second), row(first, false, 4, 2)),
+        (vote_for(0), row(first, false, 4, 2)),
+        (vote_for(0), row(first, true, 1, 2)),
     ];
     follow::<Snowball, L>(alloc, params(1, 1, 2)?, first, &rows, steps)
 }
@@ -196,10 +200,10 @@ fn two_choices<L: Ledger>(alloc: Global, steps: &mut Steps<L>) -> Result<(), Fai
 fn last_bit<L: Ledger>(alloc: Global, steps: &mut Steps<L>) -> Result<(), Fail> {
     let (first, second) = (named(0, 0), named(0, 0x80));
     let rows = [
-        (Call::Add(second), answers(first, false, 2, 2)),
-        (vote_for(1), answers(second, true, 1, 2)),
-        (Call::Add(named(1, 0)), answers(second, true, 1, 3)),
-        (vote_for(0), answers(second, true, 1, 3)),
+        (Call::Add(second), row(first, false, 2, 2)),
+        (vote_for(1), row(second, true, 1, 2)),
+        (Call::Add(named(1, 0)), row(second, true, 1, 3)),
+        (vote_for(0), row(second, true, 1, 3)),
     ];
     follow::<Snowball, L>(alloc, params(1, 1, 1)?, first, &rows, steps)
 }
@@ -208,13 +212,13 @@ fn last_bit<L: Ledger>(alloc: Global, steps: &mut Steps<L>) -> Result<(), Fail> 
 fn first_bits<L: Ledger>(alloc: Global, steps: &mut Steps<L>) -> Result<(), Fail> {
     let (first, second, third) = (named(0, 0), named(1, 0), named(3, 0));
     let rows = [
-        (vote_for(0), answers(first, false, 1, 1)),
-        (Call::Add(second), answers(first, false, 3, 2)),
-        (vote_for(1), answers(second, false, 3, 2)),
-        (Call::Add(third), answers(second, false, 5, 3)),
-        (vote_for(2), answers(third, false, 5, 3)),
-        (vote_for(2), answers(third, false, 5, 3)),
-        (vote_for(2), answers(third, true, 1, 3)),
+        (vote_for(0), row(first, false, 1, 1)),
+        (Call::Add(second), row(first, false, 3, 2)),
+        (vote_for(1), row(second, false, 3, 2)),
+        (Call::Add(third), row(second, false, 5, 3)),
+        (vote_for(2), row(third, false, 5, 3)),
+        (vote_for(2), row(third, false, 3, 3)),
+        (vote_for(2), row(third, true, 1, 3)),
     ];
     follow::<Snowflake, L>(alloc, params(1, 1, 3)?, first, &rows, steps)
 }

@@ -115,7 +115,14 @@ impl<R: Rule> Trie<R> {
         let _k = self.params.k();
         let before = ready(&mut self.root, self.polls);
         let votes = narrowed(votes, &self.leader, self.decided);
-        poll(&mut self.root, self.decided, &self.params, votes, before, steps);
+        poll(
+            &mut self.root,
+            self.decided,
+            &self.params,
+            votes,
+            before,
+            steps,
+        );
         self.polls = before + 1;
         let root = mem::replace(&mut self.root, Node::End(self.leader));
         let rest = peeled(root, self.decided);

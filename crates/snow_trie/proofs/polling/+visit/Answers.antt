@@ -1,4 +1,4 @@
-use Rattle.std.proofs.Common.{◌+◌, take, drop, sym, ◌∙◌, arith}
+use Rattle.std.proofs.Common.{◌+◌, take, drop, arith}
 use Rattle.std.proofs.lemmas.List.Elements.{All-take, All-drop}
 use Rattle.snow_trie.specs.Tree.{tree_of}
 use Rattle.snow_trie.specs.Outline.{Split, outline, Leads}
@@ -13,8 +13,7 @@ visit-requires g t c κs within =
     let stamped = rw c.in-Along.is at c.requires.stamped in
     let known = rw c.in-Along.is at c.requires.known in
     let here = c.deref_mut.ensures.value in
-    let below = tree_of c.in-Along.below.value in
-    (
+    let below = tree_of c.in-Along.below.value in (
       omega (arith, placed.0, to),
       (
         within,
@@ -45,8 +44,7 @@ visit-requires-then-alpha_preference-zero g t c κs within =
     let known = rw c.in-Apart.is at c.requires.known in
     let zeros = outline (c.args.from + 1) (tree_of c.in-Apart.zeros.value) in
     let ones = outline (c.args.from + 1) (tree_of c.in-Apart.ones.value) in
-    let here = c.deref_mut-then-alpha_preference-zero.ensures.value in
-    (
+    let here = c.deref_mut-then-alpha_preference-zero.ensures.value in (
       omega (arith, placed.0),
       (
         within,
@@ -56,7 +54,7 @@ visit-requires-then-alpha_preference-zero g t c κs within =
             rw here stamped.1,
             (
               rw (here, c.split_at.ensures.front) (down_zero c.args.from zeros ones (take c.split.result c.args.votes.now)
-              (All-take (λ v. Leads (Split c.args.from zeros ones) v.id) c.split.result c.args.votes.now known) c.split.ensures.zeros),
+                  (All-take (λ v. Leads (Split c.args.from zeros ones) v.id) c.split.result c.args.votes.now known) c.split.ensures.zeros),
               (
                 rw c.split_at.ensures.front c.split.ensures.zeros_order,
                 (rw c.split_at.ensures.front c.split.ensures.zeros_agree, (c.total-zero.ensures.count, (c.total-zero.ensures.few, c.requires.room))),
@@ -75,8 +73,7 @@ visit-requires-then-alpha_preference-one g t c κs within =
     let known = rw c.in-Apart.is at c.requires.known in
     let zeros = outline (c.args.from + 1) (tree_of c.in-Apart.zeros.value) in
     let ones = outline (c.args.from + 1) (tree_of c.in-Apart.ones.value) in
-    let here = c.deref_mut-then-alpha_preference-one.ensures.value in
-    (
+    let here = c.deref_mut-then-alpha_preference-one.ensures.value in (
       omega (arith, placed.0),
       (
         within,
@@ -86,7 +83,7 @@ visit-requires-then-alpha_preference-one g t c κs within =
             rw here stamped.2,
             (
               rw (here, c.split_at.ensures.back) (down_one c.args.from zeros ones (drop c.split.result c.args.votes.now)
-              (All-drop (λ v. Leads (Split c.args.from zeros ones) v.id) c.split.result c.args.votes.now known) c.split.ensures.ones),
+                  (All-drop (λ v. Leads (Split c.args.from zeros ones) v.id) c.split.result c.args.votes.now known) c.split.ensures.ones),
               (
                 rw c.split_at.ensures.back c.split.ensures.ones_order,
                 (rw c.split_at.ensures.back c.split.ensures.ones_agree, (c.total-one.ensures.count, (c.total-one.ensures.few, c.requires.room))),

@@ -1,4 +1,4 @@
-use Rattle.std.proofs.Common.{◌≡◌, ◌<◌, arith, subst, sym}
+use Rattle.std.proofs.Common.{◌≡◌, arith, subst, sym}
 use Rattle.snow_trie.specs.Tree.{tree_of}
 use Rattle.snow_trie.specs.Shape.{IsPlaced}
 use Rattle.snow_trie.specs.Polled.{IsPolled}

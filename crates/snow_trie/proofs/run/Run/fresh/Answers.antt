@@ -1,5 +1,4 @@
 use Rattle.snow_trie.proofs.Parting.{is_new}
-use Rattle.snow_trie.specs.Growing.{fresh_run}
 use Rattle.snow_trie.proofs.run.Run.fresh.Goals as goal
 
 pub returns : goal.returns

@@ -2,8 +2,8 @@ use Rattle.std.proofs.Common.{◌+◌, ◌≤◌, All, Contains, refl, sym, subs
 use Rattle.snow_base.specs.declared.vote.Vote.{Vote}
 use Rattle.snow_base.specs.Votes.{total_count}
 use Rattle.snow_trie.specs.Tree.{tree_of}
-use Rattle.snow_trie.specs.Whole.{Compressed, IsWhole}
-use Rattle.snow_trie.proofs.Wholes.{IsTaken, all_lead, fewer_votes, polled_counters, whole_polled, fewer_nodes, same_size, few_nodes}
+use Rattle.snow_trie.specs.Whole.{Compressed}
+use Rattle.snow_trie.proofs.Wholes.{all_lead, fewer_votes, polled_counters, whole_polled, fewer_nodes, same_size, few_nodes}
 use Rattle.snow_trie.proofs.trie.Trie.apply.Goals as goal
 
 pub poll-requires-clause-known : goal.poll-requires-clause-known

@@ -1,4 +1,4 @@
-use Rattle.std.proofs.Common.{◌+◌, max, refl, ap, ◌∙◌}
+use Rattle.std.proofs.Common.{max, refl, ap, ◌∙◌}
 use Rattle.snow_flake.specs.Counter.{Decided}
 use Rattle.snow_plain.specs.FailingLaw.{failed}
 use Rattle.snow_trie.specs.Tree.{tree_of}
