@@ -2,7 +2,7 @@
 #![tactic(auto)]
 
 use snow_base::{Failed, Id, NodeId, PureSink};
-use snow_lines::{Line, print};
+use snow_lines::{Line, Page};
 use snow_sample::{Draw, Draws};
 use snow_wire::{Decoder, Event, decode};
 use std::alloc::{AllocError, Global};
@@ -41,12 +41,13 @@ fn large_frames(rt: &HostRuntime) -> anyhow::Result<()> {
     Ok(())
 }
 
-/// Query lines with twenty nodes each.
+/// Query lines with twenty nodes each, gathered on a page.
 fn lines(rt: &HostRuntime) -> anyhow::Result<()> {
     let line = query(rt.alloc())?;
+    let mut page = Page::new(rt.alloc())?;
     let mut sink = PureSink::new();
     let start = Instant::now(rt)?;
-    let printed = print_often(&line, &mut sink, 100_000).is_ok();
+    let printed = print_often(&line, &mut page, &mut sink, 100_000).is_ok();
     let elapsed = start.elapsed(rt)?;
     println!(rt; "{printed}, {} bytes", sink.taken())?;
     eprintln!(rt;
@@ -136,9 +137,14 @@ fn query(alloc: Global) -> Result<Line, AllocError> {
 }
 
 /// Prints a line so many times.
-fn print_often(line: &Line, sink: &mut PureSink, times: u32) -> Result<(), Failed> {
+fn print_often(
+    line: &Line,
+    page: &mut Page,
+    sink: &mut PureSink,
+    times: u32,
+) -> Result<(), Failed> {
     for _ in 0..times {
-        print(line, sink)?;
+        page.print(line, sink)?;
     }
-    Ok(())
+    page.flush(sink)
 }

@@ -12,7 +12,7 @@ use Rattle.snow_cli.specs.declared.command.Command.{Command}
 use Rattle.snow_cli.specs.declared.command.Command.TheVariants as command
 use Rattle.snow_cli.specs.Words.{has_dash}
 use Rattle.snow_cli.specs.Request.{Request, command_in}
-use Rattle.snow_cli.specs.Parsing.{AsksFor, Choice, chain_read, command_read, in_order, is_word, is_word_or_none, option_words, ordered, rule_read, snowman}
+use Rattle.snow_cli.specs.Parsing.{AsksFor, Choice, chain_read, command_read, in_order, is_word, is_word_or_none, option_words, ordered, rule_read, snowman, task_read}
 use Rattle.snow_cli.proofs.Ordered.{Says, matched}
 use Rattle.snow_cli.proofs.Faulted.{faulted}
 use Rattle.snow_cli.proofs.Refused.{refused, taken}
@@ -61,19 +61,19 @@ ordered_is r words e = go r.task refl
 
 -- ---- what is read
 
-abbrev read : Option Text → Option Text → Option Text → Option Text → Option Command
-read c u s b = cond (is_some s || is_some b) None (Some (command.Decide (chain_read c) (rule_read u)))
+abbrev read : Option Text → Option Text → Option Text → Option Text → Option Text → Option Command
+read t c u s b = cond (is_some s || is_some b) None (Some (command.Serve (task_read t) (chain_read c) (rule_read u)))
 
 -- a default is read as none
-defaults_read : (c u s b : Option Text) → read (Some (unwrap_or c (codes "plain"))) (Some (unwrap_or u (codes "snowball"))) s b ≡ asked c u s b
-defaults_read None None s b = refl
-defaults_read None (Some v) s b = refl
-defaults_read (Some v) None s b = refl
-defaults_read (Some v) (Some w) s b = refl
+defaults_read : (t c u s b : Option Text) → read t (Some (unwrap_or c (codes "plain"))) (Some (unwrap_or u (codes "snowball"))) s b ≡ asked (task_read t) c u s b
+defaults_read t None None s b = refl
+defaults_read t None (Some v) s b = refl
+defaults_read t (Some v) None s b = refl
+defaults_read t (Some v) (Some w) s b = refl
 
 module _ (tasks chains rules : Choice) (tasks_are : texts tasks.now ≡ task_names) (chains_are : texts chains.now ≡ chain_names) (rules_are : texts rules.now ≡ rule_names) where
-  says_read : (task : Text) (c u s b : Option Text) (rows : List Row) → Says tasks chains rules task c u s b rows → command_read (λ id. first_of id rows) ≡ asked c u s b
-  says_read task c u s b rows h = (λ i. read (h.1 i) (h.2 i) (h.3 i) (h.4 i)) ∙ defaults_read c u s b
+  says_read : (task : Text) (c u s b : Option Text) (rows : List Row) → Says tasks chains rules task c u s b rows → command_read (λ id. first_of id rows) ≡ asked (task_read (Some task)) c u s b
+  says_read task c u s b rows h = (λ i. read (h.0 i) (h.1 i) (h.2 i) (h.3 i) (h.4 i)) ∙ defaults_read (Some task) c u s b
 
   -- at `Ok` the matches ask for what the request asks for
   pub found_asks : (words : List Text) (f : Found) → rows_of f ≡ matches_of (snowman tasks chains rules) words
@@ -87,7 +87,7 @@ module _ (tasks chains rules : Choice) (tasks_are : texts tasks.now ≡ task_nam
       (sym (faulted tasks chains rules task r.chain r.rule r.seed r.blocks o.2) ∙ ap (fault_of (snowman tasks chains rules)) (sym o.3) ∙ none) in
       (λ i. command_read (λ id. first_value-rows f id i))
       ∙ says_read task r.chain r.rule r.seed r.blocks (rows_of f) says
-      ∙ ap (λ (is : Bool). cond is (asked r.chain r.rule r.seed r.blocks) None) (sym fit)
+      ∙ ap (λ (is : Bool). cond is (asked (task_read (Some task)) r.chain r.rule r.seed r.blocks) None) (sym fit)
       ∙ sym (comes task r.chain r.rule r.seed r.blocks)
       ∙ ap (λ t. command_in (req t r.chain r.rule r.seed r.blocks)) (sym o.1)
 
@@ -98,6 +98,6 @@ module _ (tasks chains rules : Choice) (tasks_are : texts tasks.now ≡ task_nam
       let task = o.0 in
       let unfit : fits task r.chain r.rule ≡ false = refused tasks chains rules tasks_are chains_are rules_are k task r.chain r.rule r.seed r.blocks
       (subst (IsAmong k) (ap (fault_of (snowman tasks chains rules)) o.3 ∙ faulted tasks chains rules task r.chain r.rule r.seed r.blocks o.2) among) in
-      ap (λ (is : Bool). cond is (asked r.chain r.rule r.seed r.blocks) None) (sym unfit)
+      ap (λ (is : Bool). cond is (asked (task_read (Some task)) r.chain r.rule r.seed r.blocks) None) (sym unfit)
       ∙ sym (comes task r.chain r.rule r.seed r.blocks)
       ∙ ap (λ t. command_in (req t r.chain r.rule r.seed r.blocks)) (sym o.1)

@@ -4,12 +4,13 @@ use Rattle.std.specs.List.{list_all}
 use Rattle.std.specs.Option.{option_and_then}
 use Rattle.std.specs.Str.{bytes_eq}
 use Rattle.std.proofs.lemmas.Slice.Eq.{bytes_eq-Decides}
+use Rattle.snow_engine.specs.declared.task.Task.{Task}
 use Rattle.snow_cli.specs.declared.command.Command.{Command}
 use Rattle.snow_cli.specs.declared.command.ChainName.{ChainName}
 use Rattle.snow_cli.specs.declared.command.ChainName.TheVariants as chain
 use Rattle.snow_cli.specs.declared.command.RuleName.TheVariants as rule
-use Rattle.snow_cli.specs.Words.{Item, Plain, Given, Wrong, items, plain_words, values, is_among, one_of, chain_named, rule_named, deciding, task_with, command_of}
-use Rattle.snow_cli.specs.Request.{Request, blank, with_items, command_in}
+use Rattle.snow_cli.specs.Words.{Item, Plain, Given, Wrong, items, plain_words, values, is_among, one_of, task_named, chain_named, rule_named, serving, task_with, command_of}
+use Rattle.snow_cli.specs.Request.{Request, blank, with_items, command_in, service}
 
 abbrev Word : Type 0
 Word = List ℕ
@@ -18,7 +19,7 @@ Word = List ℕ
 abbrev known : List Word
 known = codes "chain" ∷ codes "rule" ∷ codes "seed" ∷ codes "blocks" ∷ []
 
--- the names of the options of `decide`
+-- the names of the options of a task that serves
 abbrev decides : List Word
 decides = codes "chain" ∷ codes "rule" ∷ []
 
@@ -178,14 +179,15 @@ goes (Wrong ∷ more) t c u s b = refl
 -- the command by its parts
 abbrev made : List Word → Bool → List Word → List Word → Option Command
 made [] only c u = None
-made (task ∷ []) only c u = cond (bytes_eq task (codes "decide")) (cond only (deciding (one_of chain.Plain chain_named c) (one_of rule.Snowball rule_named u)) None) None
-made (task ∷ another ∷ more) only c u = None
+made (word ∷ []) only c u =
+    option_and_then (λ t. cond only (serving t (one_of chain.Plain chain_named c) (one_of rule.Snowball rule_named u)) None) (task_named word)
+made (word ∷ another ∷ more) only c u = None
 
 by_parts : (plain : List Word) (all : List Item)
     → made plain (list_all (is_among decides) all) (values (codes "chain") all) (values (codes "rule") all) ≡ task_with plain all
 by_parts [] all = refl
-by_parts (task ∷ []) all = refl
-by_parts (task ∷ another ∷ more) all = refl
+by_parts (word ∷ []) all = refl
+by_parts (word ∷ another ∷ more) all = refl
 
 abbrev asked : Option Request → Option Command
 asked = option_and_then command_in
@@ -195,60 +197,68 @@ unfolding command_in
 no_task true c u s b = refl
 no_task false c u s b = refl
 
-another_task : (is : Bool) (task : Word) (c u s b : Option Word) → bytes_eq task (codes "decide") ≡ false
-    → asked (cond is (Some (req (Some task) c u s b)) None) ≡ None
+another_task : (is : Bool) (word : Word) (c u s b : Option Word) → task_named word ≡ None
+    → asked (cond is (Some (req (Some word) c u s b)) None) ≡ None
 unfolding command_in
-another_task true task c u s b e = rw e refl
-another_task false task c u s b e = refl
+another_task true word c u s b e = ap (option_and_then (service (req (Some word) c u s b))) e
+another_task false word c u s b e = refl
 
-seeded : (is : Bool) (seed : Word) (c u b : Option Word) → asked (cond is (Some (req (Some (codes "decide")) c u (Some seed) b)) None) ≡ None
+abbrev no_command : Option Command
+no_command = None
+
+-- nothing comes of any task
+of_none : (o : Option Task) → option_and_then (λ (t : Task). no_command) o ≡ None
+of_none None = refl
+of_none (Some t) = refl
+
+seeded : (is : Bool) (word seed : Word) (c u b : Option Word) → asked (cond is (Some (req (Some word) c u (Some seed) b)) None) ≡ None
 unfolding command_in
-seeded true seed c u b = refl
-seeded false seed c u b = refl
+seeded true word seed c u b = of_none (task_named word)
+seeded false word seed c u b = refl
 
-limited : (is : Bool) (blocks : Word) (c u : Option Word) → asked (cond is (Some (req (Some (codes "decide")) c u None (Some blocks))) None) ≡ None
+limited : (is : Bool) (word blocks : Word) (c u : Option Word) → asked (cond is (Some (req (Some word) c u None (Some blocks))) None) ≡ None
 unfolding command_in
-limited true blocks c u = refl
-limited false blocks c u = refl
+limited true word blocks c u = of_none (task_named word)
+limited false word blocks c u = refl
 
-no_rule : (o : Option ChainName) → None ≡ deciding o None
-no_rule None = refl
-no_rule (Some name) = refl
+no_rule : (t : Task) (o : Option ChainName) → None ≡ serving t o None
+no_rule t None = refl
+no_rule t (Some name) = refl
 
-abbrev decision : List Word → List Word → Option Command
-decision c u = deciding (one_of chain.Plain chain_named c) (one_of rule.Snowball rule_named u)
+abbrev service_of : Task → List Word → List Word → Option Command
+service_of t c u = serving t (one_of chain.Plain chain_named c) (one_of rule.Snowball rule_named u)
 
--- `decide` whose options may all stand
-decided : (c u : List Word) → asked (whole true (codes "decide" ∷ []) c u [] []) ≡ decision c u
+-- a task whose options may all stand
+served : (word : Word) (t : Task) → task_named word ≡ Some t → (c u : List Word) → asked (whole true (word ∷ []) c u [] []) ≡ service_of t c u
 unfolding command_in
-decided [] [] = refl
-decided [] (y ∷ []) = refl
-decided [] (y ∷ z ∷ ys) = refl
-decided (x ∷ []) [] = refl
-decided (x ∷ []) (y ∷ []) = refl
-decided (x ∷ []) (y ∷ z ∷ ys) = no_rule (chain_named x)
-decided (x ∷ w ∷ xs) u = refl
+served word t e [] [] = ap (option_and_then (service (req (Some word) None None None None))) e
+served word t e [] (y ∷ []) = ap (option_and_then (service (req (Some word) None (Some y) None None))) e
+served word t e [] (y ∷ z ∷ ys) = refl
+served word t e (x ∷ []) [] = ap (option_and_then (service (req (Some word) (Some x) None None None))) e
+served word t e (x ∷ []) (y ∷ []) = ap (option_and_then (service (req (Some word) (Some x) (Some y) None None))) e
+served word t e (x ∷ []) (y ∷ z ∷ ys) = no_rule t (chain_named x)
+served word t e (x ∷ w ∷ xs) u = refl
 
-decide_comes : (ok : Bool) (c u s b : List Word)
-    → asked (whole ok (codes "decide" ∷ []) c u s b) ≡ cond (ok && (is_nil s && is_nil b)) (decision c u) None
-decide_comes true c u [] [] = decided c u
-decide_comes false c u s b = refl
-decide_comes true c u (x ∷ s) b = seeded (is_fit true (codes "decide" ∷ []) c u (x ∷ s) b) x (first c) (first u) (first b)
-decide_comes true c u [] (x ∷ b) = limited (is_fit true (codes "decide" ∷ []) c u [] (x ∷ b)) x (first c) (first u)
+service_comes : (word : Word) (t : Task) → task_named word ≡ Some t → (ok : Bool) (c u s b : List Word)
+    → asked (whole ok (word ∷ []) c u s b) ≡ cond (ok && (is_nil s && is_nil b)) (service_of t c u) None
+service_comes word t e true c u [] [] = served word t e c u
+service_comes word t e false c u s b = refl
+service_comes word t e true c u (x ∷ s) b = seeded (is_fit true (word ∷ []) c u (x ∷ s) b) word x (first c) (first u) (first b)
+service_comes word t e true c u [] (x ∷ b) = limited (is_fit true (word ∷ []) c u [] (x ∷ b)) word x (first c) (first u)
 
-task_comes : (ok : Bool) (task : Word) (c u s b : List Word) (is : Bool) → bytes_eq task (codes "decide") ≡ is
-    → asked (whole ok (task ∷ []) c u s b) ≡ cond is (cond (ok && (is_nil s && is_nil b)) (decision c u) None) None
-task_comes ok task c u s b true e = subst (λ t. asked (whole ok (t ∷ []) c u s b) ≡ cond (ok && (is_nil s && is_nil b)) (decision c u) None) (named task (codes "decide") e) (decide_comes ok c u s b)
-task_comes ok task c u s b false e = another_task (is_fit ok (task ∷ []) c u s b) task (first c) (first u) (first s) (first b) e
+task_comes : (ok : Bool) (word : Word) (c u s b : List Word) (o : Option Task) → task_named word ≡ o
+    → asked (whole ok (word ∷ []) c u s b) ≡ option_and_then (λ t. cond (ok && (is_nil s && is_nil b)) (service_of t c u) None) o
+task_comes ok word c u s b (Some t) e = service_comes word t e ok c u s b
+task_comes ok word c u s b None e = another_task (is_fit ok (word ∷ []) c u s b) word (first c) (first u) (first s) (first b) e
 
 -- what is gathered asks for what its parts make
 comes : (ok : Bool) (t c u s b : List Word) → asked (whole ok t c u s b) ≡ made t (ok && (is_nil s && is_nil b)) c u
 comes ok [] c u s b = no_task (is_fit ok [] c u s b) (first c) (first u) (first s) (first b)
-comes ok (task ∷ []) c u s b = task_comes ok task c u s b (bytes_eq task (codes "decide")) refl
+comes ok (word ∷ []) c u s b = task_comes ok word c u s b (task_named word) refl
 comes true (x ∷ y ∷ t) c u s b = refl
 comes false (x ∷ y ∷ t) c u s b = refl
 
--- ---- the options of `decide` among all
+-- ---- the options of a task that serves among all
 
 abbrev Splits : List Item → Type 0
 Splits all = list_all (is_among decides) all

@@ -1,21 +1,23 @@
 -- The names that `clap` tests, and the command that they ask for.
-use Rattle.std.proofs.Common.{◌≡◌, ◌∙◌, Bool, true, false, cond, ◌&&◌, ◌||◌, List, [], ◌∷◌, subst, Option, Some, None, is_some, refl, sym, ap₂, codes}
+use Rattle.std.proofs.Common.{◌≡◌, ◌∙◌, Bool, true, false, cond, ◌&&◌, ◌||◌, List, [], ◌∷◌, subst, Option, Some, None, is_some, refl, sym, ap, ap₂, codes}
 use Rattle.std.specs.List.{list_any}
+use Rattle.std.specs.Option.{option_and_then}
 use Rattle.std.specs.Str.{bytes_eq}
 use Rattle.std.proofs.lemmas.Slice.Eq.{bytes_eq-Decides}
 use Rattle.clap.specs.Walk.{Text}
+use Rattle.snow_engine.specs.declared.task.Task.{Task}
 use Rattle.snow_cli.specs.declared.command.Command.{Command}
 use Rattle.snow_cli.specs.declared.command.Command.TheVariants as command
 use Rattle.snow_cli.specs.declared.command.ChainName.{ChainName}
 use Rattle.snow_cli.specs.declared.command.ChainName.TheVariants as chain
 use Rattle.snow_cli.specs.declared.command.RuleName.{RuleName}
 use Rattle.snow_cli.specs.declared.command.RuleName.TheVariants as rule
-use Rattle.snow_cli.specs.Words.{chain_named, rule_named, deciding}
-use Rattle.snow_cli.specs.Request.{Request, command_in, named_or}
-use Rattle.snow_cli.specs.Parsing.{chain_read, rule_read}
+use Rattle.snow_cli.specs.Words.{task_named, chain_named, rule_named, serving}
+use Rattle.snow_cli.specs.Request.{Request, command_in, named_or, service}
+use Rattle.snow_cli.specs.Parsing.{chain_read, rule_read, task_read}
 
 abbrev pub task_names : List Text
-task_names = codes "decide" ∷ []
+task_names = codes "decide" ∷ codes "run" ∷ []
 
 abbrev pub chain_names : List Text
 chain_names = codes "plain" ∷ codes "tally" ∷ []
@@ -57,6 +59,20 @@ chain_is v = at_plain (bytes_eq v (codes "plain")) refl
     at_plain true e = subst ChainIs (sym (same v (codes "plain") e)) refl
     at_plain false e = at_tally (bytes_eq v (codes "tally")) refl e
 
+abbrev TaskIs : Text → Type 0
+TaskIs v = task_named v ≡ cond (is_one task_names v) (Some (task_read (Some v))) None
+
+task_is : (v : Text) → TaskIs v
+task_is v = at_decide (bytes_eq v (codes "decide")) refl
+  where
+    at_run : (is : Bool) → bytes_eq v (codes "run") ≡ is → bytes_eq v (codes "decide") ≡ false → TaskIs v
+    at_run true e decide = subst TaskIs (sym (same v (codes "run") e)) refl
+    at_run false e decide = rw (decide, e, turned v (codes "decide") decide, turned v (codes "run") e) refl
+
+    at_decide : (is : Bool) → bytes_eq v (codes "decide") ≡ is → TaskIs v
+    at_decide true e = subst TaskIs (sym (same v (codes "decide") e)) refl
+    at_decide false e = at_run (bytes_eq v (codes "run")) refl e
+
 abbrev RuleIs : Text → Type 0
 RuleIs v = rule_named v ≡ cond (is_one rule_names v) (Some (rule_read (Some v))) None
 
@@ -84,14 +100,14 @@ abbrev pub fits : Text → Option Text → Option Text → Bool
 fits task c u = is_one task_names task && (is_one_or_none chain_names c && is_one_or_none rule_names u)
 
 -- what tested words ask for
-abbrev pub asked : Option Text → Option Text → Option Text → Option Text → Option Command
-asked c u s b = cond (is_some s || is_some b) None (Some (command.Decide (chain_read c) (rule_read u)))
+abbrev pub asked : Task → Option Text → Option Text → Option Text → Option Text → Option Command
+asked t c u s b = cond (is_some s || is_some b) None (Some (command.Serve t (chain_read c) (rule_read u)))
 
-both : (x : ChainName) (y : RuleName) (p q : Bool)
-    → deciding (cond p (Some x) None) (cond q (Some y) None) ≡ cond (p && q) (Some (command.Decide x y)) None
-both x y true true = refl
-both x y true false = refl
-both x y false q = refl
+both : (t : Task) (x : ChainName) (y : RuleName) (p q : Bool)
+    → serving t (cond p (Some x) None) (cond q (Some y) None) ≡ cond (p && q) (Some (command.Serve t x y)) None
+both t x y true true = refl
+both t x y true false = refl
+both t x y false q = refl
 
 abbrev no_command : Option Command
 no_command = None
@@ -103,23 +119,28 @@ nothing false = refl
 abbrev pub req : Option Text → Option Text → Option Text → Option Text → Option Text → Request
 req t c u s b = record { task = t; chain = c; rule = u; seed = s; blocks = b }
 
-decided : (c u s b : Option Text)
-    → command_in (req (Some (codes "decide")) c u s b) ≡ cond (is_one_or_none chain_names c && is_one_or_none rule_names u) (asked c u s b) None
-unfolding command_in
-decided c u None None = ap₂ deciding (chains_are c) (rules_are u) ∙ both (chain_read c) (rule_read u) (is_one_or_none chain_names c) (is_one_or_none rule_names u)
-decided c u None (Some v) = nothing (is_one_or_none chain_names c && is_one_or_none rule_names u)
-decided c u (Some v) b = nothing (is_one_or_none chain_names c && is_one_or_none rule_names u)
+-- what a request for a task asks for, where its options are names
+served : (word : Text) (t : Task) (c u s b : Option Text)
+    → service (req (Some word) c u s b) t ≡ cond (is_one_or_none chain_names c && is_one_or_none rule_names u) (asked t c u s b) None
+served word t c u None None = ap₂ (serving t) (chains_are c) (rules_are u) ∙ both t (chain_read c) (rule_read u) (is_one_or_none chain_names c) (is_one_or_none rule_names u)
+served word t c u None (Some v) = nothing (is_one_or_none chain_names c && is_one_or_none rule_names u)
+served word t c u (Some v) b = nothing (is_one_or_none chain_names c && is_one_or_none rule_names u)
 
-another : (task : Text) (c u s b : Option Text) → bytes_eq task (codes "decide") ≡ false
-    → command_in (req (Some task) c u s b) ≡ cond (fits task c u) (asked c u s b) None
+by_task : (word : Text) (c u s b : Option Text) (o : Option Task) → task_named word ≡ o
+    → command_in (req (Some word) c u s b) ≡ option_and_then (service (req (Some word) c u s b)) o
 unfolding command_in
-another task c u s b e = rw (e, turned task (codes "decide") e) refl
+by_task word c u s b o e = ap (option_and_then (service (req (Some word) c u s b))) e
 
 -- a request for a task asks for what its words ask for, where each is a name
-pub comes : (task : Text) (c u s b : Option Text) → command_in (req (Some task) c u s b) ≡ cond (fits task c u) (asked c u s b) None
-comes task c u s b = at_decide (bytes_eq task (codes "decide")) refl
+pub comes : (word : Text) (c u s b : Option Text) → command_in (req (Some word) c u s b) ≡ cond (fits word c u) (asked (task_read (Some word)) c u s b) None
+comes word c u s b = at_name (is_one task_names word) refl
   where
-    at_decide : (is : Bool) → bytes_eq task (codes "decide") ≡ is → command_in (req (Some task) c u s b) ≡ cond (fits task c u) (asked c u s b) None
-    at_decide true e = subst (λ t. command_in (req (Some t) c u s b) ≡ cond (fits t c u) (asked c u s b) None)
-        (sym (same task (codes "decide") e)) (decided c u s b)
-    at_decide false e = another task c u s b e
+    at_name : (is : Bool) → is_one task_names word ≡ is
+        → command_in (req (Some word) c u s b) ≡ cond (is_one task_names word && (is_one_or_none chain_names c && is_one_or_none rule_names u)) (asked (task_read (Some word)) c u s b) None
+    at_name true e =
+        by_task word c u s b (Some (task_read (Some word))) (task_is word ∙ ap (λ (is : Bool). cond is (Some (task_read (Some word))) None) e)
+        ∙ served word (task_read (Some word)) c u s b
+        ∙ ap (λ (is : Bool). cond (is && (is_one_or_none chain_names c && is_one_or_none rule_names u)) (asked (task_read (Some word)) c u s b) None) (sym e)
+    at_name false e =
+        by_task word c u s b None (task_is word ∙ ap (λ (is : Bool). cond is (Some (task_read (Some word))) None) e)
+        ∙ ap (λ (is : Bool). cond (is && (is_one_or_none chain_names c && is_one_or_none rule_names u)) (asked (task_read (Some word)) c u s b) None) (sym e)

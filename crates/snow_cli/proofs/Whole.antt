@@ -8,7 +8,7 @@ use Rattle.clap.specs.Walk.{Text}
 use Rattle.snow_cli.specs.declared.command.Command.{Command}
 use Rattle.snow_cli.specs.Words.{command_of, items}
 use Rattle.snow_cli.specs.Request.{Request, blank, command_in, with_items}
-use Rattle.snow_cli.specs.Parsing.{AsksFor, is_word, is_word_or_none, option_words, ordered}
+use Rattle.snow_cli.specs.Parsing.{AsksFor, is_word, is_word_or_none, option_words, ordered, task_read}
 use Rattle.snow_cli.proofs.Gathered.{a_request, no_request}
 use Rattle.snow_cli.proofs.Tested.{asked, chain_names, comes, fits, is_one, is_one_or_none, req, rule_names, task_names}
 
@@ -56,7 +56,7 @@ unfolding ordered
 listed task c u t x y = rw (one_is_word task_names tasks_are task t, one_or_none chain_names chains_are c x, one_or_none rule_names rules_are u y) refl
 
 unlisted : (task : Text) (c u : Option Text) (t x y : Bool) → is_one task_names task ≡ t → is_one_or_none chain_names c ≡ x → is_one_or_none rule_names u ≡ y
-    → ordered (req (Some task) c u None None) ≡ None → cond (t && (x && y)) (asked c u None None) None ≡ None
+    → ordered (req (Some task) c u None None) ≡ None → cond (t && (x && y)) (asked (task_read (Some task)) c u None None) None ≡ None
 unlisted task c u false x y et ex ey none = refl
 unlisted task c u true false y et ex ey none = refl
 unlisted task c u true true false et ex ey none = refl
@@ -64,7 +64,7 @@ unlisted task c u true true true et ex ey none =
     let bad : Some (codes "snowman" ∷ task ∷ option_words c u None None) ≡ None = sym (listed task c u et ex ey) ∙ none in
     cc
 
-unfit : (task : Text) (c u s b : Option Text) → ordered (req (Some task) c u s b) ≡ None → cond (fits task c u) (asked c u s b) None ≡ None
+unfit : (task : Text) (c u s b : Option Text) → ordered (req (Some task) c u s b) ≡ None → cond (fits task c u) (asked (task_read (Some task)) c u s b) None ≡ None
 unfit task c u (Some v) b none = nothing (fits task c u)
 unfit task c u None (Some v) none = nothing (fits task c u)
 unfit task c u None None none = unlisted task c u (is_one task_names task) (is_one_or_none chain_names c) (is_one_or_none rule_names u) refl refl refl none

@@ -1,5 +1,6 @@
 -- Worked examples: what words ask for.
 use Rattle.std.proofs.Common.{◌≡◌, [], ◌∷◌, Option, Some, None, refl, codes}
+use Rattle.snow_engine.specs.declared.task.Task.TheVariants as task
 use Rattle.snow_cli.specs.declared.command.ChainName.TheVariants as chain
 use Rattle.snow_cli.specs.declared.command.RuleName.TheVariants as rule
 use Rattle.snow_cli.specs.declared.command.Command.{Command}
@@ -8,7 +9,7 @@ use Rattle.snow_cli.specs.Words.{items, command_of}
 
 -- the defaults
 abbrev usual : Option Command
-usual = Some (command.Decide chain.Plain rule.Snowball)
+usual = Some (command.Serve task.Decide chain.Plain rule.Snowball)
 
 pub no_word : command_of [] ≡ None
 unfolding command_of items
@@ -31,14 +32,18 @@ unfolding command_of items
 option_first = refl
 
 pub both_options : command_of (codes "decide" ∷ codes "--chain" ∷ codes "tally" ∷ codes "--rule=snowflake" ∷ [])
-    ≡ Some (command.Decide chain.Tally rule.Snowflake)
+    ≡ Some (command.Serve task.Decide chain.Tally rule.Snowflake)
 unfolding command_of items
 both_options = refl
 
 pub another_rule : command_of (codes "decide" ∷ codes "--rule" ∷ codes "snowflake" ∷ [])
-    ≡ Some (command.Decide chain.Plain rule.Snowflake)
+    ≡ Some (command.Serve task.Decide chain.Plain rule.Snowflake)
 unfolding command_of items
 another_rule = refl
+
+pub a_running_task : command_of (codes "run" ∷ []) ≡ Some (command.Serve task.Run chain.Plain rule.Snowball)
+unfolding command_of items
+a_running_task = refl
 
 -- an option stands once at most
 pub twice_for_another_task : command_of (codes "run" ∷ codes "--chain" ∷ codes "plain" ∷ codes "--chain" ∷ codes "tally" ∷ []) ≡ None
@@ -58,9 +63,9 @@ pub another_task : command_of (codes "drill" ∷ codes "--seed" ∷ codes "1" �
 unfolding command_of items
 another_task = refl
 
-pub run : command_of (codes "run" ∷ []) ≡ None
+pub audit : command_of (codes "audit" ∷ []) ≡ None
 unfolding command_of items
-run = refl
+audit = refl
 
 pub help : command_of (codes "--help" ∷ []) ≡ None
 unfolding command_of items

@@ -5,11 +5,12 @@ use Rattle.snow_base.specs.Outside.{AppendsFront, Rose}
 use Rattle.snow_flake.specs.Rule.{Answer, by_preference, by_flake}
 use Rattle.snow_flake.specs.declared.params.ParamFault.{ParamFault}
 use Rattle.snow_flake.specs.declared.params.ParamFault.TheVariants as params
+use Rattle.snow_sample.specs.declared.roster.RosterFault.{RosterFault}
+use Rattle.snow_sample.specs.declared.roster.RosterFault.TheVariants as roster
 use Rattle.snow_chain.specs.Chain.{Rules}
 use Rattle.snow_chain.specs.Plain.{plain_rules}
 use Rattle.snow_chain.specs.Tally.{tally_rules}
 use Rattle.snow_lines.specs.declared.line.Line.{Line}
-use Rattle.snow_engine.specs.declared.task.Task.TheVariants as task
 use Rattle.snow_engine.specs.declared.end.BadKind.{BadKind}
 use Rattle.snow_engine.specs.declared.end.BadKind.TheVariants as kind
 use Rattle.snow_engine.specs.declared.end.End.{End}
@@ -40,12 +41,12 @@ answer_of rule.Snowflake = by_flake
 -- the lines for a command and a stream, of which the first 2^40 bytes count; none without a command
 abbrev pub lines_for : Option Command → List ℕ → List Line
 lines_for None bytes = []
-lines_for (Some (command.Decide c r)) bytes = lines_of (rules_of c) (answer_of r) task.Decide (seen bytes)
+lines_for (Some (command.Serve task c r)) bytes = lines_of (rules_of c) (answer_of r) task (seen bytes)
 
 -- how the run of a command over a stream ends; without a command nothing is run
 abbrev pub end_for : Option Command → List ℕ → Option End
 end_for None bytes = None
-end_for (Some (command.Decide c r)) bytes = Some (end_of (rules_of c) (answer_of r) task.Decide bytes)
+end_for (Some (command.Serve task c r)) bytes = Some (end_of (rules_of c) (answer_of r) task bytes)
 
 -- the status for how a run ended, or that nothing was run
 abbrev pub status_of : Option End → Status
@@ -56,6 +57,8 @@ status_of (Some end.SourceFault) = status.SourceFault
 status_of (Some end.SinkFault) = status.SinkFault
 status_of (Some end.Memory) = status.Memory
 status_of (Some end.InputLimit) = status.Limit
+status_of (Some end.RequestLimit) = status.Limit
+status_of (Some end.Unsupported) = status.Unsupported
 
 -- ---- the line on standard error
 
@@ -70,6 +73,14 @@ fault_word params.RepollsHigh = codes "repolls-high"
 fault_word params.KLarge = codes "k-large"
 fault_word params.BetaLarge = codes "beta-large"
 
+-- the word for refused nodes; want of memory is never told so
+abbrev pub roster_word : RosterFault → List ℕ
+roster_word roster.Empty = codes "nodes-empty"
+roster_word (roster.Duplicate node) = codes "node-twice"
+roster_word (roster.ZeroWeight node) = codes "node-weight"
+roster_word roster.TooHeavy = codes "nodes-heavy"
+roster_word roster.Memory = []
+
 -- the word for what is wrong with an input
 abbrev pub kind_word : BadKind → List ℕ
 kind_word kind.Length = codes "length"
@@ -77,6 +88,7 @@ kind_word kind.Cut = codes "cut"
 kind_word kind.NoStart = codes "no-start"
 kind_word kind.NotStart = codes "not-start"
 kind_word (kind.Params fault) = fault_word fault
+kind_word (kind.Roster fault) = roster_word fault
 kind_word kind.State = codes "state"
 kind_word kind.SecondStart = codes "second-start"
 
@@ -93,6 +105,8 @@ error_line (Some end.SourceFault) = codes "snowman: source fault\n"
 error_line (Some end.SinkFault) = codes "snowman: sink fault\n"
 error_line (Some end.Memory) = codes "snowman: out of memory\n"
 error_line (Some end.InputLimit) = codes "snowman: input limit\n"
+error_line (Some end.RequestLimit) = codes "snowman: request limit\n"
+error_line (Some end.Unsupported) = codes "snowman: unsupported\n"
 
 -- ---- the answer
 
@@ -117,8 +131,8 @@ Wrote given before after text = Appends before after text
 -- the source failed: exactly the lines of the whole frames that came were written, and these frames show no stop
 abbrev pub BrokeFor : Option Command → Option (List ℕ) → Option (List ℕ) → Option (List ℕ) → Option (List ℕ) → Type 0
 BrokeFor None left_before left_after out_before out_after = ⊥
-BrokeFor (Some (command.Decide c r)) left_before left_after out_before out_after =
-    Broke (rules_of c) (answer_of r) task.Decide left_before left_after out_before out_after
+BrokeFor (Some (command.Serve task c r)) left_before left_after out_before out_after =
+    Broke (rules_of c) (answer_of r) task left_before left_after out_before out_after
 
 -- words that ask for nothing are answered before anything is read or written
 abbrev pub IsUsage : {S O : Type 0} → Status → S → S → O → O → Type 0
@@ -152,3 +166,4 @@ exit_code status.SourceFault = 4
 exit_code status.SinkFault = 5
 exit_code status.Memory = 6
 exit_code status.Limit = 7
+exit_code status.Unsupported = 1

@@ -4,6 +4,8 @@ use Rattle.std.specs.Borrow.{Bor}
 use Rattle.clap.specs.Walk.{Rule, Text}
 use Rattle.clap.specs.Simple.{App, new_app, new_rule, with_rule}
 use Rattle.clap.specs.declared.builder.value_parser.ValueParser.TheVariants as parser
+use Rattle.snow_engine.specs.declared.task.Task.{Task}
+use Rattle.snow_engine.specs.declared.task.Task.TheVariants as task
 use Rattle.snow_cli.specs.declared.command.ChainName.{ChainName}
 use Rattle.snow_cli.specs.declared.command.ChainName.TheVariants as chain
 use Rattle.snow_cli.specs.declared.command.RuleName.{RuleName}
@@ -87,11 +89,16 @@ abbrev pub rule_read : Option Text → RuleName
 rule_read None = rule.Snowball
 rule_read (Some value) = if bytes_eq value (codes "snowflake") then rule.Snowflake else rule.Snowball
 
--- the command of the values found by their options' names; `decide` takes neither a seed nor blocks
+-- the task of a tested name
+abbrev pub task_read : Option Text → Task
+task_read None = task.Decide
+task_read (Some value) = if bytes_eq value (codes "run") then task.Run else task.Decide
+
+-- the command of the values found by their options' names; a task that serves a stream takes neither a seed nor blocks
 abbrev pub command_read : (Text → Option Text) → Option Command
 command_read value =
     if is_some (value (codes "seed")) || is_some (value (codes "blocks")) then None
-    else Some (command.Decide (chain_read (value (codes "chain"))) (rule_read (value (codes "rule"))))
+    else Some (command.Serve (task_read (value (codes "task"))) (chain_read (value (codes "chain"))) (rule_read (value (codes "rule"))))
 
 -- the command is what each request asks for whose words in order these are
 abbrev pub AsksFor : List Text → Option Command → Type 0

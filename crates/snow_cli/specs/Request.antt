@@ -2,12 +2,13 @@
 use Rattle.std.specs.Prelude.{◌≡◌, ℕ, Bool, true, false, List, [], ◌∷◌, map, drop, Option, Some, None, is_some, codes, if◌then◌else◌, bytes_eq, string_bytes, String}
 use Rattle.std.specs.Option.{option_and_then}
 use Rattle.std.specs.Borrow.{Bor}
+use Rattle.snow_engine.specs.declared.task.Task.{Task}
 use Rattle.snow_cli.specs.declared.command.Command.{Command}
 use Rattle.snow_cli.specs.declared.command.ChainName.TheVariants as chain
 use Rattle.snow_cli.specs.declared.command.RuleName.TheVariants as rule
 use Rattle.snow_cli.specs.declared.ordering.Look.{Look}
 use Rattle.snow_cli.specs.declared.ordering.Look.TheVariants as look
-use Rattle.snow_cli.specs.Words.{Form, Alone, Ends, Sets, Names, Dashed, Item, Plain, Given, Wrong, items, has_dash, chain_named, rule_named, deciding}
+use Rattle.snow_cli.specs.Words.{Form, Alone, Ends, Sets, Names, Dashed, Item, Plain, Given, Wrong, items, has_dash, task_named, chain_named, rule_named, serving}
 
 -- what a word looks like
 abbrev pub form_seen : Look → Form
@@ -85,17 +86,17 @@ abbrev pub named_or : {A : Type 0} → A → (List ℕ → Option A) → Option 
 named_or default named None = Some default
 named_or default named (Some value) = named value
 
--- `decide` takes neither a seed nor a number of blocks
-abbrev pub decision : Request → Option Command
-decision r =
+-- a task that serves a stream takes neither a seed nor a number of blocks
+abbrev pub service : Request → Task → Option Command
+service r task =
     if is_some r.seed then None
     else if is_some r.blocks then None
-    else deciding (named_or chain.Plain chain_named r.chain) (named_or rule.Snowball rule_named r.rule)
+    else serving task (named_or chain.Plain chain_named r.chain) (named_or rule.Snowball rule_named r.rule)
 
 -- the command of the task of a name
 abbrev pub task_of : Option (List ℕ) → Request → Option Command
 task_of None r = None
-task_of (Some task) r = if bytes_eq task (codes "decide") then decision r else None
+task_of (Some word) r = option_and_then (service r) (task_named word)
 
 -- the command that a request asks for
 unfoldable pub command_in : Request → Option Command

@@ -1,6 +1,9 @@
 -- What the words of the command line, without the program's name, ask for.
 use Rattle.std.specs.Prelude.{ℕ, Bool, true, false, ◌==◌, List, [], ◌∷◌, map, drop, Option, Some, None, codes, if◌then◌else◌, bytes_eq}
+use Rattle.std.specs.Option.{option_and_then}
 use Rattle.std.specs.List.{list_all, list_any, filter_map, before_first, after_first}
+use Rattle.snow_engine.specs.declared.task.Task.{Task}
+use Rattle.snow_engine.specs.declared.task.Task.TheVariants as task
 use Rattle.snow_cli.specs.declared.command.ChainName.{ChainName}
 use Rattle.snow_cli.specs.declared.command.ChainName.TheVariants as chain
 use Rattle.snow_cli.specs.declared.command.RuleName.{RuleName}
@@ -118,23 +121,30 @@ rule_named value =
     else if bytes_eq value (codes "snowflake") then Some rule.Snowflake
     else None
 
--- `decide` with a chain and a rule, where both are named
-abbrev pub deciding : Option ChainName → Option RuleName → Option Command
-deciding (Some c) (Some r) = Some (command.Decide c r)
-deciding c r = None
+-- the task of a name
+abbrev pub task_named : List ℕ → Option Task
+task_named word =
+    if bytes_eq word (codes "decide") then Some task.Decide
+    else if bytes_eq word (codes "run") then Some task.Run
+    else None
 
--- `decide` with these items, where its options alone stand among them
-abbrev pub decide_with : List Item → Option Command
-decide_with all =
+-- a task with a chain and a rule, where both are named
+abbrev pub serving : Task → Option ChainName → Option RuleName → Option Command
+serving task (Some c) (Some r) = Some (command.Serve task c r)
+serving task c r = None
+
+-- a task with these items, where its options alone stand among them
+abbrev pub serve_with : List Item → Task → Option Command
+serve_with all task =
     if list_all (is_among (codes "chain" ∷ codes "rule" ∷ [])) all
-    then deciding (one_of chain.Plain chain_named (values (codes "chain") all)) (one_of rule.Snowball rule_named (values (codes "rule") all))
+    then serving task (one_of chain.Plain chain_named (values (codes "chain") all)) (one_of rule.Snowball rule_named (values (codes "rule") all))
     else None
 
 -- the task that the one plain word names, with these items
 abbrev pub task_with : List (List ℕ) → List Item → Option Command
 task_with [] all = None
-task_with (task ∷ []) all = if bytes_eq task (codes "decide") then decide_with all else None
-task_with (task ∷ another ∷ more) all = None
+task_with (word ∷ []) all = option_and_then (serve_with all) (task_named word)
+task_with (word ∷ another ∷ more) all = None
 
 -- what the words ask for, where they ask for a task
 unfoldable pub command_of : List (List ℕ) → Option Command

@@ -1,3 +1,5 @@
+use snow_engine::Task;
+
 /// The kind of blocks, as a word of the command line names it.
 #[derive(Clone, Copy, Debug, PartialEq, Eq)]
 pub enum ChainName {
@@ -19,8 +21,10 @@ pub enum RuleName {
 /// What the words of the command line ask for.
 #[derive(Clone, Copy, Debug, PartialEq, Eq)]
 pub enum Command {
-    /// A node that decides by this rule over blocks of this chain.
-    Decide {
+    /// A node that serves a stream by this rule over blocks of this chain.
+    Serve {
+        /// What the node does with the events.
+        task: Task,
         /// The chain that the blocks are of.
         chain: ChainName,
         /// The rule of the polls.

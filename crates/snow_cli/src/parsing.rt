@@ -1,16 +1,17 @@
 ghost use Rattle.std.specs.Prelude.{◌≡◌, option_map, IfOk};
 ghost use Rattle.clap.specs.Words.{app_of, found_of, first_value, rows_of, with_rule, FailsBy, fault_of, matches_of};
-ghost use Rattle.snow_cli.specs.Parsing.{AsksFor, chain_read, choice_rule, command_read, rule_read, open_rule, snowman, task_rule};
+ghost use Rattle.snow_cli.specs.Parsing.{AsksFor, chain_read, choice_rule, command_read, rule_read, open_rule, snowman, task_read, task_rule};
 ghost use Rattle.snow_cli.specs.Request.{texts};
 
 use crate::command::{ChainName, Command, RuleName};
 use clap::builder::ValueParser;
 use clap::error::ErrorKind;
 use clap::{Arg, ArgMatches, Error};
+use snow_engine::Task;
 use std::alloc::{AllocError, Global};
 
 /// The names of the tasks.
-static TASKS: [&str; 1] = ["decide"];
+static TASKS: [&str; 2] = ["decide", "run"];
 
 /// The names of the chains.
 static CHAINS: [&str; 2] = ["plain", "tally"];
@@ -124,10 +125,21 @@ fn read(matches: &ArgMatches) -> Option<Command>
     if matches.get_str("seed").is_some() || matches.get_str("blocks").is_some() {
         return None;
     }
-    Some(Command::Decide {
+    Some(Command::Serve {
+        task: task_of(matches.get_str("task")),
         chain: chain_of(matches.get_str("chain")),
         rule: rule_of(matches.get_str("rule")),
     })
+}
+
+/// The task of this tested name.
+fn task_of(name: Option<&str>) -> Task
+    ensures { result ≡ task_read (option_map (λ s. s.now) name.entry) }
+{
+    match name {
+        Some("run") => Task::Run,
+        _ => Task::Decide,
+    }
 }
 
 /// The chain of this tested name, or the usual one.

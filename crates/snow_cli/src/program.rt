@@ -56,7 +56,7 @@ pub fn top<S: Source, O: Sink, E: Sink>(
         Ok(None) => None,
         Err(_) => Some(End::Memory),
     };
-    report(ended, err);
+    report(&ended, err);
     Status::of(ended)
 }
 
@@ -70,38 +70,39 @@ fn perform<S: Source, O: Sink>(alloc: Global, command: Command, source: &mut S, 
     ensures read { result ≡ End.Done → IsAtEnd (S.left source.new) }
     ensures fault { serving.HasFault result (S.faults source.old) (S.faults source.new) (O.faults out.old) (O.faults out.new) }
 {
-    let Command::Decide { chain, rule } = command;
+    let Command::Serve { task, chain, rule } = command;
     match chain {
-        ChainName::Plain => decide::<PlainChain, S, O>(alloc, rule, source, out),
-        ChainName::Tally => decide::<TallyChain, S, O>(alloc, rule, source, out),
+        ChainName::Plain => run::<PlainChain, S, O>(alloc, task, rule, source, out),
+        ChainName::Tally => run::<TallyChain, S, O>(alloc, task, rule, source, out),
     }
 }
 
-/// The run of `decide` over this chain.
-fn decide<C: Chain, S: Source, O: Sink>(
+/// The run of a task over this chain.
+fn run<C: Chain, S: Source, O: Sink>(
     alloc: Global,
+    task: Task,
     rule: RuleName,
     source: &mut S,
     out: &mut O,
 ) -> End
-    ensures end { IfSome (S.left source.old) (λ bytes. serving.IsEnd result (end_of C.rules (model.answer_of rule) Task.Decide bytes)) }
+    ensures end { IfSome (S.left source.old) (λ bytes. serving.IsEnd result (end_of C.rules (model.answer_of rule) task bytes)) }
     ensures output { IfSome (S.left source.old) (λ bytes.
-        serving.Wrote result (O.written out.old) (O.written out.new) (texts (lines_of C.rules (model.answer_of rule) Task.Decide (seen bytes)))) }
+        serving.Wrote result (O.written out.old) (O.written out.new) (texts (lines_of C.rules (model.answer_of rule) task (seen bytes)))) }
     ensures broken { result ≡ End.SourceFault
-        → serving.Broke C.rules (model.answer_of rule) Task.Decide (S.left source.old) (S.left source.new) (O.written out.old) (O.written out.new) }
+        → serving.Broke C.rules (model.answer_of rule) task (S.left source.old) (S.left source.new) (O.written out.old) (O.written out.new) }
     ensures read { result ≡ End.Done → IsAtEnd (S.left source.new) }
     ensures fault { serving.HasFault result (S.faults source.old) (S.faults source.new) (O.faults out.old) (O.faults out.new) }
 {
     match rule {
         RuleName::Snowball => serve::<C, PlainBoard<Snowball>, S, O>(
             alloc,
-            Task::Decide,
+            task,
             source,
             out,
         ),
         RuleName::Snowflake => serve::<C, PlainBoard<Snowflake>, S, O>(
             alloc,
-            Task::Decide,
+            task,
             source,
             out,
         ),

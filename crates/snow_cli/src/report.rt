@@ -1,14 +1,15 @@
 ghost use Rattle.std.specs.Prelude.{◌≡◌, ◌≤◌, [], length};
-ghost use Rattle.snow_cli.specs.Answer.{TookLine, bad_line, error_line, fault_word, kind_word};
+ghost use Rattle.snow_cli.specs.Answer.{TookLine, bad_line, error_line, fault_word, kind_word, roster_word};
 
 use snow_base::{Sink, write_whole};
 use snow_engine::{BadKind, End};
 use snow_flake::ParamFault;
 use snow_lines::Text;
+use snow_sample::RosterFault;
 
 /// Tells on standard error how a run ended, or that nothing was run. A fault there changes nothing.
-pub fn report<E: Sink>(ended: Option<End>, err: &mut E)
-    ensures { TookLine (E.written err.old) (E.written err.new) (E.faults err.old) (E.faults err.new) (error_line ended) }
+pub fn report<E: Sink>(ended: &Option<End>, err: &mut E)
+    ensures { TookLine (E.written err.old) (E.written err.new) (E.faults err.old) (E.faults err.new) (error_line ended.now) }
 {
     let mut line = Text::new();
     put_line(ended, &mut line);
@@ -16,25 +17,27 @@ pub fn report<E: Sink>(ended: Option<End>, err: &mut E)
 }
 
 /// Puts the line for how a run ended, or that nothing was run. It is empty where all is done.
-fn put_line(ended: Option<End>, line: &mut Text)
+fn put_line(ended: &Option<End>, line: &mut Text)
     requires { line.old ≡ [] }
-    ensures { line.new ≡ error_line ended }
+    ensures { line.new ≡ error_line ended.now }
 {
     match ended {
         None => line.push(b"snowman: usage\n"),
         Some(End::Done) => {}
-        Some(End::BadInput { frame, kind }) => put_bad_line(frame, kind, line),
+        Some(End::BadInput { frame, kind }) => put_bad_line(*frame, kind, line),
         Some(End::SourceFault) => line.push(b"snowman: source fault\n"),
         Some(End::SinkFault) => line.push(b"snowman: sink fault\n"),
         Some(End::Memory) => line.push(b"snowman: out of memory\n"),
         Some(End::InputLimit) => line.push(b"snowman: input limit\n"),
+        Some(End::RequestLimit) => line.push(b"snowman: request limit\n"),
+        Some(End::Unsupported) => line.push(b"snowman: unsupported\n"),
     }
 }
 
 /// Puts the line for a bad input.
-fn put_bad_line(frame: u64, kind: BadKind, line: &mut Text)
+fn put_bad_line(frame: u64, kind: &BadKind, line: &mut Text)
     requires { line.old ≡ [] }
-    ensures { line.new ≡ bad_line frame kind }
+    ensures { line.new ≡ bad_line frame kind.now }
 {
     line.push(b"snowman: bad input at frame");
     line.push_number(b' ', frame);
@@ -44,8 +47,8 @@ fn put_bad_line(frame: u64, kind: BadKind, line: &mut Text)
 }
 
 /// The word for what is wrong with an input.
-fn kind_word(kind: BadKind) -> &'static [u8]
-    ensures word { result.now ≡ kind_word kind }
+fn kind_word(kind: &BadKind) -> &'static [u8]
+    ensures word { result.now ≡ kind_word kind.now }
     ensures length { length result.now ≤ 12 }
 {
     match kind {
@@ -53,9 +56,24 @@ fn kind_word(kind: BadKind) -> &'static [u8]
         BadKind::Cut => b"cut",
         BadKind::NoStart => b"no-start",
         BadKind::NotStart => b"not-start",
-        BadKind::Params(fault) => fault_word(fault),
+        BadKind::Params(fault) => fault_word(*fault),
+        BadKind::Roster(fault) => roster_word(fault),
         BadKind::State => b"state",
         BadKind::SecondStart => b"second-start",
+    }
+}
+
+/// The word for refused nodes; want of memory is told by a line of its own.
+fn roster_word(fault: &RosterFault) -> &'static [u8]
+    ensures word { result.now ≡ roster_word fault.now }
+    ensures length { length result.now ≤ 12 }
+{
+    match fault {
+        RosterFault::Empty => b"nodes-empty",
+        RosterFault::Duplicate { .. } => b"node-twice",
+        RosterFault::ZeroWeight { .. } => b"node-weight",
+        RosterFault::TooHeavy => b"nodes-heavy",
+        RosterFault::Memory => b"",
     }
 }
 

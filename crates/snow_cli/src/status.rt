@@ -18,8 +18,10 @@ pub enum Status {
     SinkFault,
     /// Memory ran out.
     Memory,
-    /// More input came than is taken.
+    /// More input came than is taken, or a request number was needed and all are used up.
     Limit,
+    /// The Start wants something that isn't built yet.
+    Unsupported,
 }
 
 impl Status {
@@ -35,6 +37,7 @@ impl Status {
             Status::SinkFault => 5,
             Status::Memory => 6,
             Status::Limit => 7,
+            Status::Unsupported => 1,
         }
     }
 
@@ -50,6 +53,8 @@ impl Status {
             Some(End::SinkFault) => Status::SinkFault,
             Some(End::Memory) => Status::Memory,
             Some(End::InputLimit) => Status::Limit,
+            Some(End::RequestLimit) => Status::Limit,
+            Some(End::Unsupported) => Status::Unsupported,
         }
     }
 }

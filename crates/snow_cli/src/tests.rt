@@ -1,4 +1,5 @@
 mod asked;
+mod asking;
 mod cuts;
 mod decisions;
 mod faults;

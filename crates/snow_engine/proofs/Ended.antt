@@ -19,7 +19,7 @@ use Rattle.snow_engine.specs.declared.end.End.TheVariants as end
 use Rattle.snow_engine.specs.Node.{Node}
 use Rattle.snow_engine.specs.Run.{Stand, ran, lines_of, seen, end_behind, ended, end_of, is_stopped}
 use Rattle.snow_engine.specs.Serving.{stand_of, Goes, Halts, Worked, WritesLines, all_worked, IsEnd, Wrote, Broke}
-use Rattle.snow_engine.proofs.Worked.{never_stopped, texts_parts}
+use Rattle.snow_engine.proofs.Worked.{never_stopped, no_stop, texts_parts}
 use Rattle.snow_engine.proofs.Position.{after_bytes, behind, more_bytes, ends_there, ends_calm, seen_front, seen_all}
 use Rattle.snow_engine.proofs.Served.{Served, whole, texts_whole}
 
@@ -240,18 +240,14 @@ module _ (rules : Rules) (answer : Answer) (task : Task) where
         (texts_whole rules answer task left_before left_now out_before out_now engine intake room served piece)))
 
     pub stopped_is : (e : End) → Goes {T = Unit {0}} (Err e) next rest brought → IfSome left_before (λ bytes. IsEnd e (end_of rules answer task bytes))
-    stopped_is end.Done h = absurd h
-    stopped_is (end.BadInput f k) h = stopped_end (end.BadInput f k) h
-    stopped_is end.SourceFault h = absurd h
+    stopped_is end.SourceFault h = no_stop h.0
     stopped_is end.SinkFault h = of_any (λ bytes. IsEnd end.SinkFault (end_of rules answer task bytes)) left_before (λ bytes. tt)
     stopped_is end.Memory h = of_any (λ bytes. IsEnd end.Memory (end_of rules answer task bytes)) left_before (λ bytes. tt)
-    stopped_is end.InputLimit h = absurd h
+    stopped_is e h = stopped_end e h.1
 
     pub stopped_wrote : (e : End) → Goes {T = Unit {0}} (Err e) next rest brought → WritesLines (Err e) out_now out_next brought.lines
         → IfSome left_before (λ bytes. Wrote e out_before out_next (texts (lines_of rules answer task (seen bytes))))
-    stopped_wrote end.Done h p = absurd h
-    stopped_wrote (end.BadInput f k) h p = stopped_lines (end.BadInput f k) h p
-    stopped_wrote end.SourceFault h p = absurd h
+    stopped_wrote end.SourceFault h p = no_stop h.0
     stopped_wrote end.SinkFault h p = stopped_front p
     stopped_wrote end.Memory h p = stopped_front p
-    stopped_wrote end.InputLimit h p = absurd h
+    stopped_wrote e h p = stopped_lines e h.1 p

@@ -22,7 +22,9 @@ use Rattle.snow_engine.specs.declared.task.Task.TheVariants as task
 use Rattle.snow_engine.specs.declared.end.BadKind.TheVariants as kind
 use Rattle.snow_engine.specs.declared.end.End.{End}
 use Rattle.snow_engine.specs.declared.end.End.TheVariants as end
-use Rattle.snow_engine.specs.Node.{Node, started, decides_on, step, issued_with}
+use Rattle.snow_engine.specs.Outcome.{Comes, then_comes}
+use Rattle.snow_engine.specs.Deciding.{Deciding, decides_on, issued_with}
+use Rattle.snow_engine.specs.Node.{started}
 use Rattle.snow_engine.specs.Run.{opened, after_frame, after_frames, lines_of, end_of}
 use Rattle.snow_engine.proofs.Following.{state_with}
 
@@ -96,9 +98,8 @@ unfolding frames_of frames_in first_of after_frames after_frame event_of fields_
 an_empty_payload_is_passed_over = refl
 
 -- the node behind the Start
-abbrev node : Node
+abbrev node : Deciding
 node = record {
-  task = task.Decide;
   board = begin (record { k = 1; alpha_preference = 1; alpha_confidence = 1; beta = 1; repolls = 1 }) root 0;
   chain = begun root [];
 }
@@ -111,20 +112,21 @@ has_state =
     ap (λ (o : Option (List ℕ)). option_and_then (λ state. plain_rules.next state plain_block) o) (state_with none root [] root)
 
 -- what the block makes of the node, by its state
-abbrev with_block : Option (List ℕ) → Node × List Line
+abbrev with_block : Option (List ℕ) → Comes Deciding
 with_block o = issued_with by_preference node (record { id = id_of 1; parent = root; height = 1 }) o
 
 -- the block is preferred
-pub a_block_is_preferred : (step plain_rules by_preference node 2 (event.Block (replicate 20 0) 0 plain_block)).0 ≡ line.Prefer (id_of 1) ∷ []
+pub a_block_is_preferred : (decides_on plain_rules by_preference node 2 (event.Block (replicate 20 0) 0 plain_block)).0 ≡ line.Prefer (id_of 1) ∷ []
 unfolding decides_on header_of bits with_child chosen path_from
-a_block_is_preferred = ap (λ (o : Option (List ℕ)). (with_block o).1) has_state
+a_block_is_preferred = ap (λ (o : Option (List ℕ)). (with_block o).0) has_state
 
 -- and accepted by a poll for it
-pub a_poll_accepts_it : (step plain_rules by_preference (with_block (Some [])).0 3 (event.Poll (id_of 1 ∷ []))).0 ≡ line.Accept (id_of 1) ∷ []
+pub a_poll_accepts_it : (then_comes (with_block (Some [])) (λ n. decides_on plain_rules by_preference n 3 (event.Poll (id_of 1 ∷ [])))).0
+    ≡ line.Prefer (id_of 1) ∷ line.Accept (id_of 1) ∷ []
 unfolding decides_on added bits with_child all_polled chosen decided_path counted winner decisions_for promoted settled poll path_from
 a_poll_accepts_it = refl
 
 -- a poll of more votes than K is passed over
-pub two_votes_are_too_many : (step plain_rules by_preference node 3 (event.Poll (id_of 1 ∷ id_of 1 ∷ []))).0 ≡ line.Skip 3 skip.Votes ∷ []
+pub two_votes_are_too_many : (decides_on plain_rules by_preference node 3 (event.Poll (id_of 1 ∷ id_of 1 ∷ []))).0 ≡ line.Skip 3 skip.Votes ∷ []
 unfolding decides_on
 two_votes_are_too_many = refl

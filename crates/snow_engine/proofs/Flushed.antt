@@ -25,22 +25,16 @@ module _ (before mid after : Option (List ℕ)) (kept : List ℕ) (lines : List 
   -- what was gathered was written
   pub flushed : (result : Result (Unit {0}) End) → (result ≡ Err end.SinkFault → ⊥) → GathersLines result before [] mid kept lines → Appends mid after kept → WritesLines result before after lines
   flushed (Ok u) other g w = all_written g w
-  flushed (Err end.Done) other g w = all_written g w
-  flushed (Err (end.BadInput f k)) other g w = all_written g w
-  flushed (Err end.SourceFault) other g w = all_written g w
   flushed (Err end.SinkFault) other g w = absurd (other refl)
   flushed (Err end.Memory) other g w = front_written g w
-  flushed (Err end.InputLimit) other g w = all_written g w
+  flushed (Err e) other g w = all_written g w
 
   -- the lines that were gathered, or that were to be
   pieces : (result : Result (Unit {0}) End) → (result ≡ Err end.SinkFault → ⊥) → GathersLines result before [] mid kept lines → GathersFront before [] mid kept (texts lines)
   pieces (Ok u) other g = record { front = texts lines; rest = []; whole = append-nil (texts lines); gathered = g }
-  pieces (Err end.Done) other g = record { front = texts lines; rest = []; whole = append-nil (texts lines); gathered = g }
-  pieces (Err (end.BadInput f k)) other g = record { front = texts lines; rest = []; whole = append-nil (texts lines); gathered = g }
-  pieces (Err end.SourceFault) other g = record { front = texts lines; rest = []; whole = append-nil (texts lines); gathered = g }
   pieces (Err end.SinkFault) other g = absurd (other refl)
   pieces (Err end.Memory) other g = g
-  pieces (Err end.InputLimit) other g = record { front = texts lines; rest = []; whole = append-nil (texts lines); gathered = g }
+  pieces (Err e) other g = record { front = texts lines; rest = []; whole = append-nil (texts lines); gathered = g }
 
   -- the sink failed as what was gathered was written
   pub broken : (result : Result (Unit {0}) End) → (result ≡ Err end.SinkFault → ⊥) → GathersLines result before [] mid kept lines → AppendsFront mid after kept → AppendsFront before after (texts lines)

@@ -164,21 +164,15 @@ module _ (rules : Rules) (answer : Answer) (task : Task) (first now : Stand) (st
   -- the answer of the next frame is that of all, where the run doesn't go on
   pub gathers_all : (e : End) (o : Option Node) (i : Intake) → Goes {T = Bool} (Err e) o i one → GathersLines {T = Bool} (Err e) mid waits after kept one.lines
       → GathersLines {T = Unit {0}} (Err e) before held after kept all.lines
-  gathers_all end.Done o i h g = absurd h
-  gathers_all (end.BadInput f k) o i h g = (ends (end.BadInput f k) h g).0
-  gathers_all end.SourceFault o i h g = absurd h
   gathers_all end.SinkFault o i h g = breaks g
   gathers_all end.Memory o i h g = runs_out g
-  gathers_all end.InputLimit o i h g = absurd h
+  gathers_all e o i h g = (ends e h.1 g).0
 
   pub goes_all : (e : End) (o p : Option Node) (i j : Intake) → Goes {T = Bool} (Err e) o i one → GathersLines {T = Bool} (Err e) mid waits after kept one.lines
       → Goes {T = Unit {0}} (Err e) p j all
-  goes_all end.Done o p i j h g = absurd h
-  goes_all (end.BadInput f k) o p i j h g = (ends (end.BadInput f k) h g).1
-  goes_all end.SourceFault o p i j h g = absurd h
   goes_all end.SinkFault o p i j h g = tt
   goes_all end.Memory o p i j h g = tt
-  goes_all end.InputLimit o p i j h g = absurd h
+  goes_all e o p i j h g = (h.0, (ends e h.1 g).1)
 
 -- no frame is left: all were worked
 pub all_gone : (rules : Rules) (answer : Answer) (task : Task) (first now : Stand) (start intake : Intake) (before : Option (List ℕ)) (held : List ℕ) (after : Option (List ℕ)) (kept : List ℕ)

@@ -1,5 +1,5 @@
 pub mod Following
-pub mod Deciding
+pub mod Follows
 pub mod Told
 pub mod ToldExamples
 pub mod Logs
@@ -13,3 +13,11 @@ pub mod Position
 pub mod Served
 pub mod Ended
 pub mod Examples
+pub mod Keeping
+pub mod Looping
+pub mod Made
+pub mod Sequel
+pub mod Working
+pub mod Issuing
+pub mod RunExamples
+pub mod Staged

@@ -5,7 +5,7 @@ use Rattle.snow_base.specs.declared.vote.Vote.{Vote}
 use Rattle.snow_base.specs.Votes.{added, total_count}
 use Rattle.snow_base.proofs.Adding.{total_added}
 use Rattle.std.proofs.lemmas.List.Sums.{fold_more}
-use Rattle.snow_engine.specs.Node.{votes_for}
+use Rattle.snow_engine.specs.Deciding.{votes_for}
 use Rattle.snow_engine.specs.Matching.{IsSteady}
 use Rattle.snow_chain.specs.Chain.{Held, MayReject, with_state, verified, rejected}
 use Rattle.snow_engine.proofs.Following.{may_undo, undone, issued_steady}
@@ -56,12 +56,18 @@ may_take_back board held h block o steady may valid e =
     let v = valid_held held h block.id o valid e in
     subst (λ (x : Held). MayReject x block.id) (sym v.1) (may_undo board held block.id v.0 steady.matches may.unknown)
 
+-- once it was taken back, all is as before
+pub as_before : (board : Board) (held h after : Held) (block : Header) (o : Option (List ℕ)) → IsSteady board held → MayIssue board block
+    → is_some o ≡ true → h ≡ verified held block.id o → after ≡ rejected h block.id → after ≡ held
+as_before board held h after block o steady may valid e went =
+    let v = valid_held held h block.id o valid e in
+    went ∙ ap (λ (x : Held). rejected x block.id) v.1 ∙ undone board held block.id v.0 steady.matches may.unknown
+
 -- a block that was found valid was taken back
 pub taken_back : (board b : Board) (held h after : Held) (block : Header) (o : Option (List ℕ)) → IsSteady board held → MayIssue board block
     → is_some o ≡ true → h ≡ verified held block.id o → b ≡ board → after ≡ rejected h block.id → IsSteady b after
 taken_back board b held h after block o steady may valid e same went =
-    let v = valid_held held h block.id o valid e in
-    steady_as b board after held same (went ∙ ap (λ (x : Held). rejected x block.id) v.1 ∙ undone board held block.id v.0 steady.matches may.unknown) steady
+    steady_as b board after held same (as_before board held h after block o steady may valid e went) steady
 
 -- a block that was found valid was issued
 pub taken : (board b : Board) (held h : Held) (block : Header) (o : Option (List ℕ)) → IsSteady board held → MayIssue board block

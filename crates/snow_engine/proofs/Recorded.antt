@@ -7,8 +7,8 @@ use Rattle.snow_plain.specs.Board.{Board}
 use Rattle.snow_plain.specs.Poll.{poll}
 use Rattle.snow_chain.specs.Chain.{Held}
 use Rattle.snow_engine.specs.Matching.{IsSteady, MayFollow}
-use Rattle.snow_engine.specs.Node.{with_decisions}
-use Rattle.snow_engine.proofs.Deciding.{poll_follows}
+use Rattle.snow_engine.specs.Telling.{with_decisions}
+use Rattle.snow_engine.proofs.Follows.{poll_follows}
 use Rattle.snow_engine.proofs.Offers.{steady_as}
 
 -- the decisions of a poll may be told

@@ -1,6 +1,6 @@
 -- A run while its pieces come, and its end.
-use Rattle.std.proofs.Common.{◌≡◌, ℕ, zero, suc, ◌*◌, ◌+◌, ◌-◌, ◌^◌, ◌<◌, ◌≤◌, false, List, [], ◌++◌, take, length, Option, Some, None, refl, sym, ap, ◌∙◌, subst, arith}
-use Rattle.std.proofs.lemmas.List.{length-append, length-drop, length-take}
+use Rattle.std.proofs.Common.{◌≡◌, ℕ, zero, suc, ◌*◌, ◌+◌, ◌-◌, ◌^◌, ◌<◌, ◌≤◌, false, List, [], ◌∷◌, ◌++◌, length, Option, Some, None, refl, sym, ap, ◌∙◌, subst, append-nil, arith}
+use Rattle.std.proofs.lemmas.List.{length-append, length-drop}
 use Rattle.std.specs.Io.KnownBytes.{Appends, Consumes}
 use Rattle.snow_base.proofs.Known.{appends_none, appends_then, consumes_none, consumes_then}
 use Rattle.snow_flake.specs.Rule.{Answer}
@@ -121,11 +121,23 @@ module _ (rules : Rules) (answer : Answer) (task : Task) where
 
 -- ---- the bytes of a piece
 
-pub taken_few : (n room : ℕ) (piece : List ℕ) → n ≤ room → length (take n piece) ≤ room
-taken_few n room piece few = omega (arith, length-take n piece)
+-- a decoder that took a piece in was fed with it
+pub fed_as : (before now : Intake) (piece : List ℕ) → now.given ≡ before.given → now.rest ≡ before.rest ++ piece → now ≡ fed before piece
+fed_as before now piece same behind =
+    let made : ℕ → List ℕ → Intake = λ n l. record { given = n; rest = l } in
+    ap (λ n. made n now.rest) same ∙ ap (made before.given) behind
 
-pub less_room : (n room : ℕ) (piece : List ℕ) → n ≤ length piece → n ≤ room → length (take n piece) + (room - n) ≡ room
-less_room n room piece whole few = omega (arith, length-take n piece)
+-- a decoder that took no byte in is as it was
+pub kept_as : (before now : Intake) (n : ℕ) (piece : List ℕ) → n ≡ 0 → length piece ≡ n → now.given ≡ before.given → now.rest ≡ before.rest ++ piece → now ≡ before
+kept_as before now n [] none long same behind = fed_as before now [] same behind ∙ ap (λ l. record { given = before.given; rest = l }) (append-nil before.rest)
+kept_as before now n (b ∷ piece) none long same behind = absurd (omega (arith, none, long))
 
-pub nothing_taken : (left_now left_next : Option (List ℕ)) (n : ℕ) (piece : List ℕ) → n ≡ 0 → Consumes left_now left_next (take n piece) → Consumes left_now left_next []
-nothing_taken left_now left_next n piece none took = subst (λ (k : ℕ). Consumes left_now left_next (take k piece)) none took
+pub taken_few : (n room : ℕ) (piece : List ℕ) → length piece ≡ n → n ≤ room → length piece ≤ room
+taken_few n room piece long few = omega (arith, long, few)
+
+pub less_room : (n room : ℕ) (piece : List ℕ) → length piece ≡ n → n ≤ room → length piece + (room - n) ≡ room
+less_room n room piece long few = omega (arith, long, few)
+
+pub nothing_taken : (left_now left_next : Option (List ℕ)) (n : ℕ) (piece : List ℕ) → n ≡ 0 → length piece ≡ n → Consumes left_now left_next piece → Consumes left_now left_next []
+nothing_taken left_now left_next n [] none long took = took
+nothing_taken left_now left_next n (b ∷ piece) none long took = absurd (omega (arith, none, long))

@@ -3,7 +3,7 @@ use Rattle.std.proofs.Common.{◌≡◌, ℕ, suc, ◌+◌, ◌<◌, List, ◌�
 use Rattle.std.proofs.lemmas.List.Sums.{fold_more}
 use Rattle.snow_plain.specs.declared.decision.Decision.{Decision}
 use Rattle.snow_chain.specs.Chain.{Held}
-use Rattle.snow_engine.specs.Node.{with_decision, with_decisions}
+use Rattle.snow_engine.specs.Telling.{with_decision, with_decisions}
 use Rattle.snow_engine.specs.Matching.{MayTell, MayFollow}
 
 -- the next decision may be told, and behind it the rest

@@ -5,7 +5,7 @@ use Rattle.std.specs.Ordering.{nat_cmp}
 use Rattle.std.specs.Cmp.Lexicographic.{slice_cmp}
 use Rattle.snow_plain.specs.declared.decision.Decision.{Decision}
 use Rattle.snow_chain.specs.Chain.{Held, state_of, begun, with_state, accepted}
-use Rattle.snow_engine.specs.Node.{with_decisions}
+use Rattle.snow_engine.specs.Telling.{with_decisions}
 use Rattle.snow_engine.specs.Matching.{MayFollow}
 use Rattle.snow_engine.proofs.Following.{state_with, state_without}
 

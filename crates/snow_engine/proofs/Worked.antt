@@ -20,6 +20,10 @@ use Rattle.snow_engine.specs.Run.{Stand, after_frame, is_stopped}
 use Rattle.snow_engine.specs.Stepping.{LogsFront}
 use Rattle.snow_engine.specs.Serving.{stand_of, Stands, LogsFrame, GathersLines, GathersFront, SinkFails, Halts, front_worked, one_worked}
 
+-- what isn't a stop is none
+pub no_stop : {A : Type 0} → false ≡ true → A
+no_stop e = absurd cc
+
 -- the texts of lines in front and of those behind
 pub texts_parts : (front rest lines : List Line) → front ++ rest ≡ lines → texts front ++ texts rest ≡ texts lines
 texts_parts front rest lines e = sym (flat_map-append text front rest) ∙ ap texts e
@@ -42,22 +46,15 @@ all_logged new lines before held after kept e g = subst (λ (l : List Line). Gat
 pub gathered : (result : Result (Unit {0}) End) (now : Option Node) (stand : Stand) (new lines : List Line) (before : Option (List ℕ)) (held : List ℕ) (after : Option (List ℕ)) (kept : List ℕ)
     → Stands result now stand → LogsFrame result [] new lines → Gathers before held after kept (texts new) → GathersLines result before held after kept lines
 gathered (Ok u) now stand new lines before held after kept s l g = all_logged new lines before held after kept l g
-gathered (Err end.Done) now stand new lines before held after kept s l g = absurd s
-gathered (Err (end.BadInput f k)) now stand new lines before held after kept s l g = all_logged new lines before held after kept l g
-gathered (Err end.SourceFault) now stand new lines before held after kept s l g = absurd s
-gathered (Err end.SinkFault) now stand new lines before held after kept s l g = absurd s
 gathered (Err end.Memory) now stand new lines before held after kept s l g = logged_front new lines before held after kept l g
-gathered (Err end.InputLimit) now stand new lines before held after kept s l g = absurd s
+gathered (Err end.SinkFault) now stand new lines before held after kept s l g = no_stop s.0
+gathered (Err e) now stand new lines before held after kept s l g = all_logged new lines before held after kept l g
 
 -- what a frame logged are its lines, or a front of them
 logged : (result : Result (Unit {0}) End) (new lines : List Line) → LogsFrame result [] new lines → LogsFront [] new lines
 logged (Ok u) new lines l = record { front = new; rest = []; whole = append-nil new ∙ l; grown = refl }
-logged (Err end.Done) new lines l = record { front = new; rest = []; whole = append-nil new ∙ l; grown = refl }
-logged (Err (end.BadInput f k)) new lines l = record { front = new; rest = []; whole = append-nil new ∙ l; grown = refl }
-logged (Err end.SourceFault) new lines l = record { front = new; rest = []; whole = append-nil new ∙ l; grown = refl }
-logged (Err end.SinkFault) new lines l = record { front = new; rest = []; whole = append-nil new ∙ l; grown = refl }
 logged (Err end.Memory) new lines l = l
-logged (Err end.InputLimit) new lines l = record { front = new; rest = []; whole = append-nil new ∙ l; grown = refl }
+logged (Err e) new lines l = record { front = new; rest = []; whole = append-nil new ∙ l; grown = refl }
 
 -- what a frame logged failed to be gathered
 pub failed : (result : Result (Unit {0}) End) (new lines : List Line) (before : Option (List ℕ)) (held : List ℕ) (after : Option (List ℕ))
@@ -81,12 +78,8 @@ failed_first rules answer task stand intake payload rest frame result new before
 -- a frame alone never ends in a fault of the sink
 pub faultless : (result : Result (Unit {0}) End) (now : Option Node) (stand : Stand) (before after : ℕ) → Stands result now stand → SinkFails result before after
 faultless (Ok u) now stand before after s = tt
-faultless (Err end.Done) now stand before after s = absurd s
-faultless (Err (end.BadInput f k)) now stand before after s = tt
-faultless (Err end.SourceFault) now stand before after s = absurd s
-faultless (Err end.SinkFault) now stand before after s = absurd s
-faultless (Err end.Memory) now stand before after s = tt
-faultless (Err end.InputLimit) now stand before after s = absurd s
+faultless (Err end.SinkFault) now stand before after s = no_stop s.0
+faultless (Err e) now stand before after s = tt
 
 -- ---- a length that no frame has
 

@@ -16,7 +16,8 @@ use Rattle.snow_engine.specs.declared.stop.EngineStop.TheVariants as stop
 use Rattle.snow_engine.specs.declared.end.BadKind.TheVariants as kind
 use Rattle.snow_engine.specs.declared.end.End.{End}
 use Rattle.snow_engine.specs.declared.end.End.TheVariants as end
-use Rattle.snow_engine.specs.Node.{Node, Outcome, started, step}
+use Rattle.snow_engine.specs.Outcome.{Comes}
+use Rattle.snow_engine.specs.Node.{Node, started, step}
 
 -- where a run stands: before its first frame, at a node, or at its end
 pub data Stand : Type 0 where
@@ -27,8 +28,11 @@ pub data Stand : Type 0 where
 -- the end that a stop at this frame is
 abbrev pub end_at : ℕ → EngineStop → End
 end_at frame (stop.Params fault) = end.BadInput frame (kind.Params fault)
+end_at frame (stop.Roster fault) = end.BadInput frame (kind.Roster fault)
 end_at frame stop.State = end.BadInput frame kind.State
 end_at frame stop.SecondStart = end.BadInput frame kind.SecondStart
+end_at frame stop.Unsupported = end.Unsupported
+end_at frame stop.Requests = end.RequestLimit
 end_at frame stop.Memory = end.Memory
 
 -- a node goes on, or it stopped at this frame
@@ -37,7 +41,7 @@ standing frame (Ok node) = Going node
 standing frame (Err stop) = Stopped (end_at frame stop)
 
 -- what came of a frame, as lines and where the run stands
-abbrev pub came : ℕ → Outcome → List Line × Stand
+abbrev pub came : ℕ → Comes Node → List Line × Stand
 came frame outcome = (outcome.0, standing frame outcome.1)
 
 -- the word for a payload that is no event

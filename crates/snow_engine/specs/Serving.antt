@@ -13,6 +13,7 @@ use Rattle.snow_engine.specs.declared.task.Task.{Task}
 use Rattle.snow_engine.specs.declared.end.BadKind.TheVariants as kind
 use Rattle.snow_engine.specs.declared.end.End.{End}
 use Rattle.snow_engine.specs.declared.end.End.TheVariants as end
+use Rattle.snow_engine.specs.Ends.{is_stop}
 use Rattle.snow_engine.specs.Node.{Node}
 use Rattle.snow_engine.specs.Run.{Stand, Fresh, Going, Stopped, after_frame, after_frames, is_stopped, lines_of, shows_stop}
 use Rattle.snow_engine.specs.Stepping.{LogsFront}
@@ -29,19 +30,17 @@ abbrev pub LogsFrame : {T : Type 0} → Result T End → List Line → List Line
 LogsFrame (Err end.Memory) before after lines = LogsFront before after lines
 LogsFrame result before after lines = after ≡ before ++ lines
 
--- a frame was worked: the run stands there now, or it ended at bad input, or memory ran out
+-- a frame was worked: the run stands there now, or it ended at a stop, or memory ran out
 abbrev pub Stands : Result (Unit {0}) End → Option Node → Stand → Type 0
 Stands (Ok u) now expected = expected ≡ stand_of now
-Stands (Err (end.BadInput frame bad)) now expected = expected ≡ Stopped (end.BadInput frame bad)
 Stands (Err end.Memory) now expected = ⊤
-Stands (Err e) now expected = ⊥
+Stands (Err e) now expected = (is_stop e ≡ true) × (expected ≡ Stopped e)
 
 -- the same for the first frame, which makes the node
 abbrev pub Opens : Result Node End → Stand → Type 0
 Opens (Ok node) expected = expected ≡ Going node
-Opens (Err (end.BadInput frame bad)) expected = expected ≡ Stopped (end.BadInput frame bad)
 Opens (Err end.Memory) expected = ⊤
-Opens (Err e) expected = ⊥
+Opens (Err e) expected = (is_stop e ≡ true) × (expected ≡ Stopped e)
 
 -- ---- the frames of a decoder
 
@@ -74,13 +73,12 @@ Halts worked e =
     (worked.stand ≡ Stopped e)
     ⊎ ((is_stopped worked.stand ≡ false) × (is_too_long worked.intake.rest ≡ true) × (e ≡ end.BadInput (worked.intake.given + 1) kind.Length))
 
--- frames were worked: the run goes on from there, or it ended at bad input, or the sink failed or memory ran out
+-- frames were worked: the run goes on from there, or it ended at a stop, or the sink failed or memory ran out
 abbrev pub Goes : {T : Type 0} → Result T End → Option Node → Intake → Worked → Type 0
 Goes (Ok x) now intake worked = (worked.stand ≡ stand_of now) × (worked.intake ≡ intake)
-Goes (Err (end.BadInput frame bad)) now intake worked = Halts worked (end.BadInput frame bad)
 Goes (Err end.SinkFault) now intake worked = ⊤
 Goes (Err end.Memory) now intake worked = ⊤
-Goes (Err e) now intake worked = ⊥
+Goes (Err e) now intake worked = (is_stop e ≡ true) × Halts worked e
 
 -- a front of a text was gathered
 pub record GathersFront (before : Option (List ℕ)) (held : List ℕ) (after : Option (List ℕ)) (kept text : List ℕ) : Type 0 where

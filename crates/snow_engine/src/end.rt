@@ -1,4 +1,5 @@
 use snow_flake::ParamFault;
+use snow_sample::RosterFault;
 
 /// What is wrong with an input, at the frame where the run stops.
 #[derive(Clone, Copy, Debug, PartialEq, Eq)]
@@ -13,6 +14,8 @@ pub enum BadKind {
     NotStart,
     /// The parameters of the Start are refused.
     Params(ParamFault),
+    /// The nodes of the Start are refused; want of memory is never told so.
+    Roster(RosterFault),
     /// The chain doesn't take the state of the Start.
     State,
     /// A Start came though the run has begun.
@@ -34,4 +37,8 @@ pub enum End {
     Memory,
     /// 2^40 bytes were taken, and no stop lies in them.
     InputLimit,
+    /// A request number was needed, and all are used up.
+    RequestLimit,
+    /// The Start wants the node to bootstrap first, which isn't built yet.
+    Unsupported,
 }

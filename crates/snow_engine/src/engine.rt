@@ -1,53 +1,46 @@
 ghost use Rattle.std.specs.Prelude.{◌≡◌, IfOk};
 ghost use Rattle.snow_flake.specs.Parameters.{AreGood, checked};
-ghost use Rattle.snow_engine.specs.Node.{stated};
+ghost use Rattle.snow_engine.specs.Node as model;
+ghost use Rattle.snow_engine.specs.Stepping.{Logs, Starts, Steps};
 
-use crate::offering::receive;
-use crate::recording::record;
+use crate::deciding::Deciding;
+use crate::running::Running;
+use crate::stage::Stage;
 use crate::stop::EngineStop;
 use crate::task::Task;
-use snow_chain::{Chain, ChainFault};
+use snow_chain::Chain;
 use snow_flake::{ParamFault, Params};
-use snow_lines::{Line, Lines, SkipKind};
+use snow_lines::Lines;
 use snow_plain::Board;
 use snow_wire::{Event, Start};
-use std::alloc::{AllocError, Global};
+use std::alloc::Global;
 use std::marker::Model;
 
 /// The engine of one node, over any chain and any board. Contracts see the node of the definitions.
-/// Each call appends its lines to a log. How blocks are issued and polls recorded is the behaviour of
-/// AvalancheGo's package `snow`; the events and the lines are this project's own.
+/// Each call appends its lines to a log. How blocks wait and are issued, and how polls are begun,
+/// closed and recorded, is the behaviour of AvalancheGo's package `snow`; the events and the lines are
+/// this project's own.
 #[derive(Drop)]
 pub struct Engine<C: Chain, B: Board> {
-    task: Task,
-    params: Params,
-    board: B,
-    chain: C,
-    alloc: Global,
+    stage: Stage<Deciding<C, B>, Running<C, B>>,
 }
 
 impl<C: Chain, B: Board> Model for Engine<C, B> {
-    ghost use Rattle.std.specs.Prelude.{◌≡◌};
     ghost use Rattle.snow_engine.specs.Node.{Node};
     ghost use Rattle.snow_engine.specs.NodeCode.{coded_node};
-    ghost use Rattle.snow_engine.specs.Matching.{IsSteady};
 
     ghost Value = { Node };
 
     ghost coded = { coded_node };
 
-    ghost view = { λ e. record { task = e.task; board = B.board e.board; chain = C.held e.chain } };
-
-    ghost invariant = { λ e. ((B.board e.board).parameters ≡ e.params) × IsSteady (B.board e.board) (C.held e.chain) };
+    ghost view = { λ e. e.stage };
 }
 
 impl<C: Chain, B: Board> Engine<C, B> {
-    ghost use Rattle.snow_engine.specs.Node as model;
-    ghost use Rattle.snow_engine.specs.Stepping.{Logs, Starts, Steps};
-
-    /// The engine that begins with this Start. Its parameters are checked first, and then whether the
-    /// chain takes its state: `Params` and `State` tell what is refused. Nodes and boot of the Start
-    /// aren't looked at by `Decide`.
+    /// The engine that begins with this Start. Its parameters are checked first, then, by `Run` alone,
+    /// its nodes, and then whether the chain takes its state: `Params`, `Roster` and `State` tell what
+    /// is refused. Last, `Run` answers `Unsupported` where the node is to bootstrap first. Nodes and
+    /// boot of the Start aren't looked at by `Decide`.
     #[tactic(auto, unfolding(crate::specs::Node::started))]
     pub fn start(
         alloc: Global,
@@ -62,59 +55,23 @@ impl<C: Chain, B: Board> Engine<C, B> {
             Ok(params) => params,
             Err(fault) => return Err(EngineStop::Params(fault)),
         };
-        let chain = C::begin(alloc, first.last, first.state.list())?;
-        let board = B::begin(alloc, params, first.last, first.height)?;
-        Ok(Engine {
-            task,
-            params,
-            board,
-            chain,
-            alloc,
-        })
+        let stage = match task {
+            Task::Decide => Stage::Deciding(Deciding::start(alloc, first, params)?),
+            Task::Run => Stage::Running(Running::start(alloc, first, params)?),
+        };
+        Ok(Engine { stage })
     }
 
-    /// One event, which came in this frame. A second Start stops the engine with `SecondStart`. After
-    /// a stop the engine is only let go; after `Memory` a front of the event's lines was appended.
+    /// One event, which came in this frame. A second Start stops the engine with `SecondStart`, and
+    /// `Requests` comes where a number is needed and all are used up. After a stop the engine is only
+    /// let go: all lines before the stop were appended, after `Memory` a front of the event's lines.
     pub fn step(&mut self, frame: u64, event: Event, log: &mut Lines) -> Result<(), EngineStop>
         ensures answer { Steps result self.new (model.step C.rules B.answer self.old frame event).1 }
         ensures lines { Logs result log.old log.new (model.step C.rules B.answer self.old frame event).0 }
     {
-        match self.task {
-            Task::Decide => self.decide(frame, &event, log),
-        }
-    }
-
-    /// One event of a node that decides.
-    #[tactic(auto, unfolding(crate::specs::Node::decides_on), using(crate::proofs::Logs::logs_nothing))]
-    fn decide(&mut self, frame: u64, event: &Event, log: &mut Lines) -> Result<(), EngineStop>
-        ensures answer { Steps result self.new (model.decides_on C.rules B.answer self.old frame event.now).1 }
-        ensures lines { Logs result log.old log.new (model.decides_on C.rules B.answer self.old frame event.now).0 }
-    {
-        match event {
-            Event::Start(_) => Err(EngineStop::SecondStart),
-            Event::Block { bytes, .. } => {
-                receive(&mut self.board, &mut self.chain, frame, bytes.list(), log)?;
-                Ok(())
-            }
-            Event::Poll { ids } => {
-                record(
-                    self.alloc,
-                    &self.params,
-                    &mut self.board,
-                    &mut self.chain,
-                    frame,
-                    ids,
-                    log,
-                )?;
-                Ok(())
-            }
-            _ => {
-                log.push(Line::Skip {
-                    frame,
-                    kind: SkipKind::Task,
-                })?;
-                Ok(())
-            }
+        match &mut self.stage {
+            Stage::Deciding(node) => node.step(frame, &event, log),
+            Stage::Running(node) => node.step(frame, event, log),
         }
     }
 }
@@ -122,7 +79,7 @@ impl<C: Chain, B: Board> Engine<C, B> {
 /// The parameters that a Start states, or the first thing that is wrong with them.
 #[tactic(auto, using(crate::proofs::Good::checked_good))]
 fn parameters_of(first: &Start) -> Result<Params, ParamFault>
-    ensures checked { result ≡ checked (stated first.now) }
+    ensures checked { result ≡ checked (model.stated first.now) }
     ensures good { IfOk result (λ params. AreGood params) }
 {
     Params::check(

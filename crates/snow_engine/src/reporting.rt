@@ -1,12 +1,31 @@
-ghost use Rattle.std.specs.Prelude.{◌≡◌, ◌++◌, map, OnOk, OnErr};
+ghost use Rattle.std.specs.Prelude.{◌≡◌, [], ◌∷◌, ◌++◌, map, Err, OnOk, OnErr};
 ghost use Rattle.snow_plain.specs.Preference.{preferred};
-ghost use Rattle.snow_engine.specs.Node as model;
-ghost use Rattle.snow_engine.specs.Stepping.{LogsFront};
+ghost use Rattle.snow_engine.specs.Telling as model;
+ghost use Rattle.snow_engine.specs.Stepping.{Logs, LogsFront};
 
+use crate::stop::EngineStop;
 use snow_base::Id;
-use snow_lines::{Line, Lines};
+use snow_lines::{DropWhy, Line, Lines};
 use snow_plain::{Board, Decision};
 use std::alloc::AllocError;
+
+/// Writes a line.
+#[tactic(auto, using(crate::proofs::Logs::logs_nothing))]
+pub fn write(line: Line, log: &mut Lines) -> Result<(), EngineStop>
+    ensures memory { OnErr result (result ≡ Err EngineStop.Memory) }
+    ensures lines { Logs result log.old log.new (line ∷ []) }
+{
+    log.push(line)?;
+    Ok(())
+}
+
+/// Writes that a block is given up.
+pub fn drop_block(id: Id, why: DropWhy, log: &mut Lines) -> Result<(), EngineStop>
+    ensures memory { OnErr result (result ≡ Err EngineStop.Memory) }
+    ensures lines { Logs result log.old log.new (Line.Drop id why ∷ []) }
+{
+    write(Line::Drop { id, why }, log)
+}
 
 /// The lines of the last poll's decisions, and that of the preference where it changed.
 #[tactic(auto, using(crate::proofs::Logs::logging))]

@@ -1,4 +1,4 @@
-ghost use Rattle.std.specs.Prelude.{◌≡◌, [], Some, IfOk};
+ghost use Rattle.std.specs.Prelude.{◌≡◌, [], Some, None, IfOk};
 ghost use Rattle.snow_engine.specs.Run as model;
 ghost use Rattle.snow_engine.specs.Run.{after_frame};
 ghost use Rattle.snow_engine.specs.Serving.{stand_of, Opens, Stands, LogsFrame};
@@ -32,12 +32,21 @@ impl<C: Chain, B: Board> Runner<C, B> {
     {
         self.log.clear();
         match &mut self.engine {
-            None => {
-                self.engine = Some(open(self.alloc, self.task, frame, payload, &mut self.log)?);
-                Ok(())
-            }
+            None => self.begin(frame, payload),
             Some(engine) => follow(self.alloc, engine, frame, payload, &mut self.log),
         }
+    }
+
+    /// Works the first frame. It stands apart, so that no later frame pays for the room of a new engine.
+    fn begin(&mut self, frame: u64, payload: &[u8]) -> Result<(), End>
+        requires { self.old.engine ≡ None }
+        ensures stand { Stands result self.new.engine (model.opened C.rules self.old.task frame (model.read payload.now)).1 }
+        ensures lines { LogsFrame result self.old.log self.new.log (model.opened C.rules self.old.task frame (model.read payload.now)).0 }
+        ensures task { self.new.task ≡ self.old.task }
+    {
+        let engine = open(self.alloc, self.task, frame, payload, &mut self.log)?;
+        self.engine = Some(engine);
+        Ok(())
     }
 }
 

@@ -9,16 +9,14 @@ ghost use Rattle.snow_engine.specs.Serving.{IsEnd, Wrote, HasFault, Broke};
 use crate::end::End;
 use crate::session::Session;
 use crate::task::Task;
-use snow_base::{Failed, Sink, Source};
+use snow_base::{Sink, Source};
 use snow_chain::Chain;
 use snow_plain::Board;
+use snow_wire::ReadFault;
 use std::alloc::Global;
 
 /// The most bytes of a stream that are taken.
 const LIMIT: u64 = 1_099_511_627_776;
-
-/// The most bytes that are taken at a time.
-const PIECE: usize = 65_536;
 
 /// Runs a task over a source: each whole frame is worked as it comes, and its lines are written before
 /// the next bytes are read. A fault of the source or of the sink, or want of memory, ends the run
@@ -42,38 +40,18 @@ pub fn serve<C: Chain, B: Board, S: Source, O: Sink>(
     ensures source_later { S.faults source.old ≤ S.faults source.new }
     ensures out_later { O.faults out.old ≤ O.faults out.new }
 {
-    let mut piece = [0; PIECE];
     match Session::<C, B>::begin(alloc, task) {
-        Ok(mut session) => session.run(source, out, &mut piece),
+        Ok(mut session) => session.run(source, out),
         Err(_) => End::Memory,
-    }
-}
-
-/// Reads bytes into the front of `piece`, at most `room`, and answers how many: none at the end alone.
-fn read_some<S: Source>(source: &mut S, piece: &mut [u8], room: u64) -> Result<usize, Failed>
-    requires piece { 0 < length piece.old }
-    requires room { 0 < room }
-    ensures few { IfOk result (λ n. (n ≤ length piece.new) × (n ≤ room)) }
-    ensures some { IfOk result (λ n. Consumes (S.left source.old) (S.left source.new) (take n piece.new)) }
-    ensures none { result ≡ Ok 0 → IsAtEnd (S.left source.new) }
-    ensures err { OnErr result (Keeps (S.left source.old) (S.left source.new)) }
-    ensures length { length piece.new ≡ length piece.old }
-    ensures cause { HasCause (S.faults source.old) (S.faults source.new) result }
-{
-    if room < piece.len() as u64 {
-        source.read(&mut piece[..room as usize])
-    } else {
-        source.read(piece)
     }
 }
 
 impl<C: Chain, B: Board> Session<C, B> {
     /// Takes pieces until the source ends, something ends the run, or 2^40 bytes were taken.
-    fn run<S: Source, O: Sink>(&mut self, source: &mut S, out: &mut O, piece: &mut [u8]) -> End
+    fn run<S: Source, O: Sink>(&mut self, source: &mut S, out: &mut O) -> End
         requires decoder { self.old.decoder ≡ fresh }
         requires engine { self.old.runner.engine ≡ None }
         requires page { self.old.page ≡ [] }
-        requires piece { 0 < length piece.old }
         ensures end { IfSome (S.left source.old) (λ bytes. IsEnd result (end_of C.rules B.answer self.old.runner.task bytes)) }
         ensures output { IfSome (S.left source.old) (λ bytes.
             Wrote result (O.written out.old) (O.written out.new) (texts (lines_of C.rules B.answer self.old.runner.task (seen bytes)))) }
@@ -86,13 +64,15 @@ impl<C: Chain, B: Board> Session<C, B> {
     {
         let mut room = LIMIT;
         while room > 0 {
-            let Ok(taken) = read_some(source, piece, room) else {
-                return End::SourceFault;
+            let taken = match self.decoder.read_from(source, room) {
+                Ok(taken) => taken,
+                Err(ReadFault::Source) => return End::SourceFault,
+                Err(ReadFault::Memory) => return End::Memory,
             };
             if taken == 0 {
                 return self.end_of_input();
             }
-            if let Err(end) = self.take(&piece[..taken], out) {
+            if let Err(end) = self.work(out) {
                 return end;
             }
             room -= taken as u64;

@@ -1,6 +1,6 @@
 ghost use Rattle.std.specs.Prelude.{◌≡◌, ◌+◌, ◌*◌, ◌^◌, ◌-◌, ◌≤◌, ◌<◌, [], length, None, Ok, false, ◌==◌, if◌then◌else◌, is_some, IfOk, OnOk};
 ghost use Rattle.snow_wire.specs.Frame.{first_of, is_too_long};
-ghost use Rattle.snow_wire.specs.Stream.{fed, fresh};
+ghost use Rattle.snow_wire.specs.Stream.{fresh};
 ghost use Rattle.snow_engine.specs.Run.{end_behind};
 ghost use Rattle.snow_engine.specs.Serving.{stand_of, Goes, GathersLines, WritesLines, SinkFails, one_worked, all_worked};
 
@@ -42,27 +42,6 @@ impl<C: Chain, B: Board> Session<C, B> {
             },
             page,
         })
-    }
-
-    /// Takes the next bytes of the stream, works all frames that are whole then, and writes their
-    /// lines. Nothing may wait to be written before.
-    pub fn take<O: Sink>(&mut self, piece: &[u8], out: &mut O) -> Result<(), End>
-        requires small { 4 * self.old.decoder.given + length self.old.decoder.rest + length piece.now ≤ 2 ^ 40 }
-        requires empty { self.old.page ≡ [] }
-        ensures goes { Goes result self.new.runner.engine self.new.decoder
-            (all_worked C.rules B.answer self.old.runner.task (stand_of self.old.runner.engine) (fed self.old.decoder piece.now)) }
-        ensures lines { WritesLines result (O.written out.old) (O.written out.new)
-            (all_worked C.rules B.answer self.old.runner.task (stand_of self.old.runner.engine) (fed self.old.decoder piece.now)).lines }
-        ensures fine { OnOk result (is_too_long self.new.decoder.rest ≡ false) }
-        ensures empty { OnOk result (self.new.page ≡ []) }
-        ensures fault { SinkFails result (O.faults out.old) (O.faults out.new) }
-        ensures later { O.faults out.old ≤ O.faults out.new }
-        ensures task { self.new.runner.task ≡ self.old.runner.task }
-    {
-        match self.decoder.feed(piece) {
-            Ok(()) => self.work(out),
-            Err(_) => Err(End::Memory),
-        }
     }
 
     /// How a run ends where the source has no further byte.
@@ -134,7 +113,7 @@ impl<C: Chain, B: Board> Session<C, B> {
 
     /// Works all whole frames that the decoder holds, and writes their lines. Nothing may wait to be
     /// written before.
-    fn work<O: Sink>(&mut self, out: &mut O) -> Result<(), End>
+    pub fn work<O: Sink>(&mut self, out: &mut O) -> Result<(), End>
         requires small { 4 * self.old.decoder.given + length self.old.decoder.rest ≤ 2 ^ 40 }
         requires empty { self.old.page ≡ [] }
         ensures goes { Goes result self.new.runner.engine self.new.decoder

@@ -3,6 +3,7 @@ ghost use Rattle.std.specs.Prelude.{◌≡◌};
 use crate::end::{BadKind, End};
 use snow_chain::ChainFault;
 use snow_flake::ParamFault;
+use snow_sample::RosterFault;
 use std::alloc::AllocError;
 
 /// Why an engine doesn't start, or goes no further.
@@ -10,10 +11,16 @@ use std::alloc::AllocError;
 pub enum EngineStop {
     /// The parameters of the Start are refused.
     Params(ParamFault),
+    /// The nodes of the Start are refused; want of memory is never told so.
+    Roster(RosterFault),
     /// The chain doesn't take the state of the Start.
     State,
+    /// The Start wants the node to bootstrap first, which isn't built yet.
+    Unsupported,
     /// A Start came though the run has begun.
     SecondStart,
+    /// A request number was needed, and all are used up.
+    Requests,
     /// Memory ran out.
     Memory,
 }
@@ -27,8 +34,11 @@ impl EngineStop {
     {
         let kind = match self {
             EngineStop::Params(fault) => BadKind::Params(fault),
+            EngineStop::Roster(fault) => BadKind::Roster(fault),
             EngineStop::State => BadKind::State,
             EngineStop::SecondStart => BadKind::SecondStart,
+            EngineStop::Unsupported => return End::Unsupported,
+            EngineStop::Requests => return End::RequestLimit,
             EngineStop::Memory => return End::Memory,
         };
         End::BadInput { frame, kind }
@@ -56,6 +66,20 @@ impl From<ChainFault> for EngineStop {
         match fault {
             ChainFault::State => EngineStop::State,
             ChainFault::Memory => EngineStop::Memory,
+        }
+    }
+}
+
+impl From<RosterFault> for EngineStop {
+    ghost use Rattle.std.specs.Prelude.{◌≡◌};
+    ghost use Rattle.snow_engine.specs.Stepping.{stop_of_roster};
+
+    ghost from_gives = { λ fault stop. stop ≡ stop_of_roster fault };
+
+    fn from(fault: RosterFault) -> EngineStop {
+        match fault {
+            RosterFault::Memory => EngineStop::Memory,
+            other => EngineStop::Roster(other),
         }
     }
 }

@@ -3,4 +3,6 @@
 pub enum Task {
     /// It takes blocks and whole polls, and asks nobody.
     Decide,
+    /// It asks other nodes, and takes their replies, blocks and votes.
+    Run,
 }

@@ -1,6 +1,6 @@
 ghost use Rattle.std.specs.Prelude.{◌≡◌};
 ghost use Rattle.snow_engine.specs.Matching.{MayFollow, MayTell};
-ghost use Rattle.snow_engine.specs.Node.{with_decision, with_decisions};
+ghost use Rattle.snow_engine.specs.Telling.{with_decision, with_decisions};
 
 use snow_chain::Chain;
 use snow_plain::Decision;

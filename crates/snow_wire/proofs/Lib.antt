@@ -1,3 +1,4 @@
+pub mod Behind
 pub mod Events
 pub mod Examples
 pub mod Fields

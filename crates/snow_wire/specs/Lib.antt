@@ -1,4 +1,5 @@
 pub mod Spelling
 pub mod Reading
+pub mod Filling
 pub mod Frame
 pub mod Stream

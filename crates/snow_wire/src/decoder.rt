@@ -1,32 +1,50 @@
-ghost use Rattle.std.specs.Prelude.{◌≡◌, ◌-◌, ◌^◌, ◌<◌, ◌≤◌, length, OnOk, OnErr, IfOk, IfNone};
+ghost use Rattle.std.specs.Prelude.{◌≡◌, ◌-◌, ◌^◌, ◌<◌, ◌≤◌, length, Ok, Err, OnOk, OnErr, IfOk, IfNone};
 ghost use Rattle.std.specs.Borrow.{sem};
 ghost use Rattle.std.specs.Io.BufRead.{Rests};
+ghost use Rattle.std.specs.Io.KnownBytes.{IsAtEnd, Keeps};
+ghost use Rattle.snow_base.specs.Outside.{Rose};
+ghost use Rattle.snow_wire.specs.declared.decoder.ReadFault.TheVariants as fault;
 
+use crate::buffer::Buffer;
 use crate::frame::{Frame, TooLong, first_frame, too_long};
+use snow_base::Source;
 use std::alloc::{AllocError, Global};
 use std::marker::Model;
+
+/// So many bytes are read at a time at most.
+const PIECE: usize = 65_536;
+
+/// Why no bytes were read.
+#[derive(Clone, Copy, Debug, PartialEq, Eq)]
+pub enum ReadFault {
+    /// The source failed.
+    Source,
+    /// There was no memory for them.
+    Memory,
+}
 
 /// Gives the frames of a stream that comes in pieces. Contracts see how many frames were given, and
 /// the bytes behind them.
 #[derive(Debug, Drop)]
 pub struct Decoder {
-    bytes: Vec<u8>,
+    bytes: Buffer,
     start: usize,
     given: u64,
 }
 
 impl Model for Decoder {
-    ghost use Rattle.std.specs.Prelude.{◌≤◌, drop, vec_len};
+    ghost use Rattle.std.specs.Prelude.{◌≤◌, drop, length};
     ghost use Rattle.snow_wire.specs.Stream.{Intake};
 
     ghost Value = { Intake };
 
-    ghost view = { λ d. record { given = d.given; rest = drop d.start d.bytes.items } };
+    ghost view = { λ d. record { given = d.given; rest = drop d.start d.bytes.bytes } };
 
-    ghost invariant = { λ d. d.start ≤ vec_len d.bytes };
+    ghost invariant = { λ d. d.start ≤ length d.bytes.bytes };
 }
 
 impl Decoder {
+    ghost use Rattle.snow_wire.specs.Filling.{TakesIn};
     ghost use Rattle.snow_wire.specs.Stream.{IsNext, fed, fresh, taken};
     ghost use Rattle.snow_wire.specs.contracts.decoder.Decoder.{the_row};
 
@@ -35,7 +53,7 @@ impl Decoder {
         ensures { result ≡ fresh }
     {
         Decoder {
-            bytes: Vec::new(alloc),
+            bytes: Buffer::new(alloc),
             start: 0,
             given: 0,
         }
@@ -47,22 +65,49 @@ impl Decoder {
         ensures ok { OnOk result (self.new ≡ fed self.old piece.now) }
         ensures err { OnErr result (self.new ≡ self.old) }
     {
-        let room = self.bytes.capacity() - self.bytes.len();
-        if room < piece.len() && self.bytes.len() - self.start <= self.start {
-            self.move_to_front();
-        }
-        self.bytes.extend_from_slice(piece)?;
+        self.let_go(piece.len());
+        self.bytes.make_room(piece.len())?;
+        self.bytes.append(piece);
         Ok(())
     }
 
-    // Lets go of the bytes of the frames that were given.
-    fn move_to_front(&mut self)
+    /// Reads the next piece of the stream from a source, in place behind the bytes that are left: at
+    /// most `most` bytes, and none at the end alone. At a fault nothing was taken.
+    pub fn read_from<S: Source>(&mut self, source: &mut S, most: u64) -> Result<usize, ReadFault>
+        requires { 0 < most }
+        ensures took { IfOk result (λ n. TakesIn (S.left source.old) (S.left source.new) self.old.rest self.new.rest n) }
+        ensures given { self.new.given ≡ self.old.given }
+        ensures few { IfOk result (λ n. n ≤ most) }
+        ensures none { result ≡ Ok 0 → IsAtEnd (S.left source.new) }
+        ensures err { OnErr result (self.new ≡ self.old) }
+        ensures kept { OnErr result (Keeps (S.left source.old) (S.left source.new)) }
+        ensures later { S.faults source.old ≤ S.faults source.new }
+        ensures cause { result ≡ Err fault.Source → Rose (S.faults source.old) (S.faults source.new) }
+    {
+        let most = if most < PIECE as u64 {
+            most as usize
+        } else {
+            PIECE
+        };
+        self.let_go(most);
+        if self.bytes.make_room(most).is_err() {
+            return Err(ReadFault::Memory);
+        }
+        match self.bytes.read(source, most) {
+            Ok(taken) => Ok(taken),
+            Err(_) => Err(ReadFault::Source),
+        }
+    }
+
+    // Lets go of the bytes of the frames that were given, where so many more want their room and no
+    // more than those have to be moved.
+    fn let_go(&mut self, more: usize)
         ensures { self.new ≡ self.old }
     {
-        let len = self.bytes.len() - self.start;
-        self.bytes.copy_within(self.start.., 0);
-        self.bytes.truncate(len);
-        self.start = 0;
+        if self.bytes.room() < more && self.bytes.len() - self.start <= self.start {
+            self.bytes.let_go(self.start);
+            self.start = 0;
+        }
     }
 
     /// The next frame, or none where the bytes so far hold no further whole frame. A length above
@@ -75,7 +120,7 @@ impl Decoder {
         // What is kept for later is less than a frame.
         ensures held { IfOk result (λ frame. IfNone frame (length self.old.rest ≤ 2097155)) }
     {
-        let rest = &self.bytes[self.start..];
+        let rest = &self.bytes.as_slice()[self.start..];
         if let Some(length) = too_long(rest) {
             return Err(TooLong {
                 number: self.given + 1,

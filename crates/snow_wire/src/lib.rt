@@ -1,6 +1,7 @@
 //! Frames and events: how a stream of bytes is read as events, and how an event is spelled.
 #![tactic(auto)]
 
+mod buffer;
 mod decoder;
 mod decoding;
 mod encoding;
@@ -14,7 +15,7 @@ mod reader;
 mod setup;
 mod skip;
 
-pub use decoder::Decoder;
+pub use decoder::{Decoder, ReadFault};
 pub use decoding::decode;
 pub use encoding::encode;
 pub use event::{Event, Start};

@@ -8,7 +8,8 @@ const NOTHING: &[&[&str]] = &[
     &[],
     &["run", "--chain", "plain", "--chain", "tally"],
     &["drill", "--seed", "1"],
-    &["run"],
+    &["audit"],
+    &["run", "decide"],
     &["decide", "--rule", "avalanche"],
     &["--help"],
 ];

@@ -27,8 +27,20 @@ pub enum Frame {
     Start([u32; 5]),
     /// A Start on this last accepted block with this state; the parameters are all 1.
     StartOn(Name, &'static [u64]),
+    /// A Start for a node that runs: the same, with nodes, each by its byte and its weight.
+    Run([u32; 5], &'static [(u8, u64)]),
     /// A block of the plain chain: it, its parent, its height and its flag.
     Block(Name, Name, u8, u8),
+    /// The same as the answer of node 1 to a request.
+    Brought(u32, Name, Name, u8, u8),
+    /// Random words: how often this one.
+    Words(usize, u64),
+    /// A vote of a node in a poll.
+    Chits(u8, u32, Name),
+    /// A node doesn't answer a request.
+    Timeout(u8, u32),
+    /// New nodes, each by its byte and its weight.
+    Validators(&'static [(u8, u64)]),
     /// A block of these bytes.
     Whole(&'static [u8]),
     /// A poll for these blocks.
@@ -59,7 +71,7 @@ pub fn stream_of(alloc: Global, frames: &[Frame]) -> Result<Vec<u8>, AllocError>
     Ok(bytes)
 }
 
-/// The text of lines, where `~` stands for 60 digits 0.
+/// The text of lines, where `~` stands for 60 digits 0, and `P` to `T` for the nodes 1 to 5.
 pub fn text_of(alloc: Global, lines: &str) -> Result<Vec<u8>, AllocError> {
     let mut text = Vec::new(alloc);
     for byte in lines.as_bytes() {
@@ -71,7 +83,16 @@ pub fn text_of(alloc: Global, lines: &str) -> Result<Vec<u8>, AllocError> {
 fn put_digits(out: &mut Vec<u8>, byte: u8) -> Result<(), AllocError> {
     match byte {
         b'~' => out.extend_from_slice(&[b'0'; 60])?,
+        b'P'..=b'T' => put_node(out, byte - b'P' + b'1')?,
         _ => out.push(byte)?,
+    }
+    Ok(())
+}
+
+/// The digits of a node whose bytes end in this digit.
+fn put_node(out: &mut Vec<u8>, digit: u8) -> Result<(), AllocError> {
+    for _ in 0..20 {
+        out.extend_from_slice(&[b'0', digit])?;
     }
     Ok(())
 }
@@ -92,9 +113,20 @@ fn word(n: usize) -> u32 {
 fn payload_of(alloc: Global, frame: Frame) -> Result<Vec<u8>, AllocError> {
     let mut out = Vec::new(alloc);
     match frame {
-        Frame::Start(parameters) => put_start(&mut out, parameters, ROOT, &[])?,
-        Frame::StartOn(last, state) => put_start(&mut out, [1; 5], last, state)?,
-        Frame::Block(id, parent, height, flag) => put_block(&mut out, id, parent, height, flag)?,
+        Frame::Start(parameters) => put_start(&mut out, parameters, ROOT, &[], &[])?,
+        Frame::StartOn(last, state) => put_start(&mut out, [1; 5], last, state, &[])?,
+        Frame::Run(parameters, nodes) => put_start(&mut out, parameters, ROOT, &[], nodes)?,
+        Frame::Block(id, parent, height, flag) => put_block(&mut out, 0, id, parent, height, flag)?,
+        Frame::Brought(number, id, parent, height, flag) => {
+            put_block(&mut out, number, id, parent, height, flag)?;
+        }
+        Frame::Words(count, word) => put_words(&mut out, count, word)?,
+        Frame::Chits(node, number, id) => put_vote(&mut out, node, number, id)?,
+        Frame::Timeout(node, number) => put_message(&mut out, 6, node, number)?,
+        Frame::Validators(nodes) => {
+            out.push(11)?;
+            put_nodes(&mut out, nodes)?;
+        }
         Frame::Whole(bytes) => put_whole(&mut out, bytes)?,
         Frame::Poll(votes) => put_poll(&mut out, votes)?,
         Frame::Same(count, byte) => out.resize(count, byte)?,
@@ -121,6 +153,7 @@ fn put_start(
     parameters: [u32; 5],
     last: Name,
     state: &[u64],
+    nodes: &[(u8, u64)],
 ) -> Result<(), AllocError> {
     out.push(1)?;
     for number in parameters {
@@ -130,7 +163,37 @@ fn put_start(
     put_name(out, last)?;
     out.extend_from_slice(&[0; 8])?;
     put_state(out, state)?;
-    put_count(out, 0)
+    put_nodes(out, nodes)
+}
+
+fn put_nodes(out: &mut Vec<u8>, nodes: &[(u8, u64)]) -> Result<(), AllocError> {
+    put_count(out, nodes.len())?;
+    for (node, weight) in nodes {
+        out.extend_from_slice(&[*node; 20])?;
+        out.extend_from_slice(&weight.to_be_bytes())?;
+    }
+    Ok(())
+}
+
+fn put_words(out: &mut Vec<u8>, count: usize, word: u64) -> Result<(), AllocError> {
+    out.push(4)?;
+    put_count(out, count)?;
+    for _ in 0..count {
+        out.extend_from_slice(&word.to_be_bytes())?;
+    }
+    Ok(())
+}
+
+/// A message of a node: its tag, the node and the number of a request.
+fn put_message(out: &mut Vec<u8>, tag: u8, node: u8, number: u32) -> Result<(), AllocError> {
+    out.push(tag)?;
+    out.extend_from_slice(&[node; 20])?;
+    out.extend_from_slice(&number.to_be_bytes())
+}
+
+fn put_vote(out: &mut Vec<u8>, node: u8, number: u32, id: Name) -> Result<(), AllocError> {
+    put_message(out, 5, node, number)?;
+    put_name(out, id)
 }
 
 fn put_state(out: &mut Vec<u8>, state: &[u64]) -> Result<(), AllocError> {
@@ -143,12 +206,13 @@ fn put_state(out: &mut Vec<u8>, state: &[u64]) -> Result<(), AllocError> {
 
 fn put_block(
     out: &mut Vec<u8>,
+    number: u32,
     id: Name,
     parent: Name,
     height: u8,
     flag: u8,
 ) -> Result<(), AllocError> {
-    put_zeros(out, 2, 24)?;
+    put_message(out, 2, 1, number)?;
     out.extend_from_slice(&[0, 0, 0, 73])?;
     put_name(out, id)?;
     put_name(out, parent)?;

@@ -1,5 +1,6 @@
 use super::read_words;
 use crate::command::{ChainName, Command, RuleName};
+use snow_engine::Task;
 use std::alloc::{AllocError, Global};
 use std::test::Fail;
 
@@ -18,7 +19,8 @@ fn answers(rt: HostRuntime) -> Result<(), Fail> {
     let alloc = rt.alloc();
     let words = collect(alloc, &["decide", "--chain", "tally", "--rule=snowflake"])?;
     let command = read_words(alloc, &words)?;
-    let expected = Command::Decide {
+    let expected = Command::Serve {
+        task: Task::Decide,
         chain: ChainName::Tally,
         rule: RuleName::Snowflake,
     };

@@ -1,7 +1,7 @@
 -- The lines of the decisions so far are a front of all.
 use Rattle.std.proofs.Common.{◌∙◌}
 use Rattle.std.proofs.lemmas.Result.{err_from_is_err_and}
-use Rattle.snow_engine.specs.Node.{decision_line}
+use Rattle.snow_engine.specs.Telling.{decision_line}
 use Rattle.snow_engine.proofs.Logs.{logs_some}
 use Rattle.snow_engine.proofs.reporting.tell_decisions.Goals as goal
 

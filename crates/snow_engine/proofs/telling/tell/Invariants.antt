@@ -1,7 +1,7 @@
 -- The chain was told the decisions so far, and may be told the rest.
 use Rattle.std.proofs.Common.{◌≡◌, take, drop}
 use Rattle.snow_engine.specs.Matching.{MayFollow}
-use Rattle.snow_engine.specs.Node.{with_decisions}
+use Rattle.snow_engine.specs.Telling.{with_decisions}
 use Rattle.snow_engine.proofs.telling.tell.Given as goal
 
 abbrev pub invariant-loop-decision : goal.invariant-loop-decision

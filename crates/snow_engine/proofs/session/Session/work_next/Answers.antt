@@ -1,5 +1,5 @@
 -- A length that no frame has ends the run, and no line comes of it.
-use Rattle.std.proofs.Common.{◌++◌, ap, sym, subst, List, ℕ}
+use Rattle.std.proofs.Common.{◌++◌, refl, ap, sym, subst, List, ℕ}
 use Rattle.snow_lines.specs.declared.line.Line.{Line}
 use Rattle.snow_lines.specs.Gathered.{Gathers}
 use Rattle.snow_lines.specs.Text.{texts}
@@ -15,10 +15,12 @@ use Rattle.snow_engine.proofs.Worked.{failed_first, long_halts, none_worked}
 use Rattle.snow_engine.proofs.session.Session.work_next.Goals as goal
 
 pub returns-in-Err-clause-goes : goal.returns-in-Err-clause-goes
-returns-in-Err-clause-goes g c =
-    subst (λ (n : ℕ). Halts (one_worked g.C.Chain.rules g.B.Board.answer c.args.self.now.runner.task (stand_of c.args.self.now.runner.engine) c.args.self.now.decoder) (end.BadInput n kind.Length))
-    (sym (ap (λ (t : TooLong). t.number) c.in-Err.ensures.answer.1))
-    (long_halts g.C.Chain.rules g.B.Board.answer c.args.self.now.runner.task c.args.self.now.runner.engine c.args.self.now.decoder c.in-Err.ensures.answer.0)
+returns-in-Err-clause-goes g c = (
+  refl,
+  subst (λ (n : ℕ). Halts (one_worked g.C.Chain.rules g.B.Board.answer c.args.self.now.runner.task (stand_of c.args.self.now.runner.engine) c.args.self.now.decoder) (end.BadInput n kind.Length))
+      (sym (ap (λ (t : TooLong). t.number) c.in-Err.ensures.answer.1))
+      (long_halts g.C.Chain.rules g.B.Board.answer c.args.self.now.runner.task c.args.self.now.runner.engine c.args.self.now.decoder c.in-Err.ensures.answer.0),
+)
 
 pub returns-in-Err-clause-lines : goal.returns-in-Err-clause-lines
 returns-in-Err-clause-lines g c =

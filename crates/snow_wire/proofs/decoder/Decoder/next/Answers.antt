@@ -13,8 +13,8 @@ seen start xs items rest same e = rw take_rest (ap (drop start) same ∙ e)
 pub returns-in-Some : goal.returns-in-Some
 returns-in-Some c =
     let old = c.args.self.now in
-    let xs = c.deref.result.now in
-    let s = seen c.self.inside.start xs c.self.inside.bytes.items old.rest c.deref.ensures.value (ap (λ (i : Intake). i.rest) c.self.view_is) in
+    let xs = c.as_slice.result.now in
+    let s = seen c.self.inside.start xs c.self.inside.bytes.bytes old.rest c.as_slice.ensures.bytes (ap (λ (i : Intake). i.rest) c.self.view_is) in
     let front = take (length xs - c.self.inside.start) (drop c.self.inside.start xs) in
     let g = given_if (is_too_long front) (length_word front) c.in-Some.length (sym c.in-Some.ensures) in
     let long : is_too_long old.rest ≡ true = ap is_too_long (sym s) ∙ g.0 in
@@ -27,8 +27,8 @@ returns-in-Some c =
 pub returns-in_default-first_frame : goal.returns-in_default-first_frame
 returns-in_default-first_frame c =
     let rest = c.args.self.now.rest in
-    let xs = c.deref.result.now in
-    let s = seen c.self.inside.start xs c.self.inside.bytes.items rest c.deref.ensures.value (ap (λ (i : Intake). i.rest) c.self.view_is) in
+    let xs = c.as_slice.result.now in
+    let s = seen c.self.inside.start xs c.self.inside.bytes.bytes rest c.as_slice.ensures.bytes (ap (λ (i : Intake). i.rest) c.self.view_is) in
     let none : first_of rest ≡ None = ap first_of (sym s) ∙ sym c.in_default-first_frame.ensures.first in
     let fine : is_too_long rest ≡ false = ap is_too_long (sym s) ∙ none_if (is_too_long (take (length xs - c.self.inside.start) (drop c.self.inside.start xs))) _ (sym c.in_default.ensures) in
     ((refl, (λ _. tt), c.self.view_is ∙ sym (ap (without c.args.self.now) none)), record { answer = (none, fine); rests = tt; held = small_rest rest none fine })
@@ -36,11 +36,11 @@ returns-in_default-first_frame c =
 pub returns : goal.returns
 returns c =
     let old = c.args.self.now in
-    let items = c.self.inside.bytes.items in
+    let items = c.self.inside.bytes.bytes in
     let start = c.self.inside.start in
     let payload = c.in-Some-first_frame.payload.now in
     let v : drop start items ≡ old.rest = ap (λ (i : Intake). i.rest) c.self.view_is in
-    let s = seen start c.deref.result.now items old.rest c.deref.ensures.value v in
+    let s = seen start c.as_slice.result.now items old.rest c.as_slice.ensures.bytes v in
     let found : first_of (drop start items) ≡ Some (payload, c.in-Some-first_frame.field-0-1.now) = ap first_of (v ∙ sym s) ∙ sym c.in-Some-first_frame.ensures.first in
     let behind = drop (start + (4 + length payload)) items in
     let first : first_of old.rest ≡ Some (payload, behind) = ap first_of (sym v) ∙ off_place start items (payload, c.in-Some-first_frame.field-0-1.now) found in

@@ -1,0 +1,188 @@
+//! A node that decides: it takes blocks and whole polls, and asks nobody.
+
+ghost use Rattle.std.specs.Prelude.{◌≡◌, ◌≤◌, None, length, IfOk};
+ghost use Rattle.snow_base.specs.Votes.{total_count};
+ghost use Rattle.snow_flake.specs.Parameters.{AreGood};
+ghost use Rattle.snow_plain.specs.Board.{height_of};
+ghost use Rattle.snow_plain.specs.Reached.{MayIssue};
+ghost use Rattle.snow_chain.specs.Chain.{next_on};
+ghost use Rattle.snow_engine.specs.Deciding as model;
+ghost use Rattle.snow_engine.specs.Node.{decides_with};
+ghost use Rattle.snow_engine.specs.Placing.{opposed};
+ghost use Rattle.snow_engine.specs.Stepping.{Logs, Starts, Steps};
+
+use crate::admitting::{admit, apply, opposition};
+use crate::reporting::{tell, write};
+use crate::stop::EngineStop;
+use snow_base::{Bag, Header, Ids};
+use snow_chain::Chain;
+use snow_flake::Params;
+use snow_lines::{DropWhy, Line, Lines, SkipKind};
+use snow_plain::Board;
+use snow_wire::{Event, Start};
+use std::alloc::{AllocError, Global};
+use std::marker::Model;
+
+/// A node that decides, over any chain and any board. Contracts see the node of the definitions.
+#[derive(Drop)]
+pub struct Deciding<C: Chain, B: Board> {
+    params: Params,
+    board: B,
+    chain: C,
+    alloc: Global,
+}
+
+impl<C: Chain, B: Board> Model for Deciding<C, B> {
+    ghost use Rattle.std.specs.Prelude.{◌≡◌};
+    ghost use Rattle.snow_engine.specs.Deciding.{Deciding};
+    ghost use Rattle.snow_engine.specs.NodeCode.{coded_deciding};
+    ghost use Rattle.snow_engine.specs.Matching.{IsSteady};
+
+    ghost Value = { Deciding };
+
+    ghost coded = { coded_deciding };
+
+    ghost view = { λ e. record { board = B.board e.board; chain = C.held e.chain } };
+
+    ghost invariant = { λ e. ((B.board e.board).parameters ≡ e.params) × IsSteady (B.board e.board) (C.held e.chain) };
+}
+
+impl<C: Chain, B: Board> Deciding<C, B> {
+    /// The node that begins with a Start of these parameters.
+    pub fn start(alloc: Global, first: &Start, params: Params) -> Result<Self, EngineStop>
+        requires { AreGood params }
+        ensures { Starts result (decides_with C.rules first.now params) }
+    {
+        let chain = C::begin(alloc, first.last, first.state.list())?;
+        let board = B::begin(alloc, params, first.last, first.height)?;
+        Ok(Deciding {
+            params,
+            board,
+            chain,
+            alloc,
+        })
+    }
+
+    /// One event, which came in this frame.
+    #[tactic(auto, unfolding(crate::specs::Deciding::decides_on), using(crate::proofs::Logs::logs_nothing))]
+    pub fn step(&mut self, frame: u64, event: &Event, log: &mut Lines) -> Result<(), EngineStop>
+        ensures answer { Steps result self.new (model.decides_on C.rules B.answer self.old frame event.now).1 }
+        ensures lines { Logs result log.old log.new (model.decides_on C.rules B.answer self.old frame event.now).0 }
+    {
+        match event {
+            Event::Start(_) => Err(EngineStop::SecondStart),
+            Event::Block { bytes, .. } => self.receive(frame, bytes.list(), log),
+            Event::Poll { ids } => self.record(frame, ids, log),
+            _ => write(
+                Line::Skip {
+                    frame,
+                    kind: SkipKind::Task,
+                },
+                log,
+            ),
+        }
+    }
+
+    /// A block's bytes came.
+    fn receive(&mut self, frame: u64, bytes: &[u8], log: &mut Lines) -> Result<(), EngineStop>
+        ensures answer { Steps result self.new (model.received C.rules B.answer self.old frame bytes.now (C.rules.header_of bytes.now)).1 }
+        ensures lines { Logs result log.old log.new (model.received C.rules B.answer self.old frame bytes.now (C.rules.header_of bytes.now)).0 }
+    {
+        match self.chain.parse(bytes) {
+            None => write(
+                Line::Skip {
+                    frame,
+                    kind: SkipKind::Block,
+                },
+                log,
+            ),
+            Some(block) => self.offer(&block, bytes, log),
+        }
+    }
+
+    /// A block that isn't on the board is placed above its parent; one that is changes nothing.
+    fn offer(&mut self, block: &Header, bytes: &[u8], log: &mut Lines) -> Result<(), EngineStop>
+        ensures answer { Steps result self.new (model.offered B.answer self.old block.now
+            (next_on C.rules self.old.chain block.now.parent bytes.now) (height_of self.old.board block.now.id)).1 }
+        ensures lines { Logs result log.old log.new (model.offered B.answer self.old block.now
+            (next_on C.rules self.old.chain block.now.parent bytes.now) (height_of self.old.board block.now.id)).0 }
+    {
+        match self.board.height_of(&block.id) {
+            Some(_) => Ok(()),
+            None => self.place(block, bytes, log),
+        }
+    }
+
+    /// A block that isn't on the board is issued, unless something stands against it.
+    fn place(&mut self, block: &Header, bytes: &[u8], log: &mut Lines) -> Result<(), EngineStop>
+        requires { height_of self.old.board block.now.id ≡ None }
+        ensures answer { Steps result self.new (model.placed B.answer self.old block.now
+            (next_on C.rules self.old.chain block.now.parent bytes.now)
+            (opposed self.old.board block.now (height_of self.old.board block.now.parent))).1 }
+        ensures lines { Logs result log.old log.new (model.placed B.answer self.old block.now
+            (next_on C.rules self.old.chain block.now.parent bytes.now)
+            (opposed self.old.board block.now (height_of self.old.board block.now.parent))).0 }
+    {
+        match opposition(&self.board, block) {
+            Some(why) => write(Line::Drop { id: block.id, why }, log),
+            None => self.issue(block, bytes, log),
+        }
+    }
+
+    /// A block is issued where its chain takes it, and a change of the preference told.
+    fn issue(&mut self, block: &Header, bytes: &[u8], log: &mut Lines) -> Result<(), EngineStop>
+        requires { MayIssue self.old.board block.now }
+        ensures answer { Steps result self.new (model.issued_with B.answer self.old block.now
+            (next_on C.rules self.old.chain block.now.parent bytes.now)).1 }
+        ensures lines { Logs result log.old log.new (model.issued_with B.answer self.old block.now
+            (next_on C.rules self.old.chain block.now.parent bytes.now)).0 }
+    {
+        let before = self.board.preference();
+        if !admit(&mut self.board, &mut self.chain, block, bytes)? {
+            return write(
+                Line::Drop {
+                    id: block.id,
+                    why: DropWhy::Invalid,
+                },
+                log,
+            );
+        }
+        tell(&self.board, &before, log)?;
+        Ok(())
+    }
+
+    /// A poll with one vote for each of these identifiers came.
+    fn record(&mut self, frame: u64, ids: &Ids, log: &mut Lines) -> Result<(), EngineStop>
+        ensures answer { Steps result self.new (model.recorded B.answer self.old frame ids.now).1 }
+        ensures lines { Logs result log.old log.new (model.recorded B.answer self.old frame ids.now).0 }
+    {
+        if ids.list().len() > self.params.k() as usize {
+            return write(
+                Line::Skip {
+                    frame,
+                    kind: SkipKind::Votes,
+                },
+                log,
+            );
+        }
+        let votes = votes_for(self.alloc, ids)?;
+        let before = self.board.preference();
+        apply(&mut self.board, &mut self.chain, &votes);
+        tell(&self.board, &before, log)?;
+        Ok(())
+    }
+}
+
+/// One vote for each of these identifiers.
+#[tactic(auto, using(snow_base::proofs::Adding::total_added))]
+fn votes_for(alloc: Global, ids: &Ids) -> Result<Bag, AllocError>
+    requires { length ids.now ≤ 1024 }
+    ensures votes { IfOk result (λ votes. votes.list ≡ model.votes_for ids.now) }
+    ensures total { IfOk result (λ votes. total_count votes.list ≡ length ids.now) }
+{
+    let mut votes = Bag::new(alloc);
+    for id in ids.list() {
+        votes.add(*id, 1)?;
+    }
+    Ok(votes)
+}

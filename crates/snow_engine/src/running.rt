@@ -1,0 +1,250 @@
+//! A node that runs: it asks other nodes, and decides by what they answer.
+
+ghost use Rattle.std.specs.Prelude.{◌≡◌, ◌+◌, [], ◌∷◌, ◌++◌, length, nat_lt, Err, IfOk, OnOk, OnErr};
+ghost use Rattle.snow_flake.specs.Parameters.{AreGood};
+ghost use Rattle.snow_sample.specs.Roster.{first_fault, IsRosterOf};
+ghost use Rattle.snow_engine.specs.Hearing as hearing;
+ghost use Rattle.snow_engine.specs.Node as begins;
+ghost use Rattle.snow_engine.specs.Outcome.{then_comes};
+ghost use Rattle.snow_engine.specs.Stepping.{Logs, Starts, Steps};
+ghost use Rattle.snow_engine.specs.Turning as model;
+
+mod closing;
+mod hearing;
+mod querying;
+mod settling;
+
+use crate::reporting::write;
+use crate::stop::EngineStop;
+use snow_base::{Bytes, Id, NodeId, Nodes, Numbers, Nums};
+use snow_chain::Chain;
+use snow_flake::Params;
+use snow_issue::Queue;
+use snow_lines::{Line, Lines, SkipKind};
+use snow_plain::Board;
+use snow_poll::Polls;
+use snow_sample::{Node, Roster, RosterFault, Words};
+use snow_wire::{Event, Start};
+use std::alloc::{AllocError, Global};
+use std::marker::Model;
+
+/// The most random words that wait.
+const MOST_WORDS: usize = 65_536;
+
+/// A node that runs, over any chain and any board. Contracts see the node of the definitions.
+#[derive(Drop)]
+pub struct Running<C: Chain, B: Board> {
+    params: Params,
+    board: B,
+    chain: C,
+    roster: Roster,
+    polls: Polls,
+    queue: Queue,
+    words: Words,
+    numbers: Numbers,
+    /// Whether a poll was recorded since the event began.
+    recorded: bool,
+    /// Whether the queue is known to have nothing to do.
+    settled: bool,
+    alloc: Global,
+}
+
+impl<C: Chain, B: Board> Model for Running<C, B> {
+    ghost use Rattle.snow_issue.specs.Known.{lists_of};
+    ghost use Rattle.snow_engine.specs.Running.{Running};
+    ghost use Rattle.snow_engine.specs.RunningCode.{coded_running};
+    ghost use Rattle.snow_engine.specs.Kept.{IsKept};
+
+    ghost Value = { Running };
+
+    ghost coded = { coded_running };
+
+    ghost view = { λ r. record {
+        board = B.board r.board;
+        chain = C.held r.chain;
+        roster = r.roster;
+        polls = r.polls;
+        queue = lists_of r.queue;
+        words = r.words;
+        last = r.numbers;
+        recorded = r.recorded;
+    } };
+
+    ghost invariant = { λ r. IsKept r.params (B.board r.board) (C.held r.chain) (r.polls) (lists_of r.queue) r.numbers r.settled };
+}
+
+impl<C: Chain, B: Board> Running<C, B> {
+    /// The node that begins with a Start of these parameters. Its nodes are looked at first, and then
+    /// whether the chain takes its state.
+    pub fn start(alloc: Global, first: &Start, params: Params) -> Result<Self, EngineStop>
+        requires { AreGood params }
+        ensures { Starts result (begins.runs_with C.rules first.now params (first_fault (model.members first.now.nodes))) }
+    {
+        let roster = roster_of(alloc, &first.nodes)?;
+        let chain = C::begin(alloc, first.last, first.state.list())?;
+        if first.boot {
+            return Err(EngineStop::Unsupported);
+        }
+        let board = B::begin(alloc, params, first.last, first.height)?;
+        Ok(Running {
+            params,
+            board,
+            chain,
+            roster,
+            polls: Polls::new(alloc, params),
+            queue: Queue::new(alloc, first.last)?,
+            words: Words::new(alloc),
+            numbers: Numbers::new(),
+            recorded: false,
+            settled: false,
+            alloc,
+        })
+    }
+
+    /// One event, which came in this frame.
+    #[tactic(auto, unfolding(crate::specs::Turning::runs_on), using(crate::proofs::Logs::logs_nothing))]
+    pub fn step(&mut self, frame: u64, event: Event, log: &mut Lines) -> Result<(), EngineStop>
+        ensures answer { Steps result self.new (model.runs_on C.rules B.answer self.old frame event).1 }
+        ensures lines { Logs result log.old log.new (model.runs_on C.rules B.answer self.old frame event).0 }
+    {
+        match event {
+            Event::Start(_) => Err(EngineStop::SecondStart),
+            Event::Block {
+                node,
+                request,
+                bytes,
+            } => self.take_block(frame, node, request, bytes, log),
+            Event::Chits { node, request, id } => self.take_vote(request, &node, id, log),
+            Event::Timeout { node, request } => self.lapse(request, &node, log),
+            Event::Words { words } => self.take_words(frame, &words, log),
+            Event::Validators { nodes } => self.take_nodes(frame, &nodes, log),
+            Event::Frontier { .. } | Event::Accepted { .. } | Event::Ancestors { .. } => Ok(()),
+            Event::Poll { .. } | Event::Line { .. } => skip(frame, SkipKind::Task, log),
+            _ => skip(frame, SkipKind::Stage, log),
+        }
+    }
+
+    /// A block came, and the event ends.
+    fn take_block(
+        &mut self,
+        frame: u64,
+        peer: NodeId,
+        number: u32,
+        bytes: Bytes,
+        log: &mut Lines,
+    ) -> Result<(), EngineStop>
+        ensures answer { Steps result self.new (then_comes (hearing.block_came C.rules B.answer self.old frame peer number bytes) (model.rounded B.answer)).1 }
+        ensures lines { Logs result log.old log.new (then_comes (hearing.block_came C.rules B.answer self.old frame peer number bytes) (model.rounded B.answer)).0 }
+    {
+        self.receive_block(frame, peer, number, bytes, log)?;
+        self.round(log)
+    }
+
+    /// A vote came, and the event ends.
+    fn take_vote(
+        &mut self,
+        number: u32,
+        peer: &NodeId,
+        id: Id,
+        log: &mut Lines,
+    ) -> Result<(), EngineStop>
+        ensures answer { Steps result self.new (then_comes (hearing.vote_came C.rules B.answer self.old number peer.now id) (model.rounded B.answer)).1 }
+        ensures lines { Logs result log.old log.new (then_comes (hearing.vote_came C.rules B.answer self.old number peer.now id) (model.rounded B.answer)).0 }
+    {
+        self.receive_vote(number, peer, id, log)?;
+        self.round(log)
+    }
+
+    /// A peer won't answer, and the event ends.
+    fn lapse(&mut self, number: u32, peer: &NodeId, log: &mut Lines) -> Result<(), EngineStop>
+        ensures answer { Steps result self.new (then_comes (hearing.timed_out C.rules B.answer self.old number peer.now) (model.rounded B.answer)).1 }
+        ensures lines { Logs result log.old log.new (then_comes (hearing.timed_out C.rules B.answer self.old number peer.now) (model.rounded B.answer)).0 }
+    {
+        self.time_out(number, peer, log)?;
+        self.round(log)
+    }
+
+    /// The end of an event: queries follow where a poll was recorded.
+    fn round(&mut self, log: &mut Lines) -> Result<(), EngineStop>
+        ensures answer { Steps result self.new (model.rounded B.answer self.old).1 }
+        ensures lines { Logs result log.old log.new (model.rounded B.answer self.old).0 }
+    {
+        if !self.recorded {
+            return Ok(());
+        }
+        self.recorded = false;
+        self.repoll(log)
+    }
+
+    /// Whether the words would be too many.
+    fn overflows(&self, words: &Nums) -> bool
+        ensures { result ≡ nat_lt 65536 (length self.now.words + length words.now) }
+    {
+        words.list().len() > MOST_WORDS - self.words.len()
+    }
+
+    #[tactic(auto, using(crate::proofs::Logs::logs_nothing))]
+    /// Words came; they may bring queries where no poll runs.
+    fn take_words(&mut self, frame: u64, words: &Nums, log: &mut Lines) -> Result<(), EngineStop>
+        ensures answer { Steps result self.new (model.words_came B.answer self.old frame words.now).1 }
+        ensures lines { Logs result log.old log.new (model.words_came B.answer self.old frame words.now).0 }
+    {
+        if self.overflows(words) {
+            return skip(frame, SkipKind::Full, log);
+        }
+        self.words.push_all(words.list())?;
+        if self.polls.len() == 0 {
+            self.repoll(log)
+        } else {
+            Ok(())
+        }
+    }
+
+    /// A new roster is in force, unless something is wrong with it.
+    fn take_nodes(&mut self, frame: u64, nodes: &Nodes, log: &mut Lines) -> Result<(), EngineStop>
+        ensures answer { Steps result self.new (model.roster_came self.old frame (model.members nodes.now) (first_fault (model.members nodes.now))).1 }
+        ensures lines { Logs result log.old log.new (model.roster_came self.old frame (model.members nodes.now) (first_fault (model.members nodes.now))).0 }
+    {
+        match roster_of(self.alloc, nodes) {
+            Ok(roster) => {
+                self.roster = roster;
+                Ok(())
+            }
+            Err(RosterFault::Memory) => Err(EngineStop::Memory),
+            Err(RosterFault::Empty) => skip(frame, SkipKind::Nodes, log),
+            Err(RosterFault::Duplicate { .. }) => skip(frame, SkipKind::Nodes, log),
+            Err(RosterFault::ZeroWeight { .. }) => skip(frame, SkipKind::Nodes, log),
+            Err(RosterFault::TooHeavy) => skip(frame, SkipKind::Nodes, log),
+        }
+    }
+}
+
+/// A frame is passed over.
+fn skip(frame: u64, kind: SkipKind, log: &mut Lines) -> Result<(), EngineStop>
+    ensures memory { OnErr result (result ≡ Err EngineStop.Memory) }
+    ensures lines { Logs result log.old log.new (Line.Skip frame kind ∷ []) }
+{
+    write(Line::Skip { frame, kind }, log)
+}
+
+/// The roster of these nodes.
+fn roster_of(alloc: Global, nodes: &Nodes) -> Result<Roster, RosterFault>
+    ensures { IsRosterOf (model.members nodes.now) result }
+{
+    let members = members_of(alloc, nodes)?;
+    Roster::new(alloc, members.as_slice())
+}
+
+/// Nodes as a roster has them.
+fn members_of(alloc: Global, nodes: &Nodes) -> Result<Vec<Node>, AllocError>
+    ensures { IfOk result (λ members. members.items ≡ model.members nodes.now) }
+{
+    let mut members = Vec::new(alloc);
+    for (id, weight) in nodes.list() {
+        members.push(Node {
+            id: *id,
+            weight: *weight,
+        })?;
+    }
+    Ok(members)
+}

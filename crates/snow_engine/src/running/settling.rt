@@ -1,0 +1,134 @@
+ghost use Rattle.std.specs.Prelude.{◌≡◌};
+ghost use Rattle.snow_plain.specs.Board.{height_of};
+ghost use Rattle.snow_plain.specs.Reached.{MayIssue};
+ghost use Rattle.snow_chain.specs.Chain.{next_on};
+ghost use Rattle.snow_engine.specs.Kept.{IsApart, MayWork};
+ghost use Rattle.snow_engine.specs.Placing.{opposed};
+ghost use Rattle.snow_engine.specs.Settling as model;
+ghost use Rattle.snow_engine.specs.Stepping.{Answers, Logs, Steps};
+
+use crate::admitting::{admit, opposition};
+use crate::reporting::{drop_block, tell};
+use crate::running::Running;
+use crate::stop::EngineStop;
+use snow_base::{Header, Id};
+use snow_chain::Chain;
+use snow_issue::{Held, Work};
+use snow_lines::{DropWhy, Lines};
+use snow_plain::Board;
+
+impl<C: Chain, B: Board> Running<C, B> {
+    /// Does all that is to do with the blocks and replies that wait.
+    pub(super) fn settle(&mut self, log: &mut Lines) -> Result<(), EngineStop>
+        ensures answer { Steps result self.new (model.settled C.rules B.answer self.old).1 }
+        ensures lines { Logs result log.old log.new (model.settled C.rules B.answer self.old).0 }
+    {
+        while self.settle_one(log)? {}
+        Ok(())
+    }
+
+    /// Does the first thing that is to do; whether there was any.
+    fn settle_one(&mut self, log: &mut Lines) -> Result<bool, EngineStop>
+        ensures answer { Answers result self.new (model.one_settled C.rules B.answer self.old).1 }
+        ensures lines { Logs result log.old log.new (model.one_settled C.rules B.answer self.old).0 }
+    {
+        if self.settled {
+            return Ok(false);
+        }
+        match self.queue.next_work(&self.board) {
+            None => {
+                self.settled = true;
+                Ok(false)
+            }
+            Some(work) => self.carry_out(work, log),
+        }
+    }
+
+    /// Does what was taken out of the queue, as there was something.
+    fn carry_out(&mut self, work: Work, log: &mut Lines) -> Result<bool, EngineStop>
+        requires { MayWork self.old.board self.old.queue work }
+        ensures answer { Answers result self.new (model.carried_out C.rules B.answer self.old work).1 }
+        ensures lines { Logs result log.old log.new (model.carried_out C.rules B.answer self.old work).0 }
+    {
+        self.work(work, log)?;
+        Ok(true)
+    }
+
+    /// Does what was taken out of the queue.
+    fn work(&mut self, work: Work, log: &mut Lines) -> Result<(), EngineStop>
+        requires { MayWork self.old.board self.old.queue work }
+        ensures answer { Steps result self.new (model.done C.rules B.answer self.old work).1 }
+        ensures lines { Logs result log.old log.new (model.done C.rules B.answer self.old work).0 }
+    {
+        match work {
+            Work::Hopeless(block) => drop_block(block.header.id, DropWhy::Parent, log),
+            Work::Ready(block) => self.place(&block.header, block.bytes.list(), log),
+            Work::Vote(reply) => self.hear(&reply, log),
+        }
+    }
+
+    /// A block whose parent is on the board is issued, unless something stands against it.
+    fn place(&mut self, block: &Header, bytes: &[u8], log: &mut Lines) -> Result<(), EngineStop>
+        requires { IsApart self.old.board self.old.queue.waiting block.now.id }
+        ensures answer { Steps result self.new (model.placed_by B.answer self.old block.now (next_on C.rules self.old.chain block.now.parent bytes.now)
+            (opposed self.old.board block.now (height_of self.old.board block.now.parent))).1 }
+        ensures lines { Logs result log.old log.new (model.placed_by B.answer self.old block.now (next_on C.rules self.old.chain block.now.parent bytes.now)
+            (opposed self.old.board block.now (height_of self.old.board block.now.parent))).0 }
+    {
+        match opposition(&self.board, block) {
+            None => self.issue(block, bytes, log),
+            Some(DropWhy::Invalid) => self.refuse(block, log),
+            Some(DropWhy::Parent) => drop_block(block.id, DropWhy::Parent, log),
+            Some(DropWhy::Full) => drop_block(block.id, DropWhy::Full, log),
+            Some(DropWhy::Old) => drop_block(block.id, DropWhy::Old, log),
+        }
+    }
+
+    #[tactic(auto, using(crate::proofs::Logs::logs_nothing))]
+    /// A block is issued, if it is valid.
+    fn issue(&mut self, block: &Header, bytes: &[u8], log: &mut Lines) -> Result<(), EngineStop>
+        requires may { MayIssue self.old.board block.now }
+        requires apart { IsApart self.old.board self.old.queue.waiting block.now.id }
+        ensures answer { Steps result self.new (model.issued_by B.answer self.old block.now (next_on C.rules self.old.chain block.now.parent bytes.now)).1 }
+        ensures lines { Logs result log.old log.new (model.issued_by B.answer self.old block.now (next_on C.rules self.old.chain block.now.parent bytes.now)).0 }
+    {
+        let before = self.board.preference();
+        self.settled = false;
+        if !admit(&mut self.board, &mut self.chain, block, bytes)? {
+            return self.refuse(block, log);
+        }
+        tell(&self.board, &before, log)?;
+        self.ask_on_the_way(&block.id, log)
+    }
+
+    /// An invalid block is gone, with its parent.
+    fn refuse(&mut self, block: &Header, log: &mut Lines) -> Result<(), EngineStop>
+        ensures answer { Steps result self.new (model.refused self.old block.now).1 }
+        ensures lines { Logs result log.old log.new (model.refused self.old block.now).0 }
+    {
+        self.settled = false;
+        self.queue.gone(block.id, Some(block.parent));
+        drop_block(block.id, DropWhy::Invalid, log)
+    }
+
+    /// A block that was issued is asked about where it is on the way to the preference.
+    fn ask_on_the_way(&mut self, id: &Id, log: &mut Lines) -> Result<(), EngineStop>
+        ensures answer { Steps result self.new (model.asked_on_the_way B.answer id.now self.old).1 }
+        ensures lines { Logs result log.old log.new (model.asked_on_the_way B.answer id.now self.old).0 }
+    {
+        if self.board.is_preferred(id) {
+            self.query(log)?;
+        }
+        Ok(())
+    }
+
+    /// A held reply votes for what its block stands for, and closed polls leave.
+    fn hear(&mut self, reply: &Held, log: &mut Lines) -> Result<(), EngineStop>
+        ensures answer { Steps result self.new (model.heard B.answer self.old reply.now).1 }
+        ensures lines { Logs result log.old log.new (model.heard B.answer self.old reply.now).0 }
+    {
+        let id = self.queue.bubble(&reply.id, &self.board);
+        self.polls.vote(reply.number, &reply.node, id);
+        self.close_polls(log)
+    }
+}

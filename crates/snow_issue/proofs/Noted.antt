@@ -1,0 +1,107 @@
+-- Lemmas on rows: the places of each key.
+use Rattle.std.proofs.Common.{◌≡◌, ℕ, ◌<◌, ◌==◌, ◌≤◌, ◌+◌, Bool, true, false, not, ◌||◌, cond, List, [], ◌∷◌, ◌++◌, filter, Option, Some, None, unwrap_or, refl, sym, ap, ◌∙◌, arith}
+use Rattle.std.specs.BTreeMap.{BTreeMap, get, is_at}
+use Rattle.std.specs.Cmp.Lexicographic.{slice_cmp}
+use Rattle.std.specs.List.{list_any}
+use Rattle.std.specs.Ordering.{nat_cmp}
+use Rattle.std.specs.Str.{bytes_eq}
+use Rattle.std.proofs.lemmas.Bool.{eq-eqb, ne_eqb, eqb-true, false_from_ne_true}
+use Rattle.std.proofs.lemmas.List.Folds.{list_any-append}
+use Rattle.std.proofs.lemmas.Map.Text.{is_eq-slice_cmp}
+use Rattle.std.proofs.lemmas.Slice.Eq.{bytes_eq-Decides}
+use Rattle.snow_issue.specs.Index.{row_of, has_place, left_by}
+
+abbrev pub RowMap : Type 0
+RowMap = BTreeMap (List ℕ) (List ℕ)
+
+pub same_id : (a b : List ℕ) → bytes_eq a b ≡ true → a ≡ b
+same_id a b = (bytes_eq-Decides a b).0
+
+pub id_itself : (a : List ℕ) → bytes_eq a a ≡ true
+id_itself a = (bytes_eq-Decides a a).1 refl
+
+pub id_turned : (a b : List ℕ) → bytes_eq a b ≡ bytes_eq b a
+id_turned a b =
+    let Goal : Bool → Type 0 = λ x. bytes_eq a b ≡ x → x ≡ bytes_eq b a in
+    elim (bytes_eq a b) as Goal [
+      | true ↦ λ e. sym ((bytes_eq-Decides b a).1 (sym (same_id a b e)))
+      | false ↦ λ e. sym (false_from_ne_true (bytes_eq b a) (λ t. let k = (bytes_eq-Decides a b).1 (sym (same_id b a t)) in let z : true ≡ false = sym k ∙ e in absurd cc))
+    ] refl
+
+-- where a key's row is exchanged, or goes, and is then what `change` makes of it
+pub changed : (before now : RowMap) (key : List ℕ) (w : Option (List ℕ)) (change : List ℕ → List ℕ)
+    → unwrap_or w [] ≡ change (row_of before key)
+    → ((q : List ℕ) → get (slice_cmp nat_cmp) now q ≡ cond (is_at (slice_cmp nat_cmp key) q) w (get (slice_cmp nat_cmp) before q))
+    → (q : List ℕ) → row_of now q ≡ cond (bytes_eq key q) (change (row_of before q)) (row_of before q)
+changed before now key w change is h q =
+    let found = get (slice_cmp nat_cmp) before q in
+    let Goal : Bool → Type 0 = λ b. bytes_eq key q ≡ b → unwrap_or (cond b w found) [] ≡ cond b (change (row_of before q)) (row_of before q) in
+    ap (λ o. unwrap_or o []) (h q ∙ ap (λ b. cond b w found) (is_eq-slice_cmp key q))
+    ∙ (elim (bytes_eq key q) as Goal [
+      | true ↦ λ e. is ∙ ap (λ k. change (row_of before k)) (same_id key q e)
+      | false ↦ λ e. refl
+    ] refl)
+
+-- where a key has no row, nothing is left to change
+pub untouched : (before : RowMap) (key : List ℕ) (change : List ℕ → List ℕ)
+    → row_of before key ≡ change (row_of before key)
+    → (q : List ℕ) → row_of before q ≡ cond (bytes_eq key q) (change (row_of before q)) (row_of before q)
+untouched before key change is q =
+    let Goal : Bool → Type 0 = λ b. bytes_eq key q ≡ b → row_of before q ≡ cond b (change (row_of before q)) (row_of before q) in
+    elim (bytes_eq key q) as Goal [
+      | true ↦ λ e. let k = same_id key q e in ap (λ k. row_of before k) (sym k) ∙ is ∙ ap (λ k. change (row_of before k)) k
+      | false ↦ λ e. refl
+    ] refl
+
+-- the row of a key that the map has
+pub row_is : (m : RowMap) (key row : List ℕ) → Some row ≡ get (slice_cmp nat_cmp) m key → row ≡ row_of m key
+row_is m key row h = ap (λ o. unwrap_or o []) h
+
+pub no_row : (m : RowMap) (key : List ℕ) → None ≡ get (slice_cmp nat_cmp) m key → [] ≡ row_of m key
+no_row m key h = ap (λ o. unwrap_or o []) h
+
+pub both_same : {A : Type 0} (b : Bool) (x : A) → cond b x x ≡ x
+both_same true x = refl
+both_same false x = refl
+
+-- two changes of one row, the second of which leaves nothing
+pub changed_twice : (b : Bool) (change : List ℕ → List ℕ) (row other : List ℕ) → other ≡ cond b (change row) row → (b ≡ true → change row ≡ [])
+    → cond b [] other ≡ cond b (change row) row
+changed_twice true change row other h empty = sym (empty refl)
+changed_twice false change row other h empty = h
+
+-- ---- what a row has
+
+or_false : (b : Bool) → (b || false) ≡ b
+or_false true = refl
+or_false false = refl
+
+pub has_pushed : (row : List ℕ) (place other : ℕ) → has_place other (row ++ place ∷ []) ≡ (has_place other row || (place == other))
+has_pushed row place other = list_any-append (λ p. p == other) row (place ∷ []) ∙ ap (λ b. has_place other row || b) (or_false (place == other))
+
+-- another place stays in a row
+pub has_left : (row : List ℕ) (place other : ℕ) → (other ≡ place → ⊥) → has_place other (left_by place row) ≡ has_place other row
+has_left [] place other h = refl
+has_left (p ∷ row) place other h =
+    let Goal : Bool → Type 0 = λ b. (p == place) ≡ b → has_place other (cond (not b) (p ∷ left_by place row) (left_by place row)) ≡ ((p == other) || has_place other row) in
+    elim (p == place) as Goal [
+      | true ↦ λ e.
+          let is : p ≡ place = eqb-true p place e in
+          let not : (p == other) ≡ false = ne_eqb p other (λ k. h (sym k ∙ is)) in
+          has_left row place other h ∙ sym (ap (λ b. b || has_place other row) not)
+      | false ↦ λ e. ap (λ b. (p == other) || b) (has_left row place other h)
+    ] refl
+
+-- a place that a row hasn't doesn't come
+pub none_left : (row : List ℕ) (place other : ℕ) → has_place other row ≡ false → has_place other (left_by place row) ≡ false
+none_left [] place other h = h
+none_left (p ∷ row) place other h =
+    let Goal : Bool → Type 0 = λ b. ((p == other) || has_place other row) ≡ false → has_place other (cond (not b) (p ∷ left_by place row) (left_by place row)) ≡ false in
+    let Part : Bool → Type 0 = λ b. (b || has_place other row) ≡ false → (b || has_place other (left_by place row)) ≡ false in
+    let part : (b : Bool) → Part b = λ b. elim b as Part [ true ↦ λ k. k | false ↦ λ k. none_left row place other k ] in
+    let rest : (b : Bool) → (b || has_place other row) ≡ false → has_place other (left_by place row) ≡ false =
+    λ b. elim b as (λ b. (b || has_place other row) ≡ false → has_place other (left_by place row) ≡ false) [ true ↦ λ k. absurd cc | false ↦ λ k. none_left row place other k ] in
+    elim (p == place) as Goal [
+      | true ↦ λ k. rest (p == other) k
+      | false ↦ λ k. part (p == other) k
+    ] h

@@ -1,0 +1,177 @@
+-- Lemmas on a queue as a whole: what it keeps through each call.
+use Rattle.std.proofs.Common.{◌≡◌, ℕ, ◌<◌, ◌≤◌, ◌+◌, ltb, Bool, true, false, not, ◌||◌, cond, List, [], ◌∷◌, ◌++◌, map, take, drop, suc, length, get_or, filter, find, All, Option, Some, None, refl, sym, ap, ◌∙◌, subst, arith, ⊎_elim}
+use Rattle.std.specs.List.{remove, position_or_len}
+use Rattle.std.specs.Option.{is_some, option_map}
+use Rattle.std.specs.Str.{bytes_eq}
+use Rattle.std.proofs.lemmas.Bool.{cases_lt, lt-ltb, le-ltb}
+use Rattle.std.proofs.lemmas.List.{length-map, length_push, length-take, length-drop, length-append}
+use Rattle.std.proofs.lemmas.List.Edits.{length-remove}
+use Rattle.std.proofs.lemmas.List.Elements.{All-filter, All-push}
+use Rattle.snow_plain.specs.Board.{Board}
+use Rattle.snow_issue.specs.declared.work.Waiting.{Waiting}
+use Rattle.snow_issue.specs.declared.work.Get.{Get}
+use Rattle.snow_issue.specs.declared.work.Held.{Held}
+use Rattle.snow_issue.specs.declared.gone.Gone.{Gone}
+use Rattle.snow_issue.specs.declared.marks.Mark.{Mark}
+use Rattle.snow_issue.specs.declared.marks.Mark.TheVariants.{New, Quiet, Ripe}
+use Rattle.snow_issue.specs.Gone.{with_gone}
+use Rattle.snow_issue.specs.Lists.{Lists, with_get, is_get, without, AreWithinLimits}
+use Rattle.snow_issue.specs.Known.{Seen, items_of, lists_of, Tells, Knows}
+use Rattle.snow_issue.specs.Index.{woken, forgotten}
+use Rattle.snow_issue.specs.Keeping.{IsKept, Rests}
+use Rattle.snow_issue.proofs.Asking.{first_at, none_without}
+use Rattle.snow_issue.proofs.Taken.{items_woken, items_forgotten, items_pushed, items_removed, item_is, tells_closed, rests_left, rests_closed, rests_asked, rests_pushed}
+
+-- ---- lengths
+
+length_with : (gets : List Get) (get : Get) → length (with_get gets get) ≡ length gets + 1
+length_with [] get = refl
+length_with (g ∷ gets) get =
+    let rest = length_with gets get in
+    let Goal : Bool → Type 0 = λ b. length (cond b (get ∷ g ∷ gets) (g ∷ with_get gets get)) ≡ length (g ∷ gets) + 1 in
+    elim (ltb get.number g.number) as Goal [ true ↦ omega arith | false ↦ omega (arith, rest) ]
+
+length_without : {T : Type 0} (test : T → Bool) (xs : List T) → length (without test xs) ≤ length xs
+length_without test xs =
+    let at = position_or_len test xs in
+    let e = length-append (take at xs) (drop (suc at) xs) in
+    let t = length-take at xs in
+    let d = length-drop (suc at) xs in
+    omega (arith, e, t, d)
+
+length_gone : (gone : List Gone) (e : Gone) → length gone ≤ 8192 → length (with_gone gone e) ≤ 8192
+length_gone gone e few =
+    let Goal : Bool → Type 0 = λ b. length (cond b (gone ++ e ∷ []) (drop 1 gone ++ e ∷ [])) ≤ 8192 in
+    ⊎_elim
+    (λ (h : length gone < 8192). subst Goal (sym (lt-ltb (length gone) 8192 h)) (let l = length_push gone e in omega (arith, l, h)))
+    (λ (h : 8192 ≤ length gone). subst Goal (sym (le-ltb (length gone) 8192 h)) (let l = length_push (drop 1 gone) e in let d = length-drop 1 gone in omega (arith, l, d, few, h)))
+    (cases_lt (length gone) 8192)
+
+-- the four lists of these parts
+abbrev pub seen : List (Waiting × Mark) → List Get → List (Held × Mark) → List Gone → Seen
+seen seats gets replies gone = record { seats = seats; gets = gets; held = items_of replies; gone = gone }
+
+pub limits : (seats : List (Waiting × Mark)) (gets : List Get) (replies : List (Held × Mark)) (gone : List Gone) → IsKept seats gets replies gone
+    → AreWithinLimits (lists_of (seen seats gets replies gone))
+limits seats gets replies gone kept = record {
+  few_waiting = omega (arith, length-map seats (λ (s : Waiting × Mark). s.0), kept.few_waiting);
+  few_gets = kept.few_gets;
+  few_gone = kept.few_gone;
+}
+
+-- ---- what is kept
+
+pub kept_new : (last : Gone) → IsKept [] [] [] (with_gone [] last)
+kept_new last = record { quiet = λ k d h. absurd (omega (arith, h)); few_waiting = omega arith; few_gets = omega arith; few_gone = omega arith }
+
+pub kept_pushed : (seats : List (Waiting × Mark)) (gets : List Get) (replies : List (Held × Mark)) (gone : List Gone) (w : Waiting) → IsKept seats gets replies gone
+    → length seats < 4096 → IsKept (seats ++ (w, New) ∷ []) gets replies gone
+kept_pushed seats gets replies gone w kept few = record {
+  quiet = subst (λ (l : List Waiting). All (Rests l gets) replies) (sym (items_pushed seats w New)) (rests_pushed (items_of seats) gets w replies kept.quiet);
+  few_waiting = let new : Waiting × Mark = (w, New) in omega (arith, length_push seats new, few);
+  few_gets = kept.few_gets;
+  few_gone = kept.few_gone;
+}
+
+pub kept_asked : (seats : List (Waiting × Mark)) (gets : List Get) (replies : List (Held × Mark)) (gone : List Gone) (get : Get) → IsKept seats gets replies gone
+    → length gets < 4096 → IsKept seats (with_get gets get) replies gone
+kept_asked seats gets replies gone get kept few = record {
+  quiet = rests_asked (items_of seats) gets get replies kept.quiet;
+  few_waiting = kept.few_waiting;
+  few_gets = omega (arith, length_with gets get, few);
+  few_gone = kept.few_gone;
+}
+
+pub kept_closed : (seats : List (Waiting × Mark)) (gets : List Get) (replies : List (Held × Mark)) (gone : List Gone) (number : ℕ) (node : List ℕ) (get : Get)
+    → find (is_get number node) gets ≡ Some get → IsKept seats gets replies gone
+    → IsKept (map (woken (λ w. w.header.parent) get.id) seats) (without (is_get number node) gets) (map (woken (λ h. h.id) get.id) replies) gone
+kept_closed seats gets replies gone number node get found kept = record {
+  quiet = subst (λ (l : List Waiting). All (Rests l (without (is_get number node) gets)) (map (woken (λ h. h.id) get.id) replies)) (sym (items_woken (λ w. w.header.parent) get.id seats))
+      (rests_closed (items_of seats) gets number node get replies found kept.quiet);
+  few_waiting = omega (arith, length-map seats (woken (λ w. w.header.parent) get.id), kept.few_waiting);
+  few_gets = omega (arith, length_without (is_get number node) gets, kept.few_gets);
+  few_gone = kept.few_gone;
+}
+
+pub kept_left : (seats : List (Waiting × Mark)) (gets : List Get) (replies : List (Held × Mark)) (gone : List Gone) (at : ℕ) (w : Waiting) → at < length seats
+    → ((d : Waiting × Mark) → w ≡ (get_or seats at d).0) → IsKept seats gets replies gone
+    → IsKept (map (woken (λ w. w.header.parent) w.header.id) (remove seats at)) gets (map (woken (λ h. h.id) w.header.id) replies) gone
+kept_left seats gets replies gone at w there is kept =
+    let items = items_of seats in
+    let same = items_woken (λ (w : Waiting). w.header.parent) w.header.id (remove seats at) ∙ items_removed seats at in
+    record {
+      quiet = subst (λ (l : List Waiting). All (Rests l gets) (map (woken (λ h. h.id) w.header.id) replies)) (sym same)
+          (rests_left gets items at w replies (omega (arith, there, length-map seats (λ (s : Waiting × Mark). s.0))) (item_is seats at w there is) kept.quiet);
+      few_waiting = omega (arith, length-map (remove seats at) (woken (λ w. w.header.parent) w.header.id), length-remove seats at there, kept.few_waiting);
+      few_gets = kept.few_gets;
+      few_gone = kept.few_gone;
+    }
+
+pub kept_gone : (seats : List (Waiting × Mark)) (gets : List Get) (replies : List (Held × Mark)) (gone : List Gone) (e : Gone) → IsKept seats gets replies gone
+    → IsKept seats gets replies (with_gone gone e)
+kept_gone seats gets replies gone e kept = record {
+  quiet = kept.quiet;
+  few_waiting = kept.few_waiting;
+  few_gets = kept.few_gets;
+  few_gone = length_gone gone e kept.few_gone;
+}
+
+pub kept_forgotten : (seats : List (Waiting × Mark)) (gets : List Get) (replies : List (Held × Mark)) (gone : List Gone) → IsKept seats gets replies gone
+    → IsKept (map forgotten seats) gets replies gone
+kept_forgotten seats gets replies gone kept = record {
+  quiet = subst (λ (l : List Waiting). All (Rests l gets) replies) (sym (items_forgotten seats)) kept.quiet;
+  few_waiting = omega (arith, length-map seats forgotten, kept.few_waiting);
+  few_gets = kept.few_gets;
+  few_gone = kept.few_gone;
+}
+
+-- the same, with other replies
+pub kept_replies : (seats : List (Waiting × Mark)) (gets : List Get) (replies others : List (Held × Mark)) (gone : List Gone) → IsKept seats gets replies gone
+    → All (Rests (items_of seats) gets) others → IsKept seats gets others gone
+kept_replies seats gets replies others gone kept rests = record {
+  quiet = rests;
+  few_waiting = kept.few_waiting;
+  few_gets = kept.few_gets;
+  few_gone = kept.few_gone;
+}
+
+-- the same, with the same blocks
+pub kept_seats : (seats others : List (Waiting × Mark)) (gets : List Get) (replies : List (Held × Mark)) (gone : List Gone) → IsKept seats gets replies gone
+    → items_of others ≡ items_of seats → IsKept others gets replies gone
+kept_seats seats others gets replies gone kept same = record {
+  quiet = subst (λ (l : List Waiting). All (Rests l gets) replies) (sym same) kept.quiet;
+  few_waiting = omega (arith, length-map seats (λ (s : Waiting × Mark). s.0), length-map others (λ (s : Waiting × Mark). s.0), ap (λ l. length l) same, kept.few_waiting);
+  few_gets = kept.few_gets;
+  few_gone = kept.few_gone;
+}
+
+-- ---- lists and what is known, by their parts
+
+pub lists_by : (s : Seen) (waiting : List Waiting) (gets : List Get) (held : List Held) (gone : List Gone) → items_of s.seats ≡ waiting → s.gets ≡ gets → s.held ≡ held → s.gone ≡ gone
+    → lists_of s ≡ record { waiting = waiting; gets = gets; held = held; gone = gone }
+lists_by s waiting gets held gone w g h o =
+    let with : List Waiting → List Get → List Held → List Gone → Lists = λ w g h o. record { waiting = w; gets = g; held = h; gone = o } in
+    ap (λ x. with x s.gets s.held s.gone) w ∙ ap (λ x. with waiting x s.held s.gone) g ∙ ap (λ x. with waiting gets x s.gone) h ∙ ap (λ x. with waiting gets held x) o
+
+pub knows_from : (s : Seen) (board : Board) (seats : List (Waiting × Mark)) (gets : List Get) → s.seats ≡ seats → s.gets ≡ gets → All (Tells (items_of seats) gets board) seats → Knows s board
+knows_from s board seats gets w g tells = rw (w, g) tells
+
+-- the items after one was taken out and others woken
+pub items_left : {T : Type 0} (key : T → List ℕ) (id : List ℕ) (seats others : List (T × Mark)) (at : ℕ) → items_of others ≡ items_of seats
+    → items_of (map (woken key id) (remove others at)) ≡ remove (items_of seats) at
+items_left key id seats others at same = items_woken key id (remove others at) ∙ items_removed others at ∙ ap (λ l. remove l at) same
+
+-- ---- a get that is closed, by what the call answers
+
+pub closed_get : (o : Option Get) (id : List ℕ) → Some id ≡ option_map (λ g. g.id) o → (get : Get) × (o ≡ Some get) × (get.id ≡ id)
+closed_get None id h = absurd cc
+closed_get (Some get) id h = (get, refl, cc)
+
+pub no_get : (o : Option Get) → None ≡ option_map (λ g. g.id) o → o ≡ None
+no_get None h = refl
+no_get (Some get) h = absurd cc
+
+-- ---- what is remembered, read by the fields
+
+pub knows_by : (s : Seen) (board : Board) (seats : List (Waiting × Mark)) (gets : List Get) → s.seats ≡ seats → s.gets ≡ gets → Knows s board → All (Tells (items_of seats) gets board) seats
+knows_by s board seats gets w g knows = rw (← w, ← g) knows

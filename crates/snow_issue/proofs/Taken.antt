@@ -1,0 +1,243 @@
+-- Lemmas on what is taken out: what is known of the others stays so, once those are woken that it touched.
+use Rattle.std.proofs.Common.{◌≡◌, ℕ, zero, suc, ◌<◌, ◌≤◌, ◌+◌, ◌==◌, Bool, true, false, not, ◌&&◌, ◌||◌, cond, List, [], ◌∷◌, ◌++◌, map, length, get_or, set, find, All, Option, Some, None, refl, sym, ap, ◌∙◌, subst, arith, ⊎_elim}
+use Rattle.std.specs.List.{list_any, remove, position_or_len}
+use Rattle.std.specs.Str.{bytes_eq}
+use Rattle.std.proofs.lemmas.Bool.{both_ways, cases_Bool}
+use Rattle.std.proofs.lemmas.List.{get_or-map, length-map}
+use Rattle.std.proofs.lemmas.List.Elements.{All-map, All-weaker, All-push}
+use Rattle.std.proofs.lemmas.List.Folds.{list_any-append}
+use Rattle.snow_base.specs.declared.header.Header.{Header}
+use Rattle.snow_plain.specs.Board.{Board}
+use Rattle.snow_issue.specs.declared.work.Waiting.{Waiting}
+use Rattle.snow_issue.specs.declared.work.Get.{Get}
+use Rattle.snow_issue.specs.declared.work.Held.{Held}
+use Rattle.snow_issue.specs.declared.marks.Mark.{Mark}
+use Rattle.snow_issue.specs.declared.marks.Mark.TheVariants.{New, Quiet, Ripe}
+use Rattle.snow_issue.specs.Lists.{waits_among, waits_below, asked_in, with_get, is_get, without}
+use Rattle.snow_issue.specs.Offering.{is_on}
+use Rattle.snow_issue.specs.Settling.{is_free_by}
+use Rattle.snow_issue.specs.Known.{items_of, has, sight, Tells, ForgetsChildren}
+use Rattle.snow_issue.proofs.Noted.{id_turned}
+use Rattle.snow_issue.specs.Index.{woken, forgotten}
+use Rattle.snow_issue.specs.Keeping.{Rests}
+use Rattle.snow_issue.proofs.Tagged.{All_remove, map_remove}
+use Rattle.snow_issue.proofs.Asking.{asked_with, first_at}
+
+-- ---- lists
+
+-- where the item that goes fails a test, the test's answer stays
+pub without_other : {T : Type 0} (test : T → Bool) (xs : List T) (at : ℕ) (x : T) → at < length xs → x ≡ get_or xs at x → test x ≡ false → list_any test (remove xs at) ≡ list_any test xs
+without_other test [] at x there is fails = absurd (omega (arith, there))
+without_other test (y ∷ xs) zero x there is fails = ap (λ b. b || list_any test xs) (sym (ap test (sym is) ∙ fails))
+without_other test (y ∷ xs) (suc at) x there is fails = ap (λ b. test y || b) (without_other test xs at x (omega (arith, there)) is fails)
+
+pub items_woken : {T : Type 0} (key : T → List ℕ) (id : List ℕ) (seats : List (T × Mark)) → items_of (map (woken key id) seats) ≡ items_of seats
+items_woken key id [] = refl
+items_woken key id (s ∷ seats) = ap (λ l. s.0 ∷ l) (items_woken key id seats)
+
+pub items_forgotten : {T : Type 0} (seats : List (T × Mark)) → items_of (map forgotten seats) ≡ items_of seats
+items_forgotten [] = refl
+items_forgotten (s ∷ seats) = ap (λ l. s.0 ∷ l) (items_forgotten seats)
+
+pub items_pushed : {T : Type 0} (seats : List (T × Mark)) (x : T) (mark : Mark) → items_of (seats ++ (x, mark) ∷ []) ≡ items_of seats ++ x ∷ []
+items_pushed [] x mark = refl
+items_pushed (s ∷ seats) x mark = ap (λ l. s.0 ∷ l) (items_pushed seats x mark)
+
+pub items_removed : {T : Type 0} (seats : List (T × Mark)) (at : ℕ) → items_of (remove seats at) ≡ remove (items_of seats) at
+items_removed {T} seats at = map_remove (λ (s : T × Mark). s.0) seats at
+
+-- the item at a place, by the seats
+pub item_is : {T : Type 0} (seats : List (T × Mark)) (at : ℕ) (x : T) → at < length seats → ((d : T × Mark) → x ≡ (get_or seats at d).0) → x ≡ get_or (items_of seats) at x
+item_is {T} seats at x there is = let d : T × Mark = (x, New) in is d ∙ sym (get_or-map (λ (s : T × Mark). s.0) seats at d x there)
+
+-- ---- what is remembered, of other lists
+
+-- what a look tells is the same where its two tests are
+pub tells_same : (waiting other : List Waiting) (gets others : List Get) (board : Board) (w : Waiting) (mark : Mark)
+    → sight other others board w.header ≡ sight waiting gets board w.header → Tells waiting gets board (w, mark) → Tells other others board (w, mark)
+tells_same waiting other gets others board w New same h = tt
+tells_same waiting other gets others board w Quiet same h = same ∙ h
+tells_same waiting other gets others board w Ripe same h = same ∙ h
+
+sight_more : (on a b : Bool) (mark : Mark) → (a ≡ true → b ≡ true) → cond on (Some Ripe) (cond a (Some Quiet) None) ≡ Some mark → cond on (Some Ripe) (cond b (Some Quiet) None) ≡ Some mark
+sight_more true a b mark more h = h
+sight_more false true b mark more h = ap (λ b. cond b (Some Quiet) None) (more refl) ∙ h
+sight_more false false b mark more h = absurd cc
+
+-- what a look tells stays, where more waits and more is asked for
+pub tells_more : (waiting other : List Waiting) (gets others : List Get) (board : Board) (w : Waiting) (mark : Mark)
+    → ((asked_in gets w.header.parent || waits_below waiting w.header) ≡ true → (asked_in others w.header.parent || waits_below other w.header) ≡ true)
+    → Tells waiting gets board (w, mark) → Tells other others board (w, mark)
+tells_more waiting other gets others board w New more h = tt
+tells_more waiting other gets others board w Quiet more h =
+    sight_more (is_on board w.header.parent) (asked_in gets w.header.parent || waits_below waiting w.header) (asked_in others w.header.parent || waits_below other w.header) Quiet more h
+tells_more waiting other gets others board w Ripe more h =
+    sight_more (is_on board w.header.parent) (asked_in gets w.header.parent || waits_below waiting w.header) (asked_in others w.header.parent || waits_below other w.header) Ripe more h
+
+-- a mark is forgotten, or what it tells is the same
+woken_tells : (waiting other : List Waiting) (gets others : List Get) (board : Board) (id : List ℕ) (s : Waiting × Mark)
+    → (bytes_eq id s.0.header.parent ≡ false → sight other others board s.0.header ≡ sight waiting gets board s.0.header)
+    → Tells waiting gets board s → Tells other others board (woken (λ w. w.header.parent) id s)
+woken_tells waiting other gets others board id s same h =
+    let Goal : Bool → Type 0 = λ b. bytes_eq id s.0.header.parent ≡ b → Tells other others board (s.0, cond b New s.1) in
+    elim (bytes_eq id s.0.header.parent) as Goal [
+      | true ↦ λ e. tt
+      | false ↦ λ e. tells_same waiting other gets others board s.0 s.1 (same e) h
+    ] refl
+
+sight_by : (on a b c d : Bool) → a ≡ c → b ≡ d → cond on (Some Ripe) (cond (a || b) (Some Quiet) None) ≡ cond on (Some Ripe) (cond (c || d) (Some Quiet) None)
+sight_by on a b c d ac bd = rw (ac, bd) refl
+
+-- a block was taken out and its children woken
+pub tells_left : (gets : List Get) (board : Board) (seats : List (Waiting × Mark)) (at : ℕ) (w : Waiting) → at < length seats → ((d : Waiting × Mark) → w ≡ (get_or seats at d).0)
+    → All (Tells (items_of seats) gets board) seats
+    → All (Tells (items_of (map (woken (λ w. w.header.parent) w.header.id) (remove seats at))) gets board) (map (woken (λ w. w.header.parent) w.header.id) (remove seats at))
+tells_left gets board seats at w there is tells =
+    let key : Waiting → List ℕ = λ w. w.header.parent in
+    let id = w.header.id in
+    let before = items_of seats in
+    let other = items_of (map (woken key id) (remove seats at)) in
+    let same : other ≡ remove before at = items_woken key id (remove seats at) ∙ items_removed seats at in
+    let here = item_is seats at w there is in
+    let long : at < length before = omega (arith, there, length-map seats (λ (s : Waiting × Mark). s.0)) in
+    let stays : (s : Waiting × Mark) → bytes_eq id s.0.header.parent ≡ false → sight other gets board s.0.header ≡ sight before gets board s.0.header =
+    λ s e. let h = s.0.header in
+    sight_by (is_on board h.parent) (asked_in gets h.parent) (waits_below other h) (asked_in gets h.parent) (waits_below before h) refl
+    (ap (λ l. waits_below l h) same
+    ∙ without_other (λ w. bytes_eq w.header.id h.parent && (w.header.height + 1 == h.height)) before at w long here (ap (λ b. b && (w.header.height + 1 == h.height)) e)) in
+    All-map (Tells other gets board) (woken key id) (remove seats at)
+    (All-weaker (Tells before gets board) (λ s. Tells other gets board (woken key id s)) (λ s h. woken_tells before other gets gets board id s (stays s) h)
+    (remove seats at) (All_remove (Tells before gets board) seats at tells))
+
+-- a get was closed and the children of its block woken
+pub tells_closed : (board : Board) (seats : List (Waiting × Mark)) (gets : List Get) (number : ℕ) (node : List ℕ) (get : Get) → find (is_get number node) gets ≡ Some get
+    → All (Tells (items_of seats) gets board) seats
+    → All (Tells (items_of (map (woken (λ w. w.header.parent) get.id) seats)) (without (is_get number node) gets) board) (map (woken (λ w. w.header.parent) get.id) seats)
+tells_closed board seats gets number node get found tells =
+    let key : Waiting → List ℕ = λ w. w.header.parent in
+    let before = items_of seats in
+    let other = items_of (map (woken key get.id) seats) in
+    let others = without (is_get number node) gets in
+    let place = first_at (is_get number node) gets get found in
+    let stays : (s : Waiting × Mark) → bytes_eq get.id s.0.header.parent ≡ false → sight other others board s.0.header ≡ sight before gets board s.0.header =
+    λ s e. let h = s.0.header in
+    sight_by (is_on board h.parent) (asked_in others h.parent) (waits_below other h) (asked_in gets h.parent) (waits_below before h)
+    (without_other (λ g. bytes_eq g.id h.parent) gets (position_or_len (is_get number node) gets) get place.0 place.1 e)
+    (ap (λ l. waits_below l h) (items_woken key get.id seats)) in
+    All-map (Tells other others board) (woken key get.id) seats
+    (All-weaker (Tells before gets board) (λ s. Tells other others board (woken key get.id s)) (λ s h. woken_tells before other gets others board get.id s (stays s) h) seats tells)
+
+or_left_true : (a b : Bool) → a ≡ true → (a || b) ≡ true
+or_left_true a b h = ap (λ x. x || b) h
+
+either_more : (a b c d : Bool) → (a ≡ true → c ≡ true) → (b ≡ true → d ≡ true) → (a || b) ≡ true → (c || d) ≡ true
+either_more true b c d ac bd h = ap (λ x. x || d) (ac refl)
+either_more false b true d ac bd h = refl
+either_more false b false d ac bd h = bd h
+
+-- a get was opened
+pub tells_asked : (board : Board) (seats : List (Waiting × Mark)) (gets : List Get) (get : Get) → All (Tells (items_of seats) gets board) seats
+    → All (Tells (items_of seats) (with_get gets get) board) seats
+tells_asked board seats gets get tells =
+    All-weaker (Tells (items_of seats) gets board) (Tells (items_of seats) (with_get gets get) board)
+    (λ s h. let head = s.0.header in
+    tells_more (items_of seats) (items_of seats) gets (with_get gets get) board s.0 s.1
+    (either_more (asked_in gets head.parent) (waits_below (items_of seats) head) (asked_in (with_get gets get) head.parent) (waits_below (items_of seats) head)
+    (λ e. asked_with gets get head.parent ∙ or_left_true (asked_in gets head.parent) (bytes_eq get.id head.parent) e) (λ e. e)) h)
+    seats tells
+
+-- a block came
+pub tells_pushed : (board : Board) (seats : List (Waiting × Mark)) (gets : List Get) (w : Waiting) → All (Tells (items_of seats) gets board) seats
+    → All (Tells (items_of (seats ++ (w, New) ∷ [])) gets board) (seats ++ (w, New) ∷ [])
+tells_pushed board seats gets w tells =
+    let other = items_of (seats ++ (w, New) ∷ []) in
+    All-push (Tells other gets board) seats (w, New)
+    (All-weaker (Tells (items_of seats) gets board) (Tells other gets board)
+    (λ s h. let head = s.0.header in
+    tells_more (items_of seats) other gets gets board s.0 s.1
+    (either_more (asked_in gets head.parent) (waits_below (items_of seats) head) (asked_in gets head.parent) (waits_below other head) (λ e. e)
+    (λ e. ap (λ l. waits_below l head) (items_pushed seats w New)
+    ∙ list_any-append (λ w. bytes_eq w.header.id head.parent && (w.header.height + 1 == head.height)) (items_of seats) (w ∷ [])
+    ∙ or_left_true (waits_below (items_of seats) head) ((bytes_eq w.header.id head.parent && (w.header.height + 1 == head.height)) || false) e)) h)
+    seats tells) tt
+
+-- nothing is remembered, so it is true of any board
+pub tells_forgotten : (gets : List Get) (board : Board) (seats : List (Waiting × Mark)) → All (Tells (items_of (map forgotten seats)) gets board) (map forgotten seats)
+tells_forgotten gets board seats =
+    All-map (Tells (items_of (map forgotten seats)) gets board) forgotten seats (λ k d within. tt)
+
+-- a block's children were woken, so nothing is remembered of them
+pub woken_forgets : (id : List ℕ) (seats after : List (Waiting × Mark)) → after ≡ map (woken (λ w. w.header.parent) id) seats → ForgetsChildren id after
+woken_forgets id seats after is =
+    let key : Waiting → List ℕ = λ w. w.header.parent in
+    let P : Waiting × Mark → Type 0 = λ s. bytes_eq s.0.header.parent id ≡ true → s.1 ≡ New in
+    subst (λ (l : List (Waiting × Mark)). All P l) (sym is)
+    (All-map P (woken key id) seats (λ k d within child.
+    let s = get_or seats k d in ap (λ b. cond b New s.1) (id_turned id s.0.header.parent ∙ child)))
+
+-- ---- held replies
+
+rests_same : (waiting other : List Waiting) (gets others : List Get) (h : Held) (mark : Mark) → is_free_by other others h ≡ is_free_by waiting gets h
+    → Rests waiting gets (h, mark) → Rests other others (h, mark)
+rests_same waiting other gets others h New same r = tt
+rests_same waiting other gets others h Quiet same r = same ∙ r
+rests_same waiting other gets others h Ripe same r = same ∙ r
+
+woken_rests : (waiting other : List Waiting) (gets others : List Get) (id : List ℕ) (s : Held × Mark)
+    → (bytes_eq id s.0.id ≡ false → is_free_by other others s.0 ≡ is_free_by waiting gets s.0)
+    → Rests waiting gets s → Rests other others (woken (λ h. h.id) id s)
+woken_rests waiting other gets others id s same r =
+    let Goal : Bool → Type 0 = λ b. bytes_eq id s.0.id ≡ b → Rests other others (s.0, cond b New s.1) in
+    elim (bytes_eq id s.0.id) as Goal [
+      | true ↦ λ e. tt
+      | false ↦ λ e. rests_same waiting other gets others s.0 s.1 (same e) r
+    ] refl
+
+-- a block was taken out and the replies that name it woken
+pub rests_left : (gets : List Get) (waiting : List Waiting) (at : ℕ) (w : Waiting) (replies : List (Held × Mark)) → at < length waiting → w ≡ get_or waiting at w
+    → All (Rests waiting gets) replies → All (Rests (remove waiting at) gets) (map (woken (λ h. h.id) w.header.id) replies)
+rests_left gets waiting at w replies there is rests =
+    All-map (Rests (remove waiting at) gets) (woken (λ h. h.id) w.header.id) replies
+    (All-weaker (Rests waiting gets) (λ s. Rests (remove waiting at) gets (woken (λ h. h.id) w.header.id s))
+    (λ s r. woken_rests waiting (remove waiting at) gets gets w.header.id s
+    (λ e. ap (λ b. not (b || asked_in gets s.0.id)) (without_other (λ x. bytes_eq x.header.id s.0.id) waiting at w there is e)) r)
+    replies rests)
+
+-- a get was closed and the replies that name its block woken
+pub rests_closed : (waiting : List Waiting) (gets : List Get) (number : ℕ) (node : List ℕ) (get : Get) (replies : List (Held × Mark)) → find (is_get number node) gets ≡ Some get
+    → All (Rests waiting gets) replies → All (Rests waiting (without (is_get number node) gets)) (map (woken (λ h. h.id) get.id) replies)
+rests_closed waiting gets number node get replies found rests =
+    let others = without (is_get number node) gets in
+    let place = first_at (is_get number node) gets get found in
+    All-map (Rests waiting others) (woken (λ h. h.id) get.id) replies
+    (All-weaker (Rests waiting gets) (λ s. Rests waiting others (woken (λ h. h.id) get.id s))
+    (λ s r. woken_rests waiting waiting gets others get.id s
+    (λ e. ap (λ b. not (waits_among waiting s.0.id || b)) (without_other (λ g. bytes_eq g.id s.0.id) gets (position_or_len (is_get number node) gets) get place.0 place.1 e)) r)
+    replies rests)
+
+busy : (b : Bool) → not b ≡ false → b ≡ true
+busy true h = refl
+busy false h = absurd cc
+
+still_busy : (a b c d : Bool) → (a ≡ true → c ≡ true) → (b ≡ true → d ≡ true) → not (a || b) ≡ false → not (c || d) ≡ false
+still_busy a b c d ac bd h = ap not (either_more a b c d ac bd (busy (a || b) h))
+
+rests_more : (waiting other : List Waiting) (gets others : List Get) (h : Held) (mark : Mark) → (waits_among waiting h.id ≡ true → waits_among other h.id ≡ true)
+    → (asked_in gets h.id ≡ true → asked_in others h.id ≡ true) → Rests waiting gets (h, mark) → Rests other others (h, mark)
+rests_more waiting other gets others h New w g r = tt
+rests_more waiting other gets others h Quiet w g r = still_busy (waits_among waiting h.id) (asked_in gets h.id) (waits_among other h.id) (asked_in others h.id) w g r
+rests_more waiting other gets others h Ripe w g r = still_busy (waits_among waiting h.id) (asked_in gets h.id) (waits_among other h.id) (asked_in others h.id) w g r
+
+pub rests_asked : (waiting : List Waiting) (gets : List Get) (get : Get) (replies : List (Held × Mark)) → All (Rests waiting gets) replies → All (Rests waiting (with_get gets get)) replies
+rests_asked waiting gets get replies rests =
+    All-weaker (Rests waiting gets) (Rests waiting (with_get gets get))
+    (λ s r. rests_more waiting waiting gets (with_get gets get) s.0 s.1 (λ e. e)
+    (λ e. asked_with gets get s.0.id ∙ or_left_true (asked_in gets s.0.id) (bytes_eq get.id s.0.id) e) r)
+    replies rests
+
+pub rests_pushed : (waiting : List Waiting) (gets : List Get) (w : Waiting) (replies : List (Held × Mark)) → All (Rests waiting gets) replies → All (Rests (waiting ++ w ∷ []) gets) replies
+rests_pushed waiting gets w replies rests =
+    All-weaker (Rests waiting gets) (Rests (waiting ++ w ∷ []) gets)
+    (λ s r. rests_more waiting (waiting ++ w ∷ []) gets gets s.0 s.1
+    (λ e. list_any-append (λ x. bytes_eq x.header.id s.0.id) waiting (w ∷ []) ∙ or_left_true (waits_among waiting s.0.id) (bytes_eq w.header.id s.0.id || false) e) (λ e. e) r)
+    replies rests

@@ -1,0 +1,12 @@
+use Rattle.std.proofs.Common.{◌-◌, length}
+use Rattle.std.specs.List.{position_or_len}
+use Rattle.snow_issue.specs.declared.marks.Mark.TheVariants.{New}
+use Rattle.snow_issue.specs.Known.{has, items_of}
+use Rattle.snow_issue.proofs.Looked.{IsChecking}
+use Rattle.snow_issue.proofs.looking.first_free.Given as goal
+
+abbrev pub invariant-loop-at : goal.invariant-loop-at
+invariant-loop-at l = IsChecking l.initial.replies l.replies (items_of l.waiting) l.gets
+
+abbrev pub decreases-loop-at : goal.decreases-loop-at
+decreases-loop-at l = length l.replies - position_or_len (has New) l.replies

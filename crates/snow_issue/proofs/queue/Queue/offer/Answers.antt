@@ -1,0 +1,14 @@
+use Rattle.std.proofs.Common.{List, All, sym, ap, subst}
+use Rattle.snow_issue.specs.declared.work.Waiting.{Waiting}
+use Rattle.snow_issue.specs.declared.marks.Mark.{Mark}
+use Rattle.snow_issue.specs.Known.{Seen, items_of, Tells}
+use Rattle.snow_issue.proofs.Settled.{knows_by}
+use Rattle.snow_issue.proofs.Taken.{tells_pushed}
+use Rattle.snow_issue.proofs.queue.Queue.offer.Goals as goal
+
+pub returns-clause-knows : goal.returns-clause-knows
+returns-clause-knows g c board knows =
+    let inside = c.self.inside in
+    subst (λ (l : List (Waiting × Mark)). All (Tells (items_of l) inside.gets board) l) (sym c.in_ok-push.ensures.ok)
+    (tells_pushed board inside.waiting inside.gets c.args.block
+    (knows_by c.args.self.now board inside.waiting inside.gets (sym (ap (λ (s : Seen). s.seats) c.self.view_is)) (sym (ap (λ (s : Seen). s.gets) c.self.view_is)) knows))

@@ -1,0 +1,20 @@
+use Rattle.std.proofs.Common.{◌<◌, List, length, map, sym, ap, subst, ◌∙◌}
+use Rattle.std.specs.List.{remove}
+use Rattle.snow_issue.specs.declared.work.Held.{Held}
+use Rattle.snow_issue.specs.Known.{Seen, items_of}
+use Rattle.snow_issue.specs.Index.{woken}
+use Rattle.snow_issue.proofs.Settled.{kept_left}
+use Rattle.snow_issue.proofs.Taken.{items_woken}
+use Rattle.snow_issue.proofs.queue.Queue.take_block.Goals as goal
+
+pub invariant_of-self : goal.invariant_of-self
+invariant_of-self c =
+    let inside = c.self.inside in
+    let block = c.take-block.result in
+    let there : c.args.at < length inside.waiting = subst (λ (s : Seen). c.args.at < length s.seats) (sym c.self.view_is) c.requires in
+    rw (c.wake.ensures ∙ ap (map (woken (λ w. w.header.parent) block.header.id)) c.take-block.ensures.rest, c.wake-2.ensures)
+    (kept_left inside.waiting inside.gets inside.replies inside.gone c.args.at block there c.take-block.ensures.taken c.self.invariant)
+
+pub returns-clause-held : goal.returns-clause-held
+returns-clause-held c =
+    ap items_of c.wake-2.ensures ∙ items_woken (λ (h : Held). h.id) c.take-block.result.header.id c.self.inside.replies ∙ ap (λ (s : Seen). s.held) c.self.view_is

@@ -1,0 +1,11 @@
+use Rattle.std.proofs.Common.{◌<◌, List, length, sym, subst}
+use Rattle.snow_issue.specs.declared.work.Held.{Held}
+use Rattle.snow_issue.specs.Known.{items_of}
+use Rattle.snow_issue.specs.Index.{HasReplies}
+use Rattle.snow_issue.proofs.Looked.{items_after_set}
+use Rattle.snow_issue.proofs.replies.Replies.set.Goals as goal
+
+pub invariant_of-self : goal.invariant_of-self
+invariant_of-self c =
+    let there : c.args.at < length c.self.inside.lineup = subst (λ l. c.args.at < length l) (sym c.self.view_is) c.requires in
+    subst (λ (l : List Held). HasReplies c.self.inside.polls l) (sym (items_after_set c.self.inside.lineup c.set.new.self c.args.at c.args.mark there c.set.ensures)) c.self.invariant

@@ -1,0 +1,8 @@
+use Rattle.std.proofs.Common.{◌==◌, not, ap, ◌∙◌, rules}
+use Rattle.std.proofs.lemmas.Fn.{filter_same}
+use Rattle.snow_issue.specs.Index.{left_by}
+use Rattle.snow_issue.proofs.rows.Row.leave.Goals as goal
+
+pub returns-clause-left : goal.returns-clause-left
+returns-clause-left c =
+    filter_same _ (λ p. not (p == c.args.place)) _ (λ x b f k. search rules) _ _ c.retain.ensures.filtered ∙ ap (left_by c.args.place) c.self.view_is

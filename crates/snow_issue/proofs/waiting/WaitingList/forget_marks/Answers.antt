@@ -1,0 +1,10 @@
+use Rattle.std.proofs.Common.{List, sym, ap, ◌∙◌, subst}
+use Rattle.snow_issue.specs.declared.work.Waiting.{Waiting}
+use Rattle.snow_issue.specs.Known.{items_of}
+use Rattle.snow_issue.specs.Index.{HasHeights}
+use Rattle.snow_issue.proofs.Taken.{items_forgotten}
+use Rattle.snow_issue.proofs.waiting.WaitingList.forget_marks.Goals as goal
+
+pub invariant_of-self : goal.invariant_of-self
+invariant_of-self c =
+    subst (λ (l : List Waiting). HasHeights c.self.inside.heights l) (sym (ap items_of c.forget_marks.ensures ∙ items_forgotten c.self.inside.lineup)) c.self.invariant

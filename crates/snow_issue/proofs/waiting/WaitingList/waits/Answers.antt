@@ -1,0 +1,10 @@
+use Rattle.std.proofs.Common.{ap, ◌∙◌}
+use Rattle.snow_issue.specs.Lists.{waits_among}
+use Rattle.snow_issue.specs.Known.{items_of}
+use Rattle.snow_issue.proofs.Heights.{waits_known}
+use Rattle.snow_issue.proofs.waiting.WaitingList.waits.Goals as goal
+
+pub returns : goal.returns
+returns c =
+    c.contains_key.ensures ∙ waits_known c.self.inside.heights (items_of c.self.inside.lineup) c.args.id.now c.self.invariant
+    ∙ ap (λ l. waits_among (items_of l) c.args.id.now) c.self.view_is

@@ -1,0 +1,17 @@
+-- The vote that a held reply gives: gone blocks are replaced by their parents.
+use Rattle.std.specs.Prelude.{ℕ, zero, suc, List, bytes_eq, Option, Some, None, if◌then◌else◌}
+use Rattle.std.specs.Option.{option_and_then}
+use Rattle.snow_plain.specs.Board.{Board, is_pending}
+use Rattle.snow_issue.specs.declared.gone.Gone.{Gone}
+use Rattle.snow_issue.specs.Gone.{stands_for}
+use Rattle.snow_issue.specs.Lists.{Lists}
+
+-- a pending block is itself, the last accepted one gives no vote, and any other is replaced by the parent that stands for it, at most n times
+unfoldable pub bubbled_in : ℕ → List Gone → Board → List ℕ → Option (List ℕ)
+bubbled_in zero gone board id = if is_pending board id then Some id else None
+bubbled_in (suc n) gone board id =
+    if is_pending board id then Some id
+    else (if bytes_eq board.last id then None else option_and_then (bubbled_in n gone board) (stands_for gone id))
+
+abbrev pub bubbled : Lists → Board → List ℕ → Option (List ℕ)
+bubbled q board id = bubbled_in 8192 q.gone board id

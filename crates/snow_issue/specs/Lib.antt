@@ -1,0 +1,11 @@
+pub mod Gone
+pub mod GoneIndex
+pub mod Lists
+pub mod Offering
+pub mod Settling
+pub mod Bubbling
+pub mod Known
+pub mod KnownLaw
+pub mod Index
+pub mod Windows
+pub mod Keeping

@@ -1,0 +1,29 @@
+ghost use Rattle.std.specs.Prelude.{◌≡◌};
+ghost use Rattle.snow_issue.specs.Bubbling.{bubbled_in};
+
+use crate::gone::GoneList;
+use snow_base::Id;
+use snow_plain::Board;
+
+/// The vote that a reply gives. The gone list can hold a circle, so the bound on the steps binds.
+pub(crate) fn bubble<B: Board>(gone: &GoneList, board: &B, id: &Id) -> Option<Id>
+    ensures { result ≡ bubbled_in 8192 gone.now (B.board board.now) id.now }
+{
+    let mut at = *id;
+    for _ in 0..8192u32 {
+        if board.is_pending(&at) {
+            return Some(at);
+        }
+        if board.last() == at {
+            return None;
+        }
+        let Some(parent) = gone.stands_for(&at) else {
+            return None;
+        };
+        at = parent;
+    }
+    if board.is_pending(&at) {
+        return Some(at);
+    }
+    None
+}

@@ -1,0 +1,28 @@
+//! What waits in a node: blocks whose parent isn't there yet, replies that aren't counted yet, and
+//! the list of identifiers that are gone.
+#![tactic(auto)]
+
+mod bubbling;
+mod gets;
+mod gone;
+mod gone_index;
+mod laws;
+mod lineup;
+mod looking;
+mod marks;
+mod offering;
+mod queue;
+mod replies;
+mod rows;
+mod settling;
+mod waiting;
+mod window;
+mod work;
+
+pub use gone::Gone;
+pub use laws::{issue_stays_known_law, poll_stays_known_law};
+pub use queue::Queue;
+pub use work::{Get, Held, Offered, Waiting, Work};
+
+#[cfg(test)]
+mod tests;

@@ -1,0 +1,220 @@
+ghost use Rattle.std.specs.Prelude.{◌≡◌, ℕ, ◌<◌, ◌^◌, ◌≤◌, ◌==◌, [], ◌∷◌, ◌++◌, List, map, length, nat_lt, slice_set, HoldsAt, OnOk, OnErr};
+ghost use Rattle.std.specs.List.{AllPairs, position_or_len, remove};
+ghost use Rattle.snow_issue.specs.Known.{has};
+ghost use Rattle.snow_issue.specs.Index.{seat_of, woken, woken_at, forgotten, reset};
+ghost use Rattle.snow_issue.specs.Windows.{IsWithin, AreWithin};
+ghost use Rattle.snow_issue.specs.declared.marks.Mark.TheVariants.{New};
+
+use crate::marks::Mark;
+use crate::rows::Rows;
+use crate::window::{Window, Windows};
+use snow_base::Id;
+use std::alloc::{AllocError, Global};
+use std::marker::Model;
+
+/// What waits for a block.
+pub(crate) trait Keyed: Drop {
+    ghost use Rattle.std.specs.Prelude.{◌≡◌, ℕ, List};
+
+    /// The block that it waits for.
+    ghost key: { Self → List ℕ };
+
+    fn key(&self) -> Id
+        ensures { result ≡ key self.now };
+}
+
+/// An item with its place, a number that never comes again, and what is remembered of it.
+#[derive(Drop)]
+pub(crate) struct Slot<T> {
+    pub(crate) place: u64,
+    pub(crate) mark: Mark,
+    pub(crate) item: T,
+}
+
+/// Items in order of arrival, each with what is remembered of it, and an index by what they wait for.
+#[derive(Drop)]
+pub(crate) struct Lineup<T: Keyed> {
+    pub(crate) alloc: Global,
+    pub(crate) slots: Vec<Slot<T>>,
+    pub(crate) rows: Rows,
+    pub(crate) next: u64,
+    pub(crate) windows: Windows,
+}
+
+impl<T: Keyed> Model for Lineup<T> {
+    ghost use Rattle.std.specs.Prelude.{List, map};
+    ghost use Rattle.snow_issue.specs.declared.marks.Mark.{Mark};
+    ghost use Rattle.snow_issue.specs.Index.{IsIndexed, tag_of, seat_of};
+    ghost use Rattle.snow_issue.specs.Windows.{AreWithin};
+
+    ghost Value = { List (T × Mark) };
+
+    ghost view = { λ a. map seat_of a.slots.items };
+
+    ghost invariant = { λ a. IsIndexed (map (tag_of T.key) a.slots.items) a.rows.rows a.next × AreWithin (map seat_of a.slots.items) a.windows };
+}
+
+impl<T: Keyed> Lineup<T> {
+    /// Nothing waits. It takes no memory.
+    pub(crate) fn new(alloc: Global) -> Self
+        ensures { result ≡ [] }
+    {
+        Lineup {
+            alloc,
+            slots: Vec::new(alloc),
+            rows: Rows::new(alloc),
+            next: 0,
+            windows: Windows::empty(),
+        }
+    }
+
+    pub(crate) fn len(&self) -> usize
+        ensures { result ≡ length self.now }
+    {
+        self.slots.len()
+    }
+
+    /// Appends an item, of which nothing is remembered. After want of memory all is as before.
+    pub(crate) fn push(&mut self, item: T) -> Result<(), AllocError>
+        ensures ok { OnOk result (self.new ≡ self.old ++ (item, New) ∷ []) }
+        ensures err { OnErr result (self.new ≡ self.old) }
+    {
+        // Places never come again, and there are more than a node lives to use.
+        if self.next == u64::MAX {
+            return Err(AllocError);
+        }
+        self.slots.reserve(1)?;
+        self.rows.note(self.alloc, item.key(), self.next)?;
+        self.windows = self.windows.marked(self.slots.len(), Mark::New);
+        self.slots.push_reserved(Slot {
+            place: self.next,
+            mark: Mark::New,
+            item,
+        });
+        self.next += 1;
+        Ok(())
+    }
+
+    /// Where the first item with this mark stands, or how many items there are.
+    pub(crate) fn first(&mut self, mark: Mark) -> usize
+        ensures at { result ≡ position_or_len (has mark) self.old }
+        ensures same { self.new ≡ self.old }
+    {
+        let len = self.slots.len();
+        let at = first_in(self.slots.as_slice(), mark, self.windows.of(mark, len));
+        self.windows = self.windows.narrowed(mark, at, len);
+        at
+    }
+
+    /// The item at a place.
+    pub(crate) fn item(&self, at: usize) -> &T
+        requires { at < length self.now }
+        ensures { HoldsAt (λ s. result.now ≡ s.0) self.now at }
+    {
+        &self.slots[at].item
+    }
+
+    /// Remembers something of the item at a place.
+    pub(crate) fn set(&mut self, at: usize, mark: Mark)
+        requires { at < length self.old }
+        ensures { HoldsAt (λ s. self.new ≡ slice_set self.old at (s.0, mark)) self.old at }
+    {
+        self.slots[at].mark = mark;
+        self.windows = self.windows.marked(at, mark);
+    }
+
+    /// Takes the item at a place out. It takes no memory.
+    pub(crate) fn take(&mut self, at: usize) -> T
+        requires { at < length self.old }
+        ensures taken { HoldsAt (λ s. result ≡ s.0) self.old at }
+        ensures rest { self.new ≡ remove self.old at }
+    {
+        let Slot { place, item, .. } = self.slots.remove(at);
+        self.rows.leave(&item.key(), place);
+        self.windows = self.windows.without(at);
+        item
+    }
+
+    /// Forgets what is remembered of the items that wait for a block.
+    pub(crate) fn wake(&mut self, key: &Id)
+        ensures { self.new ≡ map (woken T.key key.now) self.old }
+    {
+        wake_all(&mut self.slots, &mut self.windows, self.rows.of(key));
+    }
+
+    /// Forgets what is remembered of any item.
+    pub(crate) fn forget_marks(&mut self)
+        ensures { self.new ≡ map forgotten self.old }
+    {
+        forget_all(&mut self.slots);
+        self.windows = Windows::all_fresh(self.slots.len());
+    }
+}
+
+// The first slot with this mark in the window, or how many slots there are.
+fn first_in<T>(slots: &[Slot<T>], mark: Mark, window: Window) -> usize
+    requires { IsWithin mark (map seat_of slots.now) window }
+    ensures { result ≡ position_or_len (has mark) (map seat_of slots.now) }
+{
+    let high = window.high.min(slots.len());
+    for at in window.low..high {
+        if slots[at].mark.is(mark) {
+            return at;
+        }
+    }
+    slots.len()
+}
+
+// Forgets what is remembered of any item.
+fn forget_all<T>(slots: &mut [Slot<T>])
+    ensures { slots.new ≡ map reset slots.old }
+{
+    for slot in slots.iter_mut() {
+        slot.mark = Mark::New;
+    }
+}
+
+// The slot with this place, or how many slots there are.
+fn find_place<T>(slots: &[Slot<T>], place: u64) -> usize
+    requires { AllPairs (λ s t. s.place < t.place) slots.now }
+    ensures { result ≡ position_or_len (λ s. s.place == place) slots.now }
+{
+    let at = slots.partition_point(
+        |slot: &Slot<T>| -> bool
+            ensures { result ≡ nat_lt slot.now.place place }
+        { slot.place < place },
+    );
+    if at >= slots.len() {
+        return slots.len();
+    }
+    if slots[at].place == place {
+        return at;
+    }
+    slots.len()
+}
+
+// Forgets what is remembered of the item with this place, if there is one.
+fn wake_one<T>(slots: &mut [Slot<T>], windows: &mut Windows, place: u64)
+    requires rising { AllPairs (λ s t. s.place < t.place) slots.old }
+    requires within { AreWithin (map seat_of slots.old) windows.old }
+    ensures slots { slots.new ≡ map (woken_at (place ∷ [])) slots.old }
+    ensures within { AreWithin (map seat_of slots.new) windows.new }
+{
+    let at = find_place(slots, place);
+    if at < slots.len() {
+        slots[at].mark = Mark::New;
+        *windows = windows.marked(at, Mark::New);
+    }
+}
+
+// Forgets what is remembered of the items with these places.
+fn wake_all<T>(slots: &mut [Slot<T>], windows: &mut Windows, places: &[u64])
+    requires rising { AllPairs (λ s t. s.place < t.place) slots.old }
+    requires within { AreWithin (map seat_of slots.old) windows.old }
+    ensures slots { slots.new ≡ map (woken_at places.now) slots.old }
+    ensures within { AreWithin (map seat_of slots.new) windows.new }
+{
+    for place in places {
+        wake_one(slots, windows, *place);
+    }
+}

@@ -1,0 +1,78 @@
+ghost use Rattle.std.specs.Prelude.{◌≡◌, ◌<◌, All, length};
+ghost use Rattle.std.specs.List.{position_or_len};
+ghost use Rattle.snow_issue.specs.declared.marks.Mark.TheVariants.{New};
+ghost use Rattle.snow_issue.specs.Settling.{is_hopeless_by, is_free_by};
+ghost use Rattle.snow_issue.specs.Known.{items_of, has, sight, Tells};
+ghost use Rattle.snow_issue.specs.Keeping.{Rests};
+
+use crate::gets::Gets;
+use crate::marks::Mark;
+use crate::offering::is_on;
+use crate::replies::Replies;
+use crate::waiting::WaitingList;
+use crate::work::Held;
+use snow_base::Header;
+use snow_plain::Board;
+
+// What a look at a waiting block tells; nothing where it is hopeless.
+fn look<B: Board>(waiting: &WaitingList, gets: &Gets, board: &B, block: &Header) -> Option<Mark>
+    ensures { result ≡ sight (items_of waiting.now) gets.now (B.board board.now) block.now }
+{
+    if is_on(board, &block.parent) {
+        return Some(Mark::Ripe);
+    }
+    if gets.asks_for(&block.parent) || waiting.waits_below(block) {
+        return Some(Mark::Quiet);
+    }
+    None
+}
+
+/// Where the earliest hopeless block stands, or how many blocks wait. Each block of which nothing was
+/// remembered is looked at, up to there.
+pub(crate) fn first_hopeless<B: Board>(waiting: &mut WaitingList, gets: &Gets, board: &B) -> usize
+    requires { All (Tells (items_of waiting.old) gets.now (B.board board.now)) waiting.old }
+    ensures first { result ≡ position_or_len (is_hopeless_by (items_of waiting.old) gets.now (B.board board.now)) (items_of waiting.old) }
+    ensures same { items_of waiting.new ≡ items_of waiting.old }
+    ensures tells { All (Tells (items_of waiting.new) gets.now (B.board board.now)) waiting.new }
+    ensures seen { length waiting.new ≡ result → length waiting.new ≡ position_or_len (has New) waiting.new }
+{
+    loop {
+        let at = waiting.first(Mark::New);
+        if at >= waiting.len() {
+            return at;
+        }
+        let header = waiting.header(at);
+        match look(waiting, gets, board, &header) {
+            Some(mark) => waiting.set(at, mark),
+            None => return at,
+        }
+    }
+}
+
+// Whether the block of a reply neither waits nor is asked for.
+fn is_free(waiting: &WaitingList, gets: &Gets, reply: &Held) -> bool
+    ensures { result ≡ is_free_by (items_of waiting.now) gets.now reply.now }
+{
+    !(waiting.waits(&reply.id) || gets.asks_for(&reply.id))
+}
+
+/// Where the earliest free reply stands, or how many replies are held. Each reply of which nothing
+/// was remembered is looked at, up to there.
+pub(crate) fn first_free(replies: &mut Replies, waiting: &WaitingList, gets: &Gets) -> usize
+    requires { All (Rests (items_of waiting.now) gets.now) replies.old }
+    ensures first { result ≡ position_or_len (is_free_by (items_of waiting.now) gets.now) (items_of replies.old) }
+    ensures same { items_of replies.new ≡ items_of replies.old }
+    ensures rests { All (Rests (items_of waiting.now) gets.now) replies.new }
+{
+    loop {
+        let at = replies.first(Mark::New);
+        if at >= replies.len() {
+            return at;
+        }
+        let reply = replies.reply(at);
+        if is_free(waiting, gets, &reply) {
+            return at;
+        }
+        replies.set(at, Mark::Quiet);
+    }
+}

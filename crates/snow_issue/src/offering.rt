@@ -1,0 +1,109 @@
+ghost use Rattle.std.specs.Prelude.{◌≡◌, ◌||◌, [], nat_le};
+ghost use Rattle.snow_issue.specs.Offering.{is_on, is_gone, is_unknown, wanted, is_high, asks, refusal};
+ghost use Rattle.snow_issue.specs.Lists.{waits};
+ghost use Rattle.snow_issue.specs.Keeping.{parts};
+
+use crate::gets::Gets;
+use crate::gone::GoneList;
+use crate::waiting::WaitingList;
+use crate::work::Offered;
+use snow_base::{Header, Id};
+use snow_plain::Board;
+
+/// Whether a block is on the board: pending, or the last accepted one.
+pub(crate) fn is_on<B: Board>(board: &B, id: &Id) -> bool
+    ensures { result ≡ is_on (B.board board.now) id.now }
+{
+    board.height_of(id).is_some()
+}
+
+// Whether nothing is known of a block.
+fn is_unknown<B: Board>(
+    waiting: &WaitingList,
+    gets: &Gets,
+    gone: &GoneList,
+    board: &B,
+    id: &Id,
+) -> bool
+    ensures { result ≡ is_unknown (parts waiting.now gets.now gone.now) (B.board board.now) id.now }
+{
+    !(is_on(board, id) || waiting.waits(id) || gets.asks_for(id) || gone.holds(id))
+}
+
+/// Whether a block that a reply names is to be asked for.
+pub(crate) fn is_wanted<B: Board>(
+    waiting: &WaitingList,
+    gets: &Gets,
+    gone: &GoneList,
+    board: &B,
+    id: &Id,
+) -> bool
+    ensures { result ≡ wanted (parts waiting.now gets.now gone.now) (B.board board.now) id.now }
+{
+    is_unknown(waiting, gets, gone, board, id) && gets.len() < 4096
+}
+
+// Whether a block is more than one above the last accepted height, a whole number.
+fn is_high<B: Board>(board: &B, block: &Header) -> bool
+    ensures { result ≡ is_high (B.board board.now) block.now }
+{
+    let height = block.height;
+    match board.last_height().checked_add(1) {
+        Some(next) => next < height,
+        None => false,
+    }
+}
+
+/// The parent of a block that waits, where it is to be asked for.
+pub(crate) fn ask<B: Board>(
+    waiting: &WaitingList,
+    gets: &Gets,
+    gone: &GoneList,
+    board: &B,
+    block: &Header,
+) -> Option<Id>
+    ensures { result ≡ asks (parts waiting.now gets.now gone.now) (B.board board.now) block.now }
+{
+    if is_high(board, block) && is_wanted(waiting, gets, gone, board, &block.parent) {
+        return Some(block.parent);
+    }
+    None
+}
+
+// Whether a block is on the board or waits.
+fn is_known<B: Board>(waiting: &WaitingList, board: &B, id: &Id) -> bool
+    ensures { result ≡ (is_on (B.board board.now) id.now || waits (parts waiting.now [] []) id.now) }
+{
+    is_on(board, id) || waiting.waits(id)
+}
+
+// Whether a block went, or is too low to be issued.
+fn is_old<B: Board>(gone: &GoneList, board: &B, block: &Header) -> bool
+    ensures { result ≡ (is_gone (parts [] [] gone.now) block.now.id || nat_le block.now.height (B.board board.now).height) }
+{
+    gone.holds(&block.id) || block.height <= board.last_height()
+}
+
+/// The first reason, if there is one, for which an offered block doesn't wait.
+pub(crate) fn refusal<B: Board>(
+    waiting: &WaitingList,
+    gone: &GoneList,
+    board: &B,
+    block: &Header,
+) -> Option<Offered>
+    ensures { result ≡ refusal (parts waiting.now [] gone.now) (B.board board.now) block.now }
+{
+    if is_known(waiting, board, &block.id) {
+        return Some(Offered::Known);
+    }
+    if gone.stands_for(&block.id).is_some() {
+        return Some(Offered::Invalid);
+    }
+    if is_old(gone, board, block) {
+        return Some(Offered::Old);
+    }
+    if waiting.len() < 4096 {
+        return None;
+    }
+    Some(Offered::Full)
+}

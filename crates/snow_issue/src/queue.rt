@@ -1,0 +1,232 @@
+ghost use Rattle.std.specs.Prelude.{◌≡◌, ◌<◌, List, find, length, IfOk, OnOk, OnErr, false};
+ghost use Rattle.std.specs.Option.{option_map};
+ghost use Rattle.snow_plain.specs.Board as model;
+ghost use Rattle.snow_issue.specs.declared.work.Get.{Get};
+ghost use Rattle.snow_issue.specs.declared.gone.Gone.{Gone};
+ghost use Rattle.snow_issue.specs.Lists.{begun, has_number, is_asked, is_get, holds_in, after_asked, after_closed, after_held, after_forgotten, after_gone, AreWithinLimits};
+ghost use Rattle.snow_issue.specs.Offering.{offered, after_offer, wanted};
+ghost use Rattle.snow_issue.specs.Settling.{work_of, after};
+ghost use Rattle.snow_issue.specs.Bubbling.{bubbled};
+ghost use Rattle.snow_issue.specs.Known.{lists_of, Knows, RestsAfter};
+
+use crate::gets::Gets;
+use crate::gone::{Gone, GoneList};
+use crate::replies::Replies;
+use crate::waiting::WaitingList;
+use crate::work::{Get, Held, Offered, Waiting, Work};
+use crate::{bubbling, offering};
+use snow_base::{Id, NodeId};
+use snow_plain::Board;
+use std::alloc::{AllocError, Global};
+use std::marker::Model;
+
+/// What a running node waits for: blocks in order of arrival, open gets in order of number, held
+/// replies in order of arrival, and the blocks that went, the latest last. Contracts see these four
+/// lists, and beside each waiting block what is remembered of it. Nothing that an event doesn't
+/// touch is looked at again.
+#[derive(Drop)]
+pub struct Queue {
+    pub(crate) waiting: WaitingList,
+    pub(crate) gets: Gets,
+    pub(crate) replies: Replies,
+    pub(crate) gone: GoneList,
+}
+
+impl Model for Queue {
+    ghost use Rattle.snow_issue.specs.Known.{Seen, items_of};
+    ghost use Rattle.snow_issue.specs.Keeping.{IsKept};
+
+    ghost Value = { Seen };
+
+    ghost view = { λ a. record { seats = a.waiting; gets = a.gets; held = items_of a.replies; gone = a.gone } };
+
+    ghost invariant = { λ a. IsKept a.waiting a.gets a.replies a.gone };
+}
+
+impl Queue {
+    /// The queue of a node that begins to run above its last accepted block, which is gone. Nothing
+    /// waits. It makes room for all 8,192 blocks of the gone list.
+    pub fn new(alloc: Global, last: Id) -> Result<Queue, AllocError>
+        ensures lists { IfOk result (λ made. lists_of made ≡ begun last) }
+        ensures knows { IfOk result (λ made. (board : model.Board) → Knows made board) }
+    {
+        let mut gone = GoneList::new(alloc)?;
+        gone.enter(Gone {
+            id: last,
+            parent: None,
+        });
+        Ok(Queue {
+            waiting: WaitingList::new(alloc),
+            gets: Gets::new(alloc),
+            replies: Replies::new(alloc),
+            gone,
+        })
+    }
+
+    /// Offers a block, and answers the first that holds: `Known` where it is on the board or waits;
+    /// `Invalid` where its latest entry in the gone list has a parent; `Old` where it has an entry
+    /// without one, or its height is at most the last accepted one; `Full` where 4,096 blocks wait;
+    /// else `Waits`, and then it waits. `ask` names its parent where nothing is known of that, the
+    /// block is more than one above the last accepted height, and fewer than 4,096 gets are open.
+    /// After want of memory all is as before.
+    pub fn offer<B: Board>(&mut self, block: Waiting, board: &B) -> Result<Offered, AllocError>
+        ensures answer { IfOk result (λ answer. answer ≡ offered (lists_of self.old) (B.board board.now) block) }
+        ensures lists { IfOk result (λ answer. lists_of self.new ≡ after_offer (lists_of self.old) block answer) }
+        ensures err { OnErr result (self.new ≡ self.old) }
+        ensures knows { (b : model.Board) → Knows self.old b → Knows self.new b }
+        ensures limits { AreWithinLimits (lists_of self.new) }
+    {
+        let header = block.header;
+        if let Some(answer) = offering::refusal(&self.waiting, &self.gone, board, &header) {
+            return Ok(answer);
+        }
+        self.waiting.push(block)?;
+        Ok(Offered::Waits {
+            ask: offering::ask(&self.waiting, &self.gets, &self.gone, board, &header),
+        })
+    }
+
+    /// Whether a block that a reply names is to be asked for: nothing is known of it, and fewer than
+    /// 4,096 gets are open.
+    pub fn wants<B: Board>(&self, id: &Id, board: &B) -> bool
+        ensures { result ≡ wanted (lists_of self.now) (B.board board.now) id.now }
+    {
+        offering::is_wanted(&self.waiting, &self.gets, &self.gone, board, id)
+    }
+
+    /// Opens a get: a block was asked of a node under a number. After want of memory all is as
+    /// before.
+    pub fn asked(&mut self, number: u32, node: NodeId, id: Id) -> Result<(), AllocError>
+        requires room { length self.old.gets < 4096 }
+        requires number { has_number self.old.gets number ≡ false }
+        requires id { is_asked (lists_of self.old) id ≡ false }
+        ensures lists { let get : Get = record { number = number; node = node; id = id } in OnOk result (lists_of self.new ≡ after_asked (lists_of self.old) get) }
+        ensures err { OnErr result (self.new ≡ self.old) }
+        ensures knows { (b : model.Board) → Knows self.old b → Knows self.new b }
+        ensures limits { AreWithinLimits (lists_of self.new) }
+    {
+        self.gets.open(Get { number, node, id })?;
+        Ok(())
+    }
+
+    /// Closes the get of this number and node, and gives the block that was asked for; None, with
+    /// all as before, exactly where there is no such get. It takes no memory.
+    pub fn close_get(&mut self, number: u32, node: &NodeId) -> Option<Id>
+        ensures answer { result ≡ option_map (λ get. get.id) (find (is_get number node.now) self.old.gets) }
+        ensures lists { lists_of self.new ≡ after_closed (lists_of self.old) number node.now }
+        ensures knows { (b : model.Board) → Knows self.old b → Knows self.new b }
+        ensures limits { AreWithinLimits (lists_of self.new) }
+    {
+        let id = self.gets.close(number, node)?;
+        self.waiting.wake(&id);
+        self.replies.wake(&id);
+        Some(id)
+    }
+
+    /// Holds a reply. After want of memory all is as before.
+    pub fn hold(&mut self, reply: Held) -> Result<(), AllocError>
+        requires { holds_in self.old.held reply.number reply.node ≡ false }
+        ensures lists { OnOk result (lists_of self.new ≡ after_held (lists_of self.old) reply) }
+        ensures err { OnErr result (self.new ≡ self.old) }
+        ensures knows { (b : model.Board) → Knows self.old b → Knows self.new b }
+        ensures limits { AreWithinLimits (lists_of self.new) }
+    {
+        self.replies.push(reply)?;
+        Ok(())
+    }
+
+    /// Whether a node's reply to a poll is held.
+    pub fn holds(&self, number: u32, node: &NodeId) -> bool
+        ensures { result ≡ holds_in self.now.held number node.now }
+    {
+        self.replies.holds(number, node)
+    }
+
+    /// A poll left, and its held replies go. It takes no memory.
+    pub fn forget(&mut self, number: u32)
+        ensures lists { lists_of self.new ≡ after_forgotten (lists_of self.old) number }
+        ensures knows { (b : model.Board) → Knows self.old b → Knows self.new b }
+        ensures limits { AreWithinLimits (lists_of self.new) }
+    {
+        self.replies.forget(number);
+    }
+
+    /// Whether a block is asked for.
+    pub fn is_asked(&self, id: &Id) -> bool
+        ensures { result ≡ is_asked (lists_of self.now) id.now }
+    {
+        self.gets.asks_for(id)
+    }
+
+    /// Whether a get with this number is open.
+    pub fn has_number(&self, number: u32) -> bool
+        ensures { result ≡ has_number self.now.gets number }
+    {
+        self.gets.has_number(number)
+    }
+
+    /// How many gets are open.
+    pub fn gets_len(&self) -> usize
+        ensures { result ≡ length self.now.gets }
+    {
+        self.gets.len()
+    }
+
+    /// Takes out the block or the reply of the first step of settling that applies: the earliest
+    /// hopeless block, else the earliest ready one, else the earliest free reply. None exactly where
+    /// no step applies. A hopeless block is entered in the gone list with its parent, where the
+    /// latest entry of that has a parent. Every waiting block is looked at anew. It takes no memory.
+    pub fn next_work<B: Board>(&mut self, board: &B) -> Option<Work>
+        ensures work { result ≡ work_of (lists_of self.old) (B.board board.now) }
+        ensures lists { lists_of self.new ≡ after (lists_of self.old) (B.board board.now) result }
+        ensures knows { Knows self.new (B.board board.now) }
+        ensures rests { RestsAfter result self.new.seats }
+        ensures limits { AreWithinLimits (lists_of self.new) }
+    {
+        self.waiting.forget_marks();
+        self.next_known(board)
+    }
+
+    /// The same where what is remembered is true of the board. It looks only at blocks and replies
+    /// of which nothing is remembered, so where nothing changed it finds at once that no step
+    /// applies.
+    pub fn next_known<B: Board>(&mut self, board: &B) -> Option<Work>
+        requires { Knows self.old (B.board board.now) }
+        ensures work { result ≡ work_of (lists_of self.old) (B.board board.now) }
+        ensures lists { lists_of self.new ≡ after (lists_of self.old) (B.board board.now) result }
+        ensures knows { Knows self.new (B.board board.now) }
+        ensures rests { RestsAfter result self.new.seats }
+        ensures limits { AreWithinLimits (lists_of self.new) }
+    {
+        if let Some(block) = self.take_hopeless(board) {
+            return Some(Work::Hopeless(block));
+        }
+        if let Some(block) = self.take_ready(board) {
+            return Some(Work::Ready(block));
+        }
+        match self.take_vote() {
+            Some(reply) => Some(Work::Vote(reply)),
+            None => None,
+        }
+    }
+
+    /// Enters a block in the gone list: with a parent where it was found invalid, and with none
+    /// where it was accepted or rejected. Where there are 8,192 entries, the oldest goes. It takes no
+    /// memory.
+    pub fn gone(&mut self, id: Id, parent: Option<Id>)
+        ensures lists { let entry : Gone = record { id = id; parent = parent } in lists_of self.new ≡ after_gone (lists_of self.old) entry }
+        ensures knows { (b : model.Board) → Knows self.old b → Knows self.new b }
+        ensures limits { AreWithinLimits (lists_of self.new) }
+    {
+        self.gone.enter(Gone { id, parent });
+    }
+
+    /// The vote that a reply gives: a pending block is itself, the last accepted one gives none, and
+    /// a gone one is replaced by the parent of its latest entry, at most 8,192 times. None where
+    /// this leads to no pending block.
+    pub fn bubble<B: Board>(&self, id: &Id, board: &B) -> Option<Id>
+        ensures { result ≡ bubbled (lists_of self.now) (B.board board.now) id.now }
+    {
+        bubbling::bubble(&self.gone, board, id)
+    }
+}

@@ -1,0 +1,115 @@
+ghost use Rattle.std.specs.Prelude.{◌≡◌, ◌==◌, ℕ, List, [], ◌∷◌, ◌++◌, not, OnOk, OnErr, bytes_eq, if◌then◌else◌};
+ghost use Rattle.std.specs.Bool.{OnTrue};
+ghost use Rattle.snow_issue.specs.Index.{row_of, left_by};
+
+use snow_base::Id;
+use std::alloc::{AllocError, Global};
+use std::collections::BTreeMap;
+use std::marker::Model;
+
+/// Places, in the order in which they came.
+#[derive(Drop)]
+pub(crate) struct Row {
+    places: Vec<u64>,
+}
+
+impl Model for Row {
+    ghost use Rattle.std.specs.Prelude.{ℕ, List};
+
+    ghost Value = { List ℕ };
+
+    ghost view = { λ a. a.places.items };
+}
+
+impl Row {
+    ghost use Rattle.std.specs.Prelude.{IfOk};
+
+    // A row of one place.
+    fn of(alloc: Global, place: u64) -> Result<Row, AllocError>
+        ensures { IfOk result (λ row. row ≡ place ∷ []) }
+    {
+        let mut places = Vec::new(alloc);
+        places.push(place)?;
+        Ok(Row { places })
+    }
+
+    fn push(&mut self, place: u64) -> Result<(), AllocError>
+        ensures ok { OnOk result (self.new ≡ self.old ++ place ∷ []) }
+        ensures err { OnErr result (self.new ≡ self.old) }
+    {
+        self.places.push(place)?;
+        Ok(())
+    }
+
+    // A place goes, and the answer is whether none is left.
+    fn leave(&mut self, place: u64) -> bool
+        ensures left { self.new ≡ left_by place self.old }
+        ensures empty { OnTrue result (self.new ≡ []) }
+    {
+        self.places.retain(
+            |other: &u64| -> bool
+                ensures { result ≡ not (other.now == place) }
+            { *other != place },
+        );
+        self.places.is_empty()
+    }
+
+    fn list(&self) -> &[u64]
+        ensures { result.now ≡ self.now }
+    {
+        self.places.as_slice()
+    }
+}
+
+/// At which places the items of each key stand. A key of senders' choice costs no more than any
+/// other, since the map is in order of the keys.
+#[derive(Drop)]
+pub(crate) struct Rows {
+    pub(crate) rows: BTreeMap<Id, Row>,
+}
+
+impl Rows {
+    /// No place of any key. It takes no memory.
+    pub(crate) fn new(alloc: Global) -> Rows
+        ensures { (key : List ℕ) → row_of result.rows key ≡ [] }
+    {
+        Rows {
+            rows: BTreeMap::new(alloc),
+        }
+    }
+
+    /// One place more of a key. After want of memory the rows are as before.
+    pub(crate) fn note(&mut self, alloc: Global, key: Id, place: u64) -> Result<(), AllocError>
+        ensures ok { OnOk result ((q : List ℕ) → row_of self.new.rows q ≡ (if bytes_eq key q then row_of self.old.rows q ++ place ∷ [] else row_of self.old.rows q)) }
+        ensures err { OnErr result ((q : List ℕ) → row_of self.new.rows q ≡ row_of self.old.rows q) }
+    {
+        if let Some(row) = self.rows.get_mut(&key) {
+            return row.push(place);
+        }
+        let row = Row::of(alloc, place)?;
+        self.rows.insert(key, row)?;
+        Ok(())
+    }
+
+    /// A place of a key goes. It takes no memory.
+    pub(crate) fn leave(&mut self, key: &Id, place: u64)
+        ensures { (q : List ℕ) → row_of self.new.rows q ≡ (if bytes_eq key.now q then left_by place (row_of self.old.rows q) else row_of self.old.rows q) }
+    {
+        let Some(row) = self.rows.get_mut(key) else {
+            return;
+        };
+        if row.leave(place) {
+            let _ = self.rows.remove(key);
+        }
+    }
+
+    /// The places of a key.
+    pub(crate) fn of(&self, key: &Id) -> &[u64]
+        ensures { result.now ≡ row_of self.now.rows key.now }
+    {
+        match self.rows.get(key) {
+            Some(row) => row.list(),
+            None => &[],
+        }
+    }
+}

@@ -1,0 +1,154 @@
+ghost use Rattle.std.specs.Prelude.{◌≡◌, ◌+◌, ◌==◌, ◌<◌, ◌∷◌, ◌++◌, [], List, map, false, length, slice_set, HoldsAt, OnOk, OnErr};
+ghost use Rattle.std.specs.List.{position_or_len, remove};
+ghost use Rattle.snow_issue.specs.Known.{has, items_of};
+ghost use Rattle.snow_issue.specs.Lists.{waits_among, waits_below};
+ghost use Rattle.snow_issue.specs.Index.{woken, forgotten};
+
+use crate::lineup::{Keyed, Lineup};
+use crate::marks::Mark;
+use crate::work::Waiting;
+use snow_base::{Header, Id};
+use std::alloc::{AllocError, Global};
+use std::collections::BTreeMap;
+use std::marker::Model;
+
+impl Keyed for Waiting {
+    ghost key = { λ w. w.header.parent };
+
+    fn key(&self) -> Id {
+        self.header.parent
+    }
+}
+
+/// The waiting blocks in order of arrival, each with what is remembered of it, and indexes by parent
+/// and by identifier.
+#[derive(Drop)]
+pub(crate) struct WaitingList {
+    lineup: Lineup<Waiting>,
+    heights: BTreeMap<Id, u64>,
+}
+
+impl Model for WaitingList {
+    ghost use Rattle.std.specs.Prelude.{List};
+    ghost use Rattle.snow_issue.specs.declared.work.Waiting.{Waiting};
+    ghost use Rattle.snow_issue.specs.declared.marks.Mark.{Mark};
+    ghost use Rattle.snow_issue.specs.Known.{items_of};
+    ghost use Rattle.snow_issue.specs.Index.{HasHeights};
+
+    ghost Value = { List (Waiting × Mark) };
+
+    ghost view = { λ a. a.lineup };
+
+    ghost invariant = { λ a. HasHeights a.heights (items_of a.lineup) };
+}
+
+impl WaitingList {
+    ghost use Rattle.snow_issue.specs.declared.marks.Mark.TheVariants.{New};
+
+    /// No block waits. It takes no memory.
+    pub(crate) fn new(alloc: Global) -> Self
+        ensures { result ≡ [] }
+    {
+        WaitingList {
+            lineup: Lineup::new(alloc),
+            heights: BTreeMap::new(alloc),
+        }
+    }
+
+    pub(crate) fn len(&self) -> usize
+        ensures { result ≡ length self.now }
+    {
+        self.lineup.len()
+    }
+
+    /// Whether a block waits.
+    pub(crate) fn waits(&self, id: &Id) -> bool
+        ensures { result ≡ waits_among (items_of self.now) id.now }
+    {
+        self.heights.contains_key(id)
+    }
+
+    /// Whether the parent of a block waits, at the height right below it.
+    pub(crate) fn waits_below(&self, child: &Header) -> bool
+        ensures { result ≡ waits_below (items_of self.now) child.now }
+    {
+        match self.heights.get(&child.parent) {
+            Some(height) => is_right_below(*height, child.height),
+            None => false,
+        }
+    }
+
+    /// Appends a block that doesn't wait yet. After want of memory all is as before.
+    pub(crate) fn push(&mut self, block: Waiting) -> Result<(), AllocError>
+        requires { waits_among (items_of self.old) block.header.id ≡ false }
+        ensures ok { OnOk result (self.new ≡ self.old ++ (block, New) ∷ []) }
+        ensures err { OnErr result (self.new ≡ self.old) }
+    {
+        let header = block.header;
+        self.heights.insert(header.id, header.height)?;
+        if let Err(error) = self.lineup.push(block) {
+            let _ = self.heights.remove(&header.id);
+            return Err(error);
+        }
+        Ok(())
+    }
+
+    /// Where the first block with this mark stands, or how many blocks there are.
+    pub(crate) fn first(&mut self, mark: Mark) -> usize
+        ensures at { result ≡ position_or_len (has mark) self.old }
+        ensures same { self.new ≡ self.old }
+    {
+        self.lineup.first(mark)
+    }
+
+    /// What the block at a place says of itself.
+    pub(crate) fn header(&self, at: usize) -> Header
+        requires { at < length self.now }
+        ensures { HoldsAt (λ s. result ≡ s.0.header) self.now at }
+    {
+        self.lineup.item(at).header
+    }
+
+    /// Remembers something of the block at a place.
+    pub(crate) fn set(&mut self, at: usize, mark: Mark)
+        requires { at < length self.old }
+        ensures { HoldsAt (λ s. self.new ≡ slice_set self.old at (s.0, mark)) self.old at }
+    {
+        self.lineup.set(at, mark);
+    }
+
+    /// Takes the block at a place out. It takes no memory.
+    pub(crate) fn take(&mut self, at: usize) -> Waiting
+        requires { at < length self.old }
+        ensures taken { HoldsAt (λ s. result ≡ s.0) self.old at }
+        ensures rest { self.new ≡ remove self.old at }
+    {
+        let block = self.lineup.take(at);
+        let _ = self.heights.remove(&block.header.id);
+        block
+    }
+
+    /// Forgets what is remembered of a block's children.
+    pub(crate) fn wake(&mut self, parent: &Id)
+        ensures { self.new ≡ map (woken (λ w. w.header.parent) parent.now) self.old }
+    {
+        self.lineup.wake(parent);
+    }
+
+    /// Forgets what is remembered of any block.
+    pub(crate) fn forget_marks(&mut self)
+        ensures { self.new ≡ map forgotten self.old }
+    {
+        self.lineup.forget_marks();
+    }
+}
+
+// Whether a height is the one right below another. Heights are whole numbers: none is above the last.
+fn is_right_below(height: u64, above: u64) -> bool
+    ensures { result ≡ (height + 1 == above) }
+{
+    match height.checked_add(1) {
+        Some(next) => next == above,
+        None => false,
+    }
+}

@@ -1,0 +1,51 @@
+use snow_base::{Bytes, Header, Id, NodeId};
+
+/// A block that waits, and the node that sent it.
+#[derive(Debug, Drop)]
+pub struct Waiting {
+    pub node: NodeId,
+    pub header: Header,
+    pub bytes: Bytes,
+}
+
+/// A block that was asked of a node under a number, and hasn't come yet.
+#[derive(Clone, Copy, Debug, PartialEq, Eq)]
+pub struct Get {
+    pub number: u32,
+    pub node: NodeId,
+    pub id: Id,
+}
+
+/// A node's reply to a poll that names a block which waits or is asked for.
+#[derive(Clone, Copy, Debug, PartialEq, Eq)]
+pub struct Held {
+    pub number: u32,
+    pub node: NodeId,
+    pub id: Id,
+}
+
+/// What becomes of a block that is offered.
+#[derive(Clone, Copy, Debug, PartialEq, Eq)]
+pub enum Offered {
+    /// It is on the board or waits already.
+    Known,
+    /// It is gone, and has a parent in the gone list: it was found invalid.
+    Invalid,
+    /// It is gone without a parent there, or its height is at most the last accepted one.
+    Old,
+    /// 4,096 blocks wait.
+    Full,
+    /// It waits. Its parent is to be asked for, if it is named.
+    Waits { ask: Option<Id> },
+}
+
+/// One step of settling, with the block or the reply that was taken out for it.
+#[derive(Debug, Drop)]
+pub enum Work {
+    /// No one can bring the parent of this block any more.
+    Hopeless(Waiting),
+    /// The parent of this block is on the board.
+    Ready(Waiting),
+    /// The block that this reply names neither waits nor is asked for.
+    Vote(Held),
+}
