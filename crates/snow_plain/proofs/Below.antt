@@ -25,7 +25,7 @@ starts_front (b ∷ bits) (a ∷ front) more h =
     (λ t. let k = rw t at h in cc)
 
 -- they don't go on with both bits
-one_side : (bits front : List Bool) → starts_with beq bits (front ++ false ∷ []) ≡ true → starts_with beq bits (front ++ true ∷ []) ≡ false
+pub one_side : (bits front : List Bool) → starts_with beq bits (front ++ false ∷ []) ≡ true → starts_with beq bits (front ++ true ∷ []) ≡ false
 one_side [] [] h = cc
 one_side (true ∷ bits) [] h = cc
 one_side (false ∷ bits) [] h = refl

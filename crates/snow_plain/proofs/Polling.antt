@@ -42,7 +42,7 @@ begins_other n side front id h is =
     rw (drop-bits id n h, is) (other_first side (not side) front (take (length front) (drop (n + 1) (bits id))) (other_bit side))
 
 -- votes with the bit: one bit less is to be looked at
-votes_same : (n : ℕ) (side : Bool) (votes : List Vote) (front : List Bool) → n < 256 → HaveBit n side votes
+pub votes_same : (n : ℕ) (side : Bool) (votes : List Vote) (front : List Bool) → n < 256 → HaveBit n side votes
     → votes_from n votes (side ∷ front) ≡ votes_from (n + 1) votes front
 votes_same n side [] front h have = refl
 votes_same n side (v ∷ votes) front h have =
@@ -53,7 +53,7 @@ votes_same n side (v ∷ votes) front h have =
     ∙ sym (sum_by-cons (counted_from (n + 1) front) v votes)
 
 -- votes with the other bit: none of them counts
-votes_other : (n : ℕ) (side : Bool) (votes : List Vote) (front : List Bool) → n < 256 → HaveBit n (not side) votes
+pub votes_other : (n : ℕ) (side : Bool) (votes : List Vote) (front : List Bool) → n < 256 → HaveBit n (not side) votes
     → votes_from n votes (side ∷ front) ≡ 0
 votes_other n side [] front h have = refl
 votes_other n side (v ∷ votes) front h have =

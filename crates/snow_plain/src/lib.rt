@@ -17,6 +17,7 @@ mod state;
 mod tree;
 
 pub use board::Board;
+pub use conflict::Conflict;
 pub use decision::Decision;
 pub use laws::{
     alike_law, children_stay_law, confidence_law, excluded_law, failing_and_adding_law,

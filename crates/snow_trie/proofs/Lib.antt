@@ -1,0 +1,13 @@
+pub mod Chosen
+pub mod Examples
+pub mod Given
+pub mod Grown
+pub mod Narrowed
+pub mod Ordered
+pub mod Parting
+pub mod Peeled
+pub mod Stamps
+pub mod Standing
+pub mod Strands
+pub mod Visited
+pub mod Wholes

@@ -1,0 +1,154 @@
+use Rattle.std.proofs.Common.{◌+◌, take, drop, arith}
+use Rattle.std.proofs.lemmas.List.Elements.{All-take, All-drop}
+use Rattle.snow_trie.specs.Tree.{tree_of}
+use Rattle.snow_trie.specs.Outline.{Split, outline, Leads}
+use Rattle.snow_trie.proofs.Visited.{at_end, agree_on, down_zero, down_one, polled_line, polled_two, unvisited, few_ones, few_zeros}
+use Rattle.snow_trie.proofs.polling.+visit.Goals as goal
+
+pub visit-requires : goal.visit-requires
+visit-requires g t c κs within =
+    let falls = c.decreases in
+    let to = c.poll.ensures.to in
+    let placed = rw c.in-Along.is at c.requires.placed in
+    let stamped = rw c.in-Along.is at c.requires.stamped in
+    let known = rw c.in-Along.is at c.requires.known in
+    let here = c.deref_mut.ensures.value in
+    let below = tree_of c.in-Along.below.value in (
+      omega (arith, placed.0, to),
+      (
+        within,
+        (
+          rw (here, to) placed.2,
+          (
+            rw here stamped.1,
+            (
+              rw (here, to) (λ k d h. (known k d h).1),
+              (
+                c.requires.order,
+                (
+                  rw to (agree_on c.args.from c.in-Along.run'.to c.in-Along.run'.id c.args.votes.now c.requires.agree (λ k d h. (known k d h).0)),
+                  (c.requires.count, (c.requires.most, c.requires.room)),
+                ),
+              ),
+            ),
+          ),
+        ),
+      ),
+    )
+
+pub visit-requires-then-alpha_preference-zero : goal.visit-requires-then-alpha_preference-zero
+visit-requires-then-alpha_preference-zero g t c κs within =
+    let falls = c.decreases in
+    let placed = rw c.in-Apart.is at c.requires.placed in
+    let stamped = rw c.in-Apart.is at c.requires.stamped in
+    let known = rw c.in-Apart.is at c.requires.known in
+    let zeros = outline (c.args.from + 1) (tree_of c.in-Apart.zeros.value) in
+    let ones = outline (c.args.from + 1) (tree_of c.in-Apart.ones.value) in
+    let here = c.deref_mut-then-alpha_preference-zero.ensures.value in (
+      omega (arith, placed.0),
+      (
+        within,
+        (
+          rw here placed.1,
+          (
+            rw here stamped.1,
+            (
+              rw (here, c.split_at.ensures.front) (down_zero c.args.from zeros ones (take c.split.result c.args.votes.now)
+                  (All-take (λ v. Leads (Split c.args.from zeros ones) v.id) c.split.result c.args.votes.now known) c.split.ensures.zeros),
+              (
+                rw c.split_at.ensures.front c.split.ensures.zeros_order,
+                (rw c.split_at.ensures.front c.split.ensures.zeros_agree, (c.total-zero.ensures.count, (c.total-zero.ensures.few, c.requires.room))),
+              ),
+            ),
+          ),
+        ),
+      ),
+    )
+
+pub visit-requires-then-alpha_preference-one : goal.visit-requires-then-alpha_preference-one
+visit-requires-then-alpha_preference-one g t c κs within =
+    let falls = c.decreases in
+    let placed = rw c.in-Apart.is at c.requires.placed in
+    let stamped = rw c.in-Apart.is at c.requires.stamped in
+    let known = rw c.in-Apart.is at c.requires.known in
+    let zeros = outline (c.args.from + 1) (tree_of c.in-Apart.zeros.value) in
+    let ones = outline (c.args.from + 1) (tree_of c.in-Apart.ones.value) in
+    let here = c.deref_mut-then-alpha_preference-one.ensures.value in (
+      omega (arith, placed.0),
+      (
+        within,
+        (
+          rw here placed.2,
+          (
+            rw here stamped.2,
+            (
+              rw (here, c.split_at.ensures.back) (down_one c.args.from zeros ones (drop c.split.result c.args.votes.now)
+                  (All-drop (λ v. Leads (Split c.args.from zeros ones) v.id) c.split.result c.args.votes.now known) c.split.ensures.ones),
+              (
+                rw c.split_at.ensures.back c.split.ensures.ones_order,
+                (rw c.split_at.ensures.back c.split.ensures.ones_agree, (c.total-one.ensures.count, (c.total-one.ensures.few, c.requires.room))),
+              ),
+            ),
+          ),
+        ),
+      ),
+    )
+
+pub returns-in-End-clause-tree : goal.returns-in-End-clause-tree
+returns-in-End-clause-tree g t c =
+    let placed = rw c.in-End.is at c.requires.placed in
+    rw c.in-End.is (at_end _ _ _ _ _ placed)
+
+pub returns-in-Along-clause-tree : goal.returns-in-Along-clause-tree
+returns-in-Along-clause-tree g t c =
+    let placed = rw c.in-Along.is at c.requires.placed in
+    let known = rw c.in-Along.is at c.requires.known in
+    rw c.in-Along.is (polled_line c.args.params.now c.args.votes.now c.args.count c.args.before c.args.from (c.poll.new.self).to c.in-Along.run' c.poll.new.self
+    (tree_of c.in-Along.below.value) (tree_of c.visit.new.node) placed.0 placed.1 (λ k d h. (known k d h).0) c.requires.count
+    c.poll.ensures.counter c.poll.ensures.id c.poll.ensures.to c.poll.ensures.seen c.poll.ensures.to (rw c.deref_mut.ensures.value at c.visit.ensures.tree))
+
+pub returns-then-alpha_preference-zero-clause-tree : goal.returns-then-alpha_preference-zero-clause-tree
+returns-then-alpha_preference-zero-clause-tree g t c =
+    let placed = rw c.in-Apart.is at c.requires.placed in
+    let stamped = rw c.in-Apart.is at c.requires.stamped in
+    let p = c.args.params.now in
+    let few = few_ones p c.args.votes.now c.split_at.result.0.now c.split_at.result.1.now c.split.result c.total-zero.result c.alpha_preference.ensures.good
+    c.split_at.ensures.front c.split_at.ensures.back c.total-zero.ensures.count (omega (arith, c.requires.count, c.requires.most)) (omega (arith, c.if-alpha_preference-zero.true, c.alpha_preference.ensures.value)) in
+    rw c.in-Apart.is (polled_two p c.args.votes.now c.split_at.result.0.now c.split_at.result.1.now c.split.result c.args.before c.args.from
+    c.total-zero.result c.total-one.result c.in-Apart.fork c.poll-in-Apart.new.self
+    (tree_of c.in-Apart.zeros.value) (tree_of c.visit-then-alpha_preference-zero.new.node) (tree_of c.in-Apart.ones.value) (tree_of c.in-Apart.ones.value)
+    placed.0 c.split.ensures.zeros c.split.ensures.ones c.split_at.ensures.front c.split_at.ensures.back c.total-zero.ensures.count c.total-one.ensures.count
+    c.poll-in-Apart.ensures.counter c.poll-in-Apart.ensures.seen
+    (rw c.deref_mut-then-alpha_preference-zero.ensures.value at c.visit-then-alpha_preference-zero.ensures.tree)
+    (unvisited p c.split_at.result.1.now c.args.before (c.args.from + 1) (tree_of c.in-Apart.ones.value) c.alpha_preference.ensures.good placed.2 stamped.2 few))
+
+pub returns-then-alpha_preference-one-clause-tree : goal.returns-then-alpha_preference-one-clause-tree
+returns-then-alpha_preference-one-clause-tree g t c =
+    let placed = rw c.in-Apart.is at c.requires.placed in
+    let stamped = rw c.in-Apart.is at c.requires.stamped in
+    let p = c.args.params.now in
+    let few = few_zeros p c.args.votes.now c.split_at.result.0.now c.split_at.result.1.now c.split.result c.total-one.result c.alpha_preference.ensures.good
+    c.split_at.ensures.front c.split_at.ensures.back c.total-one.ensures.count (omega (arith, c.requires.count, c.requires.most)) (omega (arith, c.if-alpha_preference-one.true, c.alpha_preference-else-alpha_preference-zero.ensures.value)) in
+    rw c.in-Apart.is (polled_two p c.args.votes.now c.split_at.result.0.now c.split_at.result.1.now c.split.result c.args.before c.args.from
+    c.total-zero.result c.total-one.result c.in-Apart.fork c.poll-in-Apart.new.self
+    (tree_of c.in-Apart.zeros.value) (tree_of c.in-Apart.zeros.value) (tree_of c.in-Apart.ones.value) (tree_of c.visit-then-alpha_preference-one.new.node)
+    placed.0 c.split.ensures.zeros c.split.ensures.ones c.split_at.ensures.front c.split_at.ensures.back c.total-zero.ensures.count c.total-one.ensures.count
+    c.poll-in-Apart.ensures.counter c.poll-in-Apart.ensures.seen
+    (unvisited p c.split_at.result.0.now c.args.before (c.args.from + 1) (tree_of c.in-Apart.zeros.value) c.alpha_preference.ensures.good placed.1 stamped.1 few)
+    (rw c.deref_mut-then-alpha_preference-one.ensures.value at c.visit-then-alpha_preference-one.ensures.tree))
+
+pub returns-else-alpha_preference-one-clause-tree : goal.returns-else-alpha_preference-one-clause-tree
+returns-else-alpha_preference-one-clause-tree g t c =
+    let placed = rw c.in-Apart.is at c.requires.placed in
+    let stamped = rw c.in-Apart.is at c.requires.stamped in
+    let p = c.args.params.now in
+    let good = c.alpha_preference.ensures.good in
+    rw c.in-Apart.is (polled_two p c.args.votes.now c.split_at.result.0.now c.split_at.result.1.now c.split.result c.args.before c.args.from
+    c.total-zero.result c.total-one.result c.in-Apart.fork c.poll-in-Apart.new.self
+    (tree_of c.in-Apart.zeros.value) (tree_of c.in-Apart.zeros.value) (tree_of c.in-Apart.ones.value) (tree_of c.in-Apart.ones.value)
+    placed.0 c.split.ensures.zeros c.split.ensures.ones c.split_at.ensures.front c.split_at.ensures.back c.total-zero.ensures.count c.total-one.ensures.count
+    c.poll-in-Apart.ensures.counter c.poll-in-Apart.ensures.seen
+    (unvisited p c.split_at.result.0.now c.args.before (c.args.from + 1) (tree_of c.in-Apart.zeros.value) good placed.1 stamped.1
+    (omega (arith, c.total-zero.ensures.count, c.if-alpha_preference-zero.false, c.alpha_preference.ensures.value)))
+    (unvisited p c.split_at.result.1.now c.args.before (c.args.from + 1) (tree_of c.in-Apart.ones.value) good placed.2 stamped.2
+    (omega (arith, c.total-one.ensures.count, c.if-alpha_preference-one.false, c.alpha_preference-else-alpha_preference-zero.ensures.value))))

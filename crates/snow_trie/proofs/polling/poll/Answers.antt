@@ -1,0 +1,23 @@
+use Rattle.std.proofs.Common.{◌≡◌, arith, subst, sym}
+use Rattle.snow_trie.specs.Tree.{tree_of}
+use Rattle.snow_trie.specs.Shape.{IsPlaced}
+use Rattle.snow_trie.specs.Polled.{IsPolled}
+use Rattle.snow_trie.proofs.Visited.{unvisited, ended, placed_within}
+use Rattle.snow_trie.proofs.polling.poll.Goals as goal
+
+pub returns-then-count-alpha_preference-clause-tree : goal.returns-then-count-alpha_preference-clause-tree
+returns-then-count-alpha_preference-clause-tree g c =
+    unvisited c.args.params.now c.args.votes.now c.args.before c.args.from (tree_of c.args.root.now) c.alpha_preference.ensures.good c.requires.placed c.requires.stamped
+    (omega (arith, c.total-count.ensures.count, c.alpha_preference.ensures.value, c.if-count-alpha_preference.true))
+
+pub returns-then-from-eq256-clause-tree : goal.returns-then-from-eq256-clause-tree
+returns-then-from-eq256-clause-tree g c =
+    let end : c.args.from ≡ 256 = c.if-from-eq256.true in
+    let t = tree_of c.args.root.now in
+    subst (λ k. IsPolled c.args.params.now c.args.votes.now c.args.before k t t) (sym end)
+    (ended c.args.params.now c.args.votes.now c.args.before t (subst (λ k. IsPlaced k t) end c.requires.placed))
+
+pub returns-clause-least : goal.returns-clause-least
+returns-clause-least g c =
+    let within = placed_within c.args.from (tree_of c.args.root.now) c.requires.placed in
+    c.visit.ensures.least (omega (arith, within, c.if-from-eq256.false))

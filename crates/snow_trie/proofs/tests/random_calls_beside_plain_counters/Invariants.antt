@@ -1,0 +1,5 @@
+use Rattle.snow_trie.proofs.tests.random_calls_beside_plain_counters.Given as goal
+
+-- the counter of the blank page
+abbrev pub ghosts-compared : goal.ghosts-compared
+ghosts-compared a = record { name = a.blank.name; parts = a.blank.parts }

@@ -1,0 +1,5 @@
+use Rattle.snow_trie.proofs.tests.worked_examples.Given as goal
+
+-- the counter of the blank page
+abbrev pub ghosts-examples : goal.ghosts-examples
+ghosts-examples a = record { name = a.blank.name; parts = a.blank.parts }

@@ -1,0 +1,80 @@
+ghost use Rattle.std.specs.Prelude.{◌≡◌, ℕ, ◌+◌, ◌^◌, ◌<◌, false, true};
+ghost use Rattle.snow_flake.specs.Counter.{stepped};
+ghost use Rattle.snow_flake.specs.Rule.{answer_of};
+ghost use Rattle.snow_flake.specs.Instance.{counter_of};
+ghost use Rattle.snow_trie.specs.Counted.{fork_counter, standing_at};
+ghost use Rattle.snow_trie.specs.Growing.{fork_of};
+
+use crate::run::Run;
+use snow_flake::{Binary, Params, Rule};
+
+/// A binary node: the counter of one bit, on which identifiers below it differ. `seen` is the number
+/// of the poll that visited it last.
+#[derive(Clone, Copy, Debug)]
+pub struct Fork {
+    pub counter: Binary,
+    pub seen: u64,
+}
+
+impl Fork {
+    /// The counter of a unary node as that of one bit, which all identifiers there had so far.
+    pub fn of(run: &Run, bit: bool) -> Self
+        ensures { result ≡ fork_of run.now bit }
+    {
+        Fork {
+            counter: run.counter.extend(bit),
+            seen: run.seen,
+        }
+    }
+
+    /// The counter as it stands after this many polls: failed, where the last one didn't come here.
+    pub fn standing(&self, now: u64) -> Binary
+        ensures { result ≡ standing_at now (self.now).seen (self.now).counter }
+    {
+        let mut counter = self.counter;
+        if self.seen != now {
+            counter.fail();
+        }
+        counter
+    }
+
+    /// A poll comes with votes for both bits: those that reach AlphaPreference are
+    /// followed.
+    pub fn poll(&mut self, params: &Params, for_zero: u32, for_one: u32, before: u64)
+        requires { before + 1 < 2 ^ 64 }
+        ensures counter { fork_counter (before + 1) self.new ≡ stepped params.now (fork_counter before self.old) for_zero for_one }
+        ensures seen { (self.new).seen ≡ before + 1 }
+    {
+        let mut counter = self.standing(before);
+        step(&mut counter, params, for_zero, for_one);
+        self.counter = counter;
+        self.seen = before + 1;
+    }
+
+    /// How the rule answers, whatever the stamp.
+    pub fn answer<R: Rule>(&self) -> bool
+        ensures { (now : ℕ) → result ≡ answer_of R.answer (fork_counter now self.now) }
+    {
+        self.counter.preference::<R>()
+    }
+
+    /// The stamp begins anew at 0, and says what it said after this many polls.
+    pub fn restamp(&mut self, now: u64)
+        ensures counter { fork_counter 0 self.new ≡ fork_counter now self.old }
+        ensures seen { (self.new).seen ≡ 0 }
+    {
+        self.counter = self.standing(now);
+        self.seen = 0;
+    }
+}
+
+// The bit step with votes for both bits: those for 0 are followed where they reach AlphaPreference.
+fn step(counter: &mut Binary, params: &Params, for_zero: u32, for_one: u32)
+    ensures { counter_of counter.new ≡ stepped params.now (counter_of counter.old) for_zero for_one }
+{
+    if params.alpha_preference() <= for_zero {
+        counter.apply(params, for_zero, false);
+    } else {
+        counter.apply(params, for_one, true);
+    }
+}

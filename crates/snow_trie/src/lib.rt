@@ -1,0 +1,16 @@
+//! The counters of one conflict as a compressed tree.
+#![tactic(auto)]
+
+mod fork;
+mod growing;
+mod narrowing;
+mod node;
+mod peeling;
+mod polling;
+mod run;
+mod trie;
+
+pub use trie::Trie;
+
+#[cfg(test)]
+mod tests;

@@ -1,0 +1,82 @@
+ghost use Rattle.std.specs.Prelude.{◌≡◌, ◌+◌, ◌-◌, ◌^◌, ◌<◌, ◌≤◌, Option, IfOk};
+ghost use Rattle.snow_flake.specs.Rule.{answer_of};
+ghost use Rattle.snow_trie.specs.Tree.{tree_of};
+ghost use Rattle.snow_trie.specs.Outline.{size};
+ghost use Rattle.snow_trie.specs.Shape.{IsPlaced};
+ghost use Rattle.snow_trie.specs.Growing.{parting, branch};
+ghost use Rattle.snow_trie.specs.Peeling.{preferred, first_leaf};
+
+use crate::fork::Fork;
+use crate::run::Run;
+use snow_base::Id;
+use snow_flake::Rule;
+use std::alloc::{AllocError, Global};
+
+/// A node of the tree, with what is below it. Behind its last bit an identifier stands.
+#[derive(Debug, Drop)]
+pub enum Node {
+    End(Id),
+    Along(Run, Box<Node>),
+    Apart(Fork, Box<Node>, Box<Node>),
+}
+
+/// What stands from a bit on for an identifier that is added: a fresh unary node up to its end, or
+/// nothing behind the last bit.
+pub fn branch(alloc: Global, id: &Id, at: u16) -> Result<Node, AllocError>
+    ensures { IfOk result (λ node. tree_of node ≡ branch id.now at) }
+{
+    let end = Node::End(*id);
+    if at < 256 {
+        let below = Box::new(alloc, end)?;
+        Ok(Node::Along(Run::fresh(id), below))
+    } else {
+        Ok(end)
+    }
+}
+
+/// The first bit in which an identifier differs from the node, where this is a unary one.
+pub fn parting(node: &Node, id: &Id, from: u16) -> Option<u16>
+    requires { IsPlaced from (tree_of node.now) }
+    ensures { result ≡ parting from id.now (tree_of node.now) }
+{
+    match node {
+        Node::Along(run, _) => run.id.first_difference(id, from, run.to),
+        _ => None,
+    }
+}
+
+/// How many nodes there are.
+pub fn count(node: &Node) -> usize
+    requires { size (tree_of node.now) < 2 ^ 64 }
+    ensures { result ≡ size (tree_of node.now) }
+{
+    match node {
+        Node::End(_) => 0,
+        Node::Along(_, below) => count(below) + 1,
+        Node::Apart(_, zeros, ones) => count(zeros) + count(ones) + 1,
+    }
+}
+
+/// The identifier to which the answers of the rule lead.
+pub fn preference<R: Rule>(node: &Node) -> &Id
+    ensures { result.now ≡ preferred R.answer (tree_of node.now) }
+{
+    match node {
+        Node::End(id) => id,
+        Node::Along(_, below) => preference::<R>(below),
+        Node::Apart(fork, zeros, ones) => {
+            preference::<R>(if fork.answer::<R>() { ones } else { zeros })
+        }
+    }
+}
+
+/// An identifier that stands in the tree.
+pub fn first_leaf(node: &Node) -> &Id
+    ensures { result.now ≡ first_leaf (tree_of node.now) }
+{
+    match node {
+        Node::End(id) => id,
+        Node::Along(_, below) => first_leaf(below),
+        Node::Apart(_, zeros, _) => first_leaf(zeros),
+    }
+}

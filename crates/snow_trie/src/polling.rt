@@ -1,0 +1,132 @@
+ghost use Rattle.std.specs.Prelude.{◌≡◌, ◌+◌, ◌^◌, ◌<◌, ◌≤◌, max, All};
+ghost use Rattle.snow_base.specs.Split.{AgreeBelow};
+ghost use Rattle.snow_base.specs.Votes.{IsInBitOrder, total_count};
+ghost use Rattle.snow_trie.specs.Tree.{tree_of};
+ghost use Rattle.snow_trie.specs.Outline.{outline, size, Leads};
+ghost use Rattle.snow_trie.specs.Shape.{IsPlaced, IsStamped};
+ghost use Rattle.snow_trie.specs.Polled.{IsPolled, IsRestamped};
+
+use crate::node::Node;
+use snow_base::{Steps, Vote, split};
+use snow_flake::Params;
+use std::sync::ledger::Ledger;
+
+/// A poll comes to a tree with these votes, all for identifiers that go down it. Where they are
+/// fewer than AlphaPreference the tree fails, which is one step and touches no node.
+pub fn poll<L: Ledger>(
+    root: &mut Node,
+    from: u16,
+    params: &Params,
+    votes: &[Vote],
+    before: u64,
+    steps: &mut Steps<L>,
+)
+    requires placed { IsPlaced from (tree_of root.old) }
+    requires stamped { IsStamped before (tree_of root.old) }
+    requires known { All (λ v. Leads (outline from (tree_of root.old)) v.id) votes.now }
+    requires order { IsInBitOrder votes.now }
+    requires agree { AgreeBelow from votes.now }
+    requires most { total_count votes.now ≤ params.now.k }
+    requires room { before + 1 < 2 ^ 64 }
+    ensures tree { IsPolled params.now votes.now before from (tree_of root.old) (tree_of root.new) }
+    ensures least { steps.old < steps.new }
+    ensures most { steps.new ≤ steps.old + max 1 (size (tree_of root.old)) }
+{
+    let count = total(params, votes);
+    if count < params.alpha_preference() {
+        steps.tick();
+        return;
+    }
+    if from == 256 {
+        steps.tick();
+        return;
+    }
+    visit(root, from, params, votes, count, before, steps);
+}
+
+// A poll comes to a node. It goes on to a side with AlphaPreference votes alone: the stamps of the
+// others say that they failed.
+fn visit<L: Ledger>(
+    node: &mut Node,
+    from: u16,
+    params: &Params,
+    votes: &[Vote],
+    count: u32,
+    before: u64,
+    steps: &mut Steps<L>,
+)
+    requires placed { IsPlaced from (tree_of node.old) }
+    requires stamped { IsStamped before (tree_of node.old) }
+    requires known { All (λ v. Leads (outline from (tree_of node.old)) v.id) votes.now }
+    requires order { IsInBitOrder votes.now }
+    requires agree { AgreeBelow from votes.now }
+    requires count { count ≡ total_count votes.now }
+    requires most { count ≤ params.now.k }
+    requires room { before + 1 < 2 ^ 64 }
+    ensures tree { IsPolled params.now votes.now before from (tree_of node.old) (tree_of node.new) }
+    ensures later { steps.old ≤ steps.new }
+    ensures least { from < 256 → steps.old < steps.new }
+    ensures most { steps.new ≤ steps.old + size (tree_of node.old) }
+{
+    match node {
+        Node::End(_) => {}
+        Node::Along(run, below) => {
+            steps.tick();
+            run.poll(params, count, before);
+            visit(below, run.to, params, votes, count, before, steps);
+        }
+        Node::Apart(fork, zeros, ones) => {
+            steps.tick();
+            let (for_zero, for_one) = votes.split_at(split(votes, from));
+            let zero = total(params, for_zero);
+            let one = total(params, for_one);
+            fork.poll(params, zero, one, before);
+            if params.alpha_preference() <= zero {
+                visit(zeros, from + 1, params, for_zero, zero, before, steps);
+            } else if params.alpha_preference() <= one {
+                visit(ones, from + 1, params, for_one, one, before, steps);
+            }
+        }
+    }
+}
+
+// How many votes there are in all: at most K.
+fn total(params: &Params, votes: &[Vote]) -> u32
+    requires { total_count votes.now ≤ params.now.k }
+    ensures count { result ≡ total_count votes.now }
+    ensures few { result ≤ params.now.k }
+{
+    let _k = params.k();
+    votes.iter().map(|vote| vote.count).sum()
+}
+
+/// The number of polls so far, where the next one has a number too: at the end of 64 bits the
+/// stamps begin anew.
+pub fn ready(root: &mut Node, polls: u64) -> u64
+    ensures room { result + 1 < 2 ^ 64 }
+    ensures tree { IsRestamped polls result (tree_of root.old) (tree_of root.new) }
+{
+    if polls < u64::MAX {
+        return polls;
+    }
+    restamp(root, polls);
+    0
+}
+
+// The stamps begin anew at 0, and say what they said after this many polls.
+fn restamp(node: &mut Node, now: u64)
+    ensures { IsRestamped now 0 (tree_of node.old) (tree_of node.new) }
+{
+    match node {
+        Node::End(_) => {}
+        Node::Along(run, below) => {
+            run.restamp(now);
+            restamp(below, now);
+        }
+        Node::Apart(fork, zeros, ones) => {
+            fork.restamp(now);
+            restamp(zeros, now);
+            restamp(ones, now);
+        }
+    }
+}

@@ -1,0 +1,177 @@
+ghost use Rattle.std.specs.Prelude.{◌≡◌, ◌+◌, ◌<◌, ◌≤◌, is_some, length, [], ◌∷◌, ◌++◌, All, Contains, IfOk, OnOk, OnErr};
+
+use crate::growing;
+use crate::narrowing::narrowed;
+use crate::node::{self, Node};
+use crate::peeling::{Rest, leader_of, peeled};
+use crate::polling::{poll, ready};
+use snow_base::{Id, Steps, Vote};
+use snow_flake::{Params, Rule};
+use std::alloc::{AllocError, Global};
+use std::marker::{Model, PhantomData};
+use std::mem;
+use std::sync::ledger::Ledger;
+
+// More identifiers than any memory holds.
+const MOST_CHOICES: usize = 1 << 48;
+
+/// The counters of one conflict as a compressed tree, by whose rule they answer. A poll visits only
+/// nodes to which AlphaPreference votes come, so at most one at each bit; all others fail by their
+/// stamps. Contracts see the parameters, the identifiers that were given, the counters of the
+/// conflict with resets at once, and how many nodes there are.
+#[derive(Debug, Drop)]
+pub struct Trie<R: Rule> {
+    params: Params,
+    ids: Vec<Id>,
+    polls: u64,
+    // The bits up to here are decided, and are the leader's.
+    decided: u16,
+    leader: Id,
+    root: Node,
+    alloc: Global,
+    rule: PhantomData<R>,
+}
+
+impl<R: Rule> Model for Trie<R> {
+    ghost use Rattle.snow_trie.specs.Tree.{tree_of};
+    ghost use Rattle.snow_trie.specs.Stamped.{whole};
+    ghost use Rattle.snow_trie.specs.Whole.{Compressed, coded_compressed, nodes_of, IsWhole};
+
+    ghost Value = { Compressed };
+
+    ghost coded = { coded_compressed };
+
+    ghost view = { λ a. record {
+      parameters = a.params;
+      ids = a.ids.items;
+      counters = whole a.polls a.decided a.leader (tree_of a.root);
+      nodes = nodes_of (tree_of a.root);
+    } };
+
+    ghost invariant = { λ a. IsWhole a.ids.items a.polls a.decided a.leader (tree_of a.root) };
+}
+
+impl<R: Rule> Trie<R> {
+    ghost use Rattle.snow_base.specs.Identifier.{bits};
+    ghost use Rattle.snow_base.specs.Votes.{IsInBitOrder, total_count};
+    ghost use Rattle.snow_plain.specs.Conflict.{with_child, all_polled, votes_on, chosen, decided_path};
+    ghost use Rattle.snow_plain.specs.FailingLaw.{failed};
+    ghost use Rattle.snow_trie.specs.Whole.{begun, HasFewNodes};
+
+    /// The counters where one identifier stands alone.
+    pub fn new(alloc: Global, params: Params, id: Id) -> Result<Self, AllocError>
+        ensures { IfOk result (λ trie. trie ≡ begun params id) }
+    {
+        let mut ids = Vec::with_capacity(alloc, 1)?;
+        ids.push_reserved(id);
+        let root = node::branch(alloc, &id, 0)?;
+        Ok(Trie {
+            params,
+            ids,
+            polls: 0,
+            decided: 0,
+            leader: id,
+            root,
+            alloc,
+            rule: PhantomData,
+        })
+    }
+
+    /// Adds an identifier: fresh counters for its bits where none stood, up to a decided counter of
+    /// the other bit. At most three nodes are made, and they are made first: after want of memory all
+    /// is as before.
+    pub fn add(&mut self, id: Id) -> Result<(), AllocError>
+        ensures counters { OnOk result ((self.new).counters ≡ with_child (bits id) (self.old).counters) }
+        ensures ids { OnOk result ((self.new).ids ≡ (self.old).ids ++ id ∷ []) }
+        ensures parameters { (self.new).parameters ≡ (self.old).parameters }
+        ensures nodes { (self.new).nodes ≤ (self.old).nodes + 3 }
+        ensures few { HasFewNodes self.new }
+        ensures err { OnErr result (self.new ≡ self.old) }
+    {
+        if self.ids.len() >= MOST_CHOICES {
+            return Err(AllocError);
+        }
+        self.ids.reserve(1)?;
+        growing::add_behind(&mut self.root, self.alloc, &id, &self.leader, self.decided)?;
+        self.ids.push_reserved(id);
+        Ok(())
+    }
+
+    /// A poll with these votes, each for an identifier that was given: every counter takes the bit
+    /// step with its own votes, all at once, and those behind a decided counter of the other bit go.
+    /// A node that is visited is a step, and so is a poll that visits none. It takes no memory.
+    pub fn apply<L: Ledger>(&mut self, votes: &[Vote], steps: &mut Steps<L>)
+        requires order { IsInBitOrder votes.now }
+        requires most { total_count votes.now ≤ (self.old).parameters.k }
+        requires given { All (λ v. Contains (self.old).ids v.id) votes.now }
+        ensures counters { (self.new).counters ≡ all_polled (self.old).parameters (votes_on votes.now) (self.old).counters }
+        ensures parameters { (self.new).parameters ≡ (self.old).parameters }
+        ensures ids { (self.new).ids ≡ (self.old).ids }
+        ensures nodes { (self.new).nodes ≤ (self.old).nodes }
+        ensures few { HasFewNodes self.new }
+        ensures least { steps.old < steps.new }
+        ensures most { steps.new ≤ steps.old + (self.old).nodes }
+    {
+        let _k = self.params.k();
+        let before = ready(&mut self.root, self.polls);
+        let votes = narrowed(votes, &self.leader, self.decided);
+        poll(
+            &mut self.root,
+            self.decided,
+            &self.params,
+            votes,
+            before,
+            steps,
+        );
+        self.polls = before + 1;
+        let root = mem::replace(&mut self.root, Node::End(self.leader));
+        let rest = peeled(root, self.decided);
+        self.leader = leader_of(&rest, &self.leader, self.decided);
+        let Rest { from, root } = rest;
+        self.decided = from;
+        self.root = root;
+    }
+
+    /// A poll without votes: one step, which touches no node. It takes no memory.
+    pub fn fail<L: Ledger>(&mut self, steps: &mut Steps<L>)
+        ensures trie { self.new ≡ record (self.old) { counters = failed (self.old).parameters (self.old).counters } }
+        ensures few { HasFewNodes self.new }
+        ensures steps { steps.new ≡ steps.old + 1 }
+    {
+        let _k = self.params.k();
+        steps.tick();
+        let before = ready(&mut self.root, self.polls);
+        self.polls = before + 1;
+    }
+
+    /// The identifier to which the counters lead by their answers: one of those given.
+    pub fn preference(&self) -> Id
+        ensures bits { chosen R.answer (self.now).counters ≡ bits result }
+        ensures given { Contains (self.now).ids result }
+    {
+        *node::preference::<R>(&self.root)
+    }
+
+    /// Whether all counters that lead there are decided.
+    pub fn is_final(&self) -> bool
+        ensures { result ≡ is_some (decided_path (self.now).counters) }
+    {
+        self.decided == 256
+    }
+
+    /// How many nodes the tree has.
+    pub fn nodes(&self) -> usize
+        ensures nodes { result ≡ (self.now).nodes }
+        ensures few { HasFewNodes self.now }
+    {
+        let _choices = self.ids.len();
+        node::count(&self.root).max(1)
+    }
+
+    /// How many identifiers were given.
+    pub fn choices(&self) -> usize
+        ensures { result ≡ length (self.now).ids }
+    {
+        self.ids.len()
+    }
+}
