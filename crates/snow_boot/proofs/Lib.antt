@@ -1,0 +1,10 @@
+mod Ended
+mod Examples
+mod Executed
+mod Holding
+mod Linked
+mod Quiet
+mod Requested
+mod Tests
+mod Walking
+mod Whole

@@ -1,0 +1,9 @@
+pub mod Asking
+pub mod Booting
+pub mod Electing
+pub mod Executing
+pub mod Keeping
+pub mod Linking
+pub mod OutcomeLaw
+pub mod Paths
+pub mod Replying

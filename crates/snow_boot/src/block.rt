@@ -1,0 +1,10 @@
+use snow_base::{Bytes, Header};
+
+/// A block that is kept until its path is whole.
+#[derive(Drop)]
+pub struct KeptBlock {
+    /// What the block says of itself.
+    pub header: Header,
+    /// Its bytes.
+    pub bytes: Bytes,
+}

@@ -1,0 +1,16 @@
+//! Bootstrapping: how a node that starts behind comes to the block that its peers have accepted.
+#![tactic(auto)]
+
+mod block;
+mod laws;
+mod question;
+mod stop;
+mod verdict;
+
+pub use block::KeptBlock;
+pub use laws::{
+    asked_law, asked_once_law, end_law, execution_law, linked_law, path_law, quiet_law, run_law,
+};
+pub use question::{Candidate, Question, Request};
+pub use stop::BootStop;
+pub use verdict::Verdict;

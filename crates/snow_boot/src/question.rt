@@ -1,0 +1,32 @@
+use snow_base::{Id, NodeId};
+
+/// What all nodes are being asked.
+#[derive(Clone, Copy)]
+pub enum Question {
+    /// Their accepted frontier.
+    Frontier,
+    /// Which of the collected identifiers they hold accepted.
+    Accepted,
+    /// Nothing: the targets are known, and blocks are fetched.
+    Nothing,
+}
+
+/// An identifier that the nodes named, and the weight of those that hold it accepted.
+#[derive(Clone, Copy)]
+pub struct Candidate {
+    /// The identifier.
+    pub id: Id,
+    /// The weight that backs it.
+    pub weight: u64,
+}
+
+/// An open request for a block and its ancestors.
+#[derive(Clone, Copy)]
+pub struct Request {
+    /// Its number.
+    pub number: u32,
+    /// The node that is asked.
+    pub node: NodeId,
+    /// The block that is wanted.
+    pub id: Id,
+}
