@@ -22,6 +22,3 @@ pub use laws::completion_law;
 pub use serving::serve;
 pub use stop::EngineStop;
 pub use task::Task;
-
-#[cfg(test)]
-mod tests;
