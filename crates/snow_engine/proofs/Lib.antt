@@ -21,4 +21,5 @@ pub mod Working
 pub mod Issuing
 pub mod RunExamples
 pub mod Staged
+pub mod Preferred
 pub mod Remembering

@@ -1,5 +1,6 @@
 ghost use Rattle.std.specs.Prelude.{◌≡◌, IfSome};
 ghost use Rattle.snow_plain.specs.Board.{height_of};
+ghost use Rattle.snow_plain.specs.Preference.{is_preferred};
 ghost use Rattle.snow_plain.specs.Reached.{MayIssue};
 ghost use Rattle.snow_chain.specs.Chain.{next_on};
 ghost use Rattle.snow_issue.specs.Known.{Knows, RestsAfter, lists_of};
@@ -124,10 +125,19 @@ impl<C: Chain, B: Board> Running<C, B> {
         ensures answer { Steps result self.new (model.asked_on_the_way B.answer id.now self.old).1 }
         ensures lines { Logs result log.old log.new (model.asked_on_the_way B.answer id.now self.old).0 }
     {
-        if self.board.is_preferred(id) {
+        if self.leads(id) {
             self.query(log)?;
         }
         Ok(())
+    }
+
+    /// Whether a block is on the way to the preference. The preference itself is told without walking
+    /// there.
+    #[tactic(auto, using(crate::proofs::Preferred::preference_leads))]
+    fn leads(&self, id: &Id) -> bool
+        ensures { result ≡ is_preferred B.answer self.now.board id.now }
+    {
+        self.board.preference() == *id || self.board.is_preferred(id)
     }
 
     /// A held reply votes for what its block stands for, and closed polls leave.
