@@ -13,9 +13,10 @@ use Rattle.snow_engine.specs.declared.task.Task.{Task}
 use Rattle.snow_engine.specs.declared.end.BadKind.TheVariants as kind
 use Rattle.snow_engine.specs.declared.end.End.{End}
 use Rattle.snow_engine.specs.declared.end.End.TheVariants as end
+use Rattle.snow_engine.specs.declared.stop.EngineStop.{EngineStop}
 use Rattle.snow_engine.specs.Ends.{is_stop}
 use Rattle.snow_engine.specs.Node.{Node}
-use Rattle.snow_engine.specs.Run.{Stand, Fresh, Going, Stopped, after_frame, after_frames, is_stopped, lines_of, shows_stop}
+use Rattle.snow_engine.specs.Run.{Stand, Fresh, Going, Stopped, end_at, after_frame, after_frames, is_stopped, lines_of, shows_stop}
 use Rattle.snow_engine.specs.Stepping.{LogsFront}
 
 -- where a run stands that has this node, or none yet
@@ -35,6 +36,11 @@ abbrev pub Stands : Result (Unit {0}) End → Option Node → Stand → Type 0
 Stands (Ok u) now expected = expected ≡ stand_of now
 Stands (Err end.Memory) now expected = ⊤
 Stands (Err e) now expected = (is_stop e ≡ true) × (expected ≡ Stopped e)
+
+-- how a frame ends in which a step was made
+abbrev pub ended_in : ℕ → Result (Unit {0}) EngineStop → Result (Unit {0}) End
+ended_in frame (Ok u) = Ok u
+ended_in frame (Err stop) = Err (end_at frame stop)
 
 -- the same for the first frame, which makes the node
 abbrev pub Opens : Result Node End → Stand → Type 0

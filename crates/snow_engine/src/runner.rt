@@ -1,15 +1,16 @@
 ghost use Rattle.std.specs.Prelude.{◌≡◌, [], Some, None, IfOk};
 ghost use Rattle.snow_engine.specs.Run as model;
 ghost use Rattle.snow_engine.specs.Run.{after_frame};
-ghost use Rattle.snow_engine.specs.Serving.{stand_of, Opens, Stands, LogsFrame};
+ghost use Rattle.snow_engine.specs.Serving.{stand_of, ended_in, Opens, Stands, LogsFrame};
 
 use crate::end::{BadKind, End};
 use crate::engine::Engine;
+use crate::stop::EngineStop;
 use crate::task::Task;
 use snow_chain::Chain;
 use snow_lines::{Line, Lines, SkipKind};
 use snow_plain::Board;
-use snow_wire::{Event, Skip, decode};
+use snow_wire::{Event, Skip, block_in, decode};
 use std::alloc::{AllocError, Global};
 
 /// An engine, once a Start came, and the lines of the frame that was worked last.
@@ -91,8 +92,8 @@ fn open_with<C: Chain, B: Board>(
     }
 }
 
-/// A step of the engine; a payload that is no event is passed over.
-#[tactic(auto, using(crate::proofs::Logs::logs_nothing))]
+/// A step of the engine; a payload that is no event is passed over. The bytes of a block are looked at
+/// where they stand.
 fn follow<C: Chain, B: Board>(
     alloc: Global,
     engine: &mut Engine<C, B>,
@@ -103,16 +104,41 @@ fn follow<C: Chain, B: Board>(
     ensures stand { Stands result (Some engine.new) (model.followed C.rules B.answer engine.old frame (model.read payload.now)).1 }
     ensures lines { LogsFrame result log.old log.new (model.followed C.rules B.answer engine.old frame (model.read payload.now)).0 }
 {
+    match block_in(payload) {
+        Some(block) => ended(frame, engine.receive(frame, &block, log)),
+        None => follow_whole(alloc, engine, frame, payload, log),
+    }
+}
+
+/// The same for a payload that is read whole.
+#[tactic(auto, using(crate::proofs::Logs::logs_nothing))]
+fn follow_whole<C: Chain, B: Board>(
+    alloc: Global,
+    engine: &mut Engine<C, B>,
+    frame: u64,
+    payload: &[u8],
+    log: &mut Lines,
+) -> Result<(), End>
+    ensures stand { Stands result (Some engine.new) (model.followed C.rules B.answer engine.old frame (model.read payload.now)).1 }
+    ensures lines { LogsFrame result log.old log.new (model.followed C.rules B.answer engine.old frame (model.read payload.now)).0 }
+{
     match read(alloc, payload) {
-        Ok(Ok(event)) => match engine.step(frame, event, log) {
-            Ok(()) => Ok(()),
-            Err(stop) => Err(stop.in_frame(frame)),
-        },
+        Ok(Ok(event)) => ended(frame, engine.step(frame, event, log)),
         Ok(Err(kind)) => match log.push(Line::Skip { frame, kind }) {
             Ok(()) => Ok(()),
             Err(_) => Err(End::Memory),
         },
         Err(_) => Err(End::Memory),
+    }
+}
+
+/// The end of the run that the stop of a step in this frame makes.
+fn ended(frame: u64, step: Result<(), EngineStop>) -> Result<(), End>
+    ensures { result ≡ ended_in frame step }
+{
+    match step {
+        Ok(()) => Ok(()),
+        Err(stop) => Err(stop.in_frame(frame)),
     }
 }
 
