@@ -1,5 +1,5 @@
 -- One frame was worked: its lines, and where the run stands.
-use Rattle.std.proofs.Common.{◌≡◌, ℕ, ◌+◌, true, false, List, [], ◌++◌, append_assoc, append-nil, Option, Some, None, Result, Ok, Err, refl, sym, ap, ◌∙◌, subst, inr}
+use Rattle.std.proofs.Common.{◌≡◌, ℕ, ◌+◌, true, false, List, [], ◌∷◌, ◌++◌, append_assoc, append-nil, Option, Some, None, Result, Ok, Err, refl, sym, ap, ◌∙◌, subst, inr}
 use Rattle.std.proofs.lemmas.List.Concat.{flat_map-append}
 use Rattle.snow_base.specs.Outside.{AppendsFront}
 use Rattle.snow_base.proofs.Known.{front_of_more}
@@ -28,6 +28,10 @@ no_stop e = absurd cc
 pub texts_parts : (front rest lines : List Line) → front ++ rest ≡ lines → texts front ++ texts rest ≡ texts lines
 texts_parts front rest lines e = sym (flat_map-append text front rest) ∙ ap texts e
 
+-- the text of one line
+pub one_text : (l : Line) → texts (l ∷ []) ≡ text l
+one_text l = append-nil (text l)
+
 -- a front of the lines was logged, and all of that was gathered
 logged_front : (new lines : List Line) (before : Option (List ℕ)) (held : List ℕ) (after : Option (List ℕ)) (kept : List ℕ)
     → LogsFront [] new lines → Gathers before held after kept (texts new) → GathersFront before held after kept (texts lines)
@@ -43,21 +47,21 @@ all_logged : (new lines : List Line) (before : Option (List ℕ)) (held : List �
 all_logged new lines before held after kept e g = subst (λ (l : List Line). Gathers before held after kept (texts l)) e g
 
 -- what a frame logged was gathered
-pub gathered : (result : Result (Unit {0}) End) (now : Option Node) (stand : Stand) (new lines : List Line) (before : Option (List ℕ)) (held : List ℕ) (after : Option (List ℕ)) (kept : List ℕ)
+pub gathered : {T : Type 0} (result : Result T End) (now : Option Node) (stand : Stand) (new lines : List Line) (before : Option (List ℕ)) (held : List ℕ) (after : Option (List ℕ)) (kept : List ℕ)
     → Stands result now stand → LogsFrame result [] new lines → Gathers before held after kept (texts new) → GathersLines result before held after kept lines
-gathered (Ok u) now stand new lines before held after kept s l g = all_logged new lines before held after kept l g
+gathered (Ok x) now stand new lines before held after kept s l g = all_logged new lines before held after kept l g
 gathered (Err end.Memory) now stand new lines before held after kept s l g = logged_front new lines before held after kept l g
 gathered (Err end.SinkFault) now stand new lines before held after kept s l g = no_stop s.0
 gathered (Err e) now stand new lines before held after kept s l g = all_logged new lines before held after kept l g
 
 -- what a frame logged are its lines, or a front of them
-logged : (result : Result (Unit {0}) End) (new lines : List Line) → LogsFrame result [] new lines → LogsFront [] new lines
-logged (Ok u) new lines l = record { front = new; rest = []; whole = append-nil new ∙ l; grown = refl }
+logged : {T : Type 0} (result : Result T End) (new lines : List Line) → LogsFrame result [] new lines → LogsFront [] new lines
+logged (Ok x) new lines l = record { front = new; rest = []; whole = append-nil new ∙ l; grown = refl }
 logged (Err end.Memory) new lines l = l
 logged (Err e) new lines l = record { front = new; rest = []; whole = append-nil new ∙ l; grown = refl }
 
 -- what a frame logged failed to be gathered
-pub failed : (result : Result (Unit {0}) End) (new lines : List Line) (before : Option (List ℕ)) (held : List ℕ) (after : Option (List ℕ))
+pub failed : {T : Type 0} (result : Result T End) (new lines : List Line) (before : Option (List ℕ)) (held : List ℕ) (after : Option (List ℕ))
     → LogsFrame result [] new lines → AppendsFront before after (held ++ texts new) → AppendsFront before after (held ++ texts lines)
 failed result new lines before held after l p =
     let f = logged result new lines l in
@@ -65,7 +69,7 @@ failed result new lines before held after l p =
     (append_assoc held (texts new) (texts f.rest) ∙ ap (λ (bs : List ℕ). held ++ bs) (ap (λ (ls : List Line). texts ls ++ texts f.rest) f.grown ∙ texts_parts f.front f.rest lines f.whole))
 
 -- the same where the frame was the first of a decoder
-pub failed_first : (rules : Rules) (answer : Answer) (task : Task) (stand : Stand) (intake : Intake) (payload rest : List ℕ) (frame : ℕ) (result : Result (Unit {0}) End) (new : List Line)
+pub failed_first : {T : Type 0} (rules : Rules) (answer : Answer) (task : Task) (stand : Stand) (intake : Intake) (payload rest : List ℕ) (frame : ℕ) (result : Result T End) (new : List Line)
     (before : Option (List ℕ)) (held : List ℕ) (after : Option (List ℕ)) → first_of intake.rest ≡ Some (payload, rest) → frame ≡ intake.given + 1
     → LogsFrame result [] new (after_frame rules answer task stand frame payload).0 → AppendsFront before after (held ++ texts new)
     → AppendsFront before after (held ++ texts (one_worked rules answer task stand intake).lines)
@@ -76,8 +80,8 @@ failed_first rules answer task stand intake payload rest frame result new before
     failed result new (one_worked rules answer task stand intake).lines before held after (subst (λ (ls : List Line). LogsFrame result [] new ls) lines l) p
 
 -- a frame alone never ends in a fault of the sink
-pub faultless : (result : Result (Unit {0}) End) (now : Option Node) (stand : Stand) (before after : ℕ) → Stands result now stand → SinkFails result before after
-faultless (Ok u) now stand before after s = tt
+pub faultless : {T : Type 0} (result : Result T End) (now : Option Node) (stand : Stand) (before after : ℕ) → Stands result now stand → SinkFails result before after
+faultless (Ok x) now stand before after s = tt
 faultless (Err end.SinkFault) now stand before after s = no_stop s.0
 faultless (Err e) now stand before after s = tt
 

@@ -1,5 +1,5 @@
 -- What working the frames of a stream owes, as its pieces come.
-use Rattle.std.specs.Prelude.{◌≡◌, ℕ, ◌+◌, ◌^◌, ◌≤◌, ◌⊎◌, true, false, List, [], ◌++◌, length, Option, Some, None, Result, Ok, Err, ⊤}
+use Rattle.std.specs.Prelude.{◌≡◌, ℕ, ◌+◌, ◌^◌, ◌≤◌, ◌⊎◌, true, false, List, [], ◌∷◌, ◌++◌, length, Option, Some, None, Result, Ok, Err, ⊤}
 use Rattle.std.specs.Io.KnownBytes.{Appends, Consumes}
 use Rattle.snow_base.specs.Outside.{AppendsFront, Rose}
 use Rattle.snow_flake.specs.Rule.{Answer}
@@ -9,13 +9,16 @@ use Rattle.snow_wire.specs.Stream.{Intake}
 use Rattle.snow_lines.specs.Gathered.{Gathers}
 use Rattle.snow_lines.specs.Text.{texts}
 use Rattle.snow_lines.specs.declared.line.Line.{Line}
+use Rattle.snow_lines.specs.declared.line.Line.TheVariants as line
+use Rattle.snow_lines.specs.declared.why.SkipKind.{SkipKind}
 use Rattle.snow_engine.specs.declared.task.Task.{Task}
 use Rattle.snow_engine.specs.declared.end.BadKind.TheVariants as kind
 use Rattle.snow_engine.specs.declared.end.End.{End}
 use Rattle.snow_engine.specs.declared.end.End.TheVariants as end
+use Rattle.snow_engine.specs.declared.stop.EngineStop.{EngineStop}
 use Rattle.snow_engine.specs.Ends.{is_stop}
 use Rattle.snow_engine.specs.Node.{Node}
-use Rattle.snow_engine.specs.Run.{Stand, Fresh, Going, Stopped, after_frame, after_frames, is_stopped, lines_of, shows_stop}
+use Rattle.snow_engine.specs.Run.{Stand, Fresh, Going, Stopped, end_at, after_frame, after_frames, is_stopped, lines_of, shows_stop}
 use Rattle.snow_engine.specs.Stepping.{LogsFront}
 
 -- where a run stands that has this node, or none yet
@@ -31,10 +34,21 @@ LogsFrame (Err end.Memory) before after lines = LogsFront before after lines
 LogsFrame result before after lines = after ≡ before ++ lines
 
 -- a frame was worked: the run stands there now, or it ended at a stop, or memory ran out
-abbrev pub Stands : Result (Unit {0}) End → Option Node → Stand → Type 0
-Stands (Ok u) now expected = expected ≡ stand_of now
+abbrev pub Stands : {T : Type 0} → Result T End → Option Node → Stand → Type 0
+Stands (Ok x) now expected = expected ≡ stand_of now
 Stands (Err end.Memory) now expected = ⊤
 Stands (Err e) now expected = (is_stop e ≡ true) × (expected ≡ Stopped e)
+
+-- how a frame ends in which a step was made
+abbrev pub ended_in : ℕ → Result (Unit {0}) EngineStop → Result (Option SkipKind) End
+ended_in frame (Ok u) = Ok None
+ended_in frame (Err stop) = Err (end_at frame stop)
+
+-- what is told of a frame: that it was passed over, which stands in no log, or what was logged
+abbrev pub told : ℕ → Result (Option SkipKind) End → List Line → List Line
+told frame (Ok (Some kind)) log = line.Skip frame kind ∷ []
+told frame (Ok None) log = log
+told frame (Err e) log = log
 
 -- the same for the first frame, which makes the node
 abbrev pub Opens : Result Node End → Stand → Type 0

@@ -83,8 +83,8 @@ impl<C: Chain, B: Board> Deciding<C, B> {
         }
     }
 
-    /// A block's bytes came.
-    fn receive(&mut self, frame: u64, bytes: &[u8], log: &mut Lines) -> Result<(), EngineStop>
+    /// A block's bytes came, in this frame.
+    pub fn receive(&mut self, frame: u64, bytes: &[u8], log: &mut Lines) -> Result<(), EngineStop>
         ensures answer { Steps result self.new (model.received C.rules B.answer self.old frame bytes.now (C.rules.header_of bytes.now)).1 }
         ensures lines { Logs result log.old log.new (model.received C.rules B.answer self.old frame bytes.now (C.rules.header_of bytes.now)).0 }
     {

@@ -1,5 +1,6 @@
 ghost use Rattle.std.specs.Prelude.{◌≡◌, IfOk};
 ghost use Rattle.snow_flake.specs.Parameters.{AreGood, checked};
+ghost use Rattle.snow_wire.specs.Sent.{as_event};
 ghost use Rattle.snow_engine.specs.Node as model;
 ghost use Rattle.snow_engine.specs.Stepping.{Logs, Starts, Steps};
 
@@ -12,7 +13,7 @@ use snow_chain::Chain;
 use snow_flake::{ParamFault, Params};
 use snow_lines::Lines;
 use snow_plain::Board;
-use snow_wire::{Event, Start};
+use snow_wire::{Event, SentBlock, Start};
 use std::alloc::Global;
 use std::marker::Model;
 
@@ -72,6 +73,24 @@ impl<C: Chain, B: Board> Engine<C, B> {
         match &mut self.stage {
             Stage::Deciding(node) => node.step(frame, &event, log),
             Stage::Running(node) => node.step(frame, event, log),
+        }
+    }
+
+    /// The same at a Block whose bytes stand where they came. They are copied only where the block is
+    /// kept.
+    #[tactic(auto, unfolding(crate::specs::Deciding::decides_on))]
+    pub fn receive(
+        &mut self,
+        frame: u64,
+        block: &SentBlock,
+        log: &mut Lines,
+    ) -> Result<(), EngineStop>
+        ensures answer { Steps result self.new (model.step C.rules B.answer self.old frame (as_event block.now)).1 }
+        ensures lines { Logs result log.old log.new (model.step C.rules B.answer self.old frame (as_event block.now)).0 }
+    {
+        match &mut self.stage {
+            Stage::Deciding(node) => node.receive(frame, block.bytes, log),
+            Stage::Running(node) => node.receive(frame, block, log),
         }
     }
 }

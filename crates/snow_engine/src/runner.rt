@@ -1,15 +1,18 @@
-ghost use Rattle.std.specs.Prelude.{◌≡◌, [], Some, None, IfOk};
+ghost use Rattle.std.specs.Prelude.{◌≡◌, [], Some, None, Result, Err, IfOk};
 ghost use Rattle.snow_engine.specs.Run as model;
-ghost use Rattle.snow_engine.specs.Run.{after_frame};
-ghost use Rattle.snow_engine.specs.Serving.{stand_of, Opens, Stands, LogsFrame};
+ghost use Rattle.snow_wire.specs.declared.event.Event.{Event};
+ghost use Rattle.snow_wire.specs.Reading.{Fault, Refuses};
+ghost use Rattle.snow_engine.specs.Run.{after_frame, named};
+ghost use Rattle.snow_engine.specs.Serving.{stand_of, ended_in, told, Opens, Stands, LogsFrame};
 
 use crate::end::{BadKind, End};
 use crate::engine::Engine;
+use crate::stop::EngineStop;
 use crate::task::Task;
 use snow_chain::Chain;
-use snow_lines::{Line, Lines, SkipKind};
+use snow_lines::{Lines, SkipKind};
 use snow_plain::Board;
-use snow_wire::{Event, Skip, decode};
+use snow_wire::{Event, Skip, block_in, decode};
 use std::alloc::{AllocError, Global};
 
 /// An engine, once a Start came, and the lines of the frame that was worked last.
@@ -23,11 +26,12 @@ pub struct Runner<C: Chain, B: Board> {
 
 impl<C: Chain, B: Board> Runner<C, B> {
     /// Works one frame: the first has to be a Start, and each later one is a step of the engine. Its
-    /// lines alone stand in the log.
+    /// lines alone stand in the log; but where its payload is no event, why it is passed over is the
+    /// answer, and its line stands in no log.
     #[tactic(auto, unfolding(crate::specs::Run::after_frame))]
-    pub fn work(&mut self, frame: u64, payload: &[u8]) -> Result<(), End>
+    pub fn work(&mut self, frame: u64, payload: &[u8]) -> Result<Option<SkipKind>, End>
         ensures stand { Stands result self.new.engine (after_frame C.rules B.answer self.old.task (stand_of self.old.engine) frame payload.now).1 }
-        ensures lines { LogsFrame result [] self.new.log (after_frame C.rules B.answer self.old.task (stand_of self.old.engine) frame payload.now).0 }
+        ensures lines { LogsFrame result [] (told frame result self.new.log) (after_frame C.rules B.answer self.old.task (stand_of self.old.engine) frame payload.now).0 }
         ensures task { self.new.task ≡ self.old.task }
     {
         self.log.clear();
@@ -38,15 +42,16 @@ impl<C: Chain, B: Board> Runner<C, B> {
     }
 
     /// Works the first frame. It stands apart, so that no later frame pays for the room of a new engine.
-    fn begin(&mut self, frame: u64, payload: &[u8]) -> Result<(), End>
-        requires { self.old.engine ≡ None }
+    fn begin(&mut self, frame: u64, payload: &[u8]) -> Result<Option<SkipKind>, End>
+        requires engine { self.old.engine ≡ None }
+        requires log { self.old.log ≡ [] }
         ensures stand { Stands result self.new.engine (model.opened C.rules self.old.task frame (model.read payload.now)).1 }
-        ensures lines { LogsFrame result self.old.log self.new.log (model.opened C.rules self.old.task frame (model.read payload.now)).0 }
+        ensures lines { LogsFrame result [] (told frame result self.new.log) (model.opened C.rules self.old.task frame (model.read payload.now)).0 }
         ensures task { self.new.task ≡ self.old.task }
     {
         let engine = open(self.alloc, self.task, frame, payload, &mut self.log)?;
         self.engine = Some(engine);
-        Ok(())
+        Ok(None)
     }
 }
 
@@ -91,28 +96,54 @@ fn open_with<C: Chain, B: Board>(
     }
 }
 
-/// A step of the engine; a payload that is no event is passed over.
-#[tactic(auto, using(crate::proofs::Logs::logs_nothing))]
+/// A step of the engine; a payload that is no event is passed over. The bytes of a block are looked at
+/// where they stand.
 fn follow<C: Chain, B: Board>(
     alloc: Global,
     engine: &mut Engine<C, B>,
     frame: u64,
     payload: &[u8],
     log: &mut Lines,
-) -> Result<(), End>
+) -> Result<Option<SkipKind>, End>
+    requires { log.old ≡ [] }
     ensures stand { Stands result (Some engine.new) (model.followed C.rules B.answer engine.old frame (model.read payload.now)).1 }
-    ensures lines { LogsFrame result log.old log.new (model.followed C.rules B.answer engine.old frame (model.read payload.now)).0 }
+    ensures lines { LogsFrame result [] (told frame result log.new) (model.followed C.rules B.answer engine.old frame (model.read payload.now)).0 }
 {
-    match read(alloc, payload) {
-        Ok(Ok(event)) => match engine.step(frame, event, log) {
-            Ok(()) => Ok(()),
-            Err(stop) => Err(stop.in_frame(frame)),
-        },
-        Ok(Err(kind)) => match log.push(Line::Skip { frame, kind }) {
-            Ok(()) => Ok(()),
+    match block_in(payload) {
+        Some(block) => ended(frame, engine.receive(frame, &block, log)),
+        None => follow_whole(alloc, engine, frame, payload, log),
+    }
+}
+
+/// The same for a payload that is read whole.
+#[tactic(auto, using(crate::proofs::Logs::logs_nothing))]
+fn follow_whole<C: Chain, B: Board>(
+    alloc: Global,
+    engine: &mut Engine<C, B>,
+    frame: u64,
+    payload: &[u8],
+    log: &mut Lines,
+) -> Result<Option<SkipKind>, End>
+    requires { log.old ≡ [] }
+    ensures stand { Stands result (Some engine.new) (model.followed C.rules B.answer engine.old frame (model.read payload.now)).1 }
+    ensures lines { LogsFrame result [] (told frame result log.new) (model.followed C.rules B.answer engine.old frame (model.read payload.now)).0 }
+{
+    match decode(alloc, payload) {
+        Ok(event) => ended(frame, engine.step(frame, event, log)),
+        Err(skip) => match kind_of(skip) {
+            Ok(kind) => Ok(Some(kind)),
             Err(_) => Err(End::Memory),
         },
-        Err(_) => Err(End::Memory),
+    }
+}
+
+/// How a frame ends in which a step was made.
+fn ended(frame: u64, step: Result<(), EngineStop>) -> Result<Option<SkipKind>, End>
+    ensures { result ≡ ended_in frame step }
+{
+    match step {
+        Ok(()) => Ok(None),
+        Err(stop) => Err(stop.in_frame(frame)),
     }
 }
 
@@ -122,10 +153,19 @@ fn read(alloc: Global, payload: &[u8]) -> Result<Result<Event, SkipKind>, AllocE
 {
     match decode(alloc, payload) {
         Ok(event) => Ok(Ok(event)),
-        Err(Skip::Tag) => Ok(Err(SkipKind::Tag)),
-        Err(Skip::Short) => Ok(Err(SkipKind::Short)),
-        Err(Skip::Extra) => Ok(Err(SkipKind::Extra)),
-        Err(Skip::Count) => Ok(Err(SkipKind::Count)),
-        Err(Skip::Memory) => Err(AllocError),
+        Err(skip) => Ok(Err(kind_of(skip)?)),
+    }
+}
+
+/// The word for what is no event.
+fn kind_of(skip: Skip) -> Result<SkipKind, AllocError>
+    ensures { (event : Result Event Fault) → Refuses skip event → IfOk result (λ kind. named event ≡ Err kind) }
+{
+    match skip {
+        Skip::Tag => Ok(SkipKind::Tag),
+        Skip::Short => Ok(SkipKind::Short),
+        Skip::Extra => Ok(SkipKind::Extra),
+        Skip::Count => Ok(SkipKind::Count),
+        Skip::Memory => Err(AllocError),
     }
 }

@@ -3,6 +3,7 @@
 ghost use Rattle.std.specs.Prelude.{◌≡◌, ◌+◌, [], ◌∷◌, ◌++◌, length, nat_lt, Err, IfOk, OnOk, OnErr};
 ghost use Rattle.snow_flake.specs.Parameters.{AreGood};
 ghost use Rattle.snow_sample.specs.Roster.{first_fault, IsRosterOf};
+ghost use Rattle.snow_wire.specs.Sent.{as_event};
 ghost use Rattle.snow_engine.specs.Hearing as hearing;
 ghost use Rattle.snow_engine.specs.Node as begins;
 ghost use Rattle.snow_engine.specs.Outcome.{then_comes};
@@ -26,7 +27,7 @@ use snow_lines::{Line, Lines, SkipKind};
 use snow_plain::Board;
 use snow_poll::Polls;
 use snow_sample::{Node, Roster, RosterFault, Words};
-use snow_wire::{Event, Start};
+use snow_wire::{Event, SentBlock, Start};
 use std::alloc::{AllocError, Global};
 use std::marker::Model;
 
@@ -125,6 +126,21 @@ impl<C: Chain, B: Board> Running<C, B> {
             Event::Poll { .. } | Event::Line { .. } => skip(frame, SkipKind::Task, log),
             _ => skip(frame, SkipKind::Stage, log),
         }
+    }
+
+    /// A block came, in this frame.
+    #[tactic(auto, unfolding(crate::specs::Turning::runs_on), using(crate::proofs::Logs::logs_nothing))]
+    pub fn receive(
+        &mut self,
+        frame: u64,
+        block: &SentBlock,
+        log: &mut Lines,
+    ) -> Result<(), EngineStop>
+        ensures answer { Steps result self.new (model.runs_on C.rules B.answer self.old frame (as_event block.now)).1 }
+        ensures lines { Logs result log.old log.new (model.runs_on C.rules B.answer self.old frame (as_event block.now)).0 }
+    {
+        let bytes = Bytes::from_slice(self.alloc, block.bytes)?;
+        self.take_block(frame, block.node, block.request, bytes, log)
     }
 
     /// A block came, and the event ends.

@@ -1,15 +1,18 @@
-ghost use Rattle.std.specs.Prelude.{◌≡◌, ◌+◌, ◌*◌, ◌^◌, ◌-◌, ◌≤◌, ◌<◌, [], length, None, Ok, false, ◌==◌, if◌then◌else◌, is_some, IfOk, OnOk};
+ghost use Rattle.std.specs.Prelude.{◌≡◌, ◌+◌, ◌*◌, ◌^◌, ◌-◌, ◌≤◌, ◌<◌, [], length, None, Ok, false, ◌==◌, if◌then◌else◌, is_some, IfOk, OnOk, OnErr, ◌++◌};
+ghost use Rattle.snow_base.specs.Outside.{AppendsFront, HasCause};
+ghost use Rattle.snow_lines.specs.Gathered.{Gathers};
+ghost use Rattle.snow_lines.specs.Text.{texts};
 ghost use Rattle.snow_wire.specs.Frame.{first_of, is_too_long};
 ghost use Rattle.snow_wire.specs.Stream.{fresh};
 ghost use Rattle.snow_engine.specs.Run.{end_behind};
-ghost use Rattle.snow_engine.specs.Serving.{stand_of, Goes, GathersLines, WritesLines, SinkFails, one_worked, all_worked};
+ghost use Rattle.snow_engine.specs.Serving.{stand_of, told, Goes, GathersLines, WritesLines, SinkFails, one_worked, all_worked};
 
 use crate::end::{BadKind, End};
 use crate::runner::Runner;
 use crate::task::Task;
-use snow_base::Sink;
+use snow_base::{Failed, Sink};
 use snow_chain::Chain;
-use snow_lines::{Lines, Page};
+use snow_lines::{Line, Lines, Page, SkipKind};
 use snow_plain::Board;
 use snow_wire::Decoder;
 use std::alloc::{AllocError, Global};
@@ -86,9 +89,10 @@ impl<C: Chain, B: Board> Session<C, B> {
             }),
             Ok(None) => Ok(false),
             Ok(Some(frame)) => {
-                let worked = self.runner.work(frame.number, frame.payload);
-                match self.page.print_all(self.runner.log.list(), out) {
-                    Ok(()) => worked.map(|()| true),
+                let number = frame.number;
+                let worked = self.runner.work(number, frame.payload);
+                match gather(&mut self.page, number, &worked, self.runner.log.list(), out) {
+                    Ok(()) => worked.map(|_| true),
                     Err(_) => Err(End::SinkFault),
                 }
             }
@@ -134,5 +138,24 @@ impl<C: Chain, B: Board> Session<C, B> {
             Ok(()) => worked,
             Err(_) => Err(End::SinkFault),
         }
+    }
+}
+
+/// Gathers what is told of a frame that was worked.
+#[tactic(auto, using(crate::proofs::Worked::one_text))]
+fn gather<O: Sink>(
+    page: &mut Page,
+    frame: u64,
+    worked: &Result<Option<SkipKind>, End>,
+    log: &[Line],
+    out: &mut O,
+) -> Result<(), Failed>
+    ensures ok { OnOk result (Gathers (O.written out.old) page.old (O.written out.new) page.new (texts (told frame worked.now log.now))) }
+    ensures err { OnErr result (AppendsFront (O.written out.old) (O.written out.new) (page.old ++ texts (told frame worked.now log.now))) }
+    ensures cause { HasCause (O.faults out.old) (O.faults out.new) result }
+{
+    match worked {
+        Ok(Some(kind)) => page.print(&Line::Skip { frame, kind: *kind }, out),
+        _ => page.print_all(log, out),
     }
 }

@@ -24,25 +24,6 @@ pub trait Part {
         ensures cause { HasCause (K.faults sink.old) (K.faults sink.new) result };
 }
 
-/// One part and then another.
-impl<A: Part, B: Part> Part for (A, B) {
-    ghost text = { λ both. A.text both.0 ++ B.text both.1 };
-
-    #[tactic(auto, using(crate::proofs::Waiting::gathering, snow_base::proofs::Known::appending))]
-    fn put_into<G: Gather, K: Sink>(&self, out: &mut G, sink: &mut K) -> Result<(), Failed> {
-        self.0.put_into(out, sink)?;
-        self.1.put_into(out, sink)
-    }
-}
-
-impl<'a, T: Part> Part for &'a T {
-    ghost text = { λ part. T.text part.now };
-
-    fn put_into<G: Gather, K: Sink>(&self, out: &mut G, sink: &mut K) -> Result<(), Failed> {
-        (**self).put_into(out, sink)
-    }
-}
-
 impl Part for Kind {
     ghost text = { line_name };
 
@@ -137,7 +118,7 @@ impl Part for Draw {
     ghost text = { λ draw. spaced (draw_word draw) };
 
     fn put_into<G: Gather, K: Sink>(&self, out: &mut G, sink: &mut K) -> Result<(), Failed> {
-        (&self.node, Times(self.count)).put_into(out, sink)
+        put_two(out, &self.node, &Times(self.count), sink)
     }
 }
 
@@ -189,6 +170,76 @@ fn put_some<G: Gather, K: Sink>(
     let digits = &mut digits[..2 * some.len()];
     write_hex(some, digits);
     out.put(digits, sink)
+}
+
+/// Appends one part and then another.
+#[tactic(auto, using(crate::proofs::Waiting::gathering, snow_base::proofs::Known::appending))]
+pub fn put_two<A: Part, B: Part, G: Gather, K: Sink>(
+    out: &mut G,
+    a: &A,
+    b: &B,
+    sink: &mut K,
+) -> Result<(), Failed>
+    ensures ok { OnOk result (Gathers (K.written sink.old) (G.waiting out.old) (K.written sink.new) (G.waiting out.new) (A.text a.now ++ B.text b.now)) }
+    ensures err { OnErr result (AppendsFront (K.written sink.old) (K.written sink.new) (G.waiting out.old ++ (A.text a.now ++ B.text b.now))) }
+    ensures cause { HasCause (K.faults sink.old) (K.faults sink.new) result }
+{
+    a.put_into(out, sink)?;
+    b.put_into(out, sink)
+}
+
+/// Appends one part and then two.
+#[tactic(auto, using(crate::proofs::Waiting::gathering, snow_base::proofs::Known::appending))]
+pub fn put_three<A: Part, B: Part, C: Part, G: Gather, K: Sink>(
+    out: &mut G,
+    a: &A,
+    b: &B,
+    c: &C,
+    sink: &mut K,
+) -> Result<(), Failed>
+    ensures ok { OnOk result (Gathers (K.written sink.old) (G.waiting out.old) (K.written sink.new) (G.waiting out.new) (A.text a.now ++ (B.text b.now ++ C.text c.now))) }
+    ensures err { OnErr result (AppendsFront (K.written sink.old) (K.written sink.new) (G.waiting out.old ++ (A.text a.now ++ (B.text b.now ++ C.text c.now)))) }
+    ensures cause { HasCause (K.faults sink.old) (K.faults sink.new) result }
+{
+    a.put_into(out, sink)?;
+    put_two(out, b, c, sink)
+}
+
+/// Appends one part and then three.
+#[tactic(auto, using(crate::proofs::Waiting::gathering, snow_base::proofs::Known::appending))]
+pub fn put_four<A: Part, B: Part, C: Part, D: Part, G: Gather, K: Sink>(
+    out: &mut G,
+    a: &A,
+    b: &B,
+    c: &C,
+    d: &D,
+    sink: &mut K,
+) -> Result<(), Failed>
+    ensures ok { OnOk result (Gathers (K.written sink.old) (G.waiting out.old) (K.written sink.new) (G.waiting out.new) (A.text a.now ++ (B.text b.now ++ (C.text c.now ++ D.text d.now)))) }
+    ensures err { OnErr result (AppendsFront (K.written sink.old) (K.written sink.new) (G.waiting out.old ++ (A.text a.now ++ (B.text b.now ++ (C.text c.now ++ D.text d.now))))) }
+    ensures cause { HasCause (K.faults sink.old) (K.faults sink.new) result }
+{
+    a.put_into(out, sink)?;
+    put_three(out, b, c, d, sink)
+}
+
+/// Appends one part and then four.
+#[tactic(auto, using(crate::proofs::Waiting::gathering, snow_base::proofs::Known::appending))]
+pub fn put_five<A: Part, B: Part, C: Part, D: Part, E: Part, G: Gather, K: Sink>(
+    out: &mut G,
+    a: &A,
+    b: &B,
+    c: &C,
+    d: &D,
+    e: &E,
+    sink: &mut K,
+) -> Result<(), Failed>
+    ensures ok { OnOk result (Gathers (K.written sink.old) (G.waiting out.old) (K.written sink.new) (G.waiting out.new) (A.text a.now ++ (B.text b.now ++ (C.text c.now ++ (D.text d.now ++ E.text e.now))))) }
+    ensures err { OnErr result (AppendsFront (K.written sink.old) (K.written sink.new) (G.waiting out.old ++ (A.text a.now ++ (B.text b.now ++ (C.text c.now ++ (D.text d.now ++ E.text e.now)))))) }
+    ensures cause { HasCause (K.faults sink.old) (K.faults sink.new) result }
+{
+    a.put_into(out, sink)?;
+    put_four(out, b, c, d, e, sink)
 }
 
 /// Appends parts, one after another.

@@ -8,7 +8,7 @@ ghost use Rattle.snow_lines.specs.Text.{fields, listed, name, spaced, text, text
 use crate::gathering::{AtOnce, Gather};
 use crate::kind::Kind;
 use crate::line::Line;
-use crate::part::{Part, put_all};
+use crate::part::{Part, put_all, put_five, put_four, put_three, put_two};
 use snow_base::{Failed, Sink};
 
 /// Writes a line, a word at a time. At `Failed` a front of it was written. It takes no memory.
@@ -53,39 +53,39 @@ fn put_front<G: Gather, K: Sink>(out: &mut G, line: &Line, sink: &mut K) -> Resu
     ensures cause { HasCause (K.faults sink.old) (K.faults sink.new) result }
 {
     match line {
-        Line::Query { number, id, .. } => (Kind::Query, (number, id)).put_into(out, sink),
-        Line::Get { number, node, id } => (Kind::Get, (number, (node, id))).put_into(out, sink),
-        Line::Frontier { number } => (Kind::Frontier, number).put_into(out, sink),
-        Line::Accepted { number, .. } => (Kind::Accepted, number).put_into(out, sink),
+        Line::Query { number, id, .. } => put_three(out, &Kind::Query, number, id, sink),
+        Line::Get { number, node, id } => put_four(out, &Kind::Get, number, node, id, sink),
+        Line::Frontier { number } => put_two(out, &Kind::Frontier, number, sink),
+        Line::Accepted { number, .. } => put_two(out, &Kind::Accepted, number, sink),
         Line::Ancestors { number, node, id } => {
-            (Kind::Ancestors, (number, (node, id))).put_into(out, sink)
+            put_four(out, &Kind::Ancestors, number, node, id, sink)
         }
-        Line::Accept { id } => (Kind::Accept, id).put_into(out, sink),
-        Line::Reject { id } => (Kind::Reject, id).put_into(out, sink),
-        Line::Prefer { id } => (Kind::Prefer, id).put_into(out, sink),
-        Line::Drop { id, why } => (Kind::Drop, (id, why)).put_into(out, sink),
-        Line::DropQuery { why } => (Kind::DropQuery, why).put_into(out, sink),
-        Line::Skip { frame, kind } => (Kind::Skip, (frame, kind)).put_into(out, sink),
-        Line::Restart { why } => (Kind::Restart, why).put_into(out, sink),
+        Line::Accept { id } => put_two(out, &Kind::Accept, id, sink),
+        Line::Reject { id } => put_two(out, &Kind::Reject, id, sink),
+        Line::Prefer { id } => put_two(out, &Kind::Prefer, id, sink),
+        Line::Drop { id, why } => put_three(out, &Kind::Drop, id, why, sink),
+        Line::DropQuery { why } => put_two(out, &Kind::DropQuery, why, sink),
+        Line::Skip { frame, kind } => put_three(out, &Kind::Skip, frame, kind, sink),
+        Line::Restart { why } => put_two(out, &Kind::Restart, why, sink),
         Line::Bootstrapped { id, height } => {
-            (Kind::Bootstrapped, (id, height)).put_into(out, sink)
+            put_three(out, &Kind::Bootstrapped, id, height, sink)
         }
         Line::ToChits {
             node,
             number,
             preference,
             last,
-        } => (Kind::ToChits, (node, (number, (preference, last)))).put_into(out, sink),
+        } => put_five(out, &Kind::ToChits, node, number, preference, last, sink),
         Line::ToFrontier { node, number, id } => {
-            (Kind::ToFrontier, (node, (number, id))).put_into(out, sink)
+            put_four(out, &Kind::ToFrontier, node, number, id, sink)
         }
         Line::ToAccepted { node, number, .. } => {
-            (Kind::ToAccepted, (node, number)).put_into(out, sink)
+            put_three(out, &Kind::ToAccepted, node, number, sink)
         }
         Line::ToAncestors { node, number, .. } => {
-            (Kind::ToAncestors, (node, number)).put_into(out, sink)
+            put_three(out, &Kind::ToAncestors, node, number, sink)
         }
-        Line::ToBlock { node, number, .. } => (Kind::ToBlock, (node, number)).put_into(out, sink),
+        Line::ToBlock { node, number, .. } => put_three(out, &Kind::ToBlock, node, number, sink),
     }
 }
 

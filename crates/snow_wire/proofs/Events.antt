@@ -1,13 +1,16 @@
 -- Each event in range is read back from its spelling, and what is read is spelled so.
-use Rattle.std.proofs.Common.{◌≡◌, ℕ, zero, suc, ◌+◌, ◌%◌, ◌^◌, ◌<◌, ◌≤◌, cond, ◌==◌, get_or, List, [], ◌∷◌, ◌++◌, length, All, Result, Ok, Err, refl, sym, ap, subst, ◌∙◌, append-nil, arith}
-use Rattle.std.specs.Prelude.{IfOk}
+use Rattle.std.proofs.Common.{◌≡◌, ◌≢◌, ℕ, zero, suc, ◌+◌, ◌%◌, ◌^◌, ◌<◌, ◌≤◌, cond, ◌==◌, get_or, List, [], ◌∷◌, ◌++◌, length, All, Option, Some, None, Result, Ok, Err, refl, sym, ap, subst, ◌∙◌, append-nil, arith}
+use Rattle.std.specs.Prelude.{IfOk, IfSome, IfNone}
 use Rattle.std.proofs.lemmas.Bool.{eqb-true}
 use Rattle.std.proofs.lemmas.List.{nil_from_length}
 use Rattle.snow_wire.specs.declared.event.Event.{Event}
 use Rattle.snow_wire.specs.declared.event.Event.TheVariants as event
+use Rattle.snow_wire.specs.declared.sent.SentBlock.{SentBlock}
 use Rattle.snow_wire.specs.declared.skip.Skip.{Skip}
-use Rattle.snow_wire.specs.Spelling.{number, spelling, start, sized, counted, weighed, IsId, IsWeighed, IsBlock, IsInRange}
-use Rattle.snow_wire.specs.Reading.{Extra, Gives, IsBytes, Read, number_at, id_at, block_at, sized_at, counted_at, weighed_at, single_at, sender_at, message_at, unknown_at, tags, fields_at, event_of}
+use Rattle.snow_wire.specs.declared.skip.Skip.TheVariants as skip
+use Rattle.snow_wire.specs.Spelling.{number, sender, spelling, start, sized, counted, weighed, IsId, IsWeighed, IsBlock, IsInRange}
+use Rattle.snow_wire.specs.Reading.{Extra, Fault, Gives, IsBytes, Read, Refuses, TakesNoMemory, ◌>>=◌, number_at, id_at, block_at, sized_at, counted_at, weighed_at, single_at, sender_at, message_at, unknown_at, tags, fields_at, event_of}
+use Rattle.snow_wire.specs.Sent.{as_event}
 use Rattle.snow_wire.proofs.Numbers.{width1, width8}
 use Rattle.snow_wire.proofs.Fields.{IsField, by_step, again_then, bind_ok, when, bytes_field, number_field, sized_field, counted_field, weighed_field}
 use Rattle.snow_wire.proofs.Tagged.{IsTagged, single_tagged, single_again, sender_tagged, sender_again, message_tagged, message_again}
@@ -223,6 +226,54 @@ event_again (event.AskAccepted node request ids) range = tag_again 14 _ (event.A
 event_again (event.AskAncestors node request id) range = tag_again 15 _ (event.AskAncestors node request id) (omega arith) (message_again id_field event.AskAncestors node request id range.0.0 range.0.1)
 event_again (event.AskBlock node request id) range = tag_again 16 _ (event.AskBlock node request id) (omega arith) (message_again id_field event.AskBlock node request id range.0.0 range.0.1)
 event_again (event.Line text) range = tag_again 17 _ (event.Line text) (omega arith) (single_again text_field event.Line text range.1)
+
+-- ---- where a Block stands
+
+-- behind the tag of a Block its fields are read, and nothing may be left
+block_read : (bytes rest : List ℕ) → number_at 1 bytes ≡ Ok (2, rest)
+    → event_of bytes ≡ (message_at block_at event.Block rest >>= (λ e. cond (length e.1 == 0) (Ok e.0) (Err Extra)))
+unfolding event_of fields_at
+block_read bytes rest r = rw r refl
+
+-- the Block whose fields are all that stands behind its tag
+pub block_found : (bytes rest : List ℕ) (found : Option SentBlock) → number_at 1 bytes ≡ Ok (2, rest)
+    → IfSome found (λ block. message_at block_at event.Block rest ≡ Ok (as_event block, []))
+    → IfSome found (λ block. event_of bytes ≡ Ok (as_event block))
+block_found bytes rest None r only = tt
+block_found bytes rest (Some block) r only = block_read bytes rest r ∙ rw only refl
+
+-- no Block, where more stands there than its fields, or less
+pub block_lost : (bytes rest : List ℕ) (found : Option SentBlock) → number_at 1 bytes ≡ Ok (2, rest)
+    → IfNone found ((e : Event) → message_at block_at event.Block rest ≢ Ok (e, []))
+    → IfNone found ((node : List ℕ) (request : ℕ) (block : List ℕ) → event_of bytes ≢ Ok (event.Block node request block))
+block_lost bytes rest (Some block) r none = tt
+block_lost bytes rest None r none = λ node request block given.
+    let e = event.Block node request block in
+    let b = bind_ok (message_at block_at event.Block rest) (λ x. cond (length x.1 == 0) (Ok x.0) (Err Extra)) e (sym (block_read bytes rest r) ∙ given) in
+    let g = when (length b.0.1 == 0) Extra b.0.0 e b.2 in
+    let nothing : b.0.1 ≡ [] = nil_from_length b.0.1 (eqb-true _ _ g.0) in
+    none b.0.0 (b.1 ∙ ap (λ (l : List ℕ). Ok (b.0.0, l)) nothing)
+
+tag_first : (tag : ℕ) (bytes : List ℕ) → tag < 256 → number_at 1 (tag ∷ bytes) ≡ Ok (tag, bytes)
+tag_first tag bytes small =
+    ap (λ (b : List ℕ). number_at 1 (b ++ bytes)) (sym (one_byte tag small)) ∙ (number_field 1 width1).again tag bytes small
+
+-- what was refused isn't read
+pub refused_apart : {A : Type 0} (e : Skip) (read : Result A Fault) (x : A) → Refuses e read → TakesNoMemory {A = A} (Err e) → read ≢ Ok x
+refused_apart skip.Tag read x refuses fine given = cc
+refused_apart skip.Short read x refuses fine given = cc
+refused_apart skip.Extra read x refuses fine given = cc
+refused_apart skip.Count read x refuses fine given = cc
+refused_apart skip.Memory read x refuses fine given = fine
+
+-- no Block, where its tag doesn't stand in front
+pub block_absent : (bytes : List ℕ) → IsBytes bytes → ((rest : List ℕ) → number_at 1 bytes ≢ Ok (2, rest))
+    → (node : List ℕ) (request : ℕ) (block : List ℕ) → event_of bytes ≢ Ok (event.Block node request block)
+unfolding spelling
+block_absent bytes fits other node request block given =
+    let behind = sender node request ++ sized block in
+    let spelled : bytes ≡ 2 ∷ behind = (event_taken bytes (event.Block node request block) fits given).1 in
+    other behind (ap (number_at 1) spelled ∙ tag_first 2 behind (omega arith))
 
 -- ---- what a function that decodes ensures
 

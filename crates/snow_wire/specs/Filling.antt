@@ -1,5 +1,5 @@
 -- Bytes that are read behind others, in place.
-use Rattle.std.specs.Prelude.{◌≡◌, ℕ, List, [], ◌++◌, length, Option}
+use Rattle.std.specs.Prelude.{◌≡◌, ℕ, List, ◌++◌, length, Option}
 use Rattle.std.specs.Io.KnownBytes.{Consumes}
 
 -- the bytes that are held, and how many more find room behind them

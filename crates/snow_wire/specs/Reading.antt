@@ -36,6 +36,12 @@ abbrev pub Reads : {A : Type 0} → Result A Skip → List ℕ → Result (A × 
 Reads (Ok x) rest read = read ≡ Ok (x, rest)
 Reads (Err e) rest read = Refuses e read
 
+-- a function that takes no memory refuses for what reading meets alone
+abbrev pub TakesNoMemory : {A : Type 0} → Result A Skip → Type 0
+TakesNoMemory (Ok x) = Unit {0}
+TakesNoMemory (Err skip.Memory) = ⊥
+TakesNoMemory (Err e) = Unit {0}
+
 -- each number is a byte's
 abbrev pub IsBytes : List ℕ → Type 0
 IsBytes bytes = (i : ℕ) → slice_index bytes i < 256

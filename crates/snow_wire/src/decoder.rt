@@ -14,6 +14,9 @@ use std::marker::Model;
 /// So many bytes are read at a time at most.
 const PIECE: usize = 65_536;
 
+/// Bytes that are left are moved to the front as soon as so many times as many were worked.
+const TIMES: usize = 8;
+
 /// Why no bytes were read.
 #[derive(Clone, Copy, Debug, PartialEq, Eq)]
 pub enum ReadFault {
@@ -99,12 +102,13 @@ impl Decoder {
         }
     }
 
-    // Lets go of the bytes of the frames that were given, where so many more want their room and no
-    // more than those have to be moved.
+    // Lets go of the bytes of the frames that were given, before so many more come: where they are
+    // most of those that are held; and, where room is wanted, also where they are half of them.
     fn let_go(&mut self, more: usize)
         ensures { self.new ≡ self.old }
     {
-        if self.bytes.room() < more && self.bytes.len() - self.start <= self.start {
+        let rest = self.bytes.len() - self.start;
+        if rest <= self.start / TIMES || (self.bytes.room() < more && rest <= self.start) {
             self.bytes.let_go(self.start);
             self.start = 0;
         }

@@ -12,6 +12,7 @@ mod laws;
 mod messages;
 mod questions;
 mod reader;
+mod sent;
 mod setup;
 mod skip;
 
@@ -21,6 +22,7 @@ pub use encoding::encode;
 pub use event::{Event, Start};
 pub use frame::{Frame, TooLong, first_frame};
 pub use laws::{one_reading, one_spelling};
+pub use sent::{SentBlock, block_in};
 pub use skip::Skip;
 
 #[cfg(test)]

@@ -4,23 +4,24 @@ ghost use Rattle.snow_wire.specs.Reading.{Reads, counted_at, id_at, block_at, se
 ghost use Rattle.snow_wire.specs.declared.event.Event.TheVariants as event;
 
 use crate::event::Event;
-use crate::field::{MAX_BLOCK, read_counted};
+use crate::field::read_counted;
 use crate::reader::Reader;
+use crate::sent::read_block;
 use crate::skip::Skip;
+use snow_base::Bytes;
 use std::alloc::Global;
 
-#[tactic(auto, unfolding(crate::specs::Reading::message_at))]
 pub(crate) fn block(alloc: Global, reader: &mut Reader) -> Result<Event, Skip>
     ensures { Reads result reader.new (message_at block_at event.Block reader.old) }
 {
-    let node = reader.node()?;
-    let request = reader.u32()?;
-    let bytes = reader.sized(alloc, MAX_BLOCK)?;
-    Ok(Event::Block {
-        node,
-        request,
-        bytes,
-    })
+    match read_block(reader) {
+        Ok(block) => Ok(Event::Block {
+            node: block.node,
+            request: block.request,
+            bytes: Bytes::from_slice(alloc, block.bytes)?,
+        }),
+        Err(skip) => Err(skip),
+    }
 }
 
 #[tactic(auto, unfolding(crate::specs::Reading::message_at))]

@@ -1,5 +1,5 @@
 ghost use Rattle.std.specs.Prelude.{◌≡◌, ◌<◌, ℕ, List, length, IfOk};
-ghost use Rattle.snow_wire.specs.Reading.{Reads, ReadsAs, bytes_at, number_at, limited_at, flag_at, sized_at};
+ghost use Rattle.snow_wire.specs.Reading.{Reads, ReadsAs, TakesNoMemory, bytes_at, number_at, limited_at, flag_at, sized_at};
 
 use crate::skip::Skip;
 use byteorder::{BigEndian, ByteOrder};
@@ -39,6 +39,7 @@ impl<'a> Reader<'a> {
     fn take(&mut self, n: usize) -> Result<&'a [u8], Skip>
         ensures read { ReadsAs (λ front. front.now) result self.new (bytes_at n self.old) }
         ensures size { IfOk result (λ front. length front.now ≡ n) }
+        ensures memory { TakesNoMemory result }
     {
         if self.rest.len() < n {
             return Err(Skip::Short);
@@ -50,7 +51,8 @@ impl<'a> Reader<'a> {
 
     #[tactic(auto, unfolding(crate::specs::Reading::number_at))]
     pub(crate) fn u8(&mut self) -> Result<u8, Skip>
-        ensures { Reads result self.new (number_at 1 self.old) }
+        ensures read { Reads result self.new (number_at 1 self.old) }
+        ensures memory { TakesNoMemory result }
     {
         if self.rest.is_empty() {
             return Err(Skip::Short);
@@ -74,7 +76,8 @@ impl<'a> Reader<'a> {
 
     #[tactic(auto, unfolding(crate::specs::Reading::number_at))]
     pub(crate) fn u32(&mut self) -> Result<u32, Skip>
-        ensures { Reads result self.new (number_at 4 self.old) }
+        ensures read { Reads result self.new (number_at 4 self.old) }
+        ensures memory { TakesNoMemory result }
     {
         if self.rest.len() < 4 {
             return Err(Skip::Short);
@@ -129,23 +132,32 @@ impl<'a> Reader<'a> {
     }
 
     pub(crate) fn node(&mut self) -> Result<NodeId, Skip>
-        ensures { Reads result self.new (bytes_at 20 self.old) }
+        ensures read { Reads result self.new (bytes_at 20 self.old) }
+        ensures memory { TakesNoMemory result }
     {
         let mut bytes = [0; 20];
         bytes.copy_from_slice(self.take(20)?);
         Ok(NodeId::from_bytes(bytes))
     }
 
-    /// A length that is at most the limit, and so many bytes.
+    /// A length that is at most the limit, and so many bytes, where they stand.
     #[tactic(auto, unfolding(crate::specs::Reading::sized_at, crate::specs::Reading::limited_at))]
-    pub(crate) fn sized(&mut self, alloc: Global, limit: u32) -> Result<Bytes, Skip>
-        ensures { Reads result self.new (sized_at limit self.old) }
+    pub(crate) fn slice(&mut self, limit: u32) -> Result<&'a [u8], Skip>
+        ensures read { ReadsAs (λ bytes. bytes.now) result self.new (sized_at limit self.old) }
+        ensures memory { TakesNoMemory result }
     {
         let len = self.u32()?;
         if len > limit {
             return Err(Skip::Count);
         }
-        let bytes = self.take(len as usize)?;
+        self.take(len as usize)
+    }
+
+    /// The same, as bytes of their own.
+    pub(crate) fn sized(&mut self, alloc: Global, limit: u32) -> Result<Bytes, Skip>
+        ensures { Reads result self.new (sized_at limit self.old) }
+    {
+        let bytes = self.slice(limit)?;
         Ok(Bytes::from_slice(alloc, bytes)?)
     }
 }

@@ -1,0 +1,8 @@
+-- A block whose bytes stand where they came.
+use Rattle.snow_wire.specs.declared.event.Event.{Event}
+use Rattle.snow_wire.specs.declared.event.Event.TheVariants as event
+use Rattle.snow_wire.specs.declared.sent.SentBlock.{SentBlock}
+
+-- the event that it is
+abbrev pub as_event : SentBlock → Event
+as_event block = event.Block block.node block.request block.bytes.now
