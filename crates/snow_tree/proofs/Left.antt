@@ -276,6 +276,14 @@ module _ {T : Type 0} where
       (λ t. let k = rw t at h in rw (differs_back e.0.id child t) (found_seen nodes child n k))
 
 
+  -- no entry has an identifier that isn't found
+  pub none_seen : (nodes : List (Key × Node T)) (child : List ℕ) → lookup (λ k. bytes_eq child k.id) nodes ≡ None → find (λ e. bytes_eq e.block.id child) (map entry_of nodes) ≡ None
+  none_seen [] child h = refl
+  none_seen (e ∷ nodes) child h =
+      split_on (bytes_eq child e.0.id)
+      (λ t. absurd (none-some e.1 (let k = rw t at h in sym k)))
+      (λ t. let k = rw t at h in rw (differs_back e.0.id child t) (none_seen nodes child k))
+
   -- ---- the child that leaves, and an only child
 
   -- what is noted changes no block

@@ -11,3 +11,6 @@ mod tree;
 
 pub use tree::{Tree, TreeFull};
 
+
+#[cfg(test)]
+mod tests;

@@ -1,6 +1,6 @@
 ghost use Rattle.std.specs.Prelude.{◌≡◌, ◌-◌, true, false, Some, length, slice_get, is_some, OnOk, OnErr, IfErr, IfSome};
 ghost use Rattle.std.specs.Option.{option_map, option_copied};
-ghost use Rattle.snow_plain.specs.Grown.{is_on};
+ghost use Rattle.snow_plain.specs.Grown.{has_block, is_on};
 ghost use Rattle.snow_tree.specs.Held.{blocks_in, begun, inserted, taken_back, place_in, entry_in, children_of, ancestor_in, promoted};
 
 use crate::children::Children;
@@ -161,9 +161,24 @@ impl<T: Drop> Tree<T> {
         block_at(&self.nodes, place)
     }
 
+    /// What a pending block says of itself, and nothing for any other.
+    pub fn header_of(&self, id: &Id) -> Option<Header>
+        ensures { result ≡ option_map (λ e. e.block) (entry_in (self.now).pending id.now) }
+    {
+        match self.nodes.get(&Key { id: *id }) {
+            Some(node) => Some(Header {
+                id: *id,
+                parent: node.parent,
+                height: node.height,
+            }),
+            None => None,
+        }
+    }
+
     /// Where a block stands in order of issue, and nothing where it isn't pending.
     pub fn place_of(&self, id: &Id) -> Option<usize>
-        ensures { result ≡ place_in (self.now).pending id.now }
+        ensures place { result ≡ place_in (self.now).pending id.now }
+        ensures pending { is_some result ≡ has_block (blocks_in (self.now).pending) id.now }
     {
         place_of(&self.nodes, id)
     }
@@ -206,7 +221,7 @@ impl<T: Drop> Tree<T> {
     /// nothing where the block isn't pending. It walks up the block's line.
     pub fn ancestor(&self, id: &Id) -> Option<Id>
         ensures ancestor { result ≡ ancestor_in self.now id.now }
-        ensures pending { is_some result ≡ is_some (place_in (self.now).pending id.now) }
+        ensures pending { is_some result ≡ has_block (blocks_in (self.now).pending) id.now }
     {
         ancestor(&self.nodes, &self.last, id)
     }
