@@ -1,0 +1,55 @@
+use Rattle.std.proofs.Common.{◌≡◌, ◌∷◌, ◌++◌, [], true, false, length, map, refl, sym, ap, subst, ◌∙◌, arith}
+use Rattle.std.proofs.lemmas.Bool.{or_parts}
+use Rattle.std.proofs.lemmas.List.{map-append}
+use Rattle.snow_base.specs.declared.header.Header.{Header}
+use Rattle.snow_plain.specs.Grown.{has_block, is_on}
+use Rattle.snow_tree.specs.declared.key.Key.{Key}
+use Rattle.snow_tree.specs.declared.node.Node.{Node}
+use Rattle.snow_tree.specs.Held.{blocks_in}
+use Rattle.snow_tree.specs.Nodes.{blocks_of, entry_of, linked, with_children, IsKept}
+use Rattle.snow_tree.proofs.Descending.{last_off}
+use Rattle.snow_tree.proofs.Left.{same_blocks}
+use Rattle.snow_tree.proofs.Linked.{kept_issued, not_found, blocks_changed}
+use Rattle.snow_tree.proofs.Seen.{ok_after, seen_changed}
+use Rattle.snow_tree.proofs.tree.Tree.insert.Goals as goal
+use Rattle.snow_tree.proofs.tree.Tree.insert.Goals.{After-append, After-new}
+
+pub make_room-room-requires : goal.make_room-room-requires
+make_room-room-requires g c = last_off c.self.inside.last (blocks_of c.self.inside.nodes.entries) c.self.invariant.grown
+
+pub append-requires-clause-new : goal.append-requires-clause-new
+append-requires-clause-new g c =
+    let nodes = c.self.inside.nodes.entries in
+    let id = c.args.id in
+    let block : Header = record { id = id; parent = c.args.parent; height = c.args.height } in
+    let went = sym c.is_err.ensures.value ∙ c.if-is_err.false in
+    let unknown : is_on c.self.inside.last (blocks_in (map entry_of nodes)) id ≡ false = rw (← c.self.view_is) at c.requires.unknown in
+    let off : has_block (blocks_of nodes) id ≡ false =
+    ap (λ l. has_block l id) (sym (same_blocks nodes)) ∙ (or_parts _ (has_block (blocks_in (map entry_of nodes)) id) unknown).1
+    in
+    not_found c.make_room-room.new.nodes.entries id
+    (ap (λ l. has_block (blocks_of l) id) (ok_after c.make_room-room.result went c.make_room-room.ensures.nodes) ∙ ap (λ l. has_block l id) (blocks_changed (linked block) nodes) ∙ off)
+
+pub invariant_of-self-2 : goal.invariant_of-self-2
+invariant_of-self-2 g c =
+    let nodes = c.self.inside.nodes.entries in
+    let last = c.self.inside.last in
+    let went = sym c.is_err.ensures.value ∙ c.if-is_err.false in
+    let unknown : is_on last (blocks_in (map entry_of nodes)) c.args.id ≡ false = rw (← c.self.view_is) at c.requires.unknown in
+    let follows : is_on last (blocks_in (map entry_of nodes)) c.args.parent ≡ true = rw (← c.self.view_is) at c.requires.follows in
+    rw (c.append.ensures, ok_after c.make_room-room.result went c.make_room-room.ensures.nodes, ok_after c.make_room-room.result went c.make_room-room.ensures.first)
+    (kept_issued last c.self.inside.children nodes _ _ (record { id = c.args.id }) _ c.self.invariant c.new.ensures refl
+    (ap (λ l. is_on last l c.args.id) (sym (same_blocks nodes)) ∙ unknown)
+    (ap (λ l. is_on last l c.args.parent) (sym (same_blocks nodes)) ∙ follows)
+    (omega (arith, (ok_after c.make_room-room.result went c.make_room-room.ensures.room).1, c.clear.ensures.capacity)))
+
+pub returns-clause-ok : goal.returns-clause-ok
+returns-clause-ok g c =
+    let nodes = c.self.inside.nodes.entries in
+    let block : Header = record { id = c.args.id; parent = c.args.parent; height = c.args.height } in
+    let went = sym c.is_err.ensures.value ∙ c.if-is_err.false in
+    let new : Key × Node g.row.T.Denot = (record { id = c.args.id }, record { parent = c.args.parent; height = c.args.height; children = c.new.result; is_rejected = false; load = c.args.load }) in
+    let seen = ap (map entry_of) (c.append.ensures ∙ ap (λ l. l ++ new ∷ []) (ok_after c.make_room-room.result went c.make_room-room.ensures.nodes))
+    ∙ map-append entry_of (map (with_children (linked block)) nodes) (new ∷ []) ∙ ap (λ l. l ++ record { block = block; load = c.args.load } ∷ []) (seen_changed (linked block) nodes)
+    in
+    rw (← c.self.view_is) (λ j. record { last = c.self.inside.last; height = c.self.inside.height; pending = seen j; rejected = c.clear.ensures.items j })

@@ -1,0 +1,16 @@
+//! The pending blocks in order of issue, each with a load.
+#![tactic(auto)]
+
+mod children;
+mod key;
+mod leaving;
+mod linking;
+mod looking;
+mod node;
+mod tree;
+
+pub use tree::{Tree, TreeFull};
+
+
+#[cfg(test)]
+mod tests;

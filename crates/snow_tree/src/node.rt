@@ -1,0 +1,18 @@
+use crate::children::Children;
+use crate::key::Key;
+use indexmap::IndexMap;
+use snow_base::Id;
+
+/// A pending block, with its children and its load. Its identifier is the key under which it stands.
+#[derive(Debug, Drop)]
+pub(crate) struct Node<T> {
+    pub(crate) parent: Id,
+    pub(crate) height: u64,
+    pub(crate) children: Children,
+    // What an acceptance notes of it while it goes on. Nothing reads it else.
+    pub(crate) is_rejected: bool,
+    pub(crate) load: T,
+}
+
+/// The pending blocks in order of issue, by identifier.
+pub(crate) type Nodes<T> = IndexMap<Key, Node<T>>;

@@ -1,0 +1,266 @@
+ghost use Rattle.std.specs.Prelude.{◌≡◌, ◌-◌, true, false, Some, length, slice_get, is_some, OnOk, OnErr, IfErr, IfSome};
+ghost use Rattle.std.specs.Option.{option_map, option_copied};
+ghost use Rattle.snow_plain.specs.Grown.{has_block, is_on};
+ghost use Rattle.snow_tree.specs.Held.{blocks_in, begun, inserted, taken_back, place_in, entry_in, children_of, ancestor_in, promoted};
+
+use crate::children::Children;
+use crate::key::Key;
+use crate::leaving::take_accepted;
+use crate::linking::{append, make_room, unlink};
+use crate::looking::{ancestor, block_at, place_of};
+use crate::node::{Node, Nodes};
+use indexmap::IndexMap;
+use snow_base::{Header, Id};
+use std::alloc::Global;
+use std::marker::Model;
+
+/// Want of memory. It hands the load back that was to be inserted.
+#[derive(Debug, Drop)]
+pub struct TreeFull<T> {
+    pub load: T,
+}
+
+/// The last accepted block and the pending ones above it in order of issue, each with a load, by
+/// identifier. Looking up a block, its parent or its children walks nothing. Contracts see the last
+/// accepted block with its height, the pending blocks with their loads, and those that the last
+/// acceptance rejected.
+#[derive(Debug, Drop)]
+pub struct Tree<T> {
+    last: Id,
+    height: u64,
+    children: Children,
+    nodes: Nodes<T>,
+    rejected: Vec<Id>,
+    alloc: Global,
+}
+
+impl<T> Model for Tree<T> {
+    ghost use Rattle.std.specs.Prelude.{map, vec_capacity};
+    ghost use Rattle.snow_tree.specs.Held.{Held};
+    ghost use Rattle.snow_tree.specs.Nodes.{entry_of, IsKept};
+
+    ghost Value = { Held T };
+
+    ghost view = { λ a. record {
+      last = a.last;
+      height = a.height;
+      pending = map entry_of a.nodes.entries;
+      rejected = a.rejected.items;
+    } };
+
+    ghost invariant = { λ a. IsKept a.last a.children a.nodes.entries (vec_capacity a.rejected) };
+}
+
+impl<T: Drop> Tree<T> {
+    ghost use Rattle.std.specs.Prelude.{reverse};
+    ghost use Rattle.std.specs.Borrow.{sem};
+    ghost use Rattle.std.specs.Option.{option_copied_mut};
+    ghost use Rattle.snow_base.specs.declared.header.Header.{Header};
+    ghost use Rattle.snow_plain.specs.Grown.{IsGrown};
+    ghost use Rattle.snow_tree.specs.Lending.{lends_load};
+
+    /// Nothing is pending above this block. It takes no memory.
+    pub fn new(alloc: Global, last: Id, height: u64) -> Self
+        ensures { result ≡ begun last height }
+    {
+        Tree {
+            last,
+            height,
+            children: Children::new(alloc),
+            nodes: IndexMap::new(alloc),
+            rejected: Vec::new(alloc),
+            alloc,
+        }
+    }
+
+    /// A block is issued, with a load. After want of memory all is as before, and the load comes back.
+    pub fn insert(
+        &mut self,
+        id: Id,
+        parent: Id,
+        height: u64,
+        load: T,
+    ) -> Result<(), TreeFull<T>>
+        requires unknown { is_on (self.old).last (blocks_in (self.old).pending) id ≡ false }
+        requires follows { is_on (self.old).last (blocks_in (self.old).pending) parent ≡ true }
+        ensures ok { let block : Header = record { id = id; parent = parent; height = height } in
+            OnOk result (self.new ≡ inserted self.old block load) }
+        ensures err { OnErr result (self.new ≡ self.old) }
+        ensures load { IfErr result (λ full. full.load ≡ load) }
+    {
+        let block = Header { id, parent, height };
+        let room = make_room(
+            &mut self.children,
+            &mut self.nodes,
+            &mut self.rejected,
+            &self.last,
+            &block,
+        );
+        if room.is_err() {
+            return Err(TreeFull { load });
+        }
+        let node = Node {
+            parent,
+            height,
+            children: Children::new(self.alloc),
+            is_rejected: false,
+            load,
+        };
+        append(&mut self.nodes, Key { id }, node);
+        self.rejected.clear();
+        Ok(())
+    }
+
+    /// Takes the block back that was issued last, and gives its load; nothing where none is pending. It
+    /// takes no memory.
+    pub fn take_back(&mut self) -> Option<T>
+        ensures load { result ≡ option_map (λ e. e.load) (slice_get (self.old).pending (length (self.old).pending - 1)) }
+        ensures tree { self.new ≡ taken_back self.old }
+    {
+        let (_, node) = self.nodes.pop()?;
+        unlink(&mut self.children, &mut self.nodes, &self.last, &node.parent);
+        Some(node.load)
+    }
+
+    /// The last accepted block. Each pending one came after its parent.
+    pub fn last(&self) -> Id
+        ensures last { result ≡ (self.now).last }
+        ensures grown { IsGrown (self.now).last (reverse (blocks_in (self.now).pending)) }
+    {
+        self.last
+    }
+
+    /// Its height.
+    pub fn last_height(&self) -> u64
+        ensures { result ≡ (self.now).height }
+    {
+        self.height
+    }
+
+    /// How many blocks are pending.
+    pub fn len(&self) -> usize
+        ensures { result ≡ length (self.now).pending }
+    {
+        self.nodes.len()
+    }
+
+    /// The block at a place in order of issue, and nothing past the last.
+    pub fn at(&self, place: usize) -> Option<Id>
+        ensures { result ≡ option_map (λ e. e.block.id) (slice_get (self.now).pending place) }
+    {
+        match self.nodes.get_index(place) {
+            Some((key, _)) => Some(key.id),
+            None => None,
+        }
+    }
+
+    /// What the block at a place says of itself.
+    pub fn block(&self, place: usize) -> Option<Header>
+        ensures { result ≡ option_map (λ e. e.block) (slice_get (self.now).pending place) }
+    {
+        block_at(&self.nodes, place)
+    }
+
+    /// What a pending block says of itself, and nothing for any other.
+    pub fn header_of(&self, id: &Id) -> Option<Header>
+        ensures { result ≡ option_map (λ e. e.block) (entry_in (self.now).pending id.now) }
+    {
+        match self.nodes.get(&Key { id: *id }) {
+            Some(node) => Some(Header {
+                id: *id,
+                parent: node.parent,
+                height: node.height,
+            }),
+            None => None,
+        }
+    }
+
+    /// Where a block stands in order of issue, and nothing where it isn't pending.
+    pub fn place_of(&self, id: &Id) -> Option<usize>
+        ensures place { result ≡ place_in (self.now).pending id.now }
+        ensures pending { is_some result ≡ has_block (blocks_in (self.now).pending) id.now }
+    {
+        place_of(&self.nodes, id)
+    }
+
+    /// The children of a block in order of issue; none where it isn't on the board or has none.
+    pub fn child_ids(&self, id: &Id) -> &[Id]
+        ensures { result.now ≡ children_of (blocks_in (self.now).pending) id.now }
+    {
+        if self.last == *id {
+            return self.children.list();
+        }
+        match self.nodes.get(&Key { id: *id }) {
+            Some(node) => node.children.list(),
+            None => &[],
+        }
+    }
+
+    /// The load at a place.
+    pub fn load(&self, place: usize) -> Option<&T>
+        ensures { option_copied result ≡ option_map (λ e. e.load) (slice_get (self.now).pending place) }
+    {
+        match self.nodes.get_index(place) {
+            Some((_, node)) => Some(&node.load),
+            None => None,
+        }
+    }
+
+    /// The load at a place, to write.
+    pub fn load_mut(&mut self, place: usize) -> Option<&mut T>
+        ensures* writes_back { sem 𝓛 (lends_load T.row self.entry place result) }
+        ensures value { option_copied_mut result ≡ option_map (λ e. e.load) (slice_get (self.old).pending place) }
+    {
+        match self.nodes.get_index_mut(place) {
+            Some(node) => Some(&mut node.load),
+            None => None,
+        }
+    }
+
+    /// The child of the last accepted block that a pending block is, or from which it descends, and
+    /// nothing where the block isn't pending. It walks up the block's line.
+    pub fn ancestor(&self, id: &Id) -> Option<Id>
+        ensures ancestor { result ≡ ancestor_in self.now id.now }
+        ensures pending { is_some result ≡ has_block (blocks_in (self.now).pending) id.now }
+    {
+        ancestor(&self.nodes, &self.last, id)
+    }
+
+    /// A child of the last accepted block becomes the last accepted one, and its load is the answer.
+    /// All that don't descend from it go, with their loads. It takes no memory. It costs one pass over
+    /// the pending blocks, with a look-up for each; where the child is the only one, no block is looked
+    /// at.
+    pub fn promote(&mut self, child: &Id) -> T
+        requires child { option_map (λ e. e.block.parent) (entry_in (self.old).pending child.now) ≡ Some (self.old).last }
+        ensures load { IfSome (entry_in (self.old).pending child.now) (λ e. result ≡ e.load) }
+        ensures tree { IfSome (entry_in (self.old).pending child.now) (λ e. self.new ≡ promoted self.old e.block) }
+    {
+        self.rejected.clear();
+        let is_alone = self.children.list().len() == 1;
+        let node = take_accepted(
+            &mut self.nodes,
+            &self.last,
+            child,
+            is_alone,
+            &mut self.rejected,
+        );
+        let node = node.unwrap();
+        let Node {
+            height,
+            children,
+            load,
+            ..
+        } = node;
+        self.last = *child;
+        self.height = height;
+        self.children = children;
+        load
+    }
+
+    /// The blocks that the last call of `promote` rejected, in order of issue; none after an issue.
+    pub fn rejected(&self) -> &[Id]
+        ensures { result.now ≡ (self.now).rejected }
+    {
+        self.rejected.as_slice()
+    }
+}
