@@ -1,0 +1,4 @@
+mod Chained
+pub mod Examples
+mod Ordered
+mod Seen

@@ -1,0 +1,4 @@
+pub mod Serving
+pub mod Chain
+pub mod Answer
+pub mod Order

@@ -1,0 +1,103 @@
+ghost use Rattle.std.specs.Prelude.{◌≡◌, false, IfOk, OnOk, OnErr};
+ghost use Rattle.std.specs.Option.{option_copied};
+ghost use Rattle.snow_getter.specs.Serving.{serving_from, is_pending, is_accepted, last_accepted, held, after_issued, after_accepted, after_rejected};
+
+use crate::pending::Pending;
+use crate::served::Served;
+use snow_base::{Bytes, Id};
+use snow_recent::Recent;
+use std::alloc::{AllocError, Global};
+use std::marker::Model;
+
+// How many accepted blocks are kept.
+const MOST_ACCEPTED: usize = 4_096;
+
+/// What a node serves to its peers. Contracts see the first identifier, whose block isn't served, the
+/// pending blocks in order of issue, and the last 4,096 accepted ones, the latest last.
+///
+/// A block's bytes are held once, and it is found by its identifier.
+#[derive(Drop)]
+pub struct Getter {
+    pub(crate) alloc: Global,
+    first: Id,
+    pending: Pending,
+    accepted: Recent<Served, MOST_ACCEPTED>,
+}
+
+impl Model for Getter {
+    ghost use Rattle.snow_getter.specs.Serving.{Serving};
+
+    ghost Value = { Serving };
+
+    ghost view = { λ a. record { first = a.first; pending = a.pending; accepted = a.accepted } };
+}
+
+impl Getter {
+    /// What a node serves that begins to run above its last accepted block: nothing yet. It makes room
+    /// for all 4,096 accepted blocks.
+    pub fn begin(alloc: Global, first: Id) -> Result<Getter, AllocError>
+        ensures { IfOk result (λ made. made ≡ serving_from first) }
+    {
+        let accepted = Recent::new(alloc)?;
+        Ok(Getter {
+            alloc,
+            first,
+            pending: Pending::new(alloc),
+            accepted,
+        })
+    }
+
+    /// A block that isn't pending is issued. After want of memory all is as before.
+    pub fn issued(&mut self, id: Id, parent: Id, bytes: Bytes) -> Result<(), AllocError>
+        requires { is_pending self.old id ≡ false }
+        ensures ok { OnOk result (self.new ≡ after_issued self.old (record { id = id; parent = parent; bytes = bytes })) }
+        ensures err { OnErr result (self.new ≡ self.old) }
+    {
+        self.pending.push(Served { id, parent, bytes })
+    }
+
+    /// A pending block is accepted: from now on it is one of the accepted blocks, of which the oldest
+    /// is forgotten where 4,096 are there. One that isn't pending changes nothing. It takes no memory.
+    pub fn accepted(&mut self, id: &Id)
+        ensures { self.new ≡ after_accepted self.old id.now }
+    {
+        if let Some(block) = self.pending.take(id) {
+            self.accepted.push(block);
+        }
+    }
+
+    /// A pending block is rejected, and served no more. One that isn't pending changes nothing. It
+    /// takes no memory.
+    pub fn rejected(&mut self, id: &Id)
+        ensures { self.new ≡ after_rejected self.old id.now }
+    {
+        let _rejected = self.pending.take(id);
+    }
+
+    // The identifier that was accepted last.
+    pub(crate) fn last(&self) -> Id
+        ensures { result ≡ last_accepted self.now }
+    {
+        match self.accepted.newest() {
+            Some(block) => block.id,
+            None => self.first,
+        }
+    }
+
+    // The block that is served for an identifier.
+    pub(crate) fn held(&self, id: &Id) -> Option<&Served>
+        ensures { option_copied result ≡ held self.now id.now }
+    {
+        match self.pending.block(id) {
+            Some(block) => Some(block),
+            None => self.accepted.latest(id),
+        }
+    }
+
+    // Whether an identifier is held accepted.
+    pub(crate) fn is_accepted(&self, id: &Id) -> bool
+        ensures { result ≡ is_accepted self.now id.now }
+    {
+        self.first == *id || self.accepted.holds(id)
+    }
+}

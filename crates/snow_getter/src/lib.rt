@@ -1,0 +1,10 @@
+//! What a node serves to its peers, and its answers to their questions.
+#![tactic(auto)]
+
+mod answering;
+mod getter;
+mod pending;
+mod served;
+
+pub use getter::Getter;
+pub use served::Served;

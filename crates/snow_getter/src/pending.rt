@@ -1,0 +1,88 @@
+ghost use Rattle.std.specs.Prelude.{◌≡◌, [], ◌∷◌, ◌++◌, false, find, is_some, OnOk, OnErr};
+ghost use Rattle.std.specs.Option.{option_copied};
+ghost use Rattle.snow_getter.specs.Serving.{is_block, without};
+
+use crate::served::Served;
+use snow_base::Id;
+use std::alloc::{AllocError, Global};
+use std::collections::BTreeMap;
+use std::marker::Model;
+
+/// A pending block, with the number of its issue.
+#[derive(Drop)]
+pub(crate) struct Issued {
+    number: u64,
+    block: Served,
+}
+
+/// The pending blocks, found by identifier. Contracts see the list of them in order of issue, which
+/// their numbers keep. Identifiers of senders' choice cost no more than any others.
+#[derive(Drop)]
+pub(crate) struct Pending {
+    blocks: BTreeMap<Id, Issued>,
+    next: u64,
+}
+
+impl Model for Pending {
+    ghost use Rattle.std.specs.Prelude.{List};
+    ghost use Rattle.snow_getter.specs.declared.served.Served.{Served};
+    ghost use Rattle.snow_getter.specs.Order.{issued_before, AreIssued};
+
+    ghost Value = { List Served };
+
+    ghost view = { λ a. issued_before a.next a.blocks.entries };
+
+    ghost invariant = { λ a. AreIssued a.next a.blocks.entries };
+}
+
+impl Pending {
+    /// No block. It takes no memory.
+    pub(crate) fn new(alloc: Global) -> Self
+        ensures { result ≡ [] }
+    {
+        Pending {
+            blocks: BTreeMap::new(alloc),
+            next: 0,
+        }
+    }
+
+    /// The block of an identifier.
+    pub(crate) fn block(&self, id: &Id) -> Option<&Served>
+        ensures { option_copied result ≡ find (is_block id.now) self.now }
+    {
+        // Identifiers rise, so no other block has this one.
+        let _rising = self.blocks.len();
+        match self.blocks.get(id) {
+            Some(issued) => Some(&issued.block),
+            None => None,
+        }
+    }
+
+    /// Appends a block that isn't there. After want of memory all is as before.
+    pub(crate) fn push(&mut self, block: Served) -> Result<(), AllocError>
+        requires { is_some (find (is_block block.id) self.old) ≡ false }
+        ensures ok { OnOk result (self.new ≡ self.old ++ block ∷ []) }
+        ensures err { OnErr result (self.new ≡ self.old) }
+    {
+        // Numbers never come again, and there are more than a node lives to use.
+        if self.next == u64::MAX {
+            return Err(AllocError);
+        }
+        let number = self.next;
+        self.blocks.insert(block.id, Issued { number, block })?;
+        self.next += 1;
+        Ok(())
+    }
+
+    /// Takes the block of an identifier out. It takes no memory.
+    pub(crate) fn take(&mut self, id: &Id) -> Option<Served>
+        ensures taken { result ≡ find (is_block id.now) self.old }
+        ensures left { self.new ≡ without id.now self.old }
+    {
+        let _rising = self.blocks.len();
+        match self.blocks.remove(id) {
+            Some(issued) => Some(issued.block),
+            None => None,
+        }
+    }
+}

@@ -1,0 +1,21 @@
+use snow_base::{Bytes, Id};
+use snow_recent::Named;
+
+/// A block that is served: one that is pending, or that was accepted since the node began to run.
+#[derive(Drop)]
+pub struct Served {
+    /// The block.
+    pub id: Id,
+    /// Its parent.
+    pub parent: Id,
+    /// Its bytes.
+    pub bytes: Bytes,
+}
+
+impl Named for Served {
+    ghost id = { λ b. b.id };
+
+    fn id(&self) -> Id {
+        self.id
+    }
+}

@@ -1,0 +1,103 @@
+-- What the index finds is the latest entry.
+use Rattle.std.proofs.Common.{◌≡◌, ℕ, zero, suc, ◌<◌, ◌≤◌, Bool, List, [], ◌∷◌, length, map, get_or, reverse, Some, None, Ok, Err, find, refl, sym, ap, ◌∙◌, arith, inl, inr, subst}
+use Rattle.std.specs.List.{slice_get}
+use Rattle.std.specs.Option.{option_or}
+use Rattle.std.specs.Str.{bytes_eq}
+use Rattle.std.proofs.lemmas.Bool.{cond-true, cond-false, false_from_ne_true}
+use Rattle.std.proofs.lemmas.List.{reverse-append, get_or-map, length-map}
+use Rattle.std.proofs.lemmas.List.Folds.{find-append}
+use Rattle.std.proofs.lemmas.Map.Lookups.{exact_bytes}
+use Rattle.std.proofs.lemmas.Option.{slice_get-get_or}
+use Rattle.std.proofs.lemmas.Slice.Eq.{bytes_eq-Decides}
+use Rattle.snow_recent.specs.Recent.{latest}
+use Rattle.snow_recent.specs.Index.{id_at, id_of, place_of, IsPlaceOf, HasLatest, IsIndex}
+use Rattle.snow_recent.proofs.Filed.{one_place, nowhere}
+
+-- ---- the latest entry of a list
+
+abbrev has_id : {T : Type 0} (name : T → List ℕ) → List ℕ → T → Bool
+has_id name key e = bytes_eq (name e) key
+
+-- a first entry comes last in turn
+behind_first : {T : Type 0} (name : T → List ℕ) (key : List ℕ) (e : T) (entries : List T) → latest name (e ∷ entries) key ≡ option_or (latest name entries key) (find (has_id name key) (e ∷ []))
+behind_first name key e entries = ap (find (has_id name key)) (reverse-append (e ∷ []) entries) ∙ find-append (has_id name key) (reverse entries) (e ∷ [])
+
+is_own : {T : Type 0} (name : T → List ℕ) (key : List ℕ) (e : T) → name e ≡ key → find (has_id name key) (e ∷ []) ≡ Some e
+is_own name key e same = cond-true _ _ _ ((bytes_eq-Decides (name e) key).1 same)
+
+is_other : {T : Type 0} (name : T → List ℕ) (key : List ℕ) (e : T) → (name e ≡ key → ⊥) → find (has_id name key) (e ∷ []) ≡ None
+is_other name key e other = cond-false _ _ _ (false_from_ne_true _ (λ yes. other ((bytes_eq-Decides (name e) key).0 yes)))
+
+-- there is none where no place has the identifier
+none_latest : {T : Type 0} (name : T → List ℕ) (key : List ℕ) (entries : List T) → ((k : ℕ) → k < length entries → id_at name entries k ≡ key → ⊥) → latest name entries key ≡ None
+none_latest name key [] none = refl
+none_latest name key (e ∷ entries) none =
+    behind_first name key e entries
+    ∙ ap (λ o. option_or o (find (has_id name key) (e ∷ []))) (none_latest name key entries (λ k h. none (suc k) (omega arith)))
+    ∙ is_other name key e (none 0 (omega arith))
+
+-- and else it stands at the last such place
+last_latest : {T : Type 0} (name : T → List ℕ) (key : List ℕ) (entries : List T) (k : ℕ) → k < length entries → id_at name entries k ≡ key
+    → ((j : ℕ) → k < j → j < length entries → id_at name entries j ≡ key → ⊥) → latest name entries key ≡ slice_get entries k
+last_latest name key [] k h is last = absurd (omega arith)
+last_latest name key (e ∷ entries) zero h is last =
+    behind_first name key e entries
+    ∙ ap (λ o. option_or o (find (has_id name key) (e ∷ []))) (none_latest name key entries (λ k within. last (suc k) (omega arith) (omega arith)))
+    ∙ is_own name key e is
+last_latest name key (e ∷ entries) (suc k) h is last =
+    let there : slice_get entries k ≡ Some (get_or entries k e) = slice_get-get_or entries k e (omega arith) in
+    behind_first name key e entries
+    ∙ ap (λ o. option_or o (find (has_id name key) (e ∷ []))) (last_latest name key entries k (omega arith) is (λ j after within. last (suc j) (omega arith) (omega arith)) ∙ there)
+    ∙ sym there
+
+-- ---- by the index
+
+-- where the latest place of an identifier stands
+place_there : (id : ℕ → List ℕ) (places : List ℕ) (place : ℕ) → HasLatest id places place
+    → (i : ℕ) × (i < length places) × (id (get_or places i 0) ≡ id place) × (place ≤ get_or places i 0)
+place_there id [] place has = absurd has
+place_there id (p ∷ places) place has =
+    elim has [
+      | inl here ↦ (0, omega arith, here.0, here.1)
+      | inr there ↦ let rest = place_there id places place there in (suc rest.0, omega arith, rest.2, rest.3)
+    ]
+
+-- a place of the index that has the identifier has its latest entry
+pub found_latest : {T : Type 0} (name : T → List ℕ) (entries : List T) (places : List ℕ) (key : List ℕ) (at : ℕ) → IsIndex name entries places → at < length places
+    → id_at name entries (get_or places at 0) ≡ key → latest name entries key ≡ slice_get entries (get_or places at 0)
+found_latest name entries places key at index h is =
+    last_latest name key entries (get_or places at 0) (index.within at 0 h) is
+    (λ j after within same.
+    let there = place_there (id_at name entries) places j (index.latest j within) in
+    let one : there.0 ≡ at = one_place (id_at name entries) places there.0 at 0 index.rising there.1 h (there.2 ∙ same ∙ sym is) in
+    let early : j ≤ get_or places at 0 = subst (λ i. j ≤ get_or places i 0) one there.3 in
+    omega arith)
+
+-- and where none has it, there is none
+pub missing_latest : {T : Type 0} (name : T → List ℕ) (entries : List T) (places : List ℕ) (key : List ℕ) → IsIndex name entries places
+    → ((i : ℕ) → i < length places → id_at name entries (get_or places i 0) ≡ key → ⊥) → latest name entries key ≡ None
+missing_latest name entries places key index none =
+    none_latest name key entries
+    (λ k within same. let there = place_there (id_at name entries) places k (index.latest k within) in none there.0 there.1 (there.2 ∙ same))
+
+-- ---- by the numbers
+
+-- the number that a search finds is that of the latest entry
+pub found_number : {T : Type 0} (name : T → List ℕ) (entries : List T) (first : ℕ) (numbers : List ℕ) (key : List ℕ) (at n : ℕ) → IsIndex name entries (map (place_of first) numbers)
+    → IsPlaceOf (id_of name entries first) numbers key (Ok at) → n ≡ get_or numbers at n → latest name entries key ≡ slice_get entries (place_of first n)
+found_number name entries first numbers key at n index place is =
+    let there : get_or (map (place_of first) numbers) at 0 ≡ place_of first n =
+    get_or-map (place_of first) numbers at n 0 place.0 ∙ ap (place_of first) (sym is) in
+    let same : id_of name entries first (get_or numbers at n) ≡ key = exact_bytes _ _ (place.1 n) in
+    found_latest name entries (map (place_of first) numbers) key at index (omega (arith, length-map numbers (place_of first), place.0))
+    (ap (id_at name entries) there ∙ ap (id_of name entries first) is ∙ same)
+    ∙ ap (slice_get entries) there
+
+-- where it finds none, there is no entry
+pub missing_number : {T : Type 0} (name : T → List ℕ) (entries : List T) (first : ℕ) (numbers : List ℕ) (key : List ℕ) (at : ℕ) → IsIndex name entries (map (place_of first) numbers)
+    → IsPlaceOf (id_of name entries first) numbers key (Err at) → latest name entries key ≡ None
+missing_number name entries first numbers key at index place =
+    missing_latest name entries (map (place_of first) numbers) key index
+    (λ i h same.
+    let within : i < length numbers = omega (arith, length-map numbers (place_of first)) in
+    nowhere (id_of name entries first) numbers key at i 0 place within (ap (id_at name entries) (sym (get_or-map (place_of first) numbers i 0 0 within)) ∙ same))

@@ -1,0 +1,6 @@
+mod Appended
+pub mod Examples
+mod Filed
+mod Forgotten
+mod Latest
+mod Newest

@@ -1,0 +1,12 @@
+//! The last entries that came, with the latest one of an identifier found by an index.
+#![tactic(auto)]
+
+mod index;
+mod named;
+mod recent;
+
+pub use named::Named;
+pub use recent::Recent;
+
+#[cfg(test)]
+mod tests;

@@ -1,0 +1,117 @@
+ghost use Rattle.std.specs.Prelude.{◌≡◌, ◌<◌, ◌≤◌, ◌^◌, ◌∷◌, ◌++◌, [], None, IfOk, length, drop};
+ghost use Rattle.std.specs.List.{last_or};
+ghost use Rattle.std.specs.Option.{option_copied, is_some};
+ghost use Rattle.std.specs.VecDeque.{deque_len, deque_capacity};
+ghost use Rattle.snow_recent.specs.Recent.{with_latest, latest};
+
+use crate::index;
+use crate::named::Named;
+use snow_base::Id;
+use std::alloc::{AllocError, Global};
+use std::collections::VecDeque;
+use std::marker::Model;
+
+/// The last `MOST` entries that came. Contracts see the list of them, the latest last.
+///
+/// An index by identifier finds the latest entry of one; identifiers of senders' choice cost no more
+/// than any others. All room is made with the list, so that no other call takes memory.
+#[derive(Drop)]
+pub struct Recent<T: Named, const MOST: usize> {
+    entries: VecDeque<T>,
+    first: u32,
+    order: Vec<u32>,
+}
+
+impl<T: Named, const MOST: usize> Model for Recent<T, MOST> {
+    ghost use Rattle.std.specs.Prelude.{List, vec_capacity};
+    ghost use Rattle.std.specs.VecDeque.{deque_capacity};
+    ghost use Rattle.snow_recent.specs.Index.{IsRecent};
+
+    ghost Value = { List T };
+
+    ghost view = { λ a. a.entries.items };
+
+    ghost invariant = { λ a. IsRecent T.id MOST a.entries.items a.first a.order.items (deque_capacity a.entries) (vec_capacity a.order) };
+}
+
+impl<T: Named, const MOST: usize> Recent<T, MOST> {
+    /// No entry, and room for all that there will ever be.
+    pub fn new(alloc: Global) -> Result<Self, AllocError>
+        requires some { 0 < MOST }
+        requires fits { MOST < 2 ^ 32 }
+        ensures { IfOk result (λ made. made ≡ []) }
+    {
+        let entries = VecDeque::with_capacity(alloc, MOST)?;
+        let order = Vec::with_capacity(alloc, MOST)?;
+        Ok(Recent {
+            entries,
+            first: 0,
+            order,
+        })
+    }
+
+    /// Appends an entry. Where `MOST` entries are there, the oldest one is forgotten. It takes no
+    /// memory.
+    pub fn push(&mut self, entry: T)
+        ensures { self.new ≡ with_latest MOST self.old entry }
+    {
+        if self.len() == MOST {
+            self.forget_oldest();
+        }
+        self.append(entry);
+    }
+
+    /// How many entries there are: at most `MOST`.
+    pub fn len(&self) -> usize
+        ensures len { result ≡ length self.now }
+        ensures most { result ≤ MOST }
+        ensures some { 0 < MOST }
+        ensures fits { MOST < 2 ^ 32 }
+    {
+        self.entries.len()
+    }
+
+    /// The latest entry of an identifier.
+    pub fn latest(&self, id: &Id) -> Option<&T>
+        ensures { option_copied result ≡ latest T.id self.now id.now }
+    {
+        match index::place(&self.entries, self.first, self.order.as_slice(), id) {
+            Ok(at) => index::entry_of(&self.entries, self.first, self.order[at]),
+            Err(_) => None,
+        }
+    }
+
+    /// The entry that came last.
+    pub fn newest(&self) -> Option<&T>
+        ensures { option_copied result ≡ last_or None self.now }
+    {
+        index::entry_at(&self.entries, self.entries.len().saturating_sub(1))
+    }
+
+    /// Whether there is an entry of an identifier.
+    pub fn holds(&self, id: &Id) -> bool
+        ensures { result ≡ is_some (latest T.id self.now id.now) }
+    {
+        self.latest(id).is_some()
+    }
+
+    // Forgets the oldest entry.
+    fn forget_oldest(&mut self)
+        requires { 0 < length self.old }
+        ensures { self.new ≡ drop 1 self.old }
+    {
+        index::take_oldest(&self.entries, self.first, &mut self.order);
+        let _oldest = self.entries.pop_front();
+        self.first = self.first.wrapping_add(1);
+    }
+
+    // Appends an entry to a list that isn't full.
+    fn append(&mut self, entry: T)
+        requires { length self.old < MOST }
+        ensures { self.new ≡ self.old ++ entry ∷ [] }
+    {
+        let number = self.first.wrapping_add(self.entries.len() as u32);
+        self.entries.push_back_reserved(entry);
+        index::file(&self.entries, self.first, &mut self.order, number);
+    }
+}
