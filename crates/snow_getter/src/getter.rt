@@ -74,6 +74,13 @@ impl Getter {
         let _rejected = self.pending.take(id);
     }
 
+    /// Whether a block is pending.
+    pub fn is_pending(&self, id: &Id) -> bool
+        ensures { result ≡ is_pending self.now id.now }
+    {
+        self.pending.block(id).is_some()
+    }
+
     // The identifier that was accepted last.
     pub(crate) fn last(&self) -> Id
         ensures { result ≡ last_accepted self.now }

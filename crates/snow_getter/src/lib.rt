@@ -8,3 +8,6 @@ mod served;
 
 pub use getter::Getter;
 pub use served::Served;
+
+#[cfg(test)]
+mod tests;

@@ -1,15 +1,16 @@
 use crate::{Named, Recent};
 use snow_base::Id;
+use std::alloc::{AllocError, Global};
 use std::test::Fail;
 
 // An entry with its identifier, and what tells it from others of the same.
-#[derive(Clone, Copy, Debug, PartialEq, Eq, Drop)]
-struct Entry {
+#[derive(Drop)]
+struct Marked {
     id: Id,
     mark: u8,
 }
 
-impl Named for Entry {
+impl Named for Marked {
     ghost id = { λ e. e.id };
 
     fn id(&self) -> Id {
@@ -24,42 +25,48 @@ fn named(number: u8) -> Id {
     Id::from_bytes(bytes)
 }
 
-fn entry(number: u8, mark: u8) -> Entry {
-    Entry {
-        id: named(number),
-        mark,
-    }
+fn enter(recent: &mut Recent<Marked, 3>, number: u8, mark: u8) {
+    let id = named(number);
+    recent.push(Marked { id, mark });
 }
 
 // The mark of the latest entry of an identifier, or 0.
-fn mark_of(recent: &Recent<Entry, 3>, number: u8) -> u8 {
+fn latest(recent: &Recent<Marked, 3>, number: u8) -> u8 {
     match recent.latest(&named(number)) {
         Some(entry) => entry.mark,
         None => 0,
     }
 }
 
+// The mark of the entry that came last, or 0.
+fn newest(recent: &Recent<Marked, 3>) -> u8 {
+    match recent.newest() {
+        Some(entry) => entry.mark,
+        None => 0,
+    }
+}
+
+fn told(alloc: Global) -> Result<[u8; 6], AllocError> {
+    let mut recent = Recent::new(alloc)?;
+    enter(&mut recent, 5, 1);
+    enter(&mut recent, 4, 2);
+    enter(&mut recent, 5, 3);
+    let of_three = [latest(&recent, 5), latest(&recent, 4)];
+    enter(&mut recent, 6, 4);
+    enter(&mut recent, 7, 5);
+    let of_five = [latest(&recent, 5), latest(&recent, 4), newest(&recent)];
+    Ok([
+        of_three[0],
+        of_three[1],
+        of_five[0],
+        of_five[1],
+        of_five[2],
+        recent.len() as u8,
+    ])
+}
+
 #[test]
 fn the_latest_entry_of_an_identifier_counts(rt: HostRuntime) -> Result<(), Fail> {
-    let mut recent = Recent::new(rt.alloc())?;
-    recent.push(entry(5, 1));
-    recent.push(entry(4, 2));
-    recent.push(entry(5, 3));
-    assert_eq!(rt;
-        (
-            mark_of(&recent, 5),
-            mark_of(&recent, 4),
-            mark_of(&recent, 6)
-        ),
-        (3, 2, 0)
-    );
-    recent.push(entry(6, 4));
-    assert_eq!(rt; (mark_of(&recent, 5), recent.len()), (3, 3));
-    recent.push(entry(9, 5));
-    recent.push(entry(8, 6));
-    assert_eq!(rt;
-        (recent.holds(&named(5)), recent.holds(&named(6))),
-        (false, true)
-    );
+    assert_eq!(rt; told(rt.alloc())?, [3, 2, 3, 0, 5, 3]);
     Ok(())
 }

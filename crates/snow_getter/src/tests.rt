@@ -1,0 +1,237 @@
+use crate::Getter;
+use snow_base::{Bytes, Id, Ids, NodeId};
+use snow_lines::{Line, Lines};
+use snow_wire::Event;
+use std::alloc::{AllocError, Global};
+use std::test::Fail;
+
+// The one line of an answer: a letter, the request, and a block, or how many blocks, identifiers or
+// bytes there are.
+type Told = (char, u32, u64);
+
+const NOTHING: Told = ('-', 0, 0);
+
+// The identifier that begins with the bytes of a number.
+fn named(number: u16) -> Id {
+    let mut bytes = [0; 32];
+    let [a, b] = number.to_be_bytes();
+    bytes[0] = a;
+    bytes[1] = b;
+    Id::from_bytes(bytes)
+}
+
+fn number_of(id: &Id) -> u64 {
+    let bytes = id.as_bytes();
+    u64::from(u16::from_be_bytes([bytes[0], bytes[1]]))
+}
+
+fn node() -> NodeId {
+    NodeId::from_bytes([2; 20])
+}
+
+fn told_of(line: &Line) -> Told {
+    match line {
+        Line::ToChits { number, last, .. } => ('c', *number, number_of(last)),
+        Line::ToFrontier { number, id, .. } => ('f', *number, number_of(id)),
+        Line::ToAccepted { number, ids, .. } => ('a', *number, ids.list().len() as u64),
+        Line::ToAncestors { number, blocks, .. } => ('n', *number, blocks.list().len() as u64),
+        Line::ToBlock { number, bytes, .. } => ('b', *number, bytes.list().len() as u64),
+        _ => ('?', 0, 0),
+    }
+}
+
+// What a node answers that prefers block 1.
+fn ask(alloc: Global, getter: &Getter, question: &Event) -> Result<Told, AllocError> {
+    let mut log = Lines::new(alloc);
+    getter.answer(named(1), question, &mut log)?;
+    match log.list() {
+        [] => Ok(NOTHING),
+        [line] => Ok(told_of(line)),
+        _ => Ok(('?', 1, 1)),
+    }
+}
+
+fn ask_block(alloc: Global, getter: &Getter, id: u16) -> Result<Told, AllocError> {
+    let question = Event::AskBlock {
+        node: node(),
+        request: 5,
+        id: named(id),
+    };
+    ask(alloc, getter, &question)
+}
+
+fn ask_ancestors(alloc: Global, getter: &Getter, id: u16) -> Result<Told, AllocError> {
+    let question = Event::AskAncestors {
+        node: node(),
+        request: 6,
+        id: named(id),
+    };
+    ask(alloc, getter, &question)
+}
+
+fn ask_accepted(alloc: Global, getter: &Getter, named_ones: &[u16]) -> Result<Told, AllocError> {
+    let mut ids = Ids::new(alloc);
+    for id in named_ones {
+        ids.push(named(*id))?;
+    }
+    let question = Event::AskAccepted {
+        node: node(),
+        request: 7,
+        ids,
+    };
+    ask(alloc, getter, &question)
+}
+
+// So many bytes.
+fn filled(alloc: Global, count: u32) -> Result<Bytes, AllocError> {
+    let mut bytes = Bytes::new(alloc);
+    for _ in 0..count {
+        bytes.push(9)?;
+    }
+    Ok(bytes)
+}
+
+// Issues a block with so many bytes on another. One that is pending isn't issued again.
+fn issue(
+    alloc: Global,
+    getter: &mut Getter,
+    (id, parent): (u16, u16),
+    count: u32,
+) -> Result<(), AllocError> {
+    let bytes = filled(alloc, count)?;
+    let (id, parent) = (named(id), named(parent));
+    if getter.is_pending(&id) {
+        return Ok(());
+    }
+    getter.issued(id, parent, bytes)
+}
+
+// Issues the blocks from one number to before another, each with so many bytes on the one before it.
+fn issue_all(
+    alloc: Global,
+    getter: &mut Getter,
+    (from, to): (u16, u16),
+    count: u32,
+) -> Result<(), AllocError> {
+    for id in from..to {
+        issue(alloc, getter, (id, id.wrapping_sub(1)), count)?;
+    }
+    Ok(())
+}
+
+// Issues and accepts them, each with one byte.
+fn accept_all(
+    alloc: Global,
+    getter: &mut Getter,
+    (from, to): (u16, u16),
+) -> Result<(), AllocError> {
+    for id in from..to {
+        issue(alloc, getter, (id, id.wrapping_sub(1)), 1)?;
+        getter.accepted(&named(id));
+    }
+    Ok(())
+}
+
+fn peers(alloc: Global, getter: &mut Getter) -> Result<[Told; 4], AllocError> {
+    issue(alloc, getter, (1, 0), 73)?;
+    let (node, request) = (node(), 8);
+    let preferred = ask(alloc, getter, &Event::AskQuery { node, request })?;
+    getter.accepted(&named(1));
+    let last = ask(alloc, getter, &Event::AskFrontier { node, request })?;
+    let accepted = ask_accepted(alloc, getter, &[0, 2, 1, 0])?;
+    Ok([preferred, last, accepted, ask_block(alloc, getter, 1)?])
+}
+
+#[test]
+fn peers_ask(rt: HostRuntime) -> Result<(), Fail> {
+    let mut getter = Getter::begin(rt.alloc(), named(0))?;
+    let told = peers(rt.alloc(), &mut getter)?;
+    assert_eq!(rt; told, [('c', 8, 0), ('f', 8, 1), ('a', 7, 2), ('b', 5, 73)]);
+    Ok(())
+}
+
+// What is told of a block without bytes while it is pending and once it was rejected, and of blocks
+// that never were issued.
+fn rejected(alloc: Global, getter: &mut Getter) -> Result<[Told; 4], AllocError> {
+    issue(alloc, getter, (1, 0), 0)?;
+    let pending = ask_block(alloc, getter, 1)?;
+    getter.rejected(&named(1));
+    let gone = ask_block(alloc, getter, 1)?;
+    let first = ask_block(alloc, getter, 0)?;
+    Ok([pending, gone, first, ask_ancestors(alloc, getter, 2)?])
+}
+
+#[test]
+fn what_is_not_served_has_no_answer(rt: HostRuntime) -> Result<(), Fail> {
+    let mut getter = Getter::begin(rt.alloc(), named(0))?;
+    let told = rejected(rt.alloc(), &mut getter)?;
+    assert_eq!(rt; told, [('b', 5, 0), NOTHING, NOTHING, NOTHING]);
+    Ok(())
+}
+
+// How many blocks come with the 64th and the 65th of a chain.
+fn many_blocks(alloc: Global, getter: &mut Getter) -> Result<[Told; 2], AllocError> {
+    issue_all(alloc, getter, (1, 66), 1)?;
+    let all = ask_ancestors(alloc, getter, 64)?;
+    Ok([all, ask_ancestors(alloc, getter, 65)?])
+}
+
+#[test]
+fn a_chain_has_at_most_64_blocks(rt: HostRuntime) -> Result<(), Fail> {
+    let mut getter = Getter::begin(rt.alloc(), named(0))?;
+    let told = many_blocks(rt.alloc(), &mut getter)?;
+    assert_eq!(rt; told, [('n', 6, 64), ('n', 6, 64)]);
+    Ok(())
+}
+
+// How many blocks come above eight with 524,288 bytes: with a block of one byte, and of none.
+fn many_bytes(alloc: Global, getter: &mut Getter) -> Result<[Told; 2], AllocError> {
+    issue_all(alloc, getter, (1, 9), 65_536)?;
+    issue(alloc, getter, (9, 8), 1)?;
+    issue(alloc, getter, (10, 8), 0)?;
+    let more = ask_ancestors(alloc, getter, 9)?;
+    Ok([more, ask_ancestors(alloc, getter, 10)?])
+}
+
+#[test]
+fn a_chain_has_at_most_524288_bytes(rt: HostRuntime) -> Result<(), Fail> {
+    let mut getter = Getter::begin(rt.alloc(), named(0))?;
+    let told = many_bytes(rt.alloc(), &mut getter)?;
+    assert_eq!(rt; told, [('n', 6, 8), ('n', 6, 9)]);
+    Ok(())
+}
+
+// What is told of the first of 4,096 accepted blocks, and of the first two of one more.
+fn many_accepted(alloc: Global, getter: &mut Getter) -> Result<[Told; 3], AllocError> {
+    accept_all(alloc, getter, (1, 4_097))?;
+    let first = ask_block(alloc, getter, 1)?;
+    accept_all(alloc, getter, (4_097, 4_098))?;
+    let gone = ask_block(alloc, getter, 1)?;
+    Ok([first, gone, ask_ancestors(alloc, getter, 2)?])
+}
+
+#[test]
+fn the_last_4096_accepted_blocks_are_served(rt: HostRuntime) -> Result<(), Fail> {
+    let mut getter = Getter::begin(rt.alloc(), named(0))?;
+    let told = many_accepted(rt.alloc(), &mut getter)?;
+    assert_eq!(rt; told, [('b', 5, 1), NOTHING, ('n', 6, 1)]);
+    Ok(())
+}
+
+// What is told of a block that was accepted with one byte, and issued again with five.
+fn again(alloc: Global, getter: &mut Getter) -> Result<[Told; 3], AllocError> {
+    accept_all(alloc, getter, (1, 3))?;
+    issue(alloc, getter, (1, 7), 5)?;
+    let pending = ask_block(alloc, getter, 1)?;
+    let accepted = ask_accepted(alloc, getter, &[1])?;
+    getter.rejected(&named(1));
+    Ok([pending, accepted, ask_block(alloc, getter, 1)?])
+}
+
+#[test]
+fn the_pending_block_comes_before_the_accepted_one(rt: HostRuntime) -> Result<(), Fail> {
+    let mut getter = Getter::begin(rt.alloc(), named(0))?;
+    let told = again(rt.alloc(), &mut getter)?;
+    assert_eq!(rt; told, [('b', 5, 5), ('a', 7, 1), ('b', 5, 1)]);
+    Ok(())
+}
