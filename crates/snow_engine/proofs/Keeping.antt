@@ -1,22 +1,18 @@
 -- What ties a node that runs is kept by each thing that it does.
-use Rattle.std.proofs.Common.{◌≡◌, ℕ, ◌-◌, ◌^◌, ◌+◌, ◌<◌, ◌≤◌, ◌==◌, Bool, true, false, not, ◌||◌, ◌&&◌, cond, nat_lt, min, List, [], ◌∷◌, ◌++◌, length, filter, fold, Option, Some, None, IfSome, is_some, bytes_eq, refl, sym, ap, ◌∙◌, subst, arith}
+use Rattle.std.proofs.Common.{◌≡◌, ℕ, ◌-◌, ◌^◌, ◌+◌, ◌<◌, ◌≤◌, ◌==◌, Bool, true, false, not, ◌||◌, ◌&&◌, cond, nat_lt, List, [], ◌∷◌, ◌++◌, Option, Some, None, IfSome, is_some, bytes_eq, refl, sym, ap, ◌∙◌, subst, arith}
 use Rattle.std.proofs.lemmas.Bool.{or_parts}
 use Rattle.std.proofs.lemmas.List.Folds.{list_any-append}
 use Rattle.std.proofs.lemmas.Bool.Decides.{nat_tests}
 use Rattle.std.specs.List.{list_any}
 use Rattle.snow_base.specs.Numbers.{next_number, last_after}
 use Rattle.snow_base.specs.declared.header.Header.{Header}
-use Rattle.snow_base.specs.declared.vote.Vote.{Vote}
-use Rattle.snow_base.specs.Votes.{total_count}
 use Rattle.snow_flake.specs.Parameters.{Parameters, AreGood}
 use Rattle.snow_sample.specs.declared.draws.Draw.{Draw}
 use Rattle.snow_plain.specs.declared.decision.Decision.{Decision}
 use Rattle.snow_plain.specs.Board.{Board, begin, height_of, issued}
-use Rattle.snow_plain.specs.Poll.{poll}
-use Rattle.snow_plain.specs.Reached.{MayIssue}
 use Rattle.snow_plain.proofs.Cases.{split_on, clash, differs_back}
 use Rattle.snow_chain.specs.Chain.{Held, begun as first_states, with_state}
-use Rattle.snow_poll.specs.Poll.{Poll, with_reply}
+use Rattle.snow_poll.specs.Poll.{Poll}
 use Rattle.snow_poll.specs.Table.{Table, no_polls, begun, voted, shortened, unfinished, answered, is_awaited_by, has_number as has_poll}
 use Rattle.snow_poll.specs.Closing.{is_closed}
 use Rattle.snow_issue.specs.declared.work.Get.{Get}

@@ -22,4 +22,6 @@ pub mod Issuing
 pub mod RunExamples
 pub mod Staged
 pub mod Preferred
+pub mod Supplying
+pub mod Undecided
 pub mod Remembering

@@ -1,5 +1,5 @@
 -- What each loop of a node that runs counts falls.
-use Rattle.std.proofs.Common.{◌≡◌, ℕ, zero, suc, ◌-◌, ◌+◌, ◌<◌, ◌≤◌, ◌==◌, Bool, true, false, not, cond, nat_lt, nat_le, ◌&&◌, List, [], ◌∷◌, ◌++◌, length, filter, fold, is_some, Option, Some, None, Result, Ok, Err, refl, sym, ap, ◌∙◌, subst, arith}
+use Rattle.std.proofs.Common.{◌≡◌, ℕ, zero, suc, ◌-◌, ◌+◌, ◌<◌, ◌≤◌, ◌==◌, Bool, true, false, not, cond, nat_lt, nat_le, List, [], ◌∷◌, length, filter, Option, Some, None, Result, Ok, Err, refl, sym, ap, ◌∙◌, subst, arith}
 use Rattle.std.proofs.lemmas.Bool.{and_parts}
 use Rattle.std.proofs.lemmas.Bool.Decides.{nat_tests}
 use Rattle.std.proofs.lemmas.List.{length-append}
@@ -12,11 +12,11 @@ use Rattle.snow_sample.specs.declared.sampling.SampleFault.{SampleFault}
 use Rattle.snow_sample.specs.declared.sampling.SampleFault.TheVariants as fault
 use Rattle.snow_sample.specs.Sampling.{sample_of}
 use Rattle.snow_plain.specs.declared.decision.Decision.{Decision}
-use Rattle.snow_plain.specs.Board.{Board, height_of, issued}
+use Rattle.snow_plain.specs.Board.{Board, height_of}
 use Rattle.snow_plain.specs.Preference.{is_preferred}
 use Rattle.snow_plain.specs.Poll.{poll}
 use Rattle.snow_plain.proofs.Cases.{split_on}
-use Rattle.snow_chain.specs.Chain.{Rules, next_on, with_state}
+use Rattle.snow_chain.specs.Chain.{Rules, next_on}
 use Rattle.snow_lines.specs.declared.line.Line.{Line}
 use Rattle.snow_lines.specs.declared.why.DropWhy.{DropWhy}
 use Rattle.snow_lines.specs.declared.why.DropWhy.TheVariants as why
@@ -25,19 +25,18 @@ use Rattle.snow_poll.specs.Closing.{is_closed}
 use Rattle.snow_poll.specs.Table.{finished, unfinished, voted}
 use Rattle.snow_issue.specs.Bubbling.{bubbled}
 use Rattle.snow_issue.specs.declared.work.Held.{Held}
-use Rattle.snow_issue.specs.declared.work.Waiting.{Waiting}
 use Rattle.snow_issue.specs.declared.work.Work.{Work}
 use Rattle.snow_issue.specs.declared.work.Work.TheVariants as work
 use Rattle.snow_issue.specs.Lists.{Lists, after_gone, after_forgotten}
 use Rattle.snow_issue.specs.Settling.{work_of, after}
 use Rattle.snow_engine.specs.declared.stop.EngineStop.{EngineStop}
-use Rattle.snow_engine.specs.Outcome.{Comes, quietly, going_on, then_comes, where_made}
-use Rattle.snow_engine.specs.Again.{again, all_made}
+use Rattle.snow_engine.specs.Outcome.{Comes, quietly, going_on, where_made}
+use Rattle.snow_engine.specs.Again.{again}
 use Rattle.snow_engine.specs.Running.{Running}
 use Rattle.snow_engine.specs.Placing.{opposed}
 use Rattle.snow_engine.specs.Querying.{queried, sampled, lacks_polls, one_repolled}
 use Rattle.snow_engine.specs.Closing.{all_gone, front_closed, one_closed, running_polls}
-use Rattle.snow_engine.specs.Settling.{issued_by, placed_by, readied, heard, done, worked, one_settled, left_to_do, asked_on_the_way}
+use Rattle.snow_engine.specs.Settling.{with_block, issued_by, placed_by, done, worked, one_settled, left_to_do, asked_on_the_way}
 use Rattle.snow_engine.proofs.Working.{amount, work_smaller}
 
 -- ---- what holds of what comes, if it doesn't stop
@@ -179,20 +178,20 @@ module _ (answer : Answer) (n : ℕ) where
       (λ p l. subst (λ (q : Lists). amount q ≤ n) (sym l.queue) h)))
       (λ t. rw t h)
 
-  issued_keeps : (node : Running) (block : Header) (state : Option (List ℕ)) → HasAtMost n node → AtOk (HasAtMost n) (issued_by answer node block state).1
-  issued_keeps node block None h = h
-  issued_keeps node block (Some state) h = asked_keeps block.id (record node { board = issued node.board block; chain = with_state node.chain block.id state }) h
+  issued_keeps : (node : Running) (block : Header) (bytes : List ℕ) (state : Option (List ℕ)) → HasAtMost n node → AtOk (HasAtMost n) (issued_by answer node block bytes state).1
+  issued_keeps node block bytes None h = h
+  issued_keeps node block bytes (Some state) h = asked_keeps block.id (with_block node block bytes state) h
 
-  placed_keeps : (node : Running) (block : Header) (state : Option (List ℕ)) (o : Option DropWhy) → HasAtMost n node → AtOk (HasAtMost n) (placed_by answer node block state o).1
-  placed_keeps node block state None h = issued_keeps node block state h
-  placed_keeps node block state (Some why.Parent) h = h
-  placed_keeps node block state (Some why.Full) h = h
-  placed_keeps node block state (Some why.Invalid) h = h
-  placed_keeps node block state (Some why.Old) h = h
+  placed_keeps : (node : Running) (block : Header) (bytes : List ℕ) (state : Option (List ℕ)) (o : Option DropWhy) → HasAtMost n node → AtOk (HasAtMost n) (placed_by answer node block bytes state o).1
+  placed_keeps node block bytes state None h = issued_keeps node block bytes state h
+  placed_keeps node block bytes state (Some why.Parent) h = h
+  placed_keeps node block bytes state (Some why.Full) h = h
+  placed_keeps node block bytes state (Some why.Invalid) h = h
+  placed_keeps node block bytes state (Some why.Old) h = h
 
   done_keeps : (rules : Rules) (node : Running) (w : Work) → HasAtMost n node → AtOk (HasAtMost n) (done rules answer node w).1
   done_keeps rules node (work.Hopeless w) h = h
-  done_keeps rules node (work.Ready w) h = placed_keeps node w.header (next_on rules node.chain w.header.parent w.bytes) (opposed node.board w.header (height_of node.board w.header.parent)) h
+  done_keeps rules node (work.Ready w) h = placed_keeps node w.header w.bytes (next_on rules node.chain w.header.parent w.bytes) (opposed node.board w.header (height_of node.board w.header.parent)) h
   done_keeps rules node (work.Vote reply) h =
       let after = record node { polls = voted node.polls reply.number reply.node (bubbled node.queue node.board reply.id) } in
       closed_keeps (suc (running_polls after)) after h

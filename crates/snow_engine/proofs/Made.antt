@@ -3,7 +3,7 @@ use Rattle.std.proofs.Common.{◌≡◌, ℕ, zero, suc, ◌<◌, Bool, true, fa
 use Rattle.snow_lines.specs.declared.line.Line.{Line}
 use Rattle.snow_engine.specs.declared.stop.EngineStop.{EngineStop}
 use Rattle.snow_engine.specs.declared.stop.EngineStop.TheVariants as stop
-use Rattle.snow_engine.specs.Outcome.{Comes, quietly, after_lines, going_on, then_comes, where_made}
+use Rattle.snow_engine.specs.Outcome.{Comes, after_lines, going_on, then_comes, where_made}
 use Rattle.snow_engine.specs.Again.{again, all_made}
 use Rattle.snow_engine.specs.Stepping.{Logs, LogsFront, StopsAs}
 use Rattle.snow_engine.proofs.Logs.{logs_then_front, logs_front_of_more}

@@ -1,12 +1,10 @@
 -- What is known of that which a queue remembers is kept by each thing that a node does.
-use Rattle.std.proofs.Common.{◌≡◌, ℕ, Bool, true, false, List, Option, Some, None, bytes_eq, refl, sym, ap, ◌∙◌, subst}
+use Rattle.std.proofs.Common.{◌≡◌, ℕ, List, Option, Some, None, bytes_eq, refl, sym, subst}
 use Rattle.snow_base.specs.declared.header.Header.{Header}
 use Rattle.snow_base.specs.declared.vote.Vote.{Vote}
 use Rattle.snow_plain.specs.Board.{Board, issued}
 use Rattle.snow_plain.specs.Poll.{poll}
 use Rattle.snow_plain.proofs.Cases.{split_on, same_id}
-use Rattle.snow_issue.specs.declared.work.Waiting.{Waiting}
-use Rattle.snow_issue.specs.declared.marks.Mark.{Mark}
 use Rattle.snow_issue.specs.declared.work.Work.{Work}
 use Rattle.snow_issue.specs.declared.work.Work.TheVariants as work
 use Rattle.snow_issue.specs.Known.{Seen, Knows, ForgetsChildren, NoneRipe, RestsAfter}

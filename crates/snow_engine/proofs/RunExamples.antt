@@ -1,5 +1,5 @@
 -- Worked examples of nodes that run, computed on the definitions.
-use Rattle.std.proofs.Common.{◌≡◌, ℕ, ◌+◌, true, false, List, [], ◌∷◌, ◌++◌, replicate, Option, Some, None, Result, Ok, Err, refl, ap, ◌∙◌}
+use Rattle.std.proofs.Common.{◌≡◌, ℕ, ◌+◌, true, false, List, [], ◌∷◌, ◌++◌, replicate, Option, Some, refl, ap, ◌∙◌}
 use Rattle.std.specs.FinMap.{empty}
 use Rattle.std.specs.Option.{option_and_then}
 use Rattle.snow_base.specs.declared.header.Header.{Header}
@@ -8,7 +8,6 @@ use Rattle.snow_base.specs.Votes.{added}
 use Rattle.snow_flake.specs.Parameters.{Parameters}
 use Rattle.snow_flake.specs.Rule.{by_preference}
 use Rattle.snow_sample.specs.declared.roster.Node.{Node as Member}
-use Rattle.snow_sample.specs.declared.draws.Draw.{Draw}
 use Rattle.snow_sample.specs.Words.{is_power}
 use Rattle.snow_sample.specs.Sampling.{drawn_from}
 use Rattle.snow_plain.specs.Conflict.{with_child, all_polled, chosen, decided_path}
@@ -18,12 +17,13 @@ use Rattle.snow_plain.specs.Preference.{path_from}
 use Rattle.snow_chain.specs.Chain.{Held, begun, next_on}
 use Rattle.snow_chain.specs.Plain.{header_of, plain_rules}
 use Rattle.snow_issue.specs.Lists as lists
+use Rattle.snow_getter.specs.Chain.{chain_within}
+use Rattle.snow_getter.specs.Serving.{serving_from}
 use Rattle.snow_issue.specs.Bubbling.{bubbled_in}
 use Rattle.snow_wire.specs.declared.event.Event.{Event}
 use Rattle.snow_wire.specs.declared.event.Event.TheVariants as event
 use Rattle.snow_lines.specs.declared.line.Line.{Line}
 use Rattle.snow_lines.specs.declared.line.Line.TheVariants as line
-use Rattle.snow_lines.specs.declared.why.DropWhy.TheVariants as drop
 use Rattle.snow_lines.specs.declared.why.QueryWhy.TheVariants as query
 use Rattle.snow_engine.specs.Outcome.{Comes, quietly, then_comes, where_made}
 use Rattle.snow_engine.specs.Again.{again}
@@ -51,6 +51,7 @@ abbrev node_of : Parameters → List Member → Running
 node_of p roster = record {
   board = begin p root 0;
   chain = begun root [];
+  served = serving_from root;
   roster = roster;
   polls = record { parameters = p; polls = [] };
   queue = lists.begun root;
@@ -84,7 +85,7 @@ first_block = record { id = id_of 1; parent = root; height = 1 }
 
 abbrev with_block : Running → List Event → Option (List ℕ) → Comes Running
 with_block node later state = then_comes (then_comes (then_comes (then_comes
-    (issued_by by_preference node first_block state)
+    (issued_by by_preference node first_block (bytes_of 1 255 1 1) state)
     (λ n. quietly (n, true)))
     (where_made (again 1 (one_settled plain_rules by_preference))))
     (rounded by_preference))
@@ -127,3 +128,49 @@ words_run_out =
     ap (λ (c : Comes Running). c.0) (the_block_comes (words (5 ∷ 7 ∷ []) ∷ []))
     ∙ ap (λ (o : Option (List ℕ)). (with_block five (words (5 ∷ 7 ∷ []) ∷ []) o).0) has_state
     ∙ words_run_out_with
+
+-- ---- peers ask
+
+abbrev ones : Parameters
+ones = record { k = 1; alpha_preference = 1; alpha_confidence = 1; beta = 1; repolls = 1 }
+
+abbrev one : Running
+one = record (node_of ones (record { id = peer 1; weight = 1 } ∷ [])) { words = 0 ∷ 0 ∷ [] }
+
+-- node 2 asks before the vote that accepts the block, and after it
+abbrev asking : List Event
+asking =
+    event.AskQuery (peer 2) 7
+    ∷ vote 1 1 1
+    ∷ event.AskFrontier (peer 2) 8
+    ∷ event.AskAccepted (peer 2) 9 (root ∷ id_of 2 ∷ id_of 1 ∷ [])
+    ∷ event.AskBlock (peer 2) 10 (id_of 1)
+    ∷ event.AskAncestors (peer 2) 11 (id_of 5)
+    ∷ event.AskAncestors (peer 2) 12 (id_of 1)
+    ∷ []
+
+abbrev answers : List Line
+answers =
+    line.Prefer (id_of 1)
+    ∷ line.Query 1 (id_of 1) (record { node = peer 1; count = 1 } ∷ [])
+    ∷ line.ToChits (peer 2) 7 (id_of 1) root
+    ∷ line.Accept (id_of 1)
+    ∷ line.ToFrontier (peer 2) 8 (id_of 1)
+    ∷ line.ToAccepted (peer 2) 9 (root ∷ id_of 1 ∷ [])
+    ∷ line.ToBlock (peer 2) 10 (bytes_of 1 255 1 1)
+    ∷ line.ToAncestors (peer 2) 12 (bytes_of 1 255 1 1 ∷ [])
+    ∷ []
+
+the_block_is_served : (later : List Event) → steps one 3 (block 1 255 1 ∷ later) ≡ with_block one later (next_on plain_rules (begun root []) root (bytes_of 1 255 1 1))
+unfolding runs_on again header_of
+the_block_is_served later = refl
+
+peers_ask_with : (with_block one asking (Some [])).0 ≡ answers
+unfolding runs_on again bits with_child chosen path_from is_power drawn_from added all_polled decided_path counted winner decisions_for promoted settled poll bubbled_in chain_within
+peers_ask_with = refl
+
+pub peers_ask : (steps one 3 (block 1 255 1 ∷ asking)).0 ≡ answers
+peers_ask =
+    ap (λ (c : Comes Running). c.0) (the_block_is_served asking)
+    ∙ ap (λ (o : Option (List ℕ)). (with_block one asking o).0) has_state
+    ∙ peers_ask_with

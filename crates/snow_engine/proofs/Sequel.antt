@@ -1,10 +1,10 @@
 -- One call behind another: its stops and its lines are those of both.
-use Rattle.std.proofs.Common.{◌≡◌, List, [], ◌++◌, append_assoc, Result, Ok, Err, refl, sym, ap, ◌∙◌, subst}
+use Rattle.std.proofs.Common.{◌≡◌, List, ◌++◌, append_assoc, Result, Ok, Err, refl, sym, ap, ◌∙◌, subst}
 use Rattle.snow_lines.specs.declared.line.Line.{Line}
 use Rattle.snow_engine.specs.declared.stop.EngineStop.{EngineStop}
 use Rattle.snow_engine.specs.declared.stop.EngineStop.TheVariants as stop
 use Rattle.snow_engine.specs.Outcome.{Comes, after_lines, going_on, then_comes}
-use Rattle.snow_engine.specs.Stepping.{Logs, LogsFront, Steps, StopsAs}
+use Rattle.snow_engine.specs.Stepping.{Logs, LogsFront, StopsAs}
 use Rattle.snow_engine.proofs.Logs.{logs_then_front, logs_front_of_more}
 
 -- lines behind lines

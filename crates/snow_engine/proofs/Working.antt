@@ -1,10 +1,10 @@
 -- What is taken out of a queue: it was there, and less is left.
-use Rattle.std.proofs.Common.{◌≡◌, ℕ, suc, ◌+◌, ◌<◌, ◌≤◌, Bool, true, false, not, cond, List, [], ◌∷◌, length, filter, find, take, drop, Option, Some, None, bytes_eq, ◌⊎◌, inl, inr, refl, sym, ap, ◌∙◌, subst, arith}
+use Rattle.std.proofs.Common.{◌≡◌, ℕ, suc, ◌+◌, ◌<◌, Bool, true, false, cond, List, [], ◌∷◌, length, find, Option, Some, None, bytes_eq, ◌⊎◌, inl, inr, refl, ap, ◌∙◌, subst, arith}
 use Rattle.std.proofs.lemmas.Bool.{or_parts}
-use Rattle.std.specs.List.{list_any, remove, position_or_len, prefix_len}
+use Rattle.std.specs.List.{list_any, remove, position_or_len}
 use Rattle.std.specs.Option.{option_map, option_or}
-use Rattle.snow_plain.specs.Board.{Board, height_of}
-use Rattle.snow_plain.proofs.Cases.{split_on, clash, same_id, differs_back}
+use Rattle.snow_plain.specs.Board.{Board}
+use Rattle.snow_plain.proofs.Cases.{split_on, differs_back}
 use Rattle.snow_issue.specs.declared.work.Get.{Get}
 use Rattle.snow_issue.specs.declared.work.Held.{Held}
 use Rattle.snow_issue.specs.declared.work.Waiting.{Waiting}

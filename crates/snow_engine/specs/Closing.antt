@@ -9,6 +9,7 @@ use Rattle.snow_poll.specs.Table.{finished, shortened}
 use Rattle.snow_issue.specs.Lists.{Lists, after_gone, after_forgotten}
 use Rattle.snow_engine.specs.Outcome.{Comes, quietly}
 use Rattle.snow_engine.specs.Again.{all_made}
+use Rattle.snow_engine.specs.Supplying as supply
 use Rattle.snow_engine.specs.Telling.{told, with_decisions}
 use Rattle.snow_engine.specs.Running.{Running}
 
@@ -16,7 +17,7 @@ use Rattle.snow_engine.specs.Running.{Running}
 abbrev pub all_gone : Lists → List Decision → Lists
 all_gone queue decisions = fold (λ lists d. after_gone lists (record { id = d.id; parent = None })) queue decisions
 
--- a poll came to this board with these decisions; the chain and the queue are told
+-- a poll came to this board with these decisions; the chain and the queue are told, and what peers are served follows
 abbrev pub moved_on : Answer → Running → Board × List Decision → Comes (Running × Bool)
 moved_on answer node after = (
   told answer node.board after,
@@ -24,6 +25,7 @@ moved_on answer node after = (
     record node {
       board = after.0;
       chain = with_decisions node.chain after.1;
+      served = supply.with_decisions node.served after.1;
       queue = all_gone node.queue after.1;
       recorded = true;
     },

@@ -1,5 +1,5 @@
 -- What ties the board, the chain, the polls and the queue of a node that runs.
-use Rattle.std.specs.Prelude.{◌≡◌, ℕ, ◌-◌, ◌^◌, ◌<◌, ◌≤◌, length, false, List, [], ◌∷◌, None, ⊤}
+use Rattle.std.specs.Prelude.{◌≡◌, ℕ, ◌-◌, ◌^◌, ◌<◌, ◌≤◌, length, false, List, [], ◌∷◌, None}
 use Rattle.snow_flake.specs.Parameters.{Parameters}
 use Rattle.snow_plain.specs.Board.{Board, height_of}
 use Rattle.snow_chain.specs.Chain.{Held}

@@ -18,5 +18,6 @@ pub mod RunningCode
 pub mod Serving
 pub mod Settling
 pub mod Stepping
+pub mod Supplying
 pub mod Telling
 pub mod Turning

@@ -1,5 +1,5 @@
 -- A node of either task: how it begins with a Start, and its step at an event.
-use Rattle.std.specs.Prelude.{ℕ, false, List, [], Option, Some, None, Result, Ok, Err, if◌then◌else◌}
+use Rattle.std.specs.Prelude.{ℕ, false, [], Option, Some, None, Result, Ok, Err, if◌then◌else◌}
 use Rattle.snow_flake.specs.Parameters.{Parameters, checked}
 use Rattle.snow_flake.specs.declared.params.ParamFault.{ParamFault}
 use Rattle.snow_flake.specs.Rule.{Answer}
@@ -8,6 +8,7 @@ use Rattle.snow_sample.specs.Roster.{first_fault}
 use Rattle.snow_plain.specs.Board.{begin}
 use Rattle.snow_chain.specs.Chain.{Rules, begun}
 use Rattle.snow_issue.specs.Lists as lists
+use Rattle.snow_getter.specs.Serving.{serving_from}
 use Rattle.snow_wire.specs.declared.event.Event.{Event}
 use Rattle.snow_wire.specs.declared.event.Start.{Start}
 use Rattle.snow_engine.specs.declared.stage.Stage.{Stage}
@@ -47,11 +48,12 @@ abbrev pub decides_with : Rules → Start → Parameters → Result Deciding Eng
 decides_with rules s p =
     if rules.takes s.state then Ok (record { board = begin p s.last s.height; chain = begun s.last s.state }) else Err stop.State
 
--- a node that runs: it knows of nothing but the last accepted block
+-- a node that runs: it knows of nothing but the last accepted block, and serves none
 abbrev pub new_running : Start → Parameters → Running
 new_running s p = record {
   board = begin p s.last s.height;
   chain = begun s.last s.state;
+  served = serving_from s.last;
   roster = members s.nodes;
   polls = record { parameters = p; polls = [] };
   queue = lists.begun s.last;

@@ -1,5 +1,5 @@
 -- Queries for the preference: when one is sent, to whom, and when others follow.
-use Rattle.std.specs.Prelude.{ℕ, ◌-◌, Bool, true, false, ◌&&◌, List, [], ◌∷◌, length, Result, Ok, Err, nat_le, nat_lt, if◌then◌else◌}
+use Rattle.std.specs.Prelude.{ℕ, ◌-◌, Bool, true, false, ◌&&◌, List, [], length, Result, Ok, Err, nat_le, nat_lt, if◌then◌else◌}
 use Rattle.snow_flake.specs.Rule.{Answer}
 use Rattle.snow_sample.specs.declared.draws.Draw.{Draw}
 use Rattle.snow_sample.specs.declared.sampling.SampleFault.{SampleFault}

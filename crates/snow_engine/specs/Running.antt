@@ -4,16 +4,18 @@ use Rattle.snow_base.specs.Numbers.{next_number}
 use Rattle.snow_sample.specs.declared.roster.Node.{Node as Member}
 use Rattle.snow_plain.specs.Board.{Board}
 use Rattle.snow_chain.specs.Chain.{Held}
+use Rattle.snow_getter.specs.Serving.{Serving}
 use Rattle.snow_poll.specs.Table.{Table}
 use Rattle.snow_issue.specs.Lists.{Lists}
 use Rattle.snow_engine.specs.declared.stop.EngineStop.TheVariants as stop
 use Rattle.snow_engine.specs.Outcome.{Comes, stops}
 
--- the board, what the chain holds, the roster in force, the polls that run, the blocks and replies that wait, the random words, the
--- last number drawn, and whether a poll was recorded since the event began
+-- the board, what the chain holds, what peers are served, the roster in force, the polls that run, the blocks and replies that wait,
+-- the random words, the last number drawn, and whether a poll was recorded since the event began
 pub record Running : Type 0 where
   pub board : Board
   pub chain : Held
+  pub served : Serving
   pub roster : List Member
   pub polls : Table
   pub queue : Lists

@@ -16,6 +16,8 @@ use Rattle.snow_issue.specs.declared.work.Get.{Get}
 use Rattle.snow_issue.specs.declared.work.Held.{Held}
 use Rattle.snow_issue.specs.declared.work.Waiting.{Waiting}
 use Rattle.snow_issue.specs.Lists.{Lists}
+use Rattle.snow_getter.specs.declared.served.Served.{Served}
+use Rattle.snow_getter.specs.Serving.{Serving}
 use Rattle.snow_engine.specs.Running.{Running}
 
 abbrev Bytes : Type 0
@@ -88,21 +90,34 @@ coded_lists =
     (λ f. record { waiting = f.0; gets = f.1.0; held = f.1.1.0; gone = f.1.1.1 })
     (λ _. refl)
 
+-- ---- what peers are served
+
+abbrev coded_served_block : Coded Served
+coded_served_block =
+    code_by (Bytes × (Bytes × Bytes)) (coded× coded_bytes (coded× coded_bytes coded_bytes))
+    (λ b. (b.id, (b.parent, b.bytes))) (λ f. record { id = f.0; parent = f.1.0; bytes = f.1.1 }) (λ _. refl)
+
+abbrev coded_serving : Coded Serving
+coded_serving =
+    code_by (Bytes × (List Served × List Served)) (coded× coded_bytes (coded× (coded_list coded_served_block) (coded_list coded_served_block)))
+    (λ s. (s.first, (s.pending, s.accepted))) (λ f. record { first = f.0; pending = f.1.0; accepted = f.1.1 }) (λ _. refl)
+
 -- ---- the node
 
 abbrev pub coded_running : Coded Running
 coded_running =
-    code_by (Board × (States × (List Member × (Table × (Lists × (List ℕ × (ℕ × Bool)))))))
-    (coded× coded_board (coded× coded_held (coded× (coded_list coded_member) (coded× coded_table (coded× coded_lists (coded× (coded_list coded_ℕ) (coded× coded_ℕ coded_bool)))))))
-    (λ n. (n.board, (n.chain, (n.roster, (n.polls, (n.queue, (n.words, (n.last, n.recorded))))))))
+    code_by (Board × (States × (Serving × (List Member × (Table × (Lists × (List ℕ × (ℕ × Bool))))))))
+    (coded× coded_board (coded× coded_held (coded× coded_serving (coded× (coded_list coded_member) (coded× coded_table (coded× coded_lists (coded× (coded_list coded_ℕ) (coded× coded_ℕ coded_bool))))))))
+    (λ n. (n.board, (n.chain, (n.served, (n.roster, (n.polls, (n.queue, (n.words, (n.last, n.recorded)))))))))
     (λ f. record {
       board = f.0;
       chain = f.1.0;
-      roster = f.1.1.0;
-      polls = f.1.1.1.0;
-      queue = f.1.1.1.1.0;
-      words = f.1.1.1.1.1.0;
-      last = f.1.1.1.1.1.1.0;
-      recorded = f.1.1.1.1.1.1.1;
+      served = f.1.1.0;
+      roster = f.1.1.1.0;
+      polls = f.1.1.1.1.0;
+      queue = f.1.1.1.1.1.0;
+      words = f.1.1.1.1.1.1.0;
+      last = f.1.1.1.1.1.1.1.0;
+      recorded = f.1.1.1.1.1.1.1.1;
     })
     (λ _. refl)

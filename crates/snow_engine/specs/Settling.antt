@@ -13,11 +13,12 @@ use Rattle.snow_issue.specs.declared.work.Work.{Work}
 use Rattle.snow_issue.specs.declared.work.Work.TheVariants as work
 use Rattle.snow_issue.specs.declared.work.Waiting.{Waiting}
 use Rattle.snow_issue.specs.declared.work.Held.{Held}
-use Rattle.snow_issue.specs.Lists.{Lists, after_gone}
+use Rattle.snow_issue.specs.Lists.{after_gone}
 use Rattle.snow_issue.specs.Settling.{work_of, after}
 use Rattle.snow_issue.specs.Bubbling.{bubbled}
 use Rattle.snow_engine.specs.Outcome.{Comes, quietly, with_line, after_lines, then_comes}
 use Rattle.snow_engine.specs.Again.{all_made}
+use Rattle.snow_engine.specs.Supplying.{with_issued}
 use Rattle.snow_engine.specs.Telling.{told}
 use Rattle.snow_engine.specs.Placing.{opposed}
 use Rattle.snow_engine.specs.Running.{Running}
@@ -40,21 +41,29 @@ abbrev pub asked_on_the_way : Answer → List ℕ → Running → Comes Running
 asked_on_the_way answer id node =
     if is_preferred answer node.board id then then_comes (queried answer node) (λ sent. quietly sent.0) else quietly node
 
+-- a node with this block on its board, which it serves from now on
+abbrev pub with_block : Running → Header → List ℕ → List ℕ → Running
+with_block node block bytes state = record node {
+  board = issued node.board block;
+  chain = with_state node.chain block.id state;
+  served = with_issued node.served block bytes;
+}
+
 -- a block is issued with its state; one that has none is invalid
-abbrev pub issued_by : Answer → Running → Header → Option (List ℕ) → Comes Running
-issued_by answer node block None = refused node block
-issued_by answer node block (Some state) =
-    let after = record node { board = issued node.board block; chain = with_state node.chain block.id state } in
+abbrev pub issued_by : Answer → Running → Header → List ℕ → Option (List ℕ) → Comes Running
+issued_by answer node block bytes None = refused node block
+issued_by answer node block bytes (Some state) =
+    let after = with_block node block bytes state in
     after_lines (told answer node.board (after.board, [])) (asked_on_the_way answer block.id after)
 
 -- a block is issued, unless something stands against it
-abbrev pub placed_by : Answer → Running → Header → Option (List ℕ) → Option DropWhy → Comes Running
-placed_by answer node block state (Some why) = given_up node block why
-placed_by answer node block state None = issued_by answer node block state
+abbrev pub placed_by : Answer → Running → Header → List ℕ → Option (List ℕ) → Option DropWhy → Comes Running
+placed_by answer node block bytes state (Some why) = given_up node block why
+placed_by answer node block bytes state None = issued_by answer node block bytes state
 
 abbrev pub readied : Rules → Answer → Running → Waiting → Comes Running
 readied rules answer node w =
-    placed_by answer node w.header (next_on rules node.chain w.header.parent w.bytes) (opposed node.board w.header (height_of node.board w.header.parent))
+    placed_by answer node w.header w.bytes (next_on rules node.chain w.header.parent w.bytes) (opposed node.board w.header (height_of node.board w.header.parent))
 
 -- ---- the steps of settling
 

@@ -1,10 +1,12 @@
 -- The step of a node that runs, event by event.
-use Rattle.std.specs.Prelude.{ℕ, ◌+◌, true, false, List, [], ◌∷◌, ◌++◌, map, length, Option, Some, None, Ok, Err, nat_lt, ◌==◌, if◌then◌else◌}
+use Rattle.std.specs.Prelude.{ℕ, ◌+◌, false, List, ◌++◌, map, length, Option, Some, None, Ok, nat_lt, ◌==◌, if◌then◌else◌}
 use Rattle.snow_flake.specs.Rule.{Answer}
 use Rattle.snow_sample.specs.declared.roster.Node.{Node as Member}
 use Rattle.snow_sample.specs.declared.roster.RosterFault.{RosterFault}
 use Rattle.snow_sample.specs.Roster.{first_fault}
+use Rattle.snow_plain.specs.Preference.{preferred}
 use Rattle.snow_chain.specs.Chain.{Rules}
+use Rattle.snow_getter.specs.Answer.{answer as answer_to}
 use Rattle.snow_wire.specs.declared.event.Event.{Event}
 use Rattle.snow_wire.specs.declared.event.Event.TheVariants as event
 use Rattle.snow_lines.specs.declared.line.Line.TheVariants as line
@@ -33,6 +35,12 @@ abbrev pub roster_came : Running → ℕ → List Member → Option RosterFault 
 roster_came node frame roster (Some fault) = with_line (line.Skip frame kind.Nodes) node
 roster_came node frame roster None = quietly (record node { roster = roster })
 
+-- ---- questions of peers
+
+-- a peer is answered, and nothing changes
+abbrev pub answered : Answer → Running → Event → Comes Running
+answered answer node question = (answer_to node.served (preferred answer node.board) question, Ok node)
+
 -- ---- the end of an event
 
 -- queries follow where a poll was recorded
@@ -41,8 +49,8 @@ rounded answer node = if node.recorded then repolled answer (record node { recor
 
 -- ---- the step
 
--- a node that runs takes all events but polls and lines; a second Start stops it. Stored blocks are for a node that bootstraps, and
--- so are questions for a node that answers peers; an answer that nobody awaits changes nothing
+-- a node that runs takes all events but polls and lines; a second Start stops it. Stored blocks are for a node that bootstraps; an
+-- answer that nobody awaits changes nothing
 unfoldable pub runs_on : Rules → Answer → Running → ℕ → Event → Comes Running
 runs_on rules answer node frame (event.Start s) = stops stop.SecondStart
 runs_on rules answer node frame (event.Block peer number bytes) = then_comes (block_came rules answer node frame peer number bytes) (rounded answer)
@@ -55,4 +63,9 @@ runs_on rules answer node frame (event.Accepted peer number ids) = quietly node
 runs_on rules answer node frame (event.Ancestors peer number blocks) = quietly node
 runs_on rules answer node frame (event.Validators nodes) = roster_came node frame (members nodes) (first_fault (members nodes))
 runs_on rules answer node frame (event.Line text) = with_line (line.Skip frame kind.Task) node
-runs_on rules answer node frame _ = with_line (line.Skip frame kind.Stage) node
+runs_on rules answer node frame (event.Stored bytes) = with_line (line.Skip frame kind.Stage) node
+runs_on rules answer node frame (event.AskQuery peer number) = answered answer node (event.AskQuery peer number)
+runs_on rules answer node frame (event.AskFrontier peer number) = answered answer node (event.AskFrontier peer number)
+runs_on rules answer node frame (event.AskAccepted peer number ids) = answered answer node (event.AskAccepted peer number ids)
+runs_on rules answer node frame (event.AskAncestors peer number id) = answered answer node (event.AskAncestors peer number id)
+runs_on rules answer node frame (event.AskBlock peer number id) = answered answer node (event.AskBlock peer number id)

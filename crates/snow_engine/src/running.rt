@@ -15,6 +15,7 @@ mod hearing;
 mod querying;
 mod remembering;
 mod settling;
+mod supplying;
 
 use crate::reporting::write;
 use crate::running::remembering::Remembered;
@@ -22,6 +23,7 @@ use crate::stop::EngineStop;
 use snow_base::{Bytes, Id, NodeId, Nodes, Numbers, Nums};
 use snow_chain::Chain;
 use snow_flake::Params;
+use snow_getter::Getter;
 use snow_issue::Queue;
 use snow_lines::{Line, Lines, SkipKind};
 use snow_plain::Board;
@@ -40,6 +42,8 @@ pub struct Running<C: Chain, B: Board> {
     params: Params,
     board: B,
     chain: C,
+    /// What peers are served.
+    served: Getter,
     roster: Roster,
     polls: Polls,
     queue: Queue,
@@ -58,6 +62,7 @@ impl<C: Chain, B: Board> Model for Running<C, B> {
     ghost use Rattle.snow_engine.specs.RunningCode.{coded_running};
     ghost use Rattle.snow_engine.specs.Kept.{IsKept};
     ghost use Rattle.snow_engine.specs.Remembering.{Remembers};
+    ghost use Rattle.snow_engine.specs.Supplying.{Serves};
 
     ghost Value = { Running };
 
@@ -66,6 +71,7 @@ impl<C: Chain, B: Board> Model for Running<C, B> {
     ghost view = { λ r. record {
       board = B.board r.board;
       chain = C.held r.chain;
+      served = r.served;
       roster = r.roster;
       polls = r.polls;
       queue = lists_of r.queue;
@@ -74,7 +80,10 @@ impl<C: Chain, B: Board> Model for Running<C, B> {
       recorded = r.recorded;
     } };
 
-    ghost invariant = { λ r. IsKept r.params (B.board r.board) (C.held r.chain) (r.polls) (lists_of r.queue) r.numbers × Remembers (B.board r.board) r.queue r.remembered };
+    ghost invariant = { λ r.
+        IsKept r.params (B.board r.board) (C.held r.chain) (r.polls) (lists_of r.queue) r.numbers
+        × Remembers (B.board r.board) r.queue r.remembered
+        × Serves (B.board r.board) r.served };
 }
 
 impl<C: Chain, B: Board> Running<C, B> {
@@ -94,6 +103,7 @@ impl<C: Chain, B: Board> Running<C, B> {
             params,
             board,
             chain,
+            served: Getter::begin(alloc, first.last)?,
             roster,
             polls: Polls::new(alloc, params),
             queue: Queue::new(alloc, first.last)?,
@@ -124,7 +134,12 @@ impl<C: Chain, B: Board> Running<C, B> {
             Event::Validators { nodes } => self.take_nodes(frame, &nodes, log),
             Event::Frontier { .. } | Event::Accepted { .. } | Event::Ancestors { .. } => Ok(()),
             Event::Poll { .. } | Event::Line { .. } => skip(frame, SkipKind::Task, log),
-            _ => skip(frame, SkipKind::Stage, log),
+            Event::Stored { .. } => skip(frame, SkipKind::Stage, log),
+            question @ (Event::AskQuery { .. }
+            | Event::AskFrontier { .. }
+            | Event::AskAccepted { .. }
+            | Event::AskAncestors { .. }
+            | Event::AskBlock { .. }) => self.reply(&question, log),
         }
     }
 

@@ -86,6 +86,34 @@ const VALIDATORS: &[Frame] = &[
     Frame::Chits(2, 2, C),
 ];
 
+/// A peer asks before a block is accepted and after it: for chits, the frontier, which of three blocks
+/// are accepted, a block, one that isn't there, and a block with its ancestors.
+const PEERS_ASK: &[Frame] = &[
+    ONE_NODE,
+    Frame::Words(2, 0),
+    Frame::Block(B, ROOT, 1, 1),
+    Frame::Ask(12, 2, 7, &[]),
+    Frame::Chits(1, 1, B),
+    Frame::Ask(13, 2, 8, &[]),
+    Frame::Ask(14, 2, 9, &[ROOT, C, B]),
+    Frame::Ask(16, 2, 10, &[B]),
+    Frame::Ask(15, 2, 11, &[F]),
+    Frame::Block(C, B, 2, 1),
+    Frame::Ask(15, 2, 12, &[C]),
+];
+
+/// A block is served until it is rejected.
+const SERVED_NO_MORE: &[Frame] = &[
+    ONE_NODE,
+    Frame::Words(1, 0),
+    Frame::Block(B, ROOT, 1, 1),
+    Frame::Block(C, ROOT, 1, 1),
+    Frame::Ask(16, 2, 3, &[C]),
+    Frame::Chits(1, 1, B),
+    Frame::Ask(16, 2, 4, &[C]),
+    Frame::Ask(14, 2, 5, &[C]),
+];
+
 /// Too many draws for the nodes, an old block, one that is no block, and frames for other tasks and
 /// stages; an answer that nobody awaits writes nothing.
 const PASSED_OVER: &[Frame] = &[
@@ -130,6 +158,18 @@ const EXAMPLES: &[Example] = &[
         VALIDATORS,
         "prefer 01~00\nquery 1 01~00 P*1\nskip 5 nodes\nprefer 02~00\nquery 2 02~00 Q*1\n\
          accept 01~00\naccept 02~00\n",
+    ),
+    (
+        PEERS_ASK,
+        "prefer 01~00\nquery 1 01~00 P*1\nto-chits Q 7 01~00 ff~00\naccept 01~00\n\
+         to-frontier Q 8 01~00\nto-accepted Q 9 ff~00 01~00\n\
+         to-block Q 10 01~00ff~00000000000000000101\nprefer 02~00\nquery 2 02~00 P*1\n\
+         to-ancestors Q 12 02~0001~00000000000000000201 01~00ff~00000000000000000101\n",
+    ),
+    (
+        SERVED_NO_MORE,
+        "prefer 01~00\nquery 1 01~00 P*1\nto-block Q 3 02~00ff~00000000000000000101\n\
+         accept 01~00\nreject 02~00\nto-accepted Q 5\n",
     ),
     (
         PASSED_OVER,

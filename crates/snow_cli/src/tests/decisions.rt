@@ -201,8 +201,9 @@ fn other_events_are_passed_over(rt: HostRuntime) -> Result<(), Fail> {
         Frame::Zeros(4, 2),
         Frame::Zeros(5, 56),
         Frame::Zeros(6, 24),
+        Frame::Ask(12, 2, 7, &[]),
     ];
-    let lines = "skip 2 task\nskip 3 task\nskip 4 task\n";
+    let lines = "skip 2 task\nskip 3 task\nskip 4 task\nskip 5 task\n";
     assert!(rt; writes(rt.alloc(), DECIDE, &frames, lines)?);
     Ok(())
 }

@@ -39,6 +39,8 @@ pub enum Frame {
     Chits(u8, u32, Name),
     /// A node doesn't answer a request.
     Timeout(u8, u32),
+    /// A question of a node: its tag, the node, its number, and the blocks that it names.
+    Ask(u8, u8, u32, &'static [Name]),
     /// New nodes, each by its byte and its weight.
     Validators(&'static [(u8, u64)]),
     /// A block of these bytes.
@@ -123,6 +125,10 @@ fn payload_of(alloc: Global, frame: Frame) -> Result<Vec<u8>, AllocError> {
         Frame::Words(count, word) => put_words(&mut out, count, word)?,
         Frame::Chits(node, number, id) => put_vote(&mut out, node, number, id)?,
         Frame::Timeout(node, number) => put_message(&mut out, 6, node, number)?,
+        Frame::Ask(tag, node, number, blocks) => {
+            put_message(&mut out, tag, node, number)?;
+            put_asked(&mut out, tag, blocks)?;
+        }
         Frame::Validators(nodes) => {
             out.push(11)?;
             put_nodes(&mut out, nodes)?;
@@ -194,6 +200,17 @@ fn put_message(out: &mut Vec<u8>, tag: u8, node: u8, number: u32) -> Result<(), 
 fn put_vote(out: &mut Vec<u8>, node: u8, number: u32, id: Name) -> Result<(), AllocError> {
     put_message(out, 5, node, number)?;
     put_name(out, id)
+}
+
+/// The blocks that a question names; those of tag 14 are counted.
+fn put_asked(out: &mut Vec<u8>, tag: u8, blocks: &[Name]) -> Result<(), AllocError> {
+    if tag == 14 {
+        put_count(out, blocks.len())?;
+    }
+    for block in blocks {
+        put_name(out, *block)?;
+    }
+    Ok(())
 }
 
 fn put_state(out: &mut Vec<u8>, state: &[u64]) -> Result<(), AllocError> {

@@ -9,6 +9,7 @@ ghost use Rattle.snow_engine.specs.Stepping.{Answers, Logs, Steps};
 use crate::admitting::apply;
 use crate::reporting::tell;
 use crate::running::Running;
+use crate::running::supplying::follow;
 use crate::stop::EngineStop;
 use snow_base::Bag;
 use snow_chain::Chain;
@@ -38,7 +39,7 @@ impl<C: Chain, B: Board> Running<C, B> {
         self.record(&closed.votes, log)
     }
 
-    /// Votes are recorded, and chain and queue told what they decided.
+    /// Votes are recorded, and chain and queue told what they decided, which peers are served then.
     fn record(&mut self, votes: &Bag, log: &mut Lines) -> Result<bool, EngineStop>
         requires { total_count votes.now.list ≤ self.old.board.parameters.k }
         ensures answer { Answers result self.new (model.moved_on B.answer self.old (poll self.old.board votes.now.list)).1 }
@@ -47,6 +48,7 @@ impl<C: Chain, B: Board> Running<C, B> {
         let before = self.board.preference();
         apply(&mut self.board, &mut self.chain, votes);
         bury(&mut self.queue, self.board.decisions());
+        follow(&mut self.served, self.board.decisions());
         self.recorded = true;
         self.remembered = self.remembered.polled();
         tell(&self.board, &before, log)?;

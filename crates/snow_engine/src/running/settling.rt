@@ -11,12 +11,13 @@ ghost use Rattle.snow_engine.specs.Placing.{opposed};
 ghost use Rattle.snow_engine.specs.Settling as model;
 ghost use Rattle.snow_engine.specs.Stepping.{Answers, Logs, Steps};
 
-use crate::admitting::{admit, opposition};
+use crate::admitting::opposition;
 use crate::reporting::{drop_block, tell};
 use crate::running::Running;
 use crate::running::remembering::Remembered;
+use crate::running::supplying::take_up;
 use crate::stop::EngineStop;
-use snow_base::{Header, Id};
+use snow_base::{Bytes, Header, Id};
 use snow_chain::Chain;
 use snow_issue::{Held, Queue, Work};
 use snow_lines::{DropWhy, Lines};
@@ -72,17 +73,20 @@ impl<C: Chain, B: Board> Running<C, B> {
     {
         match work {
             Work::Hopeless(block) => drop_block(block.header.id, DropWhy::Parent, log),
-            Work::Ready(block) => self.place(&block.header, block.bytes.list(), log),
+            Work::Ready(block) => {
+                let header = block.header;
+                self.place(&header, block.bytes, log)
+            }
             Work::Vote(reply) => self.hear(&reply, log),
         }
     }
 
     /// A block whose parent is on the board is issued, unless something stands against it.
-    fn place(&mut self, block: &Header, bytes: &[u8], log: &mut Lines) -> Result<(), EngineStop>
+    fn place(&mut self, block: &Header, bytes: Bytes, log: &mut Lines) -> Result<(), EngineStop>
         requires { IsApart self.old.board self.old.queue.waiting block.now.id }
-        ensures answer { Steps result self.new (model.placed_by B.answer self.old block.now (next_on C.rules self.old.chain block.now.parent bytes.now)
+        ensures answer { Steps result self.new (model.placed_by B.answer self.old block.now bytes (next_on C.rules self.old.chain block.now.parent bytes)
             (opposed self.old.board block.now (height_of self.old.board block.now.parent))).1 }
-        ensures lines { Logs result log.old log.new (model.placed_by B.answer self.old block.now (next_on C.rules self.old.chain block.now.parent bytes.now)
+        ensures lines { Logs result log.old log.new (model.placed_by B.answer self.old block.now bytes (next_on C.rules self.old.chain block.now.parent bytes)
             (opposed self.old.board block.now (height_of self.old.board block.now.parent))).0 }
     {
         match opposition(&self.board, block) {
@@ -95,15 +99,21 @@ impl<C: Chain, B: Board> Running<C, B> {
     }
 
     #[tactic(auto, using(crate::proofs::Logs::logs_nothing))]
-    /// A block is issued, if it is valid.
-    fn issue(&mut self, block: &Header, bytes: &[u8], log: &mut Lines) -> Result<(), EngineStop>
+    /// A block is issued, if it is valid, and served then.
+    fn issue(&mut self, block: &Header, bytes: Bytes, log: &mut Lines) -> Result<(), EngineStop>
         requires may { MayIssue self.old.board block.now }
         requires apart { IsApart self.old.board self.old.queue.waiting block.now.id }
-        ensures answer { Steps result self.new (model.issued_by B.answer self.old block.now (next_on C.rules self.old.chain block.now.parent bytes.now)).1 }
-        ensures lines { Logs result log.old log.new (model.issued_by B.answer self.old block.now (next_on C.rules self.old.chain block.now.parent bytes.now)).0 }
+        ensures answer { Steps result self.new (model.issued_by B.answer self.old block.now bytes (next_on C.rules self.old.chain block.now.parent bytes)).1 }
+        ensures lines { Logs result log.old log.new (model.issued_by B.answer self.old block.now bytes (next_on C.rules self.old.chain block.now.parent bytes)).0 }
     {
         let before = self.board.preference();
-        if !admit(&mut self.board, &mut self.chain, block, bytes)? {
+        if !take_up(
+            &mut self.board,
+            &mut self.chain,
+            &mut self.served,
+            block,
+            bytes,
+        )? {
             return self.refuse(block, log);
         }
         self.remembered = self.remembered.issued(&block.id);

@@ -1,5 +1,5 @@
 -- The chain can be told the decisions, and then belongs to the board.
-use Rattle.std.proofs.Common.{◌∙◌, rules}
+use Rattle.std.proofs.Common.{◌∙◌}
 use Rattle.snow_engine.proofs.Recorded.{may_be_told, steady_told}
 use Rattle.snow_engine.proofs.admitting.apply.Goals as goal
 

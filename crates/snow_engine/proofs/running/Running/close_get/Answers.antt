@@ -16,6 +16,7 @@ invariant_of-self g c = (
       (closed_gets c.self.inside.numbers c.args.number c.args.peer.now c.self.inside.queue.gets c.self.invariant.0.gets),
   subst (λ (k : Remembered). Remembers (g.B.Board.board c.self.inside.board) c.close_get.new.self k) (sym c.woken-self-inside.ensures)
       (kept_woken (g.B.Board.board c.self.inside.board) c.self.inside.queue c.close_get.new.self c.self.inside.remembered c.close_get.ensures.knows c.close_get.ensures.ripe c.self.invariant.1),
+  c.self.invariant.2,
 )
 
 pub returns-clause-none : goal.returns-clause-none
@@ -23,6 +24,7 @@ returns-clause-none g c = λ none.
     ap (λ (queue : Lists). record {
       board = g.B.Board.board c.self.inside.board;
       chain = g.C.Chain.held c.self.inside.chain;
+      served = c.self.inside.served;
       roster = c.self.inside.roster;
       polls = c.self.inside.polls;
       queue = queue;

@@ -11,4 +11,5 @@ invariant_of-self-2 g c =
       kept_queue_as c.self.inside.params (g.B.Board.board c.self.inside.board) (g.C.Chain.held c.self.inside.chain) c.take_finished.new.self (lists_of c.self.inside.queue) c.self.inside.numbers kept
           (after_forgotten (lists_of c.self.inside.queue) c.in-Some.closed.number) (lists_of c.forget.new.self) c.forget.ensures.lists kept.waiting kept.gets,
       kept_seats (g.B.Board.board c.self.inside.board) c.self.inside.queue c.forget.new.self c.self.inside.remembered c.forget.ensures.knows c.forget.ensures.seats c.self.invariant.1,
+      c.self.invariant.2,
     )

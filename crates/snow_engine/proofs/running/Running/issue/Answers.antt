@@ -1,5 +1,5 @@
 -- A block that was admitted is told of.
-use Rattle.std.proofs.Common.{◌≡◌, sym, subst}
+use Rattle.std.proofs.Common.{sym, subst}
 use Rattle.std.proofs.lemmas.Result.{err_from_is_err_and}
 use Rattle.snow_chain.specs.Chain.{next_on}
 use Rattle.snow_issue.specs.Known.{lists_of}
@@ -14,56 +14,60 @@ use Rattle.snow_engine.proofs.running.Running.issue.Goals as goal
 
 pub invariant_of-self-in_err-tell : goal.invariant_of-self-in_err-tell
 invariant_of-self-in_err-tell g c = (
-  kept_admitted c.self.inside.params (g.B.Board.board c.self.inside.board) (g.C.Chain.held c.self.inside.chain) c.self.inside.polls (lists_of c.self.inside.queue) c.self.inside.numbers c.self.invariant.0 c.in_ok-admit.field-0 (g.B.Board.board c.admit.new.board) (g.C.Chain.held c.admit.new.chain) (g.B.Board.decided c.admit.new.board) c.args.block.now
-      (next_on g.C.Chain.rules (g.C.Chain.held c.self.inside.chain) c.args.block.now.parent c.args.bytes.now)
-      c.if-not-branch.false c.in_ok-admit.ensures.admits c.admit.ensures.steady
+  kept_admitted c.self.inside.params (g.B.Board.board c.self.inside.board) (g.C.Chain.held c.self.inside.chain) c.self.inside.polls (lists_of c.self.inside.queue) c.self.inside.numbers c.self.invariant.0 c.in_ok-take_up.field-0 (g.B.Board.board c.take_up.new.board) (g.C.Chain.held c.take_up.new.chain) (g.B.Board.decided c.take_up.new.board) c.args.block.now
+      (next_on g.C.Chain.rules (g.C.Chain.held c.self.inside.chain) c.args.block.now.parent c.args.bytes)
+      c.if-not-branch.false c.in_ok-take_up.ensures.admits c.take_up.ensures.steady
       (subst (λ (n : Running). IsApart n.board n.queue.waiting c.args.block.now.id) (sym c.self.view_is) c.requires.apart),
-  subst (λ (k : Remembered). Remembers (g.B.Board.board c.admit.new.board) c.self.inside.queue k) (sym c.issued-self-inside.ensures)
-      (remembers_admitted (g.B.Board.board c.self.inside.board) (g.C.Chain.held c.self.inside.chain) c.self.inside.queue c.self.inside.remembered c.in_ok-admit.field-0 (g.B.Board.board c.admit.new.board) (g.C.Chain.held c.admit.new.chain) (g.B.Board.decided c.admit.new.board) c.args.block.now
-      (next_on g.C.Chain.rules (g.C.Chain.held c.self.inside.chain) c.args.block.now.parent c.args.bytes.now) c.if-not-branch.false c.in_ok-admit.ensures.admits c.self.invariant.1),
+  subst (λ (k : Remembered). Remembers (g.B.Board.board c.take_up.new.board) c.self.inside.queue k) (sym c.issued-self-inside.ensures)
+      (remembers_admitted (g.B.Board.board c.self.inside.board) (g.C.Chain.held c.self.inside.chain) c.self.inside.queue c.self.inside.remembered c.in_ok-take_up.field-0 (g.B.Board.board c.take_up.new.board) (g.C.Chain.held c.take_up.new.chain) (g.B.Board.decided c.take_up.new.board) c.args.block.now
+      (next_on g.C.Chain.rules (g.C.Chain.held c.self.inside.chain) c.args.block.now.parent c.args.bytes) c.if-not-branch.false c.in_ok-take_up.ensures.admits c.self.invariant.1),
+  c.take_up.ensures.serves,
 )
 
 pub invariant_of-self-2 : goal.invariant_of-self-2
 invariant_of-self-2 g c = (
-  kept_admitted c.self.inside.params (g.B.Board.board c.self.inside.board) (g.C.Chain.held c.self.inside.chain) c.self.inside.polls (lists_of c.self.inside.queue) c.self.inside.numbers c.self.invariant.0 c.in_ok-admit.field-0 (g.B.Board.board c.admit.new.board) (g.C.Chain.held c.admit.new.chain) (g.B.Board.decided c.admit.new.board) c.args.block.now
-      (next_on g.C.Chain.rules (g.C.Chain.held c.self.inside.chain) c.args.block.now.parent c.args.bytes.now)
-      c.if-not-branch.false c.in_ok-admit.ensures.admits c.admit.ensures.steady
+  kept_admitted c.self.inside.params (g.B.Board.board c.self.inside.board) (g.C.Chain.held c.self.inside.chain) c.self.inside.polls (lists_of c.self.inside.queue) c.self.inside.numbers c.self.invariant.0 c.in_ok-take_up.field-0 (g.B.Board.board c.take_up.new.board) (g.C.Chain.held c.take_up.new.chain) (g.B.Board.decided c.take_up.new.board) c.args.block.now
+      (next_on g.C.Chain.rules (g.C.Chain.held c.self.inside.chain) c.args.block.now.parent c.args.bytes)
+      c.if-not-branch.false c.in_ok-take_up.ensures.admits c.take_up.ensures.steady
       (subst (λ (n : Running). IsApart n.board n.queue.waiting c.args.block.now.id) (sym c.self.view_is) c.requires.apart),
-  subst (λ (k : Remembered). Remembers (g.B.Board.board c.admit.new.board) c.self.inside.queue k) (sym c.issued-self-inside.ensures)
-      (remembers_admitted (g.B.Board.board c.self.inside.board) (g.C.Chain.held c.self.inside.chain) c.self.inside.queue c.self.inside.remembered c.in_ok-admit.field-0 (g.B.Board.board c.admit.new.board) (g.C.Chain.held c.admit.new.chain) (g.B.Board.decided c.admit.new.board) c.args.block.now
-      (next_on g.C.Chain.rules (g.C.Chain.held c.self.inside.chain) c.args.block.now.parent c.args.bytes.now) c.if-not-branch.false c.in_ok-admit.ensures.admits c.self.invariant.1),
+  subst (λ (k : Remembered). Remembers (g.B.Board.board c.take_up.new.board) c.self.inside.queue k) (sym c.issued-self-inside.ensures)
+      (remembers_admitted (g.B.Board.board c.self.inside.board) (g.C.Chain.held c.self.inside.chain) c.self.inside.queue c.self.inside.remembered c.in_ok-take_up.field-0 (g.B.Board.board c.take_up.new.board) (g.C.Chain.held c.take_up.new.chain) (g.B.Board.decided c.take_up.new.board) c.args.block.now
+      (next_on g.C.Chain.rules (g.C.Chain.held c.self.inside.chain) c.args.block.now.parent c.args.bytes) c.if-not-branch.false c.in_ok-take_up.ensures.admits c.self.invariant.1),
+  c.take_up.ensures.serves,
 )
 
 pub returns-in_err-tell-clause-lines : goal.returns-in_err-tell-clause-lines
 returns-in_err-tell-clause-lines g c =
     let p = err_from_is_err_and c.from_residual-in_err-tell.result c.from_residual-in_err-tell.ensures.1 in
-    rw (p.1, p.2) (subst (λ (node : Running). LogsFront c.args.log.now c.tell.new.log (issued_by g.B.Board.answer node c.args.block.now (next_on g.C.Chain.rules node.chain c.args.block.now.parent c.args.bytes.now)).0) c.self.view_is
+    rw (p.1, p.2) (subst (λ (node : Running). LogsFront c.args.log.now c.tell.new.log (issued_by g.B.Board.answer node c.args.block.now c.args.bytes (next_on g.C.Chain.rules node.chain c.args.block.now.parent c.args.bytes)).0) c.self.view_is
     (issue_front g.B.Board.answer (record {
       board = (g.B.Board.board c.self.inside.board);
       chain = (g.C.Chain.held c.self.inside.chain);
+      served = c.self.inside.served;
       roster = c.self.inside.roster;
       polls = c.self.inside.polls;
       queue = (lists_of c.self.inside.queue);
       words = c.self.inside.words;
       last = c.self.inside.numbers;
       recorded = c.self.inside.recorded;
-    }) c.in_ok-admit.field-0 (g.B.Board.board c.admit.new.board) (g.C.Chain.held c.admit.new.chain) (g.B.Board.decided c.admit.new.board) c.args.block.now
-    (next_on g.C.Chain.rules (g.C.Chain.held c.self.inside.chain) c.args.block.now.parent c.args.bytes.now)
-    c.preference-before.result c.if-not-branch.false c.in_ok-admit.ensures.admits c.preference-before.ensures c.args.log.now c.tell.new.log c.in_err-tell.ensures.err))
+    }) c.in_ok-take_up.field-0 (g.B.Board.board c.take_up.new.board) (g.C.Chain.held c.take_up.new.chain) c.take_up.new.served (g.B.Board.decided c.take_up.new.board) c.args.block.now c.args.bytes
+    (next_on g.C.Chain.rules (g.C.Chain.held c.self.inside.chain) c.args.block.now.parent c.args.bytes)
+    c.preference-before.result c.if-not-branch.false c.in_ok-take_up.ensures.admits c.in_ok-take_up.ensures.served c.preference-before.ensures c.args.log.now c.tell.new.log c.in_err-tell.ensures.err))
 
 pub returns-clause-lines : goal.returns-clause-lines
 returns-clause-lines g c =
-    subst (λ (node : Running). Logs c.ask_on_the_way.result c.args.log.now c.ask_on_the_way.new.log (issued_by g.B.Board.answer node c.args.block.now (next_on g.C.Chain.rules node.chain c.args.block.now.parent c.args.bytes.now)).0) c.self.view_is
+    subst (λ (node : Running). Logs c.ask_on_the_way.result c.args.log.now c.ask_on_the_way.new.log (issued_by g.B.Board.answer node c.args.block.now c.args.bytes (next_on g.C.Chain.rules node.chain c.args.block.now.parent c.args.bytes)).0) c.self.view_is
     (issue_lines g.B.Board.answer (record {
       board = (g.B.Board.board c.self.inside.board);
       chain = (g.C.Chain.held c.self.inside.chain);
+      served = c.self.inside.served;
       roster = c.self.inside.roster;
       polls = c.self.inside.polls;
       queue = (lists_of c.self.inside.queue);
       words = c.self.inside.words;
       last = c.self.inside.numbers;
       recorded = c.self.inside.recorded;
-    }) c.in_ok-admit.field-0 (g.B.Board.board c.admit.new.board) (g.C.Chain.held c.admit.new.chain) (g.B.Board.decided c.admit.new.board) c.args.block.now
-    (next_on g.C.Chain.rules (g.C.Chain.held c.self.inside.chain) c.args.block.now.parent c.args.bytes.now)
-    c.preference-before.result c.if-not-branch.false c.in_ok-admit.ensures.admits c.preference-before.ensures c.ask_on_the_way.result c.args.log.now c.tell.new.log c.ask_on_the_way.new.log
+    }) c.in_ok-take_up.field-0 (g.B.Board.board c.take_up.new.board) (g.C.Chain.held c.take_up.new.chain) c.take_up.new.served (g.B.Board.decided c.take_up.new.board) c.args.block.now c.args.bytes
+    (next_on g.C.Chain.rules (g.C.Chain.held c.self.inside.chain) c.args.block.now.parent c.args.bytes)
+    c.preference-before.result c.if-not-branch.false c.in_ok-take_up.ensures.admits c.in_ok-take_up.ensures.served c.preference-before.ensures c.ask_on_the_way.result c.args.log.now c.tell.new.log c.ask_on_the_way.new.log
     c.in_ok-tell.ensures.ok c.ask_on_the_way.ensures.lines)

@@ -18,6 +18,7 @@ invariant_of-self-in-Waits g c =
           (c.in_ok-offer.ensures.lists ∙ ap (after_offer queue block) c.in-Waits.is),
       subst (λ (k : Remembered). Remembers (g.B.Board.board c.self.inside.board) c.offer.new.self k) (sym c.woken-self-inside.ensures)
           (kept_woken (g.B.Board.board c.self.inside.board) c.self.inside.queue c.offer.new.self c.self.inside.remembered c.offer.ensures.knows c.offer.ensures.ripe c.self.invariant.1),
+      c.self.invariant.2,
     )
 
 pub invariant_of-self-in-Known : goal.invariant_of-self-in-Known
@@ -27,6 +28,7 @@ invariant_of-self-in-Known g c =
       kept_same c.self.inside.params (g.B.Board.board c.self.inside.board) (g.C.Chain.held c.self.inside.chain) c.self.inside.polls (lists_of c.self.inside.queue) c.self.inside.numbers c.self.invariant.0 (lists_of c.offer.new.self) (c.in_ok-offer.ensures.lists ∙ ap (after_offer queue block) c.in-Known.is),
       subst (λ (k : Remembered). Remembers (g.B.Board.board c.self.inside.board) c.offer.new.self k) (sym c.woken-self-inside.ensures)
           (kept_woken (g.B.Board.board c.self.inside.board) c.self.inside.queue c.offer.new.self c.self.inside.remembered c.offer.ensures.knows c.offer.ensures.ripe c.self.invariant.1),
+      c.self.invariant.2,
     )
 
 pub invariant_of-self-in-Invalid : goal.invariant_of-self-in-Invalid
@@ -36,6 +38,7 @@ invariant_of-self-in-Invalid g c =
       kept_same c.self.inside.params (g.B.Board.board c.self.inside.board) (g.C.Chain.held c.self.inside.chain) c.self.inside.polls (lists_of c.self.inside.queue) c.self.inside.numbers c.self.invariant.0 (lists_of c.offer.new.self) (c.in_ok-offer.ensures.lists ∙ ap (after_offer queue block) c.in-Invalid.is),
       subst (λ (k : Remembered). Remembers (g.B.Board.board c.self.inside.board) c.offer.new.self k) (sym c.woken-self-inside.ensures)
           (kept_woken (g.B.Board.board c.self.inside.board) c.self.inside.queue c.offer.new.self c.self.inside.remembered c.offer.ensures.knows c.offer.ensures.ripe c.self.invariant.1),
+      c.self.invariant.2,
     )
 
 pub invariant_of-self-in-Old : goal.invariant_of-self-in-Old
@@ -45,6 +48,7 @@ invariant_of-self-in-Old g c =
       kept_same c.self.inside.params (g.B.Board.board c.self.inside.board) (g.C.Chain.held c.self.inside.chain) c.self.inside.polls (lists_of c.self.inside.queue) c.self.inside.numbers c.self.invariant.0 (lists_of c.offer.new.self) (c.in_ok-offer.ensures.lists ∙ ap (after_offer queue block) c.in-Old.is),
       subst (λ (k : Remembered). Remembers (g.B.Board.board c.self.inside.board) c.offer.new.self k) (sym c.woken-self-inside.ensures)
           (kept_woken (g.B.Board.board c.self.inside.board) c.self.inside.queue c.offer.new.self c.self.inside.remembered c.offer.ensures.knows c.offer.ensures.ripe c.self.invariant.1),
+      c.self.invariant.2,
     )
 
 pub invariant_of-self-in-Full : goal.invariant_of-self-in-Full
@@ -54,4 +58,5 @@ invariant_of-self-in-Full g c =
       kept_same c.self.inside.params (g.B.Board.board c.self.inside.board) (g.C.Chain.held c.self.inside.chain) c.self.inside.polls (lists_of c.self.inside.queue) c.self.inside.numbers c.self.invariant.0 (lists_of c.offer.new.self) (c.in_ok-offer.ensures.lists ∙ ap (after_offer queue block) c.in-Full.is),
       subst (λ (k : Remembered). Remembers (g.B.Board.board c.self.inside.board) c.offer.new.self k) (sym c.woken-self-inside.ensures)
           (kept_woken (g.B.Board.board c.self.inside.board) c.self.inside.queue c.offer.new.self c.self.inside.remembered c.offer.ensures.knows c.offer.ensures.ripe c.self.invariant.1),
+      c.self.invariant.2,
     )

@@ -7,6 +7,7 @@ use Rattle.snow_engine.specs.Closing.{all_gone}
 use Rattle.snow_engine.specs.Remembering.{Remembers}
 use Rattle.snow_engine.proofs.Keeping.{kept_polled}
 use Rattle.snow_engine.proofs.Remembering.{kept_at_poll}
+use Rattle.snow_engine.proofs.Supplying.{serves_polled}
 use Rattle.snow_engine.proofs.running.Running.record.Goals as goal
 
 pub invariant_of-self : goal.invariant_of-self
@@ -15,6 +16,8 @@ invariant_of-self g c = (
       c.apply.ensures.steady c.apply.ensures.parameters c.apply.ensures.held (c.bury.ensures.lists ∙ ap (all_gone (lists_of c.self.inside.queue)) (c.decisions.ensures ∙ c.apply.ensures.decided)),
   subst (λ (k : Remembered). Remembers (g.B.Board.board c.apply.new.board) c.bury.new.queue k) (sym c.polled-self-inside.ensures)
       (kept_at_poll (g.B.Board.board c.self.inside.board) (g.B.Board.board c.apply.new.board) c.self.inside.queue c.bury.new.queue c.self.inside.remembered c.args.votes.now.list c.apply.ensures.board c.bury.ensures.knows c.bury.ensures.seats c.self.invariant.1),
+  serves_polled (g.B.Board.board c.self.inside.board) (g.B.Board.board c.apply.new.board) (g.C.Chain.held c.self.inside.chain) (g.C.Chain.held c.apply.new.chain) c.self.inside.served c.follow.new.served c.args.votes.now.list
+      c.decisions-2.result.now c.self.invariant.0.steady c.apply.ensures.steady c.apply.ensures.board c.apply.ensures.held (c.decisions-2.ensures ∙ c.apply.ensures.decided) c.follow.ensures c.self.invariant.2,
 )
 
 pub invariant_of-self-2 : goal.invariant_of-self-2
@@ -23,4 +26,6 @@ invariant_of-self-2 g c = (
       c.apply.ensures.steady c.apply.ensures.parameters c.apply.ensures.held (c.bury.ensures.lists ∙ ap (all_gone (lists_of c.self.inside.queue)) (c.decisions.ensures ∙ c.apply.ensures.decided)),
   subst (λ (k : Remembered). Remembers (g.B.Board.board c.apply.new.board) c.bury.new.queue k) (sym c.polled-self-inside.ensures)
       (kept_at_poll (g.B.Board.board c.self.inside.board) (g.B.Board.board c.apply.new.board) c.self.inside.queue c.bury.new.queue c.self.inside.remembered c.args.votes.now.list c.apply.ensures.board c.bury.ensures.knows c.bury.ensures.seats c.self.invariant.1),
+  serves_polled (g.B.Board.board c.self.inside.board) (g.B.Board.board c.apply.new.board) (g.C.Chain.held c.self.inside.chain) (g.C.Chain.held c.apply.new.chain) c.self.inside.served c.follow.new.served c.args.votes.now.list
+      c.decisions-2.result.now c.self.invariant.0.steady c.apply.ensures.steady c.apply.ensures.board c.apply.ensures.held (c.decisions-2.ensures ∙ c.apply.ensures.decided) c.follow.ensures c.self.invariant.2,
 )

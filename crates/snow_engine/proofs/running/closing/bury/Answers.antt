@@ -1,5 +1,5 @@
 -- This decision is gone behind those before it.
-use Rattle.std.proofs.Common.{◌≡◌, ◌∙◌, sym, ap, take, None}
+use Rattle.std.proofs.Common.{◌∙◌, sym, ap, take, None}
 use Rattle.std.proofs.lemmas.List.Sums.{fold_more}
 use Rattle.snow_plain.specs.declared.decision.Decision.{Decision}
 use Rattle.snow_issue.specs.Known.{lists_of}
