@@ -1,11 +1,13 @@
 -- Lemmas on chains: where a walk goes on, and where it ends.
-use Rattle.std.proofs.Common.{◌≡◌, ℕ, zero, suc, ◌-◌, ◌<◌, ◌≤◌, cond, List, [], ◌∷◌, ◌++◌, length, map, Option, Some, None, leb, append_assoc, refl, sym, ap, ◌∙◌}
+use Rattle.std.proofs.Common.{◌≡◌, ℕ, zero, suc, ◌+◌, ◌-◌, ◌<◌, ◌≤◌, true, false, cond, sum_by, arith, List, [], ◌∷◌, ◌++◌, length, map, Option, Some, None, leb, append_assoc, refl, sym, ap, ◌∙◌}
 use Rattle.std.specs.Option.{option_map_or}
-use Rattle.std.proofs.lemmas.Bool.{cond-true, cond-false, le-leb, lt-leb}
+use Rattle.std.proofs.lemmas.Bool.{cond-true, cond-false, le-leb, lt-leb, leb-true}
 use Rattle.std.proofs.lemmas.List.{append-nil}
+use Rattle.std.proofs.lemmas.List.Sums.{sum_by-cons}
 use Rattle.snow_getter.specs.declared.served.Served.{Served}
 use Rattle.snow_getter.specs.Serving.{Serving, held}
 use Rattle.snow_getter.specs.Chain.{chain_within}
+use Rattle.snow_getter.specs.ChainLaw.{IsWalk, IsWithin, ChainIsLongest}
 
 -- what follows once a block was looked for
 abbrev from_here : ℕ → ℕ → Serving → Option Served → List Served
@@ -47,3 +49,49 @@ one_taken blocks all left count room s id b bytes more same is fits h =
     rw same (append_assoc blocks (b.bytes ∷ []) (bytes_of (chain_within count (room - length b.bytes) s b.parent))
     ∙ ap (λ l. blocks ++ bytes_of l) (sym (goes_on count room s id b is (rw (← same) fits)))
     ∙ ap (λ n. blocks ++ bytes_of (chain_within n room s id)) (sym more) ∙ h)
+
+-- ---- no walk within the limits is longer
+
+walks : (count room : ℕ) (s : Serving) (id : List ℕ) → IsWalk s id (chain_within count room s id) × IsWithin count room (chain_within count room s id)
+unfolding chain_within
+walks zero room s id = (tt, record { blocks_fit = omega arith; bytes_fit = omega arith })
+walks (suc count) room s id =
+    (elim (held s id) as (λ found. found ≡ held s id → IsWalk s id (from_here count room s found) × IsWithin (suc count) room (from_here count room s found)) [
+      | None ↦ λ is. (tt, record { blocks_fit = omega arith; bytes_fit = omega arith })
+      | Some b ↦ λ is.
+          let rest = walks count (room - length b.bytes) s b.parent in
+          (elim (leb (length b.bytes) room) as
+          (λ t. leb (length b.bytes) room ≡ t
+          → IsWalk s id (cond t (b ∷ chain_within count (room - length b.bytes) s b.parent) [])
+          × IsWithin (suc count) room (cond t (b ∷ chain_within count (room - length b.bytes) s b.parent) [])) [
+            | true ↦ λ t. (
+              (is, rest.0),
+              record {
+                blocks_fit = omega (arith, rest.1.blocks_fit);
+                bytes_fit = omega (
+                  arith,
+                  rest.1.bytes_fit,
+                  leb-true (length b.bytes) room t,
+                  sum_by-cons (λ (c : Served). length c.bytes) b (chain_within count (room - length b.bytes) s b.parent),
+                );
+              },
+            )
+            | false ↦ λ t. (tt, record { blocks_fit = omega arith; bytes_fit = omega arith })
+          ]) refl
+    ]) refl
+
+no_longer : (count room : ℕ) (s : Serving) (id : List ℕ) (others : List Served) → IsWalk s id others → IsWithin count room others
+    → length others ≤ length (chain_within count room s id)
+no_longer count room s id [] walk within = omega arith
+no_longer zero room s id (b ∷ others) walk within = absurd (omega (arith, within.blocks_fit))
+no_longer (suc count) room s id (b ∷ others) walk within =
+    let all : sum_by (λ (c : Served). length c.bytes) (b ∷ others) ≡ length b.bytes + sum_by (λ (c : Served). length c.bytes) others =
+    sum_by-cons (λ (c : Served). length c.bytes) b others in
+    let rest = no_longer count (room - length b.bytes) s b.parent others walk.1
+    (record { blocks_fit = omega (arith, within.blocks_fit); bytes_fit = omega (arith, within.bytes_fit, all) }) in
+    omega (arith, rest, ap length (goes_on count room s id b walk.0 (omega (arith, within.bytes_fit, all))))
+
+pub longest_chain : ChainIsLongest
+longest_chain s id =
+    let own = walks 64 524288 s id in
+    record { walk = own.0; within = own.1; longest = no_longer 64 524288 s id }

@@ -3,10 +3,12 @@
 
 mod answering;
 mod getter;
+mod laws;
 mod pending;
 mod served;
 
 pub use getter::Getter;
+pub use laws::longest_chain_law;
 pub use served::Served;
 
 #[cfg(test)]

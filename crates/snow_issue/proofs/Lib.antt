@@ -1,11 +1,7 @@
 mod Asking
 mod Booleans
 mod Bubbled
-mod GoneAppended
 mod GoneExamples
-mod GoneFiled
-mod GoneForgotten
-mod GoneLatest
 pub mod Examples
 mod Heights
 mod Looked

@@ -1,12 +1,12 @@
 -- The gone list: blocks that were accepted, rejected or taken out, the latest last.
-use Rattle.std.specs.Prelude.{ℕ, Bool, List, [], ◌∷◌, ◌++◌, length, drop, reverse, Option, nat_lt, find, if◌then◌else◌}
+use Rattle.std.specs.Prelude.{ℕ, Bool, List, Option}
 use Rattle.std.specs.Option.{option_and_then, is_some}
-use Rattle.std.specs.Str.{bytes_eq}
+use Rattle.snow_recent.specs.Recent as recent
 use Rattle.snow_issue.specs.declared.gone.Gone.{Gone}
 
 -- the latest entry of a block
 abbrev pub latest : List Gone → List ℕ → Option Gone
-latest gone id = find (λ e. bytes_eq e.id id) (reverse gone)
+latest gone id = recent.latest (λ e. e.id) gone id
 
 -- whether a block is in the list
 abbrev pub holds : List Gone → List ℕ → Bool
@@ -18,4 +18,4 @@ stands_for gone id = option_and_then (λ e. e.parent) (latest gone id)
 
 -- the list with one more entry: the oldest one is forgotten where 8,192 are there
 abbrev pub with_gone : List Gone → Gone → List Gone
-with_gone gone e = if nat_lt (length gone) 8192 then gone ++ e ∷ [] else drop 1 gone ++ e ∷ []
+with_gone gone e = recent.with_latest 8192 gone e

@@ -1,5 +1,4 @@
 pub mod Gone
-pub mod GoneIndex
 pub mod Lists
 pub mod Offering
 pub mod Settling

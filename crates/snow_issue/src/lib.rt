@@ -5,7 +5,6 @@
 mod bubbling;
 mod gets;
 mod gone;
-mod gone_index;
 mod laws;
 mod lineup;
 mod looking;

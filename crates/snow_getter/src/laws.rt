@@ -1,0 +1,8 @@
+//! A law of chains: a function that does nothing and ensures it.
+ghost use Rattle.snow_getter.specs.ChainLaw.{ChainIsLongest};
+
+/// A chain is a walk by parents among the blocks that are held, of at most 64 blocks and 524,288
+/// bytes, and no longer one keeps to these limits.
+pub fn longest_chain_law()
+    ensures { ChainIsLongest }
+{}
