@@ -66,12 +66,12 @@ impl<C: Chain, B: Board> Engine<C, B> {
     /// One event, which came in this frame. A second Start stops the engine with `SecondStart`, and
     /// `Requests` comes where a number is needed and all are used up. After a stop the engine is only
     /// let go: all lines before the stop were appended, after `Memory` a front of the event's lines.
-    pub fn step(&mut self, frame: u64, event: Event, log: &mut Lines) -> Result<(), EngineStop>
-        ensures answer { Steps result self.new (model.step C.rules B.answer self.old frame event).1 }
-        ensures lines { Logs result log.old log.new (model.step C.rules B.answer self.old frame event).0 }
+    pub fn step(&mut self, frame: u64, event: &Event, log: &mut Lines) -> Result<(), EngineStop>
+        ensures answer { Steps result self.new (model.step C.rules B.answer self.old frame event.now).1 }
+        ensures lines { Logs result log.old log.new (model.step C.rules B.answer self.old frame event.now).0 }
     {
         match &mut self.stage {
-            Stage::Deciding(node) => node.step(frame, &event, log),
+            Stage::Deciding(node) => node.step(frame, event, log),
             Stage::Running(node) => node.step(frame, event, log),
         }
     }

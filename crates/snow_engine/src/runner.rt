@@ -128,9 +128,10 @@ fn follow_whole<C: Chain, B: Board>(
     ensures stand { Stands result (Some engine.new) (model.followed C.rules B.answer engine.old frame (model.read payload.now)).1 }
     ensures lines { LogsFrame result [] (told frame result log.new) (model.followed C.rules B.answer engine.old frame (model.read payload.now)).0 }
 {
-    match decode(alloc, payload) {
+    let read = decode(alloc, payload);
+    match &read {
         Ok(event) => ended(frame, engine.step(frame, event, log)),
-        Err(skip) => match kind_of(skip) {
+        Err(skip) => match kind_of(*skip) {
             Ok(kind) => Ok(Some(kind)),
             Err(_) => Err(End::Memory),
         },

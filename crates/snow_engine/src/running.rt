@@ -20,7 +20,7 @@ mod supplying;
 use crate::reporting::write;
 use crate::running::remembering::Remembered;
 use crate::stop::EngineStop;
-use snow_base::{Bytes, Id, NodeId, Nodes, Numbers, Nums};
+use snow_base::{Id, NodeId, Nodes, Numbers, Nums};
 use snow_chain::Chain;
 use snow_flake::Params;
 use snow_getter::Getter;
@@ -117,9 +117,9 @@ impl<C: Chain, B: Board> Running<C, B> {
 
     /// One event, which came in this frame.
     #[tactic(auto, unfolding(crate::specs::Turning::runs_on), using(crate::proofs::Logs::logs_nothing))]
-    pub fn step(&mut self, frame: u64, event: Event, log: &mut Lines) -> Result<(), EngineStop>
-        ensures answer { Steps result self.new (model.runs_on C.rules B.answer self.old frame event).1 }
-        ensures lines { Logs result log.old log.new (model.runs_on C.rules B.answer self.old frame event).0 }
+    pub fn step(&mut self, frame: u64, event: &Event, log: &mut Lines) -> Result<(), EngineStop>
+        ensures answer { Steps result self.new (model.runs_on C.rules B.answer self.old frame event.now).1 }
+        ensures lines { Logs result log.old log.new (model.runs_on C.rules B.answer self.old frame event.now).0 }
     {
         match event {
             Event::Start(_) => Err(EngineStop::SecondStart),
@@ -127,11 +127,11 @@ impl<C: Chain, B: Board> Running<C, B> {
                 node,
                 request,
                 bytes,
-            } => self.take_block(frame, node, request, bytes, log),
-            Event::Chits { node, request, id } => self.take_vote(request, &node, id, log),
-            Event::Timeout { node, request } => self.lapse(request, &node, log),
-            Event::Words { words } => self.take_words(frame, &words, log),
-            Event::Validators { nodes } => self.take_nodes(frame, &nodes, log),
+            } => self.take_block(frame, *node, *request, bytes.list(), log),
+            Event::Chits { node, request, id } => self.take_vote(*request, node, *id, log),
+            Event::Timeout { node, request } => self.lapse(*request, node, log),
+            Event::Words { words } => self.take_words(frame, words, log),
+            Event::Validators { nodes } => self.take_nodes(frame, nodes, log),
             Event::Frontier { .. } | Event::Accepted { .. } | Event::Ancestors { .. } => Ok(()),
             Event::Poll { .. } | Event::Line { .. } => skip(frame, SkipKind::Task, log),
             Event::Stored { .. } => skip(frame, SkipKind::Stage, log),
@@ -154,8 +154,7 @@ impl<C: Chain, B: Board> Running<C, B> {
         ensures answer { Steps result self.new (model.runs_on C.rules B.answer self.old frame (as_event block.now)).1 }
         ensures lines { Logs result log.old log.new (model.runs_on C.rules B.answer self.old frame (as_event block.now)).0 }
     {
-        let bytes = Bytes::from_slice(self.alloc, block.bytes)?;
-        self.take_block(frame, block.node, block.request, bytes, log)
+        self.take_block(frame, block.node, block.request, block.bytes, log)
     }
 
     /// A block came, and the event ends.
@@ -164,11 +163,11 @@ impl<C: Chain, B: Board> Running<C, B> {
         frame: u64,
         peer: NodeId,
         number: u32,
-        bytes: Bytes,
+        bytes: &[u8],
         log: &mut Lines,
     ) -> Result<(), EngineStop>
-        ensures answer { Steps result self.new (then_comes (hearing.block_came C.rules B.answer self.old frame peer number bytes) (model.rounded B.answer)).1 }
-        ensures lines { Logs result log.old log.new (then_comes (hearing.block_came C.rules B.answer self.old frame peer number bytes) (model.rounded B.answer)).0 }
+        ensures answer { Steps result self.new (then_comes (hearing.block_came C.rules B.answer self.old frame peer number bytes.now) (model.rounded B.answer)).1 }
+        ensures lines { Logs result log.old log.new (then_comes (hearing.block_came C.rules B.answer self.old frame peer number bytes.now) (model.rounded B.answer)).0 }
     {
         self.receive_block(frame, peer, number, bytes, log)?;
         self.round(log)

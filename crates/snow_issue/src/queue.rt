@@ -1,10 +1,11 @@
-ghost use Rattle.std.specs.Prelude.{◌≡◌, ◌<◌, List, find, length, IfOk, OnOk, OnErr, false};
+ghost use Rattle.std.specs.Prelude.{◌≡◌, ◌<◌, List, find, length, None, IfOk, OnOk, OnErr, false};
 ghost use Rattle.std.specs.Option.{option_map};
 ghost use Rattle.snow_plain.specs.Board as model;
 ghost use Rattle.snow_issue.specs.declared.work.Get.{Get};
+ghost use Rattle.snow_issue.specs.declared.work.Waiting.{Waiting};
 ghost use Rattle.snow_issue.specs.declared.gone.Gone.{Gone};
 ghost use Rattle.snow_issue.specs.Lists.{begun, has_number, is_asked, is_get, holds_in, after_asked, after_closed, after_held, after_forgotten, after_gone, AreWithinLimits};
-ghost use Rattle.snow_issue.specs.Offering.{offered, after_offer, wanted};
+ghost use Rattle.snow_issue.specs.Offering.{offered, after_offer, refusal, wanted};
 ghost use Rattle.snow_issue.specs.Settling.{work_of, after};
 ghost use Rattle.snow_issue.specs.Bubbling.{bubbled};
 ghost use Rattle.snow_issue.specs.Known.{lists_of, Knows, NoneRipe, RestsAfter};
@@ -15,7 +16,7 @@ use crate::replies::Replies;
 use crate::waiting::WaitingList;
 use crate::work::{Get, Held, Offered, Waiting, Work};
 use crate::{bubbling, offering};
-use snow_base::{Id, NodeId};
+use snow_base::{Bytes, Header, Id, NodeId};
 use snow_plain::Board;
 use std::alloc::{AllocError, Global};
 use std::marker::Model;
@@ -77,10 +78,54 @@ impl Queue {
         ensures ripe { NoneRipe self.old.seats → NoneRipe self.new.seats }
         ensures limits { AreWithinLimits (lists_of self.new) }
     {
-        let header = block.header;
+        if let Some(answer) = offering::refusal(&self.waiting, &self.gone, board, &block.header) {
+            return Ok(answer);
+        }
+        self.wait(block, board)
+    }
+
+    /// Offers a block whose bytes stand elsewhere, as `offer` does. They are copied only where it
+    /// waits.
+    pub fn bring<B: Board>(
+        &mut self,
+        alloc: Global,
+        node: NodeId,
+        header: Header,
+        bytes: &[u8],
+        board: &B,
+    ) -> Result<Offered, AllocError>
+        ensures answer { let block : Waiting = record { node = node; header = header; bytes = bytes.now } in
+            IfOk result (λ answer. answer ≡ offered (lists_of self.old) (B.board board.now) block) }
+        ensures lists { let block : Waiting = record { node = node; header = header; bytes = bytes.now } in
+            IfOk result (λ answer. lists_of self.new ≡ after_offer (lists_of self.old) block answer) }
+        ensures err { OnErr result (self.new ≡ self.old) }
+        ensures knows { (b : model.Board) → Knows self.old b → Knows self.new b }
+        ensures ripe { NoneRipe self.old.seats → NoneRipe self.new.seats }
+        ensures limits { AreWithinLimits (lists_of self.new) }
+    {
         if let Some(answer) = offering::refusal(&self.waiting, &self.gone, board, &header) {
             return Ok(answer);
         }
+        let bytes = Bytes::from_slice(alloc, bytes)?;
+        let block = Waiting {
+            node,
+            header,
+            bytes,
+        };
+        self.wait(block, board)
+    }
+
+    // A block waits that nothing stands against.
+    fn wait<B: Board>(&mut self, block: Waiting, board: &B) -> Result<Offered, AllocError>
+        requires { refusal (lists_of self.old) (B.board board.now) block.header ≡ None }
+        ensures answer { IfOk result (λ answer. answer ≡ offered (lists_of self.old) (B.board board.now) block) }
+        ensures lists { IfOk result (λ answer. lists_of self.new ≡ after_offer (lists_of self.old) block answer) }
+        ensures err { OnErr result (self.new ≡ self.old) }
+        ensures knows { (b : model.Board) → Knows self.old b → Knows self.new b }
+        ensures ripe { NoneRipe self.old.seats → NoneRipe self.new.seats }
+        ensures limits { AreWithinLimits (lists_of self.new) }
+    {
+        let header = block.header;
         self.waiting.push(block)?;
         Ok(Offered::Waits {
             ask: offering::ask(&self.waiting, &self.gets, &self.gone, board, &header),

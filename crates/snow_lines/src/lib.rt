@@ -20,6 +20,3 @@ pub use printing::{print, print_all};
 pub use reading::read;
 pub use text::Text;
 pub use why::{DropWhy, QueryWhy, RestartWhy, SkipKind};
-
-#[cfg(test)]
-mod tests;

@@ -28,14 +28,15 @@ fn whole(alloc: Global, payload: &[u8]) -> Result<Event, Skip>
 {
     let mut reader = Reader::new(payload);
     let tag = reader.u8()?;
-    let event = fields(alloc, tag, &mut reader)?;
-    if reader.rest_len() > 0 {
+    let event = fields(alloc, tag, &mut reader);
+    if event.is_ok() && reader.rest_len() > 0 {
         return Err(Skip::Extra);
     }
-    Ok(event)
+    event
 }
 
-/// The fields of the event with this tag.
+/// The fields of the event with this tag. The functions for the tags aren't put into one another, so
+/// that the room of one kind of event costs no other kind anything.
 #[tactic(auto, unfolding(crate::specs::Reading::fields_at))]
 fn fields(alloc: Global, tag: u8, reader: &mut Reader) -> Result<Event, Skip>
     ensures { Reads result reader.new (fields_at tag reader.old) }

@@ -24,6 +24,3 @@ pub use frame::{Frame, TooLong, first_frame};
 pub use laws::{one_reading, one_spelling};
 pub use sent::{SentBlock, block_in};
 pub use skip::Skip;
-
-#[cfg(test)]
-mod tests;

@@ -11,6 +11,7 @@ use crate::skip::Skip;
 use snow_base::Bytes;
 use std::alloc::Global;
 
+#[inline(never)]
 pub(crate) fn block(alloc: Global, reader: &mut Reader) -> Result<Event, Skip>
     ensures { Reads result reader.new (message_at block_at event.Block reader.old) }
 {
@@ -24,6 +25,7 @@ pub(crate) fn block(alloc: Global, reader: &mut Reader) -> Result<Event, Skip>
     }
 }
 
+#[inline(never)]
 #[tactic(auto, unfolding(crate::specs::Reading::message_at))]
 pub(crate) fn chits(reader: &mut Reader) -> Result<Event, Skip>
     ensures { Reads result reader.new (message_at id_at event.Chits reader.old) }
@@ -34,6 +36,7 @@ pub(crate) fn chits(reader: &mut Reader) -> Result<Event, Skip>
     Ok(Event::Chits { node, request, id })
 }
 
+#[inline(never)]
 #[tactic(auto, unfolding(crate::specs::Reading::sender_at))]
 pub(crate) fn timeout(reader: &mut Reader) -> Result<Event, Skip>
     ensures { Reads result reader.new (sender_at event.Timeout reader.old) }
@@ -43,6 +46,7 @@ pub(crate) fn timeout(reader: &mut Reader) -> Result<Event, Skip>
     Ok(Event::Timeout { node, request })
 }
 
+#[inline(never)]
 #[tactic(auto, unfolding(crate::specs::Reading::message_at))]
 pub(crate) fn frontier(reader: &mut Reader) -> Result<Event, Skip>
     ensures { Reads result reader.new (message_at id_at event.Frontier reader.old) }
@@ -53,6 +57,7 @@ pub(crate) fn frontier(reader: &mut Reader) -> Result<Event, Skip>
     Ok(Event::Frontier { node, request, id })
 }
 
+#[inline(never)]
 #[tactic(auto, unfolding(crate::specs::Reading::message_at))]
 pub(crate) fn accepted(alloc: Global, reader: &mut Reader) -> Result<Event, Skip>
     ensures { Reads result reader.new (message_at (counted_at id_at 4096) event.Accepted reader.old) }
@@ -63,6 +68,7 @@ pub(crate) fn accepted(alloc: Global, reader: &mut Reader) -> Result<Event, Skip
     Ok(Event::Accepted { node, request, ids })
 }
 
+#[inline(never)]
 #[tactic(auto, unfolding(crate::specs::Reading::message_at))]
 pub(crate) fn ancestors(alloc: Global, reader: &mut Reader) -> Result<Event, Skip>
     ensures { Reads result reader.new (message_at (counted_at block_at 2048) event.Ancestors reader.old) }

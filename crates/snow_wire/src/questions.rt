@@ -9,6 +9,7 @@ use crate::reader::Reader;
 use crate::skip::Skip;
 use std::alloc::Global;
 
+#[inline(never)]
 #[tactic(auto, unfolding(crate::specs::Reading::sender_at))]
 pub(crate) fn ask_query(reader: &mut Reader) -> Result<Event, Skip>
     ensures { Reads result reader.new (sender_at event.AskQuery reader.old) }
@@ -18,6 +19,7 @@ pub(crate) fn ask_query(reader: &mut Reader) -> Result<Event, Skip>
     Ok(Event::AskQuery { node, request })
 }
 
+#[inline(never)]
 #[tactic(auto, unfolding(crate::specs::Reading::sender_at))]
 pub(crate) fn ask_frontier(reader: &mut Reader) -> Result<Event, Skip>
     ensures { Reads result reader.new (sender_at event.AskFrontier reader.old) }
@@ -27,6 +29,7 @@ pub(crate) fn ask_frontier(reader: &mut Reader) -> Result<Event, Skip>
     Ok(Event::AskFrontier { node, request })
 }
 
+#[inline(never)]
 #[tactic(auto, unfolding(crate::specs::Reading::message_at))]
 pub(crate) fn ask_accepted(alloc: Global, reader: &mut Reader) -> Result<Event, Skip>
     ensures { Reads result reader.new (message_at (counted_at id_at 4096) event.AskAccepted reader.old) }
@@ -37,6 +40,7 @@ pub(crate) fn ask_accepted(alloc: Global, reader: &mut Reader) -> Result<Event, 
     Ok(Event::AskAccepted { node, request, ids })
 }
 
+#[inline(never)]
 #[tactic(auto, unfolding(crate::specs::Reading::message_at))]
 pub(crate) fn ask_ancestors(reader: &mut Reader) -> Result<Event, Skip>
     ensures { Reads result reader.new (message_at id_at event.AskAncestors reader.old) }
@@ -47,6 +51,7 @@ pub(crate) fn ask_ancestors(reader: &mut Reader) -> Result<Event, Skip>
     Ok(Event::AskAncestors { node, request, id })
 }
 
+#[inline(never)]
 #[tactic(auto, unfolding(crate::specs::Reading::message_at))]
 pub(crate) fn ask_block(reader: &mut Reader) -> Result<Event, Skip>
     ensures { Reads result reader.new (message_at id_at event.AskBlock reader.old) }

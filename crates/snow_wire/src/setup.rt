@@ -12,6 +12,7 @@ use std::alloc::Global;
 /// The greatest length of a line.
 const MAX_LINE: u32 = 1_100_000;
 
+#[inline(never)]
 #[tactic(auto, unfolding(crate::specs::Reading::start_at))]
 pub(crate) fn start(alloc: Global, reader: &mut Reader) -> Result<Event, Skip>
     ensures { Reads result reader.new (start_at reader.old) }
@@ -40,6 +41,7 @@ pub(crate) fn start(alloc: Global, reader: &mut Reader) -> Result<Event, Skip>
     }))
 }
 
+#[inline(never)]
 #[tactic(auto, unfolding(crate::specs::Reading::single_at))]
 pub(crate) fn poll(alloc: Global, reader: &mut Reader) -> Result<Event, Skip>
     ensures { Reads result reader.new (single_at (counted_at id_at 1024) event.Poll reader.old) }
@@ -48,6 +50,7 @@ pub(crate) fn poll(alloc: Global, reader: &mut Reader) -> Result<Event, Skip>
     Ok(Event::Poll { ids })
 }
 
+#[inline(never)]
 #[tactic(auto, unfolding(crate::specs::Reading::single_at))]
 pub(crate) fn words(alloc: Global, reader: &mut Reader) -> Result<Event, Skip>
     ensures { Reads result reader.new (single_at (counted_at (number_at 8) 4096) event.Words reader.old) }
@@ -56,6 +59,7 @@ pub(crate) fn words(alloc: Global, reader: &mut Reader) -> Result<Event, Skip>
     Ok(Event::Words { words })
 }
 
+#[inline(never)]
 #[tactic(auto, unfolding(crate::specs::Reading::single_at))]
 pub(crate) fn stored(alloc: Global, reader: &mut Reader) -> Result<Event, Skip>
     ensures { Reads result reader.new (single_at block_at event.Stored reader.old) }
@@ -64,6 +68,7 @@ pub(crate) fn stored(alloc: Global, reader: &mut Reader) -> Result<Event, Skip>
     Ok(Event::Stored { bytes })
 }
 
+#[inline(never)]
 #[tactic(auto, unfolding(crate::specs::Reading::single_at))]
 pub(crate) fn validators(alloc: Global, reader: &mut Reader) -> Result<Event, Skip>
     ensures { Reads result reader.new (single_at (counted_at weighed_at 4096) event.Validators reader.old) }
@@ -72,6 +77,7 @@ pub(crate) fn validators(alloc: Global, reader: &mut Reader) -> Result<Event, Sk
     Ok(Event::Validators { nodes })
 }
 
+#[inline(never)]
 #[tactic(auto, unfolding(crate::specs::Reading::single_at))]
 pub(crate) fn line(alloc: Global, reader: &mut Reader) -> Result<Event, Skip>
     ensures { Reads result reader.new (single_at (sized_at 1100000) event.Line reader.old) }

@@ -8,9 +8,9 @@ ghost use Rattle.snow_engine.specs.Stepping.{Logs, Steps};
 use crate::reporting::{drop_block, write};
 use crate::running::Running;
 use crate::stop::EngineStop;
-use snow_base::{Bytes, Header, Id, NodeId};
+use snow_base::{Header, Id, NodeId};
 use snow_chain::Chain;
-use snow_issue::{Held, Offered, Waiting};
+use snow_issue::{Held, Offered};
 use snow_lines::{DropWhy, Line, Lines, SkipKind};
 use snow_plain::Board;
 
@@ -21,11 +21,11 @@ impl<C: Chain, B: Board> Running<C, B> {
         frame: u64,
         peer: NodeId,
         number: u32,
-        bytes: Bytes,
+        bytes: &[u8],
         log: &mut Lines,
     ) -> Result<(), EngineStop>
-        ensures answer { Steps result self.new (model.block_came C.rules B.answer self.old frame peer number bytes).1 }
-        ensures lines { Logs result log.old log.new (model.block_came C.rules B.answer self.old frame peer number bytes).0 }
+        ensures answer { Steps result self.new (model.block_came C.rules B.answer self.old frame peer number bytes.now).1 }
+        ensures lines { Logs result log.old log.new (model.block_came C.rules B.answer self.old frame peer number bytes.now).0 }
     {
         if number == 0 {
             return self.read_block(frame, peer, bytes, None, log);
@@ -41,12 +41,12 @@ impl<C: Chain, B: Board> Running<C, B> {
         &mut self,
         frame: u64,
         peer: NodeId,
-        bytes: Bytes,
+        bytes: &[u8],
         asked: Option<Id>,
         log: &mut Lines,
     ) -> Result<(), EngineStop>
-        ensures answer { Steps result self.new (model.block_read C.rules B.answer self.old frame peer bytes asked).1 }
-        ensures lines { Logs result log.old log.new (model.block_read C.rules B.answer self.old frame peer bytes asked).0 }
+        ensures answer { Steps result self.new (model.block_read C.rules B.answer self.old frame peer bytes.now asked).1 }
+        ensures lines { Logs result log.old log.new (model.block_read C.rules B.answer self.old frame peer bytes.now asked).0 }
     {
         self.read_as(frame, peer, bytes, asked, log)?;
         self.settle(log)
@@ -57,14 +57,14 @@ impl<C: Chain, B: Board> Running<C, B> {
         &mut self,
         frame: u64,
         peer: NodeId,
-        bytes: Bytes,
+        bytes: &[u8],
         asked: Option<Id>,
         log: &mut Lines,
     ) -> Result<(), EngineStop>
-        ensures answer { Steps result self.new (model.read_as self.old frame peer bytes asked (C.rules.header_of bytes)).1 }
-        ensures lines { Logs result log.old log.new (model.read_as self.old frame peer bytes asked (C.rules.header_of bytes)).0 }
+        ensures answer { Steps result self.new (model.read_as self.old frame peer bytes.now asked (C.rules.header_of bytes.now)).1 }
+        ensures lines { Logs result log.old log.new (model.read_as self.old frame peer bytes.now asked (C.rules.header_of bytes.now)).0 }
     {
-        let Some(header) = self.chain.parse(bytes.list()) else {
+        let Some(header) = self.chain.parse(bytes) else {
             return write(
                 Line::Skip {
                     frame,
@@ -85,22 +85,20 @@ impl<C: Chain, B: Board> Running<C, B> {
         &mut self,
         peer: NodeId,
         header: Header,
-        bytes: Bytes,
+        bytes: &[u8],
         log: &mut Lines,
     ) -> Result<(), EngineStop>
-        ensures answer { let block : Block = record { node = peer; header = header; bytes = bytes } in
+        ensures answer { let block : Block = record { node = peer; header = header; bytes = bytes.now } in
             Steps result self.new (model.brought self.old block).1 }
-        ensures lines { let block : Block = record { node = peer; header = header; bytes = bytes } in
+        ensures lines { let block : Block = record { node = peer; header = header; bytes = bytes.now } in
             Logs result log.old log.new (model.brought self.old block).0 }
     {
         let id = header.id;
         self.remembered = self.remembered.woken();
-        let block = Waiting {
-            node: peer,
-            header,
-            bytes,
-        };
-        match self.queue.offer(block, &self.board)? {
+        match self
+            .queue
+            .bring(self.alloc, peer, header, bytes, &self.board)?
+        {
             Offered::Known => Ok(()),
             Offered::Invalid => drop_block(id, DropWhy::Invalid, log),
             Offered::Old => drop_block(id, DropWhy::Old, log),

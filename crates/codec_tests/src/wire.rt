@@ -1,5 +1,5 @@
-use super::*;
 use snow_base::{Id, NodeId};
+use snow_wire::{Decoder, Event, SentBlock, Skip, TooLong, block_in, decode, encode};
 use std::test::Fail;
 
 /// A Start, a block and a poll, as they come in a stream.
@@ -215,5 +215,19 @@ fn the_first_fault_is_named(rt: HostRuntime) {
     ];
     for (payload, skip) in table {
         assert_eq!(rt; decode(rt.alloc(), payload).err(), Some(skip));
+    }
+}
+
+#[test]
+fn a_block_is_found_where_it_stands(rt: HostRuntime) {
+    let block = SentBlock {
+        node: NodeId::from_bytes([1; 20]),
+        request: 2,
+        bytes: &[1, 2, 3],
+    };
+    assert_eq!(rt; block_in(&BLOCK), Some(block));
+    let table: [&[u8]; 4] = [&[], &BLOCK[..31], &STORED, &CHITS];
+    for payload in table {
+        assert!(rt; block_in(payload).is_none());
     }
 }

@@ -1,5 +1,7 @@
-use crate::{DropWhy, Line, Page, QueryWhy, RestartWhy, SkipKind, Text, print, print_all, read};
 use snow_base::{Id, Ids, MemSink, Nums};
+use snow_lines::{
+    DropWhy, Line, Page, QueryWhy, RestartWhy, SkipKind, Text, print, print_all, read,
+};
 use std::alloc::{AllocError, Global};
 use std::test::Fail;
 

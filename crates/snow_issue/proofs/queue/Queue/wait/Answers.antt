@@ -4,7 +4,7 @@ use Rattle.snow_issue.specs.declared.marks.Mark.{Mark}
 use Rattle.snow_issue.specs.Known.{Seen, items_of, Tells, NoneRipe}
 use Rattle.snow_issue.proofs.Settled.{knows_by}
 use Rattle.snow_issue.proofs.Taken.{tells_pushed, unripe_pushed}
-use Rattle.snow_issue.proofs.queue.Queue.offer.Goals as goal
+use Rattle.snow_issue.proofs.queue.Queue.wait.Goals as goal
 
 pub returns-clause-knows : goal.returns-clause-knows
 returns-clause-knows g c board knows =

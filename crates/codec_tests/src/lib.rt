@@ -1,0 +1,8 @@
+//! Tests of frames, events and lines through their public calls. They stand apart from the crates
+//! that they test, since a crate is proved a second time with its tests.
+#![tactic(auto)]
+
+#[cfg(test)]
+mod lines;
+#[cfg(test)]
+mod wire;
