@@ -50,12 +50,7 @@ fn time_ready(
 /// A board on which nothing is pending above the block of a number.
 fn above(alloc: Global, number: u16) -> anyhow::Result<PlainBoard<Snowball>> {
     let params = Params::check(1, 1, 1, 1, 1)?;
-    Ok(PlainBoard::begin(
-        alloc,
-        params,
-        named(number),
-        u64::from(number),
-    )?)
+    Ok(PlainBoard::begin(alloc, params, named(number), u64::from(number))?)
 }
 
 /// The block of a number.

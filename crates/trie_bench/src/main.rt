@@ -74,7 +74,11 @@ fn beside<L: Ledger>(
     poll_plain(&mut plain, &params, &votes);
     let both = start.elapsed(rt)?.as_micros();
     let same = plain.leads_to::<Snowball>(&trie.preference());
-    println!(rt; "{} children, {} nodes, same preference: {same}", trie.choices(), trie.nodes())?;
+    println!(rt;
+        "{} children, {} nodes, same preference: {same}",
+        trie.choices(),
+        trie.nodes()
+    )?;
     eprintln!(rt; "10,000 polls of the tree {tree} us, with 10 of plain counters {both} us")?;
     Ok(())
 }
