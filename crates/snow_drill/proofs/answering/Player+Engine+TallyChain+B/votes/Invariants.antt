@@ -1,0 +1,11 @@
+-- The votes so far.
+use Rattle.std.proofs.Common.{fold, take}
+use Rattle.snow_chain.specs.Tally.{tally_rules}
+use Rattle.snow_engine.specs.Node.{step}
+use Rattle.snow_drill.specs.Drill.{with_vote}
+use Rattle.snow_drill.specs.Following.{Follows}
+use Rattle.snow_drill.proofs.answering.Player+Engine+TallyChain+B.votes.Given as goal
+
+abbrev pub invariant-loop-node : goal.invariant-loop-node
+invariant-loop-node g l =
+    Follows l.initial.self l.self (λ d. fold (with_vote (step tally_rules g.B.Board.answer) l.query.number) d (take l.node-index l.query.nodes))

@@ -1,0 +1,12 @@
+-- The values are the words.
+use Rattle.std.proofs.lemmas.Result.{on_ok_weaker}
+use Rattle.snow_chain.specs.Tally.{tally_rules}
+use Rattle.snow_engine.specs.Node.{step}
+use Rattle.snow_drill.proofs.Played.{follows_words}
+use Rattle.snow_drill.proofs.answering.Player+Engine+TallyChain+B.words.Goals as goal
+
+pub returns : goal.returns
+returns g c =
+    on_ok_weaker c.make.result
+    (follows_words (step tally_rules g.B.Board.answer) c.args.self.now c.make.new.self c.args.n c.values.new.self c.in_ok-words.words c.in_ok-words.ensures.values c.in_ok-words.ensures.state)
+    c.make.ensures

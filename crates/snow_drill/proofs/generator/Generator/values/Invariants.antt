@@ -1,0 +1,7 @@
+-- The values so far.
+use Rattle.std.proofs.Common.{◌≡◌}
+use Rattle.snow_drill.specs.Generator.{last_of, values}
+use Rattle.snow_drill.proofs.generator.Generator.values.Given as goal
+
+abbrev pub invariant-loop : goal.invariant-loop
+invariant-loop l = (l.list ≡ values l.counter l.initial.self) × (l.self ≡ last_of l.counter l.initial.self)

@@ -1,0 +1,11 @@
+-- The Timeouts so far.
+use Rattle.std.proofs.Common.{fold, take}
+use Rattle.snow_chain.specs.Tally.{tally_rules}
+use Rattle.snow_engine.specs.Node.{step}
+use Rattle.snow_drill.specs.Drill.{timed_out}
+use Rattle.snow_drill.specs.Following.{Follows}
+use Rattle.snow_drill.proofs.stepping.Player+Engine+TallyChain+B.make.Given as goal
+
+abbrev pub invariant-loop-line : goal.invariant-loop-line
+invariant-loop-line g l =
+    Follows l.initial.self l.self (λ d. fold (timed_out (step tally_rules g.B.Board.answer)) d (take l.line-index l.line-items))

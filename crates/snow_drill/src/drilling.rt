@@ -1,0 +1,135 @@
+ghost use Rattle.std.specs.Prelude.{◌≡◌, ◌<◌, OnOk, IfOk};
+ghost use Rattle.snow_chain.specs.Tally.{tally_rules};
+ghost use Rattle.snow_engine.specs.Node.{started, step};
+ghost use Rattle.snow_engine.specs.declared.task.Task.TheVariants as task;
+ghost use Rattle.snow_drill.specs.Drill as model;
+ghost use Rattle.snow_drill.specs.First.{first, nodes};
+ghost use Rattle.snow_drill.specs.Summary.{drilled};
+ghost use Rattle.snow_drill.specs.Following.{Follows, Opens, Wrote, HasFault};
+
+use crate::account::Account;
+use crate::generator::Generator;
+use crate::player::Player;
+use crate::summary::summary;
+use snow_base::{Bytes, Id, Items, NodeId, Nodes, Nums, Sink, write_whole};
+use snow_chain::TallyChain;
+use snow_engine::{End, Engine, Task};
+use snow_lines::Lines;
+use snow_plain::Board;
+use snow_wire::Start;
+use std::alloc::{AllocError, Global};
+
+/// Makes events from a seed and from the lines that they bring, runs a node on them over the tally
+/// chain, makes so many blocks, and writes a summary of six lines. `Done` where it was written, and
+/// `SinkFault` behind a front of it. At `Memory` nothing was written; it is also told where the engine
+/// stops, which it doesn't in a drill. No other end comes. The drill is this project's own.
+pub fn drill<B: Board, O: Sink>(alloc: Global, seed: u64, blocks: u32, out: &mut O) -> End
+    ensures output { Wrote result (O.written out.old) (O.written out.new)
+        (drilled (step tally_rules B.answer) seed blocks (started tally_rules task.Run first)) }
+    ensures fault { HasFault result (O.faults out.old) (O.faults out.new) }
+{
+    let Ok(text) = drilled::<B>(alloc, seed, blocks) else {
+        return End::Memory;
+    };
+    match write_whole(out, text.list()) {
+        Ok(()) => End::Done,
+        Err(_) => End::SinkFault,
+    }
+}
+
+// The summary of a drill.
+fn drilled<B: Board>(alloc: Global, seed: u64, blocks: u32) -> Result<Bytes, AllocError>
+    ensures { IfOk result (λ text. text
+        ≡ drilled (step tally_rules B.answer) seed blocks (started tally_rules task.Run first)) }
+{
+    let mut player = begin::<B>(alloc, seed)?;
+    player.play(blocks)?;
+    summary(alloc, blocks, player.account)
+}
+
+// A drill behind its Start.
+fn begin<B: Board>(alloc: Global, seed: u64) -> Result<Player<Engine<TallyChain, B>>, AllocError>
+    ensures { IfOk result (λ player. Opens player seed (started tally_rules task.Run first)) }
+{
+    let first = first(alloc)?;
+    let mut log = Lines::new(alloc);
+    let Ok(node) = Engine::start(alloc, Task::Run, &first, &mut log) else {
+        return Err(AllocError);
+    };
+    let mut account = Account::new(alloc);
+    account.keep(log.list())?;
+    Ok(Player {
+        node,
+        frame: 1,
+        generator: Generator::new(seed),
+        made: Items::new(alloc),
+        account,
+        alloc,
+    })
+}
+
+// The Start of a drill.
+fn first(alloc: Global) -> Result<Start, AllocError>
+    ensures { IfOk result (λ start. start ≡ first) }
+{
+    let mut state = Nums::new(alloc);
+    state.push(0)?;
+    state.push(1 << 63)?;
+    Ok(Start {
+        k: 20,
+        alpha_preference: 15,
+        alpha_confidence: 15,
+        beta: 20,
+        repolls: 4,
+        boot: false,
+        last: Id::from_bytes([0; 32]),
+        height: 0,
+        state,
+        nodes: nodes(alloc, 25)?,
+    })
+}
+
+// So many nodes of weight 1.
+#[tactic(auto, unfolding(crate::specs::First::nodes))]
+fn nodes(alloc: Global, count: u8) -> Result<Nodes, AllocError>
+    requires { count < 255 }
+    ensures { IfOk result (λ list. list ≡ nodes count) }
+{
+    let mut list = Nodes::new(alloc);
+    for i in 0..count {
+        list.push((NodeId::from_bytes([i + 1; 20]), 1))?;
+    }
+    Ok(list)
+}
+
+impl<B: Board> Player<Engine<TallyChain, B>> {
+    // The round of a block: words, the block, and three answers.
+    #[tactic(auto, unfolding(crate::specs::Drill::with_round))]
+    fn round(&mut self, number: u64) -> Result<(), AllocError>
+        ensures { OnOk result (Follows self.old self.new (λ d. model.with_round (step tally_rules B.answer) d number)) }
+    {
+        self.words(20)?;
+        self.block(number)?;
+        self.answers(3)
+    }
+
+    // The rounds of so many blocks.
+    #[tactic(auto, unfolding(crate::specs::Drill::with_rounds))]
+    fn rounds(&mut self, blocks: u32) -> Result<(), AllocError>
+        ensures { OnOk result (Follows self.old self.new (λ d. model.with_rounds blocks (step tally_rules B.answer) d)) }
+    {
+        for i in 0..blocks {
+            self.round(u64::from(i) + 1)?;
+        }
+        Ok(())
+    }
+
+    // All that follows the Start.
+    fn play(&mut self, blocks: u32) -> Result<(), AllocError>
+        ensures { OnOk result (Follows self.old self.new (λ d. model.played (step tally_rules B.answer) blocks d)) }
+    {
+        self.words(1024)?;
+        self.rounds(blocks)?;
+        self.answers(64 * u64::from(blocks) + 4096)
+    }
+}

@@ -1,0 +1,63 @@
+ghost use Rattle.std.specs.Prelude.{◌≡◌, ◌<◌, OnOk, IfOk};
+ghost use Rattle.snow_drill.specs.Generator.{following, last_of, values, picked};
+
+use snow_base::Nums;
+use std::alloc::{AllocError, Global};
+use std::marker::Model;
+
+/// A linear congruential generator of 64 bits. Contracts see its last value.
+#[derive(Debug, Drop)]
+pub struct Generator {
+    x: u64,
+}
+
+impl Model for Generator {
+    ghost use Rattle.std.specs.Prelude.{ℕ};
+
+    ghost Value = { ℕ };
+
+    ghost view = { λ a. a.x };
+}
+
+impl Generator {
+    /// It begins as the seed.
+    pub fn new(seed: u64) -> Self
+        ensures { result ≡ seed }
+    {
+        Generator { x: seed }
+    }
+
+    /// The next value.
+    fn next(&mut self) -> u64
+        ensures value { result ≡ following self.old }
+        ensures state { self.new ≡ following self.old }
+    {
+        self.x = self
+            .x
+            .wrapping_mul(6364136223846793005)
+            .wrapping_add(1442695040888963407);
+        self.x
+    }
+
+    /// One of the numbers below `m`, by the next value.
+    pub fn pick(&mut self, m: u64) -> u64
+        requires { 0 < m }
+        ensures value { result ≡ picked m (following self.old) }
+        ensures state { self.new ≡ following self.old }
+    {
+        (self.next() >> 33) % m
+    }
+
+    /// The next values, so many.
+    #[tactic(auto, unfolding(crate::specs::Generator::values, crate::specs::Generator::last_of))]
+    pub fn values(&mut self, alloc: Global, n: u32) -> Result<Nums, AllocError>
+        ensures values { IfOk result (λ list. list ≡ values n self.old) }
+        ensures state { OnOk result (self.new ≡ last_of n self.old) }
+    {
+        let mut list = Nums::new(alloc);
+        for _ in 0..n {
+            list.push(self.next())?;
+        }
+        Ok(list)
+    }
+}

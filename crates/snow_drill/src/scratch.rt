@@ -1,0 +1,26 @@
+use snow_base::{Bytes, Failed, Sink};
+
+/// Where the text of an event's lines waits to be digested. It fails where memory runs out.
+#[derive(Debug, Drop)]
+pub struct Scratch {
+    pub bytes: Bytes,
+    pub faults: u64,
+}
+
+impl Sink for Scratch {
+    ghost use Rattle.std.specs.Prelude.{Some};
+
+    ghost written = { λ s. Some s.bytes };
+
+    ghost faults = { λ s. s.faults };
+
+    fn write(&mut self, bytes: &[u8]) -> Result<usize, Failed> {
+        match self.bytes.append(bytes) {
+            Ok(()) => Ok(bytes.len()),
+            Err(_) => {
+                self.faults = self.faults.saturating_add(1);
+                Err(Failed)
+            }
+        }
+    }
+}

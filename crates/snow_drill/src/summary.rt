@@ -1,0 +1,53 @@
+ghost use Rattle.std.specs.Prelude.{◌≡◌, ◌++◌, ◌≤◌, List, length, IfOk, OnOk};
+ghost use Rattle.sha2.specs.Sha256.{sha256};
+ghost use Rattle.snow_lines.specs.Text.{texts};
+ghost use Rattle.snow_lines.specs.declared.line.Line as told;
+ghost use Rattle.snow_drill.specs.Following.{Digests};
+ghost use Rattle.snow_drill.specs.Summary.{number_line, digits_line, summary_of};
+
+use crate::account::Account;
+use sha2::Digest;
+use snow_base::Bytes;
+use snow_lines::Text;
+use std::alloc::{AllocError, Global};
+
+/// The six lines of a drill of so many blocks.
+pub fn summary(alloc: Global, blocks: u32, account: Account) -> Result<Bytes, AllocError>
+    ensures { (lines : List told.Line) → Digests account lines
+        → IfOk result (λ text. text ≡ summary_of blocks account.tally (sha256 (texts lines))) }
+{
+    let Account { tally, hasher, .. } = account;
+    let mut text = Bytes::new(alloc);
+    put_number(&mut text, b"blocks", u64::from(blocks))?;
+    put_number(&mut text, b"accepted", tally.accepted())?;
+    put_number(&mut text, b"rejected", tally.rejected())?;
+    put_number(&mut text, b"polls", tally.answered())?;
+    put_digits(&mut text, b"last", tally.last().as_bytes())?;
+    put_digits(&mut text, b"sha256", &hasher.finalize())?;
+    Ok(text)
+}
+
+// Appends a line of a word and a number.
+fn put_number(text: &mut Bytes, name: &[u8], number: u64) -> Result<(), AllocError>
+    requires { length name.now ≤ 8 }
+    ensures { OnOk result (text.new ≡ text.old ++ number_line name.now number) }
+{
+    let mut line = Text::new();
+    line.push(name);
+    line.push_number(b' ', number);
+    line.push(b"\n");
+    text.append(line.as_slice())
+}
+
+// Appends a line of a word and the digits of 32 bytes.
+fn put_digits(text: &mut Bytes, name: &[u8], bytes: &[u8; 32]) -> Result<(), AllocError>
+    ensures { OnOk result (text.new ≡ text.old ++ digits_line name.now bytes.now) }
+{
+    let mut digits = [0; 64];
+    let encoded = hex::encode_to_slice(bytes, &mut digits);
+    prove!(encoded.is_ok());
+    text.append(name)?;
+    text.append(b" ")?;
+    text.append(&digits)?;
+    text.append(b"\n")
+}

@@ -1,0 +1,154 @@
+ghost use Rattle.std.specs.Prelude.{◌≡◌, ◌+◌, map, OnOk, IfOk};
+ghost use Rattle.snow_drill.specs.Told.{untold, noted};
+ghost use Rattle.snow_drill.specs.Following.{Takes};
+
+use snow_base::{Id, Items, NodeId};
+use snow_lines::Line;
+use snow_sample::Draws;
+use std::alloc::{AllocError, Global};
+use std::collections::VecDeque;
+use std::marker::Model;
+
+/// A query that isn't answered, with the nodes that it asks, in order.
+#[derive(Debug, Drop)]
+pub struct Asked {
+    pub number: u32,
+    pub nodes: Items<NodeId>,
+}
+
+/// What is kept of the lines so far.
+#[derive(Debug, Drop)]
+pub struct Tally {
+    tip: Id,
+    last: Id,
+    accepted: u64,
+    rejected: u64,
+    asked: VecDeque<Asked>,
+    answered: u64,
+    alloc: Global,
+}
+
+impl Model for Tally {
+    ghost use Rattle.snow_drill.specs.Told.{Told};
+
+    ghost Value = { Told };
+
+    ghost view = { λ a. record {
+      tip = a.tip;
+      last = a.last;
+      accepted = a.accepted;
+      rejected = a.rejected;
+      asked = a.asked.items;
+      answered = a.answered;
+    } };
+}
+
+impl Tally {
+    /// Before the first line.
+    pub fn new(alloc: Global) -> Self
+        ensures { result ≡ untold }
+    {
+        let nobody = Id::from_bytes([0; 32]);
+        Tally {
+            tip: nobody,
+            last: nobody,
+            accepted: 0,
+            rejected: 0,
+            asked: VecDeque::new(alloc),
+            answered: 0,
+            alloc,
+        }
+    }
+
+    /// The block of the last `prefer` line.
+    pub fn tip(&self) -> Id
+        ensures { result ≡ self.now.tip }
+    {
+        self.tip
+    }
+
+    /// The block of the last `accept` line.
+    pub fn last(&self) -> Id
+        ensures { result ≡ self.now.last }
+    {
+        self.last
+    }
+
+    /// How many blocks were accepted.
+    pub fn accepted(&self) -> u64
+        ensures { result ≡ self.now.accepted }
+    {
+        self.accepted
+    }
+
+    /// How many blocks were rejected.
+    pub fn rejected(&self) -> u64
+        ensures { result ≡ self.now.rejected }
+    {
+        self.rejected
+    }
+
+    /// How many queries were answered.
+    pub fn answered(&self) -> u64
+        ensures { result ≡ self.now.answered }
+    {
+        self.answered
+    }
+
+    /// A line was written. Counts past 64 bits are told as want of memory.
+    pub fn note(&mut self, line: &Line) -> Result<(), AllocError>
+        ensures { OnOk result (self.new ≡ noted self.old line.now) }
+    {
+        match line {
+            Line::Prefer { id } => {
+                self.tip = *id;
+                Ok(())
+            }
+            Line::Accept { id } => {
+                self.last = *id;
+                count(&mut self.accepted)
+            }
+            Line::Reject { .. } => count(&mut self.rejected),
+            Line::Query { number, draws, .. } => {
+                let nodes = nodes_of(self.alloc, draws)?;
+                let number = *number;
+                self.asked.push_back(Asked { number, nodes })?;
+                Ok(())
+            }
+            _ => Ok(()),
+        }
+    }
+
+    /// Takes the oldest query that isn't answered, which then counts as answered.
+    pub fn take(&mut self) -> Result<Option<Asked>, AllocError>
+        ensures { IfOk result (λ query. Takes query self.old self.new) }
+    {
+        let Some(query) = self.asked.pop_front() else {
+            return Ok(None);
+        };
+        count(&mut self.answered)?;
+        Ok(Some(query))
+    }
+}
+
+// Counts one more.
+fn count(number: &mut u64) -> Result<(), AllocError>
+    ensures { OnOk result (number.new ≡ number.old + 1) }
+{
+    let Some(more) = number.checked_add(1) else {
+        return Err(AllocError);
+    };
+    *number = more;
+    Ok(())
+}
+
+// The nodes of draws, in order.
+fn nodes_of(alloc: Global, draws: &Draws) -> Result<Items<NodeId>, AllocError>
+    ensures { IfOk result (λ nodes. nodes ≡ map (λ d. d.node) draws.now) }
+{
+    let mut nodes = Items::new(alloc);
+    for draw in draws.list() {
+        nodes.push(draw.node)?;
+    }
+    Ok(nodes)
+}
