@@ -1,5 +1,5 @@
 -- The command that the words in order ask for, by what `clap` says of them.
-use Rattle.std.proofs.Common.{◌≡◌, ◌∙◌, Bool, true, false, cond, ◌&&◌, ◌||◌, ◌==◌, List, [], ◌∷◌, subst, Option, Some, None, is_some, refl, sym, ap, codes, unwrap_or}
+use Rattle.std.proofs.Common.{◌≡◌, ◌∙◌, not, Bool, true, false, cond, ◌&&◌, ◌||◌, ◌==◌, List, [], ◌∷◌, subst, Option, Some, None, is_some, refl, sym, ap, codes, unwrap_or}
 use Rattle.clap.specs.Walk.{Row, Text, texts, first_of, rows_of}
 use Rattle.clap.specs.Simple.{matches_of}
 use Rattle.clap.specs.Kinds.{IsAmong}
@@ -9,14 +9,13 @@ use Rattle.clap.specs.declared.error.kind.ErrorKind.{ErrorKind}
 use Rattle.clap.specs.declared.parser.matches.Found.{Found}
 use Rattle.clap.proofs.WalkLemmas.{both, first_value-rows}
 use Rattle.snow_cli.specs.declared.command.Command.{Command}
-use Rattle.snow_cli.specs.declared.command.Command.TheVariants as command
-use Rattle.snow_cli.specs.Words.{has_dash}
+use Rattle.snow_cli.specs.Words.{has_dash, is_drill}
 use Rattle.snow_cli.specs.Request.{Request, command_in}
-use Rattle.snow_cli.specs.Parsing.{AsksFor, Choice, chain_read, command_read, in_order, is_word, is_word_or_none, option_words, ordered, rule_read, snowman, task_read}
+use Rattle.snow_cli.specs.Parsing.{AsksFor, Choice, command_read, drill_read, in_order, is_word, is_word_or_none, option_words, ordered, service_read, snowman, takes_chain, values_read}
 use Rattle.snow_cli.proofs.Ordered.{Says, matched}
 use Rattle.snow_cli.proofs.Faulted.{faulted}
 use Rattle.snow_cli.proofs.Refused.{refused, taken}
-use Rattle.snow_cli.proofs.Tested.{asked, chain_names, comes, fits, req, rule_names, task_names}
+use Rattle.snow_cli.proofs.Tested.{asked, chain_names, comes, drill_asked, fits, req, rule_names, task_names}
 
 -- ---- the words in order
 
@@ -32,21 +31,22 @@ word_plain (x ∷ xs) e = go (x == 45) refl
 
 -- the words of a request are those of its task and options
 abbrev IsOrdered : Request → List Text → Type 0
-IsOrdered r words = (task : Text) × (r.task ≡ Some task) × (has_dash task ≡ false)
+IsOrdered r words = (task : Text) × (r.task ≡ Some task) × (has_dash task ≡ false) × (takes_chain task r.chain ≡ true)
     × (words ≡ codes "snowman" ∷ task ∷ option_words r.chain r.rule r.seed r.blocks)
 
 tested : (task : Text) (r : Request) (rest : Bool) (words : List Text) → r.task ≡ Some task
-    → cond (is_word task && rest) (Some (codes "snowman" ∷ task ∷ option_words r.chain r.rule r.seed r.blocks)) None ≡ Some words
+    → cond (is_word task && (takes_chain task r.chain && rest)) (Some (codes "snowman" ∷ task ∷ option_words r.chain r.rule r.seed r.blocks)) None ≡ Some words
     → IsOrdered r words
-tested task r rest words is e = go (is_word task && rest) refl
+tested task r rest words is e = go (is_word task && (takes_chain task r.chain && rest)) refl
   where
-    go : (fit : Bool) → (is_word task && rest) ≡ fit → IsOrdered r words
+    go : (fit : Bool) → (is_word task && (takes_chain task r.chain && rest)) ≡ fit → IsOrdered r words
     go false f =
         let bad : None ≡ Some words = rw f at e in
         cc
     go true f =
         let given : Some (codes "snowman" ∷ task ∷ option_words r.chain r.rule r.seed r.blocks) ≡ Some words = rw f at e in
-        (task, is, word_plain task (both (is_word task) rest f).0, ap (λ o. unwrap_or o []) (sym given))
+        let parts = both (is_word task) (takes_chain task r.chain && rest) f in
+        (task, is, word_plain task parts.0, (both (takes_chain task r.chain) rest parts.1).0, ap (λ o. unwrap_or o []) (sym given))
 
 ordered_is : (r : Request) (words : List Text) → ordered r ≡ Some words → IsOrdered r words
 unfolding ordered
@@ -61,19 +61,22 @@ ordered_is r words e = go r.task refl
 
 -- ---- what is read
 
-abbrev read : Option Text → Option Text → Option Text → Option Text → Option Text → Option Command
-read t c u s b = cond (is_some s || is_some b) None (Some (command.Serve (task_read t) (chain_read c) (rule_read u)))
-
--- a default is read as none
-defaults_read : (t c u s b : Option Text) → read t (Some (unwrap_or c (codes "plain"))) (Some (unwrap_or u (codes "snowball"))) s b ≡ asked (task_read t) c u s b
-defaults_read t None None s b = refl
-defaults_read t None (Some v) s b = refl
-defaults_read t (Some v) None s b = refl
-defaults_read t (Some v) (Some w) s b = refl
+-- a default is read as none; a drill has no chain
+defaults_read : (is : Bool) (t : Text) (c u s b : Option Text) → not (is && is_some c) ≡ true
+    → cond is (drill_read (Some (unwrap_or u (codes "snowball"))) s b) (service_read (Some t) (Some (unwrap_or c (codes "plain"))) (Some (unwrap_or u (codes "snowball"))) s b)
+    ≡ cond is (drill_asked c u s b) (service_read (Some t) c u s b)
+defaults_read true t None None s b takes = refl
+defaults_read true t None (Some v) s b takes = refl
+defaults_read true t (Some w) u s b takes = cc
+defaults_read false t None None s b takes = refl
+defaults_read false t None (Some v) s b takes = refl
+defaults_read false t (Some v) None s b takes = refl
+defaults_read false t (Some v) (Some w) s b takes = refl
 
 module _ (tasks chains rules : Choice) (tasks_are : texts tasks.now ≡ task_names) (chains_are : texts chains.now ≡ chain_names) (rules_are : texts rules.now ≡ rule_names) where
-  says_read : (task : Text) (c u s b : Option Text) (rows : List Row) → Says tasks chains rules task c u s b rows → command_read (λ id. first_of id rows) ≡ asked (task_read (Some task)) c u s b
-  says_read task c u s b rows h = (λ i. read (h.0 i) (h.1 i) (h.2 i) (h.3 i) (h.4 i)) ∙ defaults_read (Some task) c u s b
+  says_read : (task : Text) (c u s b : Option Text) (rows : List Row) → takes_chain task c ≡ true → Says tasks chains rules task c u s b rows
+      → command_read (λ id. first_of id rows) ≡ asked task c u s b
+  says_read task c u s b rows takes h = (λ i. values_read (h.0 i) (h.1 i) (h.2 i) (h.3 i) (h.4 i)) ∙ defaults_read (is_drill task) task c u s b takes
 
   -- at `Ok` the matches ask for what the request asks for
   pub found_asks : (words : List Text) (f : Found) → rows_of f ≡ matches_of (snowman tasks chains rules) words
@@ -82,12 +85,12 @@ module _ (tasks chains rules : Choice) (tasks_are : texts tasks.now ≡ task_nam
       let o = ordered_is r words e in
       let task = o.0 in
       let says : Says tasks chains rules task r.chain r.rule r.seed r.blocks (rows_of f) = subst (Says tasks chains rules task r.chain r.rule r.seed r.blocks)
-      (sym (rows ∙ ap (matches_of (snowman tasks chains rules)) o.3)) (matched tasks chains rules task r.chain r.rule r.seed r.blocks o.2) in
+      (sym (rows ∙ ap (matches_of (snowman tasks chains rules)) o.4)) (matched tasks chains rules task r.chain r.rule r.seed r.blocks o.2) in
       let fit : fits task r.chain r.rule ≡ true = taken tasks chains rules tasks_are chains_are rules_are task r.chain r.rule r.seed r.blocks
-      (sym (faulted tasks chains rules task r.chain r.rule r.seed r.blocks o.2) ∙ ap (fault_of (snowman tasks chains rules)) (sym o.3) ∙ none) in
+      (sym (faulted tasks chains rules task r.chain r.rule r.seed r.blocks o.2) ∙ ap (fault_of (snowman tasks chains rules)) (sym o.4) ∙ none) in
       (λ i. command_read (λ id. first_value-rows f id i))
-      ∙ says_read task r.chain r.rule r.seed r.blocks (rows_of f) says
-      ∙ ap (λ (is : Bool). cond is (asked (task_read (Some task)) r.chain r.rule r.seed r.blocks) None) (sym fit)
+      ∙ says_read task r.chain r.rule r.seed r.blocks (rows_of f) o.3 says
+      ∙ ap (λ (is : Bool). cond is (asked task r.chain r.rule r.seed r.blocks) None) (sym fit)
       ∙ sym (comes task r.chain r.rule r.seed r.blocks)
       ∙ ap (λ t. command_in (req t r.chain r.rule r.seed r.blocks)) (sym o.1)
 
@@ -97,7 +100,7 @@ module _ (tasks chains rules : Choice) (tasks_are : texts tasks.now ≡ task_nam
       let o = ordered_is r words e in
       let task = o.0 in
       let unfit : fits task r.chain r.rule ≡ false = refused tasks chains rules tasks_are chains_are rules_are k task r.chain r.rule r.seed r.blocks
-      (subst (IsAmong k) (ap (fault_of (snowman tasks chains rules)) o.3 ∙ faulted tasks chains rules task r.chain r.rule r.seed r.blocks o.2) among) in
-      ap (λ (is : Bool). cond is (asked (task_read (Some task)) r.chain r.rule r.seed r.blocks) None) (sym unfit)
+      (subst (IsAmong k) (ap (fault_of (snowman tasks chains rules)) o.4 ∙ faulted tasks chains rules task r.chain r.rule r.seed r.blocks o.2) among) in
+      ap (λ (is : Bool). cond is (asked task r.chain r.rule r.seed r.blocks) None) (sym unfit)
       ∙ sym (comes task r.chain r.rule r.seed r.blocks)
       ∙ ap (λ t. command_in (req t r.chain r.rule r.seed r.blocks)) (sym o.1)

@@ -8,9 +8,10 @@ use Rattle.snow_engine.specs.declared.task.Task.{Task}
 use Rattle.snow_cli.specs.declared.command.Command.{Command}
 use Rattle.snow_cli.specs.declared.command.ChainName.{ChainName}
 use Rattle.snow_cli.specs.declared.command.ChainName.TheVariants as chain
+use Rattle.snow_cli.specs.declared.command.RuleName.{RuleName}
 use Rattle.snow_cli.specs.declared.command.RuleName.TheVariants as rule
-use Rattle.snow_cli.specs.Words.{Item, Plain, Given, Wrong, items, plain_words, values, is_among, one_of, task_named, chain_named, rule_named, serving, task_with, command_of}
-use Rattle.snow_cli.specs.Request.{Request, blank, with_items, command_in, service}
+use Rattle.snow_cli.specs.Words.{Item, Plain, Given, Wrong, items, plain_words, values, is_among, one_of, the_one, task_named, chain_named, rule_named, seed_named, blocks_named, serving, drilling, drill_of, is_drill, task_with, command_of}
+use Rattle.snow_cli.specs.Request.{Request, blank, with_items, command_in, service, service_of, drill_by}
 
 abbrev Word : Type 0
 Word = List ℕ
@@ -176,15 +177,19 @@ goes (Wrong ∷ more) t c u s b = refl
 
 -- ---- what is gathered, as a command
 
+abbrev serving_of : Task → List Word → List Word → Option Command
+serving_of t c u = serving t (one_of chain.Plain chain_named c) (one_of rule.Snowball rule_named u)
+
 -- the command by its parts
-abbrev made : List Word → Bool → List Word → List Word → Option Command
-made [] only c u = None
-made (word ∷ []) only c u =
-    option_and_then (λ t. cond only (serving t (one_of chain.Plain chain_named c) (one_of rule.Snowball rule_named u)) None) (task_named word)
-made (word ∷ another ∷ more) only c u = None
+abbrev made : List Word → (ok only : Bool) → (c u s b : List Word) → Option Command
+made [] ok only c u s b = None
+made (word ∷ []) ok only c u s b =
+    cond (is_drill word) (cond ok (drill_of c u s b) None) (option_and_then (λ t. cond only (serving_of t c u) None) (task_named word))
+made (word ∷ another ∷ more) ok only c u s b = None
 
 by_parts : (plain : List Word) (all : List Item)
-    → made plain (list_all (is_among decides) all) (values (codes "chain") all) (values (codes "rule") all) ≡ task_with plain all
+    → made plain (list_all (is_among known) all) (list_all (is_among decides) all) (values (codes "chain") all) (values (codes "rule") all) (values (codes "seed") all) (values (codes "blocks") all)
+    ≡ task_with plain all
 by_parts [] all = refl
 by_parts (word ∷ []) all = refl
 by_parts (word ∷ another ∷ more) all = refl
@@ -197,9 +202,12 @@ unfolding command_in
 no_task true c u s b = refl
 no_task false c u s b = refl
 
+-- what is asked of a task that serves
+abbrev served_as : Word → Option Request → Option Command
+served_as word = option_and_then (service_of word)
+
 another_task : (is : Bool) (word : Word) (c u s b : Option Word) → task_named word ≡ None
-    → asked (cond is (Some (req (Some word) c u s b)) None) ≡ None
-unfolding command_in
+    → served_as word (cond is (Some (req (Some word) c u s b)) None) ≡ None
 another_task true word c u s b e = ap (option_and_then (service (req (Some word) c u s b))) e
 another_task false word c u s b e = refl
 
@@ -211,13 +219,11 @@ of_none : (o : Option Task) → option_and_then (λ (t : Task). no_command) o �
 of_none None = refl
 of_none (Some t) = refl
 
-seeded : (is : Bool) (word seed : Word) (c u b : Option Word) → asked (cond is (Some (req (Some word) c u (Some seed) b)) None) ≡ None
-unfolding command_in
+seeded : (is : Bool) (word seed : Word) (c u b : Option Word) → served_as word (cond is (Some (req (Some word) c u (Some seed) b)) None) ≡ None
 seeded true word seed c u b = of_none (task_named word)
 seeded false word seed c u b = refl
 
-limited : (is : Bool) (word blocks : Word) (c u : Option Word) → asked (cond is (Some (req (Some word) c u None (Some blocks))) None) ≡ None
-unfolding command_in
+limited : (is : Bool) (word blocks : Word) (c u : Option Word) → served_as word (cond is (Some (req (Some word) c u None (Some blocks))) None) ≡ None
 limited true word blocks c u = of_none (task_named word)
 limited false word blocks c u = refl
 
@@ -225,12 +231,8 @@ no_rule : (t : Task) (o : Option ChainName) → None ≡ serving t o None
 no_rule t None = refl
 no_rule t (Some name) = refl
 
-abbrev service_of : Task → List Word → List Word → Option Command
-service_of t c u = serving t (one_of chain.Plain chain_named c) (one_of rule.Snowball rule_named u)
-
 -- a task whose options may all stand
-served : (word : Word) (t : Task) → task_named word ≡ Some t → (c u : List Word) → asked (whole true (word ∷ []) c u [] []) ≡ service_of t c u
-unfolding command_in
+served : (word : Word) (t : Task) → task_named word ≡ Some t → (c u : List Word) → served_as word (whole true (word ∷ []) c u [] []) ≡ serving_of t c u
 served word t e [] [] = ap (option_and_then (service (req (Some word) None None None None))) e
 served word t e [] (y ∷ []) = ap (option_and_then (service (req (Some word) None (Some y) None None))) e
 served word t e [] (y ∷ z ∷ ys) = refl
@@ -240,21 +242,81 @@ served word t e (x ∷ []) (y ∷ z ∷ ys) = no_rule t (chain_named x)
 served word t e (x ∷ w ∷ xs) u = refl
 
 service_comes : (word : Word) (t : Task) → task_named word ≡ Some t → (ok : Bool) (c u s b : List Word)
-    → asked (whole ok (word ∷ []) c u s b) ≡ cond (ok && (is_nil s && is_nil b)) (service_of t c u) None
+    → served_as word (whole ok (word ∷ []) c u s b) ≡ cond (ok && (is_nil s && is_nil b)) (serving_of t c u) None
 service_comes word t e true c u [] [] = served word t e c u
 service_comes word t e false c u s b = refl
 service_comes word t e true c u (x ∷ s) b = seeded (is_fit true (word ∷ []) c u (x ∷ s) b) word x (first c) (first u) (first b)
 service_comes word t e true c u [] (x ∷ b) = limited (is_fit true (word ∷ []) c u [] (x ∷ b)) word x (first c) (first u)
 
 task_comes : (ok : Bool) (word : Word) (c u s b : List Word) (o : Option Task) → task_named word ≡ o
-    → asked (whole ok (word ∷ []) c u s b) ≡ option_and_then (λ t. cond (ok && (is_nil s && is_nil b)) (service_of t c u) None) o
+    → served_as word (whole ok (word ∷ []) c u s b) ≡ option_and_then (λ t. cond (ok && (is_nil s && is_nil b)) (serving_of t c u) None) o
 task_comes ok word c u s b (Some t) e = service_comes word t e ok c u s b
 task_comes ok word c u s b None e = another_task (is_fit ok (word ∷ []) c u s b) word (first c) (first u) (first s) (first b) e
 
+-- ---- a drill
+
+no_seed : (r : Option RuleName) (blocks : Option ℕ) → None ≡ drilling r None blocks
+no_seed None blocks = refl
+no_seed (Some y) blocks = refl
+
+no_blocks : (r : Option RuleName) (seed : Option ℕ) → None ≡ drilling r seed None
+no_blocks None seed = refl
+no_blocks (Some y) None = refl
+no_blocks (Some y) (Some n) = refl
+
+chained : (is : Bool) (value : Word) (u s b : Option Word) → asked (cond is (Some (req (Some (codes "drill")) (Some value) u s b)) None) ≡ None
+unfolding command_in
+chained true value u s b = refl
+chained false value u s b = refl
+
+abbrev rule_of : List Word → Option RuleName
+rule_of u = one_of rule.Snowball rule_named u
+
+drill_comes : (ok : Bool) (c u s b : List Word) → asked (whole ok (codes "drill" ∷ []) c u s b) ≡ cond ok (drill_of c u s b) None
+unfolding command_in
+drill_comes false c u s b = refl
+drill_comes true (x ∷ w ∷ c) u s b = refl
+drill_comes true (x ∷ []) u s b = chained (is_fit true (codes "drill" ∷ []) (x ∷ []) u s b) x (first u) (first s) (first b)
+drill_comes true [] (y ∷ z ∷ u) s b = refl
+drill_comes true [] [] (n ∷ m ∷ s) b = refl
+drill_comes true [] (y ∷ []) (n ∷ m ∷ s) b = no_seed (rule_named y) (the_one blocks_named b)
+drill_comes true [] [] [] (k ∷ l ∷ b) = refl
+drill_comes true [] [] (n ∷ []) (k ∷ l ∷ b) = no_blocks (Some rule.Snowball) (seed_named n)
+drill_comes true [] (y ∷ []) [] (k ∷ l ∷ b) = no_blocks (rule_named y) None
+drill_comes true [] (y ∷ []) (n ∷ []) (k ∷ l ∷ b) = no_blocks (rule_named y) (seed_named n)
+drill_comes true [] [] [] [] = refl
+drill_comes true [] [] [] (k ∷ []) = refl
+drill_comes true [] [] (n ∷ []) [] = refl
+drill_comes true [] [] (n ∷ []) (k ∷ []) = refl
+drill_comes true [] (y ∷ []) [] [] = refl
+drill_comes true [] (y ∷ []) [] (k ∷ []) = refl
+drill_comes true [] (y ∷ []) (n ∷ []) [] = refl
+drill_comes true [] (y ∷ []) (n ∷ []) (k ∷ []) = refl
+
+-- a word that doesn't name the drill asks for a task that serves
+serves : (is : Bool) (word : Word) (c u s b : Option Word) → is_drill word ≡ false
+    → asked (cond is (Some (req (Some word) c u s b)) None) ≡ served_as word (cond is (Some (req (Some word) c u s b)) None)
+unfolding command_in
+serves true word c u s b other = ap (λ (is : Bool). cond is (drill_by c u s b) (service_of word (req (Some word) c u s b))) other
+serves false word c u s b other = refl
+
+abbrev WordComes : Bool → Word → List Word → List Word → List Word → List Word → Type 0
+WordComes ok word c u s b = asked (whole ok (word ∷ []) c u s b) ≡ made (word ∷ []) ok (ok && (is_nil s && is_nil b)) c u s b
+
+word_comes : (ok : Bool) (word : Word) (c u s b : List Word) → WordComes ok word c u s b
+word_comes ok word c u s b = go (is_drill word) refl
+  where
+    go : (is : Bool) → is_drill word ≡ is → WordComes ok word c u s b
+    go true e = subst (λ w. WordComes ok w c u s b) (named word (codes "drill") e) (drill_comes ok c u s b)
+    go false e =
+        serves (is_fit ok (word ∷ []) c u s b) word (first c) (first u) (first s) (first b) e
+        ∙ task_comes ok word c u s b (task_named word) refl
+        ∙ ap (λ (is : Bool). cond is (cond ok (drill_of c u s b) None) (option_and_then (λ t. cond (ok && (is_nil s && is_nil b)) (serving_of t c u) None) (task_named word))) (sym e)
+
 -- what is gathered asks for what its parts make
-comes : (ok : Bool) (t c u s b : List Word) → asked (whole ok t c u s b) ≡ made t (ok && (is_nil s && is_nil b)) c u
+comes : (ok : Bool) (t c u s b : List Word) → asked (whole ok t c u s b) ≡ made t ok (ok && (is_nil s && is_nil b)) c u s b
 comes ok [] c u s b = no_task (is_fit ok [] c u s b) (first c) (first u) (first s) (first b)
-comes ok (word ∷ []) c u s b = task_comes ok word c u s b (task_named word) refl
+comes ok (word ∷ []) c u s b = word_comes ok word c u s b
 comes true (x ∷ y ∷ t) c u s b = refl
 comes false (x ∷ y ∷ t) c u s b = refl
 
@@ -306,9 +368,11 @@ items_come : (all : List Item) → asked (with_items blank all) ≡ task_with (p
 items_come all =
     let chains = values (codes "chain") all in
     let rules = values (codes "rule") all in
+    let seeds = values (codes "seed") all in
+    let blocks = values (codes "blocks") all in
     ap asked (goes all None None None None None)
-    ∙ comes (list_all (is_among known) all) (plain_words all) chains rules (values (codes "seed") all) (values (codes "blocks") all)
-    ∙ ap (λ only. made (plain_words all) only chains rules) (sym (splits all))
+    ∙ comes (list_all (is_among known) all) (plain_words all) chains rules seeds blocks
+    ∙ ap (λ only. made (plain_words all) (list_all (is_among known) all) only chains rules seeds blocks) (sym (splits all))
     ∙ by_parts (plain_words all) all
 
 -- what a walk over the words gathers asks for what the words ask for

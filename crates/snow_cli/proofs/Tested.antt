@@ -1,5 +1,5 @@
 -- The names that `clap` tests, and the command that they ask for.
-use Rattle.std.proofs.Common.{◌≡◌, ◌∙◌, Bool, true, false, cond, ◌&&◌, ◌||◌, List, [], ◌∷◌, subst, Option, Some, None, is_some, refl, sym, ap, ap₂, codes}
+use Rattle.std.proofs.Common.{◌≡◌, ◌∙◌, ℕ, Bool, true, false, cond, ◌&&◌, ◌||◌, List, [], ◌∷◌, subst, Option, Some, None, is_some, refl, sym, ap, ap₂, codes}
 use Rattle.std.specs.List.{list_any}
 use Rattle.std.specs.Option.{option_and_then}
 use Rattle.std.specs.Str.{bytes_eq}
@@ -12,12 +12,12 @@ use Rattle.snow_cli.specs.declared.command.ChainName.{ChainName}
 use Rattle.snow_cli.specs.declared.command.ChainName.TheVariants as chain
 use Rattle.snow_cli.specs.declared.command.RuleName.{RuleName}
 use Rattle.snow_cli.specs.declared.command.RuleName.TheVariants as rule
-use Rattle.snow_cli.specs.Words.{task_named, chain_named, rule_named, serving}
-use Rattle.snow_cli.specs.Request.{Request, command_in, named_or, service}
-use Rattle.snow_cli.specs.Parsing.{chain_read, rule_read, task_read}
+use Rattle.snow_cli.specs.Words.{task_named, chain_named, rule_named, seed_named, blocks_named, serving, drilling, is_drill}
+use Rattle.snow_cli.specs.Request.{Request, command_in, named_or, stated, service, service_of, drill_by}
+use Rattle.snow_cli.specs.Parsing.{chain_read, rule_read, task_read, drill_read, service_read}
 
 abbrev pub task_names : List Text
-task_names = codes "decide" ∷ codes "run" ∷ []
+task_names = codes "decide" ∷ codes "run" ∷ codes "drill" ∷ []
 
 abbrev pub chain_names : List Text
 chain_names = codes "plain" ∷ codes "tally" ∷ []
@@ -33,7 +33,7 @@ abbrev pub is_one_or_none : List Text → Option Text → Bool
 is_one_or_none names None = true
 is_one_or_none names (Some v) = is_one names v
 
-same : (a b : Text) → bytes_eq a b ≡ true → a ≡ b
+pub same : (a b : Text) → bytes_eq a b ≡ true → a ≡ b
 same a b e = (bytes_eq-Decides a b).0 e
 
 turned : (a b : Text) → bytes_eq a b ≡ false → bytes_eq b a ≡ false
@@ -62,12 +62,12 @@ chain_is v = at_plain (bytes_eq v (codes "plain")) refl
 abbrev TaskIs : Text → Type 0
 TaskIs v = task_named v ≡ cond (is_one task_names v) (Some (task_read (Some v))) None
 
-task_is : (v : Text) → TaskIs v
-task_is v = at_decide (bytes_eq v (codes "decide")) refl
+task_is : (v : Text) → is_drill v ≡ false → TaskIs v
+task_is v drill = at_decide (bytes_eq v (codes "decide")) refl
   where
     at_run : (is : Bool) → bytes_eq v (codes "run") ≡ is → bytes_eq v (codes "decide") ≡ false → TaskIs v
     at_run true e decide = subst TaskIs (sym (same v (codes "run") e)) refl
-    at_run false e decide = rw (decide, e, turned v (codes "decide") decide, turned v (codes "run") e) refl
+    at_run false e decide = rw (decide, e, turned v (codes "decide") decide, turned v (codes "run") e, turned v (codes "drill") drill) refl
 
     at_decide : (is : Bool) → bytes_eq v (codes "decide") ≡ is → TaskIs v
     at_decide true e = subst TaskIs (sym (same v (codes "decide") e)) refl
@@ -99,9 +99,18 @@ rules_are (Some v) = rule_is v
 abbrev pub fits : Text → Option Text → Option Text → Bool
 fits task c u = is_one task_names task && (is_one_or_none chain_names c && is_one_or_none rule_names u)
 
+-- what tested words of a task that serves ask for
+abbrev of_task : Task → Option Text → Option Text → Option Text → Option Text → Option Command
+of_task t c u s b = cond (is_some s || is_some b) None (Some (command.Serve t (chain_read c) (rule_read u)))
+
+-- what those of a drill ask for
+abbrev pub drill_asked : Option Text → Option Text → Option Text → Option Text → Option Command
+drill_asked None u s b = drill_read u s b
+drill_asked (Some v) u s b = None
+
 -- what tested words ask for
-abbrev pub asked : Task → Option Text → Option Text → Option Text → Option Text → Option Command
-asked t c u s b = cond (is_some s || is_some b) None (Some (command.Serve t (chain_read c) (rule_read u)))
+abbrev pub asked : Text → Option Text → Option Text → Option Text → Option Text → Option Command
+asked word c u s b = cond (is_drill word) (drill_asked c u s b) (service_read (Some word) c u s b)
 
 both : (t : Task) (x : ChainName) (y : RuleName) (p q : Bool)
     → serving t (cond p (Some x) None) (cond q (Some y) None) ≡ cond (p && q) (Some (command.Serve t x y)) None
@@ -121,26 +130,50 @@ req t c u s b = record { task = t; chain = c; rule = u; seed = s; blocks = b }
 
 -- what a request for a task asks for, where its options are names
 served : (word : Text) (t : Task) (c u s b : Option Text)
-    → service (req (Some word) c u s b) t ≡ cond (is_one_or_none chain_names c && is_one_or_none rule_names u) (asked t c u s b) None
+    → service (req (Some word) c u s b) t ≡ cond (is_one_or_none chain_names c && is_one_or_none rule_names u) (of_task t c u s b) None
 served word t c u None None = ap₂ (serving t) (chains_are c) (rules_are u) ∙ both t (chain_read c) (rule_read u) (is_one_or_none chain_names c) (is_one_or_none rule_names u)
 served word t c u None (Some v) = nothing (is_one_or_none chain_names c && is_one_or_none rule_names u)
 served word t c u (Some v) b = nothing (is_one_or_none chain_names c && is_one_or_none rule_names u)
 
-by_task : (word : Text) (c u s b : Option Text) (o : Option Task) → task_named word ≡ o
+by_task : (word : Text) (c u s b : Option Text) (o : Option Task) → is_drill word ≡ false → task_named word ≡ o
     → command_in (req (Some word) c u s b) ≡ option_and_then (service (req (Some word) c u s b)) o
 unfolding command_in
-by_task word c u s b o e = ap (option_and_then (service (req (Some word) c u s b))) e
+by_task word c u s b o other e =
+    ap (λ (is : Bool). cond is (drill_by c u s b) (service_of word (req (Some word) c u s b))) other ∙ ap (option_and_then (service (req (Some word) c u s b))) e
 
 -- a request for a task asks for what its words ask for, where each is a name
-pub comes : (word : Text) (c u s b : Option Text) → command_in (req (Some word) c u s b) ≡ cond (fits word c u) (asked (task_read (Some word)) c u s b) None
-comes word c u s b = at_name (is_one task_names word) refl
+abbrev Comes : Text → Option Text → Option Text → Option Text → Option Text → Type 0
+Comes word c u s b = command_in (req (Some word) c u s b) ≡ cond (fits word c u) (asked word c u s b) None
+
+drill_both : (p : Bool) (y : RuleName) (seed blocks : Option ℕ) → drilling (cond p (Some y) None) seed blocks ≡ cond p (drilling (Some y) seed blocks) None
+drill_both true y seed blocks = refl
+drill_both false y seed blocks = refl
+
+drill_comes : (c u s b : Option Text) → Comes (codes "drill") c u s b
+unfolding command_in
+drill_comes None u s b =
+    ap (λ (r : Option RuleName). drilling r (stated seed_named s) (stated blocks_named b)) (rules_are u)
+    ∙ drill_both (is_one_or_none rule_names u) (rule_read u) (stated seed_named s) (stated blocks_named b)
+drill_comes (Some v) u s b = nothing (is_one chain_names v && is_one_or_none rule_names u)
+
+serve_comes : (word : Text) (c u s b : Option Text) → is_drill word ≡ false → Comes word c u s b
+serve_comes word c u s b other =
+    at_name (is_one task_names word) refl
+    ∙ ap (λ (is : Bool). cond (fits word c u) (cond is (drill_asked c u s b) (of_task (task_read (Some word)) c u s b)) None) (sym other)
   where
     at_name : (is : Bool) → is_one task_names word ≡ is
-        → command_in (req (Some word) c u s b) ≡ cond (is_one task_names word && (is_one_or_none chain_names c && is_one_or_none rule_names u)) (asked (task_read (Some word)) c u s b) None
+        → command_in (req (Some word) c u s b) ≡ cond (is_one task_names word && (is_one_or_none chain_names c && is_one_or_none rule_names u)) (of_task (task_read (Some word)) c u s b) None
     at_name true e =
-        by_task word c u s b (Some (task_read (Some word))) (task_is word ∙ ap (λ (is : Bool). cond is (Some (task_read (Some word))) None) e)
+        by_task word c u s b (Some (task_read (Some word))) other (task_is word other ∙ ap (λ (is : Bool). cond is (Some (task_read (Some word))) None) e)
         ∙ served word (task_read (Some word)) c u s b
-        ∙ ap (λ (is : Bool). cond (is && (is_one_or_none chain_names c && is_one_or_none rule_names u)) (asked (task_read (Some word)) c u s b) None) (sym e)
+        ∙ ap (λ (is : Bool). cond (is && (is_one_or_none chain_names c && is_one_or_none rule_names u)) (of_task (task_read (Some word)) c u s b) None) (sym e)
     at_name false e =
-        by_task word c u s b None (task_is word ∙ ap (λ (is : Bool). cond is (Some (task_read (Some word))) None) e)
-        ∙ ap (λ (is : Bool). cond (is && (is_one_or_none chain_names c && is_one_or_none rule_names u)) (asked (task_read (Some word)) c u s b) None) (sym e)
+        by_task word c u s b None other (task_is word other ∙ ap (λ (is : Bool). cond is (Some (task_read (Some word))) None) e)
+        ∙ ap (λ (is : Bool). cond (is && (is_one_or_none chain_names c && is_one_or_none rule_names u)) (of_task (task_read (Some word)) c u s b) None) (sym e)
+
+pub comes : (word : Text) (c u s b : Option Text) → Comes word c u s b
+comes word c u s b = at_drill (is_drill word) refl
+  where
+    at_drill : (is : Bool) → is_drill word ≡ is → Comes word c u s b
+    at_drill true e = subst (λ w. Comes w c u s b) (sym (same word (codes "drill") e)) (drill_comes c u s b)
+    at_drill false e = serve_comes word c u s b e

@@ -1,16 +1,18 @@
 -- The words of the command line, by the words in order.
-use Rattle.std.proofs.Common.{◌≡◌, ◌∙◌, ℕ, Bool, true, false, not, cond, ◌&&◌, ◌==◌, List, [], ◌∷◌, subst, Option, Some, None, refl, sym, ap, codes, Result}
+use Rattle.std.proofs.Common.{◌≡◌, ◌∙◌, ℕ, ◌-◌, ◌^◌, Bool, true, false, not, cond, ◌&&◌, ◌==◌, List, [], ◌∷◌, fold, length, nat_le, subst, Option, Some, None, refl, sym, ap, codes, Result}
 use Rattle.std.specs.Prelude.{IfOk}
 use Rattle.std.specs.Option.{option_and_then}
 use Rattle.std.proofs.lemmas.Result.{IfOk-weaker}
 use Rattle.std.proofs.lemmas.Bool.{eqb-true}
 use Rattle.clap.specs.Walk.{Text}
 use Rattle.snow_cli.specs.declared.command.Command.{Command}
-use Rattle.snow_cli.specs.Words.{command_of, items}
-use Rattle.snow_cli.specs.Request.{Request, blank, command_in, with_items}
-use Rattle.snow_cli.specs.Parsing.{AsksFor, is_word, is_word_or_none, option_words, ordered, task_read}
+use Rattle.snow_cli.specs.declared.command.RuleName.{RuleName}
+use Rattle.snow_cli.specs.Words.{blocks_named, command_of, drilling, from_least, is_drill, items, number_in, seed_named, with_digit}
+use Rattle.snow_cli.specs.Request.{Request, blank, command_in, stated, with_items}
+use Rattle.snow_cli.specs.Parsing.{AsksFor, drill_read, is_word, is_word_or_none, option_words, ordered, rule_read, service_read}
 use Rattle.snow_cli.proofs.Gathered.{a_request, no_request}
-use Rattle.snow_cli.proofs.Tested.{asked, chain_names, comes, fits, is_one, is_one_or_none, req, rule_names, task_names}
+use Rattle.snow_cli.proofs.Digits.{none_more}
+use Rattle.snow_cli.proofs.Tested.{asked, chain_names, comes, drill_asked, fits, is_one, is_one_or_none, req, rule_names, same, task_names}
 
 -- ---- a name is a word
 
@@ -49,25 +51,85 @@ nothing : (p : Bool) → cond p no_command no_command ≡ None
 nothing true = refl
 nothing false = refl
 
--- where each is a name, the words in order are there
-listed : (task : Text) (c u : Option Text) → is_one task_names task ≡ true → is_one_or_none chain_names c ≡ true → is_one_or_none rule_names u ≡ true
+-- where each is a name, the words in order of a task that serves are there
+listed : (task : Text) (c u : Option Text) → is_drill task ≡ false → is_one task_names task ≡ true → is_one_or_none chain_names c ≡ true → is_one_or_none rule_names u ≡ true
     → ordered (req (Some task) c u None None) ≡ Some (codes "snowman" ∷ task ∷ option_words c u None None)
 unfolding ordered
-listed task c u t x y = rw (one_is_word task_names tasks_are task t, one_or_none chain_names chains_are c x, one_or_none rule_names rules_are u y) refl
+listed task c u other t x y = rw (other, one_is_word task_names tasks_are task t, one_or_none chain_names chains_are c x, one_or_none rule_names rules_are u y) refl
 
-unlisted : (task : Text) (c u : Option Text) (t x y : Bool) → is_one task_names task ≡ t → is_one_or_none chain_names c ≡ x → is_one_or_none rule_names u ≡ y
-    → ordered (req (Some task) c u None None) ≡ None → cond (t && (x && y)) (asked (task_read (Some task)) c u None None) None ≡ None
-unlisted task c u false x y et ex ey none = refl
-unlisted task c u true false y et ex ey none = refl
-unlisted task c u true true false et ex ey none = refl
-unlisted task c u true true true et ex ey none =
-    let bad : Some (codes "snowman" ∷ task ∷ option_words c u None None) ≡ None = sym (listed task c u et ex ey) ∙ none in
+unlisted : (task : Text) (c u : Option Text) (t x y : Bool) → is_drill task ≡ false → is_one task_names task ≡ t → is_one_or_none chain_names c ≡ x → is_one_or_none rule_names u ≡ y
+    → ordered (req (Some task) c u None None) ≡ None → cond (t && (x && y)) (service_read (Some task) c u None None) None ≡ None
+unlisted task c u false x y other et ex ey none = refl
+unlisted task c u true false y other et ex ey none = refl
+unlisted task c u true true false other et ex ey none = refl
+unlisted task c u true true true other et ex ey none =
+    let bad : Some (codes "snowman" ∷ task ∷ option_words c u None None) ≡ None = sym (listed task c u other et ex ey) ∙ none in
     cc
 
-unfit : (task : Text) (c u s b : Option Text) → ordered (req (Some task) c u s b) ≡ None → cond (fits task c u) (asked (task_read (Some task)) c u s b) None ≡ None
-unfit task c u (Some v) b none = nothing (fits task c u)
-unfit task c u None (Some v) none = nothing (fits task c u)
-unfit task c u None None none = unlisted task c u (is_one task_names task) (is_one_or_none chain_names c) (is_one_or_none rule_names u) refl refl refl none
+unserved : (task : Text) (c u s b : Option Text) → is_drill task ≡ false → ordered (req (Some task) c u s b) ≡ None → cond (fits task c u) (service_read (Some task) c u s b) None ≡ None
+unserved task c u (Some v) b other none = nothing (fits task c u)
+unserved task c u None (Some v) other none = nothing (fits task c u)
+unserved task c u None None other none = unlisted task c u (is_one task_names task) (is_one_or_none chain_names c) (is_one_or_none rule_names u) other refl refl refl none
+
+-- ---- a drill that has no words in order
+
+abbrev no_digits : Option ℕ
+no_digits = None
+
+no_number : (p : Bool) → cond p no_digits no_digits ≡ None
+no_number true = refl
+no_number false = refl
+
+behind_dash_none : (least most : ℕ) (x : ℕ) (xs : Text) → (x == 45) ≡ true → number_in least most (x ∷ xs) ≡ None
+behind_dash_none least most x xs e =
+    subst (λ (y : ℕ). number_in least most (y ∷ xs) ≡ None) (sym (eqb-true x 45 e))
+    (ap (λ (n : Option ℕ). cond (nat_le 1 (length (45 ∷ xs)) && nat_le (length (45 ∷ xs)) 20) (from_least least n) None) (none_more most xs)
+    ∙ no_number (nat_le 1 (length (45 ∷ xs)) && nat_le (length (45 ∷ xs)) 20))
+
+-- what is no word is no number
+unworded : (least most : ℕ) (v : Text) → is_word v ≡ false → number_in least most v ≡ None
+unworded least most [] e = refl
+unworded least most (x ∷ xs) e = go (x == 45) refl
+  where
+    go : (is : Bool) → (x == 45) ≡ is → number_in least most (x ∷ xs) ≡ None
+    go true t = behind_dash_none least most x xs t
+    go false t =
+        let bad : true ≡ false = rw t at e in
+        cc
+
+unstated : (least most : ℕ) (o : Option Text) → is_word_or_none o ≡ false → stated (number_in least most) o ≡ None
+unstated least most None e = refl
+unstated least most (Some v) e = unworded least most v e
+
+no_blocks : (y : RuleName) (seed : Option ℕ) → drilling (Some y) seed None ≡ None
+no_blocks y None = refl
+no_blocks y (Some n) = refl
+
+undrilled : (u s b : Option Text) (y p q : Bool) → is_one_or_none rule_names u ≡ y → is_word_or_none s ≡ p → is_word_or_none b ≡ q
+    → ordered (req (Some (codes "drill")) None u s b) ≡ None → cond y (drill_read u s b) None ≡ None
+unfolding ordered
+undrilled u s b false p q ey ep eq none = refl
+undrilled u s b true false q ey ep eq none = ap (λ (n : Option ℕ). drilling (Some (rule_read u)) n (stated blocks_named b)) (unstated 0 (2 ^ 64 - 1) s ep)
+undrilled u s b true true false ey ep eq none =
+    ap (λ (n : Option ℕ). drilling (Some (rule_read u)) (stated seed_named s) n) (unstated 1 10000 b eq) ∙ no_blocks (rule_read u) (stated seed_named s)
+undrilled u s b true true true ey ep eq none =
+    let bad : Some (codes "snowman" ∷ codes "drill" ∷ option_words None u s b) ≡ None = rw (one_or_none rule_names rules_are u ey, ep, eq) at none in
+    cc
+
+unfit_drill : (c u s b : Option Text) → ordered (req (Some (codes "drill")) c u s b) ≡ None → cond (fits (codes "drill") c u) (asked (codes "drill") c u s b) None ≡ None
+unfit_drill (Some v) u s b none = nothing (fits (codes "drill") (Some v) u)
+unfit_drill None u s b none = undrilled u s b (is_one_or_none rule_names u) (is_word_or_none s) (is_word_or_none b) refl refl refl none
+
+abbrev IsUnfit : Text → Option Text → Option Text → Option Text → Option Text → Type 0
+IsUnfit task c u s b = ordered (req (Some task) c u s b) ≡ None → cond (fits task c u) (asked task c u s b) None ≡ None
+
+unfit : (task : Text) (c u s b : Option Text) → IsUnfit task c u s b
+unfit task c u s b = go (is_drill task) refl
+  where
+    go : (is : Bool) → is_drill task ≡ is → IsUnfit task c u s b
+    go true e = subst (λ w. IsUnfit w c u s b) (sym (same task (codes "drill") e)) (unfit_drill c u s b)
+    go false e = λ none.
+        ap (λ (is : Bool). cond (fits task c u) (cond is (drill_asked c u s b) (service_read (Some task) c u s b)) None) e ∙ unserved task c u s b e none
 
 taskless : (c u s b : Option Text) → command_in (req None c u s b) ≡ None
 unfolding command_in

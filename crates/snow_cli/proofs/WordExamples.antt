@@ -59,9 +59,49 @@ pub another_option : command_of (codes "decide" ∷ codes "--seed" ∷ codes "1"
 unfolding command_of items
 another_option = refl
 
-pub another_task : command_of (codes "drill" ∷ codes "--seed" ∷ codes "1" ∷ []) ≡ None
+-- a drill, with zeros in front, with the largest seed and the most blocks, and with a rule
+pub drill : command_of (codes "drill" ∷ codes "--seed" ∷ codes "007" ∷ codes "--blocks=200" ∷ []) ≡ Some (command.Drill rule.Snowball 7 200)
 unfolding command_of items
-another_task = refl
+drill = refl
+
+pub large_drill : command_of (codes "--blocks" ∷ codes "10000" ∷ codes "drill" ∷ codes "--rule=snowflake" ∷ codes "--seed=18446744073709551615" ∷ [])
+    ≡ Some (command.Drill rule.Snowflake 18446744073709551615 10000)
+unfolding command_of items
+large_drill = refl
+
+-- it needs both numbers and takes no chain
+pub drill_without_blocks : command_of (codes "drill" ∷ codes "--seed" ∷ codes "1" ∷ []) ≡ None
+unfolding command_of items
+drill_without_blocks = refl
+
+pub drill_without_seed : command_of (codes "drill" ∷ codes "--blocks" ∷ codes "1" ∷ []) ≡ None
+unfolding command_of items
+drill_without_seed = refl
+
+pub drill_of_a_chain : command_of (codes "drill" ∷ codes "--seed=1" ∷ codes "--blocks=1" ∷ codes "--chain=tally" ∷ []) ≡ None
+unfolding command_of items
+drill_of_a_chain = refl
+
+-- numbers out of bounds, of 21 digits, and with another byte
+pub seed_too_large : command_of (codes "drill" ∷ codes "--seed=18446744073709551616" ∷ codes "--blocks=1" ∷ []) ≡ None
+unfolding command_of items
+seed_too_large = refl
+
+pub too_many_digits : command_of (codes "drill" ∷ codes "--seed=000000000000000000001" ∷ codes "--blocks=1" ∷ []) ≡ None
+unfolding command_of items
+too_many_digits = refl
+
+pub no_blocks : command_of (codes "drill" ∷ codes "--seed=1" ∷ codes "--blocks=0" ∷ []) ≡ None
+unfolding command_of items
+no_blocks = refl
+
+pub too_many_blocks : command_of (codes "drill" ∷ codes "--seed=1" ∷ codes "--blocks=10001" ∷ []) ≡ None
+unfolding command_of items
+too_many_blocks = refl
+
+pub no_digit : command_of (codes "drill" ∷ codes "--seed=+1" ∷ codes "--blocks=1" ∷ []) ≡ None
+unfolding command_of items
+no_digit = refl
 
 pub audit : command_of (codes "audit" ∷ []) ≡ None
 unfolding command_of items

@@ -1,6 +1,6 @@
 -- What the program owes for its words and for the bytes that come in.
 use Rattle.std.specs.Prelude.{◌≡◌, ℕ, List, [], ◌++◌, decimal, Option, Some, None, codes, ⊤, ◌⊎◌}
-use Rattle.std.specs.Io.KnownBytes.{Appends}
+use Rattle.std.specs.Io.KnownBytes.{Appends, IsAtEnd}
 use Rattle.snow_base.specs.Outside.{AppendsFront, Rose}
 use Rattle.snow_flake.specs.Rule.{Answer, by_preference, by_flake}
 use Rattle.snow_flake.specs.declared.params.ParamFault.{ParamFault}
@@ -10,7 +10,11 @@ use Rattle.snow_sample.specs.declared.roster.RosterFault.TheVariants as roster
 use Rattle.snow_chain.specs.Chain.{Rules}
 use Rattle.snow_chain.specs.Plain.{plain_rules}
 use Rattle.snow_chain.specs.Tally.{tally_rules}
-use Rattle.snow_lines.specs.declared.line.Line.{Line}
+use Rattle.snow_lines.specs.Text.{texts}
+use Rattle.snow_engine.specs.declared.task.Task.TheVariants as task
+use Rattle.snow_engine.specs.Node.{started, step}
+use Rattle.snow_drill.specs.First.{first}
+use Rattle.snow_drill.specs.Summary.{drilled}
 use Rattle.snow_engine.specs.declared.end.BadKind.{BadKind}
 use Rattle.snow_engine.specs.declared.end.BadKind.TheVariants as kind
 use Rattle.snow_engine.specs.declared.end.End.{End}
@@ -38,15 +42,22 @@ abbrev pub answer_of : RuleName → Answer
 answer_of rule.Snowball = by_preference
 answer_of rule.Snowflake = by_flake
 
--- the lines for a command and a stream, of which the first 2^40 bytes count; none without a command
-abbrev pub lines_for : Option Command → List ℕ → List Line
-lines_for None bytes = []
-lines_for (Some (command.Serve task c r)) bytes = lines_of (rules_of c) (answer_of r) task (seen bytes)
+-- the six lines of a drill
+abbrev pub drill_text : RuleName → ℕ → ℕ → List ℕ
+drill_text r seed blocks = drilled (step tally_rules (answer_of r)) seed blocks (started tally_rules task.Run first)
+
+-- the text for a command and a stream, of which the first 2^40 bytes count; a drill doesn't look at it, and there is none without a
+-- command
+abbrev pub text_for : Option Command → List ℕ → List ℕ
+text_for None bytes = []
+text_for (Some (command.Serve t c r)) bytes = texts (lines_of (rules_of c) (answer_of r) t (seen bytes))
+text_for (Some (command.Drill r seed blocks)) bytes = drill_text r seed blocks
 
 -- how the run of a command over a stream ends; without a command nothing is run
 abbrev pub end_for : Option Command → List ℕ → Option End
 end_for None bytes = None
-end_for (Some (command.Serve task c r)) bytes = Some (end_of (rules_of c) (answer_of r) task bytes)
+end_for (Some (command.Serve t c r)) bytes = Some (end_of (rules_of c) (answer_of r) t bytes)
+end_for (Some (command.Drill r seed blocks)) bytes = Some end.Done
 
 -- the status for how a run ended, or that nothing was run
 abbrev pub status_of : Option End → Status
@@ -131,8 +142,14 @@ Wrote given before after text = Appends before after text
 -- the source failed: exactly the lines of the whole frames that came were written, and these frames show no stop
 abbrev pub BrokeFor : Option Command → Option (List ℕ) → Option (List ℕ) → Option (List ℕ) → Option (List ℕ) → Type 0
 BrokeFor None left_before left_after out_before out_after = ⊥
-BrokeFor (Some (command.Serve task c r)) left_before left_after out_before out_after =
-    Broke (rules_of c) (answer_of r) task left_before left_after out_before out_after
+BrokeFor (Some (command.Serve t c r)) left_before left_after out_before out_after =
+    Broke (rules_of c) (answer_of r) t left_before left_after out_before out_after
+BrokeFor (Some (command.Drill r seed blocks)) left_before left_after out_before out_after = ⊥
+
+-- a run over a stream that was done has read it to its end; a drill reads nothing
+abbrev pub ReadFor : {S : Type 0} → (S → Option (List ℕ)) → Option Command → S → S → Type 0
+ReadFor left (Some (command.Drill r seed blocks)) before after = after ≡ before
+ReadFor left other before after = IsAtEnd (left after)
 
 -- words that ask for nothing are answered before anything is read or written
 abbrev pub IsUsage : {S O : Type 0} → Status → S → S → O → O → Type 0

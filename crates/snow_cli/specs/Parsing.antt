@@ -12,7 +12,8 @@ use Rattle.snow_cli.specs.declared.command.RuleName.{RuleName}
 use Rattle.snow_cli.specs.declared.command.RuleName.TheVariants as rule
 use Rattle.snow_cli.specs.declared.command.Command.{Command}
 use Rattle.snow_cli.specs.declared.command.Command.TheVariants as command
-use Rattle.snow_cli.specs.Request.{Request, command_in}
+use Rattle.snow_cli.specs.Words.{seed_named, blocks_named, drilling, is_drill}
+use Rattle.snow_cli.specs.Request.{Request, command_in, stated}
 
 -- the names that a value may have
 abbrev pub Choice : Type 0
@@ -67,11 +68,15 @@ is_word_or_none (Some word) = is_word word
 abbrev pub has_words : Request → Bool
 has_words r = is_word_or_none r.chain && (is_word_or_none r.rule && (is_word_or_none r.seed && is_word_or_none r.blocks))
 
--- the words in order, the program's name first, where all others are words
+-- a drill takes no chain; behind `clap` none could tell whether one stood there, since the usual one is filled in
+abbrev pub takes_chain : Text → Option Text → Bool
+takes_chain task chain = not (is_drill task && is_some chain)
+
+-- the words in order, the program's name first, where all others are words and the task takes its options
 abbrev pub in_order : Option Text → Request → Option (List Text)
 in_order None r = None
 in_order (Some task) r =
-    if is_word task && has_words r then Some (codes "snowman" ∷ task ∷ option_words r.chain r.rule r.seed r.blocks) else None
+    if is_word task && (takes_chain task r.chain && has_words r) then Some (codes "snowman" ∷ task ∷ option_words r.chain r.rule r.seed r.blocks) else None
 
 -- the words of a request in order
 unfoldable pub ordered : Request → Option (List Text)
@@ -94,11 +99,25 @@ abbrev pub task_read : Option Text → Task
 task_read None = task.Decide
 task_read (Some value) = if bytes_eq value (codes "run") then task.Run else task.Decide
 
--- the command of the values found by their options' names; a task that serves a stream takes neither a seed nor blocks
+-- whether the task of a tested name is the drill
+abbrev pub is_drill_read : Option Text → Bool
+is_drill_read None = false
+is_drill_read (Some value) = is_drill value
+
+-- a task that serves a stream takes neither a seed nor blocks
+abbrev pub service_read : Option Text → Option Text → Option Text → Option Text → Option Text → Option Command
+service_read t c u s b = if is_some s || is_some b then None else Some (command.Serve (task_read t) (chain_read c) (rule_read u))
+
+-- a drill needs both
+abbrev pub drill_read : Option Text → Option Text → Option Text → Option Command
+drill_read u s b = drilling (Some (rule_read u)) (stated seed_named s) (stated blocks_named b)
+
+abbrev pub values_read : Option Text → Option Text → Option Text → Option Text → Option Text → Option Command
+values_read t c u s b = if is_drill_read t then drill_read u s b else service_read t c u s b
+
+-- the command of the values found by their options' names
 abbrev pub command_read : (Text → Option Text) → Option Command
-command_read value =
-    if is_some (value (codes "seed")) || is_some (value (codes "blocks")) then None
-    else Some (command.Serve (task_read (value (codes "task"))) (chain_read (value (codes "chain"))) (rule_read (value (codes "rule"))))
+command_read value = values_read (value (codes "task")) (value (codes "chain")) (value (codes "rule")) (value (codes "seed")) (value (codes "blocks"))
 
 -- the command is what each request asks for whose words in order these are
 abbrev pub AsksFor : List Text → Option Command → Type 0

@@ -8,7 +8,7 @@ use Rattle.snow_cli.specs.declared.command.ChainName.TheVariants as chain
 use Rattle.snow_cli.specs.declared.command.RuleName.TheVariants as rule
 use Rattle.snow_cli.specs.declared.ordering.Look.{Look}
 use Rattle.snow_cli.specs.declared.ordering.Look.TheVariants as look
-use Rattle.snow_cli.specs.Words.{Form, Alone, Ends, Sets, Names, Dashed, Item, Plain, Given, Wrong, items, has_dash, task_named, chain_named, rule_named, serving}
+use Rattle.snow_cli.specs.Words.{Form, Alone, Ends, Sets, Names, Dashed, Item, Plain, Given, Wrong, items, has_dash, task_named, chain_named, rule_named, seed_named, blocks_named, serving, drilling, is_drill}
 
 -- what a word looks like
 abbrev pub form_seen : Look → Form
@@ -93,10 +93,24 @@ service r task =
     else if is_some r.blocks then None
     else serving task (named_or chain.Plain chain_named r.chain) (named_or rule.Snowball rule_named r.rule)
 
+-- what the value states, where it stands
+abbrev pub stated : {A : Type 0} → (List ℕ → Option A) → Option (List ℕ) → Option A
+stated named None = None
+stated named (Some value) = named value
+
+-- a drill takes no chain
+abbrev pub drill_by : Option (List ℕ) → Option (List ℕ) → Option (List ℕ) → Option (List ℕ) → Option Command
+drill_by None u s b = drilling (named_or rule.Snowball rule_named u) (stated seed_named s) (stated blocks_named b)
+drill_by (Some value) u s b = None
+
+-- the command of a task that serves a stream
+abbrev pub service_of : List ℕ → Request → Option Command
+service_of word r = option_and_then (service r) (task_named word)
+
 -- the command of the task of a name
 abbrev pub task_of : Option (List ℕ) → Request → Option Command
 task_of None r = None
-task_of (Some word) r = option_and_then (service r) (task_named word)
+task_of (Some word) r = if is_drill word then drill_by r.chain r.rule r.seed r.blocks else service_of word r
 
 -- the command that a request asks for
 unfoldable pub command_in : Request → Option Command

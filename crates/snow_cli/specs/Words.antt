@@ -1,5 +1,5 @@
 -- What the words of the command line, without the program's name, ask for.
-use Rattle.std.specs.Prelude.{ℕ, Bool, true, false, ◌==◌, List, [], ◌∷◌, map, drop, Option, Some, None, codes, if◌then◌else◌, bytes_eq}
+use Rattle.std.specs.Prelude.{ℕ, ◌+◌, ◌-◌, ◌*◌, ◌^◌, Bool, true, false, ◌&&◌, ◌==◌, List, [], ◌∷◌, map, drop, fold, length, Option, Some, None, codes, if◌then◌else◌, bytes_eq, nat_le}
 use Rattle.std.specs.Option.{option_and_then}
 use Rattle.std.specs.List.{list_all, list_any, filter_map, before_first, after_first}
 use Rattle.snow_engine.specs.declared.task.Task.{Task}
@@ -99,6 +99,37 @@ is_among names (Plain word) = true
 is_among names (Given name value) = list_any (bytes_eq name) names
 is_among names Wrong = false
 
+-- ---- numbers
+
+-- whether a byte is a decimal digit
+abbrev pub is_digit : ℕ → Bool
+is_digit c = nat_le 48 c && nat_le c 57
+
+-- a number with one digit more, where it is one and what comes is at most this
+abbrev pub with_digit : ℕ → Option ℕ → ℕ → Option ℕ
+with_digit most None c = None
+with_digit most (Some n) c = if is_digit c && nat_le (10 * n + (c - 48)) most then Some (10 * n + (c - 48)) else None
+
+-- the number of digits, where it is at most this
+abbrev pub digits_within : ℕ → List ℕ → Option ℕ
+digits_within most text = fold (with_digit most) (Some 0) text
+
+-- a number that is at least this
+abbrev pub from_least : ℕ → Option ℕ → Option ℕ
+from_least least None = None
+from_least least (Some n) = if nat_le least n then Some n else None
+
+-- the number of one to twenty decimal digits, where it is within these bounds; zeros may lead
+abbrev pub number_in : ℕ → ℕ → List ℕ → Option ℕ
+number_in least most text = if nat_le 1 (length text) && nat_le (length text) 20 then from_least least (digits_within most text) else None
+
+-- the seed that a value states, and the number of blocks
+abbrev pub seed_named : List ℕ → Option ℕ
+seed_named = number_in 0 (2 ^ 64 - 1)
+
+abbrev pub blocks_named : List ℕ → Option ℕ
+blocks_named = number_in 1 10000
+
 -- ---- the command
 
 -- the one value, or the default where there is none
@@ -106,6 +137,12 @@ abbrev pub one_of : {A : Type 0} → A → (List ℕ → Option A) → List (Lis
 one_of default named [] = Some default
 one_of default named (value ∷ []) = named value
 one_of default named (value ∷ another ∷ more) = None
+
+-- the one value, which has to stand
+abbrev pub the_one : {A : Type 0} → (List ℕ → Option A) → List (List ℕ) → Option A
+the_one named [] = None
+the_one named (value ∷ []) = named value
+the_one named (value ∷ another ∷ more) = None
 
 -- the chain of a name
 abbrev pub chain_named : List ℕ → Option ChainName
@@ -140,10 +177,31 @@ serve_with all task =
     then serving task (one_of chain.Plain chain_named (values (codes "chain") all)) (one_of rule.Snowball rule_named (values (codes "rule") all))
     else None
 
+-- a drill by a rule, a seed and a number of blocks, where all three are there
+abbrev pub drilling : Option RuleName → Option ℕ → Option ℕ → Option Command
+drilling (Some r) (Some seed) (Some blocks) = Some (command.Drill r seed blocks)
+drilling r seed blocks = None
+
+-- a drill with these values of its options; it takes no chain
+abbrev pub drill_of : List (List ℕ) → List (List ℕ) → List (List ℕ) → List (List ℕ) → Option Command
+drill_of [] rules seeds blocks = drilling (one_of rule.Snowball rule_named rules) (the_one seed_named seeds) (the_one blocks_named blocks)
+drill_of (value ∷ more) rules seeds blocks = None
+
+-- a drill with these items, where options alone stand among them
+abbrev pub drill_with : List Item → Option Command
+drill_with all =
+    if list_all (is_among (codes "chain" ∷ codes "rule" ∷ codes "seed" ∷ codes "blocks" ∷ [])) all
+    then drill_of (values (codes "chain") all) (values (codes "rule") all) (values (codes "seed") all) (values (codes "blocks") all)
+    else None
+
+-- whether a word names the drill
+abbrev pub is_drill : List ℕ → Bool
+is_drill word = bytes_eq word (codes "drill")
+
 -- the task that the one plain word names, with these items
 abbrev pub task_with : List (List ℕ) → List Item → Option Command
 task_with [] all = None
-task_with (word ∷ []) all = option_and_then (serve_with all) (task_named word)
+task_with (word ∷ []) all = if is_drill word then drill_with all else option_and_then (serve_with all) (task_named word)
 task_with (word ∷ another ∷ more) all = None
 
 -- what the words ask for, where they ask for a task

@@ -30,4 +30,13 @@ pub enum Command {
         /// The rule of the polls.
         rule: RuleName,
     },
+    /// A node that runs on events of the program's own making, over blocks of the tally chain.
+    Drill {
+        /// The rule of the polls.
+        rule: RuleName,
+        /// What the events follow from.
+        seed: u64,
+        /// How many blocks are made, from 1 to 10,000.
+        blocks: u32,
+    },
 }

@@ -2,6 +2,7 @@
 #![tactic(auto)]
 
 mod command;
+mod figures;
 mod ordering;
 mod parsing;
 mod program;

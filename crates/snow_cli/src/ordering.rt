@@ -48,7 +48,7 @@ impl<'a> Model for Asked<'a> {
 
 impl<'a> Asked<'a> {
     ghost use Rattle.std.specs.Prelude.{◌≡◌, ◌∷◌, codes, option_map, IfOk};
-    ghost use Rattle.snow_cli.specs.Parsing.{has_words, option_words, ordered};
+    ghost use Rattle.snow_cli.specs.Parsing.{has_words, option_words, ordered, takes_chain};
     ghost use Rattle.snow_cli.specs.Request.{Comes, blank, texts, with_item, with_value};
     ghost use Rattle.snow_cli.specs.Words.{Plain};
 
@@ -101,7 +101,14 @@ impl<'a> Asked<'a> {
             && is_word_or_none(self.blocks)
     }
 
-    /// The words in order, where there is a task and all are words.
+    /// Whether the task takes the chain, where one stands.
+    fn takes_chain(&self, task: &str) -> bool
+        ensures { result ≡ takes_chain task.now self.now.chain }
+    {
+        !(task == "drill" && self.chain.is_some())
+    }
+
+    /// The words in order, where there is a task that takes its options and all are words.
     #[tactic(auto, unfolding(crate::specs::Parsing::ordered))]
     fn in_order(&self, alloc: Global) -> Result<Option<Vec<String>>, AllocError>
         ensures { IfOk result (λ list. option_map (λ l. texts l.items) list ≡ ordered self.now) }
@@ -110,6 +117,9 @@ impl<'a> Asked<'a> {
             return Ok(None);
         };
         if !is_word(task) {
+            return Ok(None);
+        }
+        if !self.takes_chain(task) {
             return Ok(None);
         }
         if !self.has_words() {
@@ -264,7 +274,8 @@ fn ask<'a>(words: &'a [String]) -> Option<Asked<'a>>
 
 /// The words in order: the program's name, the one plain word, and `--name=value` for each option
 /// that stands, in the order chain, rule, seed, blocks. There are none where a word has no place, an
-/// option stands twice, or the plain word or a value is empty or begins with `-`.
+/// option stands twice, the plain word or a value is empty or begins with `-`, or a drill is given a
+/// chain.
 pub fn order(alloc: Global, words: &[String]) -> Result<Option<Vec<String>>, AllocError>
     ensures { IfOk result (λ list. option_map (λ l. texts l.items) list
         ≡ option_and_then ordered (with_items blank (items (texts words.now)))) }

@@ -1,9 +1,10 @@
 ghost use Rattle.std.specs.Prelude.{◌≡◌, option_map, IfOk};
 ghost use Rattle.clap.specs.Words.{app_of, found_of, first_value, rows_of, with_rule, FailsBy, fault_of, matches_of};
-ghost use Rattle.snow_cli.specs.Parsing.{AsksFor, chain_read, choice_rule, command_read, rule_read, open_rule, snowman, task_read, task_rule};
+ghost use Rattle.snow_cli.specs.Parsing.{AsksFor, chain_read, choice_rule, command_read, drill_read, is_drill_read, rule_read, open_rule, snowman, task_read, task_rule};
 ghost use Rattle.snow_cli.specs.Request.{texts};
 
 use crate::command::{ChainName, Command, RuleName};
+use crate::figures::number_in;
 use clap::builder::ValueParser;
 use clap::error::ErrorKind;
 use clap::{Arg, ArgMatches, Error};
@@ -11,7 +12,7 @@ use snow_engine::Task;
 use std::alloc::{AllocError, Global};
 
 /// The names of the tasks.
-static TASKS: [&str; 2] = ["decide", "run"];
+static TASKS: [&str; 3] = ["decide", "run", "drill"];
 
 /// The names of the chains.
 static CHAINS: [&str; 2] = ["plain", "tally"];
@@ -122,6 +123,13 @@ pub fn command_of_ordered(alloc: Global, words: &[String]) -> Result<Option<Comm
 fn read(matches: &ArgMatches) -> Option<Command>
     ensures { result ≡ command_read (first_value (found_of matches.now)) }
 {
+    if is_drill(matches.get_str("task")) {
+        return drill(
+            matches.get_str("rule"),
+            matches.get_str("seed"),
+            matches.get_str("blocks"),
+        );
+    }
     if matches.get_str("seed").is_some() || matches.get_str("blocks").is_some() {
         return None;
     }
@@ -129,6 +137,29 @@ fn read(matches: &ArgMatches) -> Option<Command>
         task: task_of(matches.get_str("task")),
         chain: chain_of(matches.get_str("chain")),
         rule: rule_of(matches.get_str("rule")),
+    })
+}
+
+/// Whether this tested name is the drill's.
+fn is_drill(name: Option<&str>) -> bool
+    ensures { result ≡ is_drill_read (option_map (λ s. s.now) name.entry) }
+{
+    match name {
+        Some(name) => name == "drill",
+        None => false,
+    }
+}
+
+/// A drill by this tested rule, which needs a seed and a number of blocks.
+fn drill(rule: Option<&str>, seed: Option<&str>, blocks: Option<&str>) -> Option<Command>
+    ensures { result ≡ drill_read (option_map (λ s. s.now) rule.entry) (option_map (λ s. s.now) seed.entry) (option_map (λ s. s.now) blocks.entry) }
+{
+    let seed = number_in(seed?, 0, u64::MAX)?;
+    let blocks = number_in(blocks?, 1, 10_000)?;
+    Some(Command::Drill {
+        rule: rule_of(rule),
+        seed,
+        blocks: blocks as u32,
     })
 }
 

@@ -2,6 +2,7 @@ mod asked;
 mod asking;
 mod cuts;
 mod decisions;
+mod drills;
 mod faults;
 mod inputs;
 mod runs;
