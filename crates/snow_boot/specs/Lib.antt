@@ -1,5 +1,7 @@
 pub mod Asking
+pub mod BootCode
 pub mod Booting
+pub mod Calling
 pub mod Electing
 pub mod Executing
 pub mod Keeping

@@ -4,6 +4,7 @@
 mod block;
 mod laws;
 mod question;
+mod stage;
 mod stop;
 mod verdict;
 
@@ -12,5 +13,6 @@ pub use laws::{
     asked_law, asked_once_law, end_law, execution_law, linked_law, path_law, quiet_law, run_law,
 };
 pub use question::{Candidate, Question, Request};
+pub use stage::Stage;
 pub use stop::BootStop;
 pub use verdict::Verdict;
