@@ -2,9 +2,13 @@ mod Ended
 mod Examples
 mod Executed
 mod Holding
+mod Indexed
+mod Known
 mod Linked
 mod Quiet
 mod Requested
+mod Storing
+mod Straying
 mod Tests
 mod Walking
 mod Whole

@@ -2,11 +2,13 @@
 use Rattle.std.specs.Prelude.{◌≡◌, ℕ, zero, suc, Bool, List, refl}
 use Rattle.std.specs.Coded.{Coded, coded_ℕ, coded_bool, coded_list, coded×, code_by}
 use Rattle.snow_sample.specs.declared.roster.Node.{Node}
+use Rattle.snow_issue.specs.declared.work.Get.{Get}
 use Rattle.snow_boot.specs.declared.block.KeptBlock.{KeptBlock}
 use Rattle.snow_boot.specs.declared.question.Candidate.{Candidate}
 use Rattle.snow_boot.specs.declared.question.Question.{Question}
 use Rattle.snow_boot.specs.declared.question.Question.TheVariants as question
-use Rattle.snow_boot.specs.declared.question.Request.{Request}
+use Rattle.snow_boot.specs.Fetching.{Hunt}
+use Rattle.snow_boot.specs.Indexing.{Shelf}
 use Rattle.snow_boot.specs.Keeping.{Store}
 use Rattle.snow_boot.specs.Paths.{Fetch}
 use Rattle.snow_boot.specs.Booting.{Boot}
@@ -30,10 +32,16 @@ coded_store =
     code_by (Bytes × (ℕ × List KeptBlock)) (coded× coded_bytes (coded× coded_ℕ (coded_list coded_block)))
     (λ s. (s.last, (s.height, s.kept))) (λ f. record { last = f.0; height = f.1.0; kept = f.1.1 }) (λ _. refl)
 
+abbrev pub coded_shelf : Coded Shelf
+coded_shelf = code_by (Bool × Store) (coded× coded_bool coded_store) (λ s. (s.whole, s.store)) (λ f. record { whole = f.0; store = f.1 }) (λ _. refl)
+
 abbrev pub coded_fetch : Coded Fetch
 coded_fetch =
     code_by (Store × (List Bytes × List Bytes)) (coded× coded_store (coded× (coded_list coded_bytes) (coded_list coded_bytes)))
     (λ s. (s.store, (s.targets, s.found))) (λ f. record { store = f.0; targets = f.1.0; found = f.1.1 }) (λ _. refl)
+
+abbrev pub coded_hunt : Coded Hunt
+coded_hunt = code_by (Bool × Fetch) (coded× coded_bool coded_fetch) (λ s. (s.whole, s.fetch)) (λ f. record { whole = f.0; fetch = f.1 }) (λ _. refl)
 
 abbrev coded_node : Coded Node
 coded_node = code_by (Bytes × ℕ) (coded× coded_bytes coded_ℕ) (λ n. (n.id, n.weight)) (λ f. record { id = f.0; weight = f.1 }) (λ _. refl)
@@ -41,7 +49,7 @@ coded_node = code_by (Bytes × ℕ) (coded× coded_bytes coded_ℕ) (λ n. (n.id
 abbrev coded_candidate : Coded Candidate
 coded_candidate = code_by (Bytes × ℕ) (coded× coded_bytes coded_ℕ) (λ c. (c.id, c.weight)) (λ f. record { id = f.0; weight = f.1 }) (λ _. refl)
 
-abbrev coded_request : Coded Request
+abbrev coded_request : Coded Get
 coded_request =
     code_by (ℕ × (Bytes × Bytes)) (coded× coded_ℕ (coded× coded_bytes coded_bytes))
     (λ r. (r.number, (r.node, r.id))) (λ f. record { number = f.0; node = f.1.0; id = f.1.1 }) (λ _. refl)
@@ -67,7 +75,7 @@ coded_question = code_by ℕ coded_ℕ numbered of_number same
 
 abbrev pub coded_boot : Coded Boot
 coded_boot =
-    code_by (Store × (List Node × (Question × (ℕ × (List Node × (List Candidate × (List Bytes × (List Bytes × List Request))))))))
+    code_by (Store × (List Node × (Question × (ℕ × (List Node × (List Candidate × (List Bytes × (List Bytes × List Get))))))))
     (coded× coded_store (coded× (coded_list coded_node) (coded× coded_question (coded× coded_ℕ (coded× (coded_list coded_node) (coded× (coded_list coded_candidate)
     (coded× (coded_list coded_bytes) (coded× (coded_list coded_bytes) (coded_list coded_request)))))))))
     (λ b. (b.store, (b.nodes, (b.question, (b.number, (b.awaited, (b.candidates, (b.targets, (b.found, b.requests)))))))))

@@ -23,11 +23,11 @@ IsAlone held = held ≡ begun held.last (last_state held)
 
 -- what a call needs: bootstrapping goes on, the chain's last accepted block is the one from which it began and its state is the
 -- only one that the chain holds, and the number of each open request was drawn
-pub record MayGoOn (course : Course) (held : Held) (drawn : ℕ) : Type 0 where
+pub record MayGoOn (course : Course) (held : Held) (number : ℕ) : Type 0 where
   pub goes_on : course.goes_on ≡ true
   pub last : held.last ≡ course.boot.store.last
   pub alone : IsAlone held
-  pub drawn : All (λ r. r.number ≤ drawn) course.boot.requests
+  pub drawn : All (λ r. r.number ≤ number) course.boot.requests
 
 -- where bootstrapping goes on, this holds
 abbrev pub OnGoing : Result Stage BootStop → Type 0 → Type 0

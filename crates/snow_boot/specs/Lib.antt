@@ -4,6 +4,8 @@ pub mod Booting
 pub mod Calling
 pub mod Electing
 pub mod Executing
+pub mod Fetching
+pub mod Indexing
 pub mod Keeping
 pub mod Linking
 pub mod OutcomeLaw

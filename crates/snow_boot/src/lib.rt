@@ -2,17 +2,22 @@
 #![tactic(auto)]
 
 mod block;
+mod fetching;
+mod idset;
+mod index;
 mod laws;
 mod question;
 mod stage;
 mod stop;
+mod store;
 mod verdict;
 
 pub use block::KeptBlock;
+pub use index::Children;
 pub use laws::{
     asked_law, asked_once_law, end_law, execution_law, linked_law, path_law, quiet_law, run_law,
 };
-pub use question::{Candidate, Question, Request};
+pub use question::{Candidate, Question};
 pub use stage::Stage;
 pub use stop::BootStop;
 pub use verdict::Verdict;

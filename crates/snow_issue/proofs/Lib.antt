@@ -1,5 +1,5 @@
-mod Asking
-mod Booleans
+pub mod Asking
+pub mod Booleans
 mod Bubbled
 mod GoneAppended
 mod GoneExamples
