@@ -6,6 +6,7 @@ mod Indexed
 mod Known
 mod Linked
 mod Quiet
+mod Replied
 mod Requested
 mod Storing
 mod Straying

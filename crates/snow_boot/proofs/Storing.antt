@@ -9,7 +9,7 @@ use Rattle.snow_boot.specs.declared.index.Children.{Children}
 use Rattle.snow_boot.specs.declared.verdict.Verdict.TheVariants as verdict
 use Rattle.snow_boot.specs.Keeping.{Store, held, highest, taken, keeping}
 use Rattle.snow_boot.specs.Linking.{IsLinked, held_heights}
-use Rattle.snow_boot.specs.Paths.{path, last_of, wanted_below, missed_from}
+use Rattle.snow_boot.specs.Paths.{Fetch, path, last_of, wanted_below, missed_from, missed}
 use Rattle.snow_boot.specs.Indexing.{IsStored, HasPlaces, HasTops, HasChildren, top_of}
 use Rattle.snow_boot.proofs.Tests.{split_on, clash, none_not, same_some}
 use Rattle.snow_boot.proofs.Indexed.{turned}
@@ -84,6 +84,11 @@ missed_kept s noted id top low runs l same e is =
     ap (missed_from s noted id) t.1
     ∙ ap (λ i. wanted_below s.height (last_of (path s.kept t.0.header.height i))) (sym at.1)
     ∙ ap (wanted_below s.height) (bottom s t.0.header.height t.0 l at.0 ∙ ap (held s.kept) where_low)
+
+-- what a target misses, by its highest block
+pub missed_is : (f : Fetch) (t : List ℕ) → missed_from f.store f.found t (highest f.store.kept t) ≡ missed f t
+unfolding missed
+missed_is f t = refl
 
 -- nothing is kept
 pub none_stored : (last : List ℕ) (height : ℕ) (places : BTreeMap ℕ ℕ) (tops : BTreeMap (List ℕ) ℕ) (children : BTreeMap (List ℕ) Children) (floor : ℕ) (runs : Heights)

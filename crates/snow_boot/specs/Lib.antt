@@ -11,3 +11,4 @@ pub mod Linking
 pub mod OutcomeLaw
 pub mod Paths
 pub mod Replying
+pub mod Requesting

@@ -46,6 +46,13 @@ impl<H: Kept> Fetching<H> {
         }
     }
 
+    /// The targets.
+    pub(crate) fn targets(&self) -> &[Id]
+        ensures { result.now ≡ self.now.fetch.targets }
+    {
+        self.targets.list()
+    }
+
     /// What a target misses.
     pub(crate) fn missed(&self, target: &Id) -> Option<Id>
         requires { self.now.whole ≡ true }
@@ -104,9 +111,11 @@ impl<H: Kept> Fetching<H> {
         if header.id != wanted {
             return Ok(None);
         }
-        match self.came(&header, bytes)? {
-            Verdict::Low => Ok(None),
-            Verdict::Keeps | Verdict::Known => Ok(Some(header.parent)),
+        match self.came(&header, bytes) {
+            Ok(Verdict::Low) => Ok(None),
+            Ok(Verdict::Known) => Ok(Some(header.parent)),
+            Ok(Verdict::Keeps) => Ok(Some(header.parent)),
+            Err(stop) => Err(stop),
         }
     }
 }

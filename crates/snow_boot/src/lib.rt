@@ -1,6 +1,7 @@
 //! Bootstrapping: how a node that starts behind comes to the block that its peers have accepted.
 #![tactic(auto)]
 
+mod asking;
 mod block;
 mod fetching;
 mod idset;
