@@ -1,3 +1,4 @@
+mod Asked
 mod Ended
 mod Examples
 mod Executed
@@ -11,5 +12,6 @@ mod Requested
 mod Storing
 mod Straying
 mod Tests
+mod Underway
 mod Walking
 mod Whole

@@ -1,6 +1,7 @@
 -- What the calls of a node that bootstraps need and owe.
-use Rattle.std.specs.Prelude.{◌≡◌, ℕ, ◌≤◌, Bool, true, List, [], ◌++◌, Result, Ok, Err, unwrap_or, All, ⊤}
+use Rattle.std.specs.Prelude.{◌≡◌, ℕ, ◌≤◌, Bool, true, List, [], ◌∷◌, ◌++◌, Result, Ok, Err, unwrap_or, ⊤}
 use Rattle.snow_chain.specs.Chain.{Held, state_of, begun}
+use Rattle.snow_issue.specs.declared.work.Get.{Get}
 use Rattle.snow_lines.specs.declared.line.Line.{Line}
 use Rattle.snow_boot.specs.declared.stop.BootStop.{BootStop}
 use Rattle.snow_boot.specs.declared.stop.BootStop.TheVariants as stop
@@ -21,13 +22,18 @@ last_state held = unwrap_or (state_of held held.last) []
 abbrev pub IsAlone : Held → Type 0
 IsAlone held = held ≡ begun held.last (last_state held)
 
+-- the number of each open request was drawn
+abbrev pub AreDrawn : List Get → ℕ → Type 0
+AreDrawn [] drawn = ⊤
+AreDrawn (r ∷ requests) drawn = (r.number ≤ drawn) × AreDrawn requests drawn
+
 -- what a call needs: bootstrapping goes on, the chain's last accepted block is the one from which it began and its state is the
 -- only one that the chain holds, and the number of each open request was drawn
 pub record MayGoOn (course : Course) (held : Held) (number : ℕ) : Type 0 where
   pub goes_on : course.goes_on ≡ true
   pub last : held.last ≡ course.boot.store.last
   pub alone : IsAlone held
-  pub drawn : All (λ r. r.number ≤ number) course.boot.requests
+  pub drawn : AreDrawn course.boot.requests number
 
 -- where bootstrapping goes on, this holds
 abbrev pub OnGoing : Result Stage BootStop → Type 0 → Type 0

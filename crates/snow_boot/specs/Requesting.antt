@@ -1,15 +1,11 @@
 -- What the asking for missed blocks owes, where memory may run out.
-use Rattle.std.specs.Prelude.{◌≡◌, ℕ, ◌≤◌, List, ◌++◌, Result, Ok, Err, All}
+use Rattle.std.specs.Prelude.{◌≡◌, ℕ, List, ◌++◌, Result, Ok, Err}
 use Rattle.snow_issue.specs.declared.work.Get.{Get}
 use Rattle.snow_lines.specs.declared.line.Line.{Line}
 use Rattle.snow_boot.specs.declared.stop.BootStop.{BootStop}
 use Rattle.snow_boot.specs.declared.stop.BootStop.TheVariants as stop
 use Rattle.snow_boot.specs.Asking.{Asked}
-use Rattle.snow_boot.specs.Calling.{LogsFront}
-
--- the number of each open request was drawn
-abbrev pub AreDrawn : List Get → ℕ → Type 0
-AreDrawn requests drawn = All (λ r. r.number ≤ drawn) requests
+use Rattle.snow_boot.specs.Calling.{AreDrawn, LogsFront}
 
 -- what was asked for is what is expected: its lines came, and then the open requests and the last number drawn, or a stop; where
 -- memory ran out a front of the lines came

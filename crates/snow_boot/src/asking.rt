@@ -1,12 +1,13 @@
 ghost use Rattle.std.specs.Prelude.{◌≡◌, ◌<◌, true, false, length};
 ghost use Rattle.snow_issue.specs.Lists.{asked_in};
-ghost use Rattle.snow_boot.specs.Asking.{asked_one, asked_with, asked};
+ghost use Rattle.snow_boot.specs.Calling.{AreDrawn};
+ghost use Rattle.snow_boot.specs.Asking.{asked_node, asked_one, asked_with, asked};
 ghost use Rattle.snow_base.specs.Numbers.{next_number};
-ghost use Rattle.snow_boot.specs.Requesting.{AreDrawn, Asks};
+ghost use Rattle.snow_boot.specs.Requesting.{Asks};
 
 use crate::fetching::Fetching;
 use crate::stop::BootStop;
-use snow_base::{Id, Numbers};
+use snow_base::{Id, NodeId, Numbers};
 use snow_interval::Kept;
 use snow_issue::{Get, Gets};
 use snow_lines::{Line, Lines};
@@ -70,8 +71,16 @@ fn ask_for(
     let Some(number) = numbers.draw() else {
         return Err(BootStop::Requests);
     };
-    let node = nodes[number as usize % nodes.len()].id;
+    let node = asked_node(nodes, number);
     requests.open(Get { number, node, id })?;
     log.push(Line::Ancestors { number, node, id })?;
     Ok(())
+}
+
+// The node that is asked with a number.
+fn asked_node(nodes: &[Node], number: u32) -> NodeId
+    requires { 0 < length nodes.now }
+    ensures { result ≡ asked_node nodes.now number }
+{
+    nodes[number as usize % nodes.len()].id
 }
