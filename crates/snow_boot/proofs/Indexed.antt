@@ -77,7 +77,7 @@ at_place (b ∷ kept) h p e =
 -- ---- by identifier
 
 -- the height of the higher of two
-higher_is : (b : KeptBlock) (o : Option KeptBlock) → (higher b o).header.height ≡ higher_height b.header.height (option_map (λ x. x.header.height) o)
+pub higher_is : (b : KeptBlock) (o : Option KeptBlock) → (higher b o).header.height ≡ higher_height b.header.height (option_map (λ x. x.header.height) o)
 higher_is b None = refl
 higher_is b (Some c) = by_test (nat_lt b.header.height c.header.height)
   where

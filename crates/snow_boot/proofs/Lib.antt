@@ -1,4 +1,7 @@
+mod Accepted
+mod Alone
 mod Asked
+mod Concluded
 mod Ended
 mod Examples
 mod Executed

@@ -1,10 +1,12 @@
 ghost use Rattle.std.specs.Prelude.{◌≡◌, true, [], IfOk, OnOk};
+ghost use Rattle.snow_boot.specs.Accepting.{higher_one, top_height};
 ghost use Rattle.snow_boot.specs.Keeping.{taken, Answers};
 ghost use Rattle.snow_boot.specs.Fetching.{Fetches, FetchesOne};
 ghost use Rattle.snow_boot.specs.Paths.{missed};
 ghost use Rattle.snow_boot.specs.Replying.{noted, after_verdict, replied};
 
 use crate::idset::IdSet;
+use crate::index;
 use crate::stop::BootStop;
 use crate::store::Store;
 use crate::verdict::Verdict;
@@ -51,6 +53,25 @@ impl<H: Kept> Fetching<H> {
         ensures { result.now ≡ self.now.fetch.targets }
     {
         self.targets.list()
+    }
+
+    /// The last accepted block and the kept blocks.
+    pub(crate) fn store(&self) -> &Store<H>
+        ensures { result.now ≡ record { whole = self.now.whole; store = self.now.fetch.store } }
+    {
+        &self.store
+    }
+
+    /// The highest height at which a target is kept.
+    pub(crate) fn highest(&self) -> Option<u64>
+        requires { self.now.whole ≡ true }
+        ensures { result ≡ top_height self.now.fetch.store.kept self.now.fetch.targets }
+    {
+        let mut top = None;
+        for target in self.targets() {
+            top = higher_one(top, self.store().top(target));
+        }
+        top
     }
 
     /// What a target misses.
@@ -117,6 +138,16 @@ impl<H: Kept> Fetching<H> {
             Ok(Verdict::Keeps) => Ok(Some(header.parent)),
             Err(stop) => Err(stop),
         }
+    }
+}
+
+// The higher of two heights, where there are two.
+fn higher_one(height: Option<u64>, other: Option<u64>) -> Option<u64>
+    ensures { result ≡ higher_one height other }
+{
+    match height {
+        Some(height) => Some(index::higher(height, other)),
+        None => other,
     }
 }
 

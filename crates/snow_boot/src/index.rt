@@ -98,7 +98,7 @@ pub(crate) fn stray_height(height: u64, children: Option<Children>) -> Option<u6
 }
 
 // The higher of a height and another, if there is one.
-fn higher(height: u64, other: Option<u64>) -> u64
+pub(crate) fn higher(height: u64, other: Option<u64>) -> u64
     ensures { result ≡ higher_height height other }
 {
     match other {

@@ -3,6 +3,7 @@
 
 mod asking;
 mod block;
+mod executing;
 mod fetching;
 mod idset;
 mod index;

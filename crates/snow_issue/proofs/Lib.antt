@@ -10,7 +10,7 @@ pub mod Examples
 mod Heights
 mod Looked
 mod Named
-mod Noted
+pub mod Noted
 mod Placed
 pub mod Remembered
 mod Replied
