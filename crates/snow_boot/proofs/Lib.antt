@@ -14,6 +14,7 @@ mod Replied
 mod Requested
 mod Storing
 mod Straying
+mod Surveyed
 mod Tests
 mod Underway
 mod Walking

@@ -13,6 +13,7 @@ use Rattle.snow_boot.specs.Keeping.{Store}
 use Rattle.snow_boot.specs.Paths.{Fetch}
 use Rattle.snow_boot.specs.Booting.{Boot}
 use Rattle.snow_boot.specs.Calling.{Course}
+use Rattle.snow_boot.specs.Surveying.{Surveyed}
 
 abbrev Bytes : Type 0
 Bytes = List ℕ
@@ -72,6 +73,14 @@ same question.Nothing = refl
 
 abbrev pub coded_question : Coded Question
 coded_question = code_by ℕ coded_ℕ numbered of_number same
+
+abbrev pub coded_surveyed : Coded Surveyed
+coded_surveyed =
+    code_by (List Node × (Question × (ℕ × (List Node × List Candidate))))
+    (coded× (coded_list coded_node) (coded× coded_question (coded× coded_ℕ (coded× (coded_list coded_node) (coded_list coded_candidate)))))
+    (λ s. (s.nodes, (s.question, (s.number, (s.awaited, s.candidates)))))
+    (λ f. record { nodes = f.0; question = f.1.0; number = f.1.1.0; awaited = f.1.1.1.0; candidates = f.1.1.1.1 })
+    (λ _. refl)
 
 abbrev pub coded_boot : Coded Boot
 coded_boot =

@@ -208,9 +208,12 @@ asks question.Frontier question.Frontier = true
 asks question.Accepted question.Accepted = true
 asks a b = false
 
--- a node whose answer to a question with this number is awaited
+-- a node whose answer is awaited, where this question with this number is asked
+abbrev pub awaited_by : Question → ℕ → List Node → Question → ℕ → List ℕ → Option Node
+awaited_by question number awaited q n node = if asks question q && number == n then awaits awaited node else None
+
 abbrev pub awaited_for : Boot → Question → ℕ → List ℕ → Option Node
-awaited_for boot q number node = if asks boot.question q && boot.number == number then awaits boot.awaited node else None
+awaited_for boot q number node = awaited_by boot.question boot.number boot.awaited q number node
 
 -- a node names its frontier
 unfoldable pub frontier_came : Rules → List ℕ → Boot → ℕ → List ℕ → ℕ → List ℕ → Outcome

@@ -13,3 +13,4 @@ pub mod OutcomeLaw
 pub mod Paths
 pub mod Replying
 pub mod Requesting
+pub mod Surveying

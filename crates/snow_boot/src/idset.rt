@@ -1,4 +1,4 @@
-ghost use Rattle.std.specs.Prelude.{◌≡◌, [], ◌∷◌, ◌++◌, OnOk, OnErr};
+ghost use Rattle.std.specs.Prelude.{◌≡◌, [], ◌∷◌, ◌++◌, IfOk, OnOk, OnErr};
 ghost use Rattle.snow_boot.specs.Paths.{has_id};
 
 use snow_base::Id;
@@ -34,6 +34,17 @@ impl IdSet {
             ids: Vec::new(alloc),
             known: BTreeSet::new(alloc),
         }
+    }
+
+    /// These identifiers.
+    pub(crate) fn from_slice(alloc: Global, ids: &[Id]) -> Result<Self, AllocError>
+        ensures { IfOk result (λ made. made ≡ ids.now) }
+    {
+        let mut set = IdSet::new(alloc);
+        for id in ids {
+            set.push(*id)?;
+        }
+        Ok(set)
     }
 
     /// The identifiers, in order.

@@ -12,6 +12,7 @@ mod question;
 mod stage;
 mod stop;
 mod store;
+mod survey;
 mod verdict;
 
 pub use block::KeptBlock;
