@@ -5,6 +5,7 @@ mod Concluded
 mod Ended
 mod Examples
 mod Executed
+mod Followed
 mod Holding
 mod Indexed
 mod Known

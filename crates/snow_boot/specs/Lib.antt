@@ -3,6 +3,7 @@ pub mod Asking
 pub mod BootCode
 pub mod Booting
 pub mod Calling
+pub mod Coursing
 pub mod Electing
 pub mod Executing
 pub mod Fetching

@@ -2,7 +2,7 @@ ghost use Rattle.std.specs.Prelude.{◌≡◌, true, [], IfOk, OnOk};
 ghost use Rattle.snow_boot.specs.Accepting.{higher_one, top_height};
 ghost use Rattle.snow_boot.specs.Keeping.{taken, Answers};
 ghost use Rattle.snow_boot.specs.Fetching.{Fetches, FetchesOne};
-ghost use Rattle.snow_boot.specs.Paths.{missed};
+ghost use Rattle.snow_boot.specs.Paths.{missed, is_whole};
 ghost use Rattle.snow_boot.specs.Replying.{noted, after_verdict, replied};
 
 use crate::idset::IdSet;
@@ -55,11 +55,32 @@ impl<H: Kept> Fetching<H> {
         self.targets.list()
     }
 
+    /// The targets are these, and none of them is found yet. It takes no memory.
+    pub(crate) fn aim(&mut self, targets: IdSet)
+        ensures { self.new ≡ record { whole = self.old.whole; fetch = record { store = self.old.fetch.store; targets = targets; found = [] } } }
+    {
+        self.targets = targets;
+        self.found.clear();
+    }
+
     /// The last accepted block and the kept blocks.
     pub(crate) fn store(&self) -> &Store<H>
         ensures { result.now ≡ record { whole = self.now.whole; store = self.now.fetch.store } }
     {
         &self.store
+    }
+
+    /// Whether no target misses anything.
+    pub(crate) fn is_whole(&self) -> bool
+        requires { self.now.whole ≡ true }
+        ensures { result ≡ is_whole self.now.fetch }
+    {
+        for target in self.targets() {
+            if self.missed(target).is_some() {
+                return false;
+            }
+        }
+        true
     }
 
     /// The highest height at which a target is kept.

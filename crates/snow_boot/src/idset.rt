@@ -1,4 +1,4 @@
-ghost use Rattle.std.specs.Prelude.{◌≡◌, [], ◌∷◌, ◌++◌, IfOk, OnOk, OnErr};
+ghost use Rattle.std.specs.Prelude.{◌≡◌, ◌==◌, [], ◌∷◌, ◌++◌, length, IfOk, OnOk, OnErr};
 ghost use Rattle.snow_boot.specs.Paths.{has_id};
 
 use snow_base::Id;
@@ -54,6 +54,13 @@ impl IdSet {
         self.ids.as_slice()
     }
 
+    /// Whether there is none.
+    pub(crate) fn is_empty(&self) -> bool
+        ensures { result ≡ (length self.now == 0) }
+    {
+        self.ids.is_empty()
+    }
+
     /// Whether an identifier is among them.
     pub(crate) fn has(&self, id: &Id) -> bool
         ensures { result ≡ has_id self.now id.now }
@@ -70,5 +77,13 @@ impl IdSet {
         self.known.insert(id)?;
         self.ids.push_reserved(id);
         Ok(())
+    }
+
+    /// Lets all go. It takes no memory.
+    pub(crate) fn clear(&mut self)
+        ensures { self.new ≡ [] }
+    {
+        self.ids.clear();
+        self.known.clear();
     }
 }

@@ -72,6 +72,18 @@ impl Survey {
         self.question
     }
 
+    /// Where memory is taken.
+    pub(crate) fn alloc(&self) -> Global {
+        self.alloc
+    }
+
+    /// Whether any identifier was named.
+    pub(crate) fn has_named(&self) -> bool
+        ensures { result ≡ not (length self.now.candidates == 0) }
+    {
+        !self.candidates.is_empty()
+    }
+
     /// Whether no node's answer is awaited.
     pub(crate) fn is_heard(&self) -> bool
         ensures { result ≡ (length self.now.awaited == 0) }
