@@ -29,13 +29,13 @@ comes_as r before after s hunt requests first last old new a b is = subst (Comes
 
 -- nothing is asked or executed while all nodes are being asked
 pub follows_question : (rules : Rules) (state : List ℕ) (s : Surveyed) (hunt : Hunt) (requests : List Get) (drawn : ℕ) (held : Held) (log : List Line) (q : Question) → q ≡ s.question
-    → hunt.whole ≡ true → AreDrawn requests drawn → (q ≡ question.Nothing → ⊥)
+    → hunt.whole ≡ true → AreDrawn requests drawn → held.last ≡ hunt.fetch.store.last → (q ≡ question.Nothing → ⊥)
     → Comes (Ok stage.Going) log log s hunt requests drawn drawn held held (followed rules state (boot_of s hunt.fetch requests) drawn)
 unfolding followed
-follows_question rules state s hunt requests drawn held log q is whole are other =
+follows_question rules state s hunt requests drawn held log q is whole are last other =
     comes_as (Ok stage.Going) log log s hunt requests drawn drawn held held ([], Ok (Going (boot_of s hunt.fetch requests) drawn)) (followed_by rules state (boot_of s hunt.fetch requests) drawn s.question)
     (by_question q other ∙ ap (followed_by rules state (boot_of s hunt.fetch requests) drawn) is)
-    (sym (append-nil log), refl, refl, record { whole = whole; settled = λ e. absurd (other (is ∙ e)) }, are)
+    (sym (append-nil log), refl, refl, record { whole = whole; settled = λ e. absurd (other (is ∙ e)) }, are, last)
   where
     by_question : (q : Question) → (q ≡ question.Nothing → ⊥) → (let o : Outcome = ([], Ok (Going (boot_of s hunt.fetch requests) drawn)) in o) ≡ followed_by rules state (boot_of s hunt.fetch requests) drawn q
     by_question question.Frontier other = refl
@@ -102,15 +102,15 @@ asks_there rules state s f requests drawn is missing =
 
 -- where a target misses a block, it is asked for
 pub follows_asked : (rules : Rules) (state : List ℕ) (s : Surveyed) (hunt : Hunt) (requests more : List Get) (drawn last : ℕ) (held : Held) (before after : List Line)
-    → question.Nothing ≡ s.question → hunt.whole ≡ true → is_whole hunt.fetch ≡ false → Asks (Ok tt) before after more last (asked s.nodes hunt.fetch hunt.fetch.targets requests drawn)
+    → question.Nothing ≡ s.question → hunt.whole ≡ true → held.last ≡ hunt.fetch.store.last → is_whole hunt.fetch ≡ false → Asks (Ok tt) before after more last (asked s.nodes hunt.fetch hunt.fetch.targets requests drawn)
     → Comes (Ok stage.Going) before after s hunt more drawn last held held (followed rules state (boot_of s hunt.fetch requests) drawn)
-follows_asked rules state s hunt requests more drawn last held before after is kept missing a =
+follows_asked rules state s hunt requests more drawn last held before after is kept same missing a =
     let f = hunt.fetch in
     let what = asked s.nodes f f.targets requests drawn in
     let outcome : followed rules state (boot_of s f requests) drawn ≡ (what.0, Ok (Going (boot_of s f more) last)) =
     sym (asks_there rules state s f requests drawn is missing) ∙ with_ok (boot_of s f requests) what more last a.1 in
     comes_as (Ok stage.Going) before after s hunt more drawn last held held (what.0, Ok (Going (boot_of s f more) last)) (followed rules state (boot_of s f requests) drawn) (sym outcome)
-    (a.0, refl, refl, record { whole = kept; settled = λ e. record { missing = missing; asked = all_asked s.nodes f f.targets requests more drawn last a.1 } }, a.2)
+    (a.0, refl, refl, record { whole = kept; settled = λ e. record { missing = missing; asked = all_asked s.nodes f f.targets requests more drawn last a.1 } }, a.2, same)
 
 pub follows_stopped : (rules : Rules) (state : List ℕ) (s : Surveyed) (hunt : Hunt) (requests more : List Get) (drawn last : ℕ) (held : Held) (before after : List Line) (why : BootStop)
     → question.Nothing ≡ s.question → is_whole hunt.fetch ≡ false → Asks (Err why) before after more last (asked s.nodes hunt.fetch hunt.fetch.targets requests drawn)
@@ -158,11 +158,11 @@ ignored rules state s hunt requests drawn course = by_question s.question refl
         ∙ ap (with_requests boot) (nothing_to_ask s.nodes f f.targets requests drawn settled.asked)
 
 pub comes_ignored : (rules : Rules) (state : List ℕ) (s : Surveyed) (hunt : Hunt) (requests : List Get) (drawn : ℕ) (held : Held) (log : List Line) → IsCourse s hunt requests → AreDrawn requests drawn
-    → Comes (Ok stage.Going) log log s hunt requests drawn drawn held held (followed rules state (boot_of s hunt.fetch requests) drawn)
-comes_ignored rules state s hunt requests drawn held log course are =
+    → held.last ≡ hunt.fetch.store.last → Comes (Ok stage.Going) log log s hunt requests drawn drawn held held (followed rules state (boot_of s hunt.fetch requests) drawn)
+comes_ignored rules state s hunt requests drawn held log course are last =
     comes_as (Ok stage.Going) log log s hunt requests drawn drawn held held ([], Ok (Going (boot_of s hunt.fetch requests) drawn)) (followed rules state (boot_of s hunt.fetch requests) drawn)
     (sym (ignored rules state s hunt requests drawn course))
-    (sym (append-nil log), refl, refl, course, are)
+    (sym (append-nil log), refl, refl, course, are, last)
 
 -- lines in front
 pub comes_behind : (r : Result Stage BootStop) (before mid after lines : List Line) (s : Surveyed) (hunt : Hunt) (requests : List Get) (first last : ℕ) (old new : Held) (o : Outcome) → mid ≡ before ++ lines
@@ -173,7 +173,7 @@ comes_behind r before mid after lines s hunt requests first last old new o is c 
     grown e = e ∙ ap (λ l. l ++ o.0) is ∙ append_assoc before lines o.0
 
     by_result : (r : Result Stage BootStop) → Comes r mid after s hunt requests first last old new o → Comes r before after s hunt requests first last old new (behind lines o)
-    by_result (Ok stage.Going) c = (grown c.0, c.1, c.2, c.3, c.4)
+    by_result (Ok stage.Going) c = (grown c.0, c.1, c.2, c.3, c.4, c.5)
     by_result (Ok (stage.Done id height)) c = (grown c.0, c.1, c.2, c.3, c.4)
     by_result (Err stop.Memory) c = record {
       front = lines ++ c.front;

@@ -1,13 +1,16 @@
 mod Accepted
 mod Alone
 mod Asked
+mod Called
 mod Concluded
 mod Ended
 mod Examples
 mod Executed
 mod Followed
+mod Heard
 mod Holding
 mod Indexed
+mod Inquired
 mod Known
 mod Linked
 mod Quiet

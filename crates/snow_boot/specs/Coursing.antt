@@ -48,6 +48,7 @@ pub record IsCourse (s : Surveyed) (hunt : Hunt) (requests : List Get) : Type 0 
 abbrev pub Comes : Result Stage BootStop → List Line → List Line → Surveyed → Hunt → List Get → ℕ → ℕ → Held → Held → Outcome → Type 0
 Comes (Ok stage.Going) before after s hunt requests first last old new expected =
     (after ≡ before ++ expected.0) × (expected.1 ≡ Ok (Going (boot_of s hunt.fetch requests) last)) × (new ≡ old) × IsCourse s hunt requests × AreDrawn requests last
+    × (new.last ≡ hunt.fetch.store.last)
 Comes (Ok (stage.Done id height)) before after s hunt requests first last old new expected =
     (after ≡ before ++ expected.0) × (expected.1 ≡ Ok (Done id height (last_state new))) × (new.last ≡ id) × IsAlone new × (last ≡ first)
 Comes (Err stop.Memory) before after s hunt requests first last old new expected = LogsFront before after expected.0

@@ -1,4 +1,7 @@
-ghost use Rattle.std.specs.Prelude.{◌≡◌, ◌≢◌, ◌++◌, [], ◌∷◌, true};
+ghost use Rattle.std.specs.Prelude.{◌≡◌, ◌≢◌, List, [], ◌∷◌, true};
+ghost use Rattle.snow_chain.specs.Chain.{Held};
+ghost use Rattle.snow_issue.specs.declared.work.Get.{Get};
+ghost use Rattle.snow_boot.specs.Fetching.{Hunt};
 ghost use Rattle.snow_base.specs.Numbers.{next_number};
 ghost use Rattle.snow_boot.specs.Booting.{behind, ask_frontier, ask_accepted, with_collected, with_targets, or_all};
 ghost use Rattle.snow_boot.specs.Calling.{AreDrawn, IsAlone, last_state};
@@ -21,18 +24,13 @@ use snow_issue::Gets;
 use snow_lines::{Line, Lines, RestartWhy};
 
 // All nodes are asked for their frontier.
-pub(crate) fn ask_frontier<C: Chain, H: Kept>(
+pub(crate) fn ask_frontier(
     survey: &mut Survey,
-    fetching: &Fetching<H>,
-    requests: &Gets,
-    chain: &C,
     numbers: &mut Numbers,
     log: &mut Lines,
 ) -> Result<Stage, BootStop>
-    requires kept { fetching.now.whole ≡ true }
-    requires drawn { AreDrawn requests.now numbers.old }
-    ensures { Comes result log.old log.new survey.new fetching.now requests.now numbers.old numbers.new (C.held chain.now) (C.held chain.now)
-        (ask_frontier (boot_of survey.old fetching.now.fetch requests.now) (next_number numbers.old)) }
+    ensures { (hunt : Hunt) (requests : List Get) (held : Held) → hunt.whole ≡ true → held.last ≡ hunt.fetch.store.last → AreDrawn requests numbers.old
+        → Comes result log.old log.new survey.new hunt requests numbers.old numbers.new held held (ask_frontier (boot_of survey.old hunt.fetch requests) (next_number numbers.old)) }
 {
     let Some(number) = numbers.draw() else {
         return Err(BootStop::Requests);
@@ -53,12 +51,13 @@ fn restart<C: Chain, H: Kept>(
     log: &mut Lines,
 ) -> Result<Stage, BootStop>
     requires kept { fetching.now.whole ≡ true }
+    requires last { (C.held chain.now).last ≡ fetching.now.fetch.store.last }
     requires drawn { AreDrawn requests.now numbers.old }
     ensures { Comes result log.old log.new survey.new fetching.now requests.now numbers.old numbers.new (C.held chain.now) (C.held chain.now)
         (behind (line.Restart why ∷ []) (ask_frontier (boot_of survey.old fetching.now.fetch requests.now) (next_number numbers.old))) }
 {
     log.push(Line::Restart { why })?;
-    ask_frontier(survey, fetching, requests, chain, numbers, log)
+    ask_frontier(survey, numbers, log)
 }
 
 // All nodes are asked which of the collected identifiers they hold accepted.
@@ -71,6 +70,7 @@ fn ask_accepted<C: Chain, H: Kept>(
     log: &mut Lines,
 ) -> Result<Stage, BootStop>
     requires kept { fetching.now.whole ≡ true }
+    requires last { (C.held chain.now).last ≡ fetching.now.fetch.store.last }
     requires asked { survey.old.question ≡ question.Frontier }
     requires drawn { AreDrawn requests.now numbers.old }
     ensures { Comes result log.old log.new survey.new fetching.now requests.now numbers.old numbers.new (C.held chain.now) (C.held chain.now)
@@ -95,6 +95,7 @@ fn collected<C: Chain, H: Kept>(
     log: &mut Lines,
 ) -> Result<Stage, BootStop>
     requires kept { fetching.now.whole ≡ true }
+    requires last { (C.held chain.now).last ≡ fetching.now.fetch.store.last }
     requires asked { survey.old.question ≡ question.Frontier }
     requires drawn { AreDrawn requests.now numbers.old }
     ensures { Comes result log.old log.new survey.new fetching.now requests.now numbers.old numbers.new (C.held chain.now) (C.held chain.now)

@@ -3,9 +3,11 @@
 
 mod asking;
 mod block;
+mod boot;
 mod executing;
 mod fetching;
 mod following;
+mod hearing;
 mod idset;
 mod index;
 mod inquiring;
@@ -18,6 +20,7 @@ mod survey;
 mod verdict;
 
 pub use block::KeptBlock;
+pub use boot::Boot;
 pub use index::Children;
 pub use laws::{
     asked_law, asked_once_law, end_law, execution_law, linked_law, path_law, quiet_law, run_law,

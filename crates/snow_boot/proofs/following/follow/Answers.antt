@@ -17,12 +17,12 @@ accepted_goes e = cc
 pub returns-in-Frontier : goal.returns-in-Frontier
 returns-in-Frontier g c =
     follows_question g.C.Chain.rules (last_state (g.C.Chain.held c.args.chain.now)) c.args.survey.now c.args.fetching.now c.args.requests.now c.args.numbers.now (g.C.Chain.held c.args.chain.now)
-    c.args.log.now question.Frontier (sym c.in-Frontier.is ∙ c.question.ensures) c.requires.kept c.requires.drawn frontier_goes
+    c.args.log.now question.Frontier (sym c.in-Frontier.is ∙ c.question.ensures) c.requires.kept c.requires.drawn c.requires.last frontier_goes
 
 pub returns-in-Accepted : goal.returns-in-Accepted
 returns-in-Accepted g c =
     follows_question g.C.Chain.rules (last_state (g.C.Chain.held c.args.chain.now)) c.args.survey.now c.args.fetching.now c.args.requests.now c.args.numbers.now (g.C.Chain.held c.args.chain.now)
-    c.args.log.now question.Accepted (sym c.in-Accepted.is ∙ c.question.ensures) c.requires.kept c.requires.drawn accepted_goes
+    c.args.log.now question.Accepted (sym c.in-Accepted.is ∙ c.question.ensures) c.requires.kept c.requires.drawn c.requires.last accepted_goes
 
 pub returns-then-is_whole : goal.returns-then-is_whole
 returns-then-is_whole g c =
@@ -33,7 +33,7 @@ returns-then-is_whole g c =
 pub returns-in-Ok : goal.returns-in-Ok
 returns-in-Ok g c =
     follows_asked g.C.Chain.rules (last_state (g.C.Chain.held c.args.chain.now)) c.args.survey.now c.args.fetching.now c.args.requests.now c.ask_all.new.requests c.args.numbers.now
-    c.ask_all.new.numbers (g.C.Chain.held c.args.chain.now) c.args.log.now c.ask_all.new.log (sym c.in-Nothing.is ∙ c.question.ensures) c.requires.kept
+    c.ask_all.new.numbers (g.C.Chain.held c.args.chain.now) c.args.log.now c.ask_all.new.log (sym c.in-Nothing.is ∙ c.question.ensures) c.requires.kept c.requires.last
     (sym c.is_whole.ensures ∙ c.if-is_whole.false)
     (subst (λ nodes. Asks (Ok tt) c.args.log.now c.ask_all.new.log c.ask_all.new.requests c.ask_all.new.numbers
     (asked nodes c.args.fetching.now.fetch c.args.fetching.now.fetch.targets c.args.requests.now c.args.numbers.now)) c.nodes.ensures.nodes c.in-Ok.ensures)
