@@ -1,12 +1,12 @@
-mod Asking
-mod Booleans
+pub mod Asking
+pub mod Booleans
 mod Bubbled
 mod GoneExamples
 pub mod Examples
 mod Heights
 mod Looked
 mod Named
-mod Noted
+pub mod Noted
 mod Placed
 pub mod Remembered
 mod Replied
