@@ -1,7 +1,6 @@
 mod Accepted
 mod Alone
 mod Asked
-mod Called
 mod Concluded
 mod Ended
 mod Examples
@@ -16,6 +15,7 @@ mod Linked
 mod Quiet
 mod Replied
 mod Requested
+mod Started
 mod Storing
 mod Straying
 mod Surveyed

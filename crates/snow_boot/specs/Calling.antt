@@ -1,5 +1,5 @@
 -- What the calls of a node that bootstraps need and owe.
-use Rattle.std.specs.Prelude.{◌≡◌, ℕ, ◌≤◌, Bool, true, List, [], ◌∷◌, ◌++◌, Result, Ok, Err, unwrap_or, ⊤}
+use Rattle.std.specs.Prelude.{◌≡◌, ℕ, ◌≤◌, Bool, true, List, [], ◌∷◌, ◌++◌, Option, Some, None, Result, Ok, Err, unwrap_or, ⊤}
 use Rattle.snow_chain.specs.Chain.{Held, state_of, begun}
 use Rattle.snow_issue.specs.declared.work.Get.{Get}
 use Rattle.snow_lines.specs.declared.line.Line.{Line}
@@ -66,10 +66,18 @@ pub record LogsFront (before after lines : List Line) : Type 0 where
   pub whole : front ++ rest ≡ lines
   pub grown : after ≡ before ++ front
 
+-- why a call stopped, if it did
+abbrev pub stop_of : {T : Type 0} → Result T BootStop → Option BootStop
+stop_of (Ok x) = None
+stop_of (Err why) = Some why
+
 -- these lines were appended, or a front of them where memory ran out
+abbrev pub LogsUpTo : Option BootStop → List Line → List Line → List Line → Type 0
+LogsUpTo (Some stop.Memory) before after lines = LogsFront before after lines
+LogsUpTo why before after lines = after ≡ before ++ lines
+
 abbrev pub Logs : {T : Type 0} → Result T BootStop → List Line → List Line → List Line → Type 0
-Logs (Err stop.Memory) before after lines = LogsFront before after lines
-Logs result before after lines = after ≡ before ++ lines
+Logs result before after lines = LogsUpTo (stop_of result) before after lines
 
 -- what the chain holds then: where bootstrapping goes on what it held, and where it is done the state of the block that was accepted
 -- last, and no other

@@ -1,4 +1,4 @@
-ghost use Rattle.std.specs.Prelude.{◌≡◌, ◌≢◌, List, [], ◌∷◌, true};
+ghost use Rattle.std.specs.Prelude.{◌≡◌, ◌≢◌, List, [], ◌∷◌, true, IfOk};
 ghost use Rattle.snow_chain.specs.Chain.{Held};
 ghost use Rattle.snow_issue.specs.declared.work.Get.{Get};
 ghost use Rattle.snow_boot.specs.Fetching.{Hunt};
@@ -8,6 +8,7 @@ ghost use Rattle.snow_boot.specs.Calling.{AreDrawn, IsAlone, last_state};
 ghost use Rattle.snow_boot.specs.Coursing.{boot_of, IsCourse, Comes};
 ghost use Rattle.snow_boot.specs.Electing.{majority};
 ghost use Rattle.snow_boot.specs.declared.question.Question.TheVariants as question;
+ghost use Rattle.snow_boot.specs.declared.stage.Stage.TheVariants as stage;
 ghost use Rattle.snow_lines.specs.declared.line.Line.TheVariants as line;
 ghost use Rattle.snow_sample.specs.Roster.{total_weight};
 
@@ -29,7 +30,8 @@ pub(crate) fn ask_frontier(
     numbers: &mut Numbers,
     log: &mut Lines,
 ) -> Result<Stage, BootStop>
-    ensures { (hunt : Hunt) (requests : List Get) (held : Held) → hunt.whole ≡ true → held.last ≡ hunt.fetch.store.last → AreDrawn requests numbers.old
+    ensures going { IfOk result (λ came. came ≡ stage.Going) }
+    ensures came { (hunt : Hunt) (requests : List Get) (held : Held) → hunt.whole ≡ true → held.last ≡ hunt.fetch.store.last → AreDrawn requests numbers.old
         → Comes result log.old log.new survey.new hunt requests numbers.old numbers.new held held (ask_frontier (boot_of survey.old hunt.fetch requests) (next_number numbers.old)) }
 {
     let Some(number) = numbers.draw() else {

@@ -12,4 +12,4 @@ returns g c =
     let held = g.C.Chain.held c.args.chain.now in
     comes_behind c.ask_frontier.result c.args.log.now c.push.new.self c.ask_frontier.new.log (line.Restart c.args.why ∷ []) c.ask_frontier.new.survey c.args.fetching.now c.args.requests.now
     c.args.numbers.now c.ask_frontier.new.numbers held held (ask_frontier (boot_of c.args.survey.now c.args.fetching.now.fetch c.args.requests.now) (next_number c.args.numbers.now))
-    c.in_ok-push.ensures.ok (c.ask_frontier.ensures c.args.fetching.now c.args.requests.now held c.requires.kept c.requires.last c.requires.drawn)
+    c.in_ok-push.ensures.ok (c.ask_frontier.ensures.came c.args.fetching.now c.args.requests.now held c.requires.kept c.requires.last c.requires.drawn)
