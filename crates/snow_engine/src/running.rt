@@ -116,6 +116,7 @@ impl<C: Chain, B: Board> Running<C, B> {
     }
 
     /// One event, which came in this frame.
+    #[inline(never)]
     #[tactic(auto, unfolding(crate::specs::Turning::runs_on), using(crate::proofs::Logs::logs_nothing))]
     pub fn step(&mut self, frame: u64, event: &Event, log: &mut Lines) -> Result<(), EngineStop>
         ensures answer { Steps result self.new (model.runs_on C.rules B.answer self.old frame event.now).1 }

@@ -21,6 +21,7 @@ use std::alloc::AllocError;
 
 impl<C: Chain, B: Board> Running<C, B> {
     /// A peer's question is answered.
+    #[inline(never)]
     #[tactic(auto, using(crate::proofs::Logs::logs_nothing))]
     pub(super) fn reply(&self, question: &Event, log: &mut Lines) -> Result<(), EngineStop>
         ensures memory { OnErr result (result ≡ Err EngineStop.Memory) }
