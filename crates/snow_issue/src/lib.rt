@@ -23,6 +23,3 @@ pub use gone::Gone;
 pub use laws::{issue_stays_known_law, poll_stays_known_law};
 pub use queue::Queue;
 pub use work::{Get, Held, Offered, Waiting, Work};
-
-#[cfg(test)]
-mod tests;

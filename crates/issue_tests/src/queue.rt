@@ -1,6 +1,6 @@
-use crate::{Held, Offered, Queue, Waiting, Work};
 use snow_base::{Bytes, Header, Id, NodeId};
 use snow_flake::{Params, Snowball};
+use snow_issue::{Held, Offered, Queue, Waiting, Work};
 use snow_plain::{Board, PlainBoard};
 use std::alloc::{AllocError, Global};
 use std::test::Fail;
