@@ -258,7 +258,7 @@ fn a_line_longer_than_a_page_goes_through(rt: HostRuntime) -> Result<(), Fail> {
 
 #[test]
 fn a_short_text_is_built_of_words(rt: HostRuntime) -> Result<(), Fail> {
-    let mut text = Text::new();
+    let mut text: Text<64> = Text::new();
     text.push(b"input");
     text.push_number(b' ', u64::MAX);
     text.push(b"\n");

@@ -11,13 +11,13 @@ use snow_sample::RosterFault;
 pub fn report<E: Sink>(ended: &Option<End>, err: &mut E)
     ensures { TookLine (E.written err.old) (E.written err.new) (E.faults err.old) (E.faults err.new) (error_line ended.now) }
 {
-    let mut line = Text::new();
+    let mut line: Text<64> = Text::new();
     put_line(ended, &mut line);
     let _ = write_whole(err, line.as_slice());
 }
 
 /// Puts the line for how a run ended, or that nothing was run. It is empty where all is done.
-fn put_line(ended: &Option<End>, line: &mut Text)
+fn put_line(ended: &Option<End>, line: &mut Text<64>)
     requires { line.old ≡ [] }
     ensures { line.new ≡ error_line ended.now }
 {
@@ -35,7 +35,7 @@ fn put_line(ended: &Option<End>, line: &mut Text)
 }
 
 /// Puts the line for a bad input.
-fn put_bad_line(frame: u64, kind: &BadKind, line: &mut Text)
+fn put_bad_line(frame: u64, kind: &BadKind, line: &mut Text<64>)
     requires { line.old ≡ [] }
     ensures { line.new ≡ bad_line frame kind.now }
 {

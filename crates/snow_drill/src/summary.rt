@@ -32,7 +32,7 @@ fn put_number(text: &mut Bytes, name: &[u8], number: u64) -> Result<(), AllocErr
     requires { length name.now ≤ 8 }
     ensures { OnOk result (text.new ≡ text.old ++ number_line name.now number) }
 {
-    let mut line = Text::new();
+    let mut line: Text<64> = Text::new();
     line.push(name);
     line.push_number(b' ', number);
     line.push(b"\n");

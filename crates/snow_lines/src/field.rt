@@ -108,7 +108,7 @@ fn drawn(draw: Draw, word: &[u8]) -> Option<Draw>
     ensures draw { result ≡ if_draw word.now draw }
     ensures count { IfSome result (λ d. 1 ≤ d.count) }
 {
-    let mut text = Text::new();
+    let mut text: Text<64> = Text::new();
     text.push(&node_digits(&draw.node));
     text.push_number(b'*', u64::from(draw.count));
     if 1 <= draw.count && text.as_slice() == word {
