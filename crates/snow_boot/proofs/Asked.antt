@@ -16,7 +16,7 @@ use Rattle.snow_boot.specs.Asking.{Asked, asked_node, asked_with, asked_one, and
 use Rattle.snow_boot.specs.Calling.{AreDrawn, LogsFront}
 use Rattle.snow_boot.specs.Paths.{Fetch, missed}
 use Rattle.snow_boot.specs.Requesting.{Asks}
-use Rattle.snow_boot.proofs.Tests.{split_on, same_some, not_none, none_not}
+use Rattle.snow_boot.proofs.Cases.{split_on, same_some, not_none, none_not}
 use Rattle.snow_boot.proofs.Underway.{IsUnderway, goes_on, stops_here, runs_out}
 
 -- a number that comes behind all that were drawn is none of an open request

@@ -33,7 +33,7 @@ use Rattle.snow_boot.specs.Replying.{after_verdict, if_taken, came, with_taken, 
 use Rattle.snow_boot.specs.Surveying.{Surveyed}
 use Rattle.snow_boot.proofs.Followed.{comes_as, comes_ignored, comes_behind}
 use Rattle.snow_boot.proofs.Replied.{replied_same}
-use Rattle.snow_boot.proofs.Tests.{clash, none_not, not_none, same_some}
+use Rattle.snow_boot.proofs.Cases.{clash, none_not, not_none, same_some}
 
 -- ---- answers of all nodes
 

@@ -13,7 +13,7 @@ use Rattle.snow_boot.specs.declared.block.KeptBlock.{KeptBlock}
 use Rattle.snow_boot.specs.declared.index.Children.{Children}
 use Rattle.snow_boot.specs.Keeping.{held, highest, higher}
 use Rattle.snow_boot.specs.Indexing.{place_of, top_of, higher_height, with_child, children_of, HasPlaces, HasTops, HasChildren}
-use Rattle.snow_boot.proofs.Tests.{split_on, same_id, same_some, none_not, picked, passed}
+use Rattle.snow_boot.proofs.Cases.{split_on, same_id, same_some, none_not, picked, passed}
 
 -- whichever of two numbers is compared to the other
 pub turned : (a b : ℕ) → (a == b) ≡ (b == a)

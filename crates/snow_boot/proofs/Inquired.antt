@@ -21,7 +21,7 @@ use Rattle.snow_boot.specs.Fetching.{Hunt}
 use Rattle.snow_boot.specs.Surveying.{Surveyed}
 use Rattle.snow_boot.proofs.Asked.{next_is, still_drawn}
 use Rattle.snow_boot.proofs.Followed.{comes_as}
-use Rattle.snow_boot.proofs.Tests.{clash}
+use Rattle.snow_boot.proofs.Cases.{clash}
 
 frontier_goes : question.Frontier ≡ question.Nothing → ⊥
 frontier_goes e = cc

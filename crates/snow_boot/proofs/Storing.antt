@@ -11,7 +11,7 @@ use Rattle.snow_boot.specs.Keeping.{Store, held, highest, taken, keeping}
 use Rattle.snow_boot.specs.Linking.{IsLinked, held_heights}
 use Rattle.snow_boot.specs.Paths.{Fetch, path, last_of, wanted_below, missed_from, missed}
 use Rattle.snow_boot.specs.Indexing.{IsStored, HasPlaces, HasTops, HasChildren, top_of}
-use Rattle.snow_boot.proofs.Tests.{split_on, clash, none_not, same_some}
+use Rattle.snow_boot.proofs.Cases.{split_on, clash, none_not, same_some}
 use Rattle.snow_boot.proofs.Indexed.{turned}
 use Rattle.snow_boot.proofs.Holding.{highest_held}
 use Rattle.snow_boot.proofs.Linked.{keeps_facts, kept_linked}

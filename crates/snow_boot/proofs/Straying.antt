@@ -8,7 +8,7 @@ use Rattle.snow_boot.specs.declared.index.Children.{Children}
 use Rattle.snow_boot.specs.Keeping.{held, lower, strays, stray}
 use Rattle.snow_boot.specs.Linking.{AreApart, held_heights}
 use Rattle.snow_boot.specs.Indexing.{lower_height, with_child, children_of, stray_height}
-use Rattle.snow_boot.proofs.Tests.{split_on, clash, same_some, not_none, none_not, picked}
+use Rattle.snow_boot.proofs.Cases.{split_on, clash, same_some, not_none, none_not, picked}
 use Rattle.snow_boot.proofs.Holding.{held_first, held_later}
 
 -- children are kept, the second one above the first

@@ -54,7 +54,7 @@ fn block(alloc: Global, [id, parent, height]: [u8; 3]) -> Result<Bytes, AllocErr
 }
 
 // One step of a node.
-fn step(run: &mut Run, step: Step) -> Result<Stage, BootStop>
+fn go(run: &mut Run, step: Step) -> Result<Stage, BootStop>
     requires { MayGoOn run.old.boot run.old.chain run.old.numbers }
     ensures { OnGoing result (MayGoOn run.new.boot run.new.chain run.new.numbers) }
 {
@@ -117,7 +117,7 @@ fn walk(run: &mut Run, steps: &[Step]) -> Result<Stage, BootStop>
     requires { MayGoOn run.old.boot run.old.chain run.old.numbers }
 {
     for one in steps {
-        match step(run, *one) {
+        match go(run, *one) {
             Ok(Stage::Going) => {}
             Ok(stage) => return Ok(stage),
             Err(stop) => return Err(stop),
@@ -211,5 +211,132 @@ fn children_at_wrong_heights_are_refused(rt: HostRuntime) -> Result<(), Fail> {
 fn the_last_height_is_the_greatest(rt: HostRuntime) -> Result<(), Fail> {
     let steps = [Step::Stored([1, 255, 1]), Step::Stored([2, 255, 1])];
     assert!(rt; end(rt.alloc(), u64::MAX, steps.as_slice())? == Ok(Stage::Going));
+    Ok(())
+}
+
+/// In which order blocks come: upwards, downwards or in jumps.
+#[derive(Clone, Copy)]
+enum Order {
+    Up,
+    Down,
+    Jumps,
+}
+
+// The block of a number, which is its height too, on the one below it.
+fn tall(alloc: Global, number: u16) -> Result<Bytes, AllocError> {
+    let mut bytes = [0; 73];
+    bytes[0..2].copy_from_slice(&number.to_be_bytes());
+    bytes[32..34].copy_from_slice(&number.wrapping_sub(1).to_be_bytes());
+    bytes[70..72].copy_from_slice(&number.to_be_bytes());
+    bytes[72] = 1;
+    Bytes::from_slice(alloc, &bytes)
+}
+
+fn numbered(number: u16) -> Id {
+    let mut bytes = [0; 32];
+    bytes[0..2].copy_from_slice(&number.to_be_bytes());
+    Id::from_bytes(bytes)
+}
+
+// The block that comes after so many.
+fn next_in(order: Order, came: u16) -> u16 {
+    match order {
+        Order::Up => came.wrapping_add(1),
+        Order::Down => 32_768u16.wrapping_sub(came),
+        Order::Jumps => (came.wrapping_mul(12_345) % 32_768).wrapping_add(1),
+    }
+}
+
+// So many blocks come.
+fn fill(run: &mut Run, order: Order, count: u16) -> Result<Stage, BootStop>
+    requires { MayGoOn run.old.boot run.old.chain run.old.numbers }
+{
+    for came in 0..count {
+        let bytes = tall(run.alloc, next_in(order, came))?;
+        let stored = run.boot.stored(
+            1,
+            &bytes,
+            &mut run.chain,
+            &mut run.numbers,
+            &mut run.log,
+        );
+        match stored {
+            Ok(Stage::Going) => {}
+            Ok(stage) => return Ok(stage),
+            Err(stop) => return Err(stop),
+        }
+    }
+    Ok(Stage::Going)
+}
+
+// The only node names a block and holds it accepted.
+fn aim(run: &mut Run, id: Id) -> Result<Stage, BootStop>
+    requires { MayGoOn run.old.boot run.old.chain run.old.numbers }
+    ensures { OnGoing result (MayGoOn run.new.boot run.new.chain run.new.numbers) }
+{
+    let from = node(1).id;
+    let asked = run.boot.frontier(
+        &from,
+        1,
+        id,
+        &mut run.chain,
+        &mut run.numbers,
+        &mut run.log,
+    );
+    match asked {
+        Ok(Stage::Going) => {}
+        other => return other,
+    }
+    let mut ids = Ids::new(run.alloc);
+    ids.push(id)?;
+    run.boot.accepted(
+        &from,
+        2,
+        &ids,
+        &mut run.chain,
+        &mut run.numbers,
+        &mut run.log,
+    )
+}
+
+// The end where so many blocks come to a node that aims at the block of this number.
+fn filled(alloc: Global, top: u16, order: Order, count: u16) -> Result<Result<Stage, BootStop>, Fail> {
+    let roster = Roster::new(alloc, &[node(1)])?;
+    let last = numbered(0);
+    let chain = PlainChain::begin(alloc, last, &[])?;
+    let mut numbers = Numbers::new();
+    let mut log = Lines::new(alloc);
+    let boot = Boot::start(alloc, &roster, last, 0, &mut numbers, &mut log)?;
+    let mut run = Run {
+        alloc,
+        boot,
+        chain,
+        numbers,
+        log,
+    };
+    match aim(&mut run, numbered(top)) {
+        Ok(Stage::Going) => Ok(fill(&mut run, order, count)),
+        other => Ok(other),
+    }
+}
+
+// In whatever order they come, 32,768 blocks are executed at once when the last of them comes.
+#[test]
+fn all_blocks_come_in_any_order(rt: HostRuntime) -> Result<(), Fail> {
+    let last = numbered(32_768);
+    let done = Ok(Stage::Done {
+        last,
+        height: 32_768,
+    });
+    for order in [Order::Up, Order::Down, Order::Jumps] {
+        assert!(rt; filled(rt.alloc(), 32_768, order, 32_767)? == Ok(Stage::Going));
+        assert!(rt; filled(rt.alloc(), 32_768, order, 32_768)? == done);
+    }
+    Ok(())
+}
+
+#[test]
+fn one_block_more_is_too_many(rt: HostRuntime) -> Result<(), Fail> {
+    assert!(rt; filled(rt.alloc(), 40_000, Order::Up, 32_769)? == Err(BootStop::Full));
     Ok(())
 }
