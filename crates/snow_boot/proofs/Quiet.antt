@@ -7,6 +7,8 @@ use Rattle.snow_base.specs.declared.header.Header.{Header}
 use Rattle.snow_base.specs.Numbers.{next_number}
 use Rattle.snow_chain.specs.Chain.{Rules}
 use Rattle.snow_sample.specs.declared.roster.Node.{Node}
+use Rattle.snow_issue.specs.declared.work.Get.{Get}
+use Rattle.snow_issue.specs.Lists.{asked_in}
 use Rattle.snow_lines.specs.declared.line.Line.{Line}
 use Rattle.snow_lines.specs.declared.line.Line.TheVariants as line
 use Rattle.snow_lines.specs.declared.why.RestartWhy.TheVariants as restart
@@ -14,9 +16,8 @@ use Rattle.snow_lines.specs.declared.why.SkipKind.TheVariants as skip
 use Rattle.snow_boot.specs.declared.question.Candidate.{Candidate}
 use Rattle.snow_boot.specs.declared.question.Question.{Question}
 use Rattle.snow_boot.specs.declared.question.Question.TheVariants as question
-use Rattle.snow_boot.specs.declared.question.Request.{Request}
 use Rattle.snow_boot.specs.declared.stop.BootStop.{BootStop}
-use Rattle.snow_boot.specs.Asking.{Asked, is_asked, asked_with, asked_one, and_asked, asked}
+use Rattle.snow_boot.specs.Asking.{Asked, asked_with, asked_one, and_asked, asked}
 use Rattle.snow_boot.specs.Executing.{Executed, executed}
 use Rattle.snow_boot.specs.Paths.{Fetch, missed, is_whole, highest_target, path_up}
 use Rattle.snow_boot.specs.Booting.{Boot, Going, Done, Outcome, behind, ask_frontier, ask_accepted, fetch_of, with_requests, ended, finished, height_or, followed_by, followed, fetching, with_targets, with_collected, all_answered, answered, or_all, if_awaited, awaited_for, frontier_came, accepted_came, with_came, if_requested, request_of, closed, ancestors_came, timeout_by, timeout_came, if_block, stored_came, with_fetch}
@@ -40,9 +41,9 @@ quiet_accepted boot None = tt
 quiet_accepted boot (Some number) = refl
 
 -- requests accept nothing
-one_asked : (nodes : List Node) (requests : List Request) (drawn : ℕ) (o : Option (List ℕ)) → list_any accepts (asked_one nodes requests drawn o).0 ≡ false
+one_asked : (nodes : List Node) (requests : List Get) (drawn : ℕ) (o : Option (List ℕ)) → list_any accepts (asked_one nodes requests drawn o).0 ≡ false
 one_asked nodes requests drawn None = refl
-one_asked nodes requests drawn (Some id) = by_test (is_asked requests id)
+one_asked nodes requests drawn (Some id) = by_test (asked_in requests id)
   where
     with_number : (o : Option ℕ) → list_any accepts (asked_with nodes requests id o).0 ≡ false
     with_number None = refl
@@ -52,12 +53,12 @@ one_asked nodes requests drawn (Some id) = by_test (is_asked requests id)
     by_test true = refl
     by_test false = with_number (next_number drawn)
 
-both_asked : (one : Asked) (more : List Request → ℕ → Asked) → list_any accepts one.0 ≡ false → ((requests : List Request) (drawn : ℕ) → list_any accepts (more requests drawn).0 ≡ false)
+both_asked : (one : Asked) (more : List Get → ℕ → Asked) → list_any accepts one.0 ≡ false → ((requests : List Get) (drawn : ℕ) → list_any accepts (more requests drawn).0 ≡ false)
     → list_any accepts (and_asked one more).0 ≡ false
 both_asked (lines, Err why) more e h = e
 both_asked (lines, Ok (requests, drawn)) more e h = list_any-append accepts lines (more requests drawn).0 ∙ rw (e, h requests drawn) refl
 
-all_asked : (nodes : List Node) (f : Fetch) (targets : List (List ℕ)) (requests : List Request) (drawn : ℕ) → list_any accepts (asked nodes f targets requests drawn).0 ≡ false
+all_asked : (nodes : List Node) (f : Fetch) (targets : List (List ℕ)) (requests : List Get) (drawn : ℕ) → list_any accepts (asked nodes f targets requests drawn).0 ≡ false
 unfolding asked
 all_asked nodes f [] requests drawn = refl
 all_asked nodes f (t ∷ targets) requests drawn =
@@ -115,15 +116,15 @@ quiet_awaited rules state boot drawn node (Some n) candidates =
     let next = answered boot node (candidates n.weight) in quiet_or rules state next drawn next.awaited
 
 -- blocks that come
-quiet_came : (rules : Rules) (state : List ℕ) (boot : Boot) (drawn : ℕ) (requests : List Request) (r : Result Fetch BootStop) → IsQuiet (with_came rules state boot drawn requests r)
+quiet_came : (rules : Rules) (state : List ℕ) (boot : Boot) (drawn : ℕ) (requests : List Get) (r : Result Fetch BootStop) → IsQuiet (with_came rules state boot drawn requests r)
 quiet_came rules state boot drawn requests (Err why) = tt
 quiet_came rules state boot drawn requests (Ok f) = quiet_followed rules state (with_fetch boot f requests) drawn
 
-quiet_requested : (rules : Rules) (state : List ℕ) (boot : Boot) (drawn : ℕ) (node : List ℕ) (number : ℕ) (blocks : List (List ℕ)) (o : Option Request)
+quiet_requested : (rules : Rules) (state : List ℕ) (boot : Boot) (drawn : ℕ) (node : List ℕ) (number : ℕ) (blocks : List (List ℕ)) (o : Option (List ℕ))
     → IsQuiet (if_requested rules state boot drawn node number blocks o)
 quiet_requested rules state boot drawn node number blocks None = quiet_followed rules state boot drawn
-quiet_requested rules state boot drawn node number blocks (Some r) =
-    quiet_came rules state boot drawn (closed boot.requests node number) (replied rules.header_of (fetch_of boot) r.id blocks)
+quiet_requested rules state boot drawn node number blocks (Some id) =
+    quiet_came rules state boot drawn (closed boot.requests node number) (replied rules.header_of (fetch_of boot) id blocks)
 
 quiet_timeout : (rules : Rules) (state : List ℕ) (boot : Boot) (drawn : ℕ) (node : List ℕ) (number : ℕ) (q : Question) → IsQuiet (timeout_by rules state boot drawn node number q)
 quiet_timeout rules state boot drawn node number question.Nothing = quiet_followed rules state (with_fetch boot (fetch_of boot) (closed boot.requests node number)) drawn

@@ -1,11 +1,13 @@
 -- Bootstrapping: its state, and what each event makes of it.
-use Rattle.std.specs.Prelude.{ℕ, Bool, true, false, ◌==◌, ◌&&◌, not, List, [], ◌∷◌, ◌++◌, map, Option, Some, None, Result, Ok, Err, find, bytes_eq, if◌then◌else◌}
-use Rattle.std.specs.List.{filter}
+use Rattle.std.specs.Prelude.{ℕ, Bool, true, false, ◌==◌, ◌&&◌, List, [], ◌∷◌, ◌++◌, map, Option, Some, None, Result, Ok, Err, find, if◌then◌else◌}
+use Rattle.std.specs.Option.{option_map}
 use Rattle.snow_base.specs.declared.header.Header.{Header}
 use Rattle.snow_base.specs.Numbers.{next_number}
 use Rattle.snow_chain.specs.Chain.{Rules}
 use Rattle.snow_sample.specs.declared.roster.Node.{Node}
 use Rattle.snow_sample.specs.Roster.{total_weight}
+use Rattle.snow_issue.specs.declared.work.Get.{Get}
+use Rattle.snow_issue.specs.Lists.{is_get, without}
 use Rattle.snow_lines.specs.declared.line.Line.{Line}
 use Rattle.snow_lines.specs.declared.line.Line.TheVariants as line
 use Rattle.snow_lines.specs.declared.why.RestartWhy.TheVariants as restart
@@ -14,7 +16,6 @@ use Rattle.snow_boot.specs.declared.block.KeptBlock.{KeptBlock}
 use Rattle.snow_boot.specs.declared.question.Candidate.{Candidate}
 use Rattle.snow_boot.specs.declared.question.Question.{Question}
 use Rattle.snow_boot.specs.declared.question.Question.TheVariants as question
-use Rattle.snow_boot.specs.declared.question.Request.{Request}
 use Rattle.snow_boot.specs.declared.stop.BootStop.{BootStop}
 use Rattle.snow_boot.specs.declared.stop.BootStop.TheVariants as stop
 use Rattle.snow_boot.specs.Asking.{asked}
@@ -35,7 +36,7 @@ pub record Boot : Type 0 where
   pub candidates : List Candidate
   pub targets : List (List ℕ)
   pub found : List (List ℕ)
-  pub requests : List Request
+  pub requests : List Get
 
 -- bootstrapping goes on, with the last number drawn; or it is done, with the last accepted block, its height and its state
 pub data Next : Type 0 where
@@ -100,7 +101,7 @@ abbrev pub fetch_of : Boot → Fetch
 fetch_of boot = record { store = boot.store; targets = boot.targets; found = boot.found }
 
 -- other blocks and found targets, and other requests
-abbrev pub with_fetch : Boot → Fetch → List Request → Boot
+abbrev pub with_fetch : Boot → Fetch → List Get → Boot
 with_fetch boot f requests = record {
   store = f.store;
   nodes = boot.nodes;
@@ -114,7 +115,7 @@ with_fetch boot f requests = record {
 }
 
 -- the requests are made
-abbrev pub with_requests : Boot → List Line × Result (List Request × ℕ) BootStop → Outcome
+abbrev pub with_requests : Boot → List Line × Result (List Get × ℕ) BootStop → Outcome
 with_requests boot (lines, Err why) = (lines, Err why)
 with_requests boot (lines, Ok (requests, drawn)) = (lines, Ok (Going (with_fetch boot (fetch_of boot) requests) drawn))
 
@@ -207,9 +208,12 @@ asks question.Frontier question.Frontier = true
 asks question.Accepted question.Accepted = true
 asks a b = false
 
--- a node whose answer to a question with this number is awaited
+-- a node whose answer is awaited, where this question with this number is asked
+abbrev pub awaited_by : Question → ℕ → List Node → Question → ℕ → List ℕ → Option Node
+awaited_by question number awaited q n node = if asks question q && number == n then awaits awaited node else None
+
 abbrev pub awaited_for : Boot → Question → ℕ → List ℕ → Option Node
-awaited_for boot q number node = if asks boot.question q && boot.number == number then awaits boot.awaited node else None
+awaited_for boot q number node = awaited_by boot.question boot.number boot.awaited q number node
 
 -- a node names its frontier
 unfoldable pub frontier_came : Rules → List ℕ → Boot → ℕ → List ℕ → ℕ → List ℕ → Outcome
@@ -221,24 +225,24 @@ unfoldable pub accepted_came : Rules → List ℕ → Boot → ℕ → List ℕ 
 accepted_came rules state boot drawn node number ids =
     if_awaited rules state boot drawn node (awaited_for boot question.Accepted number node) (λ weight. backed weight ids boot.candidates)
 
--- the open request with this number to this node
-abbrev pub request_of : List Request → List ℕ → ℕ → Option Request
-request_of requests node number = find (λ r. r.number == number && bytes_eq r.node node) requests
+-- the block that is asked for by the open request with this number to this node
+abbrev pub request_of : List Get → List ℕ → ℕ → Option (List ℕ)
+request_of requests node number = option_map (λ r. r.id) (find (is_get number node) requests)
 
 -- the open requests but that one
-abbrev pub closed : List Request → List ℕ → ℕ → List Request
-closed requests node number = filter (λ r. not (r.number == number && bytes_eq r.node node)) requests
+abbrev pub closed : List Get → List ℕ → ℕ → List Get
+closed requests node number = without (is_get number node) requests
 
 -- the blocks came, or a stop
-abbrev pub with_came : Rules → List ℕ → Boot → ℕ → List Request → Result Fetch BootStop → Outcome
+abbrev pub with_came : Rules → List ℕ → Boot → ℕ → List Get → Result Fetch BootStop → Outcome
 with_came rules state boot drawn requests (Err why) = ([], Err why)
 with_came rules state boot drawn requests (Ok f) = followed rules state (with_fetch boot f requests) drawn
 
 -- a reply comes to a request that is open
-abbrev pub if_requested : Rules → List ℕ → Boot → ℕ → List ℕ → ℕ → List (List ℕ) → Option Request → Outcome
+abbrev pub if_requested : Rules → List ℕ → Boot → ℕ → List ℕ → ℕ → List (List ℕ) → Option (List ℕ) → Outcome
 if_requested rules state boot drawn node number blocks None = followed rules state boot drawn
-if_requested rules state boot drawn node number blocks (Some r) =
-    with_came rules state boot drawn (closed boot.requests node number) (replied rules.header_of (fetch_of boot) r.id blocks)
+if_requested rules state boot drawn node number blocks (Some id) =
+    with_came rules state boot drawn (closed boot.requests node number) (replied rules.header_of (fetch_of boot) id blocks)
 
 -- a node sends a block and its ancestors
 unfoldable pub ancestors_came : Rules → List ℕ → Boot → ℕ → List ℕ → ℕ → List (List ℕ) → Outcome

@@ -78,10 +78,14 @@ misplaced s b =
 abbrev pub most_kept : ℕ
 most_kept = 32768
 
+-- a block at a height that a block holds
+abbrev pub placed_there : Header → KeptBlock → Result Verdict BootStop
+placed_there b other = if bytes_eq other.header.id b.id then Ok verdict.Known else Err (stop.Conflict b.height other.header.id b.id)
+
 -- a block at a height that is free, or that a block holds
 abbrev pub placed : Store → Header → Option KeptBlock → Result Verdict BootStop
 placed s b None = if nat_le most_kept (length s.kept) then Err stop.Full else unless (misplaced s b) (Ok verdict.Keeps)
-placed s b (Some other) = if bytes_eq other.header.id b.id then Ok verdict.Known else Err (stop.Conflict b.height other.header.id b.id)
+placed s b (Some other) = placed_there b other
 
 -- what becomes of a block that is taken
 unfoldable pub taken : Store → Header → Result Verdict BootStop

@@ -1,9 +1,17 @@
+pub mod Accepting
 pub mod Asking
+pub mod BootCode
 pub mod Booting
+pub mod Calling
+pub mod Coursing
 pub mod Electing
 pub mod Executing
+pub mod Fetching
+pub mod Indexing
 pub mod Keeping
 pub mod Linking
 pub mod OutcomeLaw
 pub mod Paths
 pub mod Replying
+pub mod Requesting
+pub mod Surveying

@@ -3,12 +3,13 @@ use Rattle.std.specs.Prelude.{◌≡◌, ℕ, Bool, true, false, List, [], ◌�
 use Rattle.std.specs.List.{list_any}
 use Rattle.snow_chain.specs.Chain.{Rules}
 use Rattle.snow_sample.specs.declared.roster.Node.{Node}
+use Rattle.snow_issue.specs.declared.work.Get.{Get}
+use Rattle.snow_issue.specs.Lists.{asked_in}
 use Rattle.snow_lines.specs.declared.line.Line.{Line}
 use Rattle.snow_lines.specs.declared.line.Line.TheVariants as line
 use Rattle.snow_boot.specs.declared.block.KeptBlock.{KeptBlock}
-use Rattle.snow_boot.specs.declared.question.Request.{Request}
 use Rattle.snow_boot.specs.declared.stop.BootStop.TheVariants as stop
-use Rattle.snow_boot.specs.Asking.{is_asked, asked}
+use Rattle.snow_boot.specs.Asking.{asked}
 use Rattle.snow_boot.specs.Executing.{Executed, executed}
 use Rattle.snow_boot.specs.Paths.{Fetch, has_id, missed, is_whole, highest_target, path_up}
 use Rattle.snow_boot.specs.Booting.{Boot, Going, Done, Outcome, fetch_of, height_or, followed, frontier_came, accepted_came, ancestors_came, timeout_came, stored_came}
@@ -16,17 +17,17 @@ use Rattle.snow_boot.specs.Booting.{Boot, Going, Done, Outcome, fetch_of, height
 -- ---- requests
 
 -- each identifier that one of the targets misses is named by a request
-abbrev pub AreAsked : Fetch → List (List ℕ) → List Request → Type 0
-AreAsked f targets requests = (t id : List ℕ) → has_id targets t ≡ true → missed f t ≡ Some id → is_asked requests id ≡ true
+abbrev pub AreAsked : Fetch → List (List ℕ) → List Get → Type 0
+AreAsked f targets requests = (t id : List ℕ) → has_id targets t ≡ true → missed f t ≡ Some id → asked_in requests id ≡ true
 
 -- once what the targets miss was asked for, requests name all of it
 abbrev pub AskedLaw : Type 0
-AskedLaw = (nodes : List Node) (f : Fetch) (targets : List (List ℕ)) (requests more : List Request) (drawn last : ℕ)
+AskedLaw = (nodes : List Node) (f : Fetch) (targets : List (List ℕ)) (requests more : List Get) (drawn last : ℕ)
     → (asked nodes f targets requests drawn).1 ≡ Ok (more, last) → AreAsked f targets more
 
 -- where requests name all that the targets miss, asking again asks for nothing
 abbrev pub AskedOnceLaw : Type 0
-AskedOnceLaw = (nodes : List Node) (f : Fetch) (targets : List (List ℕ)) (requests : List Request) (drawn : ℕ)
+AskedOnceLaw = (nodes : List Node) (f : Fetch) (targets : List (List ℕ)) (requests : List Get) (drawn : ℕ)
     → AreAsked f targets requests → asked nodes f targets requests drawn ≡ ([], Ok (requests, drawn))
 
 -- ---- execution

@@ -1,5 +1,5 @@
 -- Blocks that come: by themselves, and as a reply.
-use Rattle.std.specs.Prelude.{ℕ, List, [], ◌∷◌, Option, Some, None, Result, Ok, Err, bytes_eq, if◌then◌else◌}
+use Rattle.std.specs.Prelude.{ℕ, ◌&&◌, not, List, [], ◌∷◌, ◌++◌, Option, Some, None, Result, Ok, Err, bytes_eq, if◌then◌else◌}
 use Rattle.snow_base.specs.declared.header.Header.{Header}
 use Rattle.snow_boot.specs.declared.block.KeptBlock.{KeptBlock}
 use Rattle.snow_boot.specs.declared.stop.BootStop.{BootStop}
@@ -8,9 +8,9 @@ use Rattle.snow_boot.specs.declared.verdict.Verdict.TheVariants as verdict
 use Rattle.snow_boot.specs.Keeping.{taken, after_taking}
 use Rattle.snow_boot.specs.Paths.{Fetch, has_id}
 
--- a target that came at or below the last accepted height is found
+-- a target that came at or below the last accepted height is found, and noted once
 abbrev pub noted : List (List ℕ) → List (List ℕ) → List ℕ → List (List ℕ)
-noted targets found id = if has_id targets id then id ∷ found else found
+noted targets found id = if has_id targets id && not (has_id found id) then found ++ id ∷ [] else found
 
 -- what is kept and found after a block was taken
 abbrev pub after_verdict : Fetch → KeptBlock → Verdict → Fetch

@@ -1,4 +1,4 @@
-use snow_base::{Id, NodeId};
+use snow_base::Id;
 
 /// What all nodes are being asked.
 #[derive(Clone, Copy)]
@@ -18,15 +18,4 @@ pub struct Candidate {
     pub id: Id,
     /// The weight that backs it.
     pub weight: u64,
-}
-
-/// An open request for a block and its ancestors.
-#[derive(Clone, Copy)]
-pub struct Request {
-    /// Its number.
-    pub number: u32,
-    /// The node that is asked.
-    pub node: NodeId,
-    /// The block that is wanted.
-    pub id: Id,
 }

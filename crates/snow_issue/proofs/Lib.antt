@@ -1,5 +1,5 @@
-mod Asking
-mod Booleans
+pub mod Asking
+pub mod Booleans
 mod Bubbled
 mod GoneAppended
 mod GoneExamples
@@ -10,7 +10,7 @@ pub mod Examples
 mod Heights
 mod Looked
 mod Named
-mod Noted
+pub mod Noted
 mod Placed
 pub mod Remembered
 mod Replied

@@ -17,7 +17,7 @@ pub(crate) struct Asked {
 
 /// The open gets in order of their numbers, with an index by identifier.
 #[derive(Drop)]
-pub(crate) struct Gets {
+pub struct Gets {
     open: BTreeMap<u32, Asked>,
     ids: BTreeSet<Id>,
 }
@@ -36,7 +36,7 @@ impl Model for Gets {
 
 impl Gets {
     /// No get is open. It takes no memory.
-    pub(crate) fn new(alloc: Global) -> Self
+    pub fn new(alloc: Global) -> Self
         ensures { result ≡ [] }
     {
         Gets {
@@ -45,28 +45,29 @@ impl Gets {
         }
     }
 
-    pub(crate) fn len(&self) -> usize
+    /// How many gets are open.
+    pub fn len(&self) -> usize
         ensures { result ≡ length self.now }
     {
         self.open.len()
     }
 
     /// Whether a block is asked for.
-    pub(crate) fn asks_for(&self, id: &Id) -> bool
+    pub fn asks_for(&self, id: &Id) -> bool
         ensures { result ≡ asked_in self.now id.now }
     {
         self.ids.contains(id)
     }
 
     /// Whether a get with this number is open.
-    pub(crate) fn has_number(&self, number: u32) -> bool
+    pub fn has_number(&self, number: u32) -> bool
         ensures { result ≡ has_number self.now number }
     {
         self.open.contains_key(&number)
     }
 
     /// Opens a get. After want of memory all is as before.
-    pub(crate) fn open(&mut self, get: Get) -> Result<(), AllocError>
+    pub fn open(&mut self, get: Get) -> Result<(), AllocError>
         requires number { has_number self.old get.number ≡ false }
         requires id { asked_in self.old get.id ≡ false }
         ensures ok { OnOk result (self.new ≡ with_get self.old get) }
@@ -82,7 +83,7 @@ impl Gets {
     }
 
     /// Closes the get of a number and node, and gives the block that was asked for.
-    pub(crate) fn close(&mut self, number: u32, node: &NodeId) -> Option<Id>
+    pub fn close(&mut self, number: u32, node: &NodeId) -> Option<Id>
         ensures answer { result ≡ option_map (λ g. g.id) (find (is_get number node.now) self.old) }
         ensures left { self.new ≡ without (is_get number node.now) self.old }
     {

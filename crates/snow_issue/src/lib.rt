@@ -19,6 +19,7 @@ mod waiting;
 mod window;
 mod work;
 
+pub use gets::Gets;
 pub use gone::Gone;
 pub use laws::{issue_stays_known_law, poll_stays_known_law};
 pub use queue::Queue;

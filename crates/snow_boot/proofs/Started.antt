@@ -1,0 +1,56 @@
+-- Bootstrapping begins.
+use Rattle.std.proofs.Common.{◌≡◌, ℕ, true, List, [], Some, ap, ◌∙◌}
+use Rattle.std.specs.Prelude.{Result, Ok, Err}
+use Rattle.snow_base.specs.Numbers.{next_number}
+use Rattle.snow_chain.specs.Chain.{Held}
+use Rattle.snow_issue.specs.declared.work.Get.{Get}
+use Rattle.snow_lines.specs.declared.line.Line.{Line}
+use Rattle.snow_sample.specs.declared.roster.Node.{Node}
+use Rattle.snow_boot.specs.declared.question.Question.TheVariants as question
+use Rattle.snow_boot.specs.declared.stage.Stage.{Stage}
+use Rattle.snow_boot.specs.declared.stop.BootStop.{BootStop}
+use Rattle.snow_boot.specs.declared.stop.BootStop.TheVariants as stop
+use Rattle.snow_boot.specs.Booting.{Outcome, begun, ask_frontier, started}
+use Rattle.snow_boot.specs.Calling.{Begins, LogsUpTo}
+use Rattle.snow_boot.specs.Coursing.{boot_of, Comes}
+use Rattle.snow_boot.specs.Fetching.{Hunt}
+use Rattle.snow_boot.specs.Surveying.{Surveyed}
+use Rattle.snow_boot.proofs.Followed.{comes_as}
+
+-- nothing is asked or kept yet
+abbrev pub first_survey : List Node → Surveyed
+first_survey nodes = record { nodes = nodes; question = question.Nothing; number = 0; awaited = []; candidates = [] }
+
+abbrev pub first_hunt : List ℕ → ℕ → Hunt
+first_hunt last height = record { whole = true; fetch = record { store = record { last = last; height = height; kept = [] }; targets = []; found = [] } }
+
+pub starts : (r : Result Stage BootStop) (before after : List Line) (s now : Surveyed) (hunt : Hunt) (requests : List Get) (first last : ℕ) (held : Held) (id : List ℕ) (height : ℕ) (nodes : List Node)
+    → s ≡ first_survey nodes → hunt ≡ first_hunt id height → requests ≡ []
+    → Comes r before after now hunt requests first last held held (ask_frontier (boot_of s hunt.fetch requests) (next_number first))
+    → Comes r before after now hunt requests first last held held (started id height nodes first)
+unfolding started
+starts r before after s now hunt requests first last held id height nodes a b d c =
+    comes_as r before after now hunt requests first last held held (ask_frontier (boot_of s hunt.fetch requests) (next_number first)) (ask_frontier (begun id height nodes) (next_number first))
+    (ap (λ (t : Surveyed). ask_frontier (boot_of t hunt.fetch requests) (next_number first)) a
+    ∙ ap (λ (t : Hunt). ask_frontier (boot_of (first_survey nodes) t.fetch requests) (next_number first)) b
+    ∙ ap (λ l. ask_frontier (boot_of (first_survey nodes) (first_hunt id height).fetch l) (next_number first)) d)
+    c
+
+-- a stop at the start
+pub stops_first : (why : BootStop) (before after : List Line) (s : Surveyed) (hunt : Hunt) (requests : List Get) (first last : ℕ) (held : Held) (o : Outcome)
+    → Comes (Err why) before after s hunt requests first last held held o → Begins (Err why) last o.1
+stops_first stop.Memory before after s hunt requests first last held o c = tt
+stops_first (stop.Conflict height one other) before after s hunt requests first last held o c = c.1
+stops_first (stop.Fork id parent) before after s hunt requests first last held o c = c.1
+stops_first (stop.Refused id) before after s hunt requests first last held o c = c.1
+stops_first stop.Full before after s hunt requests first last held o c = c.1
+stops_first stop.Requests before after s hunt requests first last held o c = c.1
+
+pub logs_first : (why : BootStop) (before after : List Line) (s : Surveyed) (hunt : Hunt) (requests : List Get) (first last : ℕ) (held : Held) (o : Outcome)
+    → Comes (Err why) before after s hunt requests first last held held o → LogsUpTo (Some why) before after o.0
+logs_first stop.Memory before after s hunt requests first last held o c = c
+logs_first (stop.Conflict height one other) before after s hunt requests first last held o c = c.0
+logs_first (stop.Fork id parent) before after s hunt requests first last held o c = c.0
+logs_first (stop.Refused id) before after s hunt requests first last held o c = c.0
+logs_first stop.Full before after s hunt requests first last held o c = c.0
+logs_first stop.Requests before after s hunt requests first last held o c = c.0

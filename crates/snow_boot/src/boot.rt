@@ -1,0 +1,259 @@
+ghost use Rattle.std.specs.Prelude.{◌≡◌, IfOk};
+ghost use Rattle.snow_chain.specs.Chain.{Held};
+ghost use Rattle.snow_boot.specs.Booting as model;
+ghost use Rattle.snow_boot.specs.Calling.{MayGoOn, OnGoing, OnDone, Brings, Begins, Logs, Leaves, IsAlone, last_state};
+ghost use Rattle.snow_boot.specs.Coursing.{is_going};
+
+use crate::fetching::Fetching;
+use crate::hearing;
+use crate::inquiring;
+use crate::stage::Stage;
+use crate::stop::BootStop;
+use crate::survey::Survey;
+use snow_base::{Blocks, Bytes, Id, Ids, NodeId, Numbers};
+use snow_chain::Chain;
+use snow_interval::Kept;
+use snow_issue::Gets;
+use snow_lines::Lines;
+use snow_sample::Roster;
+use std::alloc::Global;
+use std::marker::{Model, PhantomData};
+
+/// A node that bootstraps, over any chain and any set of heights: it asks all nodes for their accepted
+/// frontier and which of these identifiers they hold accepted, fetches the blocks that more than half
+/// of the weight holds accepted with all their ancestors, and executes them from the last accepted
+/// block upwards. This is the behaviour of AvalancheGo's packages `snowman/bootstrap` and
+/// `bootstrap/interval`; the events and the lines are this project's own.
+///
+/// Contracts see the node of the definitions, and whether it goes on. Each call appends its lines to a
+/// log. After a stop and at the end a node is only let go: all lines before the stop were appended,
+/// after `Memory` a front of the event's lines; and after `Memory` the chain and the numbers are only
+/// let go too.
+#[derive(Drop)]
+pub struct Boot<C: Chain, H: Kept> {
+    going: bool,
+    survey: Survey,
+    fetching: Fetching<H>,
+    requests: Gets,
+    chain: PhantomData<C>,
+}
+
+impl<C: Chain, H: Kept> Model for Boot<C, H> {
+    ghost use Rattle.std.specs.Prelude.{◌≡◌, true};
+    ghost use Rattle.snow_boot.specs.BootCode.{coded_course};
+    ghost use Rattle.snow_boot.specs.Calling.{Course};
+    ghost use Rattle.snow_boot.specs.Coursing.{course_of, IsCourse};
+
+    ghost Value = { Course };
+
+    ghost coded = { coded_course };
+
+    ghost view = { λ a. course_of a.going a.survey a.fetching.fetch a.requests };
+
+    ghost invariant = { λ a. a.going ≡ true → IsCourse a.survey a.fetching a.requests };
+}
+
+impl<C: Chain, H: Kept> Boot<C, H> {
+    /// Bootstrapping begins, from the last accepted block and its height, with the nodes of a roster:
+    /// all are asked for their frontier.
+    pub fn start(
+        alloc: Global,
+        roster: &Roster,
+        last: Id,
+        height: u64,
+        numbers: &mut Numbers,
+        log: &mut Lines,
+    ) -> Result<Self, BootStop>
+        ensures answer { Begins result numbers.new (model.started last height roster.now numbers.old).1 }
+        ensures lines { Logs result log.old log.new (model.started last height roster.now numbers.old).0 }
+        ensures goes_on { IfOk result (λ made. (held : Held) → held.last ≡ last → IsAlone held → MayGoOn made held numbers.new) }
+    {
+        let mut survey = Survey::begin(alloc, roster)?;
+        let fetching = Fetching::begin(alloc, last, height);
+        let requests = Gets::new(alloc);
+        match inquiring::ask_frontier(&mut survey, numbers, log) {
+            Ok(_) => Ok(Boot {
+                going: true,
+                survey,
+                fetching,
+                requests,
+                chain: PhantomData,
+            }),
+            Err(stop) => Err(stop),
+        }
+    }
+
+    /// A node names its accepted frontier. An answer that nobody waits for changes nothing.
+    pub fn frontier(
+        &mut self,
+        node: &NodeId,
+        number: u32,
+        id: Id,
+        chain: &mut C,
+        numbers: &mut Numbers,
+        log: &mut Lines,
+    ) -> Result<Stage, BootStop>
+        requires { MayGoOn self.old (C.held chain.old) numbers.old }
+        ensures answer { Brings result self.new.boot numbers.new (C.held chain.new) (model.frontier_came C.rules (last_state (C.held chain.old)) self.old.boot numbers.old node.now number id).1 }
+        ensures lines { Logs result log.old log.new (model.frontier_came C.rules (last_state (C.held chain.old)) self.old.boot numbers.old node.now number id).0 }
+        ensures chain { Leaves result (C.held chain.old) (C.held chain.new) }
+        ensures goes_on { OnGoing result (MayGoOn self.new (C.held chain.new) numbers.new) }
+        ensures numbers { OnDone result (numbers.new ≡ numbers.old) }
+    {
+        self.going = false;
+        let came = hearing::frontier(
+            &mut self.survey,
+            &mut self.fetching,
+            &mut self.requests,
+            node,
+            number,
+            id,
+            chain,
+            numbers,
+            log,
+        );
+        self.going = goes_on(&came);
+        came
+    }
+
+    /// A node names which of the collected identifiers it holds accepted. An answer that nobody waits
+    /// for changes nothing.
+    pub fn accepted(
+        &mut self,
+        node: &NodeId,
+        number: u32,
+        ids: &Ids,
+        chain: &mut C,
+        numbers: &mut Numbers,
+        log: &mut Lines,
+    ) -> Result<Stage, BootStop>
+        requires { MayGoOn self.old (C.held chain.old) numbers.old }
+        ensures answer { Brings result self.new.boot numbers.new (C.held chain.new) (model.accepted_came C.rules (last_state (C.held chain.old)) self.old.boot numbers.old node.now number ids.now).1 }
+        ensures lines { Logs result log.old log.new (model.accepted_came C.rules (last_state (C.held chain.old)) self.old.boot numbers.old node.now number ids.now).0 }
+        ensures chain { Leaves result (C.held chain.old) (C.held chain.new) }
+        ensures goes_on { OnGoing result (MayGoOn self.new (C.held chain.new) numbers.new) }
+        ensures numbers { OnDone result (numbers.new ≡ numbers.old) }
+    {
+        self.going = false;
+        let came = hearing::accepted(
+            &mut self.survey,
+            &mut self.fetching,
+            &mut self.requests,
+            node,
+            number,
+            ids,
+            chain,
+            numbers,
+            log,
+        );
+        self.going = goes_on(&came);
+        came
+    }
+
+    /// A node sends a block that was asked of it, and its ancestors. A reply that nobody waits for
+    /// changes nothing.
+    pub fn ancestors(
+        &mut self,
+        node: &NodeId,
+        number: u32,
+        blocks: &Blocks,
+        chain: &mut C,
+        numbers: &mut Numbers,
+        log: &mut Lines,
+    ) -> Result<Stage, BootStop>
+        requires { MayGoOn self.old (C.held chain.old) numbers.old }
+        ensures answer { Brings result self.new.boot numbers.new (C.held chain.new) (model.ancestors_came C.rules (last_state (C.held chain.old)) self.old.boot numbers.old node.now number blocks.now).1 }
+        ensures lines { Logs result log.old log.new (model.ancestors_came C.rules (last_state (C.held chain.old)) self.old.boot numbers.old node.now number blocks.now).0 }
+        ensures chain { Leaves result (C.held chain.old) (C.held chain.new) }
+        ensures goes_on { OnGoing result (MayGoOn self.new (C.held chain.new) numbers.new) }
+        ensures numbers { OnDone result (numbers.new ≡ numbers.old) }
+    {
+        self.going = false;
+        let came = hearing::ancestors(
+            &mut self.survey,
+            &mut self.fetching,
+            &mut self.requests,
+            node,
+            number,
+            blocks,
+            chain,
+            numbers,
+            log,
+        );
+        self.going = goes_on(&came);
+        came
+    }
+
+    /// A node doesn't answer: what all nodes are being asked, or a request.
+    pub fn timeout(
+        &mut self,
+        node: &NodeId,
+        number: u32,
+        chain: &mut C,
+        numbers: &mut Numbers,
+        log: &mut Lines,
+    ) -> Result<Stage, BootStop>
+        requires { MayGoOn self.old (C.held chain.old) numbers.old }
+        ensures answer { Brings result self.new.boot numbers.new (C.held chain.new) (model.timeout_came C.rules (last_state (C.held chain.old)) self.old.boot numbers.old node.now number).1 }
+        ensures lines { Logs result log.old log.new (model.timeout_came C.rules (last_state (C.held chain.old)) self.old.boot numbers.old node.now number).0 }
+        ensures chain { Leaves result (C.held chain.old) (C.held chain.new) }
+        ensures goes_on { OnGoing result (MayGoOn self.new (C.held chain.new) numbers.new) }
+        ensures numbers { OnDone result (numbers.new ≡ numbers.old) }
+    {
+        self.going = false;
+        let came = hearing::timeout(
+            &mut self.survey,
+            &mut self.fetching,
+            &mut self.requests,
+            node,
+            number,
+            chain,
+            numbers,
+            log,
+        );
+        self.going = goes_on(&came);
+        came
+    }
+
+    /// A block comes, in this frame, that an earlier run had kept. Bytes that are none of a block are
+    /// passed over.
+    pub fn stored(
+        &mut self,
+        frame: u64,
+        bytes: &Bytes,
+        chain: &mut C,
+        numbers: &mut Numbers,
+        log: &mut Lines,
+    ) -> Result<Stage, BootStop>
+        requires { MayGoOn self.old (C.held chain.old) numbers.old }
+        ensures answer { Brings result self.new.boot numbers.new (C.held chain.new) (model.stored_came C.rules (last_state (C.held chain.old)) self.old.boot numbers.old frame bytes.now).1 }
+        ensures lines { Logs result log.old log.new (model.stored_came C.rules (last_state (C.held chain.old)) self.old.boot numbers.old frame bytes.now).0 }
+        ensures chain { Leaves result (C.held chain.old) (C.held chain.new) }
+        ensures goes_on { OnGoing result (MayGoOn self.new (C.held chain.new) numbers.new) }
+        ensures numbers { OnDone result (numbers.new ≡ numbers.old) }
+    {
+        self.going = false;
+        let came = hearing::stored(
+            &mut self.survey,
+            &mut self.fetching,
+            &mut self.requests,
+            frame,
+            bytes,
+            chain,
+            numbers,
+            log,
+        );
+        self.going = goes_on(&came);
+        came
+    }
+}
+
+// Whether bootstrapping goes on.
+fn goes_on(came: &Result<Stage, BootStop>) -> bool
+    ensures { result ≡ is_going came.now }
+{
+    match came {
+        Ok(Stage::Going) => true,
+        _ => false,
+    }
+}
