@@ -23,7 +23,7 @@ drill_ends (end.BadInput frame kind) before after text h = absurd h
 drill_ends end.SourceFault before after text h = tt
 drill_ends end.InputLimit before after text h = absurd h
 drill_ends end.RequestLimit before after text h = absurd h
-drill_ends end.Unsupported before after text h = absurd h
+drill_ends (end.BootStopped why) before after text h = absurd h
 
 pub drill_writes : (e : End) (before after : Option (List ℕ)) (text : List ℕ) → drill.Wrote e before after text → serving.Wrote e before after text
 drill_writes end.Done before after text h = h
@@ -33,7 +33,7 @@ drill_writes (end.BadInput frame kind) before after text h = absurd h
 drill_writes end.SourceFault before after text h = absurd h
 drill_writes end.InputLimit before after text h = absurd h
 drill_writes end.RequestLimit before after text h = absurd h
-drill_writes end.Unsupported before after text h = absurd h
+drill_writes (end.BootStopped why) before after text h = absurd h
 
 pub drill_fails : (e : End) (before after : Option (List ℕ)) (text : List ℕ) (sink_before sink_after source_before source_after : ℕ) → drill.Wrote e before after text
     → drill.HasFault e sink_before sink_after → serving.HasFault e source_before source_after sink_before sink_after
@@ -44,4 +44,4 @@ drill_fails (end.BadInput frame kind) before after text b a sb sa h f = absurd h
 drill_fails end.SourceFault before after text b a sb sa h f = absurd h
 drill_fails end.InputLimit before after text b a sb sa h f = absurd h
 drill_fails end.RequestLimit before after text b a sb sa h f = absurd h
-drill_fails end.Unsupported before after text b a sb sa h f = absurd h
+drill_fails (end.BootStopped why) before after text b a sb sa h f = absurd h

@@ -7,6 +7,9 @@ use Rattle.snow_flake.specs.declared.params.ParamFault.{ParamFault}
 use Rattle.snow_flake.specs.declared.params.ParamFault.TheVariants as params
 use Rattle.snow_sample.specs.declared.roster.RosterFault.{RosterFault}
 use Rattle.snow_sample.specs.declared.roster.RosterFault.TheVariants as roster
+use Rattle.hex.specs.Hex.{encode_lower}
+use Rattle.snow_boot.specs.declared.stop.BootStop.{BootStop}
+use Rattle.snow_boot.specs.declared.stop.BootStop.TheVariants as boot
 use Rattle.snow_chain.specs.Chain.{Rules}
 use Rattle.snow_chain.specs.Plain.{plain_rules}
 use Rattle.snow_chain.specs.Tally.{tally_rules}
@@ -69,7 +72,7 @@ status_of (Some end.SinkFault) = status.SinkFault
 status_of (Some end.Memory) = status.Memory
 status_of (Some end.InputLimit) = status.Limit
 status_of (Some end.RequestLimit) = status.Limit
-status_of (Some end.Unsupported) = status.Unsupported
+status_of (Some (end.BootStopped why)) = status.BootStopped
 
 -- ---- the line on standard error
 
@@ -107,6 +110,19 @@ kind_word kind.SecondStart = codes "second-start"
 abbrev pub bad_line : ℕ → BadKind → List ℕ
 bad_line frame bad = codes "snowman: bad input at frame " ++ decimal frame ++ codes ": " ++ kind_word bad ++ codes "\n"
 
+-- why bootstrapping stopped: two blocks where one belongs, a block right above the last accepted one with another parent, a block that
+-- isn't valid where it stands, or as many blocks as are kept; want of memory and of numbers are told by lines of their own
+abbrev pub stop_text : BootStop → List ℕ
+stop_text (boot.Conflict height first second) = codes "conflict " ++ decimal height ++ codes " " ++ encode_lower first ++ codes " " ++ encode_lower second
+stop_text (boot.Fork id parent) = codes "fork " ++ encode_lower id ++ codes " " ++ encode_lower parent
+stop_text (boot.Refused id) = codes "refused " ++ encode_lower id
+stop_text boot.Full = codes "full 32768"
+stop_text boot.Requests = []
+stop_text boot.Memory = []
+
+abbrev pub boot_line : BootStop → List ℕ
+boot_line why = codes "snowman: bootstrapping stopped: " ++ stop_text why ++ codes "\n"
+
 -- the line for how a run ended, or that nothing was run; nothing where all is done
 abbrev pub error_line : Option End → List ℕ
 error_line None = codes "snowman: usage\n"
@@ -117,7 +133,7 @@ error_line (Some end.SinkFault) = codes "snowman: sink fault\n"
 error_line (Some end.Memory) = codes "snowman: out of memory\n"
 error_line (Some end.InputLimit) = codes "snowman: input limit\n"
 error_line (Some end.RequestLimit) = codes "snowman: request limit\n"
-error_line (Some end.Unsupported) = codes "snowman: unsupported\n"
+error_line (Some (end.BootStopped why)) = boot_line why
 
 -- ---- the answer
 
@@ -183,4 +199,4 @@ exit_code status.SourceFault = 4
 exit_code status.SinkFault = 5
 exit_code status.Memory = 6
 exit_code status.Limit = 7
-exit_code status.Unsupported = 1
+exit_code status.BootStopped = 8

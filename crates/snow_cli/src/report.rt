@@ -1,7 +1,8 @@
-ghost use Rattle.std.specs.Prelude.{◌≡◌, ◌≤◌, [], length};
-ghost use Rattle.snow_cli.specs.Answer.{TookLine, bad_line, error_line, fault_word, kind_word, roster_word};
+ghost use Rattle.std.specs.Prelude.{◌≡◌, ◌+◌, ◌≤◌, [], ◌++◌, length};
+ghost use Rattle.snow_cli.specs.Answer.{TookLine, bad_line, boot_line, error_line, fault_word, kind_word, roster_word, stop_text};
 
 use snow_base::{Sink, write_whole};
+use snow_boot::BootStop;
 use snow_engine::{BadKind, End};
 use snow_flake::ParamFault;
 use snow_lines::Text;
@@ -11,13 +12,13 @@ use snow_sample::RosterFault;
 pub fn report<E: Sink>(ended: &Option<End>, err: &mut E)
     ensures { TookLine (E.written err.old) (E.written err.new) (E.faults err.old) (E.faults err.new) (error_line ended.now) }
 {
-    let mut line: Text<64> = Text::new();
+    let mut line: Text<192> = Text::new();
     put_line(ended, &mut line);
     let _ = write_whole(err, line.as_slice());
 }
 
 /// Puts the line for how a run ended, or that nothing was run. It is empty where all is done.
-fn put_line(ended: &Option<End>, line: &mut Text<64>)
+fn put_line(ended: &Option<End>, line: &mut Text<192>)
     requires { line.old ≡ [] }
     ensures { line.new ≡ error_line ended.now }
 {
@@ -30,12 +31,12 @@ fn put_line(ended: &Option<End>, line: &mut Text<64>)
         Some(End::Memory) => line.push(b"snowman: out of memory\n"),
         Some(End::InputLimit) => line.push(b"snowman: input limit\n"),
         Some(End::RequestLimit) => line.push(b"snowman: request limit\n"),
-        Some(End::Unsupported) => line.push(b"snowman: unsupported\n"),
+        Some(End::BootStopped(why)) => put_boot_line(why, line),
     }
 }
 
 /// Puts the line for a bad input.
-fn put_bad_line(frame: u64, kind: &BadKind, line: &mut Text<64>)
+fn put_bad_line(frame: u64, kind: &BadKind, line: &mut Text<192>)
     requires { line.old ≡ [] }
     ensures { line.new ≡ bad_line frame kind.now }
 {
@@ -44,6 +45,47 @@ fn put_bad_line(frame: u64, kind: &BadKind, line: &mut Text<64>)
     line.push(b": ");
     line.push(kind_word(kind));
     line.push(b"\n");
+}
+
+/// Puts the line for a stop of bootstrapping. The longest has 192 bytes.
+fn put_boot_line(why: &BootStop, line: &mut Text<192>)
+    requires { line.old ≡ [] }
+    ensures { line.new ≡ boot_line why.now }
+{
+    line.push(b"snowman: bootstrapping stopped: ");
+    put_stop(why, line);
+    line.push(b"\n");
+}
+
+/// Puts why bootstrapping stopped; want of memory and of numbers are told by lines of their own.
+fn put_stop(why: &BootStop, line: &mut Text<192>)
+    requires { length line.old ≤ 32 }
+    ensures text { line.new ≡ line.old ++ stop_text why.now }
+    ensures length { length line.new ≤ length line.old + 159 }
+{
+    match why {
+        BootStop::Conflict {
+            height,
+            first,
+            second,
+        } => {
+            line.push(b"conflict");
+            line.push_number(b' ', *height);
+            line.push_id(b' ', first);
+            line.push_id(b' ', second);
+        }
+        BootStop::Fork { id, parent } => {
+            line.push(b"fork");
+            line.push_id(b' ', id);
+            line.push_id(b' ', parent);
+        }
+        BootStop::Refused { id } => {
+            line.push(b"refused");
+            line.push_id(b' ', id);
+        }
+        BootStop::Full => line.push(b"full 32768"),
+        BootStop::Requests | BootStop::Memory => {}
+    }
 }
 
 /// The word for what is wrong with an input.

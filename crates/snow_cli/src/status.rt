@@ -20,8 +20,8 @@ pub enum Status {
     Memory,
     /// More input came than is taken, or a request number was needed and all are used up.
     Limit,
-    /// The Start wants something that isn't built yet.
-    Unsupported,
+    /// Bootstrapping stopped.
+    BootStopped,
 }
 
 impl Status {
@@ -37,7 +37,7 @@ impl Status {
             Status::SinkFault => 5,
             Status::Memory => 6,
             Status::Limit => 7,
-            Status::Unsupported => 1,
+            Status::BootStopped => 8,
         }
     }
 
@@ -54,7 +54,7 @@ impl Status {
             Some(End::Memory) => Status::Memory,
             Some(End::InputLimit) => Status::Limit,
             Some(End::RequestLimit) => Status::Limit,
-            Some(End::Unsupported) => Status::Unsupported,
+            Some(End::BootStopped(_)) => Status::BootStopped,
         }
     }
 }

@@ -15,7 +15,7 @@ use Rattle.snow_lines.proofs.Waiting.{gathers_none, gathers_then, gathers_then_f
 use Rattle.snow_engine.specs.declared.task.Task.{Task}
 use Rattle.snow_engine.specs.declared.end.End.{End}
 use Rattle.snow_engine.specs.declared.end.End.TheVariants as end
-use Rattle.snow_engine.specs.Node.{Node}
+use Rattle.snow_engine.specs.Staging.{Node}
 use Rattle.snow_engine.specs.Run.{Stand, Stopped, after_frame, after_frames, lines_then}
 use Rattle.snow_engine.specs.Serving.{Goes, GathersLines, GathersFront, Halts, Worked, front_worked, one_worked, all_worked}
 use Rattle.snow_engine.proofs.Worked.{texts_parts, none_worked}

@@ -93,13 +93,13 @@ offered_apart queue board w ask e = by (is_on board w.header.id || waits queue w
 
 -- a node that begins
 pub kept_new : (p : Parameters) (last : List ℕ) (height : ℕ) (state : List ℕ) (board : Board) (held : Held) (table : Table) (queue : Lists) (number : ℕ) → AreGood p
-    → board ≡ begin p last height → held ≡ first_states last state → table ≡ no_polls p → queue ≡ first_lists last → number ≡ 0 → IsKept p board held table queue number
-kept_new p last height state board held table queue number good a b c d e =
-    rw (a, b, c, d, e) (record {
+    → board ≡ begin p last height → held ≡ first_states last state → table ≡ no_polls p → queue ≡ first_lists last → number ≤ 2 ^ 32 - 1 → IsKept p board held table queue number
+kept_new p last height state board held table queue number good a b c d small =
+    rw (a, b, c, d) (record {
       steady = begun_steady p last height state good;
       parameters = refl;
       table = refl;
-      small = omega arith;
+      small = small;
       numbers = tt;
       gets = tt;
       waiting = tt;

@@ -1,3 +1,6 @@
+pub mod Beginning
+pub mod BootExamples
+pub mod Drawn
 pub mod Following
 pub mod Follows
 pub mod Told

@@ -13,7 +13,7 @@ use Rattle.snow_engine.specs.declared.task.Task.{Task}
 use Rattle.snow_engine.specs.declared.end.BadKind.TheVariants as kind
 use Rattle.snow_engine.specs.declared.end.End.{End}
 use Rattle.snow_engine.specs.declared.end.End.TheVariants as end
-use Rattle.snow_engine.specs.Node.{Node}
+use Rattle.snow_engine.specs.Staging.{Node}
 use Rattle.snow_engine.specs.Run.{Stand, Fresh, Going, Stopped, after_frame, after_frames, lines_then, ran, lines_of, seen, end_behind, ended, is_stopped}
 use Rattle.snow_engine.specs.Serving.{stand_of, Halts, Worked, all_worked}
 use Rattle.snow_engine.proofs.Going.{stopped_stays}

@@ -11,7 +11,7 @@ use Rattle.snow_wire.proofs.Streams.{frames_end, off_front}
 use Rattle.snow_lines.specs.declared.line.Line.{Line}
 use Rattle.snow_lines.specs.Text.{texts}
 use Rattle.snow_engine.specs.declared.task.Task.{Task}
-use Rattle.snow_engine.specs.Node.{Node}
+use Rattle.snow_engine.specs.Staging.{Node}
 use Rattle.snow_engine.specs.Run.{Stand, Fresh, after_frames, ran, lines_of}
 use Rattle.snow_engine.specs.Serving.{stand_of, Worked, all_worked}
 use Rattle.snow_engine.proofs.Worked.{texts_parts}

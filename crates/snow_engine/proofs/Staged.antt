@@ -2,7 +2,7 @@
 use Rattle.std.proofs.Common.{Result, Ok, Err, ap}
 use Rattle.snow_engine.specs.declared.stop.EngineStop.{EngineStop}
 use Rattle.snow_engine.specs.declared.stop.EngineStop.TheVariants as stop
-use Rattle.snow_engine.specs.Node.{Node, staged}
+use Rattle.snow_engine.specs.Staging.{Node, staged}
 use Rattle.snow_engine.specs.Stepping.{Steps, Starts}
 
 -- a step

@@ -7,5 +7,5 @@ use Rattle.snow_engine.specs.declared.end.End.TheVariants as end
 abbrev pub is_stop : End → Bool
 is_stop (end.BadInput frame bad) = true
 is_stop end.RequestLimit = true
-is_stop end.Unsupported = true
+is_stop (end.BootStopped stop) = true
 is_stop e = false

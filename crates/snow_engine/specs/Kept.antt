@@ -1,6 +1,7 @@
--- What ties the board, the chain, the polls and the queue of a node that runs.
+-- What ties the board, the chain, the polls and the queue of a node that runs, and what ties one that bootstraps.
 use Rattle.std.specs.Prelude.{◌≡◌, ℕ, ◌-◌, ◌^◌, ◌<◌, ◌≤◌, length, false, List, [], ◌∷◌, None}
-use Rattle.snow_flake.specs.Parameters.{Parameters}
+use Rattle.snow_boot.specs.Calling.{Course, MayGoOn}
+use Rattle.snow_flake.specs.Parameters.{Parameters, AreGood}
 use Rattle.snow_plain.specs.Board.{Board, height_of}
 use Rattle.snow_chain.specs.Chain.{Held}
 use Rattle.snow_poll.specs.Table.{Table}
@@ -47,3 +48,10 @@ pub record IsKept (p : Parameters) (board : Board) (held : Held) (polls : Table)
   pub numbers : AreAtMost (λ q. q.number) last polls.polls
   pub gets : AreAtMost (λ g. g.number) last queue.gets
   pub waiting : AreOff board queue.waiting
+
+-- what ties a node that bootstraps: its parameters are good, bootstrapping may go on over its chain, and the last number drawn is one
+-- of 32 bits
+pub record IsCatchingUp (p : Parameters) (course : Course) (held : Held) (drawn : ℕ) : Type 0 where
+  pub good : AreGood p
+  pub may : MayGoOn course held drawn
+  pub small : drawn ≤ 2 ^ 32 - 1

@@ -1,4 +1,6 @@
 pub mod Again
+pub mod Booting
+pub mod Catching
 pub mod Closing
 pub mod CompletionLaw
 pub mod Deciding
@@ -17,6 +19,7 @@ pub mod Running
 pub mod RunningCode
 pub mod Serving
 pub mod Settling
+pub mod Staging
 pub mod Stepping
 pub mod Supplying
 pub mod Telling

@@ -17,7 +17,8 @@ use Rattle.snow_engine.specs.declared.end.BadKind.TheVariants as kind
 use Rattle.snow_engine.specs.declared.end.End.{End}
 use Rattle.snow_engine.specs.declared.end.End.TheVariants as end
 use Rattle.snow_engine.specs.Outcome.{Comes}
-use Rattle.snow_engine.specs.Node.{Node, started, step}
+use Rattle.snow_engine.specs.Node.{started, step}
+use Rattle.snow_engine.specs.Staging.{Node}
 
 -- where a run stands: before its first frame, at a node, or at its end
 pub data Stand : Type 0 where
@@ -31,7 +32,7 @@ end_at frame (stop.Params fault) = end.BadInput frame (kind.Params fault)
 end_at frame (stop.Roster fault) = end.BadInput frame (kind.Roster fault)
 end_at frame stop.State = end.BadInput frame kind.State
 end_at frame stop.SecondStart = end.BadInput frame kind.SecondStart
-end_at frame stop.Unsupported = end.Unsupported
+end_at frame (stop.Boot why) = end.BootStopped why
 end_at frame stop.Requests = end.RequestLimit
 end_at frame stop.Memory = end.Memory
 

@@ -32,7 +32,7 @@ coded_maybe = coded_option coded_bytes
 
 -- ---- the roster and the table of polls
 
-abbrev coded_member : Coded Member
+abbrev pub coded_member : Coded Member
 coded_member = code_by (Bytes × ℕ) (coded× coded_bytes coded_ℕ) (λ m. (m.id, m.weight)) (λ f. record { id = f.0; weight = f.1 }) (λ _. refl)
 
 abbrev coded_draw : Coded Draw
@@ -48,7 +48,7 @@ coded_poll =
     (λ f. record { number = f.0; draws = f.1.0; replies = f.1.1 })
     (λ _. refl)
 
-abbrev coded_parameters : Coded Parameters
+abbrev pub coded_parameters : Coded Parameters
 coded_parameters =
     code_by (ℕ × (ℕ × (ℕ × (ℕ × ℕ)))) (coded× coded_ℕ (coded× coded_ℕ (coded× coded_ℕ (coded× coded_ℕ coded_ℕ))))
     (λ p. (p.k, (p.alpha_preference, (p.alpha_confidence, (p.beta, p.repolls)))))

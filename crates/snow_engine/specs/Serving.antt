@@ -17,7 +17,7 @@ use Rattle.snow_engine.specs.declared.end.End.{End}
 use Rattle.snow_engine.specs.declared.end.End.TheVariants as end
 use Rattle.snow_engine.specs.declared.stop.EngineStop.{EngineStop}
 use Rattle.snow_engine.specs.Ends.{is_stop}
-use Rattle.snow_engine.specs.Node.{Node}
+use Rattle.snow_engine.specs.Staging.{Node}
 use Rattle.snow_engine.specs.Run.{Stand, Fresh, Going, Stopped, end_at, after_frame, after_frames, is_stopped, lines_of, shows_stop}
 use Rattle.snow_engine.specs.Stepping.{LogsFront}
 

@@ -1,3 +1,4 @@
+use snow_boot::BootStop;
 use snow_flake::ParamFault;
 use snow_sample::RosterFault;
 
@@ -39,6 +40,6 @@ pub enum End {
     InputLimit,
     /// A request number was needed, and all are used up.
     RequestLimit,
-    /// The Start wants the node to bootstrap first, which isn't built yet.
-    Unsupported,
+    /// Bootstrapping stopped; want of memory and of numbers are never told so.
+    BootStopped(BootStop),
 }

@@ -1,21 +1,28 @@
-ghost use Rattle.std.specs.Prelude.{◌≡◌, IfOk};
+ghost use Rattle.std.specs.Prelude.{◌≡◌, true, IfOk};
 ghost use Rattle.snow_flake.specs.Parameters.{AreGood, checked};
+ghost use Rattle.snow_sample.specs.Roster.{first_fault};
 ghost use Rattle.snow_wire.specs.Sent.{as_event};
 ghost use Rattle.snow_engine.specs.Node as model;
 ghost use Rattle.snow_engine.specs.Stepping.{Logs, Starts, Steps};
+ghost use Rattle.snow_engine.specs.Turning.{members};
 
+use crate::booting::Booting;
 use crate::deciding::Deciding;
-use crate::running::Running;
-use crate::stage::Stage;
+use crate::reporting::write;
+use crate::running::{Running, roster_of};
+use crate::stage::{Node, Stage};
 use crate::stop::EngineStop;
 use crate::task::Task;
+use snow_base::Numbers;
 use snow_chain::Chain;
 use snow_flake::{ParamFault, Params};
-use snow_lines::Lines;
+use snow_lines::{Line, Lines, SkipKind};
 use snow_plain::Board;
+use snow_sample::Words;
 use snow_wire::{Event, SentBlock, Start};
 use std::alloc::Global;
 use std::marker::Model;
+use std::mem;
 
 /// The engine of one node, over any chain and any board. Contracts see the node of the definitions.
 /// Each call appends its lines to a log. How blocks wait and are issued, and how polls are begun,
@@ -23,11 +30,11 @@ use std::marker::Model;
 /// this project's own.
 #[derive(Drop)]
 pub struct Engine<C: Chain, B: Board> {
-    stage: Stage<Deciding<C, B>, Running<C, B>>,
+    stage: Node<C, B>,
 }
 
 impl<C: Chain, B: Board> Model for Engine<C, B> {
-    ghost use Rattle.snow_engine.specs.Node.{Node};
+    ghost use Rattle.snow_engine.specs.Staging.{Node};
     ghost use Rattle.snow_engine.specs.NodeCode.{coded_node};
 
     ghost Value = { Node };
@@ -40,8 +47,8 @@ impl<C: Chain, B: Board> Model for Engine<C, B> {
 impl<C: Chain, B: Board> Engine<C, B> {
     /// The engine that begins with this Start. Its parameters are checked first, then, by `Run` alone,
     /// its nodes, and then whether the chain takes its state: `Params`, `Roster` and `State` tell what
-    /// is refused. Last, `Run` answers `Unsupported` where the node is to bootstrap first. Nodes and
-    /// boot of the Start aren't looked at by `Decide`.
+    /// is refused. A node that is to bootstrap first asks for frontiers at once. Nodes and boot of the
+    /// Start aren't looked at by `Decide`.
     #[tactic(auto, unfolding(crate::specs::Node::started))]
     pub fn start(
         alloc: Global,
@@ -58,7 +65,7 @@ impl<C: Chain, B: Board> Engine<C, B> {
         };
         let stage = match task {
             Task::Decide => Stage::Deciding(Deciding::start(alloc, first, params)?),
-            Task::Run => Stage::Running(Running::start(alloc, first, params)?),
+            Task::Run => begin(alloc, first, params, log)?,
         };
         Ok(Engine { stage })
     }
@@ -72,13 +79,15 @@ impl<C: Chain, B: Board> Engine<C, B> {
     {
         match &mut self.stage {
             Stage::Deciding(node) => node.step(frame, event, log),
+            Stage::Booting(_) => self.catch_up(frame, event, log),
             Stage::Running(node) => node.step(frame, event, log),
+            Stage::Ended => Ok(()),
         }
     }
 
     /// The same at a Block whose bytes stand where they came. They are copied only where the block is
     /// kept.
-    #[tactic(auto, unfolding(crate::specs::Deciding::decides_on))]
+    #[tactic(auto, unfolding(crate::specs::Deciding::decides_on, crate::specs::Catching::boots_on))]
     pub fn receive(
         &mut self,
         frame: u64,
@@ -90,9 +99,60 @@ impl<C: Chain, B: Board> Engine<C, B> {
     {
         match &mut self.stage {
             Stage::Deciding(node) => node.receive(frame, block.bytes, log),
+            Stage::Booting(_) => write(
+                Line::Skip {
+                    frame,
+                    kind: SkipKind::Stage,
+                },
+                log,
+            ),
             Stage::Running(node) => node.receive(frame, block, log),
+            Stage::Ended => Ok(()),
         }
     }
+
+    /// One event for a node that bootstraps. At a stop the node is let go.
+    fn catch_up(&mut self, frame: u64, event: &Event, log: &mut Lines) -> Result<(), EngineStop>
+        requires { model.is_booting self.old ≡ true }
+        ensures answer { Steps result self.new (model.step C.rules B.answer self.old frame event.now).1 }
+        ensures lines { Logs result log.old log.new (model.step C.rules B.answer self.old frame event.now).0 }
+    {
+        let Stage::Booting(node) = mem::replace(&mut self.stage, Stage::Ended) else {
+            return Ok(());
+        };
+        self.stage = node.step(frame, event, log)?;
+        Ok(())
+    }
+}
+
+/// The node that begins to run, or to bootstrap, with a Start of these parameters. Its nodes are looked
+/// at first, and then whether the chain takes its state.
+fn begin<C: Chain, B: Board>(
+    alloc: Global,
+    first: &Start,
+    params: Params,
+    log: &mut Lines,
+) -> Result<Node<C, B>, EngineStop>
+    requires { AreGood params }
+    ensures answer { Starts result (model.runs_with C.rules first.now params (first_fault (members first.now.nodes))).1 }
+    ensures lines { Logs result log.old log.new (model.runs_with C.rules first.now params (first_fault (members first.now.nodes))).0 }
+{
+    let roster = roster_of(alloc, &first.nodes)?;
+    let chain = C::begin(alloc, first.last, first.state.list())?;
+    if first.boot {
+        return Booting::start(alloc, first, params, roster, chain, log);
+    }
+    let node = Running::above(
+        alloc,
+        params,
+        chain,
+        roster,
+        Words::new(alloc),
+        Numbers::new(),
+        first.last,
+        first.height,
+    )?;
+    Ok(Stage::Running(node))
 }
 
 /// The parameters that a Start states, or the first thing that is wrong with them.

@@ -2,6 +2,7 @@
 #![tactic(auto)]
 
 mod admitting;
+mod booting;
 mod deciding;
 mod end;
 mod engine;

@@ -1,13 +1,14 @@
 //! A node that runs: it asks other nodes, and decides by what they answer.
 
-ghost use Rattle.std.specs.Prelude.{◌≡◌, ◌+◌, [], ◌∷◌, ◌++◌, length, nat_lt, Err, IfOk, OnOk, OnErr};
+ghost use Rattle.std.specs.Prelude.{◌≡◌, ◌+◌, ◌-◌, ◌^◌, ◌≤◌, [], ◌∷◌, ◌++◌, length, nat_lt, Err, IfOk, OnOk, OnErr};
 ghost use Rattle.snow_flake.specs.Parameters.{AreGood};
 ghost use Rattle.snow_sample.specs.Roster.{first_fault, IsRosterOf};
 ghost use Rattle.snow_wire.specs.Sent.{as_event};
+ghost use Rattle.snow_boot.specs.Calling.{IsAlone, last_state};
 ghost use Rattle.snow_engine.specs.Hearing as hearing;
-ghost use Rattle.snow_engine.specs.Node as begins;
 ghost use Rattle.snow_engine.specs.Outcome.{then_comes};
-ghost use Rattle.snow_engine.specs.Stepping.{Logs, Starts, Steps};
+ghost use Rattle.snow_engine.specs.Running.{begun_above};
+ghost use Rattle.snow_engine.specs.Stepping.{Logs, Steps};
 ghost use Rattle.snow_engine.specs.Turning as model;
 
 mod closing;
@@ -29,7 +30,7 @@ use snow_lines::{Line, Lines, SkipKind};
 use snow_plain::Board;
 use snow_poll::Polls;
 use snow_sample::{Node, Roster, RosterFault, Words};
-use snow_wire::{Event, SentBlock, Start};
+use snow_wire::{Event, SentBlock};
 use std::alloc::{AllocError, Global};
 use std::marker::Model;
 
@@ -87,28 +88,34 @@ impl<C: Chain, B: Board> Model for Running<C, B> {
 }
 
 impl<C: Chain, B: Board> Running<C, B> {
-    /// The node that begins with a Start of these parameters. Its nodes are looked at first, and then
-    /// whether the chain takes its state.
-    pub fn start(alloc: Global, first: &Start, params: Params) -> Result<Self, EngineStop>
-        requires { AreGood params }
-        ensures { Starts result (begins.runs_with C.rules first.now params (first_fault (model.members first.now.nodes))) }
+    /// The node that begins to run above this block, whose state alone its chain holds.
+    pub fn above(
+        alloc: Global,
+        params: Params,
+        chain: C,
+        roster: Roster,
+        words: Words,
+        numbers: Numbers,
+        last: Id,
+        height: u64,
+    ) -> Result<Self, AllocError>
+        requires good { AreGood params }
+        requires last { (C.held chain).last ≡ last }
+        requires alone { IsAlone (C.held chain) }
+        requires small { numbers ≤ 2 ^ 32 - 1 }
+        ensures { IfOk result (λ node. node ≡ begun_above params roster words numbers last height (last_state (C.held chain))) }
     {
-        let roster = roster_of(alloc, &first.nodes)?;
-        let chain = C::begin(alloc, first.last, first.state.list())?;
-        if first.boot {
-            return Err(EngineStop::Unsupported);
-        }
-        let board = B::begin(alloc, params, first.last, first.height)?;
+        let board = B::begin(alloc, params, last, height)?;
         Ok(Running {
             params,
             board,
             chain,
-            served: Getter::begin(alloc, first.last)?,
+            served: Getter::begin(alloc, last)?,
             roster,
             polls: Polls::new(alloc, params),
-            queue: Queue::new(alloc, first.last)?,
-            words: Words::new(alloc),
-            numbers: Numbers::new(),
+            queue: Queue::new(alloc, last)?,
+            words,
+            numbers,
             recorded: false,
             remembered: Remembered::Nothing,
             alloc,
@@ -262,7 +269,7 @@ fn skip(frame: u64, kind: SkipKind, log: &mut Lines) -> Result<(), EngineStop>
 }
 
 /// The roster of these nodes.
-fn roster_of(alloc: Global, nodes: &Nodes) -> Result<Roster, RosterFault>
+pub fn roster_of(alloc: Global, nodes: &Nodes) -> Result<Roster, RosterFault>
     ensures { IsRosterOf (model.members nodes.now) result }
 {
     let members = members_of(alloc, nodes)?;

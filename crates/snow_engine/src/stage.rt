@@ -1,8 +1,19 @@
-/// A node, by its task.
+use crate::booting::Booting;
+use crate::deciding::Deciding;
+use crate::running::Running;
+
+/// A node, by its task and by how far it is.
 #[derive(Drop)]
-pub enum Stage<D, R> {
+pub enum Stage<D, B, R> {
     /// It takes blocks and whole polls, and asks nobody.
     Deciding(D),
+    /// It bootstraps, and then it runs.
+    Booting(B),
     /// It asks other nodes.
     Running(R),
+    /// It bootstrapped, and came to a stop.
+    Ended,
 }
+
+/// A node over any chain and any board.
+pub type Node<C, B> = Stage<Deciding<C, B>, Booting<C>, Running<C, B>>;

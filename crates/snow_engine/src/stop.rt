@@ -1,6 +1,7 @@
 ghost use Rattle.std.specs.Prelude.{◌≡◌};
 
 use crate::end::{BadKind, End};
+use snow_boot::BootStop;
 use snow_chain::ChainFault;
 use snow_flake::ParamFault;
 use snow_sample::RosterFault;
@@ -15,8 +16,8 @@ pub enum EngineStop {
     Roster(RosterFault),
     /// The chain doesn't take the state of the Start.
     State,
-    /// The Start wants the node to bootstrap first, which isn't built yet.
-    Unsupported,
+    /// Bootstrapping stopped; want of memory and of numbers are never told so.
+    Boot(BootStop),
     /// A Start came though the run has begun.
     SecondStart,
     /// A request number was needed, and all are used up.
@@ -37,7 +38,7 @@ impl EngineStop {
             EngineStop::Roster(fault) => BadKind::Roster(fault),
             EngineStop::State => BadKind::State,
             EngineStop::SecondStart => BadKind::SecondStart,
-            EngineStop::Unsupported => return End::Unsupported,
+            EngineStop::Boot(why) => return End::BootStopped(why),
             EngineStop::Requests => return End::RequestLimit,
             EngineStop::Memory => return End::Memory,
         };
@@ -80,6 +81,21 @@ impl From<RosterFault> for EngineStop {
         match fault {
             RosterFault::Memory => EngineStop::Memory,
             other => EngineStop::Roster(other),
+        }
+    }
+}
+
+impl From<BootStop> for EngineStop {
+    ghost use Rattle.std.specs.Prelude.{◌≡◌};
+    ghost use Rattle.snow_engine.specs.Catching.{stop_of_boot};
+
+    ghost from_gives = { λ why stop. stop ≡ stop_of_boot why };
+
+    fn from(why: BootStop) -> EngineStop {
+        match why {
+            BootStop::Requests => EngineStop::Requests,
+            BootStop::Memory => EngineStop::Memory,
+            other => EngineStop::Boot(other),
         }
     }
 }

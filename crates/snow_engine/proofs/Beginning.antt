@@ -1,0 +1,63 @@
+-- How a node that runs begins: with the state of its last accepted block, at once or with bootstrapping.
+use Rattle.std.proofs.Common.{◌≡◌, ℕ, ◌-◌, ◌^◌, ◌≤◌, true, false, List, [], Option, Some, None, Ok, unwrap_or, refl, sym, ap, ◌∙◌, subst, arith}
+use Rattle.std.specs.FinMap.{empty}
+use Rattle.snow_flake.specs.Parameters.{Parameters}
+use Rattle.snow_sample.specs.declared.roster.Node.{Node as Member}
+use Rattle.snow_sample.specs.declared.roster.RosterFault.{RosterFault}
+use Rattle.snow_plain.proofs.Cases.{id_itself}
+use Rattle.snow_chain.specs.Chain.{Rules, Held, state_of, begun}
+use Rattle.snow_boot.specs.Booting.{Boot, Going, started}
+use Rattle.snow_boot.specs.Calling.{IsAlone, last_state}
+use Rattle.snow_wire.specs.declared.event.Start.{Start}
+use Rattle.snow_engine.specs.declared.stage.Stage.TheVariants as stage
+use Rattle.snow_engine.specs.Catching.{brings, new_booting}
+use Rattle.snow_engine.specs.Node.{runs_with}
+use Rattle.snow_engine.specs.Running.{Running, begun_above}
+use Rattle.snow_engine.specs.Turning.{members}
+use Rattle.snow_engine.proofs.Following.{state_with}
+
+-- ---- a chain that begins
+
+-- its last state is that with which it began
+first_state : (last state : List ℕ) → last_state (begun last state) ≡ state
+first_state last state =
+    let none : Held = record { last = last; states = empty } in
+    let is : state_of (begun last state) last ≡ Some state = state_with none last state last ∙ rw (id_itself last) refl in
+    ap (λ (o : Option (List ℕ)). unwrap_or o []) is
+
+pub state_begun : (held : Held) (last state : List ℕ) → held ≡ begun last state → last_state held ≡ state
+state_begun held last state e = ap last_state e ∙ first_state last state
+
+-- and it holds no other
+pub begun_alone : (held : Held) (last state : List ℕ) → held ≡ begun last state → IsAlone held
+begun_alone held last state e = subst IsAlone (sym e) (ap (begun last) (sym (first_state last state)))
+
+-- ---- bootstrapping begins
+
+-- with number 1
+pub first_number : (last : List ℕ) (height : ℕ) (nodes : List Member) (n drawn : ℕ) (boot : Boot) → n ≡ 0 → (started last height nodes n).1 ≡ Ok (Going boot drawn) → drawn ≤ 2 ^ 32 - 1
+unfolding started
+first_number last height nodes n drawn boot z e =
+    let f = subst (λ (k : ℕ). (started last height nodes k).1 ≡ Ok (Going boot drawn)) z e in
+    let one : 1 ≡ drawn = cc in
+    omega (arith, one)
+
+pub boots : (s : Start) (p : Parameters) (roster : List Member) (n drawn : ℕ) (boot : Boot) (held : Held) (words : List ℕ) → roster ≡ members s.nodes → n ≡ 0
+    → held ≡ begun s.last s.state → words ≡ [] → (started s.last s.height roster n).1 ≡ Ok (Going boot drawn)
+    → brings (new_booting s p) (started s.last s.height (members s.nodes) 0).1
+    ≡ Ok (stage.Booting (record { parameters = p; roster = roster; boot = boot; state = last_state held; words = words; last = drawn }))
+boots s p roster n drawn boot held words r z h w e =
+    let f = subst (λ (k : ℕ). (started s.last s.height roster k).1 ≡ Ok (Going boot drawn)) z e in
+    let g = subst (λ (nodes : List Member). (started s.last s.height nodes 0).1 ≡ Ok (Going boot drawn)) r f in
+    rw (r, state_begun held s.last s.state h, w) (ap (brings (new_booting s p)) g)
+
+-- ---- a node runs at once
+
+pub runs : (rules : Rules) (s : Start) (p : Parameters) (fault : Option RosterFault) (roster : List Member) (words : List ℕ) (drawn : ℕ) (held : Held) (state : List ℕ) (node : Running)
+    → fault ≡ None → state ≡ s.state → rules.takes state ≡ true → s.boot ≡ false → roster ≡ members s.nodes → words ≡ [] → drawn ≡ 0 → held ≡ begun s.last state
+    → node ≡ begun_above p roster words drawn s.last s.height (last_state held)
+    → (runs_with rules s p fault).1 ≡ Ok (stage.Running node)
+runs rules s p fault roster words drawn held state node f st takes boot r w d h n =
+    let taken : rules.takes s.state ≡ true = ap rules.takes (sym st) ∙ takes in
+    let last : last_state held ≡ s.state = state_begun held s.last state h ∙ st in
+    rw (f, taken, boot, n, r, w, d, last) refl

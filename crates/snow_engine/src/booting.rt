@@ -1,0 +1,224 @@
+//! A node that bootstraps before it runs.
+
+ghost use Rattle.std.specs.Prelude.{◌≡◌, length, nat_lt};
+ghost use Rattle.snow_flake.specs.Parameters.{AreGood};
+ghost use Rattle.snow_chain.specs.Chain.{begun};
+ghost use Rattle.snow_boot.specs.Calling.{Brings, Leaves, MayGoOn, OnDone, OnGoing, last_state};
+ghost use Rattle.snow_boot.specs.Calling.{Logs as BootLogs};
+ghost use Rattle.snow_engine.specs.Catching as model;
+ghost use Rattle.snow_engine.specs.Stepping.{Logs, Starts};
+ghost use Rattle.snow_engine.specs.Turning.{members};
+
+use crate::reporting::write;
+use crate::running::Running;
+use crate::stage::{Node, Stage};
+use crate::stop::EngineStop;
+use snow_base::{Numbers, Nums};
+use snow_boot::{Boot, BootStop, Stage as BootStage};
+use snow_chain::Chain;
+use snow_flake::Params;
+use snow_interval::Intervals;
+use snow_lines::{Line, Lines, SkipKind};
+use snow_plain::Board;
+use snow_sample::{Roster, Words};
+use snow_wire::{Event, Start};
+use std::alloc::Global;
+use std::marker::Model;
+
+/// The most random words that wait.
+const MOST_WORDS: usize = 65_536;
+
+/// A node that bootstraps, over any chain. Contracts see the node of the definitions.
+#[derive(Drop)]
+pub struct Booting<C: Chain> {
+    params: Params,
+    roster: Roster,
+    boot: Boot<C, Intervals>,
+    chain: C,
+    words: Words,
+    numbers: Numbers,
+    alloc: Global,
+}
+
+impl<C: Chain> Model for Booting<C> {
+    ghost use Rattle.snow_boot.specs.Calling.{last_state};
+    ghost use Rattle.snow_engine.specs.Booting.{Booting};
+    ghost use Rattle.snow_engine.specs.NodeCode.{coded_booting};
+    ghost use Rattle.snow_engine.specs.Kept.{IsCatchingUp};
+
+    ghost Value = { Booting };
+
+    ghost coded = { coded_booting };
+
+    ghost view = { λ b. record {
+      parameters = b.params;
+      roster = b.roster;
+      boot = b.boot.boot;
+      state = last_state (C.held b.chain);
+      words = b.words;
+      last = b.numbers;
+    } };
+
+    ghost invariant = { λ b. IsCatchingUp b.params b.boot (C.held b.chain) b.numbers };
+}
+
+impl<C: Chain> Booting<C> {
+    /// The node that begins with a Start of these parameters, with the roster of its nodes and a chain
+    /// at its last accepted block. It asks all nodes for their frontier.
+    pub fn start<B: Board>(
+        alloc: Global,
+        first: &Start,
+        params: Params,
+        roster: Roster,
+        chain: C,
+        log: &mut Lines,
+    ) -> Result<Node<C, B>, EngineStop>
+        requires good { AreGood params }
+        requires roster { roster ≡ members first.now.nodes }
+        requires chain { C.held chain ≡ begun first.now.last first.now.state }
+        ensures answer { Starts result (model.boots_first first.now params).1 }
+        ensures lines { Logs result log.old log.new (model.boots_first first.now params).0 }
+    {
+        let mut numbers = Numbers::new();
+        let boot = Boot::start(alloc, &roster, first.last, first.height, &mut numbers, log)?;
+        Ok(Stage::Booting(Booting {
+            params,
+            roster,
+            boot,
+            chain,
+            words: Words::new(alloc),
+            numbers,
+            alloc,
+        }))
+    }
+
+    /// One event, which came in this frame. The node that comes of it still bootstraps, or it runs.
+    #[tactic(auto, unfolding(crate::specs::Catching::boots_on), using(crate::proofs::Logs::logs_nothing))]
+    pub fn step<B: Board>(
+        self,
+        frame: u64,
+        event: &Event,
+        log: &mut Lines,
+    ) -> Result<Node<C, B>, EngineStop>
+        ensures answer { Starts result (model.boots_on C.rules self frame event.now).1 }
+        ensures lines { Logs result log.old log.new (model.boots_on C.rules self frame event.now).0 }
+    {
+        match event {
+            Event::Start(_) => Err(EngineStop::SecondStart),
+            Event::Words { words } => self.take_words(frame, words, log),
+            Event::Poll { .. } | Event::Line { .. } => self.pass_over(frame, SkipKind::Task, log),
+            Event::Block { .. }
+            | Event::Validators { .. }
+            | Event::AskQuery { .. }
+            | Event::AskFrontier { .. }
+            | Event::AskAccepted { .. }
+            | Event::AskAncestors { .. }
+            | Event::AskBlock { .. } => self.pass_over(frame, SkipKind::Stage, log),
+            _ => self.catch_up(frame, event, log),
+        }
+    }
+
+    /// A frame is passed over.
+    fn pass_over<B: Board>(
+        self,
+        frame: u64,
+        kind: SkipKind,
+        log: &mut Lines,
+    ) -> Result<Node<C, B>, EngineStop>
+        ensures answer { Starts result (model.passed_over self frame kind).1 }
+        ensures lines { Logs result log.old log.new (model.passed_over self frame kind).0 }
+    {
+        write(Line::Skip { frame, kind }, log)?;
+        Ok(Stage::Booting(self))
+    }
+
+    /// Words came.
+    #[tactic(auto, using(crate::proofs::Logs::logs_nothing))]
+    fn take_words<B: Board>(
+        mut self,
+        frame: u64,
+        words: &Nums,
+        log: &mut Lines,
+    ) -> Result<Node<C, B>, EngineStop>
+        ensures answer { Starts result (model.words_kept self frame words.now).1 }
+        ensures lines { Logs result log.old log.new (model.words_kept self frame words.now).0 }
+    {
+        if words.list().len() > MOST_WORDS - self.words.len() {
+            return self.pass_over(frame, SkipKind::Full, log);
+        }
+        self.words.push_all(words.list())?;
+        Ok(Stage::Booting(self))
+    }
+
+    /// An answer came, or none will, or a block that was stored; the node runs once it has caught up.
+    #[tactic(auto, using(crate::proofs::Logs::logs_whole))]
+    fn catch_up<B: Board>(
+        mut self,
+        frame: u64,
+        event: &Event,
+        log: &mut Lines,
+    ) -> Result<Node<C, B>, EngineStop>
+        ensures answer { Starts result (model.came_to self (model.heard C.rules self.state self.boot self.last frame event.now)).1 }
+        ensures lines { Logs result log.old log.new (model.came_to self (model.heard C.rules self.state self.boot self.last frame event.now)).0 }
+    {
+        match hear(
+            &mut self.boot,
+            &mut self.chain,
+            &mut self.numbers,
+            frame,
+            event,
+            log,
+        )? {
+            BootStage::Going => Ok(Stage::Booting(self)),
+            BootStage::Done { last, height } => {
+                let node = Running::above(
+                    self.alloc,
+                    self.params,
+                    self.chain,
+                    self.roster,
+                    self.words,
+                    self.numbers,
+                    last,
+                    height,
+                )?;
+                Ok(Stage::Running(node))
+            }
+        }
+    }
+}
+
+/// What an event brings to bootstrapping.
+fn hear<C: Chain>(
+    boot: &mut Boot<C, Intervals>,
+    chain: &mut C,
+    numbers: &mut Numbers,
+    frame: u64,
+    event: &Event,
+    log: &mut Lines,
+) -> Result<BootStage, BootStop>
+    requires { MayGoOn boot.old (C.held chain.old) numbers.old }
+    ensures answer { Brings result boot.new.boot numbers.new (C.held chain.new)
+        (model.heard C.rules (last_state (C.held chain.old)) boot.old.boot numbers.old frame event.now).1 }
+    ensures lines { BootLogs result log.old log.new
+        (model.heard C.rules (last_state (C.held chain.old)) boot.old.boot numbers.old frame event.now).0 }
+    ensures chain { Leaves result (C.held chain.old) (C.held chain.new) }
+    ensures goes_on { OnGoing result (MayGoOn boot.new (C.held chain.new) numbers.new) }
+    ensures numbers { OnDone result (numbers.new ≡ numbers.old) }
+{
+    match event {
+        Event::Frontier { node, request, id } => {
+            boot.frontier(node, *request, *id, chain, numbers, log)
+        }
+        Event::Accepted { node, request, ids } => {
+            boot.accepted(node, *request, ids, chain, numbers, log)
+        }
+        Event::Ancestors {
+            node,
+            request,
+            blocks,
+        } => boot.ancestors(node, *request, blocks, chain, numbers, log),
+        Event::Timeout { node, request } => boot.timeout(node, *request, chain, numbers, log),
+        Event::Stored { bytes } => boot.stored(frame, bytes, chain, numbers, log),
+        _ => Ok(BootStage::Going),
+    }
+}
