@@ -1,0 +1,6 @@
+//! The board of pending blocks over compressed trees of counters.
+#![tactic(auto)]
+
+mod load;
+
+pub use load::Load;
