@@ -1,1 +1,5 @@
 pub mod Stamped
+pub mod Merged
+pub mod Reached
+
+pub mod Halfway

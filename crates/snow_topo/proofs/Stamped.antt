@@ -6,9 +6,7 @@ use Rattle.snow_plain.specs.Conflict.{Counters, Blank, all_polled}
 use Rattle.snow_plain.specs.FailingLaw.{failed}
 use Rattle.snow_plain.proofs.Cases.{split_on}
 use Rattle.snow_plain.proofs.Failing.{fails_once}
-use Rattle.snow_trie.specs.Whole.{Compressed}
-use Rattle.snow_topo.specs.declared.load.Load.{Load}
-use Rattle.snow_topo.specs.Kept.{counters_in, ids_in, shown, IsFit}
+use Rattle.snow_topo.specs.Kept.{Contest, Kept, counters_in, shown, IsFit}
 
 -- a number is found equal to itself
 pub same_number : (n : ℕ) → (n == n) ≡ true
@@ -18,53 +16,52 @@ same_number n = grind (arith, common_steps)
 pub other_number : (n m : ℕ) → n < m → (n == m) ≡ false
 other_number n m h = grind (arith, common_steps)
 
-module _ {R : Type 0} where
-  -- the parameters of a tree that fits
-  of_tree : (p : Parameters) (polls : ℕ) (children : List (List ℕ)) (load : Load R) (t : Compressed) → IsFit p polls children load → load.trie ≡ Some t → t.parameters ≡ p
-  of_tree p polls children load t fit is = subst (λ o. IfSome o (λ t. t.parameters ≡ p)) is fit.parameters
+-- the parameters of a tree that fits
+of_tree : (p : Parameters) (polls : ℕ) (children : List (List ℕ)) (kept : Kept) (t : Contest) → IsFit p polls children kept → kept.contest ≡ Some t → t.parameters ≡ p
+of_tree p polls children kept t fit is = subst (λ o. IfSome o (λ t. t.parameters ≡ p)) is fit.parameters
 
-  -- a tree that took the poll, after it failed where it was behind
-  pub recorded_some : (p : Parameters) (polls : ℕ) (children : List (List ℕ)) (load new : Load R) (t u : Compressed) (votes : List Bool → ℕ) → IsFit p polls children load
-      → load.trie ≡ Some t → new.trie ≡ Some u → new.recorded ≡ polls + 1
-      → u.counters ≡ all_polled t.parameters votes (if not (load.recorded == polls) then failed t.parameters t.counters else t.counters)
-      → shown p (polls + 1) new ≡ all_polled p votes (shown p polls load)
-  recorded_some p polls children load new t u votes fit is now stamp took =
-      let own = of_tree p polls children load t fit is in
-      let before : (if not (load.recorded == polls) then failed p t.counters else t.counters) ≡ shown p polls load =
-      turned (load.recorded == polls) t.counters (failed p t.counters)
-      ∙ ap (λ o. if load.recorded == polls then counters_in o else failed p (counters_in o)) (sym is)
-      in
-      ap (λ n. if n == polls + 1 then counters_in new.trie else failed p (counters_in new.trie)) stamp
-      ∙ ap (λ b. if b then counters_in new.trie else failed p (counters_in new.trie)) (same_number (polls + 1))
-      ∙ ap counters_in now ∙ took
-      ∙ ap (λ q. all_polled q votes (if not (load.recorded == polls) then failed q t.counters else t.counters)) own
-      ∙ ap (all_polled p votes) before
-    where
-      turned : (b : Bool) (x y : Counters) → (if not b then y else x) ≡ (if b then x else y)
-      turned true x y = refl
-      turned false x y = refl
+-- a tree that took the poll, after it failed where it was behind
+pub recorded_some : (p : Parameters) (polls : ℕ) (children : List (List ℕ)) (kept new : Kept) (t u : Contest) (votes : List Bool → ℕ) → IsFit p polls children kept
+    → kept.contest ≡ Some t → new.contest ≡ Some u → new.recorded ≡ polls + 1
+    → u.counters ≡ all_polled t.parameters votes (if not (kept.recorded == polls) then failed t.parameters t.counters else t.counters)
+    → shown p (polls + 1) new ≡ all_polled p votes (shown p polls kept)
+recorded_some p polls children kept new t u votes fit is now stamp took =
+    let own = of_tree p polls children kept t fit is in
+    let before : (if not (kept.recorded == polls) then failed p t.counters else t.counters) ≡ shown p polls kept =
+    turned (kept.recorded == polls) t.counters (failed p t.counters)
+    ∙ ap (λ o. if kept.recorded == polls then counters_in o else failed p (counters_in o)) (sym is)
+    in
+    ap (λ n. if n == polls + 1 then counters_in new.contest else failed p (counters_in new.contest)) stamp
+    ∙ ap (λ b. if b then counters_in new.contest else failed p (counters_in new.contest)) (same_number (polls + 1))
+    ∙ ap counters_in now ∙ took
+    ∙ ap (λ q. all_polled q votes (if not (kept.recorded == polls) then failed q t.counters else t.counters)) own
+    ∙ ap (all_polled p votes) before
+  where
+    turned : (b : Bool) (x y : Counters) → (if not b then y else x) ≡ (if b then x else y)
+    turned true x y = refl
+    turned false x y = refl
 
-  -- where there is no tree there are no counters
-  pub shown_none : (p : Parameters) (polls : ℕ) (load : Load R) → load.trie ≡ None → shown p polls load ≡ Blank
-  unfolding all_polled
-  shown_none p polls load none =
-      ap (λ o. if load.recorded == polls then counters_in o else failed p (counters_in o)) none ∙ either (load.recorded == polls)
-    where
-      either : (b : Bool) → (if b then Blank else Blank) ≡ Blank
-      either true = refl
-      either false = refl
+-- where there is no tree there are no counters
+pub shown_none : (p : Parameters) (polls : ℕ) (kept : Kept) → kept.contest ≡ None → shown p polls kept ≡ Blank
+unfolding all_polled
+shown_none p polls kept none =
+    ap (λ o. if kept.recorded == polls then counters_in o else failed p (counters_in o)) none ∙ either (kept.recorded == polls)
+  where
+    either : (b : Bool) → (if b then Blank else Blank) ≡ Blank
+    either true = refl
+    either false = refl
 
-  -- nothing came to where nothing is
-  pub recorded_none : (p : Parameters) (polls now : ℕ) (load new : Load R) (votes : List Bool → ℕ) → load.trie ≡ None → new.trie ≡ None
-      → shown p now new ≡ all_polled p votes (shown p polls load)
-  unfolding all_polled
-  recorded_none p polls now load new votes old none = shown_none p now new none ∙ ap (all_polled p votes) (sym (shown_none p polls load old))
+-- nothing came to where nothing is
+pub recorded_none : (p : Parameters) (polls now : ℕ) (kept new : Kept) (votes : List Bool → ℕ) → kept.contest ≡ None → new.contest ≡ None
+    → shown p now new ≡ all_polled p votes (shown p polls kept)
+unfolding all_polled
+recorded_none p polls now kept new votes old none = shown_none p now new none ∙ ap (all_polled p votes) (sym (shown_none p polls kept old))
 
-  -- a tree that doesn't record a poll has failed after it
-  pub later : (p : Parameters) (polls : ℕ) (load : Load R) → AreGood p → load.recorded ≤ polls → shown p (polls + 1) load ≡ failed p (shown p polls load)
-  later p polls load good past =
-      let c = counters_in load.trie in
-      ap (λ b. if b then c else failed p c) (other_number load.recorded (polls + 1) (omega arith))
-      ∙ split_on (load.recorded == polls)
-      (λ t. rw t refl)
-      (λ t. rw t (sym (fails_once p c good)))
+-- a tree that doesn't record a poll has failed after it
+pub later : (p : Parameters) (polls : ℕ) (kept : Kept) → AreGood p → kept.recorded ≤ polls → shown p (polls + 1) kept ≡ failed p (shown p polls kept)
+later p polls kept good past =
+    let c = counters_in kept.contest in
+    ap (λ b. if b then c else failed p c) (other_number kept.recorded (polls + 1) (omega arith))
+    ∙ split_on (kept.recorded == polls)
+    (λ t. rw t refl)
+    (λ t. rw t (sym (fails_once p c good)))

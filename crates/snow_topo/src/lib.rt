@@ -1,6 +1,9 @@
 //! The board of pending blocks over compressed trees of counters.
 #![tactic(auto)]
 
+mod climbing;
+mod gathering;
 mod load;
+mod merging;
 
 pub use load::Load;

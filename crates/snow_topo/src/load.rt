@@ -1,57 +1,39 @@
-ghost use Rattle.std.specs.Prelude.{◌≡◌, ◌+◌, ◌^◌, ◌<◌, ◌≤◌, ◌++◌, ◌∷◌, [], List, ℕ, All, IfSome, if◌then◌else◌, Contains, OnOk, OnErr, Some, None};
+ghost use Rattle.std.specs.Prelude.{◌≡◌, ◌+◌, ◌≤◌, All, Contains, if◌then◌else◌};
 ghost use Rattle.snow_base.specs.Votes.{IsInBitOrder, total_count};
-ghost use Rattle.snow_flake.specs.Parameters.{Parameters};
 ghost use Rattle.snow_plain.specs.Conflict.{all_polled, votes_on};
 ghost use Rattle.snow_plain.specs.FailingLaw.{failed};
-ghost use Rattle.snow_topo.specs.Kept.{ids_in, shown, IsFit, HasGained};
+ghost use Rattle.snow_trie.specs.Whole.{HasFewNodes};
 
 use snow_base::{Id, Steps, Vote};
 use snow_flake::{Params, Rule};
 use snow_trie::Trie;
 use std::alloc::{AllocError, Global};
+use std::marker::Model;
 use std::sync::ledger::Ledger;
 
 /// What the board keeps of a block: the tree of its children, once it has one, and the number of the
 /// poll that this recorded last. Polls since then have failed the tree, which none of them touched.
+/// Contracts see the children with their counters, and that number.
 #[derive(Debug, Drop)]
 pub struct Load<R: Rule> {
-    pub(crate) trie: Option<Trie<R>>,
-    pub(crate) recorded: u64,
+    trie: Option<Trie<R>>,
+    recorded: u64,
 }
 
-impl<R: Rule> Load<R> {
-    ghost use Rattle.snow_topo.specs.declared.load.Load.{Load};
+impl<R: Rule> Model for Load<R> {
+    ghost use Rattle.std.specs.Prelude.{IfSome};
+    ghost use Rattle.std.specs.Option.{option_map};
+    ghost use Rattle.snow_trie.specs.Whole.{HasFewNodes};
+    ghost use Rattle.snow_topo.specs.Kept.{Kept, contest_of};
+    ghost use Rattle.snow_topo.specs.KeptCode.{coded_kept};
 
-    /// That of a block without children.
-    pub(crate) fn bare() -> Self
-        ensures trie { result.trie ≡ None }
-        ensures recorded { result.recorded ≡ 0 }
-    {
-        Load {
-            trie: None,
-            recorded: 0,
-        }
-    }
-}
+    ghost Value = { Kept };
 
-/// A child was issued: it is added to the tree, which is made for the first one. After want of memory
-/// all is as before.
-pub(crate) fn add_child<R: Rule>(
-    alloc: Global,
-    params: &Params,
-    load: &mut Load<R>,
-    id: &Id,
-) -> Result<(), AllocError>
-    ensures ok { OnOk result (HasGained id.now load.old load.new) }
-    ensures fit { (polls : ℕ) (children : List (List ℕ)) → IsFit params.now polls children load.old → OnOk result (IsFit params.now polls (children ++ id.now ∷ []) load.new) }
-    ensures err { OnErr result (load.new ≡ load.old) }
-{
-    if let Some(trie) = &mut load.trie {
-        return trie.add(*id);
-    }
-    let trie = Trie::new(alloc, *params, *id)?;
-    load.trie = Some(trie);
-    Ok(())
+    ghost coded = { coded_kept };
+
+    ghost view = { λ a. record { contest = option_map contest_of a.trie; recorded = a.recorded } };
+
+    ghost invariant = { λ a. IfSome a.trie HasFewNodes };
 }
 
 // A tree takes a poll with these votes, after it has failed where it didn't record the last poll.
@@ -67,6 +49,7 @@ fn catch_up<R: Rule, L: Ledger>(
     ensures counters { (trie.new).counters ≡ all_polled (trie.old).parameters (votes_on votes.now) (if is_behind then failed (trie.old).parameters (trie.old).counters else (trie.old).counters) }
     ensures parameters { (trie.new).parameters ≡ (trie.old).parameters }
     ensures ids { (trie.new).ids ≡ (trie.old).ids }
+    ensures few { HasFewNodes trie.new }
     ensures steps { steps.new ≤ steps.old + 1 + (trie.old).nodes }
 {
     if is_behind {
@@ -75,24 +58,51 @@ fn catch_up<R: Rule, L: Ledger>(
     trie.apply(votes, steps);
 }
 
-/// The tree of a block takes the bit step of the next poll, with these votes for its children. It takes
-/// no memory.
-pub(crate) fn record<R: Rule, L: Ledger>(
-    load: &mut Load<R>,
-    polls: u64,
-    votes: &[Vote],
-    steps: &mut Steps<L>,
-)
-    requires room { polls + 1 < 2 ^ 64 }
-    requires order { IsInBitOrder votes.now }
-    requires most { IfSome (load.old).trie (λ t. total_count votes.now ≤ t.parameters.k) }
-    requires given { All (λ v. Contains (ids_in (load.old).trie) v.id) votes.now }
-    ensures counters { (p : Parameters) (children : List (List ℕ)) → IsFit p polls children load.old → shown p (polls + 1) load.new ≡ all_polled p (votes_on votes.now) (shown p polls load.old) }
-    ensures fit { (p : Parameters) (children : List (List ℕ)) → IsFit p polls children load.old → IsFit p (polls + 1) children load.new }
-{
-    match &mut load.trie {
-        Some(trie) => catch_up(trie, load.recorded != polls, votes, steps),
-        None => (),
+impl<R: Rule> Load<R> {
+    ghost use Rattle.std.specs.Prelude.{ℕ, ◌^◌, ◌*◌, ◌-◌, ◌<◌, List, length, IfSome, OnOk, OnErr};
+    ghost use Rattle.snow_flake.specs.Parameters.{Parameters};
+    ghost use Rattle.snow_topo.specs.Kept.{bare, gained, ids_in, shown, IsFit};
+
+    /// That of a block without children.
+    pub(crate) fn new() -> Self
+        ensures { result ≡ bare }
+    {
+        Load {
+            trie: None,
+            recorded: 0,
+        }
     }
-    load.recorded = polls + 1;
+
+    /// A child was issued: it is added to the tree, which is made for the first one. After want of
+    /// memory all is as before.
+    pub(crate) fn add(&mut self, alloc: Global, params: &Params, id: &Id) -> Result<(), AllocError>
+        ensures ok { OnOk result (self.new ≡ gained params.now id.now self.old) }
+        ensures err { OnErr result (self.new ≡ self.old) }
+    {
+        match &mut self.trie {
+            Some(trie) => trie.add(*id),
+            None => {
+                let trie = Trie::new(alloc, *params, *id)?;
+                self.trie = Some(trie);
+                Ok(())
+            }
+        }
+    }
+
+    /// The children take the bit step of the next poll with these votes. It takes no memory.
+    pub(crate) fn record<L: Ledger>(&mut self, polls: u64, votes: &[Vote], steps: &mut Steps<L>)
+        requires room { polls + 1 < 2 ^ 64 }
+        requires order { IsInBitOrder votes.now }
+        requires most { IfSome (self.old).contest (λ c. total_count votes.now ≤ c.parameters.k) }
+        requires given { All (λ v. Contains (ids_in (self.old).contest) v.id) votes.now }
+        ensures counters { (p : Parameters) (children : List (List ℕ)) → IsFit p polls children self.old → shown p (polls + 1) self.new ≡ all_polled p (votes_on votes.now) (shown p polls self.old) }
+        ensures fit { (p : Parameters) (children : List (List ℕ)) → IsFit p polls children self.old → IsFit p (polls + 1) children self.new }
+        ensures steps { steps.new ≤ steps.old + 1 + 3 * length (ids_in (self.old).contest) }
+    {
+        match &mut self.trie {
+            Some(trie) => catch_up(trie, self.recorded != polls, votes, steps),
+            None => (),
+        }
+        self.recorded = polls + 1;
+    }
 }
