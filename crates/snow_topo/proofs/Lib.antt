@@ -3,3 +3,4 @@ pub mod Merged
 pub mod Reached
 
 pub mod Halfway
+pub mod Taken

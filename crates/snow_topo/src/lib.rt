@@ -5,5 +5,6 @@ mod climbing;
 mod gathering;
 mod load;
 mod merging;
+mod visiting;
 
 pub use load::Load;

@@ -1,12 +1,12 @@
 -- Lemmas on who descends from whom among blocks that each came after their parent.
-use Rattle.std.proofs.Common.{◌≡◌, ℕ, suc, ◌<◌, Bool, true, false, ◌||◌, List, [], ◌∷◌, ◌++◌, length, get_or, take, drop, reverse, bytes_eq, refl, sym, ap, subst, ◌∙◌, append_assoc, take-append-drop, drop-cons}
+use Rattle.std.proofs.Common.{◌≡◌, ℕ, suc, ◌<◌, true, false, ◌||◌, List, [], ◌∷◌, ◌++◌, length, get_or, take, drop, reverse, bytes_eq, sym, ap, subst, ◌∙◌, append_assoc, take-append-drop, drop-cons}
 use mathlib.Core.List.{reverse-cons}
 use Rattle.std.specs.List.{list_any}
 use Rattle.std.proofs.lemmas.List.{reverse-append}
 use Rattle.snow_base.specs.declared.header.Header.{Header}
 use Rattle.snow_base.specs.Ancestry.{line_in, descends}
-use Rattle.snow_plain.specs.Grown.{has_block, is_on, IsGrown}
-use Rattle.snow_plain.proofs.Grown.{grown_before, grown_parent, grown_new, not_last, no_line, has_block-reverse}
+use Rattle.snow_plain.specs.Grown.{has_block, IsGrown}
+use Rattle.snow_plain.proofs.Grown.{grown_before, grown_parent, not_last, no_line, has_block-reverse}
 use Rattle.snow_plain.proofs.Lines.{line_of}
 
 -- the latest first, around one of them

@@ -1,25 +1,24 @@
 -- Lemmas on the nodes that stay when a child of the last accepted block is accepted.
-use Rattle.std.proofs.Common.{◌≡◌, ℕ, zero, suc, ◌<◌, ◌≤◌, Bool, true, false, not, ◌&&◌, ◌||◌, List, [], ◌∷◌, ◌++◌, length, get_or, reverse, map, filter, cond, bytes_eq, All, Option, Some, None, find, refl, sym, ap, subst, ◌∙◌, arith}
+use Rattle.std.proofs.Common.{◌≡◌, ℕ, ◌<◌, Bool, true, false, not, ◌&&◌, List, [], ◌∷◌, length, get_or, reverse, map, filter, cond, bytes_eq, All, Some, None, find, refl, sym, ap, subst, ◌∙◌, arith}
 use Rattle.std.specs.List.{list_any, AllByRecursion, IsDistinct}
 use Rattle.std.specs.Map.{lookup, remove_entry, keys_of}
-use Rattle.std.specs.Option.{option_map}
 use Rattle.std.proofs.lemmas.List.{get_or-map, get_or_default, length-map}
 use Rattle.std.proofs.lemmas.List.Sums.{length-filter, count_by-le-length}
 use Rattle.std.proofs.lemmas.Map.Entries.{place_from_lookup}
 use Rattle.std.proofs.lemmas.List.Elements.{All-head, All-tail, All-filter, filter_passes}
-use Rattle.std.proofs.lemmas.Bool.{or_parts, or_left, or_right, and_parts, not-true}
+use Rattle.std.proofs.lemmas.Bool.{or_parts, or_left, or_right, and_parts}
 use Rattle.std.proofs.lemmas.Option.{none-some, slice_get_within, get_or_from_slice_get}
 use Rattle.snow_base.specs.declared.header.Header.{Header}
 use Rattle.snow_base.specs.Ancestry.{line_in, descends}
-use Rattle.snow_plain.specs.Grown.{has_block, is_on, IsGrown}
-use Rattle.snow_plain.proofs.Cases.{split_on, clash, same_id, id_same, id_itself, differs_back}
+use Rattle.snow_plain.specs.Grown.{has_block, IsGrown}
+use Rattle.snow_plain.proofs.Cases.{split_on, clash, same_id, id_same, differs_back}
 use Rattle.snow_plain.proofs.Grown.{grown_parent, grown_rest, has_block-reverse}
 use Rattle.snow_plain.proofs.Kept.{filter-reverse, grown_kept, has_own}
 use Rattle.snow_tree.specs.declared.key.Key.{Key}
 use Rattle.snow_tree.specs.declared.node.Node.{Node}
-use Rattle.snow_tree.specs.Held.{Entry, Held, children_of, stays_with, promoted, blocks_in}
-use Rattle.snow_tree.specs.Nodes.{block_of, blocks_of, entry_of, noted, judged, left, outsiders, IsKept}
-use Rattle.snow_tree.proofs.Descending.{line_at, descends_at, last_descends, last_off}
+use Rattle.snow_tree.specs.Held.{children_of, stays_with, blocks_in}
+use Rattle.snow_tree.specs.Nodes.{block_of, blocks_of, entry_of, judged, left, outsiders, IsKept}
+use Rattle.snow_tree.proofs.Descending.{line_at, descends_at, last_descends}
 use Rattle.snow_tree.proofs.Listed.{filter_kept}
 use Rattle.snow_tree.proofs.Linked.{key_eq, apart_off, not_found}
 
@@ -274,7 +273,6 @@ module _ {T : Type 0} where
       let same : Some e.1 ≡ Some n = rw t at h in
       rw (id_same e.0.id child is) (cc))
       (λ t. let k = rw t at h in rw (differs_back e.0.id child t) (found_seen nodes child n k))
-
 
   -- no entry has an identifier that isn't found
   pub none_seen : (nodes : List (Key × Node T)) (child : List ℕ) → lookup (λ k. bytes_eq child k.id) nodes ≡ None → find (λ e. bytes_eq e.block.id child) (map entry_of nodes) ≡ None

@@ -1,11 +1,10 @@
 -- Lemmas on the children of a block, in order of issue.
-use Rattle.std.proofs.Common.{◌≡◌, ℕ, zero, suc, ◌<◌, Bool, true, false, not, ◌&&◌, ◌||◌, List, [], ◌∷◌, ◌++◌, length, get_or, take, reverse, map, filter, cond, bytes_eq, All, refl, sym, ap, subst, ◌∙◌, if◌then◌else◌}
-use Rattle.std.specs.List.{list_any}
+use Rattle.std.proofs.Common.{◌≡◌, ℕ, Bool, true, false, List, [], ◌∷◌, ◌++◌, reverse, map, filter, cond, bytes_eq, All, refl, sym, ap, ◌∙◌, if◌then◌else◌}
 use Rattle.std.proofs.lemmas.List.{map-append, reverse-reverse}
 use Rattle.std.proofs.lemmas.List.Elements.{filter-append, All-head, All-tail}
 use Rattle.std.proofs.lemmas.Bool.{or_parts}
 use Rattle.snow_base.specs.declared.header.Header.{Header}
-use Rattle.snow_plain.specs.Grown.{has_block, is_on, IsGrown}
+use Rattle.snow_plain.specs.Grown.{is_on, IsGrown}
 use Rattle.snow_plain.proofs.Cases.{split_on}
 use Rattle.snow_plain.proofs.Grown.{has_child, childless}
 use Rattle.snow_plain.proofs.Kept.{filter-reverse}

@@ -1,8 +1,7 @@
 -- Lemmas on what is noted of the nodes while a child is accepted.
-use Rattle.std.proofs.Common.{◌≡◌, ℕ, zero, suc, ◌+◌, ◌<◌, ◌≤◌, Bool, true, false, not, ◌&&◌, ◌||◌, List, [], ◌∷◌, ◌++◌, length, get_or, take, drop, reverse, map, filter, cond, bytes_eq, All, Option, Some, None, slice_get, refl, sym, ap, subst, ◌∙◌, arith, if◌then◌else◌}
-use Rattle.std.specs.Map.{lookup, keys_of, values_of}
-use Rattle.std.specs.Option.{option_map, option_map_or}
-use Rattle.std.specs.List.{list_any}
+use Rattle.std.proofs.Common.{◌≡◌, ℕ, zero, suc, ◌+◌, ◌<◌, ◌≤◌, Bool, true, false, not, ◌||◌, List, [], ◌∷◌, ◌++◌, length, get_or, take, drop, reverse, map, filter, cond, bytes_eq, Option, Some, None, slice_get, refl, sym, ap, subst, ◌∙◌, arith, if◌then◌else◌}
+use Rattle.std.specs.Map.{values_of}
+use Rattle.std.specs.Option.{option_map}
 use Rattle.std.proofs.lemmas.List.{get_or-map, length-map, length-take, map-append}
 use Rattle.std.proofs.lemmas.List.Sums.{length-filter, count_by-le-length}
 use Rattle.std.proofs.lemmas.Option.{none-some, slice_get-map, get_or_from_slice_get}
@@ -10,11 +9,11 @@ use Rattle.std.proofs.lemmas.List.Elements.{filter_more}
 use Rattle.indexmap.specs.IndexMap.{set_value_at}
 use Rattle.snow_base.specs.declared.header.Header.{Header}
 use Rattle.snow_base.specs.Ancestry.{descends}
-use Rattle.snow_plain.specs.Grown.{has_block, is_on, IsGrown}
+use Rattle.snow_plain.specs.Grown.{has_block, IsGrown}
 use Rattle.snow_plain.proofs.Cases.{split_on, same_id, differs_back}
 use Rattle.snow_tree.specs.declared.key.Key.{Key}
 use Rattle.snow_tree.specs.declared.node.Node.{Node}
-use Rattle.snow_tree.specs.Nodes.{block_of, blocks_of, noted, is_noted, is_out, judged, left, outsiders}
+use Rattle.snow_tree.specs.Nodes.{block_of, blocks_of, is_noted, is_out, judged}
 use Rattle.snow_tree.proofs.Descending.{descends_at, last_descends, parent_before}
 
 -- what a look at a place shows was there
@@ -61,7 +60,7 @@ module _ {T : Type 0} where
       let before : has_block (take i bs) b.parent ≡ true =
       subst (λ (c : Header). bytes_eq last c.parent ≡ false → has_block (take i bs) c.parent ≡ true) here (parent_before last bs i b g inside) s
       in
-      rw s (flagged bs child b.parent (take i nodes) (drop i nodes) (subst (λ l. has_block l b.parent ≡ true) (blocks-take nodes i) before)))))) 
+      rw s (flagged bs child b.parent (take i nodes) (drop i nodes) (subst (λ l. has_block l b.parent ≡ true) (blocks-take nodes i) before))))))
 
   -- one more node is judged
   pub judged_more : (f : Key × Node T → Key × Node T) (nodes : List (Key × Node T)) (i : ℕ) (e : Key × Node T) (w : Node T) → i < length nodes
@@ -101,10 +100,10 @@ module _ {T : Type 0} where
       single (goes e) e ∙ ap (λ t. if t then e.0.id ∷ [] else []) (sym rule) ∙ ap (λ (b : Header). if r then b.id ∷ [] else []) found.2
       in (
         written e.1 value ∙ ap (λ l. set_value_at l i (record e.1 { is_rejected = r })) is
-        ∙ judged_more f all i e (record e.1 { is_rejected = r }) h here (ap (λ b. (e.0, record e.1 { is_rejected = b })) (sym rule)),
+            ∙ judged_more f all i e (record e.1 { is_rejected = r }) h here (ap (λ b. (e.0, record e.1 { is_rejected = b })) (sym rule)),
         ap (map (λ x. x.0.id)) (filter_more goes all i e h ∙ ap (λ x. filter goes (take i all) ++ cond (goes x) (x ∷ []) []) here)
-        ∙ map-append (λ x. x.0.id) (filter goes (take i all)) (cond (goes e) (e ∷ []) [])
-        ∙ ap (λ l. map (λ x. x.0.id) (filter goes (take i all)) ++ l) one,
+            ∙ map-append (λ x. x.0.id) (filter goes (take i all)) (cond (goes e) (e ∷ []) [])
+            ∙ ap (λ l. map (λ x. x.0.id) (filter goes (take i all)) ++ l) one,
       )
     where
       single : (t : Bool) (e : Key × Node T) → map (λ x. x.0.id) (cond t (e ∷ []) []) ≡ (if t then e.0.id ∷ [] else [])

@@ -1,5 +1,5 @@
 -- Lemmas on the places of nodes.
-use Rattle.std.proofs.Common.{◌≡◌, ◌⊎◌, ℕ, zero, suc, ◌+◌, ◌<◌, ◌≤◌, Bool, true, false, not, cond, nat_lt, List, [], ◌∷◌, length, get_or, map, bytes_eq, Option, Some, None, slice_get, inl, inr, refl, sym, ap, ◌∙◌, arith, if◌then◌else◌}
+use Rattle.std.proofs.Common.{◌≡◌, ◌⊎◌, ℕ, suc, ◌+◌, ◌<◌, ◌≤◌, Bool, true, false, not, cond, nat_lt, List, [], ◌∷◌, length, get_or, bytes_eq, Option, Some, None, slice_get, inl, inr, refl, sym, ap, ◌∙◌, arith, if◌then◌else◌}
 use Rattle.std.specs.List.{position, prefix_len}
 use Rattle.std.specs.Map.{keys_of}
 use Rattle.std.specs.Option.{option_map}
@@ -12,7 +12,7 @@ use Rattle.snow_plain.specs.Grown.{has_block}
 use Rattle.snow_plain.proofs.Cases.{split_on, same_id, id_same, differs_back}
 use Rattle.snow_tree.specs.declared.key.Key.{Key}
 use Rattle.snow_tree.specs.declared.node.Node.{Node}
-use Rattle.snow_tree.specs.Nodes.{block_of, blocks_of}
+use Rattle.snow_tree.specs.Nodes.{blocks_of}
 
 -- a test of two identifiers says the same either way
 pub either_way : (a b : List ℕ) → bytes_eq a b ≡ bytes_eq b a

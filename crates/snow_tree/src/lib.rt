@@ -11,6 +11,5 @@ mod tree;
 
 pub use tree::{Tree, TreeFull};
 
-
 #[cfg(test)]
 mod tests;

@@ -52,7 +52,10 @@ const BRANCHES: [(u16, u16); 6] = [(1, 0), (2, 0), (3, 1), (4, 2), (5, 3), (6, 1
 #[test]
 fn looks_up(rt: HostRuntime) -> Result<(), Fail> {
     let tree = grown(rt.alloc(), &BRANCHES)?;
-    assert_eq!(rt; (tree.len(), tree.at(3), tree.at(6)), (6, Some(named(4)), None));
+    assert_eq!(rt;
+        (tree.len(), tree.at(3), tree.at(6)),
+        (6, Some(named(4)), None)
+    );
     assert_eq!(rt; tree.child_ids(&named(0)), [named(1), named(2)].as_slice());
     assert_eq!(rt; tree.child_ids(&named(1)), [named(3), named(6)].as_slice());
     assert_eq!(rt; tree.child_ids(&named(7)).len(), 0);
@@ -66,7 +69,10 @@ fn promotes(rt: HostRuntime) -> Result<(), Fail> {
     let mut tree = grown(rt.alloc(), &BRANCHES)?;
     assert_eq!(rt; accept(&mut tree, 3), None);
     assert_eq!(rt; accept(&mut tree, 1), Some(1));
-    assert_eq!(rt; (tree.last(), tree.last_height(), tree.len()), (named(1), 1, 3));
+    assert_eq!(rt;
+        (tree.last(), tree.last_height(), tree.len()),
+        (named(1), 1, 3)
+    );
     assert_eq!(rt; tree.rejected(), [named(2), named(4)].as_slice());
     assert_eq!(rt; tree.place_of(&named(6)), Some(2));
     offer(&mut tree, 7, 6)?;

@@ -74,13 +74,7 @@ impl<T: Drop> Tree<T> {
     }
 
     /// A block is issued, with a load. After want of memory all is as before, and the load comes back.
-    pub fn insert(
-        &mut self,
-        id: Id,
-        parent: Id,
-        height: u64,
-        load: T,
-    ) -> Result<(), TreeFull<T>>
+    pub fn insert(&mut self, id: Id, parent: Id, height: u64, load: T) -> Result<(), TreeFull<T>>
         requires unknown { is_on (self.old).last (blocks_in (self.old).pending) id ≡ false }
         requires follows { is_on (self.old).last (blocks_in (self.old).pending) parent ≡ true }
         ensures ok { let block : Header = record { id = id; parent = parent; height = height } in
@@ -118,7 +112,12 @@ impl<T: Drop> Tree<T> {
         ensures tree { self.new ≡ taken_back self.old }
     {
         let (_, node) = self.nodes.pop()?;
-        unlink(&mut self.children, &mut self.nodes, &self.last, &node.parent);
+        unlink(
+            &mut self.children,
+            &mut self.nodes,
+            &self.last,
+            &node.parent,
+        );
         Some(node.load)
     }
 

@@ -1,4 +1,4 @@
-use Rattle.std.proofs.Common.{◌≡◌, ◌+◌, ◌<◌, ◌++◌, ◌∷◌, [], if◌then◌else◌, length, map, filter, not, take, vec_capacity, sym, ap, subst, ◌∙◌, arith, append_assoc, length-append, take_all}
+use Rattle.std.proofs.Common.{◌<◌, ◌++◌, ◌∷◌, [], if◌then◌else◌, length, map, filter, not, take, vec_capacity, sym, ap, ◌∙◌, arith, append_assoc, length-append, take_all}
 use Rattle.snow_base.specs.Ancestry.{descends}
 use Rattle.snow_tree.specs.Nodes.{blocks_of, judged}
 use Rattle.snow_tree.proofs.Noted.{judge_step, block_there, few_told}
@@ -32,18 +32,18 @@ loop-place-preserved g c =
     let told = map (λ e. e.0.id) (filter (λ e. not (descends (blocks_of all) child e.0.id)) (take place all)) in
     elim c.match-block_at.branch [
       | in-Some w ↦
-        let step = judge_step c.args.last.now child all c.loop-place.nodes.entries w.note.new.nodes.entries place w.in-Some.block w.is_out-is_rejected.result c.requires.grown inside
-        c.loop-place.invariant.nodes (sym c.block_at.ensures ∙ w.in-Some.is) w.is_out-is_rejected.ensures w.note.ensures
-        in
-        let more = if w.is_out-is_rejected.result then w.in-Some.block.id ∷ [] else [] in
-        record {
-          nodes = ap (λ m. m.entries) w.nodes-is ∙ step.0;
-          told = ap (λ v. v.items) w.rejected-is ∙ w.tell.ensures.told ∙ ap (λ l. l ++ more) c.loop-place.invariant.told
-              ∙ append_assoc c.args.rejected.now.items told more ∙ ap (λ l. c.args.rejected.now.items ++ l) (sym step.1);
-          room = ap (λ v. vec_capacity v) w.rejected-is ∙ w.tell.ensures.room ∙ c.loop-place.invariant.room;
-        }
+          let step = judge_step c.args.last.now child all c.loop-place.nodes.entries w.note.new.nodes.entries place w.in-Some.block w.is_out-is_rejected.result c.requires.grown inside
+          c.loop-place.invariant.nodes (sym c.block_at.ensures ∙ w.in-Some.is) w.is_out-is_rejected.ensures w.note.ensures
+          in
+          let more = if w.is_out-is_rejected.result then w.in-Some.block.id ∷ [] else [] in
+          record {
+            nodes = ap (λ m. m.entries) w.nodes-is ∙ step.0;
+            told = ap (λ v. v.items) w.rejected-is ∙ w.tell.ensures.told ∙ ap (λ l. l ++ more) c.loop-place.invariant.told
+                ∙ append_assoc c.args.rejected.now.items told more ∙ ap (λ l. c.args.rejected.now.items ++ l) (sym step.1);
+            room = ap (λ v. vec_capacity v) w.rejected-is ∙ w.tell.ensures.room ∙ c.loop-place.invariant.room;
+          }
       | in-None w ↦
-        absurd (block_there (judged (blocks_of all) child) all c.loop-place.nodes.entries place inside c.loop-place.invariant.nodes (sym c.block_at.ensures ∙ w.in-None.is))
+          absurd (block_there (judged (blocks_of all) child) all c.loop-place.nodes.entries place inside c.loop-place.invariant.nodes (sym c.block_at.ensures ∙ w.in-None.is))
     ]
 
 pub returns-clause-told : goal.returns-clause-told

@@ -1,4 +1,4 @@
-use Rattle.std.proofs.Common.{◌≡◌, ◌++◌, [], not, ◌&&◌, filter, bytes_eq, sym, ap, ◌∙◌, append-nil}
+use Rattle.std.proofs.Common.{◌++◌, not, ◌&&◌, filter, bytes_eq, sym, ap, ◌∙◌, append-nil}
 use Rattle.std.specs.Map.{lookup}
 use Rattle.snow_tree.specs.Nodes.{blocks_of}
 use Rattle.snow_tree.proofs.Left.{swept, alone_left, alone_told, lookup_judged}

@@ -1,4 +1,4 @@
-use Rattle.std.proofs.Common.{◌∙◌, ap, sym}
+use Rattle.std.proofs.Common.{◌∙◌}
 use Rattle.indexmap.proofs.CallerLemmas.{insert_entry-new}
 use Rattle.snow_tree.proofs.Linked.{key_eq, ok_holds}
 use Rattle.snow_tree.proofs.linking.append.Goals as goal

@@ -1,4 +1,3 @@
-use Rattle.std.proofs.Common.{◌∙◌, ap, sym}
 use Rattle.snow_tree.proofs.Linked.{kept_value}
 use Rattle.snow_tree.proofs.linking.link_at.Goals as goal
 

@@ -1,4 +1,4 @@
-use Rattle.std.proofs.Common.{◌≡◌, ◌∙◌, ap, sym}
+use Rattle.std.proofs.Common.{◌∙◌, ap, sym}
 use Rattle.snow_plain.specs.Grown.{has_block}
 use Rattle.snow_plain.proofs.Cases.{same_id}
 use Rattle.snow_tree.specs.Nodes.{blocks_of, unlinked}

@@ -1,4 +1,4 @@
-use Rattle.std.proofs.Common.{◌≡◌, Some, None, if◌then◌else◌, ◌+◌, ◌<◌, subst, sym, ap, ◌∙◌}
+use Rattle.std.proofs.Common.{◌≡◌, Some, if◌then◌else◌, ◌+◌, ◌<◌, subst, sym, ap, ◌∙◌}
 use Rattle.std.specs.Option.{option_map}
 use Rattle.snow_base.specs.Ancestry.{child_on}
 use Rattle.snow_tree.specs.Nodes.{blocks_of}

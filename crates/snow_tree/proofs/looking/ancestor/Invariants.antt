@@ -1,6 +1,3 @@
-use Rattle.std.proofs.Common.{ℕ, zero, suc, ◌≡◌, ◌+◌, Option, Some, None, map, slice_get}
-use Rattle.std.specs.Option.{option_map}
-use Rattle.snow_base.specs.Ancestry.{child_on}
 use Rattle.snow_tree.specs.Nodes.{blocks_of}
 use Rattle.snow_tree.proofs.Climbed.{IsClimbed, height_of}
 use Rattle.snow_tree.proofs.looking.ancestor.Given as goal

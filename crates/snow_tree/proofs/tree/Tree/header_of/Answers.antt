@@ -1,4 +1,4 @@
-use Rattle.std.proofs.Common.{Some, None, sym, ap, ◌∙◌}
+use Rattle.std.proofs.Common.{sym, ap, ◌∙◌}
 use Rattle.std.specs.Option.{option_map, option_copied}
 use Rattle.snow_tree.proofs.Left.{found_seen, none_seen}
 use Rattle.snow_tree.proofs.tree.Tree.header_of.Goals as goal

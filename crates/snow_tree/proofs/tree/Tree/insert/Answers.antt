@@ -1,4 +1,4 @@
-use Rattle.std.proofs.Common.{◌≡◌, ◌∷◌, ◌++◌, [], true, false, length, map, refl, sym, ap, subst, ◌∙◌, arith}
+use Rattle.std.proofs.Common.{◌≡◌, ◌∷◌, ◌++◌, [], true, false, map, refl, sym, ap, ◌∙◌, arith}
 use Rattle.std.proofs.lemmas.Bool.{or_parts}
 use Rattle.std.proofs.lemmas.List.{map-append}
 use Rattle.snow_base.specs.declared.header.Header.{Header}
@@ -6,7 +6,7 @@ use Rattle.snow_plain.specs.Grown.{has_block, is_on}
 use Rattle.snow_tree.specs.declared.key.Key.{Key}
 use Rattle.snow_tree.specs.declared.node.Node.{Node}
 use Rattle.snow_tree.specs.Held.{blocks_in}
-use Rattle.snow_tree.specs.Nodes.{blocks_of, entry_of, linked, with_children, IsKept}
+use Rattle.snow_tree.specs.Nodes.{blocks_of, entry_of, linked, with_children}
 use Rattle.snow_tree.proofs.Descending.{last_off}
 use Rattle.snow_tree.proofs.Left.{same_blocks}
 use Rattle.snow_tree.proofs.Linked.{kept_issued, not_found, blocks_changed}

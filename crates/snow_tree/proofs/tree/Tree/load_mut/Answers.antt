@@ -1,6 +1,5 @@
-use Rattle.std.proofs.Common.{◌≡◌, inl, inr, Some, None, sym, ap, ◌∙◌}
+use Rattle.std.proofs.Common.{inl, inr, sym, ap, ◌∙◌}
 use Rattle.std.specs.Option.{option_map, option_copied_mut}
-use Rattle.snow_tree.specs.Nodes.{entry_of}
 use Rattle.snow_tree.proofs.Seen.{kept_loaded, load_seen, load_at}
 use Rattle.snow_tree.proofs.tree.Tree.load_mut.Goals as goal
 
@@ -14,12 +13,15 @@ returns-in-Some g c =
     let nodes = c.self.inside.nodes.entries in
     let there = sym c.get_index_mut.ensures.value ∙ ap option_copied_mut c.in-Some.is in
     rw (← c.self.view_is) (
-      (λ i. inl (c.node-1.given, λ w. record {
-        last = c.self.inside.last;
-        height = c.self.inside.height;
-        pending = load_seen nodes c.args.place c.in-Some.node.now w there i;
-        rejected = c.self.inside.rejected.items;
-      })),
+      (λ i. inl (
+        c.node-1.given,
+        λ w. record {
+          last = c.self.inside.last;
+          height = c.self.inside.height;
+          pending = load_seen nodes c.args.place c.in-Some.node.now w there i;
+          rejected = c.self.inside.rejected.items;
+        },
+      )),
       record { writes_back = tt; value = sym (load_at nodes c.args.place ∙ ap (option_map (λ n. n.load)) there) },
     )
 

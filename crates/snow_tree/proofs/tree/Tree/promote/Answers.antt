@@ -1,6 +1,6 @@
-use Rattle.std.proofs.Common.{◌≡◌, ◌∷◌, ◌++◌, [], true, false, Some, is_some, IfSome, length, map, nat_eq, refl, sym, ap, subst, ◌∙◌, arith}
+use Rattle.std.proofs.Common.{◌≡◌, ◌++◌, Some, IfSome, length, map, refl, sym, ap, subst, ◌∙◌}
 use Rattle.snow_tree.specs.Held.{Held, promoted}
-use Rattle.snow_tree.specs.Nodes.{blocks_of, entry_of, left, outsiders, IsKept}
+use Rattle.snow_tree.specs.Nodes.{entry_of, outsiders}
 use Rattle.snow_tree.proofs.Left.{kept_accepted, left_seen, outsiders_seen, found_seen}
 use Rattle.snow_tree.proofs.Seen.{found_back, only_child, one_is}
 use Rattle.snow_tree.proofs.tree.Tree.promote.Goals as goal
