@@ -1,5 +1,5 @@
 -- Lemmas on what is kept of a block when a poll comes to it.
-use Rattle.std.proofs.Common.{◌≡◌, ℕ, zero, suc, ◌+◌, ◌<◌, ◌≤◌, Bool, true, false, List, [], ◌∷◌, Option, Some, None, slice_get, sum_by, refl, sym, ap, subst, ◌∙◌, arith, if◌then◌else◌}
+use Rattle.std.proofs.Common.{◌≡◌, ℕ, zero, suc, ◌+◌, ◌<◌, ◌≤◌, Bool, true, false, List, [], ◌∷◌, Option, Some, None, slice_get, IfSome, sum_by, refl, sym, ap, subst, ◌∙◌, arith, if◌then◌else◌}
 use Rattle.std.specs.Bool.{beq}
 use Rattle.std.specs.List.{starts_with}
 use Rattle.std.specs.Option.{option_map}
@@ -44,3 +44,8 @@ left_alone p polls children kept votes good fit few = (
   later p polls kept good fit.past ∙ sym (few_fail p (votes_on votes) (shown p polls kept) (λ front. omega (arith, few, few_on votes front))),
   record { past = omega (arith, fit.past); parameters = fit.parameters; ids = fit.ids },
 )
+
+-- what is so of the entry there, where that follows from what is known of it
+pub if_some : (o : Option (Entry Kept)) (P Q : Entry Kept → Type 0) → ((e : Entry Kept) → (o ≡ Some e) × P e → Q e) → IfSome o P → IfSome o Q
+if_some None P Q step h = tt
+if_some (Some e) P Q step h = step e (refl, h)

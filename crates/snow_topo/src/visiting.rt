@@ -2,7 +2,7 @@ ghost use Rattle.std.specs.Prelude.{◌≡◌, ℕ, ◌+◌, ◌^◌, ◌<◌, �
 ghost use Rattle.snow_base.specs.Votes.{IsInBitOrder, total_count};
 ghost use Rattle.snow_base.specs.declared.vote.Vote.{Vote};
 ghost use Rattle.snow_plain.specs.Conflict.{votes_on};
-ghost use Rattle.snow_plain.specs.Cursors.{cursor_total};
+ghost use Rattle.snow_plain.specs.Cursors.{cursor_total, votes_at};
 ghost use Rattle.snow_plain.specs.Grown.{IsGrown};
 ghost use Rattle.snow_tree.specs.Held.{Entry, blocks_in, children_of, with_load};
 ghost use Rattle.snow_topo.specs.Kept.{Kept, ids_in, IsFit};
@@ -56,5 +56,38 @@ fn record_quorum<R: Rule, L: Ledger>(
 {
     if children.total() >= params.alpha_preference() {
         record_at(tree, at, polls, children.entries(), steps);
+    }
+}
+
+/// The block at a place is visited: what is kept of its children takes the next poll with the votes that
+/// came to it, and these go on to its parent. It takes no memory where the bag has places.
+pub(crate) fn visit<R: Rule, L: Ledger>(
+    params: &Params,
+    tree: &mut Tree<Load<R>>,
+    at: usize,
+    polls: u64,
+    cursors: &mut Vec<Cursor>,
+    children: &mut Bag,
+    steps: &mut Steps<L>,
+)
+    requires room { polls + 1 < 2 ^ 64 }
+    requires places { length cursors.old.items ≤ children.old.room + length children.old.list }
+    requires counts { All (λ c. 0 < c.count) cursors.old.items }
+    requires total { cursor_total cursors.old.items ≤ params.now.k }
+    requires came { All (CameBy (blocks_in (tree.old).pending)) cursors.old.items }
+    requires fit { IfSome (slice_get (tree.old).pending at) (λ e. IsFit params.now polls (children_of (blocks_in (tree.old).pending) e.block.id) e.load) }
+    ensures taken { IfSome (slice_get (tree.old).pending at) (λ e. (load : Kept) × (tree.new ≡ with_load tree.old at load) × HasTaken params.now polls (votes_at cursors.old.items e.block.id) e.load load) }
+    ensures merged { IfSome (slice_get (tree.old).pending at) (λ e. cursors.new.items ≡ merged e.block cursors.old.items) }
+    ensures places { children.old.room + length children.old.list ≤ children.new.room + length children.new.list }
+    ensures room { vec_capacity cursors.new ≡ vec_capacity cursors.old }
+{
+    let _k = params.k();
+    match tree.block(at) {
+        Some(block) => {
+            gather(cursors, &block.id, children);
+            record_quorum(params, tree, at, polls, children, steps);
+            merge(cursors, &block);
+        }
+        None => (),
     }
 }
