@@ -4,3 +4,4 @@ pub mod Reached
 
 pub mod Halfway
 pub mod Taken
+pub mod Climbs
