@@ -101,13 +101,8 @@ fn go(run: &mut Run, step: Step) -> Result<Stage, BootStop>
         ),
         Step::Stored(one) => {
             let bytes = block(run.alloc, one)?;
-            run.boot.stored(
-                1,
-                &bytes,
-                &mut run.chain,
-                &mut run.numbers,
-                &mut run.log,
-            )
+            run.boot
+                .stored(1, &bytes, &mut run.chain, &mut run.numbers, &mut run.log)
         }
     }
 }
@@ -182,7 +177,13 @@ fn blocks_that_do_not_fit_stop_it(rt: HostRuntime) -> Result<(), Fail> {
     let alloc = rt.alloc();
     let id = named(1);
     let fork = [Step::Stored([1, 9, 1])];
-    assert!(rt; end(alloc, 0, fork.as_slice())? == Err(BootStop::Fork { id, parent: named(9) }));
+    assert!(rt;
+        end(alloc, 0, fork.as_slice())?
+            == Err(BootStop::Fork {
+                id,
+                parent: named(9)
+            })
+    );
     let same = [Step::Stored([1, 255, 1]), Step::Stored([2, 255, 1])];
     assert!(rt; end(alloc, 0, same.as_slice())? == conflict(1, 1, 2));
     let below = [Step::Stored([1, 255, 1]), Step::Stored([3, 2, 2])];
@@ -253,13 +254,9 @@ fn fill(run: &mut Run, order: Order, count: u16) -> Result<Stage, BootStop>
 {
     for came in 0..count {
         let bytes = tall(run.alloc, next_in(order, came))?;
-        let stored = run.boot.stored(
-            1,
-            &bytes,
-            &mut run.chain,
-            &mut run.numbers,
-            &mut run.log,
-        );
+        let stored = run
+            .boot
+            .stored(1, &bytes, &mut run.chain, &mut run.numbers, &mut run.log);
         match stored {
             Ok(Stage::Going) => {}
             Ok(stage) => return Ok(stage),
@@ -275,14 +272,7 @@ fn aim(run: &mut Run, id: Id) -> Result<Stage, BootStop>
     ensures { OnGoing result (MayGoOn run.new.boot run.new.chain run.new.numbers) }
 {
     let from = node(1).id;
-    let asked = run.boot.frontier(
-        &from,
-        1,
-        id,
-        &mut run.chain,
-        &mut run.numbers,
-        &mut run.log,
-    );
+    let asked = run.boot.frontier(&from, 1, id, &mut run.chain, &mut run.numbers, &mut run.log);
     match asked {
         Ok(Stage::Going) => {}
         other => return other,
@@ -300,7 +290,12 @@ fn aim(run: &mut Run, id: Id) -> Result<Stage, BootStop>
 }
 
 // The end where so many blocks come to a node that aims at the block of this number.
-fn filled(alloc: Global, top: u16, order: Order, count: u16) -> Result<Result<Stage, BootStop>, Fail> {
+fn filled(
+    alloc: Global,
+    top: u16,
+    order: Order,
+    count: u16,
+) -> Result<Result<Stage, BootStop>, Fail> {
     let roster = Roster::new(alloc, &[node(1)])?;
     let last = numbered(0);
     let chain = PlainChain::begin(alloc, last, &[])?;
