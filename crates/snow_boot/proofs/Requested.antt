@@ -1,5 +1,5 @@
 -- What targets miss is asked for, and asked for once.
-use Rattle.std.proofs.Common.{◌≡◌, ℕ, Bool, true, false, ◌||◌, List, [], ◌∷◌, ◌++◌, Option, Some, None, bytes_eq, if◌then◌else◌, inl, inr, refl, sym, ap, subst, ◌∙◌}
+use Rattle.std.proofs.Common.{◌≡◌, ℕ, Bool, true, false, ◌||◌, List, [], ◌∷◌, ◌++◌, Option, Some, None, if◌then◌else◌, inl, inr, refl, sym, ap, subst, ◌∙◌}
 use Rattle.std.specs.Prelude.{Result, Ok, Err}
 use Rattle.snow_base.specs.Numbers.{next_number}
 use Rattle.snow_sample.specs.declared.roster.Node.{Node}
@@ -10,7 +10,7 @@ use Rattle.snow_boot.specs.declared.stop.BootStop.{BootStop}
 use Rattle.snow_boot.specs.Paths.{Fetch, missed}
 use Rattle.snow_boot.specs.Asking.{Asked, asked_node, asked_with, asked_one, and_asked, asked}
 use Rattle.snow_boot.specs.OutcomeLaw.{AreAsked}
-use Rattle.snow_boot.proofs.Tests.{clash, id_same}
+use Rattle.snow_boot.proofs.Cases.{clash, id_same}
 use Rattle.snow_boot.proofs.Whole.{first_or, later, first}
 
 -- what two askings gave, one after the other
