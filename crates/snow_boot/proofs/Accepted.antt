@@ -1,6 +1,6 @@
 -- Blocks that are accepted one on the other.
 use Rattle.std.proofs.Common.{◌≡◌, ℕ, zero, suc, ◌+◌, ◌-◌, ◌<◌, ◌≤◌, Bool, true, false, List, [], ◌∷◌, ◌++◌, Option, Some, None, bytes_eq, if◌then◌else◌, refl, sym, ap, subst, ◌∙◌, arith, append-nil}
-use Rattle.std.specs.Prelude.{Result, Ok, Err, is_some}
+use Rattle.std.specs.Prelude.{Ok, Err, is_some}
 use Rattle.snow_chain.specs.Chain as states
 use Rattle.snow_chain.specs.Chain.{Rules, Held, next_on, verified, accepted, MayAccept, begun}
 use Rattle.snow_lines.specs.declared.line.Line.{Line}
@@ -64,11 +64,12 @@ pub accepts_it : (rules : Rules) (old now after : Held) (below : List ℕ) (b : 
 accepts_it rules old now after below b before written alone last other s is w =
     let not_itself : bytes_eq b.header.id old.last ≡ false = ap (bytes_eq b.header.id) last ∙ other in
     let made : after ≡ begun b.header.id s.state = is ∙ ap (λ h. accepted h b.header.id) s.held ∙ accepted_alone old b.header.id s.state alone not_itself in
-    let one = begun_alone b.header.id s.state in
-    (ap (λ t. (let o : Option (List ℕ) = if t then None else rules.next (last_state old) b.bytes in o)) not_itself ∙ s.next ∙ ap (λ x. Some x) (sym (ap last_state made ∙ one.0)),
-    ap (λ (h : Held). h.last) made,
-    subst IsAlone (sym made) one.1,
-    w)
+    let one = begun_alone b.header.id s.state in (
+      ap (λ t. (let o : Option (List ℕ) = if t then None else rules.next (last_state old) b.bytes in o)) not_itself ∙ s.next ∙ ap (λ x. Some x) (sym (ap last_state made ∙ one.0)),
+      ap (λ (h : Held). h.last) made,
+      subst IsAlone (sym made) one.1,
+      w,
+    )
 
 -- one block in front of others
 pub one_first : (rules : Rules) (old new : Held) (b : KeptBlock) (rest : List KeptBlock) → state_on rules old.last (last_state old) b ≡ Some (last_state new)

@@ -1,13 +1,13 @@
 -- A chain that holds the state of its last accepted block and no other.
-use Rattle.std.proofs.Common.{◌≡◌, ℕ, Bool, true, false, List, [], Option, Some, None, cond, bytes_eq, refl, sym, ap, subst, ◌∙◌}
-use Rattle.std.specs.Prelude.{IsSome, is_some, unwrap_or}
+use Rattle.std.proofs.Common.{◌≡◌, ℕ, Bool, true, false, List, [], Some, None, cond, bytes_eq, refl, sym, ap, subst, ◌∙◌}
+use Rattle.std.specs.Prelude.{IsSome, unwrap_or}
 use Rattle.std.specs.Option.{option_and_then}
-use Rattle.std.specs.Ordering.{nat_cmp, eq_by_cmp}
+use Rattle.std.specs.Ordering.{nat_cmp}
 use Rattle.std.specs.Cmp.Lexicographic.{slice_cmp, nat_list_cmp_total}
 use Rattle.std.specs.FinMap.{empty, get, insert, remove, get-empty, get-insert, get-remove, same_map, slice_cmp-IsAntisymmetric, nat_cmp-IsAntisymmetric}
 use Rattle.std.proofs.lemmas.Map.Text.{is_eq-slice_cmp}
 use Rattle.snow_issue.proofs.Noted.{id_turned}
-use Rattle.snow_chain.specs.Chain.{Rules, Held, States, state_of, begun, next_on, with_state, verified, accepted, MayVerify, MayAccept}
+use Rattle.snow_chain.specs.Chain.{Rules, Held, States, state_of, begun, next_on, with_state, accepted, MayVerify, MayAccept}
 use Rattle.snow_boot.specs.Calling.{IsAlone, last_state}
 use Rattle.snow_boot.proofs.Tests.{same_id, id_same, clash}
 

@@ -1,5 +1,5 @@
 -- Requests with the numbers that are drawn for them.
-use Rattle.std.proofs.Common.{◌≡◌, ℕ, zero, suc, ◌+◌, ◌-◌, ◌^◌, ◌<◌, ◌≤◌, Bool, true, false, ◌==◌, ◌%◌, nat_lt, List, [], ◌∷◌, ◌++◌, length, drop, get_or, min, Option, Some, None, bytes_eq, if◌then◌else◌, refl, sym, ap, subst, ◌∙◌, arith, append-nil}
+use Rattle.std.proofs.Common.{◌≡◌, ℕ, ◌+◌, ◌-◌, ◌^◌, ◌<◌, ◌≤◌, Bool, true, false, nat_lt, List, [], ◌∷◌, ◌++◌, Some, if◌then◌else◌, refl, sym, ap, subst, ◌∙◌, arith, append-nil}
 use Rattle.std.specs.Prelude.{Result, Ok, Err}
 use Rattle.std.proofs.lemmas.Bool.{ne_eqb}
 use Rattle.std.proofs.lemmas.Bool.Decides.{nat_tests}
@@ -13,10 +13,10 @@ use Rattle.snow_lines.specs.declared.line.Line.TheVariants as line
 use Rattle.snow_boot.specs.declared.stop.BootStop.{BootStop}
 use Rattle.snow_boot.specs.declared.stop.BootStop.TheVariants as stop
 use Rattle.snow_boot.specs.Asking.{Asked, asked_node, asked_with, asked_one, and_asked, asked}
-use Rattle.snow_boot.specs.Calling.{AreDrawn, LogsFront}
+use Rattle.snow_boot.specs.Calling.{AreDrawn}
 use Rattle.snow_boot.specs.Paths.{Fetch, missed}
 use Rattle.snow_boot.specs.Requesting.{Asks}
-use Rattle.snow_boot.proofs.Tests.{split_on, same_some, not_none, none_not}
+use Rattle.snow_boot.proofs.Cases.{split_on, same_some, not_none}
 use Rattle.snow_boot.proofs.Underway.{IsUnderway, goes_on, stops_here, runs_out}
 
 -- a number that comes behind all that were drawn is none of an open request
@@ -117,9 +117,11 @@ opened nodes requests more id node number drawn last before after whose next is 
     let n = next_is drawn number next in
     let r : Get = record { number = number; node = node; id = id } in
     subst (λ o. Asks (Ok tt) before after more last (asked_with nodes requests id o)) next
-    (subst (λ x. Asks (Ok tt) before after more last (line.Ancestors number x id ∷ [], Ok (with_get requests record { number = number; node = x; id = id }, number))) whose
-    (written, ap (λ (p : List Get × ℕ). (let a : Result (List Get × ℕ) BootStop = Ok p in a)) (both grown is),
-    subst (λ l. AreDrawn l last) (sym grown) (drawn_with requests r last (omega (arith, is)) (still_drawn requests drawn last (omega (arith, n.0, is)) are))))
+    (subst (λ x. Asks (Ok tt) before after more last (line.Ancestors number x id ∷ [], Ok (with_get requests record { number = number; node = x; id = id }, number))) whose (
+      written,
+      ap (λ (p : List Get × ℕ). (let a : Result (List Get × ℕ) BootStop = Ok p in a)) (both grown is),
+      subst (λ l. AreDrawn l last) (sym grown) (drawn_with requests r last (omega (arith, is)) (still_drawn requests drawn last (omega (arith, n.0, is)) are)),
+    ))
   where
     both : {a b : List Get} {m n : ℕ} → a ≡ b → m ≡ n → (let p : List Get × ℕ = (b, n) in p) ≡ (a, m)
     both e f = rw (e, f) refl

@@ -1,5 +1,5 @@
 -- The path of the highest kept target is executed where no target misses a block.
-use Rattle.std.proofs.Common.{◌≡◌, ℕ, ◌+◌, ◌-◌, ◌<◌, Bool, true, false, List, [], ◌∷◌, ◌++◌, Option, Some, None, nat_lt, if◌then◌else◌, ◌⊎◌, inl, inr, refl, sym, ap, subst, ◌∙◌, arith, append_assoc, append-nil}
+use Rattle.std.proofs.Common.{◌≡◌, ℕ, ◌+◌, ◌-◌, true, List, [], ◌∷◌, ◌++◌, Option, Some, None, inl, inr, refl, sym, ap, ◌∙◌, arith, append_assoc, append-nil}
 use Rattle.std.specs.Prelude.{Result, Ok, Err}
 use Rattle.std.specs.Option.{option_map}
 use Rattle.std.proofs.lemmas.Bool.{lt-ltb, le-ltb, cases_lt}
@@ -12,13 +12,13 @@ use Rattle.snow_boot.specs.declared.stage.Stage.TheVariants as stage
 use Rattle.snow_boot.specs.declared.stop.BootStop.{BootStop}
 use Rattle.snow_boot.specs.declared.stop.BootStop.TheVariants as stop
 use Rattle.snow_boot.specs.Accepting.{Executes, EndsAt, Concludes, higher_one, top_height}
-use Rattle.snow_boot.specs.Booting.{Outcome, Next, Done, height_or, ended, finished}
-use Rattle.snow_boot.specs.Calling.{IsAlone, LogsFront, last_state}
+use Rattle.snow_boot.specs.Booting.{Outcome, Next, Done, ended, finished}
+use Rattle.snow_boot.specs.Calling.{last_state}
 use Rattle.snow_boot.specs.Executing.{Executed, executed}
 use Rattle.snow_boot.specs.Indexing.{top_of, higher_height}
-use Rattle.snow_boot.specs.Keeping.{Store, highest, higher}
+use Rattle.snow_boot.specs.Keeping.{highest}
 use Rattle.snow_boot.specs.Linking.{IsLinked, upward}
-use Rattle.snow_boot.specs.Paths.{Fetch, is_whole, higher_of, highest_target, path_up}
+use Rattle.snow_boot.specs.Paths.{Fetch, is_whole, higher_of, highest_target}
 use Rattle.snow_boot.proofs.Indexed.{higher_is}
 use Rattle.snow_boot.proofs.Tests.{none_not, same_some}
 use Rattle.snow_boot.proofs.Whole.{whole_path}
@@ -92,11 +92,12 @@ pub concludes_at : (height : ℕ) (e : Executed) (last : List ℕ) (r : Result S
     → EndsAt r mid after last height → Concludes r before after held (ended height e)
 concludes_at height e last (Ok stage.Going) before mid after held x t = t
 concludes_at height e last (Ok (stage.Done id at)) before mid after held x t =
-    let is = ended_is height e last (last_state held) x.1 in
-    (t.2 ∙ ap (λ l. l ++ line.Bootstrapped last height ∷ []) x.0 ∙ append_assoc before e.0 (line.Bootstrapped last height ∷ []) ∙ ap (λ (o : Outcome). before ++ o.0) (sym is),
-    ap (λ (o : Outcome). o.1) is ∙ both (sym t.0) (sym t.1),
-    x.2 ∙ sym t.0,
-    x.3)
+    let is = ended_is height e last (last_state held) x.1 in (
+      t.2 ∙ ap (λ l. l ++ line.Bootstrapped last height ∷ []) x.0 ∙ append_assoc before e.0 (line.Bootstrapped last height ∷ []) ∙ ap (λ (o : Outcome). before ++ o.0) (sym is),
+      ap (λ (o : Outcome). o.1) is ∙ both (sym t.0) (sym t.1),
+      x.2 ∙ sym t.0,
+      x.3,
+    )
   where
     both : {a b : List ℕ} {m n : ℕ} → a ≡ b → m ≡ n → (let o : Result Next BootStop = Ok (Done a m (last_state held)) in o) ≡ Ok (Done b n (last_state held))
     both p q = rw (p, q) refl

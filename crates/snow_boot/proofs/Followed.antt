@@ -1,5 +1,5 @@
 -- What each event is followed by: asking or executing.
-use Rattle.std.proofs.Common.{◌≡◌, ℕ, Bool, true, false, List, [], ◌∷◌, ◌++◌, Option, Some, None, if◌then◌else◌, refl, sym, ap, subst, ◌∙◌, append-nil, append_assoc}
+use Rattle.std.proofs.Common.{◌≡◌, ℕ, Bool, true, false, List, [], ◌++◌, if◌then◌else◌, refl, sym, ap, subst, ◌∙◌, append-nil, append_assoc}
 use Rattle.std.specs.Prelude.{Result, Ok, Err}
 use Rattle.snow_chain.specs.Chain.{Rules, Held}
 use Rattle.snow_issue.specs.declared.work.Get.{Get}
@@ -12,11 +12,10 @@ use Rattle.snow_boot.specs.declared.stop.BootStop.{BootStop}
 use Rattle.snow_boot.specs.declared.stop.BootStop.TheVariants as stop
 use Rattle.snow_boot.specs.Accepting.{Concludes}
 use Rattle.snow_boot.specs.Asking.{Asked, asked}
-use Rattle.snow_boot.specs.Booting.{Boot, Going, Done, Next, Outcome, behind, fetch_of, with_requests, finished, followed_by, followed}
-use Rattle.snow_boot.specs.Calling.{AreDrawn, LogsFront, IsAlone, last_state}
-use Rattle.snow_boot.specs.Coursing.{boot_of, IsSettled, IsCourse, Comes}
+use Rattle.snow_boot.specs.Booting.{Boot, Going, Outcome, behind, fetch_of, with_requests, finished, followed_by, followed}
+use Rattle.snow_boot.specs.Calling.{AreDrawn, LogsFront}
+use Rattle.snow_boot.specs.Coursing.{boot_of, IsCourse, Comes}
 use Rattle.snow_boot.specs.Fetching.{Hunt}
-use Rattle.snow_boot.specs.OutcomeLaw.{AreAsked}
 use Rattle.snow_boot.specs.Paths.{Fetch, is_whole, highest_target}
 use Rattle.snow_boot.specs.Requesting.{Asks}
 use Rattle.snow_boot.specs.Surveying.{Surveyed}
@@ -69,11 +68,35 @@ follows_whole rules state s hunt requests drawn old new before after r is whole 
 
 -- what comes of the requests
 with_ok : (boot : Boot) (a : Asked) (requests : List Get) (drawn : ℕ) → a.1 ≡ Ok (requests, drawn)
-    → with_requests boot a ≡ (a.0, Ok (Going record {
-      store = boot.store; nodes = boot.nodes; question = boot.question; number = boot.number; awaited = boot.awaited; candidates = boot.candidates; targets = boot.targets; found = boot.found; requests = requests } drawn))
+    → with_requests boot a ≡ (
+      a.0,
+      Ok (Going record {
+        store = boot.store;
+        nodes = boot.nodes;
+        question = boot.question;
+        number = boot.number;
+        awaited = boot.awaited;
+        candidates = boot.candidates;
+        targets = boot.targets;
+        found = boot.found;
+        requests = requests;
+      } drawn),
+    )
 with_ok boot (lines, Err why) requests drawn e = cc
-with_ok boot (lines, Ok (r, d)) requests drawn e = ap (λ (p : List Get × ℕ). (let o : Outcome = (lines, Ok (Going record {
-      store = boot.store; nodes = boot.nodes; question = boot.question; number = boot.number; awaited = boot.awaited; candidates = boot.candidates; targets = boot.targets; found = boot.found; requests = p.0 } p.1)) in o)) (ap found e)
+with_ok boot (lines, Ok (r, d)) requests drawn e = ap (λ (p : List Get × ℕ). (let o : Outcome = (
+  lines,
+  Ok (Going record {
+    store = boot.store;
+    nodes = boot.nodes;
+    question = boot.question;
+    number = boot.number;
+    awaited = boot.awaited;
+    candidates = boot.candidates;
+    targets = boot.targets;
+    found = boot.found;
+    requests = p.0;
+  } p.1),
+) in o)) (ap found e)
   where
     found : Result (List Get × ℕ) BootStop → List Get × ℕ
     found (Ok p) = p

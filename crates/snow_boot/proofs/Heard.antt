@@ -1,6 +1,6 @@
 -- What each event makes of the parts of a node that bootstraps.
-use Rattle.std.proofs.Common.{◌≡◌, ℕ, zero, suc, Bool, true, false, List, [], ◌∷◌, ◌++◌, Option, Some, None, find, if◌then◌else◌, refl, sym, ap, subst, ◌∙◌, append-nil}
-use Rattle.std.specs.Prelude.{Result, Ok, Err, is_none, not}
+use Rattle.std.proofs.Common.{◌≡◌, ℕ, zero, suc, true, false, List, [], ◌∷◌, ◌++◌, Option, Some, None, find, refl, sym, ap, subst, ◌∙◌, append-nil}
+use Rattle.std.specs.Prelude.{Result, Ok, Err, is_none}
 use Rattle.std.specs.List.{position_or_len, remove}
 use Rattle.std.specs.Option.{option_map}
 use Rattle.snow_base.specs.declared.header.Header.{Header}
@@ -16,24 +16,23 @@ use Rattle.snow_boot.specs.declared.block.KeptBlock.{KeptBlock}
 use Rattle.snow_boot.specs.declared.question.Candidate.{Candidate}
 use Rattle.snow_boot.specs.declared.question.Question.{Question}
 use Rattle.snow_boot.specs.declared.question.Question.TheVariants as question
-use Rattle.snow_boot.specs.declared.stage.Stage.{Stage}
 use Rattle.snow_boot.specs.declared.stage.Stage.TheVariants as stage
 use Rattle.snow_boot.specs.declared.stop.BootStop.{BootStop}
 use Rattle.snow_boot.specs.declared.stop.BootStop.TheVariants as stop
 use Rattle.snow_boot.specs.declared.verdict.Verdict.{Verdict}
 use Rattle.snow_boot.specs.declared.verdict.Verdict.TheVariants as verdict
-use Rattle.snow_boot.specs.Booting.{Boot, Going, Outcome, behind, fetch_of, with_fetch, followed, answered, or_all, if_awaited, awaited_by, awaited_for, request_of, closed, with_came, if_requested, if_block, timeout_by, frontier_came, accepted_came, ancestors_came, timeout_came, stored_came}
-use Rattle.snow_boot.specs.Calling.{AreDrawn, LogsFront}
+use Rattle.snow_boot.specs.Booting.{Boot, Outcome, behind, followed, answered, or_all, if_awaited, awaited_by, request_of, with_came, if_requested, if_block, timeout_by, frontier_came, accepted_came, ancestors_came, timeout_came, stored_came}
+use Rattle.snow_boot.specs.Calling.{AreDrawn}
 use Rattle.snow_boot.specs.Coursing.{boot_of, IsCourse, Comes}
 use Rattle.snow_boot.specs.Electing.{still_awaited, collected, backed}
 use Rattle.snow_boot.specs.Fetching.{Hunt, Fetches}
 use Rattle.snow_boot.specs.Keeping.{taken, Answers}
 use Rattle.snow_boot.specs.Paths.{Fetch}
-use Rattle.snow_boot.specs.Replying.{after_verdict, if_taken, came, with_taken, with_wanted, if_wanted, replied}
+use Rattle.snow_boot.specs.Replying.{after_verdict, if_taken, replied}
 use Rattle.snow_boot.specs.Surveying.{Surveyed}
 use Rattle.snow_boot.proofs.Followed.{comes_as, comes_ignored, comes_behind}
 use Rattle.snow_boot.proofs.Replied.{replied_same}
-use Rattle.snow_boot.proofs.Tests.{clash, none_not, not_none, same_some}
+use Rattle.snow_boot.proofs.Cases.{clash, none_not, same_some}
 
 -- ---- answers of all nodes
 

@@ -1,5 +1,5 @@
 -- The indexes of the kept blocks, with one block more.
-use Rattle.std.proofs.Common.{◌≡◌, ℕ, zero, suc, ◌+◌, ◌<◌, Bool, true, false, ◌==◌, eqb, cond, List, [], ◌∷◌, ◌++◌, length, reverse, Option, Some, None, bytes_eq, nat_lt, if◌then◌else◌, inl, inr, refl, sym, ap, ◌∙◌, arith, ⊎_elim}
+use Rattle.std.proofs.Common.{◌≡◌, ℕ, zero, suc, ◌<◌, Bool, true, false, ◌==◌, cond, List, [], ◌∷◌, ◌++◌, length, reverse, Option, Some, None, bytes_eq, nat_lt, if◌then◌else◌, inl, inr, refl, sym, ap, ◌∙◌, arith, ⊎_elim}
 use Rattle.std.specs.BTreeMap.{BTreeMap, get, is_at}
 use Rattle.std.specs.Cmp.Lexicographic.{slice_cmp}
 use Rattle.std.specs.List.{slice_get}
@@ -13,7 +13,7 @@ use Rattle.snow_boot.specs.declared.block.KeptBlock.{KeptBlock}
 use Rattle.snow_boot.specs.declared.index.Children.{Children}
 use Rattle.snow_boot.specs.Keeping.{held, highest, higher}
 use Rattle.snow_boot.specs.Indexing.{place_of, top_of, higher_height, with_child, children_of, HasPlaces, HasTops, HasChildren}
-use Rattle.snow_boot.proofs.Tests.{split_on, same_id, same_some, none_not, picked, passed}
+use Rattle.snow_boot.proofs.Cases.{same_id, none_not, picked, passed}
 
 -- whichever of two numbers is compared to the other
 pub turned : (a b : ℕ) → (a == b) ≡ (b == a)

@@ -1,27 +1,19 @@
 -- What all nodes are asked, one question after another.
-use Rattle.std.proofs.Common.{◌≡◌, ℕ, ◌+◌, ◌≤◌, Bool, true, false, ◌==◌, not, List, [], ◌∷◌, ◌++◌, length, map, Some, None, refl, sym, ap, subst, ◌∙◌, arith, append-nil, eqb-true}
-use Rattle.std.specs.Prelude.{Ok, Err}
-use Rattle.std.proofs.lemmas.Bool.{not-false}
+use Rattle.std.proofs.Common.{◌≡◌, ℕ, true, List, [], ◌∷◌, ◌++◌, map, Some, refl, sym, ap, subst, ◌∙◌, arith}
+use Rattle.std.specs.Prelude.{Ok}
 use Rattle.snow_base.specs.Numbers.{next_number, last_after}
-use Rattle.snow_chain.specs.Chain.{Rules, Held}
+use Rattle.snow_chain.specs.Chain.{Held}
 use Rattle.snow_issue.specs.declared.work.Get.{Get}
 use Rattle.snow_lines.specs.declared.line.Line.{Line}
 use Rattle.snow_lines.specs.declared.line.Line.TheVariants as line
-use Rattle.snow_lines.specs.declared.why.RestartWhy.TheVariants as why
-use Rattle.snow_sample.specs.declared.roster.Node.{Node}
-use Rattle.snow_sample.specs.Roster.{total_weight}
-use Rattle.snow_boot.specs.declared.question.Candidate.{Candidate}
-use Rattle.snow_boot.specs.declared.question.Question.{Question}
 use Rattle.snow_boot.specs.declared.question.Question.TheVariants as question
 use Rattle.snow_boot.specs.declared.stage.Stage.TheVariants as stage
-use Rattle.snow_boot.specs.Booting.{Boot, Going, Outcome, behind, ask_frontier, ask_accepted, fetching, followed, with_collected, with_targets, all_answered, or_all}
+use Rattle.snow_boot.specs.Booting.{Going, ask_frontier, ask_accepted}
 use Rattle.snow_boot.specs.Calling.{AreDrawn}
-use Rattle.snow_boot.specs.Coursing.{boot_of, IsCourse, Comes}
+use Rattle.snow_boot.specs.Coursing.{boot_of, Comes}
 use Rattle.snow_boot.specs.Fetching.{Hunt}
 use Rattle.snow_boot.specs.Surveying.{Surveyed}
 use Rattle.snow_boot.proofs.Asked.{next_is, still_drawn}
-use Rattle.snow_boot.proofs.Followed.{comes_as}
-use Rattle.snow_boot.proofs.Tests.{clash}
 
 frontier_goes : question.Frontier ≡ question.Nothing → ⊥
 frontier_goes e = cc
@@ -39,9 +31,14 @@ frontier_asked s now hunt requests drawn number last held before after whole sta
     let same : number ≡ last = sym (is ∙ n.1) in
     let asks : Surveyed = record { nodes = s.nodes; question = question.Frontier; number = number; awaited = s.nodes; candidates = [] } in
     subst (λ (t : Surveyed). Comes (Ok stage.Going) before after t hunt requests drawn last held held (ask_frontier (boot_of s hunt.fetch requests) (next_number drawn))) (sym made)
-    (subst (λ o. Comes (Ok stage.Going) before after asks hunt requests drawn last held held (ask_frontier (boot_of s hunt.fetch requests) o)) next
-    (written, ap (λ m. (let o = Ok (Going (boot_of asks hunt.fetch requests) m) in o)) same, refl, record { whole = whole; settled = λ e. absurd (frontier_goes e) },
-    still_drawn requests drawn last (omega (arith, n.0, same)) are, stays))
+    (subst (λ o. Comes (Ok stage.Going) before after asks hunt requests drawn last held held (ask_frontier (boot_of s hunt.fetch requests) o)) next (
+      written,
+      ap (λ m. (let o = Ok (Going (boot_of asks hunt.fetch requests) m) in o)) same,
+      refl,
+      record { whole = whole; settled = λ e. absurd (frontier_goes e) },
+      still_drawn requests drawn last (omega (arith, n.0, same)) are,
+      stays,
+    ))
 
 -- all nodes were asked what they hold accepted
 pub accepted_asked : (s now : Surveyed) (hunt : Hunt) (requests : List Get) (drawn number last : ℕ) (held : Held) (before after : List Line) → hunt.whole ≡ true → held.last ≡ hunt.fetch.store.last → Some number ≡ next_number drawn
@@ -53,6 +50,11 @@ accepted_asked s now hunt requests drawn number last held before after whole sta
     let same : number ≡ last = sym (is ∙ n.1) in
     let asks : Surveyed = record { nodes = s.nodes; question = question.Accepted; number = number; awaited = s.nodes; candidates = s.candidates } in
     subst (λ (t : Surveyed). Comes (Ok stage.Going) before after t hunt requests drawn last held held (ask_accepted (boot_of s hunt.fetch requests) (next_number drawn))) (sym made)
-    (subst (λ o. Comes (Ok stage.Going) before after asks hunt requests drawn last held held (ask_accepted (boot_of s hunt.fetch requests) o)) next
-    (written, ap (λ m. (let o = Ok (Going (boot_of asks hunt.fetch requests) m) in o)) same, refl, record { whole = whole; settled = λ e. absurd (accepted_goes e) },
-    still_drawn requests drawn last (omega (arith, n.0, same)) are, stays))
+    (subst (λ o. Comes (Ok stage.Going) before after asks hunt requests drawn last held held (ask_accepted (boot_of s hunt.fetch requests) o)) next (
+      written,
+      ap (λ m. (let o = Ok (Going (boot_of asks hunt.fetch requests) m) in o)) same,
+      refl,
+      record { whole = whole; settled = λ e. absurd (accepted_goes e) },
+      still_drawn requests drawn last (omega (arith, n.0, same)) are,
+      stays,
+    ))

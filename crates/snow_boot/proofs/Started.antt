@@ -1,6 +1,6 @@
 -- Bootstrapping begins.
 use Rattle.std.proofs.Common.{◌≡◌, ℕ, true, List, [], Some, ap, ◌∙◌}
-use Rattle.std.specs.Prelude.{Result, Ok, Err}
+use Rattle.std.specs.Prelude.{Result, Err}
 use Rattle.snow_base.specs.Numbers.{next_number}
 use Rattle.snow_chain.specs.Chain.{Held}
 use Rattle.snow_issue.specs.declared.work.Get.{Get}

@@ -1,5 +1,5 @@
 -- What a store keeps of its blocks, with one block more; and what a target misses, by the runs of heights.
-use Rattle.std.proofs.Common.{◌≡◌, ℕ, zero, suc, ◌+◌, ◌^◌, ◌<◌, ◌≤◌, Bool, true, false, ◌==◌, ◌||◌, List, [], ◌∷◌, length, Option, Some, None, if◌then◌else◌, refl, sym, ap, subst, ◌∙◌, arith, eqb-true}
+use Rattle.std.proofs.Common.{◌≡◌, ℕ, zero, suc, ◌^◌, ◌<◌, Bool, true, false, ◌==◌, ◌||◌, List, [], ◌∷◌, Option, Some, None, if◌then◌else◌, refl, sym, ap, subst, ◌∙◌, arith, eqb-true}
 use Rattle.std.specs.BTreeMap.{BTreeMap}
 use Rattle.std.specs.Option.{option_map}
 use Rattle.std.specs.Prelude.{is_some, Ok}
@@ -11,7 +11,7 @@ use Rattle.snow_boot.specs.Keeping.{Store, held, highest, taken, keeping}
 use Rattle.snow_boot.specs.Linking.{IsLinked, held_heights}
 use Rattle.snow_boot.specs.Paths.{Fetch, path, last_of, wanted_below, missed_from, missed}
 use Rattle.snow_boot.specs.Indexing.{IsStored, HasPlaces, HasTops, HasChildren, top_of}
-use Rattle.snow_boot.proofs.Tests.{split_on, clash, none_not, same_some}
+use Rattle.snow_boot.proofs.Cases.{clash, none_not, same_some}
 use Rattle.snow_boot.proofs.Indexed.{turned}
 use Rattle.snow_boot.proofs.Holding.{highest_held}
 use Rattle.snow_boot.proofs.Linked.{keeps_facts, kept_linked}

@@ -1,14 +1,14 @@
 -- The lowest child at a wrong height, by the two lowest children.
-use Rattle.std.proofs.Common.{◌≡◌, ℕ, suc, ◌+◌, ◌<◌, ◌≤◌, Bool, true, false, ◌==◌, ◌&&◌, not, List, [], ◌∷◌, Option, Some, None, bytes_eq, nat_lt, ltb, if◌then◌else◌, ◌⊎◌, inl, inr, refl, sym, ap, subst, ◌∙◌, arith, eqb-true}
+use Rattle.std.proofs.Common.{◌≡◌, ℕ, ◌+◌, ◌<◌, Bool, true, false, ◌==◌, ◌&&◌, not, List, [], ◌∷◌, Option, Some, None, bytes_eq, nat_lt, if◌then◌else◌, ◌⊎◌, inl, inr, refl, sym, ap, subst, ◌∙◌, arith, eqb-true}
 use Rattle.std.specs.Option.{option_map, option_and_then}
 use Rattle.std.specs.Prelude.{is_some}
-use Rattle.std.proofs.lemmas.Bool.{ne_eqb, eq-eqb, lt-ltb, le-ltb, cases_order}
+use Rattle.std.proofs.lemmas.Bool.{ne_eqb, lt-ltb, le-ltb, cases_order}
 use Rattle.snow_boot.specs.declared.block.KeptBlock.{KeptBlock}
 use Rattle.snow_boot.specs.declared.index.Children.{Children}
 use Rattle.snow_boot.specs.Keeping.{held, lower, strays, stray}
 use Rattle.snow_boot.specs.Linking.{AreApart, held_heights}
 use Rattle.snow_boot.specs.Indexing.{lower_height, with_child, children_of, stray_height}
-use Rattle.snow_boot.proofs.Tests.{split_on, clash, same_some, not_none, none_not, picked}
+use Rattle.snow_boot.proofs.Cases.{split_on, clash, same_some, none_not, picked}
 use Rattle.snow_boot.proofs.Holding.{held_first, held_later}
 
 -- children are kept, the second one above the first

@@ -1,14 +1,12 @@
 -- How much weight may back a candidate while the nodes answer.
-use Rattle.std.proofs.Common.{◌≡◌, ℕ, ◌+◌, ◌-◌, ◌^◌, ◌<◌, ◌≤◌, Bool, true, false, not, List, [], ◌∷◌, ◌++◌, Option, Some, None, bytes_eq, find, if◌then◌else◌, refl, sym, ap, subst, ◌∙◌, arith}
-use Rattle.std.specs.List.{filter}
+use Rattle.std.proofs.Common.{◌≡◌, ℕ, ◌+◌, ◌-◌, ◌^◌, ◌<◌, ◌≤◌, Bool, true, false, not, List, [], ◌∷◌, ◌++◌, Some, bytes_eq, if◌then◌else◌, sym, subst, ◌∙◌, arith}
 use Rattle.std.specs.Option.{option_map}
 use Rattle.std.proofs.lemmas.List.Sums.{sum_by-cons}
 use Rattle.snow_sample.specs.declared.roster.Node.{Node}
 use Rattle.snow_sample.specs.Roster.{total_weight}
 use Rattle.snow_boot.specs.declared.question.Candidate.{Candidate}
-use Rattle.snow_boot.specs.declared.question.Question.{Question}
 use Rattle.snow_boot.specs.declared.question.Question.TheVariants as question
-use Rattle.snow_boot.specs.Electing.{awaits, still_awaited, is_collected, collected, backed_by, backed}
+use Rattle.snow_boot.specs.Electing.{awaits, still_awaited, is_collected, collected, backed}
 use Rattle.snow_boot.specs.Paths.{has_id}
 use Rattle.snow_boot.specs.Surveying.{Surveyed, AreWithin, IsSurvey}
 use Rattle.snow_boot.proofs.Tests.{none_not, same_some}
@@ -107,7 +105,7 @@ survey_backed s total node weight ids is waits asks =
       small = is.small;
       waits = omega (arith, less, most);
       backed = within_more ((total - total_weight s.awaited) + weight) (total - total_weight (still_awaited s.awaited node)) (backed weight ids s.candidates) (omega (arith, less, most))
-      (within_backed (total - total_weight s.awaited) weight ids s.candidates is.backed);
+          (within_backed (total - total_weight s.awaited) weight ids s.candidates is.backed);
       fresh = λ e. absurd (other (sym asks ∙ e));
     }
   where

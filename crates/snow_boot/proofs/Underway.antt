@@ -1,6 +1,5 @@
 -- Lines that are written one after another: what is still to be done makes of what was done the whole.
 use Rattle.std.proofs.Common.{◌≡◌, ℕ, suc, ◌+◌, ◌<◌, List, [], ◌∷◌, ◌++◌, length, get_or, drop, drop-cons, arith, refl, sym, ap, ◌∙◌, append_assoc, append-nil}
-use Rattle.std.specs.Prelude.{Result}
 use Rattle.snow_lines.specs.declared.line.Line.{Line}
 use Rattle.snow_boot.specs.Calling.{LogsFront}
 
@@ -27,9 +26,10 @@ goes_on {R = R} before now after lines rest next whole u more is = record {
 -- all is done, or it stops
 pub stops_here : {R : Type 0} (before now after lines : List Line) (end : R) (rest whole : List Line × R) → IsUnderway before now rest whole → after ≡ now ++ lines → rest ≡ (lines, end)
     → (after ≡ before ++ whole.0) × (whole.1 ≡ end)
-stops_here {R = R} before now after lines end rest whole u more is =
-    (more ∙ ap (λ l. l ++ lines) u.grown ∙ append_assoc before u.done lines ∙ ap (λ (r : List Line × R). before ++ (u.done ++ r.0)) (sym is) ∙ ap (λ l. before ++ l) u.lines,
-    sym u.ends ∙ ap (λ (r : List Line × R). r.1) is)
+stops_here {R = R} before now after lines end rest whole u more is = (
+  more ∙ ap (λ l. l ++ lines) u.grown ∙ append_assoc before u.done lines ∙ ap (λ (r : List Line × R). before ++ (u.done ++ r.0)) (sym is) ∙ ap (λ l. before ++ l) u.lines,
+  sym u.ends ∙ ap (λ (r : List Line × R). r.1) is,
+)
 
 -- memory runs out
 pub runs_out : {R : Type 0} (before now after lines more : List Line) (rest whole : List Line × R) → IsUnderway before now rest whole → rest.0 ≡ lines ++ more → LogsFront now after lines

@@ -1,5 +1,5 @@
 -- What the execution of a path owes, where memory may run out.
-use Rattle.std.specs.Prelude.{◌≡◌, ℕ, List, [], ◌∷◌, ◌++◌, Option, Some, None, Result, Ok, Err, nat_lt, if◌then◌else◌}
+use Rattle.std.specs.Prelude.{◌≡◌, ℕ, List, [], ◌∷◌, ◌++◌, Option, Some, None, Result, Ok, Err}
 use Rattle.snow_chain.specs.Chain.{Rules, Held}
 use Rattle.snow_lines.specs.declared.line.Line.{Line}
 use Rattle.snow_lines.specs.declared.line.Line.TheVariants as line

@@ -7,7 +7,7 @@ use Rattle.std.specs.Ordering.{nat_cmp}
 use Rattle.snow_interval.specs.Heights.{Heights}
 use Rattle.snow_boot.specs.declared.block.KeptBlock.{KeptBlock}
 use Rattle.snow_boot.specs.declared.index.Children.{Children}
-use Rattle.snow_boot.specs.Keeping.{Store, held, highest}
+use Rattle.snow_boot.specs.Keeping.{Store, highest}
 use Rattle.snow_boot.specs.Linking.{IsLinked, held_heights}
 
 -- whether all is kept as it should be, and the kept blocks

@@ -5,11 +5,10 @@ ghost use Rattle.snow_boot.specs.Calling.{MayGoOn, OnGoing, OnDone, Brings, Begi
 ghost use Rattle.snow_boot.specs.Coursing.{is_going};
 
 use crate::fetching::Fetching;
-use crate::hearing;
-use crate::inquiring;
 use crate::stage::Stage;
 use crate::stop::BootStop;
 use crate::survey::Survey;
+use crate::{hearing, inquiring};
 use snow_base::{Blocks, Bytes, Id, Ids, NodeId, Numbers};
 use snow_chain::Chain;
 use snow_interval::Kept;

@@ -3,13 +3,12 @@ ghost use Rattle.snow_boot.specs.Booting.{followed};
 ghost use Rattle.snow_boot.specs.Calling.{AreDrawn, IsAlone, last_state};
 ghost use Rattle.snow_boot.specs.Coursing.{boot_of, Comes};
 
-use crate::asking;
-use crate::executing;
 use crate::fetching::Fetching;
 use crate::question::Question;
 use crate::stage::Stage;
 use crate::stop::BootStop;
 use crate::survey::Survey;
+use crate::{asking, executing};
 use snow_base::Numbers;
 use snow_chain::Chain;
 use snow_interval::Kept;

@@ -29,11 +29,7 @@ pub(crate) fn note_place(
 }
 
 // The highest height of a block's identifier is found.
-pub(crate) fn note_top(
-    tops: &mut BTreeMap<Id, u64>,
-    id: Id,
-    height: u64,
-) -> Result<(), AllocError>
+pub(crate) fn note_top(tops: &mut BTreeMap<Id, u64>, id: Id, height: u64) -> Result<(), AllocError>
     ensures { OnOk result ((kept : List KeptBlock) (b : KeptBlock) → b.header.id ≡ id → b.header.height ≡ height → HasTops tops.old kept → HasTops tops.new (b ∷ kept)) }
 {
     let top = higher(height, tops.get(&id).copied());

@@ -106,7 +106,15 @@ fn collected<C: Chain, H: Kept>(
     if survey.has_named() {
         return ask_accepted(survey, fetching, requests, chain, numbers, log);
     }
-    restart(RestartWhy::Frontier, survey, fetching, requests, chain, numbers, log)
+    restart(
+        RestartWhy::Frontier,
+        survey,
+        fetching,
+        requests,
+        chain,
+        numbers,
+        log,
+    )
 }
 
 // All nodes have named what they hold accepted.
@@ -127,7 +135,15 @@ fn elected<C: Chain, H: Kept>(
 {
     let targets = survey.targets()?;
     if targets.is_empty() {
-        return restart(RestartWhy::Accepted, survey, fetching, requests, chain, numbers, log);
+        return restart(
+            RestartWhy::Accepted,
+            survey,
+            fetching,
+            requests,
+            chain,
+            numbers,
+            log,
+        );
     }
     survey.close();
     fetching.aim(targets);

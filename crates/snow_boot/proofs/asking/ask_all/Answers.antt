@@ -1,5 +1,5 @@
 -- One target after another is asked for.
-use Rattle.std.proofs.Common.{◌≡◌, ◌+◌, ◌∷◌, drop, arith, subst, sym}
+use Rattle.std.proofs.Common.{◌≡◌, ◌+◌, ◌∷◌, drop, arith, subst}
 use Rattle.std.specs.Prelude.{Ok, Err}
 use Rattle.std.proofs.lemmas.List.{drop_all}
 use Rattle.snow_boot.specs.Asking.{asked_one, asked}

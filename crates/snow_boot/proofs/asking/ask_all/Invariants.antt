@@ -1,5 +1,5 @@
 -- What is still to be asked for makes the whole of what was.
-use Rattle.std.proofs.Common.{◌≡◌, true, drop}
+use Rattle.std.proofs.Common.{drop}
 use Rattle.snow_boot.specs.Asking.{asked}
 use Rattle.snow_boot.specs.Calling.{AreDrawn}
 use Rattle.snow_boot.proofs.Underway.{IsUnderway}

@@ -1,10 +1,6 @@
 -- The number is the next one, and no open request has it.
-use Rattle.std.proofs.Common.{◌≡◌, ◌+◌, ◌≤◌, ◌++◌, Some, sym, subst, ap, ◌∙◌, arith}
-use Rattle.snow_issue.specs.declared.work.Get.{Get}
-use Rattle.snow_boot.specs.Asking.{asked_node, asked_with}
-use Rattle.snow_boot.specs.Calling.{AreDrawn}
-use Rattle.snow_boot.specs.Requesting.{Asks}
-use Rattle.snow_boot.proofs.Asked.{not_drawn, still_drawn, drawn_with, next_is, opened}
+use Rattle.std.proofs.Common.{◌∙◌, arith}
+use Rattle.snow_boot.proofs.Asked.{not_drawn, next_is, opened}
 use Rattle.snow_boot.proofs.asking.ask_for.Goals as goal
 
 pub open-requires-clause-number : goal.open-requires-clause-number

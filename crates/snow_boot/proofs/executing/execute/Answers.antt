@@ -1,10 +1,7 @@
 -- One height after another is executed.
-use Rattle.std.proofs.Common.{◌≡◌, ◌+◌, ◌-◌, ◌≤◌, arith, subst, sym, ap, ◌∙◌}
+use Rattle.std.proofs.Common.{arith, subst}
 use Rattle.std.specs.Prelude.{Ok, Err}
 use Rattle.snow_boot.specs.Accepting.{Executes}
-use Rattle.snow_boot.specs.Calling.{last_state}
-use Rattle.snow_boot.specs.Executing.{executed}
-use Rattle.snow_boot.specs.Linking.{upward}
 use Rattle.snow_boot.proofs.Accepted.{left_of, executes_on, execution_stops, execution_ends}
 use Rattle.snow_boot.proofs.executing.execute.Goals as goal
 
@@ -25,10 +22,13 @@ loop-height-preserved g c =
     let s = c.args.store.now.store in
     let old = g.C.Chain.held c.loop-height.chain in
     let now = g.C.Chain.held c.execute_at.new.chain in
-    let begun = g.C.Chain.held c.args.chain.now in
-    (executes_on g.C.Chain.rules s.kept old now c.loop-height.below c.in-Ok.next c.loop-height.height c.args.top c.args.log.now c.loop-height.log c.execute_at.new.log
-    (left_of g.C.Chain.rules s.kept begun c.last-below.result c.height-height.result c.args.top) c.loop-height-test.true c.loop-height.invariant.1 c.loop-height.invariant.0
-    c.in-Ok.ensures, c.in-Ok.ensures.1, c.in-Ok.ensures.2)
+    let begun = g.C.Chain.held c.args.chain.now in (
+      executes_on g.C.Chain.rules s.kept old now c.loop-height.below c.in-Ok.next c.loop-height.height c.args.top c.args.log.now c.loop-height.log c.execute_at.new.log
+          (left_of g.C.Chain.rules s.kept begun c.last-below.result c.height-height.result c.args.top) c.loop-height-test.true c.loop-height.invariant.1 c.loop-height.invariant.0
+          c.in-Ok.ensures,
+      c.in-Ok.ensures.1,
+      c.in-Ok.ensures.2,
+    )
 
 pub returns : goal.returns
 returns g c =

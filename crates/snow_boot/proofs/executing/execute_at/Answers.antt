@@ -1,5 +1,4 @@
 -- There is a block, which is accepted or refused.
-use Rattle.std.proofs.Common.{Some}
 use Rattle.snow_boot.proofs.Accepted.{refuses_at, accepts_at}
 use Rattle.snow_boot.specs.Keeping.{held}
 use Rattle.snow_boot.proofs.executing.execute_at.Goals as goal

@@ -9,9 +9,12 @@ verify-requires g c =
     may_verify (g.C.Chain.held c.args.chain.now) c.args.below.now c.args.block.now.header.id c.requires.alone c.requires.last (sym c.eq.ensures ∙ c.if-eq.false)
 
 pub returns-then-not-branch : goal.returns-then-not-branch
-returns-then-not-branch g c =
-    (has_none g.C.Chain.rules (g.C.Chain.held c.args.chain.now) c.args.below.now c.args.block.now c.in_ok-verify.field-0 c.requires.alone c.requires.last
-    (rw c.list.ensures at c.in_ok-verify.ensures.valid) c.if-not-branch.true, refl, refl)
+returns-then-not-branch g c = (
+  has_none g.C.Chain.rules (g.C.Chain.held c.args.chain.now) c.args.below.now c.args.block.now c.in_ok-verify.field-0 c.requires.alone c.requires.last
+      (rw c.list.ensures at c.in_ok-verify.ensures.valid) c.if-not-branch.true,
+  refl,
+  refl,
+)
 
 pub accept-requires : goal.accept-requires
 accept-requires g c =

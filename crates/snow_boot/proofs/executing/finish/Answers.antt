@@ -1,5 +1,5 @@
 -- The path of the highest kept target has a block at each height.
-use Rattle.std.proofs.Common.{◌≡◌, ℕ, ◌+◌, ◌-◌, List, [], append-nil, refl, sym, ap, subst, ◌∙◌}
+use Rattle.std.proofs.Common.{◌+◌, ◌-◌, [], append-nil, refl, sym, ap, subst, ◌∙◌}
 use Rattle.std.specs.Prelude.{Ok, Err}
 use Rattle.snow_boot.specs.Accepting.{Concludes}
 use Rattle.snow_boot.specs.Booting.{Outcome, ended}

@@ -1,5 +1,4 @@
 -- The node's answer is awaited, or nobody waits for it.
-use Rattle.std.proofs.Common.{sym, ◌∙◌}
 use Rattle.std.specs.Prelude.{Ok}
 use Rattle.snow_boot.specs.declared.stage.Stage.TheVariants as stage
 use Rattle.snow_boot.specs.Booting as model

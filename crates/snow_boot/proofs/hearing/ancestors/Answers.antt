@@ -1,6 +1,5 @@
 -- The reply is to an open request, or nobody waits for it.
-use Rattle.std.proofs.Common.{◌≡◌, sym, ap, ◌∙◌}
-use Rattle.std.specs.Prelude.{Ok, Err}
+use Rattle.std.proofs.Common.{sym, ◌∙◌}
 use Rattle.snow_boot.specs.Booting as model
 use Rattle.snow_boot.specs.Calling.{last_state}
 use Rattle.snow_boot.specs.Coursing.{boot_of}

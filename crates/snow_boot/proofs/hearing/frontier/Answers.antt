@@ -1,5 +1,5 @@
 -- The node's answer is awaited, or nobody waits for it.
-use Rattle.std.proofs.Common.{◌≡◌, true, false, sym, ap, ◌∙◌}
+use Rattle.std.proofs.Common.{sym, ap}
 use Rattle.std.specs.Prelude.{Ok, is_none}
 use Rattle.snow_boot.specs.declared.stage.Stage.TheVariants as stage
 use Rattle.snow_boot.specs.Booting as model

@@ -1,6 +1,4 @@
 -- The bytes are those of a block, or are passed over.
-use Rattle.std.proofs.Common.{◌≡◌, sym, ap, ◌∙◌}
-use Rattle.std.specs.Prelude.{Ok, Err}
 use Rattle.snow_boot.specs.Booting as model
 use Rattle.snow_boot.specs.Calling.{last_state}
 use Rattle.snow_boot.specs.Coursing.{boot_of}

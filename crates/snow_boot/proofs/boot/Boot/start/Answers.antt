@@ -1,12 +1,10 @@
 -- All nodes are asked for their frontier, and nothing is kept yet.
-use Rattle.std.proofs.Common.{◌≡◌, ℕ, true, List, [], ◌∷◌, refl, sym, ap, subst, ◌∙◌}
-use Rattle.std.specs.Prelude.{Result, Ok, Err}
+use Rattle.std.proofs.Common.{◌≡◌, ℕ, List, [], ◌∷◌, sym, ap}
+use Rattle.std.specs.Prelude.{Ok, Err}
 use Rattle.snow_chain.specs.Chain.{Held, begun}
 use Rattle.snow_issue.specs.declared.work.Get.{Get}
 use Rattle.snow_boot.specs.declared.stage.Stage.TheVariants as stage
-use Rattle.snow_boot.specs.declared.stop.BootStop.{BootStop}
 use Rattle.snow_boot.specs.Booting as model
-use Rattle.snow_boot.specs.Coursing.{Comes}
 use Rattle.snow_boot.specs.Fetching.{Hunt}
 use Rattle.snow_boot.specs.Calling.{AreDrawn}
 use Rattle.snow_boot.proofs.Started.{starts, stops_first, logs_first}

@@ -7,6 +7,8 @@ use Rattle.snow_boot.proofs.fetching.Fetching.reply.Goals as goal
 
 pub returns : goal.returns
 returns g c =
-    let left = drop_all c.loop-bytes.bytes-index c.args.blocks.now (omega (arith, c.loop-bytes-test.false)) in
-    (c.loop-bytes.invariant.0, sym c.loop-bytes.invariant.1 ∙ ap (replied g.C.Chain.rules.header_of c.loop-bytes.self.fetch c.loop-bytes.wanted) left
-    ∙ nothing_came g.C.Chain.rules.header_of c.loop-bytes.self.fetch c.loop-bytes.wanted)
+    let left = drop_all c.loop-bytes.bytes-index c.args.blocks.now (omega (arith, c.loop-bytes-test.false)) in (
+      c.loop-bytes.invariant.0,
+      sym c.loop-bytes.invariant.1 ∙ ap (replied g.C.Chain.rules.header_of c.loop-bytes.self.fetch c.loop-bytes.wanted) left
+          ∙ nothing_came g.C.Chain.rules.header_of c.loop-bytes.self.fetch c.loop-bytes.wanted,
+    )

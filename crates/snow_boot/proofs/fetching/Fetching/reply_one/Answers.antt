@@ -18,24 +18,30 @@ returns-then-ne g c =
 
 pub returns-in-Ok-Low : goal.returns-in-Ok-Low
 returns-in-Ok-Low g c =
-    let same : bytes_eq c.in-Some.header.id c.args.wanted ≡ true = not-false (bytes_eq c.in-Some.header.id c.args.wanted) (sym c.ne.ensures ∙ c.if-ne.false) in
-    (ap (λ (v : Hunt). v.whole) c.in-Ok-Low.ensures.fetch, λ blocks.
-    takes_on g.C.Chain.rules.header_of c.args.self.now.fetch c.args.wanted c.args.bytes.now c.in-Some.header (sym c.in-Some.ensures) same verdict.Low (rw c.in-Ok-Low.field-0-is at c.in-Ok-Low.ensures.answer) blocks
-    ∙ ap (λ (v : Hunt). Ok v.fetch) (sym (rw c.in-Ok-Low.field-0-is at c.in-Ok-Low.ensures.fetch)))
+    let same : bytes_eq c.in-Some.header.id c.args.wanted ≡ true = not-false (bytes_eq c.in-Some.header.id c.args.wanted) (sym c.ne.ensures ∙ c.if-ne.false) in (
+      ap (λ (v : Hunt). v.whole) c.in-Ok-Low.ensures.fetch,
+      λ blocks.
+          takes_on g.C.Chain.rules.header_of c.args.self.now.fetch c.args.wanted c.args.bytes.now c.in-Some.header (sym c.in-Some.ensures) same verdict.Low (rw c.in-Ok-Low.field-0-is at c.in-Ok-Low.ensures.answer) blocks
+          ∙ ap (λ (v : Hunt). Ok v.fetch) (sym (rw c.in-Ok-Low.field-0-is at c.in-Ok-Low.ensures.fetch)),
+    )
 
 pub returns-in-Ok-Known : goal.returns-in-Ok-Known
 returns-in-Ok-Known g c =
-    let same : bytes_eq c.in-Some.header.id c.args.wanted ≡ true = not-false (bytes_eq c.in-Some.header.id c.args.wanted) (sym c.ne.ensures ∙ c.if-ne.false) in
-    (ap (λ (v : Hunt). v.whole) c.in-Ok-Known.ensures.fetch, λ blocks.
-    takes_on g.C.Chain.rules.header_of c.args.self.now.fetch c.args.wanted c.args.bytes.now c.in-Some.header (sym c.in-Some.ensures) same verdict.Known (rw c.in-Ok-Known.field-0-is at c.in-Ok-Known.ensures.answer) blocks
-    ∙ ap (λ (v : Hunt). replied g.C.Chain.rules.header_of v.fetch c.in-Some.header.parent blocks) (sym (rw c.in-Ok-Known.field-0-is at c.in-Ok-Known.ensures.fetch)))
+    let same : bytes_eq c.in-Some.header.id c.args.wanted ≡ true = not-false (bytes_eq c.in-Some.header.id c.args.wanted) (sym c.ne.ensures ∙ c.if-ne.false) in (
+      ap (λ (v : Hunt). v.whole) c.in-Ok-Known.ensures.fetch,
+      λ blocks.
+          takes_on g.C.Chain.rules.header_of c.args.self.now.fetch c.args.wanted c.args.bytes.now c.in-Some.header (sym c.in-Some.ensures) same verdict.Known (rw c.in-Ok-Known.field-0-is at c.in-Ok-Known.ensures.answer) blocks
+          ∙ ap (λ (v : Hunt). replied g.C.Chain.rules.header_of v.fetch c.in-Some.header.parent blocks) (sym (rw c.in-Ok-Known.field-0-is at c.in-Ok-Known.ensures.fetch)),
+    )
 
 pub returns-in-Ok-Keeps : goal.returns-in-Ok-Keeps
 returns-in-Ok-Keeps g c =
-    let same : bytes_eq c.in-Some.header.id c.args.wanted ≡ true = not-false (bytes_eq c.in-Some.header.id c.args.wanted) (sym c.ne.ensures ∙ c.if-ne.false) in
-    (ap (λ (v : Hunt). v.whole) c.in-Ok-Keeps.ensures.fetch, λ blocks.
-    takes_on g.C.Chain.rules.header_of c.args.self.now.fetch c.args.wanted c.args.bytes.now c.in-Some.header (sym c.in-Some.ensures) same verdict.Keeps (rw c.in-Ok-Keeps.field-0-is at c.in-Ok-Keeps.ensures.answer) blocks
-    ∙ ap (λ (v : Hunt). replied g.C.Chain.rules.header_of v.fetch c.in-Some.header.parent blocks) (sym (rw c.in-Ok-Keeps.field-0-is at c.in-Ok-Keeps.ensures.fetch)))
+    let same : bytes_eq c.in-Some.header.id c.args.wanted ≡ true = not-false (bytes_eq c.in-Some.header.id c.args.wanted) (sym c.ne.ensures ∙ c.if-ne.false) in (
+      ap (λ (v : Hunt). v.whole) c.in-Ok-Keeps.ensures.fetch,
+      λ blocks.
+          takes_on g.C.Chain.rules.header_of c.args.self.now.fetch c.args.wanted c.args.bytes.now c.in-Some.header (sym c.in-Some.ensures) same verdict.Keeps (rw c.in-Ok-Keeps.field-0-is at c.in-Ok-Keeps.ensures.answer) blocks
+          ∙ ap (λ (v : Hunt). replied g.C.Chain.rules.header_of v.fetch c.in-Some.header.parent blocks) (sym (rw c.in-Ok-Keeps.field-0-is at c.in-Ok-Keeps.ensures.fetch)),
+    )
 
 pub returns-in-Err : goal.returns-in-Err
 returns-in-Err g c =

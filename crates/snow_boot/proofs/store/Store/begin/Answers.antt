@@ -1,5 +1,4 @@
 -- Nothing is kept.
-use Rattle.std.proofs.Common.{rules}
 use Rattle.snow_boot.proofs.Indexed.{no_places, no_tops, no_children}
 use Rattle.snow_boot.proofs.Storing.{none_stored}
 use Rattle.snow_boot.proofs.store.Store.begin.Goals as goal

@@ -4,7 +4,7 @@ use Rattle.std.specs.Prelude.{is_some, Ok}
 use Rattle.std.proofs.lemmas.List.{reverse-append, length-reverse}
 use Rattle.snow_boot.specs.declared.block.KeptBlock.{KeptBlock}
 use Rattle.snow_boot.specs.declared.verdict.Verdict.TheVariants as verdict
-use Rattle.snow_boot.specs.Indexing.{Shelf, IsStored}
+use Rattle.snow_boot.specs.Indexing.{Shelf}
 use Rattle.snow_boot.specs.Keeping.{Store, taken}
 use Rattle.snow_boot.proofs.Linked.{keeps_facts}
 use Rattle.snow_boot.proofs.Storing.{stored_more}

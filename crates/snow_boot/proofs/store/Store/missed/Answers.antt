@@ -1,6 +1,6 @@
 -- The lowest block of the run below a kept target.
-use Rattle.std.proofs.Common.{◌≡◌, List, ℕ, Some, None, reverse, sym, ap, subst, ◌∙◌}
-use Rattle.snow_boot.specs.Indexing.{Shelf, top_of}
+use Rattle.std.proofs.Common.{◌≡◌, Some, None, reverse, sym, ap, ◌∙◌}
+use Rattle.snow_boot.specs.Indexing.{Shelf}
 use Rattle.snow_boot.specs.Keeping.{Store, held, highest}
 use Rattle.snow_boot.specs.Paths.{wanted_below, missed_from}
 use Rattle.snow_boot.proofs.Storing.{top_held, missed_kept}

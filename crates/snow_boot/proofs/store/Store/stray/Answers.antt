@@ -1,5 +1,5 @@
 -- The two lowest children tell the lowest one at a wrong height.
-use Rattle.std.proofs.Common.{◌≡◌, ℕ, Option, Some, None, reverse, sym, ap, ◌∙◌}
+use Rattle.std.proofs.Common.{◌≡◌, Some, None, reverse, sym, ap, ◌∙◌}
 use Rattle.std.specs.Option.{option_and_then}
 use Rattle.snow_boot.specs.Indexing.{Shelf, stray_height, children_of}
 use Rattle.snow_boot.specs.Keeping.{held, stray}

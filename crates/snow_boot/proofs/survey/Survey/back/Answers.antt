@@ -1,8 +1,8 @@
 -- One node less is awaited, and its weight backs what it named.
-use Rattle.std.proofs.Common.{◌≡◌, Some, sym, ap, subst, ◌∙◌}
+use Rattle.std.proofs.Common.{◌≡◌, Some, sym, ap, ◌∙◌}
 use Rattle.std.specs.Option.{option_map}
 use Rattle.snow_boot.specs.declared.question.Question.TheVariants as question
-use Rattle.snow_boot.specs.Electing.{awaits, backed}
+use Rattle.snow_boot.specs.Electing.{awaits}
 use Rattle.snow_boot.specs.Surveying.{Surveyed}
 use Rattle.snow_boot.proofs.Surveyed.{survey_backed, small_weight, small_backing}
 use Rattle.snow_boot.proofs.survey.Survey.back.Goals as goal

@@ -1,0 +1,51 @@
+-- Lemmas on what is kept of a block when a poll comes to it.
+use Rattle.std.proofs.Common.{◌≡◌, ℕ, zero, suc, ◌+◌, ◌<◌, ◌≤◌, Bool, true, false, List, [], ◌∷◌, Option, Some, None, slice_get, IfSome, sum_by, refl, sym, ap, subst, ◌∙◌, arith, if◌then◌else◌}
+use Rattle.std.specs.Bool.{beq}
+use Rattle.std.specs.List.{starts_with}
+use Rattle.std.specs.Option.{option_map}
+use Rattle.std.proofs.lemmas.List.Sums.{sum_by-cons}
+use Rattle.std.proofs.lemmas.Option.{none-some}
+use Rattle.snow_base.specs.declared.vote.Vote.{Vote}
+use Rattle.snow_base.specs.Identifier.{bits}
+use Rattle.snow_base.specs.Votes.{total_count}
+use Rattle.snow_flake.specs.Parameters.{Parameters, AreGood}
+use Rattle.snow_plain.specs.Conflict.{all_polled, votes_on}
+use Rattle.snow_plain.proofs.Cases.{split_on}
+use Rattle.snow_plain.proofs.Failing.{few_fail}
+use Rattle.snow_tree.specs.Held.{Entry, Held, set_load, with_load}
+use Rattle.snow_topo.specs.Kept.{Kept, shown, IsFit}
+use Rattle.snow_topo.proofs.Stamped.{later}
+
+-- the entry whose load was read
+pub entry_read : (o : Option (Entry Kept)) (load : Kept) → option_map (λ e. e.load) o ≡ Some load → (e : Entry Kept) × (o ≡ Some e) × (e.load ≡ load)
+entry_read None load h = absurd (none-some load h)
+entry_read (Some e) load h = (e, refl, cc)
+
+-- writing the load that is there changes nothing
+pub same_load : (pending : List (Entry Kept)) (at : ℕ) (e : Entry Kept) → slice_get pending at ≡ Some e → set_load pending at e.load ≡ pending
+same_load [] at e h = refl
+same_load (x ∷ pending) zero e h = let same : x ≡ e = cc in ap (λ (y : Entry Kept). record x { load = y.load } ∷ pending) (sym same)
+same_load (x ∷ pending) (suc at) e h = ap (λ l. x ∷ l) (same_load pending at e h)
+
+-- no more votes begin so than there are
+few_on : (votes : List Vote) (front : List Bool) → votes_on votes front ≤ total_count votes
+few_on [] front = omega arith
+few_on (v ∷ votes) front =
+    let f : Vote → ℕ = λ v. if starts_with beq (bits v.id) front then v.count else 0 in
+    let rest = few_on votes front in
+    split_on (starts_with beq (bits v.id) front)
+    (λ t. let own : f v ≡ v.count = rw t refl in omega (arith, rest, own, sum_by-cons f v votes, sum_by-cons (λ v. v.count) v votes))
+    (λ t. let own : f v ≡ 0 = rw t refl in omega (arith, rest, own, sum_by-cons f v votes, sum_by-cons (λ v. v.count) v votes))
+
+-- where there is no quorum nothing is recorded
+pub left_alone : (p : Parameters) (polls : ℕ) (children : List (List ℕ)) (kept : Kept) (votes : List Vote) → AreGood p → IsFit p polls children kept → total_count votes < p.alpha_preference
+    → (shown p (polls + 1) kept ≡ all_polled p (votes_on votes) (shown p polls kept)) × IsFit p (polls + 1) children kept
+left_alone p polls children kept votes good fit few = (
+  later p polls kept good fit.past ∙ sym (few_fail p (votes_on votes) (shown p polls kept) (λ front. omega (arith, few, few_on votes front))),
+  record { past = omega (arith, fit.past); parameters = fit.parameters; ids = fit.ids },
+)
+
+-- what is so of the entry there, where that follows from what is known of it
+pub if_some : (o : Option (Entry Kept)) (P Q : Entry Kept → Type 0) → ((e : Entry Kept) → (o ≡ Some e) × P e → Q e) → IfSome o P → IfSome o Q
+if_some None P Q step h = tt
+if_some (Some e) P Q step h = step e (refl, h)
