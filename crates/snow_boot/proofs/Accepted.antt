@@ -15,7 +15,7 @@ use Rattle.snow_boot.specs.Keeping.{held}
 use Rattle.snow_boot.specs.Linking.{listed, upward}
 use Rattle.snow_boot.specs.OutcomeLaw.{accept_lines}
 use Rattle.snow_boot.proofs.Alone.{next_there, accepted_alone, begun_alone, may_accept}
-use Rattle.snow_boot.proofs.Tests.{clash}
+use Rattle.snow_boot.proofs.Cases.{clash}
 use Rattle.snow_boot.proofs.Underway.{IsUnderway, goes_on, stops_here, runs_out}
 
 -- the block has a state on the last accepted one

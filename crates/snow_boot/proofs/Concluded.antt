@@ -20,7 +20,7 @@ use Rattle.snow_boot.specs.Keeping.{highest}
 use Rattle.snow_boot.specs.Linking.{IsLinked, upward}
 use Rattle.snow_boot.specs.Paths.{Fetch, is_whole, higher_of, highest_target}
 use Rattle.snow_boot.proofs.Indexed.{higher_is}
-use Rattle.snow_boot.proofs.Tests.{none_not, same_some}
+use Rattle.snow_boot.proofs.Cases.{none_not, same_some}
 use Rattle.snow_boot.proofs.Whole.{whole_path}
 
 -- ---- the highest height

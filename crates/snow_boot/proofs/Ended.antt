@@ -11,7 +11,7 @@ use Rattle.snow_boot.specs.Paths.{is_whole, highest_target}
 use Rattle.snow_boot.specs.Booting.{Boot, fetch_of, with_requests, ended, finished, height_or, followed_by, followed}
 use Rattle.snow_boot.specs.OutcomeLaw.{IsExecution, whole_path_of, IsEnd}
 use Rattle.snow_boot.proofs.Executed.{in_order}
-use Rattle.snow_boot.proofs.Tests.{clash}
+use Rattle.snow_boot.proofs.Cases.{clash}
 
 -- the path is executed
 end_of_path : (boot : Boot) (e : Executed) → is_whole (fetch_of boot) ≡ true → IsExecution boot.store.last (whole_path_of boot) e

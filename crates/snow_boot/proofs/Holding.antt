@@ -3,7 +3,7 @@ use Rattle.std.proofs.Common.{◌≡◌, ℕ, ◌<◌, Bool, true, false, ◌==�
 use Rattle.snow_boot.specs.declared.block.KeptBlock.{KeptBlock}
 use Rattle.snow_boot.specs.Keeping.{held, highest, higher}
 use Rattle.snow_boot.specs.Linking.{AreApart, AreAbove}
-use Rattle.snow_boot.proofs.Tests.{split_on, same_id, same_some, none_not, picked}
+use Rattle.snow_boot.proofs.Cases.{split_on, same_id, same_some, none_not, picked}
 
 -- the block at a height has it
 pub held_height : (kept : List KeptBlock) (h : ℕ) (b : KeptBlock) → held kept h ≡ Some b → b.header.height ≡ h

@@ -1,6 +1,7 @@
 mod Accepted
 mod Alone
 mod Asked
+mod Cases
 mod Concluded
 mod Ended
 mod Examples
@@ -19,7 +20,6 @@ mod Started
 mod Storing
 mod Straying
 mod Surveyed
-mod Tests
 mod Underway
 mod Walking
 mod Whole

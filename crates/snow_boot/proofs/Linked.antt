@@ -11,7 +11,7 @@ use Rattle.snow_boot.specs.declared.verdict.Verdict.{Verdict}
 use Rattle.snow_boot.specs.declared.verdict.Verdict.TheVariants as verdict
 use Rattle.snow_boot.specs.Keeping.{Store, held, stray, unless, child_stop, fork_stop, below_stop, above_stop, misplaced, placed, most_kept, taken, keeping}
 use Rattle.snow_boot.specs.Linking.{IsLinked}
-use Rattle.snow_boot.proofs.Tests.{split_on, same_id, same_some, not_none, none_not, picked}
+use Rattle.snow_boot.proofs.Cases.{split_on, same_id, same_some, not_none, none_not, picked}
 
 -- what is known of a block that is kept
 pub record IsPlaced (s : Store) (b : Header) : Type 0 where

@@ -10,7 +10,7 @@ use Rattle.snow_boot.specs.declared.stop.BootStop.{BootStop}
 use Rattle.snow_boot.specs.Paths.{Fetch, missed}
 use Rattle.snow_boot.specs.Asking.{Asked, asked_node, asked_with, asked_one, and_asked, asked}
 use Rattle.snow_boot.specs.OutcomeLaw.{AreAsked}
-use Rattle.snow_boot.proofs.Tests.{clash, id_same}
+use Rattle.snow_boot.proofs.Cases.{clash, id_same}
 use Rattle.snow_boot.proofs.Whole.{first_or, later, first}
 
 -- what two askings gave, one after the other

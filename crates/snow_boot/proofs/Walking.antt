@@ -8,7 +8,7 @@ use Rattle.snow_boot.specs.Keeping.{Store, held}
 use Rattle.snow_boot.specs.Paths.{path, last_of}
 use Rattle.snow_boot.specs.Linking.{IsLinked, held_heights, listed, upward}
 use Rattle.std.proofs.lemmas.Bool.Decides.{leb_tells}
-use Rattle.snow_boot.proofs.Tests.{split_on, id_same}
+use Rattle.snow_boot.proofs.Cases.{split_on, id_same}
 use Rattle.snow_boot.proofs.Holding.{held_height, held_above}
 
 -- a block, or none

@@ -8,7 +8,7 @@ use Rattle.snow_boot.specs.declared.block.KeptBlock.{KeptBlock}
 use Rattle.snow_boot.specs.Keeping.{held, highest, higher}
 use Rattle.snow_boot.specs.Paths.{Fetch, path, last_of, wanted_below, has_id, missed_from, missed, is_whole, higher_of, highest_target}
 use Rattle.snow_boot.specs.Linking.{IsLinked, held_heights, upward, IsWholePath}
-use Rattle.snow_boot.proofs.Tests.{clash, same_id, id_same, same_some, not_none, none_not}
+use Rattle.snow_boot.proofs.Cases.{clash, same_id, id_same, same_some, not_none, none_not}
 use Rattle.snow_boot.proofs.Holding.{held_height, held_above, highest_held}
 use Rattle.snow_boot.proofs.Walking.{bottom, path_upward, run_held, at_most}
 

@@ -29,3 +29,6 @@ pub use question::{Candidate, Question};
 pub use stage::Stage;
 pub use stop::BootStop;
 pub use verdict::Verdict;
+
+#[cfg(test)]
+mod tests;
