@@ -1,6 +1,7 @@
 ghost use Rattle.std.specs.Prelude.{◌≡◌, [], OnOk};
 ghost use Rattle.snow_chain.specs.Tally.{tally_rules};
-ghost use Rattle.snow_engine.specs.Node.{Node, step};
+ghost use Rattle.snow_engine.specs.Node.{step};
+ghost use Rattle.snow_engine.specs.Staging.{Node};
 ghost use Rattle.snow_drill.specs.Drill as model;
 ghost use Rattle.snow_drill.specs.Following.{Plays, Follows};
 
@@ -23,7 +24,7 @@ impl<B: Board> Player<Engine<TallyChain, B>> {
         let Some(frame) = self.frame.checked_add(1) else {
             return Err(AllocError);
         };
-        if self.node.step(frame, event, log).is_err() {
+        if self.node.step(frame, &event, log).is_err() {
             return Err(AllocError);
         }
         self.frame = frame;

@@ -29,6 +29,8 @@ pub enum Frame {
     StartOn(Name, &'static [u64]),
     /// A Start for a node that runs: the same, with nodes, each by its byte and its weight.
     Run([u32; 5], &'static [(u8, u64)]),
+    /// A Start for a node that bootstraps: the height of the last accepted block, and nodes.
+    Boot(u8, &'static [(u8, u64)]),
     /// A block of the plain chain: it, its parent, its height and its flag.
     Block(Name, Name, u8, u8),
     /// The same as the answer of node 1 to a request.
@@ -39,8 +41,12 @@ pub enum Frame {
     Chits(u8, u32, Name),
     /// A node doesn't answer a request.
     Timeout(u8, u32),
-    /// A question of a node: its tag, the node, its number, and the blocks that it names.
+    /// A question of a node, or its answer: its tag, the node, its number, and the blocks that it names.
     Ask(u8, u8, u32, &'static [Name]),
+    /// A node's reply: blocks, each with its parent, its height and its flag.
+    Ancestors(u8, u32, &'static [(Name, Name, u8, u8)]),
+    /// A block that was kept earlier.
+    Stored(Name, Name, u8, u8),
     /// New nodes, each by its byte and its weight.
     Validators(&'static [(u8, u64)]),
     /// A block of these bytes.
@@ -118,6 +124,7 @@ fn payload_of(alloc: Global, frame: Frame) -> Result<Vec<u8>, AllocError> {
         Frame::Start(parameters) => put_start(&mut out, parameters, ROOT, &[], &[])?,
         Frame::StartOn(last, state) => put_start(&mut out, [1; 5], last, state, &[])?,
         Frame::Run(parameters, nodes) => put_start(&mut out, parameters, ROOT, &[], nodes)?,
+        Frame::Boot(height, nodes) => put_boot(&mut out, height, nodes)?,
         Frame::Block(id, parent, height, flag) => put_block(&mut out, 0, id, parent, height, flag)?,
         Frame::Brought(number, id, parent, height, flag) => {
             put_block(&mut out, number, id, parent, height, flag)?;
@@ -128,6 +135,14 @@ fn payload_of(alloc: Global, frame: Frame) -> Result<Vec<u8>, AllocError> {
         Frame::Ask(tag, node, number, blocks) => {
             put_message(&mut out, tag, node, number)?;
             put_asked(&mut out, tag, blocks)?;
+        }
+        Frame::Ancestors(node, number, blocks) => {
+            put_message(&mut out, 9, node, number)?;
+            put_blocks(&mut out, blocks)?;
+        }
+        Frame::Stored(id, parent, height, flag) => {
+            out.push(10)?;
+            put_plain(&mut out, id, parent, height, flag)?;
         }
         Frame::Validators(nodes) => {
             out.push(11)?;
@@ -161,15 +176,32 @@ fn put_start(
     state: &[u64],
     nodes: &[(u8, u64)],
 ) -> Result<(), AllocError> {
+    put_first(out, parameters, 0, last, 0)?;
+    put_state(out, state)?;
+    put_nodes(out, nodes)
+}
+
+fn put_boot(out: &mut Vec<u8>, height: u8, nodes: &[(u8, u64)]) -> Result<(), AllocError> {
+    put_first(out, [1; 5], 1, ROOT, height)?;
+    put_state(out, &[])?;
+    put_nodes(out, nodes)
+}
+
+/// A Start up to the height of its last accepted block.
+fn put_first(
+    out: &mut Vec<u8>,
+    parameters: [u32; 5],
+    boot: u8,
+    last: Name,
+    height: u8,
+) -> Result<(), AllocError> {
     out.push(1)?;
     for number in parameters {
         out.extend_from_slice(&number.to_be_bytes())?;
     }
-    out.push(0)?;
+    out.push(boot)?;
     put_name(out, last)?;
-    out.extend_from_slice(&[0; 8])?;
-    put_state(out, state)?;
-    put_nodes(out, nodes)
+    out.extend_from_slice(&[0, 0, 0, 0, 0, 0, 0, height])
 }
 
 fn put_nodes(out: &mut Vec<u8>, nodes: &[(u8, u64)]) -> Result<(), AllocError> {
@@ -202,9 +234,9 @@ fn put_vote(out: &mut Vec<u8>, node: u8, number: u32, id: Name) -> Result<(), Al
     put_name(out, id)
 }
 
-/// The blocks that a question names; those of tag 14 are counted.
+/// The blocks that a question or an answer names; those of the tags 8 and 14 are counted.
 fn put_asked(out: &mut Vec<u8>, tag: u8, blocks: &[Name]) -> Result<(), AllocError> {
-    if tag == 14 {
+    if tag == 8 || tag == 14 {
         put_count(out, blocks.len())?;
     }
     for block in blocks {
@@ -230,6 +262,25 @@ fn put_block(
     flag: u8,
 ) -> Result<(), AllocError> {
     put_message(out, 2, 1, number)?;
+    put_plain(out, id, parent, height, flag)
+}
+
+fn put_blocks(out: &mut Vec<u8>, blocks: &[(Name, Name, u8, u8)]) -> Result<(), AllocError> {
+    put_count(out, blocks.len())?;
+    for (id, parent, height, flag) in blocks {
+        put_plain(out, *id, *parent, *height, *flag)?;
+    }
+    Ok(())
+}
+
+/// The bytes of a block of the plain chain, behind their length.
+fn put_plain(
+    out: &mut Vec<u8>,
+    id: Name,
+    parent: Name,
+    height: u8,
+    flag: u8,
+) -> Result<(), AllocError> {
     out.extend_from_slice(&[0, 0, 0, 73])?;
     put_name(out, id)?;
     put_name(out, parent)?;
