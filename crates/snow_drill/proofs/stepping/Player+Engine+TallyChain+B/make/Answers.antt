@@ -1,5 +1,5 @@
 -- The event, and then a Timeout for each of its lines that asks for a block.
-use Rattle.std.proofs.Common.{◌≡◌, ◌≤◌, length, rules}
+use Rattle.std.proofs.Common.{◌≤◌, length, rules}
 use Rattle.snow_chain.specs.Tally.{tally_rules}
 use Rattle.snow_engine.specs.Node.{step}
 use Rattle.snow_drill.proofs.Played.{follows_made}
