@@ -90,7 +90,7 @@ sunk p polls votes last first now top m cs good g fits half climbing below less 
     quiet p polls bs votes e good fit.past (λ front. omega (arith, none front, good.majority))
     in
     let each : (j : ℕ) (o : Option (Entry Kept)) → m ≤ j → j < top → slice_get first j ≡ o
-        → option_map (pending_of p (polls + 1)) o ≡ option_map (stepped_by p bs votes) (option_map (pending_of p polls) o) =
+    → option_map (pending_of p (polls + 1)) o ≡ option_map (stepped_by p bs votes) (option_map (pending_of p polls) o) =
     λ j o low high. by_entry j o (done j) low high
     in
     record {
@@ -232,4 +232,3 @@ climbed p votes last bs at d cs g h climbing =
       counts = all_merged (λ c. 0 < c.count) b cs (All-filter stays (λ c. 0 < c.count) cs climbing.counts) (λ some. some);
       total = omega (arith, total_merged b cs, climbing.total);
     }
-

@@ -169,7 +169,7 @@ reach_at last bs at d g h =
     let here : IsGrown last (b ∷ earlier) = grown_before last (reverse (drop (suc at) bs)) (b ∷ earlier) (subst (IsGrown last) (around bs at d h) g) in
     let off : has_block (take at bs) b.id ≡ false = sym (has_block-reverse (take at bs) b.id) ∙ (or_parts (bytes_eq last b.id) (has_block earlier b.id) (grown_new here)).1 in
     let on : has_block bs b.id ≡ true = has_own bs at d h in
-    let not_less : at < reach bs b.id = by_cases (reach bs b.id) at (λ low.  clash (has_block (take at bs) b.id) (near bs b.id at low on) off) in
+    let not_less : at < reach bs b.id = by_cases (reach bs b.id) at (λ low. clash (has_block (take at bs) b.id) (near bs b.id at low on) off) in
     omega (arith, not_less, up_to bs at d h)
   where
     by_cases : (n m : ℕ) → (n ≤ m → ⊥) → m < n

@@ -19,20 +19,20 @@ loop-cursor-preserved c =
     let more = total_more cursors i q c.loop-cursor-test.true c.cursor-item.is in
     elim c.match-child_of.branch [
       | in-Some w ↦
-        let child = w.in-Some.child in
-        let room : 0 < c.loop-cursor.children.room = omega (arith, so_far.places, so_far.short, c.requires.places, c.loop-cursor-test.true) in
-        let added = ap (λ v. v.list) w.children-is ∙ ok_then w.add.result (w.add.ensures.fits room) w.add.ensures.ok in
-        let found = sym c.child_of.ensures ∙ w.in-Some.is in
-        record {
-          votes = ap votes_on added ∙ gathered_some cursors i q parent child c.loop-cursor.children.list c.loop-cursor-test.true c.cursor-item.is so_far.votes found;
-          total = omega (arith, more, ap total_count added, total_added c.loop-cursor.children.list child q.count, so_far.total);
-          short = omega (arith, ap length added, length-added c.loop-cursor.children.list child q.count, so_far.short);
-          places = rw w.children-is (omega (arith, w.add.ensures.places, so_far.places));
-          among = λ ids all.
-              let came = came_some parent q child found in
-              let here = subst (λ (x : Cursor). bytes_eq x.sought parent ≡ true → bytes_eq x.passed parent ≡ false → Contains ids x.passed) (sym c.cursor-item.is) (all i q c.loop-cursor-test.true) in
-              rw added (given_added ids c.loop-cursor.children.list child q.count (subst (Contains ids) came.2 (here came.0 came.1)) (so_far.among ids all));
-        }
+          let child = w.in-Some.child in
+          let room : 0 < c.loop-cursor.children.room = omega (arith, so_far.places, so_far.short, c.requires.places, c.loop-cursor-test.true) in
+          let added = ap (λ v. v.list) w.children-is ∙ ok_then w.add.result (w.add.ensures.fits room) w.add.ensures.ok in
+          let found = sym c.child_of.ensures ∙ w.in-Some.is in
+          record {
+            votes = ap votes_on added ∙ gathered_some cursors i q parent child c.loop-cursor.children.list c.loop-cursor-test.true c.cursor-item.is so_far.votes found;
+            total = omega (arith, more, ap total_count added, total_added c.loop-cursor.children.list child q.count, so_far.total);
+            short = omega (arith, ap length added, length-added c.loop-cursor.children.list child q.count, so_far.short);
+            places = rw w.children-is (omega (arith, w.add.ensures.places, so_far.places));
+            among = λ ids all.
+                let came = came_some parent q child found in
+                let here = subst (λ (x : Cursor). bytes_eq x.sought parent ≡ true → bytes_eq x.passed parent ≡ false → Contains ids x.passed) (sym c.cursor-item.is) (all i q c.loop-cursor-test.true) in
+                rw added (given_added ids c.loop-cursor.children.list child q.count (subst (Contains ids) came.2 (here came.0 came.1)) (so_far.among ids all));
+          }
       | in_default w ↦ rw w.children-is (record {
         votes = gathered_none cursors i q parent c.loop-cursor.children.list c.loop-cursor-test.true c.cursor-item.is so_far.votes (sym c.child_of.ensures ∙ w.in_default.is);
         total = omega (arith, more, so_far.total);

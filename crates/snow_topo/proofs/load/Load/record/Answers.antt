@@ -21,7 +21,7 @@ returns-clause-counters g c =
     rw (← c.self.view_is)
     (elim c.match-self.branch [
       | in-Some w ↦ recorded_some p c.args.polls children old new (contest_of w.in-Some.trie) (contest_of w.catch_up.new.trie) votes was (ap (option_map contest_of) w.in-Some.is)
-        (ap (λ s. option_map contest_of s.trie) w.self-inside-is) refl w.catch_up.ensures.counters
+          (ap (λ s. option_map contest_of s.trie) w.self-inside-is) refl w.catch_up.ensures.counters
       | in-None w ↦ recorded_none p c.args.polls (c.args.polls + 1) old new votes (ap (option_map contest_of) w.in-None.is)
-        (ap (λ s. option_map contest_of s.trie) w.self-inside-is ∙ ap (option_map contest_of) w.in-None.is)
+          (ap (λ s. option_map contest_of s.trie) w.self-inside-is ∙ ap (option_map contest_of) w.in-None.is)
     ])
