@@ -111,7 +111,9 @@ impl<C: Chain, B: Board> Engine<C, B> {
         }
     }
 
-    /// One event for a node that bootstraps. At a stop the node is let go.
+    /// One event for a node that bootstraps. At a stop the node is let go. It stands apart, so that no
+    /// other node's event pays for the room of a node that is moved.
+    #[inline(never)]
     fn catch_up(&mut self, frame: u64, event: &Event, log: &mut Lines) -> Result<(), EngineStop>
         requires { model.is_booting self.old ≡ true }
         ensures answer { Steps result self.new (model.step C.rules B.answer self.old frame event.now).1 }

@@ -42,6 +42,7 @@ impl<C: Chain, B: Board> Runner<C, B> {
     }
 
     /// Works the first frame. It stands apart, so that no later frame pays for the room of a new engine.
+    #[inline(never)]
     fn begin(&mut self, frame: u64, payload: &[u8]) -> Result<Option<SkipKind>, End>
         requires engine { self.old.engine ≡ None }
         requires log { self.old.log ≡ [] }
