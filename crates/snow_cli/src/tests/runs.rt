@@ -126,9 +126,9 @@ fn only(alloc: Global, number: u64) -> Result<Nums, AllocError> {
     Ok(list)
 }
 
-/// A sink with room for 1,024 bytes, whose write of this number fails.
+/// A sink with room for 4,096 bytes, whose write of this number fails.
 fn sink_of(alloc: Global, failing: u64) -> Result<MemSink, AllocError> {
     let mut sink = MemSink::new(alloc, only(alloc, failing)?);
-    sink.reserve(1024)?;
+    sink.reserve(4096)?;
     Ok(sink)
 }
