@@ -16,6 +16,7 @@ pub mod Failing
 pub mod Invariant
 pub mod Lookup
 pub mod Lines
+pub mod Given
 pub mod Gathered
 pub mod Climbed
 pub mod Swept

@@ -1,5 +1,5 @@
 -- What each multiset of votes leaves that is alike to these.
-use Rattle.std.specs.Prelude.{◌≡◌, ℕ, ◌≤◌, List}
+use Rattle.std.specs.Prelude.{◌≡◌, ◌≤◌, List}
 use Rattle.snow_base.specs.declared.vote.Vote.{Vote}
 use Rattle.snow_base.specs.Votes.{total_count}
 use Rattle.snow_flake.specs.Alike.{AreAlike}

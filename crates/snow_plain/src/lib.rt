@@ -18,7 +18,7 @@ mod tree;
 
 pub use board::Board;
 pub use conflict::Conflict;
-pub use cursor::{Cursor, start_all};
+pub use cursor::Cursor;
 pub use decision::Decision;
 pub use laws::{
     alike_law, children_stay_law, confidence_law, excluded_law, failing_and_adding_law,
@@ -27,6 +27,3 @@ pub use laws::{
 };
 pub use plain::PlainBoard;
 pub use recording::record_for_all;
-
-#[cfg(test)]
-mod tests;

@@ -162,7 +162,7 @@ one_block last bs i j d g h k same =
     cc
 
 -- the children of the child and of its descendants all stay
-children_stay : (last child q : List ℕ) (bs : List Header) → IsGrown last (reverse bs) → All (λ b. bytes_eq b.id child ≡ true → b.parent ≡ last) bs
+pub children_stay : (last child q : List ℕ) (bs : List Header) → IsGrown last (reverse bs) → All (λ b. bytes_eq b.id child ≡ true → b.parent ≡ last) bs
     → descends bs child q ≡ true
     → children_of (filter (λ b. descends bs child b.id && not (bytes_eq b.id child)) bs) q ≡ children_of bs q
 children_stay last child q bs g parent under =

@@ -10,6 +10,3 @@ mod node;
 mod tree;
 
 pub use tree::{Tree, TreeFull};
-
-#[cfg(test)]
-mod tests;

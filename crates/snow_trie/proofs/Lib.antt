@@ -1,6 +1,5 @@
 pub mod Chosen
 pub mod Examples
-pub mod Given
 pub mod Grown
 pub mod Narrowed
 pub mod Ordered

@@ -11,6 +11,3 @@ mod run;
 mod trie;
 
 pub use trie::Trie;
-
-#[cfg(test)]
-mod tests;

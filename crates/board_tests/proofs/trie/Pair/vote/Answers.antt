@@ -1,6 +1,6 @@
 use Rattle.std.proofs.Common.{rules, Contains}
-use Rattle.snow_trie.proofs.Given.{given_added}
-use Rattle.snow_trie.proofs.tests.Pair.vote.Goals as goal
+use Rattle.snow_plain.proofs.Given.{given_added}
+use Rattle.board_tests.proofs.trie.Pair.vote.Goals as goal
 
 pub returns-in_err-add-clause-given : goal.returns-in_err-add-clause-given
 returns-in_err-add-clause-given g c = rw c.in_err-add.ensures.err c.requires.given

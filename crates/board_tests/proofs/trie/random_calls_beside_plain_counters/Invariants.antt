@@ -1,4 +1,4 @@
-use Rattle.snow_trie.proofs.tests.random_calls_beside_plain_counters.Given as goal
+use Rattle.board_tests.proofs.trie.random_calls_beside_plain_counters.Given as goal
 
 -- the counter of the blank page
 abbrev pub ghosts-compared : goal.ghosts-compared

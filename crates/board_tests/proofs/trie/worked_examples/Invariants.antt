@@ -1,4 +1,4 @@
-use Rattle.snow_trie.proofs.tests.worked_examples.Given as goal
+use Rattle.board_tests.proofs.trie.worked_examples.Given as goal
 
 -- the counter of the blank page
 abbrev pub ghosts-examples : goal.ghosts-examples

@@ -1,8 +1,8 @@
 ghost use Rattle.std.specs.Prelude.{◌≡◌, ◌≤◌, IfOk};
 
-use crate::{Board, Decision, PlainBoard};
 use snow_base::{Bag, Id};
 use snow_flake::{Params, Rule, Snowball, Snowflake};
+use snow_plain::{Board, Decision, PlainBoard};
 use std::alloc::{AllocError, Global};
 use std::test::Fail;
 
@@ -41,7 +41,7 @@ fn offer<B: Board>(board: &mut B, id: Id, parent: Id) -> Result<(), AllocError>
 }
 
 // Records a poll with one vote.
-#[tactic(auto, using(crate::proofs::Polled::poll_parameters))]
+#[tactic(auto, using(snow_plain::proofs::Polled::poll_parameters))]
 fn vote<B: Board>(alloc: Global, board: &mut B, first: u8) -> Result<(), AllocError>
     requires { 1 ≤ (B.board board.old).parameters.k }
     ensures { (B.board board.new).parameters ≡ (B.board board.old).parameters }

@@ -1,5 +1,5 @@
-use crate::Tree;
 use snow_base::Id;
+use snow_tree::Tree;
 use std::alloc::{AllocError, Global};
 use std::test::Fail;
 

@@ -1,10 +1,10 @@
 ghost use Rattle.std.specs.Prelude.{◌≡◌, ◌+◌, ◌^◌, ◌<◌, ◌≤◌, All, Contains, IfOk};
 ghost use Rattle.snow_base.specs.Votes.{total_count};
 
-use crate::Trie;
 use snow_base::{Bag, Id, Steps};
 use snow_flake::{Params, Rule, Snowball, Snowflake};
 use snow_plain::Conflict;
+use snow_trie::Trie;
 use std::alloc::{AllocError, Global};
 use std::marker::Brand;
 use std::sync::ledger::{Blank, Ledger};
