@@ -76,6 +76,20 @@ begun_half p polls votes last first m cs good g fits climbing below less =
     in
     (sunk p polls votes last first first (length first) m cs good g fits start climbing below less, narrowed p votes (blocks_in first) (length first) m cs climbing below less)
 
+-- the votes that came to the block at a place are those below it
+pub came_here : (p : Parameters) (votes : List Vote) (last : List ℕ) (first : List (Entry Kept)) (at : ℕ) (e : Entry Kept) (cs : List Cursor)
+    → IsGrown last (reverse (blocks_in first)) → AreClimbing p votes (blocks_in first) (at + 1) cs → slice_get first at ≡ Some e
+    → votes_at cs e.block.id ≡ votes_below (blocks_in first) votes e.block.id
+came_here p votes last first at e cs g climbing there =
+    let bs = blocks_in first in
+    let inside : at < length first = slice_get_within first at e there in
+    let within : at < length bs = subst (λ n. at < n) (sym (length-map first (λ x. x.block))) inside in
+    let block : get_or bs at e.block ≡ e.block = get_or-map (λ x. x.block) first at e e.block inside ∙ ap (λ x. x.block) (get_or_from_slice_get first at e e there) in
+    let reached : reach bs e.block.id ≡ at + 1 = ap (λ (b : Header). reach bs b.id) (sym block) ∙ reach_at last bs at e.block g within in
+    λ i front.
+    (subst (λ (b : Header). votes_at cs b.id front ≡ votes_for bs cs b.id front) block (came_for last bs at e.block front cs g within climbing.below)
+    ∙ climbing.counted e.block.id front (omega (arith, reached))) i
+
 -- one step
 pub step_half : (p : Parameters) (polls : ℕ) (votes : List Vote) (last : List ℕ) (first now : List (Entry Kept)) (at m : ℕ) (e : Entry Kept) (load : Kept) (cs : List Cursor) → AreGood p
     → IsGrown last (reverse (blocks_in first)) → All (λ e. IsFit p polls (children_of (blocks_in first) e.block.id) e.load) first
@@ -87,12 +101,7 @@ step_half p polls votes last first now at m e load cs good g fits half climbing 
     let inside : at < length first = slice_get_within first at e there in
     let within : at < length bs = subst (λ n. at < n) (sym (length-map first (λ x. x.block))) inside in
     let block : get_or bs at e.block ≡ e.block = get_or-map (λ x. x.block) first at e e.block inside ∙ ap (λ x. x.block) (get_or_from_slice_get first at e e there) in
-    let reached : reach bs e.block.id ≡ at + 1 = ap (λ (b : Header). reach bs b.id) (sym block) ∙ reach_at last bs at e.block g within in
-    let came : votes_at cs e.block.id ≡ votes_below bs votes e.block.id =
-    λ i front.
-    (subst (λ (b : Header). votes_at cs b.id front ≡ votes_for bs cs b.id front) block (came_for last bs at e.block front cs g within climbing.below)
-    ∙ climbing.counted e.block.id front (omega (arith, reached))) i
-    in
+    let came : votes_at cs e.block.id ≡ votes_below bs votes e.block.id = came_here p votes last first at e cs g climbing there in
     let fit = one_of (λ e. IsFit p polls (children_of bs e.block.id) e.load) first at e fits there in
     let new = took (children_of bs e.block.id) fit in
     let counters = new.0 ∙ ap (λ f. all_polled p f (shown p polls e.load)) came in
@@ -104,7 +113,7 @@ step_half p polls votes last first now at m e load cs good g fits half climbing 
     (sunk p polls votes last first (set_load now at load) at m (merged e.block cs) good g fits next on below less, narrowed p votes bs at m (merged e.block cs) on below less)
 
 -- lists with the same at each place are the same
-same_slices : {X : Type 0} (xs ys : List X) → ((j : ℕ) → slice_get xs j ≡ slice_get ys j) → xs ≡ ys
+pub same_slices : {X : Type 0} (xs ys : List X) → ((j : ℕ) → slice_get xs j ≡ slice_get ys j) → xs ≡ ys
 same_slices [] [] h = refl
 same_slices [] (y ∷ ys) h = absurd (none-some y (h 0))
 same_slices (x ∷ xs) [] h = absurd (none-some x (sym (h 0)))

@@ -1,5 +1,5 @@
 -- Lemmas on a poll on its way over the pending blocks.
-use Rattle.std.proofs.Common.{◌≡◌, ◌⊎◌, inl, inr, ℕ, zero, suc, ◌+◌, ◌<◌, ◌≤◌, Bool, true, false, not, nat_lt, ◌&&◌, List, [], ◌∷◌, ◌++◌, length, get_or, take, map, reverse, filter, sum_by, bytes_eq, All, Contains, Option, Some, None, slice_get, refl, sym, ap, subst, ◌∙◌, arith, if◌then◌else◌}
+use Rattle.std.proofs.Common.{◌≡◌, inr, ℕ, zero, suc, ◌+◌, ◌<◌, ◌≤◌, Bool, false, not, nat_lt, List, [], ◌∷◌, length, get_or, reverse, filter, sum_by, bytes_eq, All, Contains, Option, Some, None, slice_get, refl, sym, ap, subst, ◌∙◌, arith, if◌then◌else◌}
 use Rattle.std.specs.Bool.{beq}
 use Rattle.std.specs.List.{starts_with}
 use Rattle.std.specs.Option.{option_map}
@@ -8,23 +8,21 @@ use Rattle.std.proofs.lemmas.Grind.{common_steps}
 use Rattle.std.proofs.lemmas.List.{get_or-map, length-map}
 use Rattle.std.proofs.lemmas.List.Sums.{sum_by-cons}
 use Rattle.std.proofs.lemmas.List.Elements.{All-head, All-tail, All-filter, filter_passes, Contains-get_or, Contains-append_right}
-use Rattle.std.proofs.lemmas.Option.{none-some, slice_get-map, slice_get_within, get_or_from_slice_get}
+use Rattle.std.proofs.lemmas.Option.{slice_get-map, slice_get_within, get_or_from_slice_get}
 use Rattle.snow_base.specs.declared.header.Header.{Header}
 use Rattle.snow_base.specs.declared.vote.Vote.{Vote}
 use Rattle.snow_base.specs.Identifier.{bits}
 use Rattle.snow_base.specs.Ancestry.{is_below, votes_below}
 use Rattle.snow_flake.specs.Parameters.{Parameters, AreGood}
 use Rattle.snow_plain.specs.declared.cursor.Cursor.{Cursor}
-use Rattle.snow_plain.specs.declared.pending.Pending.{Pending}
-use Rattle.snow_plain.specs.Conflict.{Counters, all_polled}
-use Rattle.snow_plain.specs.Cursors.{child_at, votes_at, cursor_total, votes_for as of_child}
+use Rattle.snow_plain.specs.Cursors.{child_at, votes_at, votes_for as of_child}
 use Rattle.snow_plain.specs.Grown.{IsGrown}
 use Rattle.snow_plain.proofs.Cases.{split_on, clash, same_id, id_same, id_itself}
 use Rattle.snow_plain.proofs.Failing.{few_fail}
-use Rattle.snow_tree.specs.Held.{Entry, Held, blocks_in, children_of}
+use Rattle.snow_tree.specs.Held.{Entry, blocks_in, children_of}
 use Rattle.snow_topo.specs.Kept.{Kept, shown, IsFit}
 use Rattle.snow_topo.specs.View.{pending_of, all_pending}
-use Rattle.snow_topo.specs.Climbing.{reach, AreBelow, CameBy, is_for, votes_for, merged, count_at, stepped_by}
+use Rattle.snow_topo.specs.Climbing.{reach, AreBelow, CameBy, is_for, votes_for, merged, stepped_by}
 use Rattle.snow_topo.specs.Half.{AreClimbing, IsHalf}
 use Rattle.snow_topo.proofs.Stamped.{later}
 use Rattle.snow_topo.proofs.Reached.{not_below, reach_at, at_reach, below_at, near_back, off_reach}
@@ -149,7 +147,7 @@ visited p polls votes first now next at e load half there here others shows fits
 -- ---- the votes that climb
 
 -- sums of what is the same are the same
-sum_same : (f g : Cursor → ℕ) (cs : List Cursor) → All (λ c. f c ≡ g c) cs → sum_by f cs ≡ sum_by g cs
+pub sum_same : (f g : Cursor → ℕ) (cs : List Cursor) → All (λ c. f c ≡ g c) cs → sum_by f cs ≡ sum_by g cs
 sum_same f g [] h = refl
 sum_same f g (c ∷ cs) h =
     let rest = sum_same f g cs (All-tail (λ c. f c ≡ g c) c cs h) in

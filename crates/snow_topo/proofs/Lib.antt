@@ -4,3 +4,16 @@ pub mod Reached
 pub mod Halfway
 pub mod Taken
 pub mod Climbs
+pub mod Counted
+pub mod Steady
+pub mod Costing
+pub mod Anew
+pub mod Won
+pub mod Promoted
+pub mod Gained
+pub mod Walked
+pub mod Endings
+pub mod Standings
+pub mod Polls
+pub mod Advancing
+pub mod Climbers

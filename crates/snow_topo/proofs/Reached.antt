@@ -1,24 +1,22 @@
 -- Lemmas on which blocks are below which, by their places in order of issue.
-use Rattle.std.proofs.Common.{◌≡◌, ℕ, zero, suc, ◌+◌, ◌<◌, ◌≤◌, Bool, cond, nat_lt, true, false, not, ◌&&◌, ◌||◌, List, [], ◌∷◌, ◌++◌, length, get_or, take, drop, reverse, find, bytes_eq, Option, Some, None, lt_of_not-le, refl, sym, ap, subst, ◌∙◌, arith, if◌then◌else◌}
+use Rattle.std.proofs.Common.{◌≡◌, ℕ, zero, suc, ◌+◌, ◌<◌, ◌≤◌, Bool, cond, nat_lt, true, false, not, List, [], ◌∷◌, ◌++◌, length, get_or, take, drop, reverse, find, bytes_eq, Option, Some, None, lt_of_not-le, refl, sym, ap, subst, ◌∙◌, arith, if◌then◌else◌}
 use Rattle.std.specs.Bool.{beq}
-use Rattle.std.specs.List.{list_any, position, prefix_len, starts_with}
+use Rattle.std.specs.List.{position, prefix_len, starts_with}
 use Rattle.std.proofs.lemmas.List.{length-map}
 use Rattle.snow_tree.specs.Held.{Entry, blocks_in, place_in}
 use Rattle.std.specs.Option.{option_map}
-use Rattle.std.proofs.lemmas.Bool.{or_parts, or_from, or_left, or_right}
-use Rattle.std.proofs.lemmas.List.Folds.{list_any-append}
+use Rattle.std.proofs.lemmas.Bool.{or_parts, or_left, or_right}
 use Rattle.snow_base.specs.declared.header.Header.{Header}
 use Rattle.snow_base.specs.Identifier.{bits}
-use Rattle.snow_base.specs.Ancestry.{line_in, child_on, begins_with, is_below}
-use Rattle.snow_plain.specs.declared.cursor.Cursor.{Cursor}
+use Rattle.snow_base.specs.Ancestry.{line_in, begins_with, is_below}
 use Rattle.snow_plain.specs.Grown.{has_block, is_on, IsGrown}
-use Rattle.snow_plain.proofs.Cases.{split_on, clash, same_id, id_same, id_itself, differs_back}
+use Rattle.snow_plain.proofs.Cases.{split_on, clash, id_itself}
 use Rattle.snow_plain.proofs.Kept.{has_own}
-use Rattle.snow_plain.proofs.Grown.{grown_new, grown_rest, grown_before, older, childless, has_child, no_child_on, no_line, line_passes, has_block-reverse}
-use Rattle.snow_plain.proofs.Lines.{acyclic, line_of}
+use Rattle.snow_plain.proofs.Grown.{grown_new, grown_rest, grown_before, older, childless, no_child_on, no_line, line_passes, has_block-reverse}
+use Rattle.snow_plain.proofs.Lines.{acyclic}
 use Rattle.snow_tree.proofs.Placed.{position_cons}
 use Rattle.snow_tree.proofs.Descending.{around, line_at}
-use Rattle.snow_topo.specs.Climbing.{above, reach, is_for}
+use Rattle.snow_topo.specs.Climbing.{above, reach}
 
 -- the reach of a block with one block more in front
 reach_cons : (b : Header) (bs : List Header) (id : List ℕ) → reach (b ∷ bs) id ≡ (if bytes_eq b.id id then 1 else above (option_map suc (position (λ b. bytes_eq b.id id) bs)))

@@ -1,5 +1,5 @@
 -- Lemmas on what is kept of a block when a poll comes to it.
-use Rattle.std.proofs.Common.{◌≡◌, ℕ, zero, suc, ◌+◌, ◌<◌, ◌≤◌, Bool, true, false, List, [], ◌∷◌, Option, Some, None, slice_get, IfSome, sum_by, refl, sym, ap, subst, ◌∙◌, arith, if◌then◌else◌}
+use Rattle.std.proofs.Common.{◌≡◌, ℕ, zero, suc, ◌+◌, ◌<◌, ◌≤◌, Bool, List, [], ◌∷◌, Option, Some, None, slice_get, IfSome, refl, sym, ap, ◌∙◌, arith, if◌then◌else◌}
 use Rattle.std.specs.Bool.{beq}
 use Rattle.std.specs.List.{starts_with}
 use Rattle.std.specs.Option.{option_map}
@@ -12,7 +12,7 @@ use Rattle.snow_flake.specs.Parameters.{Parameters, AreGood}
 use Rattle.snow_plain.specs.Conflict.{all_polled, votes_on}
 use Rattle.snow_plain.proofs.Cases.{split_on}
 use Rattle.snow_plain.proofs.Failing.{few_fail}
-use Rattle.snow_tree.specs.Held.{Entry, Held, set_load, with_load}
+use Rattle.snow_tree.specs.Held.{Entry, set_load}
 use Rattle.snow_topo.specs.Kept.{Kept, shown, IsFit}
 use Rattle.snow_topo.proofs.Stamped.{later}
 

@@ -5,13 +5,15 @@ use Rattle.std.specs.List.{position, starts_with}
 use Rattle.snow_base.specs.declared.header.Header.{Header}
 use Rattle.snow_base.specs.declared.vote.Vote.{Vote}
 use Rattle.snow_base.specs.Identifier.{bits}
-use Rattle.snow_base.specs.Ancestry.{is_below, votes_below}
+use Rattle.snow_base.specs.Ancestry.{is_below}
 use Rattle.snow_flake.specs.Parameters.{Parameters}
 use Rattle.snow_plain.specs.declared.cursor.Cursor.{Cursor}
 use Rattle.snow_plain.specs.declared.pending.Pending.{Pending}
 use Rattle.snow_plain.specs.Board.{with_counters}
 use Rattle.snow_plain.specs.Poll.{with_votes}
+use Rattle.snow_plain.specs.Cursors.{started}
 use Rattle.snow_tree.specs.Held.{children_of}
+use Rattle.snow_topo.specs.declared.climber.Climber.{Climber}
 
 -- one more than a place; 0 for none
 abbrev pub above : Option ℕ → ℕ
@@ -21,6 +23,18 @@ above (Some i) = i + 1
 -- one more than the place of a block; 0 where it isn't among them
 abbrev pub reach : List Header → List ℕ → ℕ
 reach blocks id = above (position (λ b. bytes_eq b.id id) blocks)
+
+-- votes that climb, without where they look
+abbrev pub cursors_of : List Climber → List Cursor
+cursors_of climbers = map (λ c. c.cursor) climbers
+
+-- a vote at its own block
+abbrev pub started_at : List Header → Vote → Climber
+started_at blocks v = record { cursor = started v; place = reach blocks v.id }
+
+-- each goes with one more than the place of the block that it looks for
+abbrev pub ArePlaced : List Header → List Climber → Type 0
+ArePlaced blocks climbers = All (λ c. c.place ≡ reach blocks c.cursor.sought) climbers
 
 -- all votes look for blocks below this place
 abbrev pub AreBelow : List Header → ℕ → List Cursor → Type 0

@@ -3,3 +3,11 @@ pub mod KeptCode
 pub mod View
 pub mod Climbing
 pub mod Half
+pub mod Leading
+pub mod Recording
+pub mod Told
+pub mod Renewed
+pub mod Gaining
+pub mod Walking
+pub mod Standing
+pub mod Costs

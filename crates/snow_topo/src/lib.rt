@@ -1,10 +1,22 @@
 //! The board of pending blocks over compressed trees of counters.
 #![tactic(auto)]
 
+mod accepting;
+mod applying;
+mod climber;
 mod climbing;
+mod counting;
 mod gathering;
+mod issuing;
+mod leading;
 mod load;
 mod merging;
+mod renewing;
+mod replaying;
+mod settling;
+mod topo;
 mod visiting;
+mod winning;
 
-pub use load::Load;
+pub use replaying::replay_counted;
+pub use topo::Topo;

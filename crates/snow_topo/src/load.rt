@@ -1,8 +1,9 @@
-ghost use Rattle.std.specs.Prelude.{◌≡◌, ◌+◌, ◌≤◌, All, Contains, if◌then◌else◌};
+ghost use Rattle.std.specs.Prelude.{◌≡◌, ◌+◌, ◌≤◌, All, Contains, false, if◌then◌else◌};
 ghost use Rattle.snow_base.specs.Votes.{IsInBitOrder, total_count};
-ghost use Rattle.snow_plain.specs.Conflict.{all_polled, votes_on};
+ghost use Rattle.snow_plain.specs.Conflict.{all_polled, votes_on, chosen};
 ghost use Rattle.snow_plain.specs.FailingLaw.{failed};
 ghost use Rattle.snow_trie.specs.Whole.{HasFewNodes};
+ghost use Rattle.snow_topo.specs.Leading.{HasDecided};
 
 use snow_base::{Id, Steps, Vote};
 use snow_flake::{Params, Rule};
@@ -36,13 +37,14 @@ impl<R: Rule> Model for Load<R> {
     ghost invariant = { λ a. IfSome a.trie HasFewNodes };
 }
 
-// A tree takes a poll with these votes, after it has failed where it didn't record the last poll.
+// A tree takes a poll with these votes, after it has failed where it didn't record the last poll. The
+// answer is whether it leads elsewhere then.
 fn catch_up<R: Rule, L: Ledger>(
     trie: &mut Trie<R>,
     is_behind: bool,
     votes: &[Vote],
     steps: &mut Steps<L>,
-)
+) -> bool
     requires order { IsInBitOrder votes.now }
     requires most { total_count votes.now ≤ (trie.old).parameters.k }
     requires given { All (λ v. Contains (trie.old).ids v.id) votes.now }
@@ -51,17 +53,34 @@ fn catch_up<R: Rule, L: Ledger>(
     ensures ids { (trie.new).ids ≡ (trie.old).ids }
     ensures few { HasFewNodes trie.new }
     ensures steps { steps.new ≤ steps.old + 1 + (trie.old).nodes }
+    ensures steady { result ≡ false → chosen R.answer (trie.new).counters ≡ chosen R.answer (trie.old).counters }
 {
+    let before = trie.preference();
     if is_behind {
         trie.fail(steps);
     }
     trie.apply(votes, steps);
+    before != trie.preference()
+}
+
+// The identifier to which decided counters alone lead.
+fn decided_in<R: Rule>(trie: &Trie<R>) -> Option<Id>
+    ensures { HasDecided (trie.now).counters result }
+{
+    if trie.is_final() {
+        Some(trie.preference())
+    } else {
+        None
+    }
 }
 
 impl<R: Rule> Load<R> {
     ghost use Rattle.std.specs.Prelude.{ℕ, ◌^◌, ◌*◌, ◌-◌, ◌<◌, List, length, IfSome, OnOk, OnErr};
+    ghost use Rattle.std.specs.Option.{option_map, option_copied};
     ghost use Rattle.snow_flake.specs.Parameters.{Parameters};
-    ghost use Rattle.snow_topo.specs.Kept.{bare, gained, ids_in, shown, IsFit};
+    ghost use Rattle.snow_topo.specs.Kept.{bare, gained, contest_of, counters_in, ids_in, shown, IsFit};
+    ghost use Rattle.snow_topo.specs.Leading.{leads_in};
+    ghost use Rattle.snow_topo.specs.Renewed.{renewed};
 
     /// That of a block without children.
     pub(crate) fn new() -> Self
@@ -70,6 +89,17 @@ impl<R: Rule> Load<R> {
         Load {
             trie: None,
             recorded: 0,
+        }
+    }
+
+    /// The tree of the children, if there are some.
+    pub(crate) fn trie(&self) -> Option<&Trie<R>>
+        ensures contest { option_map contest_of (option_copied result) ≡ (self.now).contest }
+        ensures few { IfSome (option_copied result) HasFewNodes }
+    {
+        match &self.trie {
+            Some(trie) => Some(trie),
+            None => None,
         }
     }
 
@@ -89,20 +119,45 @@ impl<R: Rule> Load<R> {
         }
     }
 
-    /// The children take the bit step of the next poll with these votes. It takes no memory.
-    pub(crate) fn record<L: Ledger>(&mut self, polls: u64, votes: &[Vote], steps: &mut Steps<L>)
+    /// The child to which decided counters alone lead.
+    pub(crate) fn decided(&self) -> Option<Id>
+        ensures { HasDecided (counters_in (self.now).contest) result }
+    {
+        match &self.trie {
+            Some(trie) => decided_in(trie),
+            None => None,
+        }
+    }
+
+    /// The children take the bit step of the next poll with these votes. The answer is whether they
+    /// lead elsewhere then. It takes no memory.
+    pub(crate) fn record<L: Ledger>(
+        &mut self,
+        polls: u64,
+        votes: &[Vote],
+        steps: &mut Steps<L>,
+    ) -> bool
         requires room { polls + 1 < 2 ^ 64 }
         requires order { IsInBitOrder votes.now }
         requires most { IfSome (self.old).contest (λ c. total_count votes.now ≤ c.parameters.k) }
         requires given { All (λ v. Contains (ids_in (self.old).contest) v.id) votes.now }
         ensures counters { (p : Parameters) (children : List (List ℕ)) → IsFit p polls children self.old → shown p (polls + 1) self.new ≡ all_polled p (votes_on votes.now) (shown p polls self.old) }
         ensures fit { (p : Parameters) (children : List (List ℕ)) → IsFit p polls children self.old → IsFit p (polls + 1) children self.new }
-        ensures steps { steps.new ≤ steps.old + 1 + 3 * length (ids_in (self.old).contest) }
+        ensures steps { steps.new ≤ steps.old + 5 * length (ids_in (self.old).contest) }
+        ensures steady { result ≡ false → leads_in R.answer self.new ≡ leads_in R.answer self.old }
     {
-        match &mut self.trie {
-            Some(trie) => catch_up(trie, self.recorded != polls, votes, steps),
-            None => (),
-        }
+        let is_behind = self.recorded != polls;
         self.recorded = polls + 1;
+        match &mut self.trie {
+            Some(trie) => catch_up(trie, is_behind, votes, steps),
+            None => false,
+        }
+    }
+
+    /// The number of the last poll is 1 from here on, where this was recorded, and all before it are 0.
+    pub(crate) fn renew(&mut self, polls: u64)
+        ensures { self.new ≡ renewed polls self.old }
+    {
+        self.recorded = if self.recorded == polls { 1 } else { 0 };
     }
 }

@@ -1,4 +1,4 @@
-use Rattle.std.proofs.Common.{◌≡◌, ◌+◌, All, Contains, refl, sym, ap, subst, ◌∙◌}
+use Rattle.std.proofs.Common.{◌+◌, All, Contains, sym, ap, subst, ◌∙◌}
 use Rattle.std.specs.Option.{option_map}
 use Rattle.snow_plain.specs.Conflict.{votes_on}
 use Rattle.snow_topo.specs.Kept.{Kept, contest_of, ids_in, IsFit}
@@ -16,12 +16,12 @@ returns-clause-counters g c =
     λ p children fit.
     let votes = votes_on c.args.votes.now in
     let old : Kept = record { contest = option_map contest_of c.self.inside.trie; recorded = c.self.inside.recorded } in
-    let new : Kept = record { contest = option_map contest_of c.match-self.self-inside.trie; recorded = c.args.polls + 1 } in
+    let new : Kept = record { contest = option_map contest_of c.match-self.self-inside.trie; recorded = c.match-self.self-inside.recorded } in
     let was : IsFit p c.args.polls children old = subst (IsFit p c.args.polls children) (sym c.self.view_is) fit in
     rw (← c.self.view_is)
     (elim c.match-self.branch [
       | in-Some w ↦ recorded_some p c.args.polls children old new (contest_of w.in-Some.trie) (contest_of w.catch_up.new.trie) votes was (ap (option_map contest_of) w.in-Some.is)
-          (ap (λ s. option_map contest_of s.trie) w.self-inside-is) refl w.catch_up.ensures.counters
+          (ap (λ s. option_map contest_of s.trie) w.self-inside-is) (ap (λ s. s.recorded) w.self-inside-is) w.catch_up.ensures.counters
       | in-None w ↦ recorded_none p c.args.polls (c.args.polls + 1) old new votes (ap (option_map contest_of) w.in-None.is)
           (ap (λ s. option_map contest_of s.trie) w.self-inside-is ∙ ap (option_map contest_of) w.in-None.is)
     ])

@@ -1,0 +1,51 @@
+-- Lemmas on how many steps a poll takes.
+use Rattle.std.proofs.Common.{◌≡◌, ℕ, zero, suc, ◌+◌, ◌<◌, ◌≤◌, List, [], ◌∷◌, length, get_or, drop, sum_by, Some, slice_get, refl, sym, ap, subst, ◌∙◌, arith, drop-cons, nat_le, false}
+use Rattle.std.proofs.lemmas.Grind.{common_steps}
+use Rattle.std.proofs.lemmas.List.Sums.{sum_by-cons}
+use Rattle.std.proofs.lemmas.List.{get_or-map, length-map}
+use Rattle.std.proofs.lemmas.Option.{slice_get_within, get_or_from_slice_get}
+use Rattle.snow_base.specs.declared.header.Header.{Header}
+use Rattle.snow_base.specs.declared.vote.Vote.{Vote}
+use Rattle.snow_base.specs.Votes.{total_count}
+use Rattle.snow_flake.specs.Parameters.{Parameters}
+use Rattle.snow_plain.specs.Conflict.{votes_on}
+use Rattle.snow_tree.specs.Held.{Entry, blocks_in}
+use Rattle.snow_topo.specs.Kept.{Kept}
+use Rattle.snow_topo.specs.Recording.{recording_at, recording_in}
+
+-- where there is no quorum there are too few
+pub no_quorum : (least n : ℕ) → nat_le least n ≡ false → n < least
+no_quorum least n h = grind (arith, common_steps)
+
+-- every vote begins with no bits
+pub on_all : (votes : List Vote) → votes_on votes [] ≡ total_count votes
+on_all votes = refl
+
+-- fewer blocks count no more
+fewer_sum : (f : Header → ℕ) (n : ℕ) (bs : List Header) → sum_by f (drop n bs) ≤ sum_by f bs
+fewer_sum f zero bs = omega arith
+fewer_sum f (suc n) [] = omega arith
+fewer_sum f (suc n) (b ∷ bs) = omega (arith, fewer_sum f n bs, sum_by-cons f b bs)
+
+more_sum : (f : Header → ℕ) (m n : ℕ) (bs : List Header) → m ≤ n → sum_by f (drop n bs) ≤ sum_by f (drop m bs)
+more_sum f zero n bs h = fewer_sum f n bs
+more_sum f (suc m) zero bs h = absurd (omega (arith, h))
+more_sum f (suc m) (suc n) [] h = omega arith
+more_sum f (suc m) (suc n) (b ∷ bs) h = more_sum f m n bs (omega (arith, h))
+
+-- a visit of the block at a place is paid by its children
+pub paid : (p : Parameters) (votes : List Vote) (first : List (Entry Kept)) (at m : ℕ) (e : Entry Kept) → slice_get first at ≡ Some e → m ≤ at
+    → recording_at p (blocks_in first) votes e.block.id + recording_in p (blocks_in first) votes (drop (at + 1) (blocks_in first)) ≤ recording_in p (blocks_in first) votes (drop m (blocks_in first))
+paid p votes first at m e there less =
+    let bs = blocks_in first in
+    let f : Header → ℕ = λ b. recording_at p bs votes b.id in
+    let inside : at < length first = slice_get_within first at e there in
+    let within : at < length bs = subst (λ n. at < n) (sym (length-map first (λ x. x.block))) inside in
+    let block : get_or bs at e.block ≡ e.block = get_or-map (λ x. x.block) first at e e.block inside ∙ ap (λ x. x.block) (get_or_from_slice_get first at e e there) in
+    let here : sum_by f (drop at bs) ≡ f e.block + sum_by f (drop (at + 1) bs) =
+    let next : suc at ≡ at + 1 = omega arith in
+    ap (sum_by f) (drop-cons bs at e.block within)
+    ∙ sum_by-cons f (get_or bs at e.block) (drop (suc at) bs)
+    ∙ (λ i. f (block i) + sum_by f (drop (next i) bs))
+    in
+    omega (arith, here, more_sum f m at bs less)

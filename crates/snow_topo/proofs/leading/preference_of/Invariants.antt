@@ -1,0 +1,17 @@
+use Rattle.std.proofs.Common.{◌≡◌, length}
+use Rattle.snow_plain.specs.Preference.{path_from, end_of, preferred}
+use Rattle.snow_tree.specs.Held.{blocks_in, children_of}
+use Rattle.snow_topo.specs.Kept.{shown, IsFit}
+use Rattle.snow_topo.specs.View.{all_pending, view}
+use Rattle.snow_topo.proofs.leading.preference_of.Given as goal
+
+abbrev pub invariant-loop-next : goal.invariant-loop-next
+invariant-loop-next g l = record {
+  fit : IsFit l.params l.polls (children_of (blocks_in l.tree.pending) l.at) l.load;
+  ends : end_of l.at (path_from g.R.Rule.answer l.at (shown l.params l.polls l.load) (all_pending l.params l.polls l.tree.pending))
+      ≡ preferred g.R.Rule.answer (view l.params l.polls l.root l.tree);
+}
+
+-- the rest of the way
+abbrev pub decreases-loop-next : goal.decreases-loop-next
+decreases-loop-next g l = length (path_from g.R.Rule.answer l.at (shown l.params l.polls l.load) (all_pending l.params l.polls l.tree.pending))

@@ -1,0 +1,6 @@
+use Rattle.snow_plain.proofs.Same.{gives_all}
+use Rattle.snow_topo.proofs.topo.TopoBoard.apply_poll.Goals as goal
+
+pub returns-clause-alike : goal.returns-clause-alike
+returns-clause-alike g c =
+    gives_all c.args.self.now.board c.args.votes.now.list c.apply_alone.new.board.board c.apply_alone.new.board.decided c.apply_alone.ensures.board c.apply_alone.ensures.decided

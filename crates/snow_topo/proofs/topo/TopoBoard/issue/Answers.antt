@@ -1,0 +1,64 @@
+use Rattle.std.proofs.Common.{◌≡◌, length, sym, ap, subst, ◌∙◌, arith}
+use Rattle.std.proofs.lemmas.Grind.{common_steps}
+use Rattle.snow_base.specs.declared.header.Header.{Header}
+use Rattle.snow_plain.specs.declared.leading.Leading.{Leading}
+use Rattle.snow_plain.specs.Board.{Board, issued}
+use Rattle.snow_plain.specs.Ending.{IsLeading, leading_after}
+use Rattle.snow_plain.specs.Preference.{preferred}
+use Rattle.snow_plain.specs.Reached.{MayIssue}
+use Rattle.snow_plain.specs.Shown.{Shown}
+use Rattle.snow_plain.proofs.Ended.{latest_alone, leading_issued}
+use Rattle.snow_topo.specs.View.{view}
+use Rattle.snow_topo.proofs.Standings.{issue_unknown, issue_follows, grown_seen, issued_length, view_length, names_issued, names_seen, names_kept}
+use Rattle.snow_topo.proofs.topo.TopoBoard.issue.Goals as goal
+
+pub issue-requires-clause-unknown : goal.issue-requires-clause-unknown
+issue-requires-clause-unknown g c =
+    let a = c.self.inside in
+    let child : Header = record { id = c.args.id; parent = c.args.parent; height = c.args.height } in
+    let may : MayIssue (view a.params a.polls a.root a.tree) child = subst (λ (s : Shown). MayIssue s.board child) (sym c.self.view_is) c.requires in
+    issue_unknown a.params a.polls a.root a.tree c.args.id may.unknown
+
+pub issue-requires-clause-follows : goal.issue-requires-clause-follows
+issue-requires-clause-follows g c =
+    let a = c.self.inside in
+    let child : Header = record { id = c.args.id; parent = c.args.parent; height = c.args.height } in
+    let may : MayIssue (view a.params a.polls a.root a.tree) child = subst (λ (s : Shown). MayIssue s.board child) (sym c.self.view_is) c.requires in
+    issue_follows a.params a.polls a.root a.tree c.args.parent may.follows.0 may.follows.1
+
+pub preference_after-self-inside-requires-clause-named : goal.preference_after-self-inside-requires-clause-named
+preference_after-self-inside-requires-clause-named g c =
+    let a = c.self.inside in
+    let child : Header = record { id = c.args.id; parent = c.args.parent; height = c.args.height } in
+    let old = view a.params a.polls a.root a.tree in
+    names_kept a.params a.polls c.issue.new.root c.issue.new.tree (issued old child) (c.in_ok-issue.ensures.board a.polls)
+    (names_issued old child (names_seen a.params a.polls a.tree c.self.invariant.named) c.named.ensures)
+
+pub preference_after-self-inside-requires-clause-fit : goal.preference_after-self-inside-requires-clause-fit
+preference_after-self-inside-requires-clause-fit g c = c.in_ok-issue.ensures.fit c.self.inside.polls c.self.invariant.fit
+
+pub invariant_of-self-2 : goal.invariant_of-self-2
+invariant_of-self-2 g c =
+    let a = c.self.inside in
+    let answer = g.R.Rule.answer in
+    let child : Header = record { id = c.args.id; parent = c.args.parent; height = c.args.height } in
+    let old = view a.params a.polls a.root a.tree in
+    let new : view a.params a.polls c.issue.new.root c.issue.new.tree ≡ issued old child = c.in_ok-issue.ensures.board a.polls in
+    let may : MayIssue old child = subst (λ (s : Shown). MayIssue s.board child) (sym c.self.view_is) c.requires in
+    let leading : Leading = record { block = a.preference; is_top = c.is_top-on_top.result } in
+    let was : IsLeading answer old leading = record { block = c.self.invariant.preference; top = c.is_top-on_top.ensures } in
+    let alone = latest_alone old child may (grown_seen a.params a.polls a.tree.last a.tree c.last-last.ensures.grown) in
+    let after = leading_issued answer g.met.R.Rule.agrees old child leading may.unknown alone was in
+    let longer = ap (λ (b : Board). length b.pending) new ∙ issued_length old child in
+    record {
+      fit = c.in_ok-issue.ensures.fit a.polls c.self.invariant.fit;
+      named =
+          names_kept a.params a.polls c.issue.new.root c.issue.new.tree (issued old child) new
+          (names_issued old child (names_seen a.params a.polls a.tree c.self.invariant.named) c.named.ensures);
+      preference = c.preference_after-self-inside.ensures ∙ ap (λ b. (leading_after answer leading b child).block) new ∙ after.block ∙ ap (preferred answer) (sym new);
+      room = record {
+        decides = let before = view_length a.params a.polls a.root a.tree in grind (arith, common_steps);
+        counts = c.self.invariant.room.counts;
+        gathers = c.self.invariant.room.gathers;
+      };
+    }

@@ -1,0 +1,28 @@
+-- A board that is kept by a tree, and what is true of each.
+use Rattle.std.specs.Prelude.{◌≡◌, ◌⊎◌, ℕ, List}
+use Rattle.snow_flake.specs.Parameters.{Parameters}
+use Rattle.snow_flake.specs.Rule.{Answer}
+use Rattle.snow_plain.specs.declared.decision.Decision.{Decision}
+use Rattle.snow_plain.specs.Conflict.{Counters}
+use Rattle.snow_plain.specs.FailingLaw.{failed}
+use Rattle.snow_plain.specs.Preference.{preferred}
+use Rattle.snow_plain.specs.Shown.{Shown, HasRoom}
+use Rattle.snow_tree.specs.Held.{Held, blocks_in}
+use Rattle.snow_topo.specs.Kept.{Kept}
+use Rattle.snow_topo.specs.View.{view, AreFit}
+use Rattle.snow_topo.specs.Walking.{AreNamed}
+
+-- the board, with the decisions of the last poll
+abbrev pub shown_board : Parameters → ℕ → Kept → Held Kept → List Decision → Shown
+shown_board p polls root held decided = record { board = view p polls root held; decided = decided }
+
+-- what is kept fits, this is the preference, and there is room for the next poll
+pub record IsStanding (answer : Answer) (p : Parameters) (polls : ℕ) (root : Kept) (held : Held Kept) (leading : List ℕ) (decisions votes children : ℕ) : Type 0 where
+  pub fit : AreFit p polls root held
+  pub named : AreNamed (blocks_in held.pending)
+  pub preference : leading ≡ preferred answer (view p polls root held)
+  pub room : HasRoom (view p polls root held) decisions votes children
+
+-- counters that a tree keeps are those of the board, or have failed there since the tree recorded a poll
+abbrev pub AreKept : Parameters → Counters → Counters → Type 0
+AreKept p board kept = (board ≡ kept) ⊎ (board ≡ failed p kept)

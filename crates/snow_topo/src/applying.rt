@@ -1,0 +1,56 @@
+ghost use Rattle.std.specs.Prelude.{◌≡◌, ◌+◌, ◌*◌, ◌^◌, ◌<◌, ◌≤◌, false, All, length, vec_capacity};
+ghost use Rattle.snow_base.specs.Votes.{total_count};
+ghost use Rattle.snow_plain.specs.Poll.{poll};
+ghost use Rattle.snow_plain.specs.Preference.{preferred};
+ghost use Rattle.snow_tree.specs.Held.{blocks_in};
+ghost use Rattle.snow_topo.specs.View.{view, AreFit};
+ghost use Rattle.snow_topo.specs.Recording.{recording};
+
+use crate::climber::Climber;
+use crate::counting::count;
+use crate::load::Load;
+use crate::settling::settle;
+use snow_base::{Bag, Steps, Vote};
+use snow_flake::{Params, Rule};
+use snow_plain::Decision;
+use snow_tree::Tree;
+use std::sync::ledger::Ledger;
+
+/// A poll: every counter takes the bit step with its own votes, and then blocks are accepted and
+/// rejected. After it one poll more was recorded. The answer is false only where the board prefers what
+/// it preferred. It takes no memory where there is room for the votes, for them once more by child, and
+/// for a decision on each pending block.
+pub(crate) fn apply<R: Rule, L: Ledger>(
+    params: &Params,
+    polls: u64,
+    root: &mut Load<R>,
+    tree: &mut Tree<Load<R>>,
+    votes: &[Vote],
+    climbers: &mut Vec<Climber>,
+    children: &mut Bag,
+    decisions: &mut Vec<Decision>,
+    steps: &mut Steps<L>,
+) -> bool
+    requires room { polls + 1 < 2 ^ 64 }
+    requires fits { length votes.now ≤ vec_capacity climbers.old }
+    requires places { length votes.now ≤ children.old.room + length children.old.list }
+    requires counts { All (λ v. 0 < v.count) votes.now }
+    requires total { total_count votes.now ≤ params.now.k }
+    requires fit { AreFit params.now polls root.old tree.old }
+    requires decisions { length (tree.old).pending ≤ vec_capacity decisions.old }
+    ensures board { view params.now (polls + 1) root.new tree.new ≡ (poll (view params.now polls root.old tree.old) votes.now).0 }
+    ensures decided { decisions.new.items ≡ (poll (view params.now polls root.old tree.old) votes.now).1 }
+    ensures fit { AreFit params.now (polls + 1) root.new tree.new }
+    ensures fewer { length (tree.new).pending ≤ length (tree.old).pending }
+    ensures places { children.old.room + length children.old.list ≤ children.new.room + length children.new.list }
+    ensures climbers { vec_capacity climbers.new ≡ vec_capacity climbers.old }
+    ensures decisions { vec_capacity decisions.new ≡ vec_capacity decisions.old }
+    ensures steady { result ≡ false → preferred R.answer (view params.now (polls + 1) root.new tree.new) ≡ preferred R.answer (view params.now polls root.old tree.old) }
+    ensures steps { steps.new ≤ steps.old + 5 * recording params.now (tree.old).last (blocks_in (tree.old).pending) votes.now }
+{
+    let moved = count(params, root, tree, polls, votes, climbers, children, steps);
+    let _last = tree.last();
+    decisions.clear();
+    settle(params, polls + 1, root, tree, decisions);
+    moved
+}

@@ -1,0 +1,83 @@
+ghost use Rattle.std.specs.Prelude.{◌≡◌, ℕ, true, false, IfSome, OnOk, OnErr, slice_get};
+ghost use Rattle.snow_plain.specs.Board.{issued};
+ghost use Rattle.snow_plain.specs.Grown.{is_on};
+ghost use Rattle.snow_tree.specs.Held.{blocks_in, with_load};
+ghost use Rattle.snow_topo.specs.Kept.{gained};
+ghost use Rattle.snow_topo.specs.View.{view, AreFit};
+ghost use Rattle.snow_topo.specs.Gaining.{gained_by, all_gained};
+
+use crate::load::Load;
+use snow_base::{Header, Id};
+use snow_flake::{Params, Rule};
+use snow_tree::Tree;
+use std::alloc::{AllocError, Global};
+
+// What is kept at a place has one child more. After want of memory all is as before.
+fn add_at<R: Rule>(
+    alloc: Global,
+    params: &Params,
+    tree: &mut Tree<Load<R>>,
+    at: usize,
+    id: &Id,
+) -> Result<(), AllocError>
+    ensures ok { IfSome (slice_get (tree.old).pending at) (λ e. OnOk result (tree.new ≡ with_load tree.old at (gained params.now id.now e.load))) }
+    ensures err { OnErr result (tree.new ≡ tree.old) }
+{
+    match tree.load_mut(at) {
+        Some(load) => load.add(alloc, params, id),
+        None => Ok(()),
+    }
+}
+
+// A block was issued: its parent has one child more. After want of memory all is as before.
+fn add_below<R: Rule>(
+    alloc: Global,
+    params: &Params,
+    root: &mut Load<R>,
+    tree: &mut Tree<Load<R>>,
+    child: &Header,
+) -> Result<(), AllocError>
+    ensures root { OnOk result (root.new ≡ gained_by params.now child.now (tree.old).last root.old) }
+    ensures tree { OnOk result (tree.new ≡ all_gained params.now child.now tree.old) }
+    ensures root_stays { OnErr result (root.new ≡ root.old) }
+    ensures tree_stays { OnErr result (tree.new ≡ tree.old) }
+{
+    if tree.last() == child.parent {
+        return root.add(alloc, params, &child.id);
+    }
+    match tree.place_of(&child.parent) {
+        Some(at) => add_at(alloc, params, tree, at, &child.id),
+        None => Ok(()),
+    }
+}
+
+/// A block is issued: it is the last pending one, without children, and its parent has one child more.
+/// It costs what its parent's tree costs, however many blocks are pending. After want of memory all is
+/// as before, but that no block is told as rejected any more.
+pub(crate) fn issue<R: Rule>(
+    alloc: Global,
+    params: &Params,
+    root: &mut Load<R>,
+    tree: &mut Tree<Load<R>>,
+    child: &Header,
+) -> Result<(), AllocError>
+    requires unknown { is_on (tree.old).last (blocks_in (tree.old).pending) (child.now).id ≡ false }
+    requires follows { is_on (tree.old).last (blocks_in (tree.old).pending) (child.now).parent ≡ true }
+    ensures board { OnOk result ((polls : ℕ) → view params.now polls root.new tree.new ≡ issued (view params.now polls root.old tree.old) child.now) }
+    ensures fit { OnOk result ((polls : ℕ) → AreFit params.now polls root.old tree.old → AreFit params.now polls root.new tree.new) }
+    ensures root_stays { OnErr result (root.new ≡ root.old) }
+    ensures tree_stays { OnErr result (tree.new ≡ record (tree.old) { rejected = (tree.new).rejected }) }
+{
+    let _k = params.k();
+    let _last = tree.last();
+    let inserted = tree.insert(child.id, child.parent, child.height, Load::new());
+    if inserted.is_err() {
+        return Err(AllocError);
+    }
+    let added = add_below(alloc, params, root, tree, child);
+    if added.is_err() {
+        let _ = tree.take_back();
+        return Err(AllocError);
+    }
+    Ok(())
+}

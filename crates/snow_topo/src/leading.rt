@@ -1,0 +1,212 @@
+ghost use Rattle.std.specs.Prelude.{◌≡◌, ℕ, ◌^◌, ◌<◌, true, false, [], ◌∷◌, All, None, IfSome, bytes_eq};
+ghost use Rattle.std.specs.List.{list_any};
+ghost use Rattle.std.specs.Option.{option_copied};
+ghost use Rattle.snow_plain.specs.declared.leading.Leading.{Leading};
+ghost use Rattle.snow_plain.specs.Ending.{IsTop, leading_after};
+ghost use Rattle.snow_plain.specs.Preference.{path_from, preferred_path, preferred, is_preferred};
+ghost use Rattle.snow_tree.specs.Held.{blocks_in, children_of};
+ghost use Rattle.snow_topo.specs.Kept.{shown, IsFit};
+ghost use Rattle.snow_topo.specs.View.{all_pending, view, AreFit};
+ghost use Rattle.snow_topo.specs.Walking.{IsNamed, AreNamed, kept_of};
+
+use crate::load::Load;
+use snow_base::{Header, Id};
+use snow_flake::{Params, Rule};
+use snow_tree::Tree;
+
+// Bytes are small, as their type says.
+fn small(bytes: &[u8])
+    ensures { All (λ b. b < 2 ^ 8) bytes.now }
+{
+    let _len = bytes.len();
+}
+
+/// An identifier has 32 bytes, which contracts see as a list of numbers.
+pub(crate) fn named(id: &Id)
+    ensures { IsNamed id.now }
+{
+    small(id.as_bytes());
+}
+
+/// What is kept of a block on the board.
+pub(crate) fn kept_of<'a, R: Rule>(
+    root: &'a Load<R>,
+    tree: &'a Tree<Load<R>>,
+    id: &Id,
+) -> Option<&'a Load<R>>
+    ensures { option_copied result ≡ kept_of root.now tree.now id.now }
+{
+    if tree.last() == *id {
+        return Some(root);
+    }
+    let place = tree.place_of(id)?;
+    tree.load(place)
+}
+
+// The child to which the answers lead from a block, with what is kept of it; nothing where there is none.
+fn next_of<'a, R: Rule>(
+    params: &Params,
+    polls: u64,
+    tree: &'a Tree<Load<R>>,
+    id: &Id,
+    load: &Load<R>,
+) -> Option<(Id, &'a Load<R>)>
+    requires named { AreNamed (blocks_in (tree.now).pending) }
+    requires all { All (λ e. IsFit params.now polls (children_of (blocks_in (tree.now).pending) e.block.id) e.load) (tree.now).pending }
+    requires fit { IsFit params.now polls (children_of (blocks_in (tree.now).pending) id.now) load.now }
+    ensures some { IfSome result (λ r. path_from R.answer id.now (shown params.now polls load.now) (all_pending params.now polls (tree.now).pending)
+        ≡ r.0 ∷ path_from R.answer r.0 (shown params.now polls r.1.now) (all_pending params.now polls (tree.now).pending)) }
+    ensures fit { IfSome result (λ r. IsFit params.now polls (children_of (blocks_in (tree.now).pending) r.0) r.1.now) }
+    ensures none { result ≡ None → path_from R.answer id.now (shown params.now polls load.now) (all_pending params.now polls (tree.now).pending) ≡ [] }
+{
+    let _k = params.k();
+    let _last = tree.last();
+    let trie = load.trie()?;
+    let next = trie.preference();
+    let place = tree.place_of(&next)?;
+    let below = tree.load(place)?;
+    Some((next, below))
+}
+
+/// The preference, by a walk from child to child.
+pub(crate) fn preference_of<R: Rule>(
+    params: &Params,
+    polls: u64,
+    root: &Load<R>,
+    tree: &Tree<Load<R>>,
+) -> Id
+    requires named { AreNamed (blocks_in (tree.now).pending) }
+    requires fit { AreFit params.now polls root.now tree.now }
+    ensures { result ≡ preferred R.answer (view params.now polls root.now tree.now) }
+{
+    let mut at = tree.last();
+    let mut load = root;
+    while let Some((next, below)) = next_of(params, polls, tree, &at, load) {
+        at = next;
+        load = below;
+    }
+    at
+}
+
+// Whether the walk from child to child comes to a block.
+fn passes<R: Rule>(
+    params: &Params,
+    polls: u64,
+    root: &Load<R>,
+    tree: &Tree<Load<R>>,
+    id: &Id,
+) -> bool
+    requires named { AreNamed (blocks_in (tree.now).pending) }
+    requires fit { AreFit params.now polls root.now tree.now }
+    ensures { result ≡ list_any (λ other. bytes_eq other id.now) (preferred_path R.answer (view params.now polls root.now tree.now)) }
+{
+    let mut at = tree.last();
+    let mut load = root;
+    while let Some((next, below)) = next_of(params, polls, tree, &at, load) {
+        if next == *id {
+            return true;
+        }
+        at = next;
+        load = below;
+    }
+    false
+}
+
+/// Whether a block is on the path to the preference. Nothing is walked for the last accepted block and
+/// for a block without children, which is on the path where it is its end.
+pub(crate) fn is_preferred<R: Rule>(
+    params: &Params,
+    polls: u64,
+    root: &Load<R>,
+    tree: &Tree<Load<R>>,
+    preference: &Id,
+    id: &Id,
+) -> bool
+    requires named { AreNamed (blocks_in (tree.now).pending) }
+    requires fit { AreFit params.now polls root.now tree.now }
+    requires preference { preference.now ≡ preferred R.answer (view params.now polls root.now tree.now) }
+    ensures { result ≡ is_preferred R.answer (view params.now polls root.now tree.now) id.now }
+{
+    if tree.last() == *id {
+        return true;
+    }
+    let Some(load) = kept_of(root, tree, id) else {
+        return false;
+    };
+    match load.trie() {
+        Some(_) => passes(params, polls, root, tree, id),
+        None => *preference == *id,
+    }
+}
+
+/// Whether a block is the preference, and no block stands above it: it has no tree of children.
+pub(crate) fn is_top<R: Rule>(
+    params: &Params,
+    polls: u64,
+    root: &Load<R>,
+    tree: &Tree<Load<R>>,
+    preference: &Id,
+    id: &Id,
+) -> bool
+    requires fit { AreFit params.now polls root.now tree.now }
+    requires preference { preference.now ≡ preferred R.answer (view params.now polls root.now tree.now) }
+    ensures { result ≡ true → IsTop R.answer (view params.now polls root.now tree.now) }
+{
+    let _last = tree.last();
+    if *preference != *id {
+        return false;
+    }
+    let Some(load) = kept_of(root, tree, id) else {
+        return false;
+    };
+    match load.trie() {
+        Some(_) => false,
+        None => true,
+    }
+}
+
+/// The preference after a child was issued, where this one was it before. Nothing is walked where no block
+/// stood above it, or the child doesn't.
+pub(crate) fn preference_after<R: Rule>(
+    params: &Params,
+    polls: u64,
+    root: &Load<R>,
+    tree: &Tree<Load<R>>,
+    preference: &Id,
+    is_top: bool,
+    child: &Header,
+) -> Id
+    requires named { AreNamed (blocks_in (tree.now).pending) }
+    requires fit { AreFit params.now polls root.now tree.now }
+    ensures { let leading : Leading = record { block = preference.now; is_top = is_top } in
+        result ≡ (leading_after R.answer leading (view params.now polls root.now tree.now) child.now).block }
+{
+    if child.parent != *preference {
+        return *preference;
+    }
+    if is_top {
+        return child.id;
+    }
+    preference_of(params, polls, root, tree)
+}
+
+/// The preference after a poll, where this one was it before, and is still where the poll moved none.
+pub(crate) fn preference_kept<R: Rule>(
+    params: &Params,
+    polls: u64,
+    root: &Load<R>,
+    tree: &Tree<Load<R>>,
+    preference: &Id,
+    moved: bool,
+) -> Id
+    requires named { AreNamed (blocks_in (tree.now).pending) }
+    requires fit { AreFit params.now polls root.now tree.now }
+    requires steady { moved ≡ false → preference.now ≡ preferred R.answer (view params.now polls root.now tree.now) }
+    ensures { result ≡ preferred R.answer (view params.now polls root.now tree.now) }
+{
+    if moved {
+        preference_of(params, polls, root, tree)
+    } else {
+        *preference
+    }
+}

@@ -1,0 +1,34 @@
+ghost use Rattle.std.specs.Prelude.{◌≡◌, ◌+◌, ◌≤◌, ◌++◌, length, vec_capacity};
+ghost use Rattle.snow_plain.specs.Poll.{settled};
+ghost use Rattle.snow_topo.specs.View.{view, AreFit};
+
+use crate::accepting::accept_next;
+use crate::load::Load;
+use snow_flake::{Params, Rule};
+use snow_plain::Decision;
+use snow_tree::Tree;
+
+/// Accepts children of the last accepted block while decided counters lead to one, and tells the
+/// decisions in order. It takes no memory where there is room for one on each pending block.
+pub(crate) fn settle<R: Rule>(
+    params: &Params,
+    polls: u64,
+    root: &mut Load<R>,
+    tree: &mut Tree<Load<R>>,
+    decisions: &mut Vec<Decision>,
+)
+    requires fit { AreFit params.now polls root.old tree.old }
+    requires room { length decisions.old.items + length (tree.old).pending ≤ vec_capacity decisions.old }
+    ensures board { let before = view params.now polls root.old tree.old in
+        view params.now polls root.new tree.new ≡ (settled (length before.pending) before).0 }
+    ensures told { let before = view params.now polls root.old tree.old in
+        decisions.new.items ≡ decisions.old.items ++ (settled (length before.pending) before).1 }
+    ensures fit { AreFit params.now polls root.new tree.new }
+    ensures room { vec_capacity decisions.new ≡ vec_capacity decisions.old }
+    ensures fewer { length decisions.new.items + length (tree.new).pending ≤ length decisions.old.items + length (tree.old).pending }
+{
+    let mut more = true;
+    while more {
+        more = accept_next(params, polls, root, tree, decisions);
+    }
+}

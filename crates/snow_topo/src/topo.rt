@@ -1,0 +1,232 @@
+ghost use Rattle.std.specs.Prelude.{◌≡◌, ◌+◌, ◌<◌, ◌≤◌, ◌&&◌, IfSome, is_some};
+ghost use Rattle.std.specs.Option.{option_copied};
+ghost use Rattle.snow_base.specs.Votes.{total_count};
+ghost use Rattle.snow_plain.specs.Board.{blocks_of, counters_on};
+ghost use Rattle.snow_plain.specs.Ending.{has_pending_child};
+ghost use Rattle.snow_plain.specs.Grown.{is_on};
+ghost use Rattle.snow_plain.specs.Poll.{poll};
+ghost use Rattle.snow_topo.specs.Costs.{most_steps};
+ghost use Rattle.snow_topo.specs.Standing.{AreKept};
+
+use crate::applying::apply;
+use crate::climber::Climber;
+use crate::issuing::issue;
+use crate::leading::{is_preferred, is_top, kept_of, named, preference_after, preference_kept};
+use crate::load::Load;
+use crate::renewing::renew;
+use snow_base::{Bag, Header, Id, Steps};
+use snow_flake::{Params, Rule};
+use snow_plain::{Board, Decision};
+use snow_tree::Tree;
+use snow_trie::Trie;
+use std::alloc::{AllocError, Global};
+use std::marker::{Brand, Model};
+use std::sync::ledger::{Blank, Ledger};
+
+/// A board whose counters stand in compressed trees, one for each block that has children. A poll
+/// visits the trees of the blocks below which there are AlphaPreference votes, and no others; these have
+/// failed by the number of the poll. An issue costs the tree of the parent. The preference is kept, and
+/// walked anew from child to child only where a poll moved it. The rule says how the counters answer.
+#[derive(Debug, Drop)]
+pub struct Topo<R: Rule> {
+    params: Params,
+    // How many polls were recorded, as each tree notes of its last one.
+    polls: u64,
+    // What is kept of the last accepted block, and of those above it.
+    root: Load<R>,
+    tree: Tree<Load<R>>,
+    preference: Id,
+    decisions: Vec<Decision>,
+    // Room for the votes of a poll, and for those that came to one block, by its children.
+    climbers: Vec<Climber>,
+    children: Bag,
+    alloc: Global,
+}
+
+impl<R: Rule> Model for Topo<R> {
+    ghost use Rattle.std.specs.Prelude.{◌+◌, length, vec_capacity};
+    ghost use Rattle.snow_plain.specs.Shown.{Shown, coded_shown};
+    ghost use Rattle.snow_topo.specs.Standing.{shown_board, IsStanding};
+
+    ghost Value = { Shown };
+
+    ghost coded = { coded_shown };
+
+    ghost view = { λ a. shown_board a.params a.polls a.root a.tree a.decisions.items };
+
+    ghost invariant = { λ a.
+        IsStanding R.answer a.params a.polls a.root a.tree a.preference
+        (vec_capacity a.decisions) (vec_capacity a.climbers) (a.children.room + length a.children.list) };
+}
+
+// A poll whose steps nobody counts.
+fn apply_alone<R: Rule, L: Ledger>(board: &mut Topo<R>, votes: &Bag, blank: Blank)
+    requires name { blank.name ≡ L.name }
+    requires parts { blank.parts ≡ L.parts }
+    requires some { 0 < L.parts }
+    requires most { total_count votes.now.list ≤ (board.old).board.parameters.k }
+    ensures board { (board.new).board ≡ (poll (board.old).board votes.now.list).0 }
+    ensures decided { (board.new).decided ≡ (poll (board.old).board votes.now.list).1 }
+{
+    let mut steps = Steps::<L>::new(blank);
+    board.apply_counted(votes, &mut steps);
+}
+
+impl<R: Rule> Topo<R> {
+    /// `apply_poll` with its steps counted. A step is a node of a tree that is visited, or the failing of
+    /// a tree.
+    pub fn apply_counted<L: Ledger>(&mut self, votes: &Bag, steps: &mut Steps<L>)
+        requires { total_count votes.now.list ≤ (self.old).board.parameters.k }
+        ensures board { (self.new).board ≡ (poll (self.old).board votes.now.list).0 }
+        ensures decided { (self.new).decided ≡ (poll (self.old).board votes.now.list).1 }
+        ensures steps { steps.new ≤ steps.old + most_steps (self.old).board votes.now.list }
+    {
+        self.polls = renew(self.polls, &mut self.root, &mut self.tree);
+        let moved = apply(
+            &self.params,
+            self.polls,
+            &mut self.root,
+            &mut self.tree,
+            votes.entries(),
+            &mut self.climbers,
+            &mut self.children,
+            &mut self.decisions,
+            steps,
+        );
+        self.polls += 1;
+        self.preference = preference_kept(
+            &self.params,
+            self.polls,
+            &self.root,
+            &self.tree,
+            &self.preference,
+            moved,
+        );
+    }
+
+    /// The tree of a block's children; none where the block isn't on the board or has no child there.
+    /// Its counters are those of the board, or the board's are what failing makes of them.
+    pub fn trie_of(&self, parent: &Id) -> Option<&Trie<R>>
+        ensures some { is_some result ≡ (is_on (self.now).board.last (blocks_of (self.now).board.pending) parent.now && has_pending_child (self.now).board.pending parent.now) }
+        ensures counters { IfSome (option_copied result) (λ t. AreKept (self.now).board.parameters (counters_on (self.now).board parent.now) t.counters) }
+    {
+        kept_of(&self.root, &self.tree, parent)?.trie()
+    }
+}
+
+impl<R: Rule> Board for Topo<R> {
+    ghost board = { λ a. a.board };
+
+    ghost decided = { λ a. a.decided };
+
+    ghost answer = { R.answer };
+
+    ghost agrees = { R.agrees };
+
+    fn begin(alloc: Global, params: Params, last: Id, height: u64) -> Result<Self, AllocError> {
+        let votes = params.k() as usize;
+        let climbers = Vec::with_capacity(alloc, votes)?;
+        let mut children = Bag::new(alloc);
+        children.reserve(votes)?;
+        Ok(Topo {
+            params,
+            polls: 0,
+            root: Load::new(),
+            tree: Tree::new(alloc, last, height),
+            preference: last,
+            decisions: Vec::new(alloc),
+            climbers,
+            children,
+            alloc,
+        })
+    }
+
+    fn issue(&mut self, id: Id, parent: Id, height: u64) -> Result<(), AllocError> {
+        named(&id);
+        let _last = self.tree.last();
+        self.decisions.reserve(self.tree.len() + 1)?;
+        let child = Header { id, parent, height };
+        let on_top = is_top(
+            &self.params,
+            self.polls,
+            &self.root,
+            &self.tree,
+            &self.preference,
+            &parent,
+        );
+        issue(
+            self.alloc,
+            &self.params,
+            &mut self.root,
+            &mut self.tree,
+            &child,
+        )?;
+        self.preference = preference_after(
+            &self.params,
+            self.polls,
+            &self.root,
+            &self.tree,
+            &self.preference,
+            on_top,
+            &child,
+        );
+        self.decisions.clear();
+        Ok(())
+    }
+
+    fn apply_poll(&mut self, votes: &Bag) {
+        apply_alone::<R, Brand>(self, votes, Blank::new(1));
+    }
+
+    fn decisions(&self) -> &[Decision] {
+        self.decisions.as_slice()
+    }
+
+    fn preference(&self) -> Id {
+        self.preference
+    }
+
+    fn is_preferred(&self, id: &Id) -> bool {
+        is_preferred(
+            &self.params,
+            self.polls,
+            &self.root,
+            &self.tree,
+            &self.preference,
+            id,
+        )
+    }
+
+    fn is_pending(&self, id: &Id) -> bool {
+        self.tree.header_of(id).is_some()
+    }
+
+    fn parent_of(&self, id: &Id) -> Option<Id> {
+        match self.tree.header_of(id) {
+            Some(block) => Some(block.parent),
+            None => None,
+        }
+    }
+
+    fn height_of(&self, id: &Id) -> Option<u64> {
+        if self.tree.last() == *id {
+            return Some(self.tree.last_height());
+        }
+        match self.tree.header_of(id) {
+            Some(block) => Some(block.height),
+            None => None,
+        }
+    }
+
+    fn last(&self) -> Id {
+        self.tree.last()
+    }
+
+    fn last_height(&self) -> u64 {
+        self.tree.last_height()
+    }
+
+    fn pending_len(&self) -> usize {
+        self.tree.len()
+    }
+}

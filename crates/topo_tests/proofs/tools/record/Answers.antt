@@ -1,0 +1,7 @@
+use Rattle.std.proofs.Common.{ap, ◌∙◌}
+use Rattle.snow_plain.specs.Board.{Board}
+use Rattle.snow_plain.proofs.Polled.{poll_parameters}
+use Rattle.topo_tests.proofs.tools.record.Goals as goal
+
+pub returns : goal.returns
+returns g c = ap (λ (b : Board). b.parameters) c.apply_poll.ensures.board ∙ poll_parameters (g.B.Board.board c.args.board.now) c.args.votes.now.list
