@@ -3,10 +3,11 @@ use Rattle.std.proofs.Common.{◌≡◌, ℕ, zero, suc, ◌+◌, ◌*◌, ◌/�
 use Rattle.std.specs.Int.{is_power_of_two}
 use Rattle.std.specs.Int.Count.{ones, ones_step}
 use Rattle.std.specs.List.{list_any, range_with_len}
-use Rattle.std.proofs.lemmas.Bool.{cases_eq, cond-true, cond-false, eqb-true, eq-eqb, lt-leb}
+use Rattle.std.proofs.lemmas.Bool.{cases_eq, cases_lt, cond-true, cond-false, eqb-true, eq-eqb, le-leb, lt-leb}
 use Rattle.std.proofs.lemmas.List.Folds.{list_any_at, Any-from_list_any}
 use Rattle.std.proofs.lemmas.List.FromFn.{length-range_with_len, get_or-range_with_len}
-use Rattle.std.proofs.lemmas.Nat.{zero_from_ones, ones_cat, ones-le, pow_pos, and_le_r}
+use Rattle.std.proofs.lemmas.Nat.{zero_from_ones, ones_cat, ones-le, pow_pos, and_le_r, div-add-mod'}
+use Rattle.std.proofs.Math.Nat.{add-mul, one-mul, mod-lt, mul-le-mul_right}
 use Rattle.snow_sample.specs.Words.{is_power, masked, reduced, choice, IsRest}
 
 -- ---- powers of two
@@ -69,9 +70,41 @@ choice_masked n words h power = cond-true _ (masked n words) (reduced n words) (
 pub choice_reduced : (n : ℕ) (words : List ℕ) → n + 1 < 2 ^ 64 → is_power_of_two (n + 1) ≡ false → choice n words ≡ reduced n words
 choice_reduced n words h other = cond-false _ (masked n words) (reduced n words) (sym (same_power (n + 1) h) ∙ other)
 
+-- the values with the quotient of this one are below 2^63 just where it is below the last multiple of n + 1
+same_pass : (n value : ℕ) → n + 1 < 2 ^ 63 → nat_le (value - value % (n + 1)) (2 ^ 63 - 1 - n) ≡ nat_le value (2 ^ 63 - 1 - 2 ^ 63 % (n + 1))
+same_pass n value small =
+    let m = n + 1 in
+    let some : 0 < m = omega arith in
+    let q = value / m in
+    let blocks = 2 ^ 63 / m in
+    let own : q * m + value % m ≡ value = div-add-mod' value m in
+    let whole : blocks * m + 2 ^ 63 % m ≡ 2 ^ 63 = div-add-mod' (2 ^ 63) m in
+    let below : value % m < m = mod-lt value some in
+    let rest : 2 ^ 63 % m < m = mod-lt (2 ^ 63) some in
+    let next : (q + 1) * m ≡ q * m + m = omega (arith, add-mul q 1 m, one-mul m) in
+    elim (cases_lt q blocks) [
+      | inl less ↦
+          let up : (q + 1) * m ≤ blocks * m = mul-le-mul_right m (omega arith) in
+          le-leb _ _ (omega arith) ∙ sym (le-leb _ _ (omega arith))
+      | inr more ↦
+          let up : blocks * m ≤ q * m = mul-le-mul_right m (omega arith) in
+          lt-leb _ _ (omega arith) ∙ sym (lt-leb _ _ (omega arith))
+    ]
+
+-- a word is taken
+pub taken : (n word : ℕ) (words : List ℕ) → n + 1 < 2 ^ 63
+    → bit_and word (2 ^ 63 - 1) - bit_and word (2 ^ 63 - 1) % (n + 1) ≤ 2 ^ 63 - 1 - n
+    → reduced n (word ∷ words) ≡ Some (bit_and word (2 ^ 63 - 1) % (n + 1), words)
+taken n word words small h =
+    let value = bit_and word (2 ^ 63 - 1) in
+    cond-true _ (Some (value % (n + 1), words)) (reduced n words) (sym (same_pass n value small) ∙ le-leb _ _ h)
+
 -- a word is passed over
-pub passed : (n word : ℕ) (words : List ℕ) → 2 ^ 63 - 1 - 2 ^ 63 % (n + 1) < bit_and word (2 ^ 63 - 1) → reduced n (word ∷ words) ≡ reduced n words
-passed n word words h = cond-false _ (Some (bit_and word (2 ^ 63 - 1) % (n + 1), words)) (reduced n words) (lt-leb _ _ h)
+pub passed : (n word : ℕ) (words : List ℕ) → n + 1 < 2 ^ 63
+    → 2 ^ 63 - 1 - n < bit_and word (2 ^ 63 - 1) - bit_and word (2 ^ 63 - 1) % (n + 1) → reduced n (word ∷ words) ≡ reduced n words
+passed n word words small h =
+    let value = bit_and word (2 ^ 63 - 1) in
+    cond-false _ (Some (value % (n + 1), words)) (reduced n words) (sym (same_pass n value small) ∙ lt-leb _ _ h)
 
 -- ---- the words that are left
 

@@ -1,18 +1,14 @@
 -- Lemmas on draws: where a node's are counted, and how many there are.
 use Rattle.std.proofs.Common.{◌≡◌, ◌≢◌, ℕ, zero, suc, ◌+◌, ◌<◌, Bool, true, false, cond, List, [], ◌∷◌, ◌++◌, length, get_or, set, None, Some, Option, All, refl, sym, ap, ◌∙◌, arith}
-use Rattle.std.specs.BTreeMap.{BTreeMap, Updates, get}
-use Rattle.std.specs.Cmp.Lexicographic.{slice_cmp}
 use Rattle.std.specs.Option.{option_map}
-use Rattle.std.specs.Ordering.{nat_cmp}
 use Rattle.std.specs.Str.{bytes_eq}
 use Rattle.std.proofs.lemmas.Bool.{both_ways}
 use Rattle.std.proofs.lemmas.List.Elements.{All-cons, All-head, All-tail}
 use Rattle.std.proofs.lemmas.List.Kept.{AllPairs-cons}
 use Rattle.std.proofs.lemmas.List.Sums.{sum_by-cons}
-use Rattle.std.proofs.lemmas.Map.Text.{is_eq-slice_cmp}
 use Rattle.std.proofs.lemmas.Slice.Eq.{bytes_eq-Decides}
 use Rattle.snow_sample.specs.declared.draws.Draw.{Draw}
-use Rattle.snow_sample.specs.Kept.{place, one_more, HasPlaces}
+use Rattle.snow_sample.specs.Kept.{place, one_more}
 use Rattle.snow_sample.specs.Sampling.{counted, draw_count, AreOfDistinctNodes}
 
 -- ---- one draw more
@@ -93,14 +89,6 @@ place_new (d ∷ draws) node other none =
     moved true false end o differ = refl
     moved false true end o differ = refl
     moved false false end o differ = refl
-
--- the places after a first draw, in the map
-pub places_new : (places more : BTreeMap (List ℕ) ℕ) (draws : List Draw) (node : List ℕ) → HasPlaces places draws → place draws node ≡ None
-    → Updates (slice_cmp nat_cmp) places more node (Some (length draws)) → HasPlaces more (counted draws node)
-places_new places more draws node has none updates other =
-    updates.0 other ∙ ap (λ same. cond same (Some (length draws)) (get (slice_cmp nat_cmp) places other)) (is_eq-slice_cmp node other)
-    ∙ ap (cond (bytes_eq node other) (Some (length draws))) (has other)
-    ∙ sym (ap (λ l. place l other) (counted_new draws node none) ∙ place_new draws node other none)
 
 -- ---- how many draws, and of which nodes
 

@@ -1,6 +1,5 @@
 -- Lemmas on drawing: what positions later draws look at, and how one draw more goes on.
 use Rattle.std.proofs.Common.{◌≡◌, ℕ, zero, suc, ◌+◌, ◌-◌, ◌<◌, ◌≤◌, cond, List, [], None, Some, Option, Result, Ok, Err, map, fold, ◌==◌, refl, sym, ap, ◌∙◌, arith, inl, inr}
-use Rattle.std.specs.BTreeMap.{BTreeMap}
 use Rattle.std.specs.Option.{option_and_then}
 use Rattle.std.proofs.lemmas.Bool.{cases_eq, cond-true, cond-false, cond_both, eq-eqb, ne_eqb, le-ltb}
 use Rattle.snow_sample.specs.declared.draws.Draw.{Draw}
@@ -10,7 +9,6 @@ use Rattle.snow_sample.specs.declared.sampling.SampleFault.TheVariants.{WordsOut
 use Rattle.snow_sample.specs.Roster.{total_weight, owner}
 use Rattle.snow_sample.specs.Words.{choice, IsRest}
 use Rattle.snow_sample.specs.Sampling.{swapped, with_unit, drawn_from, drawn, counted, or_out, sample_of, draw_count, AreOfDistinctNodes}
-use Rattle.snow_sample.specs.Kept.{unit_at}
 use Rattle.snow_sample.proofs.Choosing.{rest_whole, rest_rest}
 use Rattle.snow_sample.proofs.Counting.{count_more, distinct_more}
 
@@ -90,21 +88,21 @@ one_more_unit nodes draws unit (Some later) = refl
 -- ---- a sample on its way
 
 -- j of k draws were made: what is still to come makes the sample of the first words, and the draws so far are counted
-pub record Drawing (nodes : List Node) (k j : ℕ) (first words : List ℕ) (moved : BTreeMap ℕ ℕ) (draws : List Draw) : Type 0 where
-  pub later : finished nodes draws (drawn_from (k - j) (total_weight nodes) j (unit_at moved) words) ≡ or_out nodes (drawn k (total_weight nodes) first)
-  pub within : (p : ℕ) → j ≤ p → p < total_weight nodes → unit_at moved p < total_weight nodes
+pub record Drawing (nodes : List Node) (k j : ℕ) (first words : List ℕ) (units : ℕ → ℕ) (draws : List Draw) : Type 0 where
+  pub later : finished nodes draws (drawn_from (k - j) (total_weight nodes) j units words) ≡ or_out nodes (drawn k (total_weight nodes) first)
+  pub within : (p : ℕ) → j ≤ p → p < total_weight nodes → units p < total_weight nodes
   pub count : draw_count draws ≡ j
   pub distinct : AreOfDistinctNodes draws
   pub rest : IsRest first words
 
 -- no draw was made
-pub drawing_begins : (nodes : List Node) (k : ℕ) (words : List ℕ) (moved : BTreeMap ℕ ℕ) → ((p : ℕ) → unit_at moved p ≡ p) → Drawing nodes k 0 words words moved []
-drawing_begins nodes k words moved own =
+pub drawing_begins : (nodes : List Node) (k : ℕ) (words : List ℕ) (units : ℕ → ℕ) → ((p : ℕ) → units p ≡ p) → Drawing nodes k 0 words words units []
+drawing_begins nodes k words units own =
     let total = total_weight nodes in
     let whole : k - 0 ≡ k = omega arith in
     record {
-      later = ap (λ n. finished nodes [] (drawn_from n total 0 (unit_at moved) words)) whole
-          ∙ ap (finished nodes []) (same_drawn k total 0 (unit_at moved) (λ unit. unit) words (λ p h. own p))
+      later = ap (λ n. finished nodes [] (drawn_from n total 0 units words)) whole
+          ∙ ap (finished nodes []) (same_drawn k total 0 units (λ unit. unit) words (λ p h. own p))
           ∙ from_none nodes (drawn k total words);
       within = λ p low high. rw own high;
       count = refl;
@@ -113,21 +111,20 @@ drawing_begins nodes k words moved own =
     }
 
 -- one draw more
-pub drawing_more : (nodes : List Node) (k j r : ℕ) (first words left : List ℕ) (moved more : BTreeMap ℕ ℕ) (draws : List Draw)
-    → Drawing nodes k j first words moved draws → j < k → k ≤ total_weight nodes
+pub drawing_more : (nodes : List Node) (k j r : ℕ) (first words left : List ℕ) (units more : ℕ → ℕ) (draws : List Draw)
+    → Drawing nodes k j first words units draws → j < k → k ≤ total_weight nodes
     → choice (total_weight nodes - 1 - j) words ≡ Some (r, left) → r ≤ total_weight nodes - 1 - j → IsRest words left
-    → ((p : ℕ) → j < p → unit_at more p ≡ swapped (unit_at moved) (j + r) j p)
-    → Drawing nodes k (j + 1) first left more (counted draws (owner nodes (unit_at moved (j + r))))
-drawing_more nodes k j r first words left moved more draws so_far low enough chosen small taken behind =
+    → ((p : ℕ) → j < p → more p ≡ swapped units (j + r) j p)
+    → Drawing nodes k (j + 1) first left more (counted draws (owner nodes (units (j + r))))
+drawing_more nodes k j r first words left units more draws so_far low enough chosen small taken behind =
     let total = total_weight nodes in
-    let units = unit_at moved in
     let fewer : k - j ≡ suc (k - (j + 1)) = omega arith in
     let unit : swapped units (j + r) j j ≡ units (j + r) = given units j r in
-    let stepped : drawn_from (k - j) total j units words ≡ with_unit (units (j + r)) (drawn_from (k - (j + 1)) total (j + 1) (unit_at more) left) =
+    let stepped : drawn_from (k - j) total j units words ≡ with_unit (units (j + r)) (drawn_from (k - (j + 1)) total (j + 1) more left) =
     ap (λ n. drawn_from n total j units words) fewer ∙ drawn_step (k - (j + 1)) total j units words
     ∙ ap (option_and_then (after_choice (k - (j + 1)) total j units)) chosen
     ∙ ap (λ u. with_unit u (drawn_from (k - (j + 1)) total (j + 1) (swapped units (j + r) j) left)) unit
-    ∙ ap (with_unit (units (j + r))) (sym (same_drawn (k - (j + 1)) total (j + 1) (unit_at more) (swapped units (j + r) j) left (λ p h. behind p (omega arith)))) in
+    ∙ ap (with_unit (units (j + r))) (sym (same_drawn (k - (j + 1)) total (j + 1) more (swapped units (j + r) j) left (λ p h. behind p (omega arith)))) in
     record {
       later = sym (ap (finished nodes draws) stepped ∙ one_more_unit nodes draws (units (j + r)) _) ∙ so_far.later;
       within = λ p above high. rw (behind p (omega arith))
@@ -138,23 +135,23 @@ drawing_more nodes k j r first words left moved more draws so_far low enough cho
     }
 
 -- a word past the last is asked for
-pub drawing_fails : (nodes : List Node) (k j : ℕ) (first words : List ℕ) (moved : BTreeMap ℕ ℕ) (draws : List Draw)
-    → Drawing nodes k j first words moved draws → j < k → k ≤ total_weight nodes → choice (total_weight nodes - 1 - j) words ≡ None
+pub drawing_fails : (nodes : List Node) (k j : ℕ) (first words : List ℕ) (units : ℕ → ℕ) (draws : List Draw)
+    → Drawing nodes k j first words units draws → j < k → k ≤ total_weight nodes → choice (total_weight nodes - 1 - j) words ≡ None
     → sample_of nodes k first ≡ Err WordsOut
-drawing_fails nodes k j first words moved draws so_far low enough none =
+drawing_fails nodes k j first words units draws so_far low enough none =
     let total = total_weight nodes in
     let fewer : k - j ≡ suc (k - (j + 1)) = omega arith in
-    let stops : drawn_from (k - j) total j (unit_at moved) words ≡ None =
-    ap (λ n. drawn_from n total j (unit_at moved) words) fewer ∙ drawn_step (k - (j + 1)) total j (unit_at moved) words
-    ∙ ap (option_and_then (after_choice (k - (j + 1)) total j (unit_at moved))) none in
+    let stops : drawn_from (k - j) total j units words ≡ None =
+    ap (λ n. drawn_from n total j units words) fewer ∙ drawn_step (k - (j + 1)) total j units words
+    ∙ ap (option_and_then (after_choice (k - (j + 1)) total j units)) none in
     cond-false _ _ (or_out nodes (drawn k total first)) (le-ltb total k enough) ∙ sym so_far.later ∙ ap (finished nodes draws) stops
 
 -- all draws were made
-pub drawing_ends : (nodes : List Node) (k : ℕ) (first words : List ℕ) (moved : BTreeMap ℕ ℕ) (draws : List Draw)
-    → Drawing nodes k k first words moved draws → k ≤ total_weight nodes → sample_of nodes k first ≡ Ok (draws, words)
-drawing_ends nodes k first words moved draws done enough =
+pub drawing_ends : (nodes : List Node) (k : ℕ) (first words : List ℕ) (units : ℕ → ℕ) (draws : List Draw)
+    → Drawing nodes k k first words units draws → k ≤ total_weight nodes → sample_of nodes k first ≡ Ok (draws, words)
+drawing_ends nodes k first words units draws done enough =
     let total = total_weight nodes in
     let none : k - k ≡ 0 = omega arith in
-    let stops : drawn_from (k - k) total k (unit_at moved) words ≡ Some ([], words) =
-    ap (λ n. drawn_from n total k (unit_at moved) words) none ∙ drawn_end total k (unit_at moved) words in
+    let stops : drawn_from (k - k) total k units words ≡ Some ([], words) =
+    ap (λ n. drawn_from n total k units words) none ∙ drawn_end total k units words in
     cond-false _ _ (or_out nodes (drawn k total first)) (le-ltb total k enough) ∙ sym done.later ∙ ap (finished nodes draws) stops

@@ -1,7 +1,12 @@
+pub mod Chains
 mod Choosing
 mod Counting
 mod Distinct
 mod Drawing
 mod Examples
+mod Guiding
 mod Listing
+mod Moves
+mod Slots
+pub mod Walks
 mod Weights

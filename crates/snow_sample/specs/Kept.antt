@@ -1,15 +1,32 @@
 -- What is kept while a sample is drawn: the units that were moved, and where each node's draws are counted.
-use Rattle.std.specs.Prelude.{◌≡◌, ℕ, zero, suc, ◌+◌, List, [], ◌∷◌, Option, Some, None, unwrap_or, if◌then◌else◌}
-use Rattle.std.specs.BTreeMap.{BTreeMap, get}
-use Rattle.std.specs.Cmp.Lexicographic.{slice_cmp}
+use Rattle.std.specs.Prelude.{◌≡◌, ℕ, zero, suc, ◌+◌, ◌<◌, List, [], ◌∷◌, length, map, fold, bit_and, Option, Some, None, ◌==◌, slice_index, slice_index_or, if◌then◌else◌}
 use Rattle.std.specs.Option.{option_map}
-use Rattle.std.specs.Ordering.{nat_cmp}
 use Rattle.std.specs.Str.{bytes_eq}
+use Rattle.snow_sample.specs.Chains.{AreChained}
 use Rattle.snow_sample.specs.declared.draws.Draw.{Draw}
+use Rattle.snow_sample.specs.declared.roster.Node.{Node}
+use Rattle.snow_sample.specs.declared.shuffle.Move.{Move}
 
--- the unit at a position: the one that was moved there, else its own
-abbrev pub unit_at : BTreeMap ℕ ℕ → ℕ → ℕ
-unit_at moved position = unwrap_or (get nat_cmp moved position) position
+-- the unit at a position after some moves, where this one stood there first
+abbrev pub moved_to : ℕ → ℕ → List Move → ℕ
+moved_to position first moves = fold (λ unit m. if m.place == position then m.unit else unit) first moves
+
+-- the unit at a position: the one that was moved there last, else its own
+abbrev pub unit_at : List Move → ℕ → ℕ
+unit_at moves position = moved_to position position moves
+
+-- the class of a position: its low bits
+abbrev pub class_of : ℕ → ℕ → ℕ
+class_of mask position = bit_and position mask
+
+-- the classes of the positions that units were moved to
+abbrev pub classes_of : ℕ → List Move → List ℕ
+classes_of mask moves = map (λ m. class_of mask m.place) moves
+
+-- the moves are chained in the classes of their positions, of which there is one more than the mask
+pub record AreMoves (mask : ℕ) (moves : List Move) (lasts : List ℕ) : Type 0 where
+  pub classes : length lasts ≡ mask + 1
+  pub chained : AreChained (classes_of mask moves) (map (λ m. m.before) moves) lasts
 
 -- at which place a node's draws are counted
 abbrev pub place : List Draw → List ℕ → Option ℕ
@@ -22,6 +39,12 @@ one_more [] place = []
 one_more (d ∷ draws) zero = record { node = d.node; count = d.count + 1 } ∷ draws
 one_more (d ∷ draws) (suc place) = d ∷ one_more draws place
 
--- the map has the place of each node that was drawn
-abbrev pub HasPlaces : BTreeMap (List ℕ) ℕ → List Draw → Type 0
-HasPlaces places draws = (node : List ℕ) → get (slice_cmp nat_cmp) places node ≡ place draws node
+-- the place that a slot has: one less than its number, and none where that is 0
+abbrev pub slot_place : ℕ → Option ℕ
+slot_place zero = None
+slot_place (suc place) = Some place
+
+-- each node's slot has the place at which its draws are counted
+pub record HasSlots (nodes : List Node) (slots : List ℕ) (draws : List Draw) : Type 0 where
+  pub each : length slots ≡ length nodes
+  pub places : (i : ℕ) (n : Node) → i < length nodes → slot_place (slice_index slots i) ≡ place draws (slice_index_or nodes i n).id

@@ -1,3 +1,5 @@
+pub mod Chains
+pub mod Guide
 pub mod Kept
 pub mod Law
 pub mod Roster

@@ -2,6 +2,7 @@
 #![tactic(auto)]
 
 mod draws;
+mod guide;
 mod laws;
 mod places;
 mod roster;

@@ -1,6 +1,8 @@
-ghost use Rattle.std.specs.Prelude.{◌≡◌, ◌^◌, ◌<◌, None};
+ghost use Rattle.std.specs.Prelude.{◌≡◌, ◌^◌, ◌<◌, None, length, slice_index_or};
+ghost use Rattle.snow_sample.specs.declared.roster.Node.{Node};
 ghost use Rattle.snow_sample.specs.Roster.{total_weight, first_fault, IsRosterOf, owner};
 
+use crate::guide::Guide;
 use crate::weighing;
 use snow_base::NodeId;
 use std::alloc::{AllocError, Global};
@@ -49,19 +51,22 @@ pub struct Roster {
     alloc: Global,
     nodes: Vec<Node>,
     ends: Vec<u64>,
+    guide: Guide,
     total: u64,
 }
 
 impl Model for Roster {
     ghost use Rattle.std.specs.Prelude.{List};
     ghost use Rattle.snow_sample.specs.declared.roster.Node.{Node};
+    ghost use Rattle.snow_sample.specs.Guide.{IsGuide};
     ghost use Rattle.snow_sample.specs.Roster.{IsRoster};
 
     ghost Value = { List Node };
 
     ghost view = { λ a. a.nodes.items };
 
-    ghost invariant = { λ a. IsRoster a.nodes.items a.ends.items a.total };
+    ghost invariant = { λ a. IsRoster a.nodes.items a.ends.items a.total
+        × IsGuide a.ends.items a.total a.guide.starts.items a.guide.shift };
 }
 
 impl Roster {
@@ -83,11 +88,13 @@ impl Roster {
             return Err(RosterFault::TooHeavy);
         };
         let ends = weighing::ends_of(alloc, nodes)?;
+        let guide = Guide::new(alloc, ends.as_slice(), total)?;
         let nodes = Vec::from_slice(alloc, nodes)?;
         Ok(Roster {
             alloc,
             nodes,
             ends,
+            guide,
             total,
         })
     }
@@ -112,11 +119,12 @@ impl Roster {
         self.alloc
     }
 
-    // The node that has a unit.
-    pub(crate) fn owner(&self, unit: u64) -> NodeId
+    // The place of the node that has a unit.
+    pub(crate) fn place(&self, unit: u64) -> usize
         requires { unit < total_weight self.now }
-        ensures { result ≡ owner self.now unit }
+        ensures within { result < length self.now }
+        ensures owner { (n : Node) → (slice_index_or self.now result n).id ≡ owner self.now unit }
     {
-        self.nodes[weighing::place_of(self.ends.as_slice(), unit)].id
+        self.guide.place(self.ends.as_slice(), unit)
     }
 }

@@ -70,14 +70,15 @@ fn draw_all(roster: &Roster, k: u32, words: &mut Words, out: &mut Draws) -> Resu
     ensures nodes { OnOk result (AreOfDistinctNodes out.new) }
 {
     let total = roster.total();
-    let mut shuffle = Shuffle::new(roster.alloc());
-    let mut places = Places::new(roster.alloc());
+    // Each draw takes a word.
+    let mut shuffle = Shuffle::new(roster.alloc(), words.len().min(k as usize))?;
+    let mut places = Places::new(roster)?;
     for j in 0..u64::from(k) {
         let Some(r) = words.choose(total - 1 - j) else {
             return Err(SampleFault::WordsOut);
         };
         let unit = shuffle.draw(j, r)?;
-        places.count(out, roster.owner(unit))?;
+        places.count(out, roster, unit)?;
     }
     Ok(())
 }

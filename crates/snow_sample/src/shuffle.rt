@@ -1,38 +1,84 @@
-ghost use Rattle.std.specs.Prelude.{◌≡◌, ℕ, ◌+◌, ◌^◌, ◌<◌, IfOk, OnOk};
-ghost use Rattle.snow_sample.specs.Kept.{unit_at};
+ghost use Rattle.std.specs.Prelude.{◌≡◌, ℕ, ◌==◌, ◌+◌, ◌^◌, ◌<◌, ◌≤◌, if◌then◌else◌, IfOk, OnOk};
+ghost use Rattle.snow_sample.specs.Kept.{AreMoves, unit_at};
 ghost use Rattle.snow_sample.specs.Sampling.{swapped};
 
 use std::alloc::{AllocError, Global};
-use std::collections::BTreeMap;
 
-// The units at the positions that were moved. Each other position has its own unit.
+// A unit that was moved to a position. Positions with the same low bits are one class; `before` is
+// the number, from 1, of the last move before this one in its class, and 0 where there is none.
+#[derive(Clone, Copy)]
+pub(crate) struct Move {
+    pub(crate) place: u64,
+    pub(crate) unit: u64,
+    pub(crate) before: usize,
+}
+
+// The units that were moved, in the order of their moves, and for each class of positions the number
+// of its last move, so that a look-up walks one class alone. Where nothing was moved to a position
+// it has its own unit.
 #[derive(Drop)]
 pub(crate) struct Shuffle {
-    pub(crate) moved: BTreeMap<u64, u64>,
+    pub(crate) moved: Vec<Move>,
+    lasts: Vec<usize>,
+    mask: u64,
+    ghost chained: { AreMoves mask moved.items lasts.items },
 }
 
 impl Shuffle {
-    // Each unit stands at its own position.
-    pub(crate) fn new(alloc: Global) -> Shuffle
-        ensures { (p : ℕ) → unit_at result.moved p ≡ p }
+    // Each unit stands at its own position. There is room for so many draws, and twice as many
+    // classes at least.
+    pub(crate) fn new(alloc: Global, draws: usize) -> Result<Shuffle, AllocError>
+        requires { draws ≤ 65536 }
+        ensures { IfOk result (λ shuffle. (p : ℕ) → unit_at shuffle.moved.items p ≡ p) }
     {
-        Shuffle {
-            moved: BTreeMap::new(alloc),
-        }
+        let classes = (2 * draws).next_power_of_two();
+        Ok(Shuffle {
+            moved: Vec::with_capacity(alloc, draws)?,
+            lasts: vec![in alloc; 0; classes]?,
+            mask: classes as u64 - 1,
+        })
     }
 
     // Exchanges position `at` with the one `r` behind it, and gives the unit that then stands there.
     // What stands at `at` isn't kept, since later draws look only behind it.
     pub(crate) fn draw(&mut self, at: u64, r: u64) -> Result<u64, AllocError>
         requires { at + r < 2 ^ 64 }
-        ensures unit { IfOk result (λ unit. unit ≡ unit_at self.old.moved (at + r)) }
-        ensures behind { OnOk result ((p : ℕ) → at < p → unit_at self.new.moved p ≡ swapped (unit_at self.old.moved) (at + r) at p) }
+        ensures unit { IfOk result (λ unit. unit ≡ unit_at self.old.moved.items (at + r)) }
+        ensures behind { OnOk result ((p : ℕ) → at < p → unit_at self.new.moved.items p ≡ swapped (unit_at self.old.moved.items) (at + r) at p) }
     {
-        let own = self.moved.remove(&at).unwrap_or(at);
-        if r == 0 {
-            return Ok(own);
+        let own = self.unit(at);
+        let unit = self.unit(at + r);
+        self.keep(at + r, own)?;
+        Ok(unit)
+    }
+
+    // The unit at a position.
+    fn unit(&self, place: u64) -> u64
+        ensures { result ≡ unit_at self.now.moved.items place }
+    {
+        let mut number = self.lasts[(place & self.mask) as usize];
+        while number > 0 {
+            let last = self.moved[number - 1];
+            if last.place == place {
+                return last.unit;
+            }
+            number = last.before;
         }
-        let other = self.moved.insert(at + r, own)?;
-        Ok(other.unwrap_or(at + r))
+        place
+    }
+
+    // Moves a unit to a position.
+    fn keep(&mut self, place: u64, unit: u64) -> Result<(), AllocError>
+        ensures { OnOk result ((p : ℕ) → unit_at self.new.moved.items p ≡ (if p == place then unit else unit_at self.old.moved.items p)) }
+    {
+        let class = (place & self.mask) as usize;
+        let before = self.lasts[class];
+        self.moved.push(Move {
+            place,
+            unit,
+            before,
+        })?;
+        self.lasts[class] = self.moved.len();
+        Ok(())
     }
 }

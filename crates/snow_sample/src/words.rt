@@ -89,11 +89,12 @@ fn reduce(queue: &mut VecDeque<u64>, n: u64) -> Option<u64>
     ensures within { IfSome result (λ r. r ≤ n) }
     ensures rest { IsRest queue.old.items queue.new.items }
 {
-    let greatest = LOW_BITS - (LOW_BITS + 1) % (n + 1);
     while let Some(word) = queue.pop_front() {
         let value = word & LOW_BITS;
-        if value <= greatest {
-            return Some(value % (n + 1));
+        let r = value % (n + 1);
+        // A value is good where all values with its quotient are below 2^63.
+        if value - r <= LOW_BITS - n {
+            return Some(r);
         }
     }
     None

@@ -1,8 +1,8 @@
--- The draws so far are made, and each has its place.
-use Rattle.snow_sample.specs.Kept.{HasPlaces}
+-- The draws so far are made, and each node's slot has their place.
+use Rattle.snow_sample.specs.Kept.{unit_at, HasSlots}
 use Rattle.snow_sample.proofs.Drawing.{Drawing}
 use Rattle.snow_sample.proofs.sampling.draw_all.Given as goal
 
 abbrev pub invariant-loop-j : goal.invariant-loop-j
 invariant-loop-j l =
-    Drawing l.roster l.k l.j l.initial.words l.words l.shuffle.moved l.out × HasPlaces l.places.places l.out
+    Drawing l.roster l.k l.j l.initial.words l.words (unit_at l.shuffle.moved.items) l.out × HasSlots l.roster l.places.slots.items l.out

@@ -1,28 +1,43 @@
 -- A node that was drawn is counted at its place, and another at the end.
-use Rattle.std.proofs.Common.{sym, ◌∙◌}
-use Rattle.snow_sample.proofs.Counting.{counted_at, counted_new, place_kept, places_new}
+use Rattle.std.proofs.Common.{arith, ◌∙◌, sym, ap}
+use Rattle.snow_sample.specs.Sampling.{counted}
+use Rattle.snow_sample.proofs.Slots.{drawn_again, drawn_first, few_drawn}
 use Rattle.snow_sample.proofs.places.Places.count.Goals as goal
 
 pub add_one-requires-clause-place : goal.add_one-requires-clause-place
 add_one-requires-clause-place c =
-    (counted_at c.args.draws.now c.args.node c.in-Some.place.now (sym (c.in-Some.ensures.value ∙ c.requires.places c.args.node))).0
+    (drawn_again c.args.roster.now c.args.self.now.slots.items c.args.draws.now c.place-at.result c.index-slot.result.now _ c.requires.slots
+    c.place-at.ensures.within c.place-at.ensures.owner c.index-slot.ensures c.if-slot-gt0.true).0
 
-pub returns-in-Some-clause-counted : goal.returns-in-Some-clause-counted
-returns-in-Some-clause-counted c =
+pub returns-then-slot-gt0-clause-counted : goal.returns-then-slot-gt0-clause-counted
+returns-then-slot-gt0-clause-counted c =
     c.add_one.ensures
-    ∙ sym (counted_at c.args.draws.now c.args.node c.in-Some.place.now (sym (c.in-Some.ensures.value ∙ c.requires.places c.args.node))).1
+    ∙ (drawn_again c.args.roster.now c.args.self.now.slots.items c.args.draws.now c.place-at.result c.index-slot.result.now _ c.requires.slots
+    c.place-at.ensures.within c.place-at.ensures.owner c.index-slot.ensures c.if-slot-gt0.true).1
 
-pub returns-in-Some-clause-places : goal.returns-in-Some-clause-places
-returns-in-Some-clause-places c node =
-    c.requires.places node ∙ sym (rw c.add_one.ensures (place_kept c.args.draws.now c.in-Some.place.now node))
+pub returns-then-slot-gt0-clause-slots : goal.returns-then-slot-gt0-clause-slots
+returns-then-slot-gt0-clause-slots c =
+    rw c.add_one.ensures
+    (drawn_again c.args.roster.now c.args.self.now.slots.items c.args.draws.now c.place-at.result c.index-slot.result.now _ c.requires.slots
+    c.place-at.ensures.within c.place-at.ensures.owner c.index-slot.ensures c.if-slot-gt0.true).2
+
+pub overflow_cast-list : goal.overflow_cast-list
+overflow_cast-list c =
+    let first = drawn_first c.args.roster.now c.args.self.now.slots.items c.args.draws.now c.list.result.now c.place-at.result c.index-slot.result.now
+    c.index-nodes-at.result c.requires.slots (rw c.nodes.ensures.nodes at c.nodes.ensures.good) c.place-at.ensures.within c.index-slot.ensures c.if-slot-gt0.false
+    (c.list.ensures.list ∙ rw c.nodes.ensures.nodes at c.in_ok-push.ensures.ok) in
+    omega (arith, few_drawn c.args.draws.now c.list.result.now _ first.0 c.requires.few c.list.ensures.counts)
 
 pub returns-clause-counted : goal.returns-clause-counted
 returns-clause-counted c =
-    c.in_ok-push.ensures.ok ∙ sym (counted_new c.args.draws.now c.args.node (sym (c.requires.places c.args.node) ∙ sym c.in_default.ensures.value))
+    (drawn_first c.args.roster.now c.args.self.now.slots.items c.args.draws.now c.push.new.self c.place-at.result c.index-slot.result.now
+    c.index-nodes-at.result c.requires.slots (rw c.nodes.ensures.nodes at c.nodes.ensures.good) c.place-at.ensures.within c.index-slot.ensures c.if-slot-gt0.false
+    (rw c.nodes.ensures.nodes at c.in_ok-push.ensures.ok)).0
+    ∙ ap (counted c.args.draws.now) (c.place-at.ensures.owner c.index-nodes-at.result)
 
-pub returns-clause-places : goal.returns-clause-places
-returns-clause-places c =
-    let none = sym (c.requires.places c.args.node) ∙ sym c.in_default.ensures.value in
-    rw (c.in_ok-push.ensures.ok ∙ sym (counted_new c.args.draws.now c.args.node none))
-    (places_new c.args.self.now.places c.insert.new.self c.args.draws.now c.args.node c.requires.places none
-    (rw c.list.ensures.list at c.in_ok-insert.ensures.updates))
+pub returns-clause-slots : goal.returns-clause-slots
+returns-clause-slots c =
+    rw c.list.ensures.list
+    (drawn_first c.args.roster.now c.args.self.now.slots.items c.args.draws.now c.push.new.self c.place-at.result c.index-slot.result.now
+    c.index-nodes-at.result c.requires.slots (rw c.nodes.ensures.nodes at c.nodes.ensures.good) c.place-at.ensures.within c.index-slot.ensures c.if-slot-gt0.false
+    (rw c.nodes.ensures.nodes at c.in_ok-push.ensures.ok)).1
