@@ -1,13 +1,9 @@
 -- Lemmas on a new poll: its nodes are awaited, each with its draws.
-use Rattle.std.proofs.Common.{◌≡◌, ℕ, zero, suc, ◌+◌, ◌^◌, ◌<◌, ◌≤◌, Bool, true, false, not, cond, ◌&&◌, ◌||◌, List, [], ◌∷◌, ◌++◌, length, get_or, take, filter, bytes_eq, if◌then◌else◌, All, None, Some, refl, sym, ap, ◌∙◌, arith}
-use Rattle.std.specs.BTreeMap.{BTreeMap, Updates, get}
-use Rattle.std.specs.Cmp.Lexicographic.{slice_cmp}
-use Rattle.std.specs.Ordering.{nat_cmp}
+use Rattle.std.proofs.Common.{◌≡◌, ℕ, zero, suc, ◌+◌, ◌^◌, ◌<◌, ◌≤◌, Bool, true, false, not, cond, ◌&&◌, ◌||◌, List, [], ◌∷◌, ◌++◌, length, get_or, take, filter, bytes_eq, if◌then◌else◌, All, Option, None, Some, refl, sym, ap, ◌∙◌, arith}
 use Rattle.std.proofs.lemmas.Bool.{cond-false, false_from_ne_true}
 use Rattle.std.proofs.lemmas.List.{take_more}
 use Rattle.std.proofs.lemmas.List.Folds.{list_any-append}
 use Rattle.std.proofs.lemmas.List.Sums.{sum_by-cons, sum_by_push}
-use Rattle.std.proofs.lemmas.Map.Text.{is_eq-slice_cmp}
 use Rattle.std.proofs.lemmas.Slice.Eq.{bytes_eq-Decides}
 use Rattle.snow_base.specs.Votes.{Votes}
 use Rattle.snow_sample.specs.declared.draws.Draw.{Draw}
@@ -35,17 +31,17 @@ none_before (e ∷ draws) (suc i) d h is distinct =
       omega (arith, sum_by-cons (at_node d.node) e (take i draws), cond-false _ e.count 0 other, rest.1),
     )
 
--- the map, with the next draw
-pub times_more : (draws : List Draw) (i : ℕ) (d : Draw) (times more : BTreeMap (List ℕ) ℕ) → i < length draws → d ≡ get_or draws i d → AreOfDistinctNodes draws
-    → HasTimes times (take i draws) → Updates (slice_cmp nat_cmp) times more d.node (Some d.count) → HasTimes more (take (i + 1) draws)
+-- the times, with the next draw
+pub times_more : (draws : List Draw) (i : ℕ) (d : Draw) (times more : List ℕ → Option ℕ) → i < length draws → d ≡ get_or draws i d → AreOfDistinctNodes draws
+    → HasTimes times (take i draws) → ((node : List ℕ) → more node ≡ cond (bytes_eq d.node node) (Some d.count) (times node)) → HasTimes more (take (i + 1) draws)
 times_more draws i d times more h is distinct has updates node =
     let front = take i draws in
     let whole : take (i + 1) draws ≡ front ++ d ∷ [] = take_more draws i d h ∙ ap (λ e. front ++ e ∷ []) (sym is) in
     let fresh = none_before draws i d h is distinct in
     let drawn : is_drawn (front ++ d ∷ []) node ≡ (is_drawn front node || (bytes_eq d.node node || false)) = list_any-append (λ (e : Draw). bytes_eq e.node node) front (d ∷ []) in
     let count : times_drawn (front ++ d ∷ []) node ≡ times_drawn front node + (if bytes_eq d.node node then d.count else 0) = sum_by_push (at_node node) front d in
-    let now : get (slice_cmp nat_cmp) more node ≡ cond (bytes_eq d.node node) (Some d.count) (if is_drawn front node then Some (times_drawn front node) else None) =
-    updates.0 node ∙ ap (λ same. cond same (Some d.count) (get (slice_cmp nat_cmp) times node)) (is_eq-slice_cmp d.node node) ∙ ap (cond (bytes_eq d.node node) (Some d.count)) (has node) in
+    let now : more node ≡ cond (bytes_eq d.node node) (Some d.count) (if is_drawn front node then Some (times_drawn front node) else None) =
+    updates node ∙ ap (cond (bytes_eq d.node node) (Some d.count)) (has node) in
     now ∙ each (bytes_eq d.node node) (is_drawn front node) (times_drawn front node) d.count
     (λ same. let one = (bytes_eq-Decides d.node node).0 same in (ap (is_drawn front) (sym one) ∙ fresh.0, ap (times_drawn front) (sym one) ∙ fresh.1))
     ∙ sym (ap (λ l. if is_drawn l node then Some (times_drawn l node) else None) whole ∙ ap (λ b. if b then Some (times_drawn (front ++ d ∷ []) node) else None) drawn
@@ -67,7 +63,7 @@ unreplied : (draws : List Draw) → filter (λ d. not (has_replied [] d.node)) d
 unreplied [] = refl
 unreplied (d ∷ draws) = ap (λ l. d ∷ l) (unreplied draws)
 
-pub kept_new : (number : ℕ) (draws : List Draw) (waiting : BTreeMap (List ℕ) ℕ) (bag : Votes) (to_come room : ℕ)
+pub kept_new : (number : ℕ) (draws : List Draw) (waiting : List ℕ → Option ℕ) (bag : Votes) (to_come room : ℕ)
     → HasTimes waiting draws → bag.list ≡ [] → draw_count draws ≡ to_come → to_come < 2 ^ 32 → All (λ d. 1 ≤ d.count) draws
     → length draws ≤ bag.room → length draws ≤ room → IsKept (new_poll number draws) waiting bag 0 to_come room
 kept_new number draws waiting bag to_come room has empty count small counts places fits =

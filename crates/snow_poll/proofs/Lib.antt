@@ -4,3 +4,4 @@ pub mod Counting
 mod Examples
 pub mod Placed
 pub mod Replying
+pub mod Waiting

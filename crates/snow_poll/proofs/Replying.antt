@@ -1,8 +1,5 @@
 -- Lemmas on a reply: what it leaves of what is kept of a poll.
 use Rattle.std.proofs.Common.{◌≡◌, ℕ, ◌+◌, ◌≤◌, Bool, true, false, not, nat_le, nat_lt, ◌==◌, ◌&&◌, ◌||◌, List, [], ◌∷◌, ◌++◌, length, filter, sum_by, bytes_eq, if◌then◌else◌, is_some, All, Option, None, Some, unwrap_or, refl, sym, ap, ◌∙◌, arith, inl, inr}
-use Rattle.std.specs.BTreeMap.{BTreeMap, get}
-use Rattle.std.specs.Cmp.Lexicographic.{slice_cmp}
-use Rattle.std.specs.Ordering.{nat_cmp}
 use Rattle.std.proofs.lemmas.Bool.{true≢false, cases_Bool, or_cases, and_parts, cond-true, not-true}
 use Rattle.std.proofs.lemmas.List.{length-append}
 use Rattle.std.proofs.lemmas.List.Elements.{All-head, All-tail}
@@ -152,16 +149,16 @@ awaited_less poll node id other =
     each false was false o = refl
 
 -- how often the node was drawn whose entry is taken out
-pub times_taken : (poll : Poll) (waiting : BTreeMap (List ℕ) ℕ) (node : List ℕ) (found : Option ℕ) (times : ℕ)
-    → ((other : List ℕ) → get (slice_cmp nat_cmp) waiting other ≡ awaited_times poll other) → awaits poll node ≡ true
-    → found ≡ get (slice_cmp nat_cmp) waiting node → times ≡ unwrap_or found 0 → times ≡ times_drawn poll.draws node
+pub times_taken : (poll : Poll) (waiting : List ℕ → Option ℕ) (node : List ℕ) (found : Option ℕ) (times : ℕ)
+    → ((other : List ℕ) → waiting other ≡ awaited_times poll other) → awaits poll node ≡ true
+    → found ≡ waiting node → times ≡ unwrap_or found 0 → times ≡ times_drawn poll.draws node
 times_taken poll waiting node found times has awaited is_found is =
     is ∙ ap (λ o. unwrap_or o 0) (is_found ∙ has node ∙ cond-true _ (Some (times_drawn poll.draws node)) None awaited)
 
 -- what is kept after a reply
-pub kept_more : (poll : Poll) (node : List ℕ) (id : Option (List ℕ)) (waiting less : BTreeMap (List ℕ) ℕ) (bag more : Votes) (greatest most to_come left room : ℕ)
+pub kept_more : (poll : Poll) (node : List ℕ) (id : Option (List ℕ)) (waiting less : List ℕ → Option ℕ) (bag more : Votes) (greatest most to_come left room : ℕ)
     → IsKept poll waiting bag greatest to_come room → awaits poll node ≡ true
-    → ((other : List ℕ) → get (slice_cmp nat_cmp) less other ≡ (if bytes_eq node other then None else get (slice_cmp nat_cmp) waiting other))
+    → ((other : List ℕ) → less other ≡ (if bytes_eq node other then None else waiting other))
     → more.list ≡ given bag.list id (times_drawn poll.draws node) → most ≡ most_count more.list → bag.room ≤ more.room + 1
     → to_come ≡ left + times_drawn poll.draws node
     → IsKept (with_reply poll node id) less more most left room

@@ -1,7 +1,6 @@
 -- What the code keeps of a poll and of the table, so that nothing is gone through again.
 use Rattle.std.specs.Prelude.{◌≡◌, ℕ, ◌+◌, ◌%◌, ◌^◌, ◌<◌, ◌≤◌, List, [], ◌∷◌, length, All, Option, Some, None, suc, Bool, false, ◌&&◌, ◌||◌, nat_lt, nat_le, ◌==◌, if◌then◌else◌}
 use Rattle.std.specs.BTreeMap.{BTreeMap, get}
-use Rattle.std.specs.Cmp.Lexicographic.{slice_cmp}
 use Rattle.std.specs.Option.{option_map}
 use Rattle.std.specs.Ordering.{nat_cmp, match_ordering}
 use Rattle.snow_base.specs.Identifier.{bit_cmp}
@@ -17,10 +16,10 @@ use Rattle.snow_poll.specs.Table.{has_number}
 abbrev pub awaited_times : Poll → List ℕ → Option ℕ
 awaited_times poll node = if awaits poll node then Some (times_drawn poll.draws node) else None
 
--- the map has how often each node was drawn
-abbrev pub HasTimes : BTreeMap (List ℕ) ℕ → List Draw → Type 0
+-- these are how often each node was drawn
+abbrev pub HasTimes : (List ℕ → Option ℕ) → List Draw → Type 0
 HasTimes times draws =
-    (node : List ℕ) → get (slice_cmp nat_cmp) times node ≡ (if is_drawn draws node then Some (times_drawn draws node) else None)
+    (node : List ℕ) → times node ≡ (if is_drawn draws node then Some (times_drawn draws node) else None)
 
 -- how many votes an identifier has, where the votes stand in bit order
 abbrev pub count_of : List Vote → List ℕ → ℕ
@@ -34,8 +33,8 @@ closes_by p reach outstanding most =
     || (nat_lt reach p.alpha_preference || ((nat_le p.alpha_preference most && nat_lt reach p.alpha_confidence) || nat_le p.alpha_confidence most))
 
 -- what is kept of a poll: the nodes that are awaited, the votes, the most that one identifier has, what is outstanding, and room for replies
-pub record IsKept (poll : Poll) (waiting : BTreeMap (List ℕ) ℕ) (bag : Votes) (greatest to_come room : ℕ) : Type 0 where
-  pub awaited : (node : List ℕ) → get (slice_cmp nat_cmp) waiting node ≡ awaited_times poll node
+pub record IsKept (poll : Poll) (waiting : List ℕ → Option ℕ) (bag : Votes) (greatest to_come room : ℕ) : Type 0 where
+  pub awaited : (node : List ℕ) → waiting node ≡ awaited_times poll node
   pub votes : bag.list ≡ votes_of poll
   pub most : greatest ≡ most_count (votes_of poll)
   pub left : to_come ≡ outstanding poll

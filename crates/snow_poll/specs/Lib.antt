@@ -1,3 +1,4 @@
+pub mod Awaited
 pub mod Poll
 pub mod Closing
 pub mod Completion

@@ -2,6 +2,7 @@
 //! as no reply can change what it does.
 #![tactic(auto)]
 
+mod awaited;
 mod laws;
 mod poll;
 mod polls;

@@ -1,26 +1,27 @@
-ghost use Rattle.std.specs.Prelude.{◌≡◌, ◌+◌, ◌≤◌, true, IfOk};
+ghost use Rattle.std.specs.Prelude.{◌≡◌, ◌+◌, ◌≤◌, true, All, IfOk};
 ghost use Rattle.snow_flake.specs.Parameters.{AreGood};
 ghost use Rattle.snow_sample.specs.Sampling.{draw_count, AreOfDistinctNodes};
+ghost use Rattle.snow_poll.specs.Awaited.{counts_at};
 ghost use Rattle.snow_poll.specs.Kept.{HasTimes, closes_by};
 
+use crate::awaited::Awaited;
 use crate::reply::Reply;
 use crate::tally;
 use snow_base::{Bag, Id, NodeId};
 use snow_flake::Params;
 use snow_sample::{Draw, Draws};
 use std::alloc::{AllocError, Global};
-use std::collections::BTreeMap;
 use std::marker::Model;
 
 /// A poll under way. Contracts see its number, its draws, and the replies in order of arrival.
 ///
-/// The nodes that are awaited stand in a map with their counts, and go from it as they reply.
+/// The nodes that are awaited are kept with their counts, which go as they reply.
 #[derive(Debug, Drop)]
 pub(crate) struct Poll {
     number: u32,
     draws: Vec<Draw>,
     replies: Vec<Reply>,
-    awaited: BTreeMap<NodeId, u32>,
+    awaited: Awaited,
     votes: Bag,
     most: u32,
     outstanding: u32,
@@ -29,6 +30,7 @@ pub(crate) struct Poll {
 impl Model for Poll {
     ghost use Rattle.std.specs.Prelude.{vec_capacity};
     ghost use Rattle.snow_poll.specs.Poll as model;
+    ghost use Rattle.snow_poll.specs.Awaited.{counts_at};
     ghost use Rattle.snow_poll.specs.Kept.{IsKept};
 
     ghost Value = { model.Poll };
@@ -36,7 +38,7 @@ impl Model for Poll {
     ghost view = { λ a. record { number = a.number; draws = a.draws.items; replies = a.replies.items } };
 
     ghost invariant = { λ a. IsKept (record { number = a.number; draws = a.draws.items; replies = a.replies.items })
-        a.awaited a.votes a.most a.outstanding (vec_capacity a.replies) };
+        (counts_at a.awaited.waits.items) a.votes a.most a.outstanding (vec_capacity a.replies) };
 }
 
 impl Poll {
@@ -80,7 +82,7 @@ impl Poll {
     pub(crate) fn awaits(&self, node: &NodeId) -> bool
         ensures { result ≡ awaits self.now node.now }
     {
-        self.awaited.contains_key(node)
+        self.awaited.contains(node)
     }
 
     /// Counts the reply of a node that is awaited. It takes no memory.
@@ -115,11 +117,12 @@ impl Poll {
 }
 
 // The nodes of these draws, each with how often it was drawn.
-fn awaited_of(alloc: Global, draws: &[Draw]) -> Result<BTreeMap<NodeId, u32>, AllocError>
-    requires { AreOfDistinctNodes draws.now }
-    ensures { IfOk result (λ awaited. HasTimes awaited draws.now) }
+fn awaited_of(alloc: Global, draws: &[Draw]) -> Result<Awaited, AllocError>
+    requires nodes { AreOfDistinctNodes draws.now }
+    requires counts { All (λ d. 1 ≤ d.count) draws.now }
+    ensures { IfOk result (λ awaited. HasTimes (counts_at awaited.waits.items) draws.now) }
 {
-    let mut awaited = BTreeMap::new(alloc);
+    let mut awaited = Awaited::new(alloc, draws.len())?;
     for draw in draws {
         awaited.insert(draw.node, draw.count)?;
     }

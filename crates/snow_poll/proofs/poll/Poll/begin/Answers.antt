@@ -1,6 +1,7 @@
 -- What is kept of a new poll.
 use Rattle.std.proofs.Common.{ap, arith, length, List, ◌∙◌, vec_capacity}
 use Rattle.snow_sample.specs.declared.draws.Draw.{Draw}
+use Rattle.snow_poll.specs.Awaited.{counts_at}
 use Rattle.snow_poll.proofs.Begun.{kept_new}
 use Rattle.snow_poll.proofs.poll.Poll.begin.Goals as goal
 
@@ -8,7 +9,7 @@ pub invariant_of-result : goal.invariant_of-result
 invariant_of-result c =
     let drawn = c.list-drawn.ensures.list in
     rw (c.in_ok-from_slice.ensures.items, c.in_ok-with_capacity.ensures.items, drawn)
-    (kept_new c.args.number c.args.draws.now c.in_ok-awaited_of.field-0 c.reserve.new.self c.args.outstanding (vec_capacity c.in_ok-with_capacity.field-0)
+    (kept_new c.args.number c.args.draws.now (counts_at c.in_ok-awaited_of.field-0.waits.items) c.reserve.new.self c.args.outstanding (vec_capacity c.in_ok-with_capacity.field-0)
     (rw drawn at c.in_ok-awaited_of.ensures) (c.reserve.ensures.list ∙ c.new-votes.ensures) c.requires.count c.ranges.outstanding.fits (rw drawn at c.list-drawn.ensures.counts)
     (omega (arith, c.in_ok-reserve.ensures.ok, ap (λ (l : List Draw). length l) drawn))
     (omega (arith, c.in_ok-with_capacity.ensures.exact, ap (λ (l : List Draw). length l) drawn)))

@@ -1,0 +1,178 @@
+-- Lemmas on the nodes that are awaited: which entry of a node counts, and what an entry more and a reply leave.
+use Rattle.std.proofs.Common.{◌≡◌, ℕ, zero, suc, ◌+◌, ◌-◌, ◌*◌, ◌/◌, ◌<◌, ◌≤◌, Bool, true, false, cond, List, [], ◌∷◌, ◌++◌, length, get_or, set, map, replicate, bytes_eq, nat_lt, is_some, Option, None, Some, refl, sym, ap, ◌∙◌, arith, inl, inr}
+use Rattle.std.proofs.lemmas.Bool.{cases_Bool, cond-true, cond-false, lt-ltb}
+use Rattle.std.proofs.lemmas.List.{get_or_read, get_or-set_same, get_or-set_other, length-map, length-replicate, length-set, map-append}
+use Rattle.std.proofs.lemmas.List.Sums.{fold-append}
+use Rattle.std.proofs.lemmas.Nat.{and_le_r}
+use Rattle.std.proofs.lemmas.Slice.Eq.{bytes_eq-Decides}
+use Rattle.std.proofs.Math.Seq.{map-set_same}
+use Rattle.snow_sample.specs.Chains.{AreChained}
+use Rattle.snow_sample.proofs.Chains.{chained_none, chained_more}
+use Rattle.snow_sample.proofs.Walks.{last_of, last_none, last_here, IsSought, sought_begins, sought_on, none_later}
+use Rattle.snow_poll.specs.declared.awaited.Wait.{Wait}
+use Rattle.snow_poll.specs.Awaited.{some_count, counts_at, class_of, AreWaits, IsNumberOf}
+
+-- whether an entry is a node's
+abbrev pub is_of : List ℕ → Wait → Bool
+is_of node w = bytes_eq w.node node
+
+-- the class of an entry
+abbrev class : ℕ → Wait → ℕ
+class mask w = class_of mask w.node
+
+-- the number of the entry before
+abbrev before : Wait → ℕ
+before w = w.before
+
+-- what an entry counts
+abbrev count : Wait → Option ℕ
+count w = some_count w.count
+
+-- ---- entries in classes
+
+-- no entry is chained to none
+pub waits_none : (mask : ℕ) (lasts : List ℕ) → lasts ≡ replicate (mask + 1) 0 → AreWaits mask [] lasts
+waits_none mask lasts none =
+    let nothing : ℕ = 0 in
+    rw none (record { classes = length-replicate (mask + 1) nothing; chained = chained_none (mask + 1) })
+
+-- each node has a class
+pub within_classes : (mask : ℕ) (waits : List Wait) (lasts : List ℕ) (node : List ℕ) → AreWaits mask waits lasts → class_of mask node < length lasts
+within_classes mask waits lasts node are =
+    let spread : ℕ = (get_or node 0 0 + get_or node 1 0 * 256 + (get_or node 19 0 + get_or node 18 0 * 256)) * 40503 / 32 in
+    omega (arith, are.classes, and_le_r spread mask)
+
+-- an entry more
+pub waits_more : (mask : ℕ) (waits : List Wait) (lasts : List ℕ) (w : Wait) → AreWaits mask waits lasts → w.before ≡ get_or lasts (class_of mask w.node) 0
+    → AreWaits mask (waits ++ w ∷ []) (set lasts (class_of mask w.node) (length waits + 1))
+waits_more mask waits lasts w are first =
+    let classes = are.classes in
+    let many : length (map (class mask) waits) ≡ length waits = length-map waits (class mask) in
+    record {
+      classes = length-set lasts (class mask w) (length waits + 1) ∙ classes;
+      chained = rw (map-append (class mask) waits (w ∷ []), map-append before waits (w ∷ []), first, ← many)
+          (chained_more (map (class mask) waits) (map before waits) lasts (class mask w) are.chained (within_classes mask waits lasts w.node are));
+    }
+
+-- an entry's count changes no class
+pub waits_kept : (mask : ℕ) (waits : List Wait) (lasts : List ℕ) (i : ℕ) (w : Wait) → AreWaits mask waits lasts
+    → ((d : Wait) → w.node ≡ (get_or waits i d).node) → ((d : Wait) → w.before ≡ (get_or waits i d).before) → AreWaits mask (set waits i w) lasts
+waits_kept mask waits lasts i w are node number = record {
+  classes = are.classes;
+  chained = rw (map-set_same (class mask) waits i w w (ap (class_of mask) (node w)), map-set_same before waits i w w (number w)) are.chained;
+}
+
+-- ---- a walk of a node's class
+
+-- an entry of the node is in its class
+one_class : (mask : ℕ) (node : List ℕ) (w : Wait) → is_of node w ≡ true → class mask w ≡ class_of mask node
+one_class mask node w is = ap (class_of mask) ((bytes_eq-Decides w.node node).0 is)
+
+-- a walk for the entries of a node came to a number
+abbrev pub IsWalkFor : ℕ → List Wait → List ℕ → ℕ → Type 0
+IsWalkFor mask waits node number = IsSought (class mask) (is_of node) (class_of mask node) waits number
+
+-- it begins
+pub walk_for : (mask : ℕ) (waits : List Wait) (lasts : List ℕ) (node : List ℕ) (number : ℕ) → AreWaits mask waits lasts
+    → number ≡ get_or lasts (class_of mask node) 0 → IsWalkFor mask waits node number
+walk_for mask waits lasts node number are is =
+    sought_begins (class mask) before (is_of node) (class_of mask node) (one_class mask node) waits lasts number are.chained
+    (within_classes mask waits lasts node are) is
+
+-- it goes on
+pub walk_past : (mask : ℕ) (waits : List Wait) (lasts : List ℕ) (node : List ℕ) (number : ℕ) (w : Wait) → AreWaits mask waits lasts
+    → IsWalkFor mask waits node number → 0 < number → w ≡ get_or waits (number - 1) w → bytes_eq w.node node ≡ false
+    → IsWalkFor mask waits node w.before × (w.before < number)
+walk_past mask waits lasts node number w are walked some is other =
+    sought_on (class mask) before (is_of node) (class_of mask node) (one_class mask node) waits lasts number w are.chained walked some is other
+
+-- it ends at the node's last entry
+pub walk_ends : (mask : ℕ) (waits : List Wait) (node : List ℕ) (number : ℕ) → IsWalkFor mask waits node number
+    → ((d : Wait) → 0 < number → bytes_eq (get_or waits (number - 1) d).node node ≡ true) → IsNumberOf waits node number
+walk_ends mask waits node number walked here = record {
+  within = omega (arith, walked.within, length-map waits (class mask));
+  here = here;
+  later = λ k d low high. none_later (class mask) (is_of node) (class_of mask node) waits number k d walked low high;
+}
+
+-- the entry that a walk came to
+pub read_at : (mask : ℕ) (waits : List Wait) (node : List ℕ) (number : ℕ) (w d : Wait) → IsWalkFor mask waits node number → 0 < number
+    → w ≡ get_or waits (number - 1) w → w ≡ get_or waits (number - 1) d
+read_at mask waits node number w d walked some is =
+    get_or_read waits (number - 1) w (omega (arith, walked.within, length-map waits (class mask))) is d
+
+-- or it ends at none
+pub nowhere : (mask : ℕ) (waits : List Wait) (node : List ℕ) (number : ℕ) → IsWalkFor mask waits node number → number ≤ 0 → IsNumberOf waits node 0
+nowhere mask waits node number walked none = record {
+  within = omega arith;
+  here = λ d some. absurd (omega arith);
+  later = λ k d low high. none_later (class mask) (is_of node) (class_of mask node) waits number k d walked (omega arith) high;
+}
+
+-- ---- what counts
+
+-- a count that isn't 0
+pub some_count_is : (n : ℕ) → 0 < n → some_count n ≡ Some n
+some_count_is zero h = absurd (omega arith)
+some_count_is (suc n) h = refl
+
+-- whether a count is there
+pub some_count_there : (n : ℕ) → nat_lt 0 n ≡ is_some (some_count n)
+some_count_there zero = refl
+some_count_there (suc n) = lt-ltb 0 (suc n) (omega arith)
+
+-- an entry more counts for its node
+pub counts_more : (waits : List Wait) (w : Wait) (other : List ℕ) → counts_at (waits ++ w ∷ []) other ≡ cond (bytes_eq w.node other) (some_count w.count) (counts_at waits other)
+counts_more waits w other = fold-append (λ found (w : Wait). cond (bytes_eq w.node other) (some_count w.count) found) None waits (w ∷ [])
+
+-- a node's last entry counts
+pub counts_here : (waits : List Wait) (node : List ℕ) (number : ℕ) (w : Wait) → IsNumberOf waits node number → 0 < number → w ≡ get_or waits (number - 1) w
+    → counts_at waits node ≡ some_count w.count
+counts_here waits node number w is some read =
+    let within = is.within in
+    last_here (is_of node) count None waits (number - 1) w (omega arith) read (ap (is_of node) read ∙ is.here w some)
+    (λ k d low high. is.later k d (omega arith) high)
+
+-- a node without an entry isn't awaited
+pub counts_none : (waits : List Wait) (node : List ℕ) (number : ℕ) → IsNumberOf waits node number → number ≤ 0 → counts_at waits node ≡ None
+counts_none waits node number is none = last_none (is_of node) count None waits (λ k d high. is.later k d (omega arith) high)
+
+-- where a node isn't awaited, awaiting it no more changes nothing
+pub counts_same : (waits : List Wait) (node other : List ℕ) → counts_at waits node ≡ None
+    → counts_at waits other ≡ cond (bytes_eq node other) None (counts_at waits other)
+counts_same waits node other none =
+    elim (cases_Bool (bytes_eq node other)) [
+      | inl same ↦ ap (counts_at waits) (sym ((bytes_eq-Decides node other).0 same)) ∙ none ∙ sym (cond-true (bytes_eq node other) None (counts_at waits other) same)
+      | inr differ ↦ sym (cond-false (bytes_eq node other) None (counts_at waits other) differ)
+    ]
+
+-- another entry of a node changes nothing for other nodes
+other_entry : (node : List ℕ) (found : Option ℕ) (waits : List Wait) (i : ℕ) (w : Wait) → i < length waits → is_of node w ≡ false
+    → ((d : Wait) → is_of node (get_or waits i d) ≡ false) → last_of (is_of node) count found (set waits i w) ≡ last_of (is_of node) count found waits
+other_entry node found [] i w h new old = absurd (omega arith)
+other_entry node found (v ∷ waits) zero w h new old =
+    ap (λ f. last_of (is_of node) count f waits) (cond-false (is_of node w) (count w) found new ∙ sym (cond-false (is_of node v) (count v) found (old v)))
+other_entry node found (v ∷ waits) (suc i) w h new old = other_entry node (cond (is_of node v) (count v) found) waits i w (omega arith) new old
+
+-- a node's last entry that counts nothing awaits the node no more
+pub counts_less : (waits : List Wait) (node : List ℕ) (number : ℕ) (w : Wait) (other : List ℕ) → IsNumberOf waits node number → 0 < number
+    → ((d : Wait) → w.node ≡ (get_or waits (number - 1) d).node) → w.count ≡ 0
+    → counts_at (set waits (number - 1) w) other ≡ cond (bytes_eq node other) None (counts_at waits other)
+counts_less waits node number w other is some named none =
+    let i = number - 1 in
+    let within = is.within in
+    let own : w.node ≡ node = named w ∙ (bytes_eq-Decides (get_or waits i w).node node).0 (is.here w some) in
+    elim (cases_Bool (bytes_eq node other)) [
+      | inl same ↦
+          let one : node ≡ other = (bytes_eq-Decides node other).0 same in
+          last_here (is_of other) count None (set waits i w) i w (omega (arith, length-set waits i w)) (sym (get_or-set_same waits i w w (omega arith)))
+          ((bytes_eq-Decides w.node other).1 (own ∙ one))
+          (λ k d low high. ap (is_of other) (get_or-set_other waits i k w d (λ e. absurd (omega arith))) ∙ ap (λ n. is_of n (get_or waits k d)) (sym one)
+          ∙ is.later k d (omega arith) (omega (arith, length-set waits i w)))
+          ∙ ap some_count none ∙ sym (cond-true (bytes_eq node other) None (counts_at waits other) same)
+      | inr differ ↦
+          let not_it : (v : Wait) → v.node ≡ node → is_of other v ≡ false = λ v it. ap (λ n. bytes_eq n other) it ∙ differ in
+          other_entry other None waits i w (omega arith) (not_it w own)
+          (λ d. not_it (get_or waits i d) ((bytes_eq-Decides (get_or waits i d).node node).0 (is.here d some)))
+          ∙ sym (cond-false (bytes_eq node other) None (counts_at waits other) differ)
+    ]

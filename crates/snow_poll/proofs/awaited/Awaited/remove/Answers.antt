@@ -1,0 +1,51 @@
+-- The node's last entry counts no more.
+use Rattle.std.proofs.Common.{◌≡◌, ◌-◌, get_or, refl, sym, ap, arith, ◌∙◌}
+use Rattle.std.proofs.lemmas.List.{get_or_read}
+use Rattle.snow_poll.specs.Awaited.{some_count}
+use Rattle.snow_poll.specs.declared.awaited.Wait.{Wait}
+use Rattle.snow_poll.proofs.Waiting.{counts_here, counts_none, counts_same, counts_less, some_count_is, waits_kept}
+use Rattle.snow_poll.proofs.awaited.Awaited.remove.Goals as goal
+
+pub returns-then-number-eq0-clause-value : goal.returns-then-number-eq0-clause-value
+returns-then-number-eq0-clause-value c =
+    sym (counts_none c.args.self.now.waits.items c.args.node.now c.find-number.result c.find-number.ensures (omega arith))
+
+pub returns-then-number-eq0-clause-updates : goal.returns-then-number-eq0-clause-updates
+returns-then-number-eq0-clause-updates c other =
+    counts_same c.args.self.now.waits.items c.args.node.now other
+    (counts_none c.args.self.now.waits.items c.args.node.now c.find-number.result c.find-number.ensures (omega arith))
+
+pub returns-then-count-eq0-clause-value : goal.returns-then-count-eq0-clause-value
+returns-then-count-eq0-clause-value c =
+    sym (counts_here c.args.self.now.waits.items c.args.node.now c.find-number.result c.index.result.now c.find-number.ensures (omega arith) c.index.ensures
+    ∙ ap some_count c.if-count-eq0.true)
+
+pub returns-then-count-eq0-clause-updates : goal.returns-then-count-eq0-clause-updates
+returns-then-count-eq0-clause-updates c other =
+    counts_same c.args.self.now.waits.items c.args.node.now other
+    (counts_here c.args.self.now.waits.items c.args.node.now c.find-number.result c.index.result.now c.find-number.ensures (omega arith) c.index.ensures
+    ∙ ap some_count c.if-count-eq0.true)
+
+pub invariant_of-self : goal.invariant_of-self
+invariant_of-self c =
+    let self = c.args.self.now in
+    let w : Wait = record { node = c.index_mut.result.now.node; count = 0; before = c.index_mut.result.now.before } in
+    let read : (d : Wait) → c.index_mut.result.now ≡ get_or self.waits.items (c.find-number.result - 1) d = λ d.
+    get_or_read self.waits.items (c.find-number.result - 1) c.index_mut.result.now (omega (arith, c.find-number.ensures.within)) c.index_mut.ensures.value d in
+    record {
+      chained = waits_kept self.mask self.waits.items self.lasts.items (c.find-number.result - 1) w self.chained
+          (λ d. ap (λ (x : Wait). x.node) (read d)) (λ d. ap (λ (x : Wait). x.before) (read d));
+    }
+
+pub returns-clause-value : goal.returns-clause-value
+returns-clause-value c =
+    sym (counts_here c.args.self.now.waits.items c.args.node.now c.find-number.result c.index.result.now c.find-number.ensures (omega arith) c.index.ensures
+    ∙ some_count_is c.index.result.now.count (omega arith))
+
+pub returns-clause-updates : goal.returns-clause-updates
+returns-clause-updates c other =
+    let self = c.args.self.now in
+    let w : Wait = record { node = c.index_mut.result.now.node; count = 0; before = c.index_mut.result.now.before } in
+    let read : (d : Wait) → c.index_mut.result.now ≡ get_or self.waits.items (c.find-number.result - 1) d = λ d.
+    get_or_read self.waits.items (c.find-number.result - 1) c.index_mut.result.now (omega (arith, c.find-number.ensures.within)) c.index_mut.ensures.value d in
+    counts_less self.waits.items c.args.node.now c.find-number.result w other c.find-number.ensures (omega arith) (λ d. ap (λ (x : Wait). x.node) (read d)) refl

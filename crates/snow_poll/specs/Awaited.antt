@@ -1,0 +1,29 @@
+-- The nodes that a poll awaits, in classes.
+use Rattle.std.specs.Prelude.{◌≡◌, ℕ, zero, suc, ◌+◌, ◌-◌, ◌*◌, ◌/◌, ◌<◌, ◌≤◌, true, false, List, length, map, fold, bytes_eq, bit_and, slice_index, slice_index_or, Option, Some, None, if◌then◌else◌}
+use Rattle.snow_sample.specs.Chains.{AreChained}
+use Rattle.snow_poll.specs.declared.awaited.Wait.{Wait}
+
+-- a count, and none where it is 0
+abbrev pub some_count : ℕ → Option ℕ
+some_count zero = None
+some_count (suc n) = Some (suc n)
+
+-- how often a node was drawn that is awaited: its last entry counts
+abbrev pub counts_at : List Wait → List ℕ → Option ℕ
+counts_at waits node = fold (λ found w. if bytes_eq w.node node then some_count w.count else found) None waits
+
+-- the class of a node, by its first two bytes and its last two
+abbrev pub class_of : ℕ → List ℕ → ℕ
+class_of mask node =
+    bit_and ((slice_index node 0 + slice_index node 1 * 256 + (slice_index node 19 + slice_index node 18 * 256)) * 40503 / 32) mask
+
+-- the entries are chained in the classes of their nodes, of which there is one more than the mask
+pub record AreWaits (mask : ℕ) (waits : List Wait) (lasts : List ℕ) : Type 0 where
+  pub classes : length lasts ≡ mask + 1
+  pub chained : AreChained (map (λ w. class_of mask w.node) waits) (map (λ w. w.before) waits) lasts
+
+-- the number of a node's last entry, from 1; 0 where it has none
+pub record IsNumberOf (waits : List Wait) (node : List ℕ) (number : ℕ) : Type 0 where
+  pub within : number ≤ length waits
+  pub here : (d : Wait) → 0 < number → bytes_eq (slice_index_or waits (number - 1) d).node node ≡ true
+  pub later : (k : ℕ) (d : Wait) → number ≤ k → k < length waits → bytes_eq (slice_index_or waits k d).node node ≡ false

@@ -1,0 +1,106 @@
+ghost use Rattle.std.specs.Prelude.{◌≡◌, ℕ, ◌≤◌, List, None, Some, bytes_eq, if◌then◌else◌, IfOk, OnOk};
+ghost use Rattle.std.specs.Option.{is_some};
+ghost use Rattle.snow_poll.specs.Awaited.{counts_at, class_of, AreWaits, IsNumberOf};
+
+use snow_base::NodeId;
+use std::alloc::{AllocError, Global};
+
+// A node that was drawn: how often, and 0 once it has replied. Nodes of one class wait one behind
+// another; `before` is the number, from 1, of the one before it, and 0 where there is none.
+#[derive(Clone, Copy, Debug)]
+pub(crate) struct Wait {
+    pub(crate) node: NodeId,
+    pub(crate) count: u32,
+    pub(crate) before: usize,
+}
+
+// The nodes that are awaited, each with how often it was drawn. For each class of nodes it has the
+// number of the last one, so that a look-up walks one class alone.
+#[derive(Debug, Drop)]
+pub(crate) struct Awaited {
+    pub(crate) waits: Vec<Wait>,
+    lasts: Vec<usize>,
+    mask: u64,
+    ghost chained: { AreWaits mask waits.items lasts.items },
+}
+
+impl Awaited {
+    // No node, with room for so many.
+    pub(crate) fn new(alloc: Global, nodes: usize) -> Result<Awaited, AllocError>
+        ensures { IfOk result (λ made. (node : List ℕ) → counts_at made.waits.items node ≡ None) }
+    {
+        let classes = nodes.min(65_536).next_power_of_two();
+        Ok(Awaited {
+            waits: Vec::with_capacity(alloc, nodes)?,
+            lasts: vec![in alloc; 0; classes]?,
+            mask: classes as u64 - 1,
+        })
+    }
+
+    // Awaits a node, drawn so often.
+    pub(crate) fn insert(&mut self, node: NodeId, count: u32) -> Result<(), AllocError>
+        requires { 1 ≤ count }
+        ensures { OnOk result ((other : List ℕ) → counts_at self.new.waits.items other ≡ (if bytes_eq node other then Some count else counts_at self.old.waits.items other)) }
+    {
+        let class = class(&node, self.mask);
+        let before = self.lasts[class];
+        self.waits.push(Wait {
+            node,
+            count,
+            before,
+        })?;
+        self.lasts[class] = self.waits.len();
+        Ok(())
+    }
+
+    // Whether a node is awaited.
+    pub(crate) fn contains(&self, node: &NodeId) -> bool
+        ensures { result ≡ is_some (counts_at self.now.waits.items node.now) }
+    {
+        let number = self.find(node);
+        number > 0 && self.waits[number - 1].count > 0
+    }
+
+    // Awaits a node no more; how often it was drawn, where it was awaited.
+    pub(crate) fn remove(&mut self, node: &NodeId) -> Option<u32>
+        ensures value { result ≡ counts_at self.old.waits.items node.now }
+        ensures updates { (other : List ℕ) → counts_at self.new.waits.items other ≡ (if bytes_eq node.now other then None else counts_at self.old.waits.items other) }
+    {
+        let number = self.find(node);
+        if number == 0 {
+            return None;
+        }
+        let count = self.waits[number - 1].count;
+        if count == 0 {
+            return None;
+        }
+        self.waits[number - 1].count = 0;
+        Some(count)
+    }
+
+    // The number of a node, and 0 where it isn't there.
+    fn find(&self, node: &NodeId) -> usize
+        ensures { IsNumberOf self.now.waits.items node.now result }
+    {
+        let mut number = self.lasts[class(node, self.mask)];
+        while number > 0 {
+            let wait = self.waits[number - 1];
+            if wait.node == *node {
+                return number;
+            }
+            number = wait.before;
+        }
+        0
+    }
+}
+
+// The class of a node, by its first two bytes and its last two, which may count nodes: a product
+// spreads them.
+fn class(node: &NodeId, mask: u64) -> usize
+    ensures { result ≡ class_of mask node.now }
+{
+    let bytes = node.as_bytes();
+    let first = u64::from(bytes[0]) + u64::from(bytes[1]) * 256;
+    let last = u64::from(bytes[19]) + u64::from(bytes[18]) * 256;
+    ((first + last) * 40_503 / 32 & mask) as usize
+}
