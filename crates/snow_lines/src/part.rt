@@ -88,7 +88,12 @@ struct Times(u32);
 impl Part for Times {
     ghost text = { λ times. 42 ∷ decimal times.0 };
 
+    // Most nodes are drawn a few times: then the one digit is a sum.
+    #[tactic(auto, using(std::proofs::lemmas::Fmt::decimal_digit))]
     fn put_into<G: Gather, K: Sink>(&self, out: &mut G, sink: &mut K) -> Result<(), Failed> {
+        if self.0 < 10 {
+            return out.put(&[b'*', b'0' + self.0 as u8], sink);
+        }
         let mut buffer = [0; 21];
         out.put(marked(b'*', u64::from(self.0), &mut buffer), sink)
     }
