@@ -1,6 +1,6 @@
 -- What each event is followed by: asking or executing.
 use Rattle.std.proofs.Common.{◌≡◌, ℕ, Bool, true, false, List, [], ◌++◌, if◌then◌else◌, refl, sym, ap, subst, ◌∙◌, append-nil, append_assoc}
-use Rattle.std.specs.Prelude.{Result, Ok, Err}
+use Rattle.std.specs.Prelude.{Result, Ok, Err, IfOk}
 use Rattle.snow_chain.specs.Chain.{Rules, Held}
 use Rattle.snow_issue.specs.declared.work.Get.{Get}
 use Rattle.snow_lines.specs.declared.line.Line.{Line}
@@ -16,9 +16,11 @@ use Rattle.snow_boot.specs.Booting.{Boot, Going, Outcome, behind, fetch_of, with
 use Rattle.snow_boot.specs.Calling.{AreDrawn, LogsFront}
 use Rattle.snow_boot.specs.Coursing.{boot_of, IsCourse, Comes}
 use Rattle.snow_boot.specs.Fetching.{Hunt}
+use Rattle.snow_boot.specs.OutcomeLaw.{IsEnd}
 use Rattle.snow_boot.specs.Paths.{Fetch, is_whole, highest_target}
 use Rattle.snow_boot.specs.Requesting.{Asks}
 use Rattle.snow_boot.specs.Surveying.{Surveyed}
+use Rattle.snow_boot.proofs.Ended.{end_followed}
 use Rattle.snow_boot.proofs.Requested.{all_asked, nothing_to_ask}
 
 -- what is expected may be said otherwise
@@ -50,21 +52,23 @@ unfolding followed
 follows_whole rules state s hunt requests drawn old new before after r is whole x =
     let boot = boot_of s hunt.fetch requests in
     let path = finished rules state hunt.fetch.store (highest_target hunt.fetch.store.kept hunt.fetch.targets) in
-    comes_as r before after s hunt requests drawn drawn old new path (followed_by rules state boot drawn s.question)
-    (ap (λ (t : Bool). (let o : Outcome = if t then path else with_requests boot (asked boot.nodes (fetch_of boot) boot.targets boot.requests drawn) in o)) (sym whole)
-    ∙ ap (followed_by rules state boot drawn) is)
-    (by_result r x)
+    let same : path ≡ followed_by rules state boot drawn s.question =
+    ap (λ (t : Bool). (let o : Outcome = if t then path else with_requests boot (asked boot.nodes (fetch_of boot) boot.targets boot.requests drawn) in o)) (sym whole)
+    ∙ ap (followed_by rules state boot drawn) is in
+    comes_as r before after s hunt requests drawn drawn old new path (followed_by rules state boot drawn s.question) same
+    (by_result r (subst (IsEnd boot) (sym same) (end_followed rules state boot drawn)) x)
   where
-    by_result : (r : Result Stage BootStop) → Concludes r before after new (finished rules state hunt.fetch.store (highest_target hunt.fetch.store.kept hunt.fetch.targets))
+    by_result : (r : Result Stage BootStop) → IsEnd (boot_of s hunt.fetch requests) (finished rules state hunt.fetch.store (highest_target hunt.fetch.store.kept hunt.fetch.targets))
+        → Concludes r before after new (finished rules state hunt.fetch.store (highest_target hunt.fetch.store.kept hunt.fetch.targets))
         → Comes r before after s hunt requests drawn drawn old new (finished rules state hunt.fetch.store (highest_target hunt.fetch.store.kept hunt.fetch.targets))
-    by_result (Ok stage.Going) x = absurd x
-    by_result (Ok (stage.Done id height)) x = (x.0, x.1, x.2, x.3, refl)
-    by_result (Err stop.Memory) x = x
-    by_result (Err (stop.Conflict height first second)) x = x
-    by_result (Err (stop.Fork id parent)) x = x
-    by_result (Err (stop.Refused id)) x = x
-    by_result (Err stop.Full) x = x
-    by_result (Err stop.Requests) x = x
+    by_result (Ok stage.Going) ends x = absurd x
+    by_result (Ok (stage.Done id height)) ends x = (x.0, x.1, x.2, x.3, refl, ends)
+    by_result (Err stop.Memory) ends x = x
+    by_result (Err (stop.Conflict height first second)) ends x = x
+    by_result (Err (stop.Fork id parent)) ends x = x
+    by_result (Err (stop.Refused id)) ends x = x
+    by_result (Err stop.Full) ends x = x
+    by_result (Err stop.Requests) ends x = x
 
 -- what comes of the requests
 with_ok : (boot : Boot) (a : Asked) (requests : List Get) (drawn : ℕ) → a.1 ≡ Ok (requests, drawn)
@@ -188,24 +192,24 @@ comes_ignored rules state s hunt requests drawn held log course are last =
     (sym (append-nil log), refl, refl, course, are, last)
 
 -- lines in front
-pub comes_behind : (r : Result Stage BootStop) (before mid after lines : List Line) (s : Surveyed) (hunt : Hunt) (requests : List Get) (first last : ℕ) (old new : Held) (o : Outcome) → mid ≡ before ++ lines
-    → Comes r mid after s hunt requests first last old new o → Comes r before after s hunt requests first last old new (behind lines o)
-comes_behind r before mid after lines s hunt requests first last old new o is c = by_result r c
+pub comes_behind : (r : Result Stage BootStop) (before mid after lines : List Line) (s : Surveyed) (hunt : Hunt) (requests : List Get) (first last : ℕ) (old new : Held) (o : Outcome) → IfOk r (λ came. came ≡ stage.Going)
+    → mid ≡ before ++ lines → Comes r mid after s hunt requests first last old new o → Comes r before after s hunt requests first last old new (behind lines o)
+comes_behind r before mid after lines s hunt requests first last old new o goes is c = by_result r goes c
   where
     grown : after ≡ mid ++ o.0 → after ≡ before ++ (lines ++ o.0)
     grown e = e ∙ ap (λ l. l ++ o.0) is ∙ append_assoc before lines o.0
 
-    by_result : (r : Result Stage BootStop) → Comes r mid after s hunt requests first last old new o → Comes r before after s hunt requests first last old new (behind lines o)
-    by_result (Ok stage.Going) c = (grown c.0, c.1, c.2, c.3, c.4, c.5)
-    by_result (Ok (stage.Done id height)) c = (grown c.0, c.1, c.2, c.3, c.4)
-    by_result (Err stop.Memory) c = record {
+    by_result : (r : Result Stage BootStop) → IfOk r (λ came. came ≡ stage.Going) → Comes r mid after s hunt requests first last old new o → Comes r before after s hunt requests first last old new (behind lines o)
+    by_result (Ok stage.Going) goes c = (grown c.0, c.1, c.2, c.3, c.4, c.5)
+    by_result (Ok (stage.Done id height)) goes c = cc
+    by_result (Err stop.Memory) goes c = record {
       front = lines ++ c.front;
       rest = c.rest;
       whole = append_assoc lines c.front c.rest ∙ ap (λ l. lines ++ l) c.whole;
       grown = c.grown ∙ ap (λ l. l ++ c.front) is ∙ append_assoc before lines c.front;
     }
-    by_result (Err (stop.Conflict height first second)) c = (grown c.0, c.1)
-    by_result (Err (stop.Fork id parent)) c = (grown c.0, c.1)
-    by_result (Err (stop.Refused id)) c = (grown c.0, c.1)
-    by_result (Err stop.Full) c = (grown c.0, c.1)
-    by_result (Err stop.Requests) c = (grown c.0, c.1)
+    by_result (Err (stop.Conflict height first second)) goes c = (grown c.0, c.1)
+    by_result (Err (stop.Fork id parent)) goes c = (grown c.0, c.1)
+    by_result (Err (stop.Refused id)) goes c = (grown c.0, c.1)
+    by_result (Err stop.Full) goes c = (grown c.0, c.1)
+    by_result (Err stop.Requests) goes c = (grown c.0, c.1)

@@ -221,7 +221,7 @@ skipped rules state s hunt requests drawn held log after frame bytes course are 
     comes_as (Ok stage.Going) log after s hunt requests drawn drawn held held (behind (line.Skip frame skip.Block ∷ []) (followed rules state (boot_of s hunt.fetch requests) drawn))
     (stored_came rules state (boot_of s hunt.fetch requests) drawn frame bytes)
     (ap (if_block rules state (boot_of s hunt.fetch requests) drawn frame bytes) none)
-    (comes_behind (Ok stage.Going) log after after (line.Skip frame skip.Block ∷ []) s hunt requests drawn drawn held held (followed rules state (boot_of s hunt.fetch requests) drawn) written
+    (comes_behind (Ok stage.Going) log after after (line.Skip frame skip.Block ∷ []) s hunt requests drawn drawn held held (followed rules state (boot_of s hunt.fetch requests) drawn) refl written
     (comes_ignored rules state s hunt requests drawn held after course are last))
 
 stored_is : (rules : Rules) (state : List ℕ) (s : Surveyed) (f : Fetch) (requests : List Get) (drawn frame : ℕ) (bytes : List ℕ) (h : Header) (r : Result Verdict BootStop) → Some h ≡ rules.header_of bytes
@@ -234,10 +234,10 @@ stored_is rules state s f requests drawn frame bytes h r found is =
 
 pub stored_kept : (rules : Rules) (state : List ℕ) (s : Surveyed) (f : Fetch) (now : Hunt) (requests : List Get) (drawn frame : ℕ) (bytes : List ℕ) (h : Header) (v : Verdict) → Some h ≡ rules.header_of bytes
     → (let r : Result Verdict BootStop = Ok v in r) ≡ taken f.store h
-    → now ≡ record { whole = true; fetch = after_verdict f record { header = h; bytes = bytes } v }
+    → now.fetch ≡ after_verdict f record { header = h; bytes = bytes } v
     → followed rules state (boot_of s now.fetch requests) drawn ≡ stored_came rules state (boot_of s f requests) drawn frame bytes
 stored_kept rules state s f now requests drawn frame bytes h v found is made =
-    ap (λ (t : Hunt). followed rules state (boot_of s t.fetch requests) drawn) made
+    ap (λ (g : Fetch). followed rules state (boot_of s g requests) drawn) made
     ∙ by_verdict v
     ∙ stored_is rules state s f requests drawn frame bytes h (Ok v) found is
   where

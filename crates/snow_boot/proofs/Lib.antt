@@ -1,5 +1,5 @@
 mod Accepted
-mod Alone
+pub mod Alone
 mod Asked
 mod Cases
 mod Concluded
@@ -13,7 +13,12 @@ mod Indexed
 mod Inquired
 mod Known
 mod Linked
+mod Missing
+mod Needed
+mod Progress
+mod Promised
 mod Quiet
+mod Renewed
 mod Replied
 mod Requested
 mod Started

@@ -95,7 +95,7 @@ linked_below b x (Some y) e is =
     (λ other. not_none (stop.Conflict (b.height - 1) y.header.id b.parent) (rw other at e))
 
 -- it is the parent of the block above
-linked_above : (b : Header) (x : KeptBlock) (above : Option KeptBlock) → above_stop b above ≡ None → above ≡ Some x → x.header.parent ≡ b.id
+pub linked_above : (b : Header) (x : KeptBlock) (above : Option KeptBlock) → above_stop b above ≡ None → above ≡ Some x → x.header.parent ≡ b.id
 linked_above b x None e is = none_not x is
 linked_above b x (Some y) e is =
     split_on (bytes_eq y.header.parent b.id)

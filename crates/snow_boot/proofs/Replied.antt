@@ -61,10 +61,10 @@ takes_on header_of f id bytes h e same v is blocks =
     ∙ ap (λ r. with_taken f record { header = h; bytes = bytes } r (λ f. replied header_of f h.parent blocks)) (sym is)
 
 -- the last accepted block and the targets stay
-abbrev SameAim : Fetch → Fetch → Type 0
+abbrev pub SameAim : Fetch → Fetch → Type 0
 SameAim f g = (g.store.last ≡ f.store.last) × (g.targets ≡ f.targets)
 
-aim_verdict : (f : Fetch) (b : KeptBlock) (v : Verdict) → SameAim f (after_verdict f b v)
+pub aim_verdict : (f : Fetch) (b : KeptBlock) (v : Verdict) → SameAim f (after_verdict f b v)
 aim_verdict f b verdict.Keeps = (refl, refl)
 aim_verdict f b verdict.Low = (refl, refl)
 aim_verdict f b verdict.Known = (refl, refl)

@@ -33,7 +33,7 @@ same_requests a b m n e = ap requests_of e
     requests_of (Err why) = a
 
 -- a request stays when one more is made
-kept_by_one : (nodes : List Node) (requests more : List Get) (drawn last : ℕ) (o : Option (List ℕ)) (id : List ℕ) → (asked_one nodes requests drawn o).1 ≡ Ok (more, last)
+pub kept_by_one : (nodes : List Node) (requests more : List Get) (drawn last : ℕ) (o : Option (List ℕ)) (id : List ℕ) → (asked_one nodes requests drawn o).1 ≡ Ok (more, last)
     → asked_in requests id ≡ true → asked_in more id ≡ true
 kept_by_one nodes requests more drawn last None id e asked_before = subst (λ l. asked_in l id ≡ true) (same_requests requests more drawn last e) asked_before
 kept_by_one nodes requests more drawn last (Some x) id e asked_before = by_test (asked_in requests x) e
@@ -50,7 +50,7 @@ kept_by_one nodes requests more drawn last (Some x) id e asked_before = by_test 
     by_test false e = with_number (next_number drawn) e
 
 -- what one target misses is asked for
-asked_by_one : (nodes : List Node) (requests more : List Get) (drawn last : ℕ) (id : List ℕ) → (asked_one nodes requests drawn (Some id)).1 ≡ Ok (more, last) → asked_in more id ≡ true
+pub asked_by_one : (nodes : List Node) (requests more : List Get) (drawn last : ℕ) (id : List ℕ) → (asked_one nodes requests drawn (Some id)).1 ≡ Ok (more, last) → asked_in more id ≡ true
 asked_by_one nodes requests more drawn last id e = by_test (asked_in requests id) refl e
   where
     or_true : (x : Bool) → (x || true) ≡ true

@@ -6,6 +6,7 @@ use Rattle.snow_chain.specs.Chain.{Held}
 use Rattle.snow_issue.specs.declared.work.Get.{Get}
 use Rattle.snow_lines.specs.declared.line.Line.{Line}
 use Rattle.snow_sample.specs.declared.roster.Node.{Node}
+use Rattle.snow_boot.specs.declared.due.Due.TheVariants as due
 use Rattle.snow_boot.specs.declared.question.Question.TheVariants as question
 use Rattle.snow_boot.specs.declared.stage.Stage.{Stage}
 use Rattle.snow_boot.specs.declared.stop.BootStop.{BootStop}
@@ -22,7 +23,7 @@ abbrev pub first_survey : List Node → Surveyed
 first_survey nodes = record { nodes = nodes; question = question.Nothing; number = 0; awaited = []; candidates = [] }
 
 abbrev pub first_hunt : List ℕ → ℕ → Hunt
-first_hunt last height = record { whole = true; fetch = record { store = record { last = last; height = height; kept = [] }; targets = []; found = [] } }
+first_hunt last height = record { whole = true; due = due.Nothing; fetch = record { store = record { last = last; height = height; kept = [] }; targets = []; found = [] } }
 
 pub starts : (r : Result Stage BootStop) (before after : List Line) (s now : Surveyed) (hunt : Hunt) (requests : List Get) (first last : ℕ) (held : Held) (id : List ℕ) (height : ℕ) (nodes : List Node)
     → s ≡ first_survey nodes → hunt ≡ first_hunt id height → requests ≡ []

@@ -18,7 +18,7 @@ use Rattle.snow_boot.proofs.Linked.{keeps_facts, kept_linked}
 use Rattle.snow_boot.proofs.Walking.{bottom}
 
 -- the heights that are held, with one block more
-more_heights : (kept : List KeptBlock) (b : KeptBlock) (h : ℕ) → held_heights (b ∷ kept) h ≡ ((b.header.height == h) || held_heights kept h)
+pub more_heights : (kept : List KeptBlock) (b : KeptBlock) (h : ℕ) → held_heights (b ∷ kept) h ≡ ((b.header.height == h) || held_heights kept h)
 unfolding held
 more_heights kept b h = by_test (b.header.height == h)
   where

@@ -1,9 +1,11 @@
 -- The code of a node that bootstraps, which its model asks for.
-use Rattle.std.specs.Prelude.{◌≡◌, ℕ, zero, suc, Bool, List, refl}
+use Rattle.std.specs.Prelude.{◌≡◌, ℕ, zero, suc, Bool, List, [], refl}
 use Rattle.std.specs.Coded.{Coded, coded_ℕ, coded_bool, coded_list, coded×, code_by}
 use Rattle.snow_sample.specs.declared.roster.Node.{Node}
 use Rattle.snow_issue.specs.declared.work.Get.{Get}
 use Rattle.snow_boot.specs.declared.block.KeptBlock.{KeptBlock}
+use Rattle.snow_boot.specs.declared.due.Due.{Due}
+use Rattle.snow_boot.specs.declared.due.Due.TheVariants as due
 use Rattle.snow_boot.specs.declared.question.Candidate.{Candidate}
 use Rattle.snow_boot.specs.declared.question.Question.{Question}
 use Rattle.snow_boot.specs.declared.question.Question.TheVariants as question
@@ -41,8 +43,29 @@ coded_fetch =
     code_by (Store × (List Bytes × List Bytes)) (coded× coded_store (coded× (coded_list coded_bytes) (coded_list coded_bytes)))
     (λ s. (s.store, (s.targets, s.found))) (λ f. record { store = f.0; targets = f.1.0; found = f.1.1 }) (λ _. refl)
 
+-- what is due as a number and an identifier
+abbrev listed : Due → ℕ × Bytes
+listed due.Nothing = (zero, [])
+listed (due.One id) = (suc zero, id)
+listed due.All = (suc (suc zero), [])
+
+abbrev due_by : ℕ × Bytes → Due
+due_by (zero, id) = due.Nothing
+due_by (suc zero, id) = due.One id
+due_by (suc (suc n), id) = due.All
+
+abbrev same_due : (d : Due) → due_by (listed d) ≡ d
+same_due due.Nothing = refl
+same_due (due.One id) = refl
+same_due due.All = refl
+
+abbrev coded_due : Coded Due
+coded_due = code_by (ℕ × Bytes) (coded× coded_ℕ coded_bytes) listed due_by same_due
+
 abbrev pub coded_hunt : Coded Hunt
-coded_hunt = code_by (Bool × Fetch) (coded× coded_bool coded_fetch) (λ s. (s.whole, s.fetch)) (λ f. record { whole = f.0; fetch = f.1 }) (λ _. refl)
+coded_hunt =
+    code_by (Bool × (Due × Fetch)) (coded× coded_bool (coded× coded_due coded_fetch))
+    (λ s. (s.whole, (s.due, s.fetch))) (λ f. record { whole = f.0; due = f.1.0; fetch = f.1.1 }) (λ _. refl)
 
 abbrev coded_node : Coded Node
 coded_node = code_by (Bytes × ℕ) (coded× coded_bytes coded_ℕ) (λ n. (n.id, n.weight)) (λ f. record { id = f.0; weight = f.1 }) (λ _. refl)

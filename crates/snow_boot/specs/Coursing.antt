@@ -11,7 +11,7 @@ use Rattle.snow_boot.specs.declared.stop.BootStop.TheVariants as stop
 use Rattle.snow_boot.specs.Booting.{Boot, Going, Done, Outcome}
 use Rattle.snow_boot.specs.Calling.{Course, AreDrawn, LogsFront, IsAlone, last_state}
 use Rattle.snow_boot.specs.Fetching.{Hunt}
-use Rattle.snow_boot.specs.OutcomeLaw.{AreAsked}
+use Rattle.snow_boot.specs.OutcomeLaw.{AreAsked, IsEnd}
 use Rattle.snow_boot.specs.Paths.{Fetch, is_whole}
 use Rattle.snow_boot.specs.Surveying.{Surveyed}
 
@@ -43,14 +43,24 @@ pub record IsCourse (s : Surveyed) (hunt : Hunt) (requests : List Get) : Type 0 
   pub whole : hunt.whole ≡ true
   pub settled : s.question ≡ question.Nothing → IsSettled hunt.fetch requests
 
+-- what asking and executing need: all is kept as it should be, the chain's last accepted block is the one from which bootstrapping
+-- began, and the number of each open request was drawn
+abbrev pub MayAsk : Hunt → List Get → Held → ℕ → Type 0
+MayAsk hunt requests held drawn = (hunt.whole ≡ true) × (held.last ≡ hunt.fetch.store.last) × AreDrawn requests drawn
+
+-- what an event needs: the same, and no other state is held
+abbrev pub MayHear : Surveyed → Hunt → List Get → Held → ℕ → Type 0
+MayHear s hunt requests held drawn = IsCourse s hunt requests × IsAlone held × (held.last ≡ hunt.fetch.store.last) × AreDrawn requests drawn
+
 -- what is expected came: its lines, and then bootstrapping goes on with these parts, or is done with the state that the chain holds
--- and no other, or it stopped; where memory ran out a front of the lines came
+-- and no other and the whole path executed, or it stopped; where memory ran out a front of the lines came
 abbrev pub Comes : Result Stage BootStop → List Line → List Line → Surveyed → Hunt → List Get → ℕ → ℕ → Held → Held → Outcome → Type 0
 Comes (Ok stage.Going) before after s hunt requests first last old new expected =
     (after ≡ before ++ expected.0) × (expected.1 ≡ Ok (Going (boot_of s hunt.fetch requests) last)) × (new ≡ old) × IsCourse s hunt requests × AreDrawn requests last
     × (new.last ≡ hunt.fetch.store.last)
 Comes (Ok (stage.Done id height)) before after s hunt requests first last old new expected =
     (after ≡ before ++ expected.0) × (expected.1 ≡ Ok (Done id height (last_state new))) × (new.last ≡ id) × IsAlone new × (last ≡ first)
+    × IsEnd (boot_of s hunt.fetch requests) expected
 Comes (Err stop.Memory) before after s hunt requests first last old new expected = LogsFront before after expected.0
 Comes (Err why) before after s hunt requests first last old new expected = (after ≡ before ++ expected.0) × (expected.1 ≡ Err why)
 

@@ -4,6 +4,7 @@ use Rattle.std.specs.BTreeSet.{BTreeSet, contains}
 use Rattle.std.specs.Cmp.Lexicographic.{slice_cmp}
 use Rattle.std.specs.Ordering.{nat_cmp}
 use Rattle.snow_base.specs.declared.header.Header.{Header}
+use Rattle.snow_boot.specs.declared.due.Due.{Due}
 use Rattle.snow_boot.specs.declared.stop.BootStop.{BootStop}
 use Rattle.snow_boot.specs.declared.stop.BootStop.TheVariants as stop
 use Rattle.snow_boot.specs.Paths.{Fetch, has_id}
@@ -13,9 +14,10 @@ use Rattle.snow_boot.specs.Replying.{replied}
 abbrev pub HasIds : BTreeSet (List ℕ) → List (List ℕ) → Type 0
 HasIds known ids = (id : List ℕ) → contains (slice_cmp nat_cmp) known id ≡ has_id ids id
 
--- whether all is kept as it should be, and what is kept, wanted and found
+-- whether all is kept as it should be; which missed identifiers no request may name yet; and what is kept, wanted and found
 pub record Hunt : Type 0 where
   pub whole : Bool
+  pub due : Due
   pub fetch : Fetch
 
 -- what is expected came, or want of memory

@@ -3,8 +3,10 @@ ghost use Rattle.snow_issue.specs.Lists.{asked_in};
 ghost use Rattle.snow_boot.specs.Calling.{AreDrawn};
 ghost use Rattle.snow_boot.specs.Asking.{asked_node, asked_one, asked_with, asked};
 ghost use Rattle.snow_base.specs.Numbers.{next_number};
+ghost use Rattle.snow_boot.specs.Needing.{AreAskedBut};
 ghost use Rattle.snow_boot.specs.Requesting.{Asks};
 
+use crate::due::Due;
 use crate::fetching::Fetching;
 use crate::stop::BootStop;
 use snow_base::{Id, NodeId, Numbers};
@@ -13,8 +15,29 @@ use snow_issue::{Get, Gets};
 use snow_lines::{Line, Lines};
 use snow_sample::Node;
 
+// What is due is asked for, where a target misses it.
+pub(crate) fn ask_due<H: Kept>(
+    nodes: &[Node],
+    fetching: &Fetching<H>,
+    requests: &mut Gets,
+    numbers: &mut Numbers,
+    log: &mut Lines,
+) -> Result<(), BootStop>
+    requires whole { fetching.now.whole ≡ true }
+    requires nodes { 0 < length nodes.now }
+    requires drawn { AreDrawn requests.old numbers.old }
+    requires due { AreAskedBut fetching.now.due fetching.now.fetch requests.old }
+    ensures { Asks result log.old log.new requests.new numbers.new (asked nodes.now fetching.now.fetch fetching.now.fetch.targets requests.old numbers.old) }
+{
+    match fetching.due() {
+        Due::Nothing => Ok(()),
+        Due::One(id) => ask_one(nodes, requests, numbers, fetching.needed(id), log),
+        Due::All => ask_all(nodes, fetching, requests, numbers, log),
+    }
+}
+
 // What the targets miss is asked for, in their order, each once.
-pub(crate) fn ask_all<H: Kept>(
+fn ask_all<H: Kept>(
     nodes: &[Node],
     fetching: &Fetching<H>,
     requests: &mut Gets,

@@ -3,12 +3,14 @@ ghost use Rattle.snow_chain.specs.Chain.{Held};
 ghost use Rattle.snow_boot.specs.Booting as model;
 ghost use Rattle.snow_boot.specs.Calling.{MayGoOn, OnGoing, OnDone, Brings, Begins, Logs, Leaves, IsAlone, last_state};
 ghost use Rattle.snow_boot.specs.Coursing.{is_going};
+ghost use Rattle.snow_boot.specs.Promising.{Promises};
 
 use crate::fetching::Fetching;
+use crate::inquiring;
+use crate::parts::Parts;
 use crate::stage::Stage;
 use crate::stop::BootStop;
 use crate::survey::Survey;
-use crate::{hearing, inquiring};
 use snow_base::{Blocks, Bytes, Id, Ids, NodeId, Numbers};
 use snow_chain::Chain;
 use snow_interval::Kept;
@@ -31,9 +33,7 @@ use std::marker::{Model, PhantomData};
 #[derive(Drop)]
 pub struct Boot<C: Chain, H: Kept> {
     going: bool,
-    survey: Survey,
-    fetching: Fetching<H>,
-    requests: Gets,
+    parts: Parts<H>,
     chain: PhantomData<C>,
 }
 
@@ -47,9 +47,9 @@ impl<C: Chain, H: Kept> Model for Boot<C, H> {
 
     ghost coded = { coded_course };
 
-    ghost view = { λ a. course_of a.going a.survey a.fetching.fetch a.requests };
+    ghost view = { λ a. course_of a.going a.parts.survey a.parts.fetching.fetch a.parts.requests };
 
-    ghost invariant = { λ a. a.going ≡ true → IsCourse a.survey a.fetching a.requests };
+    ghost invariant = { λ a. a.going ≡ true → IsCourse a.parts.survey a.parts.fetching a.parts.requests };
 }
 
 impl<C: Chain, H: Kept> Boot<C, H> {
@@ -73,9 +73,11 @@ impl<C: Chain, H: Kept> Boot<C, H> {
         match inquiring::ask_frontier(&mut survey, numbers, log) {
             Ok(_) => Ok(Boot {
                 going: true,
-                survey,
-                fetching,
-                requests,
+                parts: Parts {
+                    survey,
+                    fetching,
+                    requests,
+                },
                 chain: PhantomData,
             }),
             Err(stop) => Err(stop),
@@ -98,19 +100,10 @@ impl<C: Chain, H: Kept> Boot<C, H> {
         ensures chain { Leaves result (C.held chain.old) (C.held chain.new) }
         ensures goes_on { OnGoing result (MayGoOn self.new (C.held chain.new) numbers.new) }
         ensures numbers { OnDone result (numbers.new ≡ numbers.old) }
+        ensures promise { Promises result log.old log.new self.new.boot }
     {
         self.going = false;
-        let came = hearing::frontier(
-            &mut self.survey,
-            &mut self.fetching,
-            &mut self.requests,
-            node,
-            number,
-            id,
-            chain,
-            numbers,
-            log,
-        );
+        let came = self.parts.frontier(node, number, id, chain, numbers, log);
         self.going = goes_on(&came);
         came
     }
@@ -132,19 +125,10 @@ impl<C: Chain, H: Kept> Boot<C, H> {
         ensures chain { Leaves result (C.held chain.old) (C.held chain.new) }
         ensures goes_on { OnGoing result (MayGoOn self.new (C.held chain.new) numbers.new) }
         ensures numbers { OnDone result (numbers.new ≡ numbers.old) }
+        ensures promise { Promises result log.old log.new self.new.boot }
     {
         self.going = false;
-        let came = hearing::accepted(
-            &mut self.survey,
-            &mut self.fetching,
-            &mut self.requests,
-            node,
-            number,
-            ids,
-            chain,
-            numbers,
-            log,
-        );
+        let came = self.parts.accepted(node, number, ids, chain, numbers, log);
         self.going = goes_on(&came);
         came
     }
@@ -166,19 +150,12 @@ impl<C: Chain, H: Kept> Boot<C, H> {
         ensures chain { Leaves result (C.held chain.old) (C.held chain.new) }
         ensures goes_on { OnGoing result (MayGoOn self.new (C.held chain.new) numbers.new) }
         ensures numbers { OnDone result (numbers.new ≡ numbers.old) }
+        ensures promise { Promises result log.old log.new self.new.boot }
     {
         self.going = false;
-        let came = hearing::ancestors(
-            &mut self.survey,
-            &mut self.fetching,
-            &mut self.requests,
-            node,
-            number,
-            blocks,
-            chain,
-            numbers,
-            log,
-        );
+        let came = self
+            .parts
+            .ancestors(node, number, blocks, chain, numbers, log);
         self.going = goes_on(&came);
         came
     }
@@ -198,18 +175,10 @@ impl<C: Chain, H: Kept> Boot<C, H> {
         ensures chain { Leaves result (C.held chain.old) (C.held chain.new) }
         ensures goes_on { OnGoing result (MayGoOn self.new (C.held chain.new) numbers.new) }
         ensures numbers { OnDone result (numbers.new ≡ numbers.old) }
+        ensures promise { Promises result log.old log.new self.new.boot }
     {
         self.going = false;
-        let came = hearing::timeout(
-            &mut self.survey,
-            &mut self.fetching,
-            &mut self.requests,
-            node,
-            number,
-            chain,
-            numbers,
-            log,
-        );
+        let came = self.parts.timeout(node, number, chain, numbers, log);
         self.going = goes_on(&came);
         came
     }
@@ -230,18 +199,10 @@ impl<C: Chain, H: Kept> Boot<C, H> {
         ensures chain { Leaves result (C.held chain.old) (C.held chain.new) }
         ensures goes_on { OnGoing result (MayGoOn self.new (C.held chain.new) numbers.new) }
         ensures numbers { OnDone result (numbers.new ≡ numbers.old) }
+        ensures promise { Promises result log.old log.new self.new.boot }
     {
         self.going = false;
-        let came = hearing::stored(
-            &mut self.survey,
-            &mut self.fetching,
-            &mut self.requests,
-            frame,
-            bytes,
-            chain,
-            numbers,
-            log,
-        );
+        let came = self.parts.stored(frame, bytes, chain, numbers, log);
         self.going = goes_on(&came);
         came
     }

@@ -1,50 +1,67 @@
-ghost use Rattle.std.specs.Prelude.{◌≡◌, true, [], IfOk, OnOk};
+ghost use Rattle.std.specs.Prelude.{◌≡◌, true, [], Some, None, IfOk, OnOk, if◌then◌else◌};
 ghost use Rattle.snow_boot.specs.Accepting.{higher_one, top_height};
 ghost use Rattle.snow_boot.specs.Keeping.{taken, Answers};
 ghost use Rattle.snow_boot.specs.Fetching.{Fetches, FetchesOne};
+ghost use Rattle.snow_boot.specs.Needing.{is_missed, Covers};
+ghost use Rattle.snow_boot.specs.Renewing.{is_known};
 ghost use Rattle.snow_boot.specs.Paths.{missed, is_whole};
-ghost use Rattle.snow_boot.specs.Replying.{noted, after_verdict, replied};
+ghost use Rattle.snow_boot.specs.declared.due.Due.TheVariants as due;
+ghost use Rattle.snow_boot.specs.Replying.{after_verdict, replied};
 
+use crate::due::Due;
 use crate::idset::IdSet;
-use crate::index;
 use crate::stop::BootStop;
 use crate::store::Store;
 use crate::verdict::Verdict;
+use crate::{index, needs};
 use snow_base::{Bytes, Header, Id};
 use snow_chain::Chain;
 use snow_interval::Kept;
 use std::alloc::{AllocError, Global};
+use std::collections::BTreeSet;
 use std::marker::Model;
 
 /// The kept blocks, the targets, and those of them that were found at or below the last accepted
-/// height. Contracts see these, and whether all is kept as it should be.
+/// height; and what the targets miss, of which an event changes only what it brings. Contracts see the
+/// blocks and targets, which missed identifiers no request may name yet, and whether all is kept as it
+/// should be: not after want of memory.
 #[derive(Drop)]
 pub(crate) struct Fetching<H: Kept> {
     pub(crate) store: Store<H>,
     pub(crate) targets: IdSet,
     pub(crate) found: IdSet,
+    pub(crate) needs: BTreeSet<Id>,
+    pub(crate) due: Due,
+    pub(crate) whole: bool,
 }
 
 impl<H: Kept> Model for Fetching<H> {
+    ghost use Rattle.std.specs.Prelude.{◌≡◌, true};
     ghost use Rattle.snow_boot.specs.BootCode.{coded_hunt};
     ghost use Rattle.snow_boot.specs.Fetching.{Hunt};
+    ghost use Rattle.snow_boot.specs.Renewing.{fetch_by, AreKnown};
 
     ghost Value = { Hunt };
 
     ghost coded = { coded_hunt };
 
-    ghost view = { λ a. record { whole = a.store.whole; fetch = record { store = a.store.store; targets = a.targets; found = a.found } } };
+    ghost view = { λ a. record { whole = a.whole; due = a.due; fetch = fetch_by a.store.store a.targets a.found } };
+
+    ghost invariant = { λ a. a.whole ≡ true → AreKnown a.store a.needs a.targets a.found };
 }
 
 impl<H: Kept> Fetching<H> {
     /// Nothing is kept, and there is no target. It takes no memory.
     pub(crate) fn begin(alloc: Global, last: Id, height: u64) -> Self
-        ensures { result ≡ record { whole = true; fetch = record { store = record { last = last; height = height; kept = [] }; targets = []; found = [] } } }
+        ensures { result ≡ record { whole = true; due = due.Nothing; fetch = record { store = record { last = last; height = height; kept = [] }; targets = []; found = [] } } }
     {
         Fetching {
             store: Store::begin(alloc, last, height),
             targets: IdSet::new(alloc),
             found: IdSet::new(alloc),
+            needs: BTreeSet::new(alloc),
+            due: Due::Nothing,
+            whole: true,
         }
     }
 
@@ -55,17 +72,51 @@ impl<H: Kept> Fetching<H> {
         self.targets.list()
     }
 
-    /// The targets are these, and none of them is found yet. It takes no memory.
-    pub(crate) fn aim(&mut self, targets: IdSet)
-        ensures { self.new ≡ record { whole = self.old.whole; fetch = record { store = self.old.fetch.store; targets = targets; found = [] } } }
+    /// The targets are these, and none of them is found yet: all that they miss is due.
+    pub(crate) fn aim(&mut self, targets: IdSet) -> Result<(), AllocError>
+        requires { self.old.whole ≡ true }
+        ensures { OnOk result (self.new ≡ record { whole = true; due = due.All; fetch = record { store = self.old.fetch.store; targets = targets; found = [] } }) }
     {
+        self.whole = false;
         self.targets = targets;
         self.found.clear();
+        needs::gather(&self.store, &self.targets, &self.found, &mut self.needs)?;
+        self.due = Due::All;
+        self.whole = true;
+        Ok(())
+    }
+
+    /// Other identifiers may be missed without a request. It takes no memory.
+    pub(crate) fn expect(&mut self, due: Due)
+        ensures whole { self.new.whole ≡ self.old.whole }
+        ensures due { self.new.due ≡ due }
+        ensures fetch { self.new.fetch ≡ self.old.fetch }
+    {
+        self.due = due;
+    }
+
+    /// Which of the missed identifiers no request may name yet.
+    pub(crate) fn due(&self) -> Due
+        ensures { result ≡ self.now.due }
+    {
+        self.due
+    }
+
+    /// An identifier, where one of the targets misses it.
+    pub(crate) fn needed(&self, id: Id) -> Option<Id>
+        requires { self.now.whole ≡ true }
+        ensures { result ≡ (if is_missed self.now.fetch self.now.fetch.targets id then Some id else None) }
+    {
+        if self.needs.contains(&id) {
+            return Some(id);
+        }
+        None
     }
 
     /// The last accepted block and the kept blocks.
     pub(crate) fn store(&self) -> &Store<H>
-        ensures { result.now ≡ record { whole = self.now.whole; store = self.now.fetch.store } }
+        requires { self.now.whole ≡ true }
+        ensures { result.now ≡ record { whole = true; store = self.now.fetch.store } }
     {
         &self.store
     }
@@ -75,12 +126,7 @@ impl<H: Kept> Fetching<H> {
         requires { self.now.whole ≡ true }
         ensures { result ≡ is_whole self.now.fetch }
     {
-        for target in self.targets() {
-            if self.missed(target).is_some() {
-                return false;
-            }
-        }
-        true
+        needs::is_met(&self.needs)
     }
 
     /// The highest height at which a target is kept.
@@ -103,21 +149,54 @@ impl<H: Kept> Fetching<H> {
         self.store.missed(target, self.found.has(target))
     }
 
+    /// Whether a target was kept, found or accepted before, so that another block of it may change
+    /// what it misses, whatever the others miss.
+    fn is_known(&self, id: &Id) -> bool
+        requires { self.now.whole ≡ true }
+        ensures { result ≡ is_known self.now.fetch id.now }
+    {
+        self.targets.has(id) && !needs::names(self.missed(id), id)
+    }
+
     /// A block came: it is kept, or noted as found, or it stops the run.
-    pub(crate) fn came(&mut self, header: &Header, bytes: &[u8]) -> Result<Verdict, BootStop>
+    fn came(&mut self, header: &Header, bytes: &[u8]) -> Result<Verdict, BootStop>
         requires { self.old.whole ≡ true }
         ensures answer { Answers result (taken self.old.fetch.store header.now) }
-        ensures fetch { IfOk result (λ verdict. self.new ≡ record { whole = true; fetch = after_verdict self.old.fetch record { header = header.now; bytes = bytes.now } verdict }) }
+        ensures fetch { IfOk result (λ verdict. (self.new.whole ≡ true) × (self.new.fetch ≡ after_verdict self.old.fetch record { header = header.now; bytes = bytes.now } verdict)) }
+        ensures due { OnOk result (Covers self.old.due (is_missed self.old.fetch self.old.fetch.targets) self.new.due (is_missed self.new.fetch self.new.fetch.targets)) }
     {
+        let known = self.is_known(&header.id);
+        self.store.links();
+        self.whole = false;
         let verdict = self.store.take(header, bytes)?;
-        if let Verdict::Low = verdict {
-            note(&self.targets, &mut self.found, &header.id)?;
-        }
+        let due = needs::renew(
+            &self.store,
+            &self.targets,
+            &mut self.found,
+            &mut self.needs,
+            self.due,
+            header,
+            verdict,
+            known,
+        )?;
+        self.due = due;
+        self.whole = true;
         Ok(verdict)
     }
 
-    /// The blocks of a reply came: the first is to be the one that was asked for, and each later one
-    /// the parent of the one before.
+    /// The same where each missed identifier is named by a request.
+    pub(crate) fn take(&mut self, header: &Header, bytes: &[u8]) -> Result<Verdict, BootStop>
+        requires { self.old.whole ≡ true }
+        ensures answer { Answers result (taken self.old.fetch.store header.now) }
+        ensures fetch { IfOk result (λ verdict. (self.new.whole ≡ true) × (self.new.fetch ≡ after_verdict self.old.fetch record { header = header.now; bytes = bytes.now } verdict)) }
+        ensures due { OnOk result (Covers due.Nothing (is_missed self.old.fetch self.old.fetch.targets) self.new.due (is_missed self.new.fetch self.new.fetch.targets)) }
+    {
+        self.expect(Due::Nothing);
+        self.came(header, bytes)
+    }
+
+    /// The blocks of a reply came, to a request for the identifier that is closed: the first is to be
+    /// the one that was asked for, and each later one the parent of the one before.
     pub(crate) fn reply<C: Chain>(
         &mut self,
         chain: &C,
@@ -125,7 +204,18 @@ impl<H: Kept> Fetching<H> {
         blocks: &[Bytes],
     ) -> Result<(), BootStop>
         requires { self.old.whole ≡ true }
-        ensures { Fetches result self.new (replied C.rules.header_of self.old.fetch id blocks.now) }
+        ensures fetch { Fetches result self.new (replied C.rules.header_of self.old.fetch id blocks.now) }
+        ensures due { OnOk result (Covers (due.One id) (is_missed self.old.fetch self.old.fetch.targets) self.new.due (is_missed self.new.fetch self.new.fetch.targets)) }
+    {
+        self.expect(Due::One(id));
+        self.reply_on(chain, id, blocks)
+    }
+
+    /// The blocks of a reply came, one after another.
+    fn reply_on<C: Chain>(&mut self, chain: &C, id: Id, blocks: &[Bytes]) -> Result<(), BootStop>
+        requires { self.old.whole ≡ true }
+        ensures fetch { Fetches result self.new (replied C.rules.header_of self.old.fetch id blocks.now) }
+        ensures due { OnOk result (Covers self.old.due (is_missed self.old.fetch self.old.fetch.targets) self.new.due (is_missed self.new.fetch self.new.fetch.targets)) }
     {
         let mut wanted = id;
         for bytes in blocks {
@@ -145,7 +235,8 @@ impl<H: Kept> Fetching<H> {
         bytes: &[u8],
     ) -> Result<Option<Id>, BootStop>
         requires { self.old.whole ≡ true }
-        ensures { FetchesOne C.rules.header_of result self.old.fetch self.new wanted bytes.now }
+        ensures fetch { FetchesOne C.rules.header_of result self.old.fetch self.new wanted bytes.now }
+        ensures due { OnOk result (Covers self.old.due (is_missed self.old.fetch self.old.fetch.targets) self.new.due (is_missed self.new.fetch self.new.fetch.targets)) }
     {
         let Some(header) = chain.parse(bytes) else {
             return Ok(None);
@@ -170,14 +261,4 @@ fn higher_one(height: Option<u64>, other: Option<u64>) -> Option<u64>
         Some(height) => Some(index::higher(height, other)),
         None => other,
     }
-}
-
-// A target that came at or below the last accepted height is found, and noted once.
-fn note(targets: &IdSet, found: &mut IdSet, id: &Id) -> Result<(), AllocError>
-    ensures { OnOk result (found.new ≡ noted targets.now found.old id.now) }
-{
-    if targets.has(id) && !found.has(id) {
-        found.push(*id)?;
-    }
-    Ok(())
 }

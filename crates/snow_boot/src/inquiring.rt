@@ -5,15 +5,14 @@ ghost use Rattle.snow_boot.specs.Fetching.{Hunt};
 ghost use Rattle.snow_base.specs.Numbers.{next_number};
 ghost use Rattle.snow_boot.specs.Booting.{behind, ask_frontier, ask_accepted, with_collected, with_targets, or_all};
 ghost use Rattle.snow_boot.specs.Calling.{AreDrawn, IsAlone, last_state};
-ghost use Rattle.snow_boot.specs.Coursing.{boot_of, IsCourse, Comes};
+ghost use Rattle.snow_boot.specs.Coursing.{boot_of, MayAsk, MayHear, Comes};
 ghost use Rattle.snow_boot.specs.Electing.{majority};
 ghost use Rattle.snow_boot.specs.declared.question.Question.TheVariants as question;
 ghost use Rattle.snow_boot.specs.declared.stage.Stage.TheVariants as stage;
 ghost use Rattle.snow_lines.specs.declared.line.Line.TheVariants as line;
 ghost use Rattle.snow_sample.specs.Roster.{total_weight};
 
-use crate::fetching::Fetching;
-use crate::following::follow;
+use crate::parts::Parts;
 use crate::question::Question;
 use crate::stage::Stage;
 use crate::stop::BootStop;
@@ -42,138 +41,103 @@ pub(crate) fn ask_frontier(
     Ok(Stage::Going)
 }
 
-// All nodes are asked for their frontier again.
-fn restart<C: Chain, H: Kept>(
-    why: RestartWhy,
-    survey: &mut Survey,
-    fetching: &Fetching<H>,
-    requests: &Gets,
-    chain: &C,
-    numbers: &mut Numbers,
-    log: &mut Lines,
-) -> Result<Stage, BootStop>
-    requires kept { fetching.now.whole ≡ true }
-    requires last { (C.held chain.now).last ≡ fetching.now.fetch.store.last }
-    requires drawn { AreDrawn requests.now numbers.old }
-    ensures { Comes result log.old log.new survey.new fetching.now requests.now numbers.old numbers.new (C.held chain.now) (C.held chain.now)
-        (behind (line.Restart why ∷ []) (ask_frontier (boot_of survey.old fetching.now.fetch requests.now) (next_number numbers.old))) }
-{
-    log.push(Line::Restart { why })?;
-    ask_frontier(survey, numbers, log)
-}
-
-// All nodes are asked which of the collected identifiers they hold accepted.
-fn ask_accepted<C: Chain, H: Kept>(
-    survey: &mut Survey,
-    fetching: &Fetching<H>,
-    requests: &Gets,
-    chain: &C,
-    numbers: &mut Numbers,
-    log: &mut Lines,
-) -> Result<Stage, BootStop>
-    requires kept { fetching.now.whole ≡ true }
-    requires last { (C.held chain.now).last ≡ fetching.now.fetch.store.last }
-    requires asked { survey.old.question ≡ question.Frontier }
-    requires drawn { AreDrawn requests.now numbers.old }
-    ensures { Comes result log.old log.new survey.new fetching.now requests.now numbers.old numbers.new (C.held chain.now) (C.held chain.now)
-        (ask_accepted (boot_of survey.old fetching.now.fetch requests.now) (next_number numbers.old)) }
-{
-    let Some(number) = numbers.draw() else {
-        return Err(BootStop::Requests);
-    };
-    let ids = survey.named()?;
-    survey.ask_accepted(number)?;
-    log.push(Line::Accepted { number, ids })?;
-    Ok(Stage::Going)
-}
-
-// All nodes have named their frontiers.
-fn collected<C: Chain, H: Kept>(
-    survey: &mut Survey,
-    fetching: &Fetching<H>,
-    requests: &Gets,
-    chain: &C,
-    numbers: &mut Numbers,
-    log: &mut Lines,
-) -> Result<Stage, BootStop>
-    requires kept { fetching.now.whole ≡ true }
-    requires last { (C.held chain.now).last ≡ fetching.now.fetch.store.last }
-    requires asked { survey.old.question ≡ question.Frontier }
-    requires drawn { AreDrawn requests.now numbers.old }
-    ensures { Comes result log.old log.new survey.new fetching.now requests.now numbers.old numbers.new (C.held chain.now) (C.held chain.now)
-        (with_collected (boot_of survey.old fetching.now.fetch requests.now) numbers.old survey.old.candidates) }
-{
-    if survey.has_named() {
-        return ask_accepted(survey, fetching, requests, chain, numbers, log);
+impl<H: Kept> Parts<H> {
+    /// All nodes are asked for their frontier again.
+    fn restart<C: Chain>(
+        &mut self,
+        why: RestartWhy,
+        chain: &C,
+        numbers: &mut Numbers,
+        log: &mut Lines,
+    ) -> Result<Stage, BootStop>
+        requires { MayAsk self.old.fetching self.old.requests (C.held chain.now) numbers.old }
+        ensures { Comes result log.old log.new self.new.survey self.new.fetching self.new.requests numbers.old numbers.new (C.held chain.now) (C.held chain.now)
+            (behind (line.Restart why ∷ []) (ask_frontier (boot_of self.old.survey self.old.fetching.fetch self.old.requests) (next_number numbers.old))) }
+    {
+        log.push(Line::Restart { why })?;
+        ask_frontier(&mut self.survey, numbers, log)
     }
-    restart(
-        RestartWhy::Frontier,
-        survey,
-        fetching,
-        requests,
-        chain,
-        numbers,
-        log,
-    )
-}
 
-// All nodes have named what they hold accepted.
-fn elected<C: Chain, H: Kept>(
-    survey: &mut Survey,
-    fetching: &mut Fetching<H>,
-    requests: &mut Gets,
-    chain: &mut C,
-    numbers: &mut Numbers,
-    log: &mut Lines,
-) -> Result<Stage, BootStop>
-    requires kept { fetching.old.whole ≡ true }
-    requires alone { IsAlone (C.held chain.old) }
-    requires last { (C.held chain.old).last ≡ fetching.old.fetch.store.last }
-    requires drawn { AreDrawn requests.old numbers.old }
-    ensures { Comes result log.old log.new survey.new fetching.new requests.new numbers.old numbers.new (C.held chain.old) (C.held chain.new)
-        (with_targets C.rules (last_state (C.held chain.old)) (boot_of survey.old fetching.old.fetch requests.old) numbers.old (majority (total_weight survey.old.nodes) survey.old.candidates)) }
-{
-    let targets = survey.targets()?;
-    if targets.is_empty() {
-        return restart(
-            RestartWhy::Accepted,
-            survey,
-            fetching,
-            requests,
-            chain,
-            numbers,
-            log,
-        );
+    /// All nodes are asked which of the collected identifiers they hold accepted.
+    fn ask_accepted<C: Chain>(
+        &mut self,
+        chain: &C,
+        numbers: &mut Numbers,
+        log: &mut Lines,
+    ) -> Result<Stage, BootStop>
+        requires asked { self.old.survey.question ≡ question.Frontier }
+        requires may { MayAsk self.old.fetching self.old.requests (C.held chain.now) numbers.old }
+        ensures { Comes result log.old log.new self.new.survey self.new.fetching self.new.requests numbers.old numbers.new (C.held chain.now) (C.held chain.now)
+            (ask_accepted (boot_of self.old.survey self.old.fetching.fetch self.old.requests) (next_number numbers.old)) }
+    {
+        let Some(number) = numbers.draw() else {
+            return Err(BootStop::Requests);
+        };
+        let ids = self.survey.named()?;
+        self.survey.ask_accepted(number)?;
+        log.push(Line::Accepted { number, ids })?;
+        Ok(Stage::Going)
     }
-    survey.close();
-    fetching.aim(targets);
-    *requests = Gets::new(survey.alloc());
-    follow(survey, fetching, requests, chain, numbers, log)
-}
 
-// Where all nodes have answered, the next question is asked, or blocks are fetched.
-pub(crate) fn conclude<C: Chain, H: Kept>(
-    survey: &mut Survey,
-    fetching: &mut Fetching<H>,
-    requests: &mut Gets,
-    chain: &mut C,
-    numbers: &mut Numbers,
-    log: &mut Lines,
-) -> Result<Stage, BootStop>
-    requires course { IsCourse survey.old fetching.old requests.old }
-    requires asked { survey.old.question ≢ question.Nothing }
-    requires alone { IsAlone (C.held chain.old) }
-    requires last { (C.held chain.old).last ≡ fetching.old.fetch.store.last }
-    requires drawn { AreDrawn requests.old numbers.old }
-    ensures { Comes result log.old log.new survey.new fetching.new requests.new numbers.old numbers.new (C.held chain.old) (C.held chain.new)
-        (or_all C.rules (last_state (C.held chain.old)) (boot_of survey.old fetching.old.fetch requests.old) numbers.old survey.old.awaited) }
-{
-    if !survey.is_heard() {
-        return Ok(Stage::Going);
+    /// All nodes have named their frontiers.
+    fn collected<C: Chain>(
+        &mut self,
+        chain: &C,
+        numbers: &mut Numbers,
+        log: &mut Lines,
+    ) -> Result<Stage, BootStop>
+        requires asked { self.old.survey.question ≡ question.Frontier }
+        requires may { MayAsk self.old.fetching self.old.requests (C.held chain.now) numbers.old }
+        ensures { Comes result log.old log.new self.new.survey self.new.fetching self.new.requests numbers.old numbers.new (C.held chain.now) (C.held chain.now)
+            (with_collected (boot_of self.old.survey self.old.fetching.fetch self.old.requests) numbers.old self.old.survey.candidates) }
+    {
+        if self.survey.has_named() {
+            return self.ask_accepted(chain, numbers, log);
+        }
+        self.restart(RestartWhy::Frontier, chain, numbers, log)
     }
-    match survey.question() {
-        Question::Frontier => collected(survey, fetching, requests, chain, numbers, log),
-        Question::Accepted => elected(survey, fetching, requests, chain, numbers, log),
-        Question::Nothing => Ok(Stage::Going),
+
+    /// All nodes have named what they hold accepted.
+    fn elected<C: Chain>(
+        &mut self,
+        chain: &mut C,
+        numbers: &mut Numbers,
+        log: &mut Lines,
+    ) -> Result<Stage, BootStop>
+        requires alone { IsAlone (C.held chain.old) }
+        requires may { MayAsk self.old.fetching self.old.requests (C.held chain.old) numbers.old }
+        ensures { Comes result log.old log.new self.new.survey self.new.fetching self.new.requests numbers.old numbers.new (C.held chain.old) (C.held chain.new)
+            (with_targets C.rules (last_state (C.held chain.old)) (boot_of self.old.survey self.old.fetching.fetch self.old.requests) numbers.old (majority (total_weight self.old.survey.nodes) self.old.survey.candidates)) }
+    {
+        let targets = self.survey.targets()?;
+        if targets.is_empty() {
+            return self.restart(RestartWhy::Accepted, chain, numbers, log);
+        }
+        self.survey.close();
+        self.fetching.aim(targets)?;
+        self.requests = Gets::new(self.survey.alloc());
+        self.follow(chain, numbers, log)
+    }
+
+    /// Where all nodes have answered, the next question is asked, or blocks are fetched.
+    pub(crate) fn conclude<C: Chain>(
+        &mut self,
+        chain: &mut C,
+        numbers: &mut Numbers,
+        log: &mut Lines,
+    ) -> Result<Stage, BootStop>
+        requires asked { self.old.survey.question ≢ question.Nothing }
+        requires hear { MayHear self.old.survey self.old.fetching self.old.requests (C.held chain.old) numbers.old }
+        ensures { Comes result log.old log.new self.new.survey self.new.fetching self.new.requests numbers.old numbers.new (C.held chain.old) (C.held chain.new)
+            (or_all C.rules (last_state (C.held chain.old)) (boot_of self.old.survey self.old.fetching.fetch self.old.requests) numbers.old self.old.survey.awaited) }
+    {
+        if !self.survey.is_heard() {
+            return Ok(Stage::Going);
+        }
+        match self.survey.question() {
+            Question::Frontier => self.collected(chain, numbers, log),
+            Question::Accepted => self.elected(chain, numbers, log),
+            Question::Nothing => Ok(Stage::Going),
+        }
     }
 }

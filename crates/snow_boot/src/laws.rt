@@ -1,6 +1,7 @@
 //! Laws of the kept blocks: what everyone who reads the definitions wants to know, each a function that
 //! does nothing and ensures the law.
 ghost use Rattle.snow_boot.specs.Linking.{LinkedLaw, RunLaw, PathLaw};
+ghost use Rattle.snow_boot.specs.ProgressLaw.{ProgressLaw};
 ghost use Rattle.snow_boot.specs.OutcomeLaw.{AskedLaw, AskedOnceLaw, ExecutionLaw, QuietLaw, EndLaw};
 
 /// Taking keeps the blocks linked: above the last accepted block, no two at one height, the block
@@ -31,6 +32,12 @@ pub fn asked_law()
 /// Where open requests name all that targets miss, asking again writes nothing and draws no number.
 pub fn asked_once_law()
     ensures { AskedOnceLaw }
+{}
+
+/// A block that a target misses never comes in vain: it stops the run, or the target's path goes on
+/// with it, or the target was found.
+pub fn progress_law()
+    ensures { ProgressLaw }
 {}
 
 /// Blocks are executed in order and accepted each once, up to the first that is refused; those below

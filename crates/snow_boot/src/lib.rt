@@ -4,6 +4,7 @@
 mod asking;
 mod block;
 mod boot;
+mod due;
 mod executing;
 mod fetching;
 mod following;
@@ -12,6 +13,8 @@ mod idset;
 mod index;
 mod inquiring;
 mod laws;
+mod needs;
+mod parts;
 mod question;
 mod stage;
 mod stop;
@@ -23,12 +26,10 @@ pub use block::KeptBlock;
 pub use boot::Boot;
 pub use index::Children;
 pub use laws::{
-    asked_law, asked_once_law, end_law, execution_law, linked_law, path_law, quiet_law, run_law,
+    asked_law, asked_once_law, end_law, execution_law, linked_law, path_law, progress_law,
+    quiet_law, run_law,
 };
 pub use question::{Candidate, Question};
 pub use stage::Stage;
 pub use stop::BootStop;
 pub use verdict::Verdict;
-
-#[cfg(test)]
-mod tests;

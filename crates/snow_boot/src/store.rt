@@ -5,7 +5,8 @@ ghost use Rattle.snow_boot.specs.declared.verdict.Verdict.TheVariants.{Keeps};
 ghost use Rattle.snow_boot.specs.Keeping.{held, highest, stray, child_stop, fork_stop, below_stop, above_stop, misplaced, placed_there, placed, taken, keeping, after_taking, Answers};
 ghost use Rattle.snow_boot.specs.Paths.{has_id, wanted_below, missed_from};
 ghost use Rattle.snow_boot.specs.Indexing.{top_of};
-ghost use Rattle.snow_boot.specs.Linking.{IsLinked};
+ghost use Rattle.snow_boot.specs.Linking.{IsLinked, held_heights};
+ghost use Rattle.snow_boot.specs.Needing.{need_at};
 
 use crate::block::KeptBlock;
 use crate::index;
@@ -273,18 +274,28 @@ impl<H: Kept> Store<H> {
         Ok(())
     }
 
+    /// What is missed below the run of held heights that ends at one: the parent of its lowest block,
+    /// unless that is right above the last accepted block.
+    pub(crate) fn wanted_at(&self, height: u64) -> Option<Id>
+        requires whole { self.now.whole ≡ true }
+        requires held { held_heights self.now.store.kept height ≡ true }
+        ensures { result ≡ need_at self.now.store height }
+    {
+        match self.at(self.heights.lowest(height)) {
+            Some(block) => wanted_below(self.height, block),
+            None => None,
+        }
+    }
+
     /// What a target misses, of which it is known whether it was found at or below the last accepted
-    /// height: the parent of the lowest block of the run of heights below it, or itself.
+    /// height: what is missed below its highest block, or itself.
     pub(crate) fn missed(&self, target: &Id, found: bool) -> Option<Id>
         requires { self.now.whole ≡ true }
         ensures { (noted : List (List ℕ)) → found ≡ has_id noted target.now → result ≡ missed_from self.now.store noted target.now (highest self.now.store.kept target.now) }
     {
-        let Some(top) = self.tops.get(target) else {
-            return wanted(target, *target == self.last || found);
-        };
-        match self.at(self.heights.lowest(*top)) {
-            Some(block) => wanted_below(self.height, block),
-            None => None,
+        match self.tops.get(target) {
+            Some(top) => self.wanted_at(*top),
+            None => wanted(target, *target == self.last || found),
         }
     }
 }

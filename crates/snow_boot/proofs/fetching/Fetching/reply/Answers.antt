@@ -1,14 +1,22 @@
--- Nothing is left to come.
-use Rattle.std.proofs.Common.{sym, ap, ◌∙◌, arith}
-use Rattle.std.proofs.lemmas.List.{drop_all}
+-- The identifier is due at first.
+use Rattle.std.proofs.Common.{subst, ◌∙◌}
+use Rattle.std.specs.Prelude.{OnOk}
+use Rattle.snow_boot.specs.declared.due.Due.{Due}
+use Rattle.snow_boot.specs.Fetching.{Fetches}
+use Rattle.snow_boot.specs.Needing.{is_missed, Covers}
+use Rattle.snow_boot.specs.Paths.{Fetch}
 use Rattle.snow_boot.specs.Replying.{replied}
-use Rattle.snow_boot.proofs.Replied.{nothing_came}
 use Rattle.snow_boot.proofs.fetching.Fetching.reply.Goals as goal
 
-pub returns : goal.returns
-returns g c =
-    let left = drop_all c.loop-bytes.bytes-index c.args.blocks.now (omega (arith, c.loop-bytes-test.false)) in (
-      c.loop-bytes.invariant.0,
-      sym c.loop-bytes.invariant.1 ∙ ap (replied g.C.Chain.rules.header_of c.loop-bytes.self.fetch c.loop-bytes.wanted) left
-          ∙ nothing_came g.C.Chain.rules.header_of c.loop-bytes.self.fetch c.loop-bytes.wanted,
-    )
+pub reply_on-requires : goal.reply_on-requires
+reply_on-requires g c = c.expect.ensures.whole ∙ c.requires
+
+pub returns-clause-fetch : goal.returns-clause-fetch
+returns-clause-fetch g c =
+    subst (λ (f : Fetch). Fetches c.reply_on.result c.reply_on.new.self (replied g.C.Chain.rules.header_of f c.args.id c.args.blocks.now)) c.expect.ensures.fetch c.reply_on.ensures.fetch
+
+pub returns-clause-due : goal.returns-clause-due
+returns-clause-due g c =
+    let now = c.reply_on.new.self in
+    subst (λ (d : Due). OnOk c.reply_on.result (Covers d (is_missed c.args.self.now.fetch c.args.self.now.fetch.targets) now.due (is_missed now.fetch now.fetch.targets))) c.expect.ensures.due
+    (subst (λ (f : Fetch). OnOk c.reply_on.result (Covers c.expect.new.self.due (is_missed f f.targets) now.due (is_missed now.fetch now.fetch.targets))) c.expect.ensures.fetch c.reply_on.ensures.due)

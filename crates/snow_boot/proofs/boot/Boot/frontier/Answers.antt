@@ -1,0 +1,17 @@
+-- What comes of the event has all that is promised.
+use Rattle.snow_boot.specs.Calling.{last_state}
+use Rattle.snow_boot.specs.Coursing.{boot_of}
+use Rattle.snow_boot.specs.Booting.{frontier_came}
+use Rattle.snow_boot.proofs.Promised.{promised}
+use Rattle.snow_boot.proofs.Quiet.{all_quiet}
+use Rattle.snow_boot.proofs.boot.Boot.frontier.Goals as goal
+
+pub returns-clause-promise : goal.returns-clause-promise
+returns-clause-promise g c =
+    let held = g.C.Chain.held c.args.chain.now in
+    let was = c.self.inside.parts in
+    let now = c.frontier-came.new.self in
+    let boot = boot_of was.survey was.fetching.fetch was.requests in
+    promised c.frontier-came.result c.args.log.now c.frontier-came.new.log now.survey now.fetching now.requests c.args.numbers.now c.frontier-came.new.numbers held (g.C.Chain.held c.frontier-came.new.chain)
+    (frontier_came g.C.Chain.rules (last_state held) boot c.args.numbers.now c.args.node.now c.args.number c.args.id) c.frontier-came.ensures
+    ((all_quiet g.C.Chain.rules (last_state held) boot c.args.numbers.now).frontier c.args.node.now c.args.number c.args.id)

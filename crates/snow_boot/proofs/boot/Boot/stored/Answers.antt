@@ -1,0 +1,17 @@
+-- What comes of the event has all that is promised.
+use Rattle.snow_boot.specs.Calling.{last_state}
+use Rattle.snow_boot.specs.Coursing.{boot_of}
+use Rattle.snow_boot.specs.Booting.{stored_came}
+use Rattle.snow_boot.proofs.Promised.{promised}
+use Rattle.snow_boot.proofs.Quiet.{all_quiet}
+use Rattle.snow_boot.proofs.boot.Boot.stored.Goals as goal
+
+pub returns-clause-promise : goal.returns-clause-promise
+returns-clause-promise g c =
+    let held = g.C.Chain.held c.args.chain.now in
+    let was = c.self.inside.parts in
+    let now = c.stored-came.new.self in
+    let boot = boot_of was.survey was.fetching.fetch was.requests in
+    promised c.stored-came.result c.args.log.now c.stored-came.new.log now.survey now.fetching now.requests c.args.numbers.now c.stored-came.new.numbers held (g.C.Chain.held c.stored-came.new.chain)
+    (stored_came g.C.Chain.rules (last_state held) boot c.args.numbers.now c.args.frame c.args.bytes.now) c.stored-came.ensures
+    ((all_quiet g.C.Chain.rules (last_state held) boot c.args.numbers.now).stored c.args.frame c.args.bytes.now)

@@ -1,0 +1,17 @@
+-- What comes of the event has all that is promised.
+use Rattle.snow_boot.specs.Calling.{last_state}
+use Rattle.snow_boot.specs.Coursing.{boot_of}
+use Rattle.snow_boot.specs.Booting.{timeout_came}
+use Rattle.snow_boot.proofs.Promised.{promised}
+use Rattle.snow_boot.proofs.Quiet.{all_quiet}
+use Rattle.snow_boot.proofs.boot.Boot.timeout.Goals as goal
+
+pub returns-clause-promise : goal.returns-clause-promise
+returns-clause-promise g c =
+    let held = g.C.Chain.held c.args.chain.now in
+    let was = c.self.inside.parts in
+    let now = c.timeout-came.new.self in
+    let boot = boot_of was.survey was.fetching.fetch was.requests in
+    promised c.timeout-came.result c.args.log.now c.timeout-came.new.log now.survey now.fetching now.requests c.args.numbers.now c.timeout-came.new.numbers held (g.C.Chain.held c.timeout-came.new.chain)
+    (timeout_came g.C.Chain.rules (last_state held) boot c.args.numbers.now c.args.node.now c.args.number) c.timeout-came.ensures
+    ((all_quiet g.C.Chain.rules (last_state held) boot c.args.numbers.now).timeout c.args.node.now c.args.number)

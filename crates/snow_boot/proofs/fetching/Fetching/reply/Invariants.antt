@@ -1,9 +1,0 @@
--- What is still to come of the reply makes of what is known what the whole reply makes of what was known.
-use Rattle.std.proofs.Common.{◌≡◌, true, drop}
-use Rattle.snow_boot.specs.Replying.{replied}
-use Rattle.snow_boot.proofs.fetching.Fetching.reply.Given as goal
-
-abbrev pub invariant-loop-bytes : goal.invariant-loop-bytes
-invariant-loop-bytes g l =
-    (l.self.whole ≡ true)
-    × (replied g.C.Chain.rules.header_of l.self.fetch l.wanted (drop l.bytes-index l.blocks) ≡ replied g.C.Chain.rules.header_of l.initial.self.fetch l.initial.wanted l.blocks)

@@ -1,6 +1,0 @@
--- The node goes on.
-use Rattle.snow_boot.specs.Calling.{MayGoOn}
-use Rattle.snow_boot.proofs.tests.fill.Given as goal
-
-abbrev pub invariant-loop-came : goal.invariant-loop-came
-invariant-loop-came l = MayGoOn l.run.boot l.run.chain l.run.numbers

@@ -1,6 +1,0 @@
--- The node goes on.
-use Rattle.snow_boot.specs.Calling.{MayGoOn}
-use Rattle.snow_boot.proofs.tests.walk.Given as goal
-
-abbrev pub invariant-loop-one : goal.invariant-loop-one
-invariant-loop-one l = MayGoOn l.run.boot l.run.chain l.run.numbers

@@ -1,0 +1,13 @@
+use crate::fetching::Fetching;
+use crate::survey::Survey;
+use snow_interval::Kept;
+use snow_issue::Gets;
+
+/// What a node that bootstraps knows: what all nodes are being asked, what is fetched, and the open
+/// requests.
+#[derive(Drop)]
+pub(crate) struct Parts<H: Kept> {
+    pub(crate) survey: Survey,
+    pub(crate) fetching: Fetching<H>,
+    pub(crate) requests: Gets,
+}
