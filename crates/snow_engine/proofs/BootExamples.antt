@@ -11,7 +11,6 @@ use Rattle.snow_boot.specs.Replying.{replied}
 use Rattle.snow_wire.specs.declared.event.Event.{Event}
 use Rattle.snow_wire.specs.declared.event.Event.TheVariants as event
 use Rattle.snow_wire.specs.declared.event.Start.{Start}
-use Rattle.snow_lines.specs.declared.line.Line.{Line}
 use Rattle.snow_lines.specs.declared.line.Line.TheVariants as line
 use Rattle.snow_lines.specs.declared.why.SkipKind.TheVariants as skip
 use Rattle.snow_engine.specs.declared.task.Task.TheVariants as task

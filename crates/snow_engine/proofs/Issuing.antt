@@ -12,14 +12,14 @@ use Rattle.snow_poll.specs.Table.{Table}
 use Rattle.snow_getter.specs.Serving.{Serving}
 use Rattle.snow_issue.specs.Known.{Seen}
 use Rattle.snow_issue.specs.Lists.{Lists}
-use Rattle.snow_engine.specs.declared.stop.EngineStop.{EngineStop}
+use Rattle.snow_engine.specs.declared.stop.Halt.{Halt}
 use Rattle.snow_engine.specs.Kept.{IsApart, IsKept}
 use Rattle.snow_engine.specs.Matching.{IsSteady, Admits}
 use Rattle.snow_engine.specs.declared.running.remembering.Remembered.{Remembered}
 use Rattle.snow_engine.specs.Remembering.{Remembers, when_issued}
 use Rattle.snow_engine.specs.Running.{Running}
 use Rattle.snow_engine.specs.Settling.{issued_by, asked_on_the_way}
-use Rattle.snow_engine.specs.Stepping.{Logs, LogsFront}
+use Rattle.snow_engine.specs.Stepping.{Tells, LogsFront}
 use Rattle.snow_engine.specs.Supplying.{with_issued, if_issued}
 use Rattle.snow_engine.specs.Telling.{decision_line, preference_line}
 use Rattle.snow_engine.proofs.Keeping.{kept_issued}
@@ -90,7 +90,7 @@ module _ (answer : Answer) (node : Running) (valid : Bool) (board_now : Board) (
   pub issue_front : (log now : List Line) → LogsFront log now told_lines → LogsFront log now (issued_by answer node block bytes o).0
   issue_front log now l = logs_front_of_more log now told_lines (asked_on_the_way answer block.id after).0 (issued_by answer node block bytes o).0 l all_lines
 
-  pub issue_lines : (result : Result (Unit {0}) EngineStop) (log mid now : List Line) → mid ≡ log ++ told_lines → Logs result mid now (asked_on_the_way answer block.id after).0
-      → Logs result log now (issued_by answer node block bytes o).0
+  pub issue_lines : (result : Result (Unit {0}) Halt) (log mid now : List Line) → mid ≡ log ++ told_lines → Tells result mid now (asked_on_the_way answer block.id after).0
+      → Tells result log now (issued_by answer node block bytes o).0
   issue_lines result log mid now m l =
-      subst (λ (ls : List Line). Logs result log now ls) all_lines (logs_behind (Unit {0}) result log mid now told_lines (asked_on_the_way answer block.id after).0 m l)
+      subst (λ (ls : List Line). Tells result log now ls) all_lines (logs_behind (Unit {0}) result log mid now told_lines (asked_on_the_way answer block.id after).0 m l)

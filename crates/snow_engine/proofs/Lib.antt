@@ -24,6 +24,7 @@ pub mod Working
 pub mod Issuing
 pub mod RunExamples
 pub mod Staged
+pub mod Stopped
 pub mod Preferred
 pub mod Supplying
 pub mod Undecided

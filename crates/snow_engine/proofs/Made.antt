@@ -3,9 +3,11 @@ use Rattle.std.proofs.Common.{◌≡◌, ℕ, zero, suc, ◌<◌, Bool, true, fa
 use Rattle.snow_lines.specs.declared.line.Line.{Line}
 use Rattle.snow_engine.specs.declared.stop.EngineStop.{EngineStop}
 use Rattle.snow_engine.specs.declared.stop.EngineStop.TheVariants as stop
+use Rattle.snow_engine.specs.declared.stop.Halt.{Halt}
+use Rattle.snow_engine.specs.declared.stop.Halt.TheVariants as halt
 use Rattle.snow_engine.specs.Outcome.{Comes, after_lines, going_on, then_comes, where_made}
 use Rattle.snow_engine.specs.Again.{again, all_made}
-use Rattle.snow_engine.specs.Stepping.{Logs, LogsFront, StopsAs}
+use Rattle.snow_engine.specs.Stepping.{Tells, LogsFront, HaltsAs}
 use Rattle.snow_engine.proofs.Logs.{logs_then_front, logs_front_of_more}
 
 -- lines in front of lines
@@ -86,10 +88,19 @@ module _ (T : Type 0) (size : T → ℕ) (step : T → Comes (T × Bool)) where
               ∙ ap (λ (l : List Line). log ++ l) (sym (ap (λ (c : Comes T). c.0) all_is)),
         )
 
+    -- a step came to a stop
+    ended : (s : EngineStop) (log_next : List Line) → (step now).1 ≡ Err s → log_next ≡ log_now ++ (step now).0
+        → ((all first).1 ≡ Err s) × (log_next ≡ log ++ (all first).0)
+    ended s log_next a l =
+        let all_is = by_step (Err s) a in (
+          ap (λ (c : Comes T). c.1) all_is,
+          grown_more log_next (step now).0 l ∙ ap (λ (ls : List Line). log ++ ls) (sym (ap (λ (c : Comes T). c.0) all_is)),
+        )
+
     -- a step stopped
-    pub stopped : (s : EngineStop) (log_next : List Line) → StopsAs s (step now).1 → Logs {T = Bool} (Err s) log_now log_next (step now).0
-        → StopsAs s (all first).1 × Logs {T = Unit {0}} (Err s) log log_next (all first).0
-    stopped stop.Memory log_next a l = (tt, ran_out (step now).1 refl)
+    pub stopped : (s : Halt) (log_next : List Line) → HaltsAs s (step now).1 → Tells {T = Bool} (Err s) log_now log_next (step now).0
+        → HaltsAs s (all first).1 × Tells {T = Unit {0}} (Err s) log log_next (all first).0
+    stopped halt.Memory log_next a l = (tt, ran_out (step now).1 refl)
       where
         ran_out : (r : Result (T × Bool) EngineStop) → (step now).1 ≡ r → LogsFront log log_next (all first).0
         ran_out r e =
@@ -103,8 +114,6 @@ module _ (T : Type 0) (size : T → ℕ) (step : T → Comes (T × Bool)) where
                 logs_front_of_more log log_next (along.front ++ (step now).0) (all x).0 (all first).0 p (append_assoc along.front (step now).0 (all x).0 ∙ sym e)
             behind (Ok (x, false)) e p =
                 logs_front_of_more log log_next (along.front ++ (step now).0) [] (all first).0 p (append_assoc along.front (step now).0 [] ∙ sym e)
-    stopped s log_next a l =
-        let all_is = by_step (Err s) a in (
-          ap (λ (c : Comes T). c.1) all_is,
-          grown_more log_next (step now).0 l ∙ ap (λ (ls : List Line). log ++ ls) (sym (ap (λ (c : Comes T). c.0) all_is)),
-        )
+    stopped halt.SecondStart log_next a l = ended stop.SecondStart log_next a l
+    stopped halt.Requests log_next a l = ended stop.Requests log_next a l
+    stopped halt.Kept log_next a l = absurd a

@@ -1,5 +1,5 @@
 -- The step of a node that bootstraps, event by event, until it runs.
-use Rattle.std.specs.Prelude.{ℕ, ◌+◌, List, [], ◌∷◌, ◌++◌, length, Result, Ok, Err, nat_lt, if◌then◌else◌}
+use Rattle.std.specs.Prelude.{ℕ, ◌+◌, List, [], ◌++◌, length, Result, Ok, Err, nat_lt, if◌then◌else◌}
 use Rattle.snow_flake.specs.Parameters.{Parameters}
 use Rattle.snow_chain.specs.Chain.{Rules}
 use Rattle.snow_wire.specs.declared.event.Event.{Event}

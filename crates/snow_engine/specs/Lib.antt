@@ -21,6 +21,7 @@ pub mod Serving
 pub mod Settling
 pub mod Staging
 pub mod Stepping
+pub mod Stopping
 pub mod Supplying
 pub mod Telling
 pub mod Turning

@@ -1,5 +1,5 @@
 -- What working the frames of a stream owes, as its pieces come.
-use Rattle.std.specs.Prelude.{◌≡◌, ℕ, ◌+◌, ◌^◌, ◌≤◌, ◌⊎◌, true, false, List, [], ◌∷◌, ◌++◌, length, Option, Some, None, Result, Ok, Err, ⊤}
+use Rattle.std.specs.Prelude.{◌≡◌, ℕ, ◌+◌, ◌^◌, ◌≤◌, ◌⊎◌, Bool, true, false, List, [], ◌∷◌, ◌++◌, length, Option, Some, None, Result, Ok, Err, ⊤}
 use Rattle.std.specs.Io.KnownBytes.{Appends, Consumes}
 use Rattle.snow_base.specs.Outside.{AppendsFront, Rose}
 use Rattle.snow_flake.specs.Rule.{Answer}
@@ -15,6 +15,7 @@ use Rattle.snow_engine.specs.declared.task.Task.{Task}
 use Rattle.snow_engine.specs.declared.end.BadKind.TheVariants as kind
 use Rattle.snow_engine.specs.declared.end.End.{End}
 use Rattle.snow_engine.specs.declared.end.End.TheVariants as end
+use Rattle.snow_engine.specs.declared.end.Over.{Over}
 use Rattle.snow_engine.specs.declared.stop.EngineStop.{EngineStop}
 use Rattle.snow_engine.specs.Ends.{is_stop}
 use Rattle.snow_engine.specs.Staging.{Node}
@@ -39,13 +40,18 @@ Stands (Ok x) now expected = expected ≡ stand_of now
 Stands (Err end.Memory) now expected = ⊤
 Stands (Err e) now expected = (is_stop e ≡ true) × (expected ≡ Stopped e)
 
--- how a frame ends in which a step was made
-abbrev pub ended_in : ℕ → Result (Unit {0}) EngineStop → Result (Option SkipKind) End
-ended_in frame (Ok u) = Ok None
-ended_in frame (Err stop) = Err (end_at frame stop)
+-- an answer, and where a step stopped the end of the run that this makes at this frame
+abbrev pub ends_in : {T : Type 0} → ℕ → Result T EngineStop → Result T End
+ends_in frame (Ok x) = Ok x
+ends_in frame (Err stop) = Err (end_at frame stop)
+
+-- an answer, and where the run is over the end that was kept
+abbrev pub ends_by : {T : Type 0} → End → Result T Over → Result T End
+ends_by kept (Ok x) = Ok x
+ends_by kept (Err over) = Err kept
 
 -- what is told of a frame: that it was passed over, which stands in no log, or what was logged
-abbrev pub told : ℕ → Result (Option SkipKind) End → List Line → List Line
+abbrev pub told : {E : Type 0} → ℕ → Result (Option SkipKind) E → List Line → List Line
 told frame (Ok (Some kind)) log = line.Skip frame kind ∷ []
 told frame (Ok None) log = log
 told frame (Err e) log = log
@@ -113,6 +119,11 @@ abbrev pub WritesLines : Result (Unit {0}) End → Option (List ℕ) → Option 
 WritesLines (Err end.SinkFault) before after lines = AppendsFront before after (texts lines)
 WritesLines (Err end.Memory) before after lines = AppendsFront before after (texts lines)
 WritesLines result before after lines = Appends before after (texts lines)
+
+-- whether that is the end: the sink failed
+abbrev pub has_sink_failed : {T : Type 0} → Result T End → Bool
+has_sink_failed (Err end.SinkFault) = true
+has_sink_failed result = false
 
 -- the sink failed where that is the end
 abbrev pub SinkFails : {T : Type 0} → Result T End → ℕ → ℕ → Type 0

@@ -1,8 +1,10 @@
--- What the calls of a node owe, where memory may run out.
+-- What the calls of a node that decides or runs owe, where memory may run out.
 use Rattle.std.specs.Prelude.{◌≡◌, List, ◌++◌, Result, Ok, Err, ⊤}
 use Rattle.snow_lines.specs.declared.line.Line.{Line}
 use Rattle.snow_engine.specs.declared.stop.EngineStop.{EngineStop}
 use Rattle.snow_engine.specs.declared.stop.EngineStop.TheVariants as stop
+use Rattle.snow_engine.specs.declared.stop.Halt.{Halt}
+use Rattle.snow_engine.specs.declared.stop.Halt.TheVariants as halt
 use Rattle.snow_chain.specs.declared.fault.ChainFault.{ChainFault}
 use Rattle.snow_chain.specs.declared.fault.ChainFault.TheVariants as fault
 use Rattle.snow_sample.specs.declared.roster.RosterFault.{RosterFault}
@@ -16,29 +18,31 @@ pub record LogsFront (before after lines : List Line) : Type 0 where
   pub grown : after ≡ before ++ front
 
 -- these lines were appended, or a front of them where memory ran out
-abbrev pub Logs : {T : Type 0} → Result T EngineStop → List Line → List Line → List Line → Type 0
-Logs (Err stop.Memory) before after lines = LogsFront before after lines
-Logs result before after lines = after ≡ before ++ lines
+abbrev pub Tells : {T : Type 0} → Result T Halt → List Line → List Line → List Line → Type 0
+Tells (Err halt.Memory) before after lines = LogsFront before after lines
+Tells result before after lines = after ≡ before ++ lines
 
 -- a start gave this node, or this stop, unless memory ran out
 abbrev pub Starts : {S : Type 0} → Result S EngineStop → Result S EngineStop → Type 0
 Starts (Err stop.Memory) expected = ⊤
 Starts given expected = expected ≡ given
 
--- this stop is expected, unless memory ran out
-abbrev pub StopsAs : {S : Type 0} → EngineStop → Result S EngineStop → Type 0
-StopsAs stop.Memory expected = ⊤
-StopsAs s expected = expected ≡ Err s
+-- the stop that this word tells is expected, unless memory ran out; a node that decides or runs keeps none aside
+abbrev pub HaltsAs : {S : Type 0} → Halt → Result S EngineStop → Type 0
+HaltsAs halt.Memory expected = ⊤
+HaltsAs halt.SecondStart expected = expected ≡ Err stop.SecondStart
+HaltsAs halt.Requests expected = expected ≡ Err stop.Requests
+HaltsAs halt.Kept expected = ⊥
 
 -- a step left this node, or stopped so, unless memory ran out
-abbrev pub Steps : {S : Type 0} → Result (Unit {0}) EngineStop → S → Result S EngineStop → Type 0
-Steps (Ok u) after expected = expected ≡ Ok after
-Steps (Err s) after expected = StopsAs s expected
+abbrev pub Turns : {S : Type 0} → Result (Unit {0}) Halt → S → Result S EngineStop → Type 0
+Turns (Ok u) after expected = expected ≡ Ok after
+Turns (Err h) after expected = HaltsAs h expected
 
 -- the same for a step that gives an answer
-abbrev pub Answers : {S T : Type 0} → Result T EngineStop → S → Result (S × T) EngineStop → Type 0
+abbrev pub Answers : {S T : Type 0} → Result T Halt → S → Result (S × T) EngineStop → Type 0
 Answers (Ok x) after expected = expected ≡ Ok (after, x)
-Answers (Err s) after expected = StopsAs s expected
+Answers (Err h) after expected = HaltsAs h expected
 
 -- the stop that a chain's fault is
 abbrev pub stop_of : ChainFault → EngineStop

@@ -6,10 +6,10 @@ ghost use Rattle.snow_chain.specs.Chain.{begun};
 ghost use Rattle.snow_boot.specs.Calling.{Brings, Leaves, MayGoOn, OnDone, OnGoing, last_state};
 ghost use Rattle.snow_boot.specs.Calling.{Logs as BootLogs};
 ghost use Rattle.snow_engine.specs.Catching as model;
-ghost use Rattle.snow_engine.specs.Stepping.{Logs, Starts};
+ghost use Rattle.snow_engine.specs.Stepping.{Starts};
+ghost use Rattle.snow_engine.specs.Stopping.{Logs};
 ghost use Rattle.snow_engine.specs.Turning.{members};
 
-use crate::reporting::write;
 use crate::running::Running;
 use crate::stage::{Node, Stage};
 use crate::stop::EngineStop;
@@ -114,11 +114,17 @@ impl<C: Chain> Booting<C> {
             | Event::AskAccepted { .. }
             | Event::AskAncestors { .. }
             | Event::AskBlock { .. } => self.pass_over(frame, SkipKind::Stage, log),
-            _ => self.catch_up(frame, event, log),
+            Event::Chits { .. }
+            | Event::Timeout { .. }
+            | Event::Frontier { .. }
+            | Event::Accepted { .. }
+            | Event::Ancestors { .. }
+            | Event::Stored { .. } => self.catch_up(frame, event, log),
         }
     }
 
     /// A frame is passed over.
+    #[tactic(auto, using(crate::proofs::Logs::logs_nothing))]
     fn pass_over<B: Board>(
         self,
         frame: u64,
@@ -128,7 +134,7 @@ impl<C: Chain> Booting<C> {
         ensures answer { Starts result (model.passed_over self frame kind).1 }
         ensures lines { Logs result log.old log.new (model.passed_over self frame kind).0 }
     {
-        write(Line::Skip { frame, kind }, log)?;
+        log.push(Line::Skip { frame, kind })?;
         Ok(Stage::Booting(self))
     }
 

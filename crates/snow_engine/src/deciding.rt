@@ -9,11 +9,11 @@ ghost use Rattle.snow_chain.specs.Chain.{next_on};
 ghost use Rattle.snow_engine.specs.Deciding as model;
 ghost use Rattle.snow_engine.specs.Node.{decides_with};
 ghost use Rattle.snow_engine.specs.Placing.{opposed};
-ghost use Rattle.snow_engine.specs.Stepping.{Logs, Starts, Steps};
+ghost use Rattle.snow_engine.specs.Stepping.{Tells, Starts, Turns};
 
 use crate::admitting::{admit, apply, opposition};
 use crate::reporting::{tell, write};
-use crate::stop::EngineStop;
+use crate::stop::{EngineStop, Halt};
 use snow_base::{Bag, Header, Ids};
 use snow_chain::Chain;
 use snow_flake::Params;
@@ -65,12 +65,12 @@ impl<C: Chain, B: Board> Deciding<C, B> {
 
     /// One event, which came in this frame.
     #[tactic(auto, unfolding(crate::specs::Deciding::decides_on), using(crate::proofs::Logs::logs_nothing))]
-    pub fn step(&mut self, frame: u64, event: &Event, log: &mut Lines) -> Result<(), EngineStop>
-        ensures answer { Steps result self.new (model.decides_on C.rules B.answer self.old frame event.now).1 }
-        ensures lines { Logs result log.old log.new (model.decides_on C.rules B.answer self.old frame event.now).0 }
+    pub fn step(&mut self, frame: u64, event: &Event, log: &mut Lines) -> Result<(), Halt>
+        ensures answer { Turns result self.new (model.decides_on C.rules B.answer self.old frame event.now).1 }
+        ensures lines { Tells result log.old log.new (model.decides_on C.rules B.answer self.old frame event.now).0 }
     {
         match event {
-            Event::Start(_) => Err(EngineStop::SecondStart),
+            Event::Start(_) => Err(Halt::SecondStart),
             Event::Block { bytes, .. } => self.receive(frame, bytes.list(), log),
             Event::Poll { ids } => self.record(frame, ids, log),
             _ => write(
@@ -84,9 +84,9 @@ impl<C: Chain, B: Board> Deciding<C, B> {
     }
 
     /// A block's bytes came, in this frame.
-    pub fn receive(&mut self, frame: u64, bytes: &[u8], log: &mut Lines) -> Result<(), EngineStop>
-        ensures answer { Steps result self.new (model.received C.rules B.answer self.old frame bytes.now (C.rules.header_of bytes.now)).1 }
-        ensures lines { Logs result log.old log.new (model.received C.rules B.answer self.old frame bytes.now (C.rules.header_of bytes.now)).0 }
+    pub fn receive(&mut self, frame: u64, bytes: &[u8], log: &mut Lines) -> Result<(), Halt>
+        ensures answer { Turns result self.new (model.received C.rules B.answer self.old frame bytes.now (C.rules.header_of bytes.now)).1 }
+        ensures lines { Tells result log.old log.new (model.received C.rules B.answer self.old frame bytes.now (C.rules.header_of bytes.now)).0 }
     {
         match self.chain.parse(bytes) {
             None => write(
@@ -101,10 +101,10 @@ impl<C: Chain, B: Board> Deciding<C, B> {
     }
 
     /// A block that isn't on the board is placed above its parent; one that is changes nothing.
-    fn offer(&mut self, block: &Header, bytes: &[u8], log: &mut Lines) -> Result<(), EngineStop>
-        ensures answer { Steps result self.new (model.offered B.answer self.old block.now
+    fn offer(&mut self, block: &Header, bytes: &[u8], log: &mut Lines) -> Result<(), Halt>
+        ensures answer { Turns result self.new (model.offered B.answer self.old block.now
             (next_on C.rules self.old.chain block.now.parent bytes.now) (height_of self.old.board block.now.id)).1 }
-        ensures lines { Logs result log.old log.new (model.offered B.answer self.old block.now
+        ensures lines { Tells result log.old log.new (model.offered B.answer self.old block.now
             (next_on C.rules self.old.chain block.now.parent bytes.now) (height_of self.old.board block.now.id)).0 }
     {
         match self.board.height_of(&block.id) {
@@ -114,12 +114,12 @@ impl<C: Chain, B: Board> Deciding<C, B> {
     }
 
     /// A block that isn't on the board is issued, unless something stands against it.
-    fn place(&mut self, block: &Header, bytes: &[u8], log: &mut Lines) -> Result<(), EngineStop>
+    fn place(&mut self, block: &Header, bytes: &[u8], log: &mut Lines) -> Result<(), Halt>
         requires { height_of self.old.board block.now.id ≡ None }
-        ensures answer { Steps result self.new (model.placed B.answer self.old block.now
+        ensures answer { Turns result self.new (model.placed B.answer self.old block.now
             (next_on C.rules self.old.chain block.now.parent bytes.now)
             (opposed self.old.board block.now (height_of self.old.board block.now.parent))).1 }
-        ensures lines { Logs result log.old log.new (model.placed B.answer self.old block.now
+        ensures lines { Tells result log.old log.new (model.placed B.answer self.old block.now
             (next_on C.rules self.old.chain block.now.parent bytes.now)
             (opposed self.old.board block.now (height_of self.old.board block.now.parent))).0 }
     {
@@ -130,11 +130,11 @@ impl<C: Chain, B: Board> Deciding<C, B> {
     }
 
     /// A block is issued where its chain takes it, and a change of the preference told.
-    fn issue(&mut self, block: &Header, bytes: &[u8], log: &mut Lines) -> Result<(), EngineStop>
+    fn issue(&mut self, block: &Header, bytes: &[u8], log: &mut Lines) -> Result<(), Halt>
         requires { MayIssue self.old.board block.now }
-        ensures answer { Steps result self.new (model.issued_with B.answer self.old block.now
+        ensures answer { Turns result self.new (model.issued_with B.answer self.old block.now
             (next_on C.rules self.old.chain block.now.parent bytes.now)).1 }
-        ensures lines { Logs result log.old log.new (model.issued_with B.answer self.old block.now
+        ensures lines { Tells result log.old log.new (model.issued_with B.answer self.old block.now
             (next_on C.rules self.old.chain block.now.parent bytes.now)).0 }
     {
         let before = self.board.preference();
@@ -152,9 +152,9 @@ impl<C: Chain, B: Board> Deciding<C, B> {
     }
 
     /// A poll with one vote for each of these identifiers came.
-    fn record(&mut self, frame: u64, ids: &Ids, log: &mut Lines) -> Result<(), EngineStop>
-        ensures answer { Steps result self.new (model.recorded B.answer self.old frame ids.now).1 }
-        ensures lines { Logs result log.old log.new (model.recorded B.answer self.old frame ids.now).0 }
+    fn record(&mut self, frame: u64, ids: &Ids, log: &mut Lines) -> Result<(), Halt>
+        ensures answer { Turns result self.new (model.recorded B.answer self.old frame ids.now).1 }
+        ensures lines { Tells result log.old log.new (model.recorded B.answer self.old frame ids.now).0 }
     {
         if ids.list().len() > self.params.k() as usize {
             return write(

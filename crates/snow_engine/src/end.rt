@@ -43,3 +43,7 @@ pub enum End {
     /// Bootstrapping stopped; want of memory and of numbers are never told so.
     BootStopped(BootStop),
 }
+
+/// The run is over; how it ended is kept aside.
+#[derive(Clone, Copy, Debug, PartialEq, Eq)]
+pub struct Over;

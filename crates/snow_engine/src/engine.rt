@@ -3,7 +3,8 @@ ghost use Rattle.snow_flake.specs.Parameters.{AreGood, checked};
 ghost use Rattle.snow_sample.specs.Roster.{first_fault};
 ghost use Rattle.snow_wire.specs.Sent.{as_event};
 ghost use Rattle.snow_engine.specs.Node as model;
-ghost use Rattle.snow_engine.specs.Stepping.{Logs, Starts, Steps};
+ghost use Rattle.snow_engine.specs.Stepping.{Starts, Tells, Turns};
+ghost use Rattle.snow_engine.specs.Stopping.{Logs, Steps, stops_by};
 ghost use Rattle.snow_engine.specs.Turning.{members};
 
 use crate::booting::Booting;
@@ -11,7 +12,7 @@ use crate::deciding::Deciding;
 use crate::reporting::write;
 use crate::running::{Running, roster_of};
 use crate::stage::{Node, Stage};
-use crate::stop::EngineStop;
+use crate::stop::{EngineStop, Halt};
 use crate::task::Task;
 use snow_base::Numbers;
 use snow_chain::Chain;
@@ -77,25 +78,44 @@ impl<C: Chain, B: Board> Engine<C, B> {
         ensures answer { Steps result self.new (model.step C.rules B.answer self.old frame event.now).1 }
         ensures lines { Logs result log.old log.new (model.step C.rules B.answer self.old frame event.now).0 }
     {
+        let mut kept = EngineStop::Memory;
+        match self.turn(frame, event, log, &mut kept) {
+            Ok(()) => Ok(()),
+            Err(halt) => Err(halt.stop(&kept)),
+        }
+    }
+
+    /// The same, with a stop told by a word; one that has more to tell is kept aside.
+    #[tactic(auto, using(crate::proofs::Staged::turned, crate::proofs::Staged::stopped, crate::proofs::Staged::told))]
+    pub(crate) fn turn(
+        &mut self,
+        frame: u64,
+        event: &Event,
+        log: &mut Lines,
+        kept: &mut EngineStop,
+    ) -> Result<(), Halt>
+        ensures answer { Steps (stops_by kept.new result) self.new (model.step C.rules B.answer self.old frame event.now).1 }
+        ensures lines { Logs (stops_by kept.new result) log.old log.new (model.step C.rules B.answer self.old frame event.now).0 }
+    {
         match &mut self.stage {
             Stage::Deciding(node) => node.step(frame, event, log),
-            Stage::Booting(_) => self.catch_up(frame, event, log),
+            Stage::Booting(_) => self.catch_up(frame, event, log, kept),
             Stage::Running(node) => node.step(frame, event, log),
             Stage::Ended => Ok(()),
         }
     }
 
     /// The same at a Block whose bytes stand where they came. They are copied only where the block is
-    /// kept.
-    #[tactic(auto, unfolding(crate::specs::Deciding::decides_on, crate::specs::Catching::boots_on))]
-    pub fn receive(
+    /// kept, and no stop of a Block is kept aside.
+    #[tactic(auto, unfolding(crate::specs::Deciding::decides_on, crate::specs::Catching::boots_on), using(crate::proofs::Staged::turned))]
+    pub(crate) fn receive(
         &mut self,
         frame: u64,
         block: &SentBlock,
         log: &mut Lines,
-    ) -> Result<(), EngineStop>
-        ensures answer { Steps result self.new (model.step C.rules B.answer self.old frame (as_event block.now)).1 }
-        ensures lines { Logs result log.old log.new (model.step C.rules B.answer self.old frame (as_event block.now)).0 }
+    ) -> Result<(), Halt>
+        ensures answer { Turns result self.new (model.step C.rules B.answer self.old frame (as_event block.now)).1 }
+        ensures lines { Tells result log.old log.new (model.step C.rules B.answer self.old frame (as_event block.now)).0 }
     {
         match &mut self.stage {
             Stage::Deciding(node) => node.receive(frame, block.bytes, log),
@@ -111,19 +131,33 @@ impl<C: Chain, B: Board> Engine<C, B> {
         }
     }
 
-    /// One event for a node that bootstraps. At a stop the node is let go. It stands apart, so that no
-    /// other node's event pays for the room of a node that is moved.
+    /// One event for a node that bootstraps. At a stop, which is kept aside, the node is let go. It
+    /// stands apart, so that no other node's event pays for the room of a node that is moved.
     #[inline(never)]
-    fn catch_up(&mut self, frame: u64, event: &Event, log: &mut Lines) -> Result<(), EngineStop>
+    fn catch_up(
+        &mut self,
+        frame: u64,
+        event: &Event,
+        log: &mut Lines,
+        kept: &mut EngineStop,
+    ) -> Result<(), Halt>
         requires { model.is_booting self.old ≡ true }
-        ensures answer { Steps result self.new (model.step C.rules B.answer self.old frame event.now).1 }
-        ensures lines { Logs result log.old log.new (model.step C.rules B.answer self.old frame event.now).0 }
+        ensures answer { Steps (stops_by kept.new result) self.new (model.step C.rules B.answer self.old frame event.now).1 }
+        ensures lines { Logs (stops_by kept.new result) log.old log.new (model.step C.rules B.answer self.old frame event.now).0 }
     {
         let Stage::Booting(node) = mem::replace(&mut self.stage, Stage::Ended) else {
             return Ok(());
         };
-        self.stage = node.step(frame, event, log)?;
-        Ok(())
+        match node.step(frame, event, log) {
+            Ok(stage) => {
+                self.stage = stage;
+                Ok(())
+            }
+            Err(stop) => {
+                *kept = stop;
+                Err(Halt::Kept)
+            }
+        }
     }
 }
 

@@ -1,9 +1,9 @@
 ghost use Rattle.std.specs.Prelude.{◌≡◌, [], ◌∷◌, ◌++◌, map, Err, OnOk, OnErr};
 ghost use Rattle.snow_plain.specs.Preference.{preferred};
 ghost use Rattle.snow_engine.specs.Telling as model;
-ghost use Rattle.snow_engine.specs.Stepping.{Logs, LogsFront};
+ghost use Rattle.snow_engine.specs.Stepping.{Tells, LogsFront};
 
-use crate::stop::EngineStop;
+use crate::stop::Halt;
 use snow_base::Id;
 use snow_lines::{DropWhy, Line, Lines};
 use snow_plain::{Board, Decision};
@@ -11,18 +11,18 @@ use std::alloc::AllocError;
 
 /// Writes a line.
 #[tactic(auto, using(crate::proofs::Logs::logs_nothing))]
-pub fn write(line: Line, log: &mut Lines) -> Result<(), EngineStop>
-    ensures memory { OnErr result (result ≡ Err EngineStop.Memory) }
-    ensures lines { Logs result log.old log.new (line ∷ []) }
+pub fn write(line: Line, log: &mut Lines) -> Result<(), Halt>
+    ensures memory { OnErr result (result ≡ Err Halt.Memory) }
+    ensures lines { Tells result log.old log.new (line ∷ []) }
 {
     log.push(line)?;
     Ok(())
 }
 
 /// Writes that a block is given up.
-pub fn drop_block(id: Id, why: DropWhy, log: &mut Lines) -> Result<(), EngineStop>
-    ensures memory { OnErr result (result ≡ Err EngineStop.Memory) }
-    ensures lines { Logs result log.old log.new (Line.Drop id why ∷ []) }
+pub fn drop_block(id: Id, why: DropWhy, log: &mut Lines) -> Result<(), Halt>
+    ensures memory { OnErr result (result ≡ Err Halt.Memory) }
+    ensures lines { Tells result log.old log.new (Line.Drop id why ∷ []) }
 {
     write(Line::Drop { id, why }, log)
 }

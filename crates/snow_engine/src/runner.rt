@@ -2,12 +2,13 @@ ghost use Rattle.std.specs.Prelude.{◌≡◌, [], Some, None, Result, Err, IfOk
 ghost use Rattle.snow_engine.specs.Run as model;
 ghost use Rattle.snow_wire.specs.declared.event.Event.{Event};
 ghost use Rattle.snow_wire.specs.Reading.{Fault, Refuses};
-ghost use Rattle.snow_engine.specs.Run.{after_frame, named};
-ghost use Rattle.snow_engine.specs.Serving.{stand_of, ended_in, told, Opens, Stands, LogsFrame};
+ghost use Rattle.snow_engine.specs.Run.{after_frame, end_at, named};
+ghost use Rattle.snow_engine.specs.Serving.{stand_of, ends_by, ends_in, told, Opens, Stands, LogsFrame};
+ghost use Rattle.snow_engine.specs.Stopping.{stop_for, stops_by};
 
-use crate::end::{BadKind, End};
+use crate::end::{BadKind, End, Over};
 use crate::engine::Engine;
-use crate::stop::EngineStop;
+use crate::stop::{EngineStop, Halt};
 use crate::task::Task;
 use snow_chain::Chain;
 use snow_lines::{Lines, SkipKind};
@@ -21,38 +22,88 @@ pub struct Runner<C: Chain, B: Board> {
     pub task: Task,
     pub engine: Option<Engine<C, B>>,
     pub log: Lines,
+    /// Why the engine stopped, where a word doesn't tell it.
+    pub stop: EngineStop,
+    /// How the run ended, once it is over.
+    pub end: End,
     pub alloc: Global,
 }
 
 impl<C: Chain, B: Board> Runner<C, B> {
+    /// The runner to which no frame came yet.
+    pub fn new(alloc: Global, task: Task) -> Self
+        ensures engine { result.engine ≡ None }
+        ensures task { result.task ≡ task }
+    {
+        Runner {
+            task,
+            engine: None,
+            log: Lines::new(alloc),
+            stop: EngineStop::Memory,
+            end: End::Done,
+            alloc,
+        }
+    }
+
     /// Works one frame: the first has to be a Start, and each later one is a step of the engine. Its
     /// lines alone stand in the log; but where its payload is no event, why it is passed over is the
-    /// answer, and its line stands in no log.
+    /// answer, and its line stands in no log. Where the run ends, its end is kept.
     #[tactic(auto, unfolding(crate::specs::Run::after_frame))]
-    pub fn work(&mut self, frame: u64, payload: &[u8]) -> Result<Option<SkipKind>, End>
-        ensures stand { Stands result self.new.engine (after_frame C.rules B.answer self.old.task (stand_of self.old.engine) frame payload.now).1 }
-        ensures lines { LogsFrame result [] (told frame result self.new.log) (after_frame C.rules B.answer self.old.task (stand_of self.old.engine) frame payload.now).0 }
+    pub fn work(&mut self, frame: u64, payload: &[u8]) -> Result<Option<SkipKind>, Over>
+        ensures stand { Stands (ends_by self.new.end result) self.new.engine (after_frame C.rules B.answer self.old.task (stand_of self.old.engine) frame payload.now).1 }
+        ensures lines { LogsFrame (ends_by self.new.end result) [] (told frame result self.new.log) (after_frame C.rules B.answer self.old.task (stand_of self.old.engine) frame payload.now).0 }
         ensures task { self.new.task ≡ self.old.task }
     {
         self.log.clear();
-        match &mut self.engine {
-            None => self.begin(frame, payload),
-            Some(engine) => follow(self.alloc, engine, frame, payload, &mut self.log),
+        let followed = match &mut self.engine {
+            None => return self.begin(frame, payload),
+            Some(engine) => follow(
+                self.alloc,
+                engine,
+                frame,
+                payload,
+                &mut self.log,
+                &mut self.stop,
+            ),
+        };
+        match followed {
+            Ok(skipped) => Ok(skipped),
+            Err(halt) => Err(self.stops(frame, halt)),
         }
     }
 
     /// Works the first frame. It stands apart, so that no later frame pays for the room of a new engine.
     #[inline(never)]
-    fn begin(&mut self, frame: u64, payload: &[u8]) -> Result<Option<SkipKind>, End>
+    fn begin(&mut self, frame: u64, payload: &[u8]) -> Result<Option<SkipKind>, Over>
         requires engine { self.old.engine ≡ None }
         requires log { self.old.log ≡ [] }
-        ensures stand { Stands result self.new.engine (model.opened C.rules self.old.task frame (model.read payload.now)).1 }
-        ensures lines { LogsFrame result [] (told frame result self.new.log) (model.opened C.rules self.old.task frame (model.read payload.now)).0 }
+        ensures stand { Stands (ends_by self.new.end result) self.new.engine (model.opened C.rules self.old.task frame (model.read payload.now)).1 }
+        ensures lines { LogsFrame (ends_by self.new.end result) [] (told frame result self.new.log) (model.opened C.rules self.old.task frame (model.read payload.now)).0 }
         ensures task { self.new.task ≡ self.old.task }
     {
-        let engine = open(self.alloc, self.task, frame, payload, &mut self.log)?;
-        self.engine = Some(engine);
-        Ok(None)
+        match open(self.alloc, self.task, frame, payload, &mut self.log) {
+            Ok(engine) => {
+                self.engine = Some(engine);
+                Ok(None)
+            }
+            Err(end) => {
+                self.end = end;
+                Err(Over)
+            }
+        }
+    }
+
+    /// The engine stopped in a frame. It stands apart, so that no other frame pays for the room of an
+    /// end.
+    #[inline(never)]
+    fn stops(&mut self, frame: u64, halt: Halt) -> Over
+        ensures end { self.new.end ≡ end_at frame (stop_for self.old.stop halt) }
+        ensures engine { self.new.engine ≡ self.old.engine }
+        ensures log { self.new.log ≡ self.old.log }
+        ensures task { self.new.task ≡ self.old.task }
+    {
+        self.end = halt.stop(&self.stop).in_frame(frame);
+        Over
     }
 }
 
@@ -98,54 +149,53 @@ fn open_with<C: Chain, B: Board>(
 }
 
 /// A step of the engine; a payload that is no event is passed over. The bytes of a block are looked at
-/// where they stand.
+/// where they stand. A stop that a word doesn't tell is kept aside.
+#[tactic(auto, using(crate::proofs::Staged::stopped, crate::proofs::Staged::told, crate::proofs::Stopped::stands_in, crate::proofs::Stopped::logs_in))]
 fn follow<C: Chain, B: Board>(
     alloc: Global,
     engine: &mut Engine<C, B>,
     frame: u64,
     payload: &[u8],
     log: &mut Lines,
-) -> Result<Option<SkipKind>, End>
+    kept: &mut EngineStop,
+) -> Result<Option<SkipKind>, Halt>
     requires { log.old ≡ [] }
-    ensures stand { Stands result (Some engine.new) (model.followed C.rules B.answer engine.old frame (model.read payload.now)).1 }
-    ensures lines { LogsFrame result [] (told frame result log.new) (model.followed C.rules B.answer engine.old frame (model.read payload.now)).0 }
+    ensures stand { Stands (ends_in frame (stops_by kept.new result)) (Some engine.new) (model.followed C.rules B.answer engine.old frame (model.read payload.now)).1 }
+    ensures lines { LogsFrame (ends_in frame (stops_by kept.new result)) [] (told frame result log.new) (model.followed C.rules B.answer engine.old frame (model.read payload.now)).0 }
 {
     match block_in(payload) {
-        Some(block) => ended(frame, engine.receive(frame, &block, log)),
-        None => follow_whole(alloc, engine, frame, payload, log),
+        Some(block) => match engine.receive(frame, &block, log) {
+            Ok(()) => Ok(None),
+            Err(halt) => Err(halt),
+        },
+        None => follow_whole(alloc, engine, frame, payload, log, kept),
     }
 }
 
 /// The same for a payload that is read whole.
-#[tactic(auto, using(crate::proofs::Logs::logs_nothing))]
+#[tactic(auto, using(crate::proofs::Logs::logs_nothing, crate::proofs::Stopped::stands_in, crate::proofs::Stopped::logs_in))]
 fn follow_whole<C: Chain, B: Board>(
     alloc: Global,
     engine: &mut Engine<C, B>,
     frame: u64,
     payload: &[u8],
     log: &mut Lines,
-) -> Result<Option<SkipKind>, End>
+    kept: &mut EngineStop,
+) -> Result<Option<SkipKind>, Halt>
     requires { log.old ≡ [] }
-    ensures stand { Stands result (Some engine.new) (model.followed C.rules B.answer engine.old frame (model.read payload.now)).1 }
-    ensures lines { LogsFrame result [] (told frame result log.new) (model.followed C.rules B.answer engine.old frame (model.read payload.now)).0 }
+    ensures stand { Stands (ends_in frame (stops_by kept.new result)) (Some engine.new) (model.followed C.rules B.answer engine.old frame (model.read payload.now)).1 }
+    ensures lines { LogsFrame (ends_in frame (stops_by kept.new result)) [] (told frame result log.new) (model.followed C.rules B.answer engine.old frame (model.read payload.now)).0 }
 {
     let read = decode(alloc, payload);
     match &read {
-        Ok(event) => ended(frame, engine.step(frame, event, log)),
+        Ok(event) => match engine.turn(frame, event, log, kept) {
+            Ok(()) => Ok(None),
+            Err(halt) => Err(halt),
+        },
         Err(skip) => match kind_of(*skip) {
             Ok(kind) => Ok(Some(kind)),
-            Err(_) => Err(End::Memory),
+            Err(_) => Err(Halt::Memory),
         },
-    }
-}
-
-/// How a frame ends in which a step was made.
-fn ended(frame: u64, step: Result<(), EngineStop>) -> Result<Option<SkipKind>, End>
-    ensures { result ≡ ended_in frame step }
-{
-    match step {
-        Ok(()) => Ok(None),
-        Err(stop) => Err(stop.in_frame(frame)),
     }
 }
 

@@ -8,7 +8,7 @@ ghost use Rattle.snow_boot.specs.Calling.{IsAlone, last_state};
 ghost use Rattle.snow_engine.specs.Hearing as hearing;
 ghost use Rattle.snow_engine.specs.Outcome.{then_comes};
 ghost use Rattle.snow_engine.specs.Running.{begun_above};
-ghost use Rattle.snow_engine.specs.Stepping.{Logs, Steps};
+ghost use Rattle.snow_engine.specs.Stepping.{Tells, Turns};
 ghost use Rattle.snow_engine.specs.Turning as model;
 
 mod closing;
@@ -20,7 +20,7 @@ mod supplying;
 
 use crate::reporting::write;
 use crate::running::remembering::Remembered;
-use crate::stop::EngineStop;
+use crate::stop::Halt;
 use snow_base::{Id, NodeId, Nodes, Numbers, Nums};
 use snow_chain::Chain;
 use snow_flake::Params;
@@ -125,12 +125,12 @@ impl<C: Chain, B: Board> Running<C, B> {
     /// One event, which came in this frame.
     #[inline(never)]
     #[tactic(auto, unfolding(crate::specs::Turning::runs_on), using(crate::proofs::Logs::logs_nothing))]
-    pub fn step(&mut self, frame: u64, event: &Event, log: &mut Lines) -> Result<(), EngineStop>
-        ensures answer { Steps result self.new (model.runs_on C.rules B.answer self.old frame event.now).1 }
-        ensures lines { Logs result log.old log.new (model.runs_on C.rules B.answer self.old frame event.now).0 }
+    pub fn step(&mut self, frame: u64, event: &Event, log: &mut Lines) -> Result<(), Halt>
+        ensures answer { Turns result self.new (model.runs_on C.rules B.answer self.old frame event.now).1 }
+        ensures lines { Tells result log.old log.new (model.runs_on C.rules B.answer self.old frame event.now).0 }
     {
         match event {
-            Event::Start(_) => Err(EngineStop::SecondStart),
+            Event::Start(_) => Err(Halt::SecondStart),
             Event::Block {
                 node,
                 request,
@@ -153,14 +153,9 @@ impl<C: Chain, B: Board> Running<C, B> {
 
     /// A block came, in this frame.
     #[tactic(auto, unfolding(crate::specs::Turning::runs_on), using(crate::proofs::Logs::logs_nothing))]
-    pub fn receive(
-        &mut self,
-        frame: u64,
-        block: &SentBlock,
-        log: &mut Lines,
-    ) -> Result<(), EngineStop>
-        ensures answer { Steps result self.new (model.runs_on C.rules B.answer self.old frame (as_event block.now)).1 }
-        ensures lines { Logs result log.old log.new (model.runs_on C.rules B.answer self.old frame (as_event block.now)).0 }
+    pub fn receive(&mut self, frame: u64, block: &SentBlock, log: &mut Lines) -> Result<(), Halt>
+        ensures answer { Turns result self.new (model.runs_on C.rules B.answer self.old frame (as_event block.now)).1 }
+        ensures lines { Tells result log.old log.new (model.runs_on C.rules B.answer self.old frame (as_event block.now)).0 }
     {
         self.take_block(frame, block.node, block.request, block.bytes, log)
     }
@@ -173,42 +168,36 @@ impl<C: Chain, B: Board> Running<C, B> {
         number: u32,
         bytes: &[u8],
         log: &mut Lines,
-    ) -> Result<(), EngineStop>
-        ensures answer { Steps result self.new (then_comes (hearing.block_came C.rules B.answer self.old frame peer number bytes.now) (model.rounded B.answer)).1 }
-        ensures lines { Logs result log.old log.new (then_comes (hearing.block_came C.rules B.answer self.old frame peer number bytes.now) (model.rounded B.answer)).0 }
+    ) -> Result<(), Halt>
+        ensures answer { Turns result self.new (then_comes (hearing.block_came C.rules B.answer self.old frame peer number bytes.now) (model.rounded B.answer)).1 }
+        ensures lines { Tells result log.old log.new (then_comes (hearing.block_came C.rules B.answer self.old frame peer number bytes.now) (model.rounded B.answer)).0 }
     {
         self.receive_block(frame, peer, number, bytes, log)?;
         self.round(log)
     }
 
     /// A vote came, and the event ends.
-    fn take_vote(
-        &mut self,
-        number: u32,
-        peer: &NodeId,
-        id: Id,
-        log: &mut Lines,
-    ) -> Result<(), EngineStop>
-        ensures answer { Steps result self.new (then_comes (hearing.vote_came C.rules B.answer self.old number peer.now id) (model.rounded B.answer)).1 }
-        ensures lines { Logs result log.old log.new (then_comes (hearing.vote_came C.rules B.answer self.old number peer.now id) (model.rounded B.answer)).0 }
+    fn take_vote(&mut self, number: u32, peer: &NodeId, id: Id, log: &mut Lines) -> Result<(), Halt>
+        ensures answer { Turns result self.new (then_comes (hearing.vote_came C.rules B.answer self.old number peer.now id) (model.rounded B.answer)).1 }
+        ensures lines { Tells result log.old log.new (then_comes (hearing.vote_came C.rules B.answer self.old number peer.now id) (model.rounded B.answer)).0 }
     {
         self.receive_vote(number, peer, id, log)?;
         self.round(log)
     }
 
     /// A peer won't answer, and the event ends.
-    fn lapse(&mut self, number: u32, peer: &NodeId, log: &mut Lines) -> Result<(), EngineStop>
-        ensures answer { Steps result self.new (then_comes (hearing.timed_out C.rules B.answer self.old number peer.now) (model.rounded B.answer)).1 }
-        ensures lines { Logs result log.old log.new (then_comes (hearing.timed_out C.rules B.answer self.old number peer.now) (model.rounded B.answer)).0 }
+    fn lapse(&mut self, number: u32, peer: &NodeId, log: &mut Lines) -> Result<(), Halt>
+        ensures answer { Turns result self.new (then_comes (hearing.timed_out C.rules B.answer self.old number peer.now) (model.rounded B.answer)).1 }
+        ensures lines { Tells result log.old log.new (then_comes (hearing.timed_out C.rules B.answer self.old number peer.now) (model.rounded B.answer)).0 }
     {
         self.time_out(number, peer, log)?;
         self.round(log)
     }
 
     /// The end of an event: queries follow where a poll was recorded.
-    fn round(&mut self, log: &mut Lines) -> Result<(), EngineStop>
-        ensures answer { Steps result self.new (model.rounded B.answer self.old).1 }
-        ensures lines { Logs result log.old log.new (model.rounded B.answer self.old).0 }
+    fn round(&mut self, log: &mut Lines) -> Result<(), Halt>
+        ensures answer { Turns result self.new (model.rounded B.answer self.old).1 }
+        ensures lines { Tells result log.old log.new (model.rounded B.answer self.old).0 }
     {
         if !self.recorded {
             return Ok(());
@@ -226,9 +215,9 @@ impl<C: Chain, B: Board> Running<C, B> {
 
     #[tactic(auto, using(crate::proofs::Logs::logs_nothing))]
     /// Words came; they may bring queries where no poll runs.
-    fn take_words(&mut self, frame: u64, words: &Nums, log: &mut Lines) -> Result<(), EngineStop>
-        ensures answer { Steps result self.new (model.words_came B.answer self.old frame words.now).1 }
-        ensures lines { Logs result log.old log.new (model.words_came B.answer self.old frame words.now).0 }
+    fn take_words(&mut self, frame: u64, words: &Nums, log: &mut Lines) -> Result<(), Halt>
+        ensures answer { Turns result self.new (model.words_came B.answer self.old frame words.now).1 }
+        ensures lines { Tells result log.old log.new (model.words_came B.answer self.old frame words.now).0 }
     {
         if self.overflows(words) {
             return skip(frame, SkipKind::Full, log);
@@ -242,16 +231,16 @@ impl<C: Chain, B: Board> Running<C, B> {
     }
 
     /// A new roster is in force, unless something is wrong with it.
-    fn take_nodes(&mut self, frame: u64, nodes: &Nodes, log: &mut Lines) -> Result<(), EngineStop>
-        ensures answer { Steps result self.new (model.roster_came self.old frame (model.members nodes.now) (first_fault (model.members nodes.now))).1 }
-        ensures lines { Logs result log.old log.new (model.roster_came self.old frame (model.members nodes.now) (first_fault (model.members nodes.now))).0 }
+    fn take_nodes(&mut self, frame: u64, nodes: &Nodes, log: &mut Lines) -> Result<(), Halt>
+        ensures answer { Turns result self.new (model.roster_came self.old frame (model.members nodes.now) (first_fault (model.members nodes.now))).1 }
+        ensures lines { Tells result log.old log.new (model.roster_came self.old frame (model.members nodes.now) (first_fault (model.members nodes.now))).0 }
     {
         match roster_of(self.alloc, nodes) {
             Ok(roster) => {
                 self.roster = roster;
                 Ok(())
             }
-            Err(RosterFault::Memory) => Err(EngineStop::Memory),
+            Err(RosterFault::Memory) => Err(Halt::Memory),
             Err(RosterFault::Empty) => skip(frame, SkipKind::Nodes, log),
             Err(RosterFault::Duplicate { .. }) => skip(frame, SkipKind::Nodes, log),
             Err(RosterFault::ZeroWeight { .. }) => skip(frame, SkipKind::Nodes, log),
@@ -261,9 +250,9 @@ impl<C: Chain, B: Board> Running<C, B> {
 }
 
 /// A frame is passed over.
-fn skip(frame: u64, kind: SkipKind, log: &mut Lines) -> Result<(), EngineStop>
-    ensures memory { OnErr result (result ≡ Err EngineStop.Memory) }
-    ensures lines { Logs result log.old log.new (Line.Skip frame kind ∷ []) }
+fn skip(frame: u64, kind: SkipKind, log: &mut Lines) -> Result<(), Halt>
+    ensures memory { OnErr result (result ≡ Err Halt.Memory) }
+    ensures lines { Tells result log.old log.new (Line.Skip frame kind ∷ []) }
 {
     write(Line::Skip { frame, kind }, log)
 }

@@ -72,8 +72,8 @@ impl<C: Chain, B: Board> Session<C, B> {
             if taken == 0 {
                 return self.end_of_input();
             }
-            if let Err(end) = self.work(out) {
-                return end;
+            if let Err(_) = self.work(out) {
+                return self.runner.end;
             }
             room -= taken as u64;
         }

@@ -5,9 +5,9 @@ ghost use Rattle.snow_lines.specs.Text.{texts};
 ghost use Rattle.snow_wire.specs.Frame.{first_of, is_too_long};
 ghost use Rattle.snow_wire.specs.Stream.{fresh};
 ghost use Rattle.snow_engine.specs.Run.{end_behind};
-ghost use Rattle.snow_engine.specs.Serving.{stand_of, told, Goes, GathersLines, WritesLines, SinkFails, one_worked, all_worked};
+ghost use Rattle.snow_engine.specs.Serving.{stand_of, ends_by, told, has_sink_failed, Goes, GathersLines, WritesLines, SinkFails, one_worked, all_worked};
 
-use crate::end::{BadKind, End};
+use crate::end::{BadKind, End, Over};
 use crate::runner::Runner;
 use crate::task::Task;
 use snow_base::{Failed, Sink};
@@ -37,12 +37,7 @@ impl<C: Chain, B: Board> Session<C, B> {
         let page = Page::new(alloc)?;
         Ok(Session {
             decoder: Decoder::new(alloc),
-            runner: Runner {
-                task,
-                engine: None,
-                log: Lines::new(alloc),
-                alloc,
-            },
+            runner: Runner::new(alloc, task),
             page,
         })
     }
@@ -68,46 +63,59 @@ impl<C: Chain, B: Board> Session<C, B> {
         }
     }
 
+    /// Whether the run is over, as the sink failed.
+    fn has_sink_failed(&self, worked: &Result<(), Over>) -> bool
+        ensures { result ≡ has_sink_failed (ends_by self.now.runner.end worked.now) }
+    {
+        worked.is_err() && self.runner.end == End::SinkFault
+    }
+
     /// Works the first frame that the decoder holds, and gathers its lines; false where it holds no
     /// whole one.
-    fn work_next<O: Sink>(&mut self, out: &mut O) -> Result<bool, End>
+    fn work_next<O: Sink>(&mut self, out: &mut O) -> Result<bool, Over>
         requires { self.old.decoder.given < 2 ^ 64 - 1 }
-        ensures goes { Goes result self.new.runner.engine self.new.decoder
+        ensures goes { Goes (ends_by self.new.runner.end result) self.new.runner.engine self.new.decoder
             (one_worked C.rules B.answer self.old.runner.task (stand_of self.old.runner.engine) self.old.decoder) }
-        ensures lines { GathersLines result (O.written out.old) self.old.page (O.written out.new) self.new.page
+        ensures lines { GathersLines (ends_by self.new.runner.end result) (O.written out.old) self.old.page (O.written out.new) self.new.page
             (one_worked C.rules B.answer self.old.runner.task (stand_of self.old.runner.engine) self.old.decoder).lines }
         ensures one { IfOk result (λ found. found ≡ is_some (first_of self.old.decoder.rest)) }
         ensures fine { result ≡ Ok false → is_too_long self.old.decoder.rest ≡ false }
-        ensures fault { SinkFails result (O.faults out.old) (O.faults out.new) }
+        ensures fault { SinkFails (ends_by self.new.runner.end result) (O.faults out.old) (O.faults out.new) }
         ensures later { O.faults out.old ≤ O.faults out.new }
         ensures task { self.new.runner.task ≡ self.old.runner.task }
     {
         match self.decoder.next() {
-            Err(long) => Err(End::BadInput {
-                frame: long.number,
-                kind: BadKind::Length,
-            }),
+            Err(long) => {
+                self.runner.end = End::BadInput {
+                    frame: long.number,
+                    kind: BadKind::Length,
+                };
+                Err(Over)
+            }
             Ok(None) => Ok(false),
             Ok(Some(frame)) => {
                 let number = frame.number;
                 let worked = self.runner.work(number, frame.payload);
                 match gather(&mut self.page, number, &worked, self.runner.log.list(), out) {
                     Ok(()) => worked.map(|_| true),
-                    Err(_) => Err(End::SinkFault),
+                    Err(_) => {
+                        self.runner.end = End::SinkFault;
+                        Err(Over)
+                    }
                 }
             }
         }
     }
 
     /// Works all whole frames that the decoder holds, and gathers their lines.
-    fn work_frames<O: Sink>(&mut self, out: &mut O) -> Result<(), End>
+    fn work_frames<O: Sink>(&mut self, out: &mut O) -> Result<(), Over>
         requires { 4 * self.old.decoder.given + length self.old.decoder.rest ≤ 2 ^ 40 }
-        ensures goes { Goes result self.new.runner.engine self.new.decoder
+        ensures goes { Goes (ends_by self.new.runner.end result) self.new.runner.engine self.new.decoder
             (all_worked C.rules B.answer self.old.runner.task (stand_of self.old.runner.engine) self.old.decoder) }
-        ensures lines { GathersLines result (O.written out.old) self.old.page (O.written out.new) self.new.page
+        ensures lines { GathersLines (ends_by self.new.runner.end result) (O.written out.old) self.old.page (O.written out.new) self.new.page
             (all_worked C.rules B.answer self.old.runner.task (stand_of self.old.runner.engine) self.old.decoder).lines }
         ensures fine { OnOk result (is_too_long self.new.decoder.rest ≡ false) }
-        ensures fault { SinkFails result (O.faults out.old) (O.faults out.new) }
+        ensures fault { SinkFails (ends_by self.new.runner.end result) (O.faults out.old) (O.faults out.new) }
         ensures later { O.faults out.old ≤ O.faults out.new }
         ensures task { self.new.runner.task ≡ self.old.runner.task }
     {
@@ -117,26 +125,29 @@ impl<C: Chain, B: Board> Session<C, B> {
 
     /// Works all whole frames that the decoder holds, and writes their lines. Nothing may wait to be
     /// written before.
-    pub fn work<O: Sink>(&mut self, out: &mut O) -> Result<(), End>
+    pub fn work<O: Sink>(&mut self, out: &mut O) -> Result<(), Over>
         requires small { 4 * self.old.decoder.given + length self.old.decoder.rest ≤ 2 ^ 40 }
         requires empty { self.old.page ≡ [] }
-        ensures goes { Goes result self.new.runner.engine self.new.decoder
+        ensures goes { Goes (ends_by self.new.runner.end result) self.new.runner.engine self.new.decoder
             (all_worked C.rules B.answer self.old.runner.task (stand_of self.old.runner.engine) self.old.decoder) }
-        ensures lines { WritesLines result (O.written out.old) (O.written out.new)
+        ensures lines { WritesLines (ends_by self.new.runner.end result) (O.written out.old) (O.written out.new)
             (all_worked C.rules B.answer self.old.runner.task (stand_of self.old.runner.engine) self.old.decoder).lines }
         ensures fine { OnOk result (is_too_long self.new.decoder.rest ≡ false) }
         ensures empty { OnOk result (self.new.page ≡ []) }
-        ensures fault { SinkFails result (O.faults out.old) (O.faults out.new) }
+        ensures fault { SinkFails (ends_by self.new.runner.end result) (O.faults out.old) (O.faults out.new) }
         ensures later { O.faults out.old ≤ O.faults out.new }
         ensures task { self.new.runner.task ≡ self.old.runner.task }
     {
         let worked = self.work_frames(out);
-        if worked == Err(End::SinkFault) {
+        if self.has_sink_failed(&worked) {
             return worked;
         }
         match self.page.flush(out) {
             Ok(()) => worked,
-            Err(_) => Err(End::SinkFault),
+            Err(_) => {
+                self.runner.end = End::SinkFault;
+                Err(Over)
+            }
         }
     }
 }
@@ -146,7 +157,7 @@ impl<C: Chain, B: Board> Session<C, B> {
 fn gather<O: Sink>(
     page: &mut Page,
     frame: u64,
-    worked: &Result<Option<SkipKind>, End>,
+    worked: &Result<Option<SkipKind>, Over>,
     log: &[Line],
     out: &mut O,
 ) -> Result<(), Failed>

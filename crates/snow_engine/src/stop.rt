@@ -26,6 +26,47 @@ pub enum EngineStop {
     Memory,
 }
 
+/// Why a node goes no further, in a word. A stop that has more to tell is kept aside where it comes to
+/// be, so that no answer has room for it where all goes well.
+#[derive(Clone, Copy, Debug, PartialEq, Eq)]
+pub enum Halt {
+    /// A Start came though the run has begun.
+    SecondStart,
+    /// A request number was needed, and all are used up.
+    Requests,
+    /// Memory ran out.
+    Memory,
+    /// The stop is kept aside.
+    Kept,
+}
+
+impl Halt {
+    ghost use Rattle.snow_engine.specs.Stopping.{stop_for};
+
+    /// The stop that this word tells, with the one that is kept aside.
+    pub(crate) fn stop(self, kept: &EngineStop) -> EngineStop
+        ensures { result ≡ stop_for kept.now self }
+    {
+        match self {
+            Halt::SecondStart => EngineStop::SecondStart,
+            Halt::Requests => EngineStop::Requests,
+            Halt::Memory => EngineStop::Memory,
+            Halt::Kept => *kept,
+        }
+    }
+}
+
+impl From<AllocError> for Halt {
+    ghost use Rattle.std.specs.Prelude.{◌≡◌};
+    ghost use Rattle.snow_engine.specs.declared.stop.Halt.TheVariants.{Memory};
+
+    ghost from_gives = { λ _ halt. halt ≡ Memory };
+
+    fn from(_error: AllocError) -> Halt {
+        Halt::Memory
+    }
+}
+
 impl EngineStop {
     ghost use Rattle.snow_engine.specs.Run.{end_at};
 

@@ -4,13 +4,13 @@ ghost use Rattle.snow_plain.specs.Poll.{poll};
 ghost use Rattle.snow_plain.specs.Board.{Board};
 ghost use Rattle.snow_issue.specs.Known.{Knows, lists_of};
 ghost use Rattle.snow_engine.specs.Closing as model;
-ghost use Rattle.snow_engine.specs.Stepping.{Answers, Logs, Steps};
+ghost use Rattle.snow_engine.specs.Stepping.{Answers, Tells, Turns};
 
 use crate::admitting::apply;
 use crate::reporting::tell;
 use crate::running::Running;
 use crate::running::supplying::follow;
-use crate::stop::EngineStop;
+use crate::stop::Halt;
 use snow_base::Bag;
 use snow_chain::Chain;
 use snow_issue::Queue;
@@ -19,18 +19,18 @@ use snow_plain::{Board, Decision};
 
 impl<C: Chain, B: Board> Running<C, B> {
     /// Polls leave while the front one is closed, and their votes are recorded.
-    pub(super) fn close_polls(&mut self, log: &mut Lines) -> Result<(), EngineStop>
-        ensures answer { Steps result self.new (model.closed_out B.answer self.old).1 }
-        ensures lines { Logs result log.old log.new (model.closed_out B.answer self.old).0 }
+    pub(super) fn close_polls(&mut self, log: &mut Lines) -> Result<(), Halt>
+        ensures answer { Turns result self.new (model.closed_out B.answer self.old).1 }
+        ensures lines { Tells result log.old log.new (model.closed_out B.answer self.old).0 }
     {
         while self.close_one(log)? {}
         Ok(())
     }
 
     /// The front poll leaves if it is closed, and its held replies with it; whether it did.
-    fn close_one(&mut self, log: &mut Lines) -> Result<bool, EngineStop>
+    fn close_one(&mut self, log: &mut Lines) -> Result<bool, Halt>
         ensures answer { Answers result self.new (model.one_closed B.answer self.old).1 }
-        ensures lines { Logs result log.old log.new (model.one_closed B.answer self.old).0 }
+        ensures lines { Tells result log.old log.new (model.one_closed B.answer self.old).0 }
     {
         let Some(closed) = self.polls.take_finished() else {
             return Ok(false);
@@ -40,10 +40,10 @@ impl<C: Chain, B: Board> Running<C, B> {
     }
 
     /// Votes are recorded, and chain and queue told what they decided, which peers are served then.
-    fn record(&mut self, votes: &Bag, log: &mut Lines) -> Result<bool, EngineStop>
+    fn record(&mut self, votes: &Bag, log: &mut Lines) -> Result<bool, Halt>
         requires { total_count votes.now.list ≤ self.old.board.parameters.k }
         ensures answer { Answers result self.new (model.moved_on B.answer self.old (poll self.old.board votes.now.list)).1 }
-        ensures lines { Logs result log.old log.new (model.moved_on B.answer self.old (poll self.old.board votes.now.list)).0 }
+        ensures lines { Tells result log.old log.new (model.moved_on B.answer self.old (poll self.old.board votes.now.list)).0 }
     {
         let before = self.board.preference();
         apply(&mut self.board, &mut self.chain, votes);

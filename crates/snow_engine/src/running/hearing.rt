@@ -3,11 +3,11 @@ ghost use Rattle.snow_issue.specs.declared.work.Waiting.{Waiting as Block};
 ghost use Rattle.snow_engine.specs.Kept.{MayFetch};
 ghost use Rattle.snow_engine.specs.Running.{numbered};
 ghost use Rattle.snow_engine.specs.Hearing as model;
-ghost use Rattle.snow_engine.specs.Stepping.{Logs, Steps};
+ghost use Rattle.snow_engine.specs.Stepping.{Tells, Turns};
 
 use crate::reporting::{drop_block, write};
 use crate::running::Running;
-use crate::stop::EngineStop;
+use crate::stop::Halt;
 use snow_base::{Header, Id, NodeId};
 use snow_chain::Chain;
 use snow_issue::{Held, Offered};
@@ -23,9 +23,9 @@ impl<C: Chain, B: Board> Running<C, B> {
         number: u32,
         bytes: &[u8],
         log: &mut Lines,
-    ) -> Result<(), EngineStop>
-        ensures answer { Steps result self.new (model.block_came C.rules B.answer self.old frame peer number bytes.now).1 }
-        ensures lines { Logs result log.old log.new (model.block_came C.rules B.answer self.old frame peer number bytes.now).0 }
+    ) -> Result<(), Halt>
+        ensures answer { Turns result self.new (model.block_came C.rules B.answer self.old frame peer number bytes.now).1 }
+        ensures lines { Tells result log.old log.new (model.block_came C.rules B.answer self.old frame peer number bytes.now).0 }
     {
         if number == 0 {
             return self.read_block(frame, peer, bytes, None, log);
@@ -44,9 +44,9 @@ impl<C: Chain, B: Board> Running<C, B> {
         bytes: &[u8],
         asked: Option<Id>,
         log: &mut Lines,
-    ) -> Result<(), EngineStop>
-        ensures answer { Steps result self.new (model.block_read C.rules B.answer self.old frame peer bytes.now asked).1 }
-        ensures lines { Logs result log.old log.new (model.block_read C.rules B.answer self.old frame peer bytes.now asked).0 }
+    ) -> Result<(), Halt>
+        ensures answer { Turns result self.new (model.block_read C.rules B.answer self.old frame peer bytes.now asked).1 }
+        ensures lines { Tells result log.old log.new (model.block_read C.rules B.answer self.old frame peer bytes.now asked).0 }
     {
         self.read_as(frame, peer, bytes, asked, log)?;
         self.settle(log)
@@ -60,9 +60,9 @@ impl<C: Chain, B: Board> Running<C, B> {
         bytes: &[u8],
         asked: Option<Id>,
         log: &mut Lines,
-    ) -> Result<(), EngineStop>
-        ensures answer { Steps result self.new (model.read_as self.old frame peer bytes.now asked (C.rules.header_of bytes.now)).1 }
-        ensures lines { Logs result log.old log.new (model.read_as self.old frame peer bytes.now asked (C.rules.header_of bytes.now)).0 }
+    ) -> Result<(), Halt>
+        ensures answer { Turns result self.new (model.read_as self.old frame peer bytes.now asked (C.rules.header_of bytes.now)).1 }
+        ensures lines { Tells result log.old log.new (model.read_as self.old frame peer bytes.now asked (C.rules.header_of bytes.now)).0 }
     {
         let Some(header) = self.chain.parse(bytes) else {
             return write(
@@ -87,11 +87,11 @@ impl<C: Chain, B: Board> Running<C, B> {
         header: Header,
         bytes: &[u8],
         log: &mut Lines,
-    ) -> Result<(), EngineStop>
+    ) -> Result<(), Halt>
         ensures answer { let block : Block = record { node = peer; header = header; bytes = bytes.now } in
-            Steps result self.new (model.brought self.old block).1 }
+            Turns result self.new (model.brought self.old block).1 }
         ensures lines { let block : Block = record { node = peer; header = header; bytes = bytes.now } in
-            Logs result log.old log.new (model.brought self.old block).0 }
+            Tells result log.old log.new (model.brought self.old block).0 }
     {
         let id = header.id;
         self.remembered = self.remembered.woken();
@@ -108,10 +108,10 @@ impl<C: Chain, B: Board> Running<C, B> {
     }
 
     /// A peer is asked for a block, if any is wanted.
-    fn fetch_if(&mut self, peer: &NodeId, id: Option<Id>, log: &mut Lines) -> Result<(), EngineStop>
+    fn fetch_if(&mut self, peer: &NodeId, id: Option<Id>, log: &mut Lines) -> Result<(), Halt>
         requires { IfSome id (λ id. MayFetch self.old.queue id) }
-        ensures answer { Steps result self.new (model.fetched_if self.old peer.now id).1 }
-        ensures lines { Logs result log.old log.new (model.fetched_if self.old peer.now id).0 }
+        ensures answer { Turns result self.new (model.fetched_if self.old peer.now id).1 }
+        ensures lines { Tells result log.old log.new (model.fetched_if self.old peer.now id).0 }
     {
         match id {
             Some(id) => self.fetch(peer, id, log),
@@ -121,13 +121,13 @@ impl<C: Chain, B: Board> Running<C, B> {
 
     #[tactic(auto, using(crate::proofs::Logs::logs_nothing))]
     /// A peer is asked for a block, by a number of its own.
-    fn fetch(&mut self, peer: &NodeId, id: Id, log: &mut Lines) -> Result<(), EngineStop>
+    fn fetch(&mut self, peer: &NodeId, id: Id, log: &mut Lines) -> Result<(), Halt>
         requires { MayFetch self.old.queue id }
-        ensures answer { Steps result self.new (numbered self.old (model.fetched peer.now id)).1 }
-        ensures lines { Logs result log.old log.new (numbered self.old (model.fetched peer.now id)).0 }
+        ensures answer { Turns result self.new (numbered self.old (model.fetched peer.now id)).1 }
+        ensures lines { Tells result log.old log.new (numbered self.old (model.fetched peer.now id)).0 }
     {
         let Some(number) = self.numbers.draw() else {
-            return Err(EngineStop::Requests);
+            return Err(Halt::Requests);
         };
         self.queue.asked(number, *peer, id)?;
         log.push(Line::Get {
@@ -145,9 +145,9 @@ impl<C: Chain, B: Board> Running<C, B> {
         peer: &NodeId,
         id: Id,
         log: &mut Lines,
-    ) -> Result<(), EngineStop>
-        ensures answer { Steps result self.new (model.vote_came C.rules B.answer self.old number peer.now id).1 }
-        ensures lines { Logs result log.old log.new (model.vote_came C.rules B.answer self.old number peer.now id).0 }
+    ) -> Result<(), Halt>
+        ensures answer { Turns result self.new (model.vote_came C.rules B.answer self.old number peer.now id).1 }
+        ensures lines { Tells result log.old log.new (model.vote_came C.rules B.answer self.old number peer.now id).0 }
     {
         if self.awaits(number, peer) {
             self.take_in(number, peer, id, log)
@@ -157,16 +157,10 @@ impl<C: Chain, B: Board> Running<C, B> {
     }
 
     /// A reply that is awaited is held, and all that it brings is done.
-    fn take_in(
-        &mut self,
-        number: u32,
-        peer: &NodeId,
-        id: Id,
-        log: &mut Lines,
-    ) -> Result<(), EngineStop>
+    fn take_in(&mut self, number: u32, peer: &NodeId, id: Id, log: &mut Lines) -> Result<(), Halt>
         requires { model.waits_for self.old number peer.now ≡ true }
-        ensures answer { Steps result self.new (model.vote_counts C.rules B.answer self.old number peer.now id).1 }
-        ensures lines { Logs result log.old log.new (model.vote_counts C.rules B.answer self.old number peer.now id).0 }
+        ensures answer { Turns result self.new (model.vote_counts C.rules B.answer self.old number peer.now id).1 }
+        ensures lines { Tells result log.old log.new (model.vote_counts C.rules B.answer self.old number peer.now id).0 }
     {
         self.hold(number, peer, id, log)?;
         self.settle(log)
@@ -181,16 +175,10 @@ impl<C: Chain, B: Board> Running<C, B> {
 
     #[tactic(auto, using(crate::proofs::Logs::logs_nothing))]
     /// A reply is held, and its block asked for where that is unknown.
-    fn hold(
-        &mut self,
-        number: u32,
-        peer: &NodeId,
-        id: Id,
-        log: &mut Lines,
-    ) -> Result<(), EngineStop>
+    fn hold(&mut self, number: u32, peer: &NodeId, id: Id, log: &mut Lines) -> Result<(), Halt>
         requires { model.waits_for self.old number peer.now ≡ true }
-        ensures answer { Steps result self.new (model.vote_held self.old number peer.now id).1 }
-        ensures lines { Logs result log.old log.new (model.vote_held self.old number peer.now id).0 }
+        ensures answer { Turns result self.new (model.vote_held self.old number peer.now id).1 }
+        ensures lines { Tells result log.old log.new (model.vote_held self.old number peer.now id).0 }
     {
         self.queue.hold(Held {
             number,
@@ -201,9 +189,9 @@ impl<C: Chain, B: Board> Running<C, B> {
     }
 
     /// A peer is asked for a block, if nothing is known of it.
-    fn fetch_unknown(&mut self, peer: &NodeId, id: Id, log: &mut Lines) -> Result<(), EngineStop>
-        ensures answer { Steps result self.new (model.fetched_unknown self.old peer.now id).1 }
-        ensures lines { Logs result log.old log.new (model.fetched_unknown self.old peer.now id).0 }
+    fn fetch_unknown(&mut self, peer: &NodeId, id: Id, log: &mut Lines) -> Result<(), Halt>
+        ensures answer { Turns result self.new (model.fetched_unknown self.old peer.now id).1 }
+        ensures lines { Tells result log.old log.new (model.fetched_unknown self.old peer.now id).0 }
     {
         if self.queue.wants(&id, &self.board) {
             self.fetch(peer, id, log)
@@ -218,18 +206,18 @@ impl<C: Chain, B: Board> Running<C, B> {
         number: u32,
         peer: &NodeId,
         log: &mut Lines,
-    ) -> Result<(), EngineStop>
-        ensures answer { Steps result self.new (model.timed_out C.rules B.answer self.old number peer.now).1 }
-        ensures lines { Logs result log.old log.new (model.timed_out C.rules B.answer self.old number peer.now).0 }
+    ) -> Result<(), Halt>
+        ensures answer { Turns result self.new (model.timed_out C.rules B.answer self.old number peer.now).1 }
+        ensures lines { Tells result log.old log.new (model.timed_out C.rules B.answer self.old number peer.now).0 }
     {
         self.give_up_on(number, peer, log)?;
         self.settle(log)
     }
 
     /// A get is closed, or a vote lost.
-    fn give_up_on(&mut self, number: u32, peer: &NodeId, log: &mut Lines) -> Result<(), EngineStop>
-        ensures answer { Steps result self.new (model.given_up_on B.answer self.old number peer.now (model.asked_by self.old.queue number peer.now)).1 }
-        ensures lines { Logs result log.old log.new (model.given_up_on B.answer self.old number peer.now (model.asked_by self.old.queue number peer.now)).0 }
+    fn give_up_on(&mut self, number: u32, peer: &NodeId, log: &mut Lines) -> Result<(), Halt>
+        ensures answer { Turns result self.new (model.given_up_on B.answer self.old number peer.now (model.asked_by self.old.queue number peer.now)).1 }
+        ensures lines { Tells result log.old log.new (model.given_up_on B.answer self.old number peer.now (model.asked_by self.old.queue number peer.now)).0 }
     {
         match self.close_get(number, peer) {
             Some(_) => Ok(()),
@@ -238,9 +226,9 @@ impl<C: Chain, B: Board> Running<C, B> {
     }
 
     /// A peer gives no vote, and closed polls leave.
-    fn lose_vote(&mut self, number: u32, peer: &NodeId, log: &mut Lines) -> Result<(), EngineStop>
-        ensures answer { Steps result self.new (model.vote_lost B.answer self.old number peer.now).1 }
-        ensures lines { Logs result log.old log.new (model.vote_lost B.answer self.old number peer.now).0 }
+    fn lose_vote(&mut self, number: u32, peer: &NodeId, log: &mut Lines) -> Result<(), Halt>
+        ensures answer { Turns result self.new (model.vote_lost B.answer self.old number peer.now).1 }
+        ensures lines { Tells result log.old log.new (model.vote_lost B.answer self.old number peer.now).0 }
     {
         if !self.awaits(number, peer) {
             return Ok(());

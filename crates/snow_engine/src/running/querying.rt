@@ -2,10 +2,10 @@ ghost use Rattle.std.specs.Prelude.{◌≡◌, ◌<◌, length};
 ghost use Rattle.snow_sample.specs.Sampling.{draw_count, AreOfDistinctNodes};
 ghost use Rattle.snow_engine.specs.Running.{numbered};
 ghost use Rattle.snow_engine.specs.Querying as model;
-ghost use Rattle.snow_engine.specs.Stepping.{Answers, Logs, Steps};
+ghost use Rattle.snow_engine.specs.Stepping.{Answers, Tells, Turns};
 
 use crate::running::Running;
-use crate::stop::EngineStop;
+use crate::stop::Halt;
 use snow_chain::Chain;
 use snow_lines::{Line, Lines, QueryWhy};
 use snow_plain::Board;
@@ -16,9 +16,9 @@ const MOST_POLLS: usize = 1024;
 
 impl<C: Chain, B: Board> Running<C, B> {
     /// A query for the preference; whether it was sent.
-    pub(super) fn query(&mut self, log: &mut Lines) -> Result<bool, EngineStop>
+    pub(super) fn query(&mut self, log: &mut Lines) -> Result<bool, Halt>
         ensures answer { Answers result self.new (model.queried B.answer self.old).1 }
-        ensures lines { Logs result log.old log.new (model.queried B.answer self.old).0 }
+        ensures lines { Tells result log.old log.new (model.queried B.answer self.old).0 }
     {
         if self.polls.len() >= MOST_POLLS {
             return self.drop_query(QueryWhy::Full, log);
@@ -31,25 +31,25 @@ impl<C: Chain, B: Board> Running<C, B> {
             Ok(()) => self.send(draws, log),
             Err(SampleFault::TooFewUnits { .. }) => self.drop_query(QueryWhy::Units, log),
             Err(SampleFault::WordsOut) => self.drop_query(QueryWhy::Words, log),
-            Err(SampleFault::Memory) => Err(EngineStop::Memory),
+            Err(SampleFault::Memory) => Err(Halt::Memory),
         }
     }
 
     /// The query is sent to those drawn.
     #[tactic(auto, using(crate::proofs::Logs::logs_nothing))]
-    fn send(&mut self, draws: Draws, log: &mut Lines) -> Result<bool, EngineStop>
+    fn send(&mut self, draws: Draws, log: &mut Lines) -> Result<bool, Halt>
         requires room { length self.old.polls.polls < 1024 }
         requires count { draw_count draws ≡ self.old.board.parameters.k }
         requires nodes { AreOfDistinctNodes draws }
         ensures answer { Answers result self.new (numbered self.old (model.sent B.answer draws)).1 }
-        ensures lines { Logs result log.old log.new (numbered self.old (model.sent B.answer draws)).0 }
+        ensures lines { Tells result log.old log.new (numbered self.old (model.sent B.answer draws)).0 }
     {
         let Some(number) = self.numbers.draw() else {
-            return Err(EngineStop::Requests);
+            return Err(Halt::Requests);
         };
         // There is room for a poll, so that memory alone can run out.
         if let Err(_) = self.polls.begin(number, &draws) {
-            return Err(EngineStop::Memory);
+            return Err(Halt::Memory);
         }
         log.push(Line::Query {
             number,
@@ -60,9 +60,9 @@ impl<C: Chain, B: Board> Running<C, B> {
     }
 
     /// The query isn't sent.
-    fn drop_query(&mut self, why: QueryWhy, log: &mut Lines) -> Result<bool, EngineStop>
+    fn drop_query(&mut self, why: QueryWhy, log: &mut Lines) -> Result<bool, Halt>
         ensures answer { Answers result self.new (model.not_sent self.old why).1 }
-        ensures lines { Logs result log.old log.new (model.not_sent self.old why).0 }
+        ensures lines { Tells result log.old log.new (model.not_sent self.old why).0 }
     {
         log.push(Line::DropQuery { why })?;
         Ok(false)
@@ -76,9 +76,9 @@ impl<C: Chain, B: Board> Running<C, B> {
     }
 
     /// One query more where polls are lacking; whether it was sent.
-    fn repoll_one(&mut self, log: &mut Lines) -> Result<bool, EngineStop>
+    fn repoll_one(&mut self, log: &mut Lines) -> Result<bool, Halt>
         ensures answer { Answers result self.new (model.one_repolled B.answer self.old).1 }
-        ensures lines { Logs result log.old log.new (model.one_repolled B.answer self.old).0 }
+        ensures lines { Tells result log.old log.new (model.one_repolled B.answer self.old).0 }
     {
         if self.lacks_polls() {
             self.query(log)
@@ -88,9 +88,9 @@ impl<C: Chain, B: Board> Running<C, B> {
     }
 
     /// Queries until enough polls run or one isn't sent.
-    pub(super) fn repoll(&mut self, log: &mut Lines) -> Result<(), EngineStop>
-        ensures answer { Steps result self.new (model.repolled B.answer self.old).1 }
-        ensures lines { Logs result log.old log.new (model.repolled B.answer self.old).0 }
+    pub(super) fn repoll(&mut self, log: &mut Lines) -> Result<(), Halt>
+        ensures answer { Turns result self.new (model.repolled B.answer self.old).1 }
+        ensures lines { Tells result log.old log.new (model.repolled B.answer self.old).0 }
     {
         while self.repoll_one(log)? {}
         Ok(())

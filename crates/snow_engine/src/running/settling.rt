@@ -9,14 +9,14 @@ ghost use Rattle.snow_engine.specs.Remembering.{Remembers};
 ghost use Rattle.snow_engine.specs.Kept.{IsApart, MayWork};
 ghost use Rattle.snow_engine.specs.Placing.{opposed};
 ghost use Rattle.snow_engine.specs.Settling as model;
-ghost use Rattle.snow_engine.specs.Stepping.{Answers, Logs, Steps};
+ghost use Rattle.snow_engine.specs.Stepping.{Answers, Tells, Turns};
 
 use crate::admitting::opposition;
 use crate::reporting::{drop_block, tell};
 use crate::running::Running;
 use crate::running::remembering::Remembered;
 use crate::running::supplying::take_up;
-use crate::stop::EngineStop;
+use crate::stop::Halt;
 use snow_base::{Bytes, Header, Id};
 use snow_chain::Chain;
 use snow_issue::{Held, Queue, Work};
@@ -25,18 +25,18 @@ use snow_plain::Board;
 
 impl<C: Chain, B: Board> Running<C, B> {
     /// Does all that is to do with the blocks and replies that wait.
-    pub(super) fn settle(&mut self, log: &mut Lines) -> Result<(), EngineStop>
-        ensures answer { Steps result self.new (model.settled C.rules B.answer self.old).1 }
-        ensures lines { Logs result log.old log.new (model.settled C.rules B.answer self.old).0 }
+    pub(super) fn settle(&mut self, log: &mut Lines) -> Result<(), Halt>
+        ensures answer { Turns result self.new (model.settled C.rules B.answer self.old).1 }
+        ensures lines { Tells result log.old log.new (model.settled C.rules B.answer self.old).0 }
     {
         while self.settle_one(log)? {}
         Ok(())
     }
 
     /// Does the first thing that is to do; whether there was any.
-    fn settle_one(&mut self, log: &mut Lines) -> Result<bool, EngineStop>
+    fn settle_one(&mut self, log: &mut Lines) -> Result<bool, Halt>
         ensures answer { Answers result self.new (model.one_settled C.rules B.answer self.old).1 }
-        ensures lines { Logs result log.old log.new (model.one_settled C.rules B.answer self.old).0 }
+        ensures lines { Tells result log.old log.new (model.one_settled C.rules B.answer self.old).0 }
     {
         match self.take_work() {
             None => Ok(false),
@@ -56,20 +56,20 @@ impl<C: Chain, B: Board> Running<C, B> {
     }
 
     /// Does what was taken out of the queue, as there was something.
-    fn carry_out(&mut self, work: Work, log: &mut Lines) -> Result<bool, EngineStop>
+    fn carry_out(&mut self, work: Work, log: &mut Lines) -> Result<bool, Halt>
         requires { MayWork self.old.board self.old.queue work }
         ensures answer { Answers result self.new (model.carried_out C.rules B.answer self.old work).1 }
-        ensures lines { Logs result log.old log.new (model.carried_out C.rules B.answer self.old work).0 }
+        ensures lines { Tells result log.old log.new (model.carried_out C.rules B.answer self.old work).0 }
     {
         self.work(work, log)?;
         Ok(true)
     }
 
     /// Does what was taken out of the queue.
-    fn work(&mut self, work: Work, log: &mut Lines) -> Result<(), EngineStop>
+    fn work(&mut self, work: Work, log: &mut Lines) -> Result<(), Halt>
         requires { MayWork self.old.board self.old.queue work }
-        ensures answer { Steps result self.new (model.done C.rules B.answer self.old work).1 }
-        ensures lines { Logs result log.old log.new (model.done C.rules B.answer self.old work).0 }
+        ensures answer { Turns result self.new (model.done C.rules B.answer self.old work).1 }
+        ensures lines { Tells result log.old log.new (model.done C.rules B.answer self.old work).0 }
     {
         match work {
             Work::Hopeless(block) => drop_block(block.header.id, DropWhy::Parent, log),
@@ -82,11 +82,11 @@ impl<C: Chain, B: Board> Running<C, B> {
     }
 
     /// A block whose parent is on the board is issued, unless something stands against it.
-    fn place(&mut self, block: &Header, bytes: Bytes, log: &mut Lines) -> Result<(), EngineStop>
+    fn place(&mut self, block: &Header, bytes: Bytes, log: &mut Lines) -> Result<(), Halt>
         requires { IsApart self.old.board self.old.queue.waiting block.now.id }
-        ensures answer { Steps result self.new (model.placed_by B.answer self.old block.now bytes (next_on C.rules self.old.chain block.now.parent bytes)
+        ensures answer { Turns result self.new (model.placed_by B.answer self.old block.now bytes (next_on C.rules self.old.chain block.now.parent bytes)
             (opposed self.old.board block.now (height_of self.old.board block.now.parent))).1 }
-        ensures lines { Logs result log.old log.new (model.placed_by B.answer self.old block.now bytes (next_on C.rules self.old.chain block.now.parent bytes)
+        ensures lines { Tells result log.old log.new (model.placed_by B.answer self.old block.now bytes (next_on C.rules self.old.chain block.now.parent bytes)
             (opposed self.old.board block.now (height_of self.old.board block.now.parent))).0 }
     {
         match opposition(&self.board, block) {
@@ -100,11 +100,11 @@ impl<C: Chain, B: Board> Running<C, B> {
 
     #[tactic(auto, using(crate::proofs::Logs::logs_nothing))]
     /// A block is issued, if it is valid, and served then.
-    fn issue(&mut self, block: &Header, bytes: Bytes, log: &mut Lines) -> Result<(), EngineStop>
+    fn issue(&mut self, block: &Header, bytes: Bytes, log: &mut Lines) -> Result<(), Halt>
         requires may { MayIssue self.old.board block.now }
         requires apart { IsApart self.old.board self.old.queue.waiting block.now.id }
-        ensures answer { Steps result self.new (model.issued_by B.answer self.old block.now bytes (next_on C.rules self.old.chain block.now.parent bytes)).1 }
-        ensures lines { Logs result log.old log.new (model.issued_by B.answer self.old block.now bytes (next_on C.rules self.old.chain block.now.parent bytes)).0 }
+        ensures answer { Turns result self.new (model.issued_by B.answer self.old block.now bytes (next_on C.rules self.old.chain block.now.parent bytes)).1 }
+        ensures lines { Tells result log.old log.new (model.issued_by B.answer self.old block.now bytes (next_on C.rules self.old.chain block.now.parent bytes)).0 }
     {
         let before = self.board.preference();
         if !take_up(
@@ -122,18 +122,18 @@ impl<C: Chain, B: Board> Running<C, B> {
     }
 
     /// An invalid block is gone, with its parent.
-    fn refuse(&mut self, block: &Header, log: &mut Lines) -> Result<(), EngineStop>
-        ensures answer { Steps result self.new (model.refused self.old block.now).1 }
-        ensures lines { Logs result log.old log.new (model.refused self.old block.now).0 }
+    fn refuse(&mut self, block: &Header, log: &mut Lines) -> Result<(), Halt>
+        ensures answer { Turns result self.new (model.refused self.old block.now).1 }
+        ensures lines { Tells result log.old log.new (model.refused self.old block.now).0 }
     {
         self.queue.gone(block.id, Some(block.parent));
         drop_block(block.id, DropWhy::Invalid, log)
     }
 
     /// A block that was issued is asked about where it is on the way to the preference.
-    fn ask_on_the_way(&mut self, id: &Id, log: &mut Lines) -> Result<(), EngineStop>
-        ensures answer { Steps result self.new (model.asked_on_the_way B.answer id.now self.old).1 }
-        ensures lines { Logs result log.old log.new (model.asked_on_the_way B.answer id.now self.old).0 }
+    fn ask_on_the_way(&mut self, id: &Id, log: &mut Lines) -> Result<(), Halt>
+        ensures answer { Turns result self.new (model.asked_on_the_way B.answer id.now self.old).1 }
+        ensures lines { Tells result log.old log.new (model.asked_on_the_way B.answer id.now self.old).0 }
     {
         if self.leads(id) {
             self.query(log)?;
@@ -151,9 +151,9 @@ impl<C: Chain, B: Board> Running<C, B> {
     }
 
     /// A held reply votes for what its block stands for, and closed polls leave.
-    fn hear(&mut self, reply: &Held, log: &mut Lines) -> Result<(), EngineStop>
-        ensures answer { Steps result self.new (model.heard B.answer self.old reply.now).1 }
-        ensures lines { Logs result log.old log.new (model.heard B.answer self.old reply.now).0 }
+    fn hear(&mut self, reply: &Held, log: &mut Lines) -> Result<(), Halt>
+        ensures answer { Turns result self.new (model.heard B.answer self.old reply.now).1 }
+        ensures lines { Tells result log.old log.new (model.heard B.answer self.old reply.now).0 }
     {
         let id = self.queue.bubble(&reply.id, &self.board);
         self.polls.vote(reply.number, &reply.node, id);

@@ -7,10 +7,10 @@ ghost use Rattle.snow_getter.specs.Answer.{answer};
 ghost use Rattle.snow_engine.specs.Matching.{IsSteady, Admits};
 ghost use Rattle.snow_engine.specs.Supplying as model;
 ghost use Rattle.snow_engine.specs.Supplying.{Serves};
-ghost use Rattle.snow_engine.specs.Stepping.{Logs};
+ghost use Rattle.snow_engine.specs.Stepping.{Tells};
 
 use crate::running::Running;
-use crate::stop::EngineStop;
+use crate::stop::Halt;
 use snow_base::{Bytes, Header};
 use snow_chain::Chain;
 use snow_getter::Getter;
@@ -23,9 +23,9 @@ impl<C: Chain, B: Board> Running<C, B> {
     /// A peer's question is answered.
     #[inline(never)]
     #[tactic(auto, using(crate::proofs::Logs::logs_nothing))]
-    pub(super) fn reply(&self, question: &Event, log: &mut Lines) -> Result<(), EngineStop>
-        ensures memory { OnErr result (result ≡ Err EngineStop.Memory) }
-        ensures lines { Logs result log.old log.new (answer self.now.served (preferred B.answer self.now.board) question.now) }
+    pub(super) fn reply(&self, question: &Event, log: &mut Lines) -> Result<(), Halt>
+        ensures memory { OnErr result (result ≡ Err Halt.Memory) }
+        ensures lines { Tells result log.old log.new (answer self.now.served (preferred B.answer self.now.board) question.now) }
     {
         self.served.answer(self.board.preference(), question, log)?;
         Ok(())

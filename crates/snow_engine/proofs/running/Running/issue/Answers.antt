@@ -8,7 +8,7 @@ use Rattle.snow_engine.specs.declared.running.remembering.Remembered.{Remembered
 use Rattle.snow_engine.specs.Remembering.{Remembers}
 use Rattle.snow_engine.specs.Running.{Running}
 use Rattle.snow_engine.specs.Settling.{issued_by}
-use Rattle.snow_engine.specs.Stepping.{Logs, LogsFront}
+use Rattle.snow_engine.specs.Stepping.{Tells, LogsFront}
 use Rattle.snow_engine.proofs.Issuing.{kept_admitted, remembers_admitted, issue_front, issue_lines}
 use Rattle.snow_engine.proofs.running.Running.issue.Goals as goal
 
@@ -56,7 +56,7 @@ returns-in_err-tell-clause-lines g c =
 
 pub returns-clause-lines : goal.returns-clause-lines
 returns-clause-lines g c =
-    subst (λ (node : Running). Logs c.ask_on_the_way.result c.args.log.now c.ask_on_the_way.new.log (issued_by g.B.Board.answer node c.args.block.now c.args.bytes (next_on g.C.Chain.rules node.chain c.args.block.now.parent c.args.bytes)).0) c.self.view_is
+    subst (λ (node : Running). Tells c.ask_on_the_way.result c.args.log.now c.ask_on_the_way.new.log (issued_by g.B.Board.answer node c.args.block.now c.args.bytes (next_on g.C.Chain.rules node.chain c.args.block.now.parent c.args.bytes)).0) c.self.view_is
     (issue_lines g.B.Board.answer (record {
       board = (g.B.Board.board c.self.inside.board);
       chain = (g.C.Chain.held c.self.inside.chain);
