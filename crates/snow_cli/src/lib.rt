@@ -14,6 +14,3 @@ pub use command::{ChainName, Command, RuleName};
 pub use program::top;
 pub use status::Status;
 pub use words::read_words;
-
-#[cfg(test)]
-mod tests;

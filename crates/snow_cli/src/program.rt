@@ -15,7 +15,7 @@ use snow_chain::{Chain, PlainChain, TallyChain};
 use snow_drill::drill;
 use snow_engine::{End, Task, serve};
 use snow_flake::{Snowball, Snowflake};
-use snow_plain::PlainBoard;
+use snow_topo::Topo;
 use std::alloc::Global;
 
 /// The top call: all that the program does. The words, without the program's name, ask for a command,
@@ -90,8 +90,8 @@ fn play<O: Sink>(alloc: Global, rule: RuleName, seed: u64, blocks: u32, out: &mu
     ensures unbroken { result ≡ End.SourceFault → ⊥ }
 {
     match rule {
-        RuleName::Snowball => drill::<PlainBoard<Snowball>, O>(alloc, seed, blocks, out),
-        RuleName::Snowflake => drill::<PlainBoard<Snowflake>, O>(alloc, seed, blocks, out),
+        RuleName::Snowball => drill::<Topo<Snowball>, O>(alloc, seed, blocks, out),
+        RuleName::Snowflake => drill::<Topo<Snowflake>, O>(alloc, seed, blocks, out),
     }
 }
 
@@ -112,7 +112,7 @@ fn run<C: Chain, S: Source, O: Sink>(
     ensures fault { serving.HasFault result (S.faults source.old) (S.faults source.new) (O.faults out.old) (O.faults out.new) }
 {
     match rule {
-        RuleName::Snowball => serve::<C, PlainBoard<Snowball>, S, O>(alloc, task, source, out),
-        RuleName::Snowflake => serve::<C, PlainBoard<Snowflake>, S, O>(alloc, task, source, out),
+        RuleName::Snowball => serve::<C, Topo<Snowball>, S, O>(alloc, task, source, out),
+        RuleName::Snowflake => serve::<C, Topo<Snowflake>, S, O>(alloc, task, source, out),
     }
 }

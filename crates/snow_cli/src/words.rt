@@ -18,6 +18,3 @@ pub fn read_words(alloc: Global, words: &Vec<String>) -> Result<Option<Command>,
     };
     command_of_ordered(alloc, list.as_slice())
 }
-
-#[cfg(test)]
-mod tests;

@@ -1,6 +1,6 @@
 use crate::tests::streams::{Frame, stream_of, text_of};
-use crate::{Status, top};
 use snow_base::{Bytes, Failed, MemSink, MemSource, Nums, Source};
+use snow_cli::{Status, top};
 use std::alloc::{AllocError, Global};
 
 /// A run of the top call.
@@ -18,6 +18,8 @@ pub struct Run<'a> {
     pub failing_write: u64,
     /// The number of the write on standard error that fails.
     pub failing_report: u64,
+    /// How many bytes of lines there is room for.
+    pub room: usize,
 }
 
 /// What a run answered and wrote, and what a read behind it gives.
@@ -41,6 +43,7 @@ pub fn asking<'a>(words: &'a [&'a str], stream: &'a [u8]) -> Run<'a> {
         failing_read: 0,
         failing_write: 0,
         failing_report: 0,
+        room: 4096,
     }
 }
 
@@ -59,8 +62,8 @@ pub fn tried_on<S: Source>(
     source: &mut S,
 ) -> Result<Outcome, AllocError> {
     let words = words_of(alloc, run.words)?;
-    let mut out = sink_of(alloc, run.failing_write)?;
-    let mut err = sink_of(alloc, run.failing_report)?;
+    let mut out = sink_of(alloc, run.failing_write, run.room)?;
+    let mut err = sink_of(alloc, run.failing_report, 256)?;
     let status = top(alloc, &words, source, &mut out, &mut err);
     Ok(Outcome {
         status,
@@ -126,9 +129,9 @@ fn only(alloc: Global, number: u64) -> Result<Nums, AllocError> {
     Ok(list)
 }
 
-/// A sink with room for 4,096 bytes, whose write of this number fails.
-fn sink_of(alloc: Global, failing: u64) -> Result<MemSink, AllocError> {
+/// A sink with room for so many bytes, whose write of this number fails.
+fn sink_of(alloc: Global, failing: u64, room: usize) -> Result<MemSink, AllocError> {
     let mut sink = MemSink::new(alloc, only(alloc, failing)?);
-    sink.reserve(4096)?;
+    sink.reserve(room)?;
     Ok(sink)
 }

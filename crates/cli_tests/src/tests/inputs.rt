@@ -1,6 +1,6 @@
-use crate::Status;
 use crate::tests::runs::{DECIDE, asking, gives, writes};
 use crate::tests::streams::{B, Frame, ROOT, START, stream_of};
+use snow_cli::Status;
 use std::test::Fail;
 
 /// Streams that are bad, and the line on standard error. None of them writes a line.

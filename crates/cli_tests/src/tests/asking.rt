@@ -1,6 +1,6 @@
-use crate::Status;
 use crate::tests::runs::{asking, tried, writes};
 use crate::tests::streams::{A, B, C, D, E, FAR, Frame, Name, ROOT, stream_of};
+use snow_cli::Status;
 use std::test::Fail;
 
 /// A stream of a node that runs, and the lines that it writes.

@@ -1,5 +1,4 @@
-use super::read_words;
-use crate::command::{ChainName, Command, RuleName};
+use snow_cli::{ChainName, Command, RuleName, read_words};
 use snow_engine::Task;
 use std::alloc::{AllocError, Global};
 use std::test::Fail;

@@ -1,6 +1,6 @@
-use crate::Status;
 use crate::tests::runs::{DECIDE, Outcome, asking, tried};
 use crate::tests::streams::{ONE, ONE_LINES, stream_of, text_of};
+use snow_cli::Status;
 use std::alloc::{AllocError, Global};
 
 /// What comes of the stream with one block and one poll, and its lines.

@@ -1,7 +1,7 @@
-use crate::Status;
 use crate::tests::runs::{DECIDE, Run, asking, gives, tried_on};
 use crate::tests::streams::{ONE, ONE_LINES, stream_of};
 use snow_base::{Bytes, Failed, PureSource, Source};
+use snow_cli::Status;
 use std::test::Fail;
 
 /// Cuts of the stream with one block and one poll: from so many bytes to so many, the status, the

@@ -1,5 +1,5 @@
-use crate::Status;
 use crate::tests::runs::{asking, tried};
+use snow_cli::Status;
 use std::test::Fail;
 
 /// A drill of one block, as two programs of other authors counted it.

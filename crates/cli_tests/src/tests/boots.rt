@@ -1,6 +1,6 @@
-use crate::Status;
 use crate::tests::runs::{asking, tried, writes};
 use crate::tests::streams::{B, C, D, E, Frame, ROOT, stream_of, text_of};
+use snow_cli::Status;
 use std::alloc::{AllocError, Global};
 use std::test::Fail;
 

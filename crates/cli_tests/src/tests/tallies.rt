@@ -1,6 +1,6 @@
-use crate::Status;
 use crate::tests::runs::{asking, gives, writes};
 use crate::tests::streams::{A, Frame, stream_of};
+use snow_cli::Status;
 use std::test::Fail;
 
 const WORDS: &[&str] = &["decide", "--chain", "tally"];

@@ -1,6 +1,6 @@
-use crate::Status;
 use crate::tests::runs::{DECIDE, Run, asking, gives};
 use crate::tests::streams::{ONE, ONE_LINES, stream_of};
+use snow_cli::Status;
 use std::test::Fail;
 
 /// The most bytes of a read of the stream with one block and one poll, the read that fails, and the

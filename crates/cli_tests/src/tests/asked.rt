@@ -1,6 +1,6 @@
-use crate::Status;
 use crate::tests::runs::{asking, tried, writes};
 use crate::tests::streams::{ONE, ONE_LINES, stream_of};
+use snow_cli::Status;
 use std::test::Fail;
 
 /// Words that ask for nothing that there is.
