@@ -1,3 +1,4 @@
+pub mod Equal
 pub mod Adding
 pub mod Bits
 pub mod Examples

@@ -1,11 +1,11 @@
-ghost use Rattle.std.specs.Prelude.{◌≡◌, ◌≢◌, ℕ, ◌*◌, ◌<◌, ◌≤◌, List, IsTrue, length};
+ghost use Rattle.std.specs.Prelude.{◌≡◌, ◌≢◌, ℕ, ◌*◌, ◌<◌, ◌≤◌, List, IsTrue, length, bytes_eq};
 ghost use Rattle.std.specs.Int.{bit_at};
 
 use std::cmp::Ordering;
 use std::marker::Model;
 
 /// A block's identifier: 32 bytes, which contracts see as a list of bytes.
-#[derive(Clone, Copy, Debug, PartialEq, Eq, PartialOrd, Ord)]
+#[derive(Clone, Copy, Debug, Eq, PartialOrd, Ord)]
 pub struct Id {
     bytes: [u8; 32],
 }
@@ -18,6 +18,33 @@ impl Model for Id {
     ghost view = { λ a. a.bytes };
 
     ghost inverse = { λ bytes. record { bytes = bytes } };
+}
+
+impl PartialEq for Id {
+    ghost use Rattle.std.specs.Prelude.{bytes_eq};
+    ghost use Rattle.std.specs.Cmp.Rules.{comparing};
+    ghost use Rattle.std.proofs.Common.{rules};
+
+    ghost eq = { bytes_eq };
+
+    ghost laws = { Prim.search (comparing, rules) };
+
+    #[inline]
+    fn eq(&self, other: &Self) -> bool {
+        are_equal(&self.bytes, &other.bytes)
+    }
+}
+
+// Whether all bytes are equal. Nothing branches on them, so that many are compared at a time.
+#[inline]
+fn are_equal(a: &[u8; 32], b: &[u8; 32]) -> bool
+    ensures { result ≡ bytes_eq a.now b.now }
+{
+    let mut same = true;
+    for at in 0..32 {
+        same = same & (a[at] == b[at]);
+    }
+    same
 }
 
 impl Id {
@@ -47,13 +74,31 @@ impl Id {
     }
 
     /// Bit order: bit 0 is compared first, then bit 1, and so on; a 0 stands before a 1.
+    #[inline]
     pub fn bit_cmp(&self, other: &Id) -> Ordering
         ensures { result ≡ bit_cmp self.now other.now }
     {
-        match self.first_difference(other, 0, 256) {
+        match self.first_apart(other) {
             None => Ordering::Equal,
             Some(i) => self.bit(i).cmp(&other.bit(i)),
         }
+    }
+
+    // The first bit in which the two differ. Most do in their first byte, and those that don't are mostly
+    // one.
+    #[inline]
+    fn first_apart(&self, other: &Id) -> Option<u16>
+        ensures { FirstDiffers 0 256 self.now other.now result }
+    {
+        let a = self.bytes[0];
+        let b = other.bytes[0];
+        if a != b {
+            return Some(lowest_differing(a, b));
+        }
+        if self == other {
+            return None;
+        }
+        self.first_past(other, 0)
     }
 
     /// The first bit from `from` up to, not including, `to` in which the two differ; none where they
@@ -88,6 +133,7 @@ impl Id {
     }
 
     // The same from a byte on: bytes that agree are passed whole.
+    #[inline(never)]
     fn first_past(&self, other: &Id, from: u16) -> Option<u16>
         requires { from ≤ 32 }
         ensures { FirstDiffers (8 * from) 256 self.now other.now result }
