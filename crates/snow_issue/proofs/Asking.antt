@@ -1,24 +1,23 @@
 -- Lemmas on open gets: their order by number, and which blocks are asked for.
-use Rattle.std.proofs.Common.{◌≡◌, ℕ, zero, suc, ◌<◌, ◌+◌, ◌==◌, Bool, true, false, not, ◌&&◌, ◌||◌, ltb, eqb, cond, List, [], ◌∷◌, ◌++◌, map, length, get_or, find, Option, Some, None, Ordering, Less, Equal, Greater, refl, sym, ap, ◌∙◌, subst, arith, ⊎_elim}
-use Rattle.std.specs.BTreeMap.{BTreeMap, get, is_at, insert_entry}
+use Rattle.std.proofs.Common.{◌≡◌, ℕ, suc, ◌<◌, ◌+◌, ◌==◌, Bool, true, false, not, ◌&&◌, ◌||◌, ltb, cond, List, [], ◌∷◌, map, length, get_or, find, Option, Some, None, Less, Equal, Greater, refl, sym, ap, ◌∙◌, arith, ⊎_elim}
+use Rattle.std.specs.BTreeMap.{get, is_at, insert_entry}
 use Rattle.std.specs.BTreeSet.{BTreeSet, contains}
 use Rattle.std.specs.Cmp.Lexicographic.{slice_cmp}
-use Rattle.std.specs.List.{list_any, remove, position_or_len, AllByRecursion}
+use Rattle.std.specs.List.{remove, position_or_len, AllByRecursion}
 use Rattle.std.specs.List.Sorted.{IsStrictlySortedBy}
 use Rattle.std.specs.Map.{lookup, remove_entry, keys_of}
 use Rattle.std.specs.Option.{is_some, option_map}
 use Rattle.std.specs.Ordering.{nat_cmp, is_eq, match_ordering}
 use Rattle.std.specs.Str.{bytes_eq}
-use Rattle.std.proofs.lemmas.Bool.{or_parts, both_ways, false_from_ne_true, eqb-true, lt-ltb, le-ltb, ne_eqb, eq-eqb, cases_order}
+use Rattle.std.proofs.lemmas.Bool.{or_parts, both_ways, eqb-true, lt-ltb, le-ltb, ne_eqb, eq-eqb, cases_order}
 use Rattle.std.proofs.lemmas.Map.Text.{is_eq-slice_cmp}
 use Rattle.snow_issue.specs.declared.gets.Asked.{Asked}
 use Rattle.snow_issue.specs.declared.work.Get.{Get}
 use Rattle.snow_issue.specs.Lists.{asked_in, has_number, is_get, with_get, without}
 use Rattle.snow_issue.specs.Index.{AreNamedApart, HasAsked, get_of}
 use Rattle.snow_issue.proofs.Noted.{same_id, id_turned}
-use Rattle.snow_issue.proofs.Named.{is_named, named, named_removed, apart_removed, named_is_some}
-use Rattle.snow_issue.proofs.Booleans.{or_true}
-use Rattle.snow_issue.proofs.Booleans.{or_false, or_true, or_turned, or_assoc, cond_or}
+use Rattle.snow_issue.proofs.Named.{named, named_removed, apart_removed, named_is_some}
+use Rattle.snow_issue.proofs.Booleans.{or_false, or_turned, or_assoc, cond_or}
 
 abbrev Entries : Type 0
 Entries = List (ℕ × Asked)

@@ -1,8 +1,8 @@
 -- Lemmas on the heights of waiting blocks, by identifier.
-use Rattle.std.proofs.Common.{◌≡◌, ℕ, ◌<◌, ◌+◌, ◌==◌, Bool, true, false, ◌&&◌, cond, List, [], ◌∷◌, ◌++◌, map, length, get_or, find, Option, Some, None, refl, sym, ap, ◌∙◌, arith}
+use Rattle.std.proofs.Common.{◌≡◌, ℕ, ◌<◌, ◌+◌, ◌==◌, Bool, true, false, cond, List, [], ◌∷◌, ◌++◌, length, get_or, Option, Some, None, refl, sym, ap, ◌∙◌}
 use Rattle.std.specs.BTreeMap.{BTreeMap, get, is_at}
 use Rattle.std.specs.Cmp.Lexicographic.{slice_cmp}
-use Rattle.std.specs.List.{list_any, remove}
+use Rattle.std.specs.List.{remove}
 use Rattle.std.specs.Option.{is_some, option_map, option_map_or}
 use Rattle.std.specs.Ordering.{nat_cmp}
 use Rattle.std.specs.Str.{bytes_eq}
@@ -10,9 +10,9 @@ use Rattle.std.proofs.lemmas.Map.Text.{is_eq-slice_cmp}
 use Rattle.snow_base.specs.declared.header.Header.{Header}
 use Rattle.snow_issue.specs.declared.work.Waiting.{Waiting}
 use Rattle.snow_issue.specs.Lists.{waits_among, waits_below}
-use Rattle.snow_issue.specs.Index.{AreNamedApart, HasHeights, height_among}
+use Rattle.snow_issue.specs.Index.{HasHeights}
 use Rattle.snow_issue.proofs.Noted.{same_id}
-use Rattle.snow_issue.proofs.Named.{is_named, named, named_pushed, apart_pushed, named_removed, apart_removed, named_is_some, none_named, any_named}
+use Rattle.snow_issue.proofs.Named.{named, named_pushed, apart_pushed, named_removed, apart_removed, named_is_some, none_named, any_named}
 
 abbrev HeightMap : Type 0
 HeightMap = BTreeMap (List ℕ) ℕ

@@ -14,3 +14,4 @@ mod Settled
 mod Tagged
 mod Taken
 mod Windowed
+mod Resting

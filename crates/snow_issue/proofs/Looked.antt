@@ -1,11 +1,10 @@
 -- Lemmas on looking: the first item that passes a test, where those that aren't new are known to fail it.
-use Rattle.std.proofs.Common.{◌≡◌, ℕ, zero, suc, ◌<◌, ◌≤◌, ◌+◌, ◌-◌, Bool, true, false, not, ◌||◌, cond, List, [], ◌∷◌, ◌++◌, map, length, get_or, set, find, All, Option, Some, None, refl, sym, ap, ◌∙◌, subst, arith, ⊎_elim}
-use Rattle.std.specs.List.{position_or_len, remove, prefix_len}
-use Rattle.std.proofs.lemmas.Bool.{cases_lt, both_ways, false_from_ne_true}
-use Rattle.std.proofs.lemmas.List.{length-set, get_or-set_same, get_or-set_other, get_or-map, length-map, get_or_default, map-set, set-get_or}
+use Rattle.std.proofs.Common.{◌≡◌, ℕ, suc, ◌<◌, ◌≤◌, ◌+◌, ◌-◌, Bool, true, false, not, ◌||◌, cond, List, [], ◌∷◌, length, get_or, set, find, All, Some, None, refl, sym, ap, ◌∙◌, subst, arith, ⊎_elim}
+use Rattle.std.specs.List.{position_or_len}
+use Rattle.std.proofs.lemmas.Bool.{cases_lt, both_ways}
+use Rattle.std.proofs.lemmas.List.{length-set, get_or-set_same, get_or-set_other, get_or-map, length-map, map-set, set-get_or}
 use Rattle.std.proofs.lemmas.List.Elements.{All-set, All-head, All-tail}
 use Rattle.std.proofs.lemmas.List.Sums.{position_or_len_is, fails_before_first, passes_at_first, prefix_len-le-length}
-use Rattle.snow_base.specs.declared.header.Header.{Header}
 use Rattle.snow_plain.specs.Board.{Board}
 use Rattle.snow_issue.specs.declared.work.Waiting.{Waiting}
 use Rattle.snow_issue.specs.declared.work.Get.{Get}
@@ -59,7 +58,7 @@ found_none {T} p (y ∷ xs) h =
 abbrev pub KnownToFail : {T : Type 0} → (T → Bool) → List (T × Mark) → Type 0
 KnownToFail p seats = All (λ s. has New s ≡ false → p s.0 ≡ false) seats
 
-items_at : {T : Type 0} (seats : List (T × Mark)) (k : ℕ) (d : T × Mark) → k < length seats → get_or (items_of seats) k d.0 ≡ (get_or seats k d).0
+pub items_at : {T : Type 0} (seats : List (T × Mark)) (k : ℕ) (d : T × Mark) → k < length seats → get_or (items_of seats) k d.0 ≡ (get_or seats k d).0
 items_at seats k d within = get_or-map (λ (s : _ × Mark). s.0) seats k d d.0 within
 
 -- the first new item, where it passes, or the end, is where the first item that passes stands
@@ -242,7 +241,7 @@ quiet_off true other h = absurd cc
 quiet_off false other h = refl
 
 -- a block that was looked at is ready where it is ripe
-ready_is_ripe : (waiting : List Waiting) (gets : List Get) (board : Board) (w : Waiting) (mark : Mark) → Tells waiting gets board (w, mark) → is_mark New mark ≡ false
+pub ready_is_ripe : (waiting : List Waiting) (gets : List Get) (board : Board) (w : Waiting) (mark : Mark) → Tells waiting gets board (w, mark) → is_mark New mark ≡ false
     → is_ready board w ≡ is_mark Ripe mark
 ready_is_ripe waiting gets board w New h old = absurd cc
 ready_is_ripe waiting gets board w Quiet h old = quiet_off (is_on board w.header.parent) (asked_in gets w.header.parent || waits_below waiting w.header) h

@@ -1,19 +1,18 @@
 -- What issuing a block and recording a poll leave of what a queue remembers of the board.
-use Rattle.std.proofs.Common.{◌≡◌, ℕ, Bool, true, false, ◌||◌, ◌&&◌, cond, List, [], ◌∷◌, ◌++◌, map, length, get_or, filter, find, All, Option, Some, None, refl, sym, ap, ◌∙◌, subst}
+use Rattle.std.proofs.Common.{◌≡◌, ℕ, Bool, true, false, ◌||◌, ◌&&◌, cond, List, [], ◌∷◌, ◌++◌, map, length, get_or, filter, find, Some, None, refl, sym, ap, ◌∙◌}
 use Rattle.std.specs.List.{list_any}
 use Rattle.std.specs.Option.{is_some, option_map}
 use Rattle.std.specs.Str.{bytes_eq}
 use Rattle.std.proofs.lemmas.Bool.{both_ways, false_from_ne_true, or_parts, or_from}
-use Rattle.std.proofs.lemmas.List.Elements.{All-weaker}
 use Rattle.std.proofs.lemmas.List.Folds.{list_any-append}
 use Rattle.snow_base.specs.declared.header.Header.{Header}
 use Rattle.snow_base.specs.declared.vote.Vote.{Vote}
 use Rattle.snow_plain.specs.declared.pending.Pending.{Pending}
 use Rattle.snow_plain.specs.Conflict.{Counters, decides}
-use Rattle.snow_plain.specs.Board.{Board, height_of, issued, with_counters, with_issued, new_pending, blocks_of}
-use Rattle.snow_plain.specs.Poll.{with_votes, counted, winner, promoted, stays_with, settled, poll}
+use Rattle.snow_plain.specs.Board.{Board, issued, with_counters, with_issued, new_pending, blocks_of}
+use Rattle.snow_plain.specs.Poll.{with_votes, counted, winner, promoted, poll}
 use Rattle.snow_plain.proofs.Invariant.{settled_keeps}
-use Rattle.snow_plain.proofs.Lookup.{IsFound, found}
+use Rattle.snow_plain.proofs.Lookup.{found}
 use Rattle.snow_issue.specs.declared.work.Waiting.{Waiting}
 use Rattle.snow_issue.specs.declared.work.Get.{Get}
 use Rattle.snow_issue.specs.declared.marks.Mark.{Mark}
@@ -22,7 +21,7 @@ use Rattle.snow_issue.specs.Lists.{asked_in, waits_below}
 use Rattle.snow_issue.specs.Offering.{is_on}
 use Rattle.snow_issue.specs.Known.{Seen, items_of, is_mark, has, sight, Tells, Knows, ForgetsChildren, NoneRipe}
 use Rattle.snow_issue.proofs.Looked.{quiet_off}
-use Rattle.snow_issue.proofs.Noted.{same_id, id_turned}
+use Rattle.snow_issue.proofs.Noted.{id_turned}
 use Rattle.snow_issue.proofs.Booleans.{or_false, or_true, or_assoc}
 
 -- ---- what is on a board

@@ -1,26 +1,23 @@
 -- Lemmas on a queue as a whole: what it keeps through each call.
-use Rattle.std.proofs.Common.{◌≡◌, ℕ, ◌<◌, ◌≤◌, ◌+◌, ltb, Bool, true, false, not, ◌||◌, cond, List, [], ◌∷◌, ◌++◌, map, take, drop, suc, length, get_or, filter, find, All, Option, Some, None, refl, sym, ap, ◌∙◌, subst, arith, ⊎_elim}
+use Rattle.std.proofs.Common.{◌≡◌, ℕ, ◌<◌, ◌≤◌, ◌+◌, ltb, Bool, true, false, cond, List, [], ◌∷◌, ◌++◌, map, take, drop, suc, length, get_or, find, All, Option, Some, None, refl, sym, ap, ◌∙◌, subst, arith, ⊎_elim}
 use Rattle.std.specs.List.{remove, position_or_len}
-use Rattle.std.specs.Option.{is_some, option_map}
-use Rattle.std.specs.Str.{bytes_eq}
+use Rattle.std.specs.Option.{option_map}
 use Rattle.std.proofs.lemmas.Bool.{cases_lt, lt-ltb, le-ltb}
 use Rattle.std.proofs.lemmas.List.{length-map, length_push, length-take, length-drop, length-append}
 use Rattle.std.proofs.lemmas.List.Edits.{length-remove}
-use Rattle.std.proofs.lemmas.List.Elements.{All-filter, All-push}
 use Rattle.snow_plain.specs.Board.{Board}
 use Rattle.snow_issue.specs.declared.work.Waiting.{Waiting}
 use Rattle.snow_issue.specs.declared.work.Get.{Get}
 use Rattle.snow_issue.specs.declared.work.Held.{Held}
 use Rattle.snow_issue.specs.declared.gone.Gone.{Gone}
 use Rattle.snow_issue.specs.declared.marks.Mark.{Mark}
-use Rattle.snow_issue.specs.declared.marks.Mark.TheVariants.{New, Quiet, Ripe}
+use Rattle.snow_issue.specs.declared.marks.Mark.TheVariants.{New}
 use Rattle.snow_issue.specs.Gone.{with_gone}
 use Rattle.snow_issue.specs.Lists.{Lists, with_get, is_get, without, AreWithinLimits}
 use Rattle.snow_issue.specs.Known.{Seen, items_of, lists_of, Tells, Knows}
 use Rattle.snow_issue.specs.Index.{woken, forgotten}
 use Rattle.snow_issue.specs.Keeping.{IsKept, Rests}
-use Rattle.snow_issue.proofs.Asking.{first_at, none_without}
-use Rattle.snow_issue.proofs.Taken.{items_woken, items_forgotten, items_pushed, items_removed, item_is, tells_closed, rests_left, rests_closed, rests_asked, rests_pushed}
+use Rattle.snow_issue.proofs.Taken.{items_woken, items_forgotten, items_pushed, items_removed, item_is, rests_left, rests_closed, rests_asked, rests_pushed}
 
 -- ---- lengths
 

@@ -1,5 +1,5 @@
 -- Lemmas on windows: where a mark may stand, after each change.
-use Rattle.std.proofs.Common.{◌≡◌, ℕ, ◌<◌, ◌≤◌, ◌+◌, ◌-◌, Bool, true, false, cond, List, [], ◌∷◌, ◌++◌, map, length, min, get_or, set, filter, All, refl, sym, ap, ◌∙◌, subst, arith, ⊎_elim}
+use Rattle.std.proofs.Common.{◌≡◌, ℕ, ◌<◌, ◌≤◌, ◌+◌, ◌-◌, Bool, true, false, cond, List, [], ◌∷◌, ◌++◌, map, length, min, max, ltb, get_or, set, filter, All, refl, sym, ap, ◌∙◌, subst, arith, ⊎_elim}
 use Rattle.std.specs.List.{remove, position_or_len}
 use Rattle.std.proofs.lemmas.Bool.{cases_eq, cases_lt, lt-ltb, le-ltb, false_from_ne_true, both_ways}
 use Rattle.std.proofs.lemmas.List.{length-set, length_push, get_or-set_same, get_or-set_other, get_or_push, get_or_append_left, get_or-map, length-map}
@@ -10,7 +10,7 @@ use Rattle.snow_issue.specs.declared.marks.Mark.{Mark}
 use Rattle.snow_issue.specs.declared.marks.Mark.TheVariants.{New, Quiet, Ripe}
 use Rattle.snow_issue.specs.declared.window.Window.{Window}
 use Rattle.snow_issue.specs.declared.window.Windows.{Windows}
-use Rattle.snow_issue.specs.Known.{has, is_mark}
+use Rattle.snow_issue.specs.Known.{has}
 use Rattle.snow_issue.specs.Index.{forgotten}
 use Rattle.snow_issue.specs.Windows.{IsWithin, AreWithin, no_windows, all_places, no_place, all_fresh, with_place, marked, moved, closed_up, all_closed_up, left_of, all_left, window_of, from_first, narrowed}
 
@@ -19,9 +19,28 @@ within_nothing = record { fresh = λ k d h. absurd (omega (arith, h)); ripe = λ
 
 -- ---- a mark at a place
 
+-- a window that has places lies within the other
+abbrev IsAround : Window → Window → Type 0
+IsAround v w = w.low < w.high → (v.low ≤ w.low) × (w.high ≤ v.high)
+
+itself_around : (w : Window) → IsAround w w
+itself_around w h = (omega arith, omega arith)
+
+place_within : (w : Window) (at : ℕ) → ((with_place w at).low ≤ at) × (at < (with_place w at).high)
+place_within w at =
+    let Goal : Bool → Type 0 = λ b. let v : Window = cond b (record { low = min w.low at; high = max w.high (at + 1) }) (record { low = at; high = at + 1 }) in
+    (v.low ≤ at) × (at < v.high) in
+    elim (ltb w.low w.high) as Goal [ true ↦ (omega arith, omega arith) | false ↦ (omega arith, omega arith) ]
+
+place_around : (w : Window) (at : ℕ) → IsAround (with_place w at) w
+place_around w at h =
+    let Goal : Bool → Type 0 = λ b. let v : Window = cond b (record { low = min w.low at; high = max w.high (at + 1) }) (record { low = at; high = at + 1 }) in
+    (v.low ≤ w.low) × (w.high ≤ v.high) in
+    subst Goal (sym (lt-ltb w.low w.high h)) (omega arith, omega arith)
+
 set_within : {T : Type 0} (mark : Mark) (seats : List (T × Mark)) (w v : Window) (at : ℕ) (x : T × Mark) → at < length seats → IsWithin mark seats w
-    → (has mark x ≡ true → (v.low ≤ at) × (at < v.high)) → v.low ≤ w.low → w.high ≤ v.high → IsWithin mark (set seats at x) v
-set_within mark seats w v at x there is here low high k d within marked =
+    → (has mark x ≡ true → (v.low ≤ at) × (at < v.high)) → IsAround v w → IsWithin mark (set seats at x) v
+set_within mark seats w v at x there is here around k d within marked =
     ⊎_elim
     (λ (same : k ≡ at).
     let e = ap (λ k. get_or (set seats at x) k d) same ∙ get_or-set_same seats at x d there in
@@ -30,17 +49,19 @@ set_within mark seats w v at x there is here low high k d within marked =
     (λ other.
     let e = get_or-set_other seats at k x d other in
     let both = is k d (omega (arith, length-set seats at x, within)) (sym (ap (has mark) e) ∙ marked) in
-    (omega (arith, low, both), omega (arith, high, both)))
+    let wide = around (omega (arith, both)) in
+    (omega (arith, wide, both), omega (arith, wide, both)))
     (cases_eq k at)
 
 push_within : {T : Type 0} (mark : Mark) (seats : List (T × Mark)) (w v : Window) (x : T × Mark) → IsWithin mark seats w
-    → (has mark x ≡ true → (v.low ≤ length seats) × (length seats < v.high)) → v.low ≤ w.low → w.high ≤ v.high → IsWithin mark (seats ++ x ∷ []) v
-push_within mark seats w v x is here low high k d within marked =
+    → (has mark x ≡ true → (v.low ≤ length seats) × (length seats < v.high)) → IsAround v w → IsWithin mark (seats ++ x ∷ []) v
+push_within mark seats w v x is here around k d within marked =
     ⊎_elim
     (λ (before : k < length seats).
     let e = get_or_append_left seats (x ∷ []) d k before in
     let both = is k d before (sym (ap (has mark) e) ∙ marked) in
-    (omega (arith, low, both), omega (arith, high, both)))
+    let wide = around (omega (arith, both)) in
+    (omega (arith, wide, both), omega (arith, wide, both)))
     (λ (behind : length seats ≤ k).
     let same : length seats ≡ k = omega (arith, length_push seats x, within, behind) in
     let both = here (sym (ap (has mark) (get_or_push seats x d k same)) ∙ marked) in
@@ -50,23 +71,23 @@ push_within mark seats w v x is here low high k d within marked =
 pub within_marked : {T : Type 0} (seats : List (T × Mark)) (w : Windows) (at : ℕ) (x : T) (mark : Mark) → at < length seats → AreWithin seats w
     → AreWithin (set seats at (x, mark)) (marked w at mark)
 within_marked seats w at x New there is = record {
-  fresh = set_within New seats w.fresh (with_place w.fresh at) at (x, New) there is.fresh (λ _. (omega arith, omega arith)) (omega arith) (omega arith);
-  ripe = set_within Ripe seats w.ripe w.ripe at (x, New) there is.ripe (λ e. absurd cc) (omega arith) (omega arith);
+  fresh = set_within New seats w.fresh (with_place w.fresh at) at (x, New) there is.fresh (λ _. place_within w.fresh at) (place_around w.fresh at);
+  ripe = set_within Ripe seats w.ripe w.ripe at (x, New) there is.ripe (λ e. absurd cc) (itself_around w.ripe);
 }
 within_marked seats w at x Quiet there is = record {
-  fresh = set_within New seats w.fresh w.fresh at (x, Quiet) there is.fresh (λ e. absurd cc) (omega arith) (omega arith);
-  ripe = set_within Ripe seats w.ripe w.ripe at (x, Quiet) there is.ripe (λ e. absurd cc) (omega arith) (omega arith);
+  fresh = set_within New seats w.fresh w.fresh at (x, Quiet) there is.fresh (λ e. absurd cc) (itself_around w.fresh);
+  ripe = set_within Ripe seats w.ripe w.ripe at (x, Quiet) there is.ripe (λ e. absurd cc) (itself_around w.ripe);
 }
 within_marked seats w at x Ripe there is = record {
-  fresh = set_within New seats w.fresh w.fresh at (x, Ripe) there is.fresh (λ e. absurd cc) (omega arith) (omega arith);
-  ripe = set_within Ripe seats w.ripe (with_place w.ripe at) at (x, Ripe) there is.ripe (λ _. (omega arith, omega arith)) (omega arith) (omega arith);
+  fresh = set_within New seats w.fresh w.fresh at (x, Ripe) there is.fresh (λ e. absurd cc) (itself_around w.fresh);
+  ripe = set_within Ripe seats w.ripe (with_place w.ripe at) at (x, Ripe) there is.ripe (λ _. place_within w.ripe at) (place_around w.ripe at);
 }
 
 pub within_pushed : {T : Type 0} (seats : List (T × Mark)) (w : Windows) (x : T) → AreWithin seats w
     → AreWithin (seats ++ (x, New) ∷ []) (marked w (length seats) New)
 within_pushed seats w x is = record {
-  fresh = push_within New seats w.fresh (with_place w.fresh (length seats)) (x, New) is.fresh (λ _. (omega arith, omega arith)) (omega arith) (omega arith);
-  ripe = push_within Ripe seats w.ripe w.ripe (x, New) is.ripe (λ e. absurd cc) (omega arith) (omega arith);
+  fresh = push_within New seats w.fresh (with_place w.fresh (length seats)) (x, New) is.fresh (λ _. place_within w.fresh (length seats)) (place_around w.fresh (length seats));
+  ripe = push_within Ripe seats w.ripe w.ripe (x, New) is.ripe (λ e. absurd cc) (itself_around w.ripe);
 }
 
 -- ---- an item goes
@@ -114,7 +135,7 @@ within_removed seats w at there is = record {
 
 -- ---- items go
 
-no_mark : {T : Type 0} (mark : Mark) (seats : List (T × Mark)) (w : Window) → IsWithin mark seats w → w.high ≤ w.low → All (λ s. has mark s ≡ false) seats
+pub no_mark : {T : Type 0} (mark : Mark) (seats : List (T × Mark)) (w : Window) → IsWithin mark seats w → w.high ≤ w.low → All (λ s. has mark s ≡ false) seats
 no_mark mark seats w is none k d within = false_from_ne_true (has mark (get_or seats k d)) (λ t. let both = is k d within t in omega (arith, both, none))
 
 filter_within : {T : Type 0} (mark : Mark) (p : T × Mark → Bool) (seats : List (T × Mark)) (w : Window) → IsWithin mark seats w

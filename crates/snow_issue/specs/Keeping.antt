@@ -1,5 +1,5 @@
 -- What a queue keeps: its limits, and that no held reply it calls quiet is free.
-use Rattle.std.specs.Prelude.{◌≡◌, ℕ, ◌≤◌, false, List, [], All, length}
+use Rattle.std.specs.Prelude.{◌≡◌, ◌≤◌, false, List, [], All, length}
 use Rattle.snow_issue.specs.declared.work.Waiting.{Waiting}
 use Rattle.snow_issue.specs.declared.work.Get.{Get}
 use Rattle.snow_issue.specs.declared.work.Held.{Held}

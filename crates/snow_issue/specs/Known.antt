@@ -1,5 +1,5 @@
 -- What the queue remembers of its waiting blocks, and when that is true of a board.
-use Rattle.std.specs.Prelude.{◌≡◌, ℕ, Bool, true, false, ◌||◌, List, [], map, All, Option, Some, None, bytes_eq, if◌then◌else◌}
+use Rattle.std.specs.Prelude.{◌≡◌, ℕ, Bool, true, false, ◌||◌, List, map, All, Option, Some, None, bytes_eq, if◌then◌else◌}
 use Rattle.snow_base.specs.declared.header.Header.{Header}
 use Rattle.snow_plain.specs.Board.{Board}
 use Rattle.snow_issue.specs.declared.work.Waiting.{Waiting}
@@ -61,6 +61,10 @@ Knows s board = All (Tells (items_of s.seats) s.gets board) s.seats
 -- nothing is remembered of the children of a block
 abbrev pub ForgetsChildren : List ℕ → List (Waiting × Mark) → Type 0
 ForgetsChildren id seats = All (λ s. bytes_eq s.0.header.parent id ≡ true → s.1 ≡ New) seats
+
+-- something is remembered of each
+abbrev pub NoneNew : List (Waiting × Mark) → Type 0
+NoneNew seats = All (λ s. has New s ≡ false) seats
 
 -- no waiting block is remembered to be ready
 abbrev pub NoneRipe : List (Waiting × Mark) → Type 0

@@ -1,5 +1,5 @@
 -- One step of settling: the first of hopeless, ready and vote that applies.
-use Rattle.std.specs.Prelude.{ℕ, Bool, not, ◌||◌, List, find, Option, Some, None, is_some, if◌then◌else◌}
+use Rattle.std.specs.Prelude.{Bool, not, ◌||◌, List, find, Option, Some, None, is_some, if◌then◌else◌}
 use Rattle.std.specs.Option.{option_map, option_or}
 use Rattle.snow_base.specs.declared.header.Header.{Header}
 use Rattle.snow_plain.specs.Board.{Board}

@@ -1,5 +1,5 @@
 -- Between which places a mark may stand, so that no one looks for it elsewhere.
-use Rattle.std.specs.Prelude.{◌≡◌, ℕ, ◌+◌, ◌-◌, ◌<◌, ◌≤◌, Bool, true, List, length, min, max, nat_lt, get_or, if◌then◌else◌}
+use Rattle.std.specs.Prelude.{◌≡◌, ℕ, ◌+◌, ◌-◌, ◌<◌, ◌≤◌, true, List, length, min, max, nat_lt, get_or, if◌then◌else◌}
 use Rattle.snow_issue.specs.declared.marks.Mark.{Mark}
 use Rattle.snow_issue.specs.declared.marks.Mark.TheVariants.{New, Quiet, Ripe}
 use Rattle.snow_issue.specs.declared.window.Window.{Window}
@@ -32,7 +32,9 @@ all_fresh len = record { fresh = all_places len; ripe = no_place }
 
 -- one place more
 abbrev pub with_place : Window → ℕ → Window
-with_place window at = record { low = min window.low at; high = max window.high (at + 1) }
+with_place window at =
+    if nat_lt window.low window.high then record { low = min window.low at; high = max window.high (at + 1) }
+    else record { low = at; high = at + 1 }
 
 -- after something is remembered of the item at a place
 abbrev pub marked : Windows → ℕ → Mark → Windows

@@ -1,9 +1,10 @@
-ghost use Rattle.std.specs.Prelude.{◌≡◌, ℕ, ◌<◌, ◌^◌, ◌≤◌, ◌==◌, [], ◌∷◌, ◌++◌, List, map, length, nat_lt, slice_set, HoldsAt, OnOk, OnErr};
+ghost use Rattle.std.specs.Prelude.{◌≡◌, ℕ, ◌<◌, ◌^◌, ◌≤◌, ◌==◌, true, false, All, [], ◌∷◌, ◌++◌, List, map, length, nat_lt, slice_set, HoldsAt, OnOk, OnErr};
 ghost use Rattle.std.specs.List.{AllPairs, position_or_len, remove};
+ghost use Rattle.std.specs.Option.{option_to_list};
 ghost use Rattle.snow_issue.specs.Known.{has};
 ghost use Rattle.snow_issue.specs.Index.{seat_of, woken, woken_at, forgotten, reset};
 ghost use Rattle.snow_issue.specs.Windows.{IsWithin, AreWithin};
-ghost use Rattle.snow_issue.specs.declared.marks.Mark.TheVariants.{New};
+ghost use Rattle.snow_issue.specs.declared.marks.Mark.TheVariants.{New, Ripe};
 
 use crate::marks::Mark;
 use crate::rows::Rows;
@@ -95,6 +96,14 @@ impl<T: Keyed> Lineup<T> {
         Ok(())
     }
 
+    /// Whether it is plain that something is remembered of each item, and that none is ripe.
+    pub(crate) fn rests(&self) -> bool
+        ensures new { result ≡ true → All (λ s. has New s ≡ false) self.now }
+        ensures ripe { result ≡ true → All (λ s. has Ripe s ≡ false) self.now }
+    {
+        self.windows.are_empty()
+    }
+
     /// Where the first item with this mark stands, or how many items there are.
     pub(crate) fn first(&mut self, mark: Mark) -> usize
         ensures at { result ≡ position_or_len (has mark) self.old }
@@ -139,7 +148,8 @@ impl<T: Keyed> Lineup<T> {
     pub(crate) fn wake(&mut self, key: &Id)
         ensures { self.new ≡ map (woken T.key key.now) self.old }
     {
-        wake_all(&mut self.slots, &mut self.windows, self.rows.of(key));
+        let places = self.rows.of(key);
+        wake_row(&mut self.slots, &mut self.windows, places.0, places.1);
     }
 
     /// Forgets what is remembered of any item.
@@ -216,5 +226,19 @@ fn wake_all<T>(slots: &mut [Slot<T>], windows: &mut Windows, places: &[u64])
 {
     for place in places {
         wake_one(slots, windows, *place);
+    }
+}
+
+// The same where the last of the places stands apart.
+fn wake_row<T>(slots: &mut [Slot<T>], windows: &mut Windows, before: &[u64], last: Option<u64>)
+    requires rising { AllPairs (λ s t. s.place < t.place) slots.old }
+    requires within { AreWithin (map seat_of slots.old) windows.old }
+    ensures slots { slots.new ≡ map (woken_at (before.now ++ option_to_list last)) slots.old }
+    ensures within { AreWithin (map seat_of slots.new) windows.new }
+{
+    wake_all(slots, windows, before);
+    match last {
+        Some(place) => wake_one(slots, windows, place),
+        None => (),
     }
 }

@@ -1,10 +1,11 @@
-ghost use Rattle.std.specs.Prelude.{◌≡◌, ◌||◌, [], nat_le};
-ghost use Rattle.snow_issue.specs.Offering.{is_on, is_gone, is_unknown, wanted, is_high, asks, refusal};
+ghost use Rattle.std.specs.Prelude.{◌≡◌, ◌||◌, [], is_some, nat_le};
+ghost use Rattle.std.specs.Option.{option_and_then};
+ghost use Rattle.snow_issue.specs.Offering.{is_on, is_unknown, wanted, is_high, asks, refusal};
 ghost use Rattle.snow_issue.specs.Lists.{waits};
 ghost use Rattle.snow_issue.specs.Keeping.{parts};
 
 use crate::gets::Gets;
-use crate::gone::GoneList;
+use crate::gone::{Gone, GoneList};
 use crate::waiting::WaitingList;
 use crate::work::Offered;
 use snow_base::{Header, Id};
@@ -77,11 +78,21 @@ fn is_known<B: Board>(waiting: &WaitingList, board: &B, id: &Id) -> bool
     is_on(board, id) || waiting.waits(id)
 }
 
-// Whether a block went, or is too low to be issued.
-fn is_old<B: Board>(gone: &GoneList, board: &B, block: &Header) -> bool
-    ensures { result ≡ (is_gone (parts [] [] gone.now) block.now.id || nat_le block.now.height (B.board board.now).height) }
+// Whether this entry of a block has a parent.
+fn has_parent(entry: &Option<Gone>) -> bool
+    ensures { result ≡ is_some (option_and_then (λ e. e.parent) entry.now) }
 {
-    gone.holds(&block.id) || block.height <= board.last_height()
+    match entry {
+        Some(entry) => entry.parent.is_some(),
+        None => false,
+    }
+}
+
+// Whether a block went, by its latest entry, or is too low to be issued.
+fn is_old<B: Board>(latest: &Option<Gone>, board: &B, block: &Header) -> bool
+    ensures { result ≡ (is_some latest.now || nat_le block.now.height (B.board board.now).height) }
+{
+    latest.is_some() || block.height <= board.last_height()
 }
 
 /// The first reason, if there is one, for which an offered block doesn't wait.
@@ -96,10 +107,11 @@ pub(crate) fn refusal<B: Board>(
     if is_known(waiting, board, &block.id) {
         return Some(Offered::Known);
     }
-    if gone.stands_for(&block.id).is_some() {
+    let latest = gone.latest(&block.id);
+    if has_parent(&latest) {
         return Some(Offered::Invalid);
     }
-    if is_old(gone, board, block) {
+    if is_old(&latest, board, block) {
         return Some(Offered::Old);
     }
     if waiting.len() < 4096 {

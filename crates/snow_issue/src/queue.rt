@@ -6,7 +6,8 @@ ghost use Rattle.snow_issue.specs.declared.work.Waiting.{Waiting};
 ghost use Rattle.snow_issue.specs.declared.gone.Gone.{Gone};
 ghost use Rattle.snow_issue.specs.Lists.{begun, has_number, is_asked, is_get, holds_in, after_asked, after_closed, after_held, after_forgotten, after_gone, AreWithinLimits};
 ghost use Rattle.snow_issue.specs.Offering.{offered, after_offer, refusal, wanted};
-ghost use Rattle.snow_issue.specs.Settling.{work_of, after};
+ghost use Rattle.snow_issue.specs.Settling.{work_of, after, is_free};
+ghost use Rattle.snow_issue.specs.declared.work.Work.TheVariants as work;
 ghost use Rattle.snow_issue.specs.Bubbling.{bubbled};
 ghost use Rattle.snow_issue.specs.Known.{lists_of, Knows, NoneRipe, RestsAfter};
 
@@ -248,12 +249,41 @@ impl Queue {
         ensures rests { RestsAfter result self.new.seats }
         ensures limits { AreWithinLimits (lists_of self.new) }
     {
+        if self.waiting.rests() {
+            return self.next_vote();
+        }
+        self.next_step(board)
+    }
+
+    // The same, whatever is remembered of the waiting blocks.
+    fn next_step<B: Board>(&mut self, board: &B) -> Option<Work>
+        requires { Knows self.old (B.board board.now) }
+        ensures work { result ≡ work_of (lists_of self.old) (B.board board.now) }
+        ensures lists { lists_of self.new ≡ after (lists_of self.old) (B.board board.now) result }
+        ensures knows { Knows self.new (B.board board.now) }
+        ensures rests { RestsAfter result self.new.seats }
+        ensures limits { AreWithinLimits (lists_of self.new) }
+    {
         if let Some(block) = self.take_hopeless(board) {
             return Some(Work::Hopeless(block));
         }
         if let Some(block) = self.take_ready(board) {
             return Some(Work::Ready(block));
         }
+        match self.take_vote() {
+            Some(reply) => Some(Work::Vote(reply)),
+            None => None,
+        }
+    }
+
+    // The same where something is remembered of each waiting block, and none is ready.
+    fn next_vote(&mut self) -> Option<Work>
+        ensures work { result ≡ option_map work.Vote (find (is_free (lists_of self.old)) self.old.held) }
+        ensures lists { (b : model.Board) → lists_of self.new ≡ after (lists_of self.old) b result }
+        ensures knows { (b : model.Board) → Knows self.old b → Knows self.new b }
+        ensures rests { NoneRipe self.old.seats → RestsAfter result self.new.seats }
+        ensures limits { AreWithinLimits (lists_of self.new) }
+    {
         match self.take_vote() {
             Some(reply) => Some(Work::Vote(reply)),
             None => None,

@@ -1,5 +1,6 @@
 ghost use Rattle.std.specs.Prelude.{◌≡◌, ◌==◌, ℕ, List, [], ◌∷◌, ◌++◌, not, OnOk, OnErr, bytes_eq, if◌then◌else◌};
 ghost use Rattle.std.specs.Bool.{OnTrue};
+ghost use Rattle.std.specs.Option.{option_to_list};
 ghost use Rattle.snow_issue.specs.Index.{row_of, left_by};
 
 use snow_base::Id;
@@ -7,37 +8,42 @@ use std::alloc::{AllocError, Global};
 use std::collections::BTreeMap;
 use std::marker::Model;
 
-/// Places, in the order in which they came.
+/// Places, in the order in which they came. The last one stands apart, so that a row of one place
+/// takes no memory.
 #[derive(Drop)]
 pub(crate) struct Row {
-    places: Vec<u64>,
+    before: Vec<u64>,
+    last: Option<u64>,
 }
 
 impl Model for Row {
-    ghost use Rattle.std.specs.Prelude.{ℕ, List};
+    ghost use Rattle.std.specs.Prelude.{ℕ, List, ◌++◌};
+    ghost use Rattle.std.specs.Option.{option_to_list};
 
     ghost Value = { List ℕ };
 
-    ghost view = { λ a. a.places.items };
+    ghost view = { λ a. a.before.items ++ option_to_list a.last };
 }
 
 impl Row {
-    ghost use Rattle.std.specs.Prelude.{IfOk};
-
     // A row of one place.
-    fn of(alloc: Global, place: u64) -> Result<Row, AllocError>
-        ensures { IfOk result (λ row. row ≡ place ∷ []) }
+    fn of(alloc: Global, place: u64) -> Row
+        ensures { result ≡ place ∷ [] }
     {
-        let mut places = Vec::new(alloc);
-        places.push(place)?;
-        Ok(Row { places })
+        Row {
+            before: Vec::new(alloc),
+            last: Some(place),
+        }
     }
 
     fn push(&mut self, place: u64) -> Result<(), AllocError>
         ensures ok { OnOk result (self.new ≡ self.old ++ place ∷ []) }
         ensures err { OnErr result (self.new ≡ self.old) }
     {
-        self.places.push(place)?;
+        if let Some(last) = self.last {
+            self.before.push(last)?;
+        }
+        self.last = Some(place);
         Ok(())
     }
 
@@ -46,18 +52,35 @@ impl Row {
         ensures left { self.new ≡ left_by place self.old }
         ensures empty { OnTrue result (self.new ≡ []) }
     {
-        self.places.retain(
+        self.before.retain(
             |other: &u64| -> bool
                 ensures { result ≡ not (other.now == place) }
             { *other != place },
         );
-        self.places.is_empty()
+        self.last = other_than(self.last, place);
+        self.before.is_empty() && self.last.is_none()
     }
 
-    fn list(&self) -> &[u64]
-        ensures { result.now ≡ self.now }
+    // All but the last place, and the last one.
+    fn parts(&self) -> (&[u64], Option<u64>)
+        ensures { result.0.now ++ option_to_list result.1 ≡ self.now }
     {
-        self.places.as_slice()
+        (self.before.as_slice(), self.last)
+    }
+}
+
+// A place, unless it is the other one.
+fn other_than(place: Option<u64>, other: u64) -> Option<u64>
+    ensures { option_to_list result ≡ left_by other (option_to_list place) }
+{
+    match place {
+        Some(place) => {
+            if place == other {
+                return None;
+            }
+            Some(place)
+        }
+        None => None,
     }
 }
 
@@ -86,7 +109,7 @@ impl Rows {
         if let Some(row) = self.rows.get_mut(&key) {
             return row.push(place);
         }
-        let row = Row::of(alloc, place)?;
+        let row = Row::of(alloc, place);
         self.rows.insert(key, row)?;
         Ok(())
     }
@@ -103,13 +126,13 @@ impl Rows {
         }
     }
 
-    /// The places of a key.
-    pub(crate) fn of(&self, key: &Id) -> &[u64]
-        ensures { result.now ≡ row_of self.now.rows key.now }
+    /// The places of a key: all but the last, and the last.
+    pub(crate) fn of(&self, key: &Id) -> (&[u64], Option<u64>)
+        ensures { result.0.now ++ option_to_list result.1 ≡ row_of self.now.rows key.now }
     {
         match self.rows.get(key) {
-            Some(row) => row.list(),
-            None => &[],
+            Some(row) => row.parts(),
+            None => (&[], None),
         }
     }
 }

@@ -1,6 +1,6 @@
-ghost use Rattle.std.specs.Prelude.{◌≡◌, ◌+◌, ◌==◌, ◌<◌, ◌∷◌, ◌++◌, [], List, map, false, length, slice_set, HoldsAt, OnOk, OnErr};
+ghost use Rattle.std.specs.Prelude.{◌≡◌, ◌+◌, ◌==◌, ◌<◌, ◌∷◌, ◌++◌, [], List, map, true, false, length, slice_set, HoldsAt, OnOk, OnErr};
 ghost use Rattle.std.specs.List.{position_or_len, remove};
-ghost use Rattle.snow_issue.specs.Known.{has, items_of};
+ghost use Rattle.snow_issue.specs.Known.{has, items_of, NoneNew, NoneRipe};
 ghost use Rattle.snow_issue.specs.Lists.{waits_among, waits_below};
 ghost use Rattle.snow_issue.specs.Index.{woken, forgotten};
 
@@ -91,6 +91,14 @@ impl WaitingList {
             return Err(error);
         }
         Ok(())
+    }
+
+    /// Whether it is plain that something is remembered of each block, and that none is ripe.
+    pub(crate) fn rests(&self) -> bool
+        ensures new { result ≡ true → NoneNew self.now }
+        ensures ripe { result ≡ true → NoneRipe self.now }
+    {
+        self.lineup.rests()
     }
 
     /// Where the first block with this mark stands, or how many blocks there are.

@@ -1,4 +1,4 @@
-ghost use Rattle.std.specs.Prelude.{◌≡◌, ◌<◌, ◌^◌};
+ghost use Rattle.std.specs.Prelude.{◌≡◌, ◌<◌, ◌≤◌, ◌^◌, true};
 ghost use Rattle.snow_issue.specs.Windows.{no_place, all_places, with_place, closed_up, left_of, from_first, all_fresh, no_windows, marked, all_closed_up, all_left, window_of, narrowed};
 
 use crate::marks::Mark;
@@ -27,9 +27,16 @@ impl Window {
         requires { at < 2 ^ 63 }
         ensures { result ≡ with_place self at }
     {
-        Window {
-            low: self.low.min(at),
-            high: self.high.max(at + 1),
+        if self.low < self.high {
+            Window {
+                low: self.low.min(at),
+                high: self.high.max(at + 1),
+            }
+        } else {
+            Window {
+                low: at,
+                high: at + 1,
+            }
         }
     }
 
@@ -140,6 +147,14 @@ impl Windows {
             fresh: self.fresh.left(len),
             ripe: self.ripe.left(len),
         }
+    }
+
+    /// Whether there is no place in either window.
+    pub(crate) fn are_empty(self) -> bool
+        ensures fresh { result ≡ true → self.fresh.high ≤ self.fresh.low }
+        ensures ripe { result ≡ true → self.ripe.high ≤ self.ripe.low }
+    {
+        self.fresh.high <= self.fresh.low && self.ripe.high <= self.ripe.low
     }
 
     /// Where a mark may stand among so many items.

@@ -25,7 +25,7 @@ rising_head id n numbers h = λ k d p. h 0 (suc k) d (omega arith) (omega arith)
 pub rising_tail : (id : ℕ → List ℕ) (n : ℕ) (numbers : List ℕ) → IsRising id (n ∷ numbers) → IsRising id numbers
 rising_tail id n numbers h = λ i j d p q. h (suc i) (suc j) d (omega arith) (omega arith)
 
-flip : (a b : List ℕ) → byte_cmp a b ≡ ordering_reverse (byte_cmp b a)
+pub flip : (a b : List ℕ) → byte_cmp a b ≡ ordering_reverse (byte_cmp b a)
 flip a b = nat_list_cmp_total.antisymm a b
 
 sorted : (id : ℕ → List ℕ) (numbers : List ℕ) → IsRising id numbers → IsSortedBy (λ m n. is_lt (byte_cmp (id m) (id n))) numbers
@@ -82,7 +82,7 @@ rising_numbers id place numbers rising = λ i j d less within.
 
 -- ---- filing
 
-abbrev step : Ordering → (ℕ → List ℕ) → ℕ → List ℕ → ℕ → List ℕ
+abbrev pub step : Ordering → (ℕ → List ℕ) → ℕ → List ℕ → ℕ → List ℕ
 step o id n numbers number = match_ordering o (n ∷ filed id numbers number) (number ∷ numbers) (number ∷ n ∷ numbers)
 
 -- where the identifier has a number, this one replaces it

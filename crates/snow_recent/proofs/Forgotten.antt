@@ -11,7 +11,7 @@ use Rattle.snow_recent.proofs.Filed.{rising_head, rising_tail, not_itself, one_p
 -- ---- the number that is taken out
 
 -- numbers of which none is the oldest one stay
-without_none : (first : ℕ) (numbers : List ℕ) → All (λ n. n ≡ first → ⊥) numbers → numbers ≡ without_oldest first numbers
+pub without_none : (first : ℕ) (numbers : List ℕ) → All (λ n. n ≡ first → ⊥) numbers → numbers ≡ without_oldest first numbers
 without_none first [] none = refl
 without_none first (n ∷ numbers) none =
     let P : ℕ → Type 0 = λ m. m ≡ first → ⊥ in

@@ -1,17 +1,17 @@
 -- What the index finds is the latest entry.
-use Rattle.std.proofs.Common.{◌≡◌, ℕ, zero, suc, ◌<◌, ◌≤◌, Bool, List, [], ◌∷◌, length, map, get_or, reverse, Some, None, Ok, Err, find, refl, sym, ap, ◌∙◌, arith, inl, inr, subst}
+use Rattle.std.proofs.Common.{◌≡◌, ℕ, zero, suc, ◌<◌, ◌≤◌, Bool, List, [], ◌∷◌, length, map, get_or, reverse, Some, None, find, refl, sym, ap, ◌∙◌, arith, inl, inr, subst}
 use Rattle.std.specs.List.{slice_get}
 use Rattle.std.specs.Option.{option_or}
 use Rattle.std.specs.Str.{bytes_eq}
 use Rattle.std.proofs.lemmas.Bool.{cond-true, cond-false, false_from_ne_true}
 use Rattle.std.proofs.lemmas.List.{reverse-append, get_or-map, length-map}
 use Rattle.std.proofs.lemmas.List.Folds.{find-append}
-use Rattle.std.proofs.lemmas.Map.Lookups.{exact_bytes}
 use Rattle.std.proofs.lemmas.Option.{slice_get-get_or}
 use Rattle.std.proofs.lemmas.Slice.Eq.{bytes_eq-Decides}
 use Rattle.snow_recent.specs.Recent.{latest}
-use Rattle.snow_recent.specs.Index.{id_at, id_of, place_of, IsPlaceOf, HasLatest, IsIndex}
-use Rattle.snow_recent.proofs.Filed.{one_place, nowhere}
+use Rattle.snow_recent.specs.Index.{id_at, id_of, place_of, HasLatest, IsIndex}
+use Rattle.snow_recent.specs.Table.{IsLatest}
+use Rattle.snow_recent.proofs.Filed.{one_place}
 
 -- ---- the latest entry of a list
 
@@ -82,22 +82,22 @@ missing_latest name entries places key index none =
 
 -- ---- by the numbers
 
--- the number that a search finds is that of the latest entry
-pub found_number : {T : Type 0} (name : T → List ℕ) (entries : List T) (first : ℕ) (numbers : List ℕ) (key : List ℕ) (at n : ℕ) → IsIndex name entries (map (place_of first) numbers)
-    → IsPlaceOf (id_of name entries first) numbers key (Ok at) → n ≡ get_or numbers at n → latest name entries key ≡ slice_get entries (place_of first n)
-found_number name entries first numbers key at n index place is =
+-- the number of an identifier is that of its latest entry
+pub found_number : {T : Type 0} (name : T → List ℕ) (entries : List T) (first : ℕ) (numbers : List ℕ) (key : List ℕ) (n : ℕ) → IsIndex name entries (map (place_of first) numbers)
+    → IsLatest (id_of name entries first) numbers key (Some n) → latest name entries key ≡ slice_get entries (place_of first n)
+found_number name entries first numbers key n index found =
+    let at = found.0.0 in
     let there : get_or (map (place_of first) numbers) at 0 ≡ place_of first n =
-    get_or-map (place_of first) numbers at n 0 place.0 ∙ ap (place_of first) (sym is) in
-    let same : id_of name entries first (get_or numbers at n) ≡ key = exact_bytes _ _ (place.1 n) in
-    found_latest name entries (map (place_of first) numbers) key at index (omega (arith, length-map numbers (place_of first), place.0))
-    (ap (id_at name entries) there ∙ ap (id_of name entries first) is ∙ same)
+    get_or-map (place_of first) numbers at n 0 found.0.1 ∙ ap (place_of first) found.0.2 in
+    found_latest name entries (map (place_of first) numbers) key at index (omega (arith, length-map numbers (place_of first), found.0.1))
+    (ap (id_at name entries) there ∙ found.1)
     ∙ ap (slice_get entries) there
 
--- where it finds none, there is no entry
-pub missing_number : {T : Type 0} (name : T → List ℕ) (entries : List T) (first : ℕ) (numbers : List ℕ) (key : List ℕ) (at : ℕ) → IsIndex name entries (map (place_of first) numbers)
-    → IsPlaceOf (id_of name entries first) numbers key (Err at) → latest name entries key ≡ None
-missing_number name entries first numbers key at index place =
+-- where no number has the identifier, there is no entry
+pub missing_number : {T : Type 0} (name : T → List ℕ) (entries : List T) (first : ℕ) (numbers : List ℕ) (key : List ℕ) → IsIndex name entries (map (place_of first) numbers)
+    → IsLatest (id_of name entries first) numbers key None → latest name entries key ≡ None
+missing_number name entries first numbers key index none =
     missing_latest name entries (map (place_of first) numbers) key index
     (λ i h same.
     let within : i < length numbers = omega (arith, length-map numbers (place_of first)) in
-    nowhere (id_of name entries first) numbers key at i 0 place within (ap (id_at name entries) (sym (get_or-map (place_of first) numbers i 0 0 within)) ∙ same))
+    none i 0 within (ap (id_at name entries) (sym (get_or-map (place_of first) numbers i 0 0 within)) ∙ same))

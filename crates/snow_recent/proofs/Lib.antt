@@ -4,3 +4,5 @@ mod Filed
 mod Forgotten
 mod Latest
 mod Newest
+mod RowOf
+mod Rows

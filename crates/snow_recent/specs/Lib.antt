@@ -1,2 +1,3 @@
 pub mod Recent
 pub mod Index
+pub mod Table

@@ -4,6 +4,8 @@
 mod index;
 mod named;
 mod recent;
+mod row;
+mod table;
 
 pub use named::Named;
 pub use recent::Recent;

@@ -6,6 +6,7 @@ ghost use Rattle.snow_recent.specs.Recent.{with_latest, latest};
 
 use crate::index;
 use crate::named::Named;
+use crate::table::Table;
 use snow_base::Id;
 use std::alloc::{AllocError, Global};
 use std::collections::VecDeque;
@@ -19,11 +20,12 @@ use std::marker::Model;
 pub struct Recent<T: Named, const MOST: usize> {
     entries: VecDeque<T>,
     first: u32,
-    order: Vec<u32>,
+    table: Table,
 }
 
 impl<T: Named, const MOST: usize> Model for Recent<T, MOST> {
-    ghost use Rattle.std.specs.Prelude.{List, vec_capacity};
+    ghost use Rattle.std.specs.Prelude.{List};
+    ghost use Rattle.std.specs.List.{concat};
     ghost use Rattle.std.specs.VecDeque.{deque_capacity};
     ghost use Rattle.snow_recent.specs.Index.{IsRecent};
 
@@ -31,7 +33,7 @@ impl<T: Named, const MOST: usize> Model for Recent<T, MOST> {
 
     ghost view = { λ a. a.entries.items };
 
-    ghost invariant = { λ a. IsRecent T.id MOST a.entries.items a.first a.order.items (deque_capacity a.entries) (vec_capacity a.order) };
+    ghost invariant = { λ a. IsRecent T.id MOST a.entries.items a.first (concat a.table.rows) (deque_capacity a.entries) a.table.most };
 }
 
 impl<T: Named, const MOST: usize> Recent<T, MOST> {
@@ -42,11 +44,11 @@ impl<T: Named, const MOST: usize> Recent<T, MOST> {
         ensures { IfOk result (λ made. made ≡ []) }
     {
         let entries = VecDeque::with_capacity(alloc, MOST)?;
-        let order = Vec::with_capacity(alloc, MOST)?;
+        let table = Table::new(alloc, MOST)?;
         Ok(Recent {
             entries,
             first: 0,
-            order,
+            table,
         })
     }
 
@@ -75,9 +77,9 @@ impl<T: Named, const MOST: usize> Recent<T, MOST> {
     pub fn latest(&self, id: &Id) -> Option<&T>
         ensures { option_copied result ≡ latest T.id self.now id.now }
     {
-        match index::place(&self.entries, self.first, self.order.as_slice(), id) {
-            Ok(at) => index::entry_of(&self.entries, self.first, self.order[at]),
-            Err(_) => None,
+        match self.table.latest(&self.entries, self.first, id) {
+            Some(number) => index::entry_of(&self.entries, self.first, number),
+            None => None,
         }
     }
 
@@ -100,7 +102,7 @@ impl<T: Named, const MOST: usize> Recent<T, MOST> {
         requires { 0 < length self.old }
         ensures { self.new ≡ drop 1 self.old }
     {
-        index::take_oldest(&self.entries, self.first, &mut self.order);
+        self.table.take_oldest(&self.entries, self.first);
         let _oldest = self.entries.pop_front();
         self.first = self.first.wrapping_add(1);
     }
@@ -112,6 +114,6 @@ impl<T: Named, const MOST: usize> Recent<T, MOST> {
     {
         let number = self.first.wrapping_add(self.entries.len() as u32);
         self.entries.push_back_reserved(entry);
-        index::file(&self.entries, self.first, &mut self.order, number);
+        self.table.file(&self.entries, self.first, number);
     }
 }

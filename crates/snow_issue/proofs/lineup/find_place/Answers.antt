@@ -1,11 +1,9 @@
 -- The first slot that isn't below the place has it, or none has.
-use Rattle.std.proofs.Common.{◌≡◌, ℕ, ◌<◌, ◌≤◌, ltb, true, false, length, get_or, rules, sym, ap, ◌∙◌, arith, ⊎_elim}
-use Rattle.std.specs.List.Sorted.{IsPartitionPoint}
-use Rattle.std.proofs.lemmas.Bool.{cases_lt, cases_eq, ltb-true, ltb-false, eqb-true}
+use Rattle.std.proofs.Common.{ltb, rules, ap, ◌∙◌, arith}
 use Rattle.std.proofs.lemmas.List.{get_or_default}
 use Rattle.std.proofs.lemmas.List.Sorted.{IsPartitionPoint-from_clause}
 use Rattle.snow_issue.specs.declared.lineup.Slot.{Slot}
-use Rattle.snow_issue.proofs.Placed.{partitioned, found_place, missing_place, missing_behind}
+use Rattle.snow_issue.proofs.Placed.{partitioned, found_place, missing_behind}
 use Rattle.snow_issue.proofs.lineup.find_place.Goals as goal
 
 pub returns-then-at-slots : goal.returns-then-at-slots

@@ -1,5 +1,5 @@
 -- A walk through the window finds the first slot with the mark, or none.
-use Rattle.std.proofs.Common.{◌≡◌, ◌<◌, true, false, length, get_or, map, sym, ap, ◌∙◌, arith}
+use Rattle.std.proofs.Common.{◌<◌, length, map, sym, ap, ◌∙◌, arith}
 use Rattle.std.proofs.lemmas.List.{get_or-map, length-map}
 use Rattle.snow_issue.specs.Known.{is_mark}
 use Rattle.snow_issue.specs.Index.{seat_of}

@@ -1,4 +1,4 @@
-use Rattle.std.proofs.Common.{slice_index_or, ap, sym}
+use Rattle.std.proofs.Common.{slice_index_or, ap}
 use Rattle.std.proofs.lemmas.List.Edits.{map_over_more}
 use Rattle.snow_issue.specs.Index.{reset}
 use Rattle.snow_issue.proofs.lineup.forget_all.Goals as goal

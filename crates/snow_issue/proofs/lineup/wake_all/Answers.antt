@@ -1,4 +1,4 @@
-use Rattle.std.proofs.Common.{List, [], ◌∷◌, map, take, sym, ap, ◌∙◌, subst, slice_index}
+use Rattle.std.proofs.Common.{[], ◌∷◌, map, take, sym, ap, ◌∙◌, subst, slice_index}
 use Rattle.std.proofs.lemmas.List.{take_more}
 use Rattle.snow_issue.specs.Index.{woken_at}
 use Rattle.snow_issue.proofs.Placed.{rises_woken, woken_more, woken_by_none, Rises}

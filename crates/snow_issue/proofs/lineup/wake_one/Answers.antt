@@ -1,10 +1,8 @@
 -- The one slot with the place is woken.
-use Rattle.std.proofs.Common.{List, map, slice_set, slice_index_or, sym, ap, ◌∙◌, subst, arith, length}
+use Rattle.std.proofs.Common.{map, slice_set, slice_index_or, sym, ap, ◌∙◌, arith}
 use Rattle.std.proofs.lemmas.List.{length-map}
-use Rattle.snow_issue.specs.declared.marks.Mark.{Mark}
 use Rattle.snow_issue.specs.declared.marks.Mark.TheVariants.{New}
 use Rattle.snow_issue.specs.Index.{seat_of, reset}
-use Rattle.snow_issue.specs.Windows.{AreWithin}
 use Rattle.snow_issue.proofs.Placed.{woken_one, woken_none}
 use Rattle.snow_issue.proofs.Tagged.{seats_set}
 use Rattle.snow_issue.proofs.Windowed.{within_marked}

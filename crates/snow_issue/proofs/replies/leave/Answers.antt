@@ -1,6 +1,6 @@
 use Rattle.std.proofs.Common.{Some, sym, ap, ◌∙◌}
 use Rattle.std.specs.Option.{is_some}
-use Rattle.snow_issue.proofs.Replied.{nodes_changed, node_removed, node_missing}
+use Rattle.snow_issue.proofs.Replied.{nodes_changed, node_removed}
 use Rattle.snow_issue.proofs.replies.leave.Goals as goal
 
 pub returns-in-Some : goal.returns-in-Some

@@ -1,4 +1,4 @@
-use Rattle.std.proofs.Common.{◌==◌, slice_index_or, ap, sym}
+use Rattle.std.proofs.Common.{◌==◌}
 use Rattle.snow_issue.proofs.Placed.{keeps_row, unused_row}
 use Rattle.snow_issue.proofs.replies.leave_rows.Goals as goal
 

@@ -3,7 +3,6 @@ use Rattle.std.proofs.Common.{◌≡◌, List, map, true, false, find, cond, Som
 use Rattle.std.specs.Option.{option_map}
 use Rattle.std.specs.Str.{bytes_eq}
 use Rattle.std.proofs.lemmas.Bool.{not-true, not-false}
-use Rattle.snow_issue.specs.declared.gets.Asked.{Asked}
 use Rattle.snow_issue.specs.declared.work.Get.{Get}
 use Rattle.snow_issue.specs.Lists.{is_get, without}
 use Rattle.snow_issue.specs.Index.{HasAsked, get_of}

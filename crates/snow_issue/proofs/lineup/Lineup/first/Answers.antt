@@ -1,9 +1,8 @@
-use Rattle.std.proofs.Common.{◌≡◌, List, map, length, sym, ap, ◌∙◌, arith}
+use Rattle.std.proofs.Common.{◌≡◌, map, length, sym, ap, ◌∙◌}
 use Rattle.std.proofs.lemmas.List.{length-map}
 use Rattle.std.specs.List.{position_or_len}
 use Rattle.snow_issue.specs.Known.{has}
 use Rattle.snow_issue.specs.Index.{seat_of}
-use Rattle.snow_issue.specs.Windows.{narrowed}
 use Rattle.snow_issue.proofs.Windowed.{within_narrowed}
 use Rattle.snow_issue.proofs.lineup.Lineup.first.Goals as goal
 

@@ -1,9 +1,8 @@
-use Rattle.std.proofs.Common.{◌≡◌, List, map, length, sym, ap, ◌∙◌, subst, arith}
-use Rattle.std.specs.Vec.{with_items}
+use Rattle.std.proofs.Common.{◌≡◌, List, map, length, sym, ap, ◌∙◌, subst}
 use Rattle.std.proofs.lemmas.List.{length-map, with_items_is}
 use Rattle.snow_issue.specs.declared.lineup.Slot.{Slot}
 use Rattle.snow_issue.specs.Index.{IsIndexed, tag_of, seat_of, reset, forgotten}
-use Rattle.snow_issue.specs.Windows.{AreWithin, all_fresh}
+use Rattle.snow_issue.specs.Windows.{AreWithin}
 use Rattle.snow_issue.proofs.Placed.{tags_reset, seats_reset}
 use Rattle.snow_issue.proofs.Windowed.{within_forgotten}
 use Rattle.snow_issue.proofs.lineup.Lineup.forget_marks.Goals as goal

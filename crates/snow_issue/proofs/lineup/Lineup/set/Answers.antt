@@ -1,9 +1,8 @@
-use Rattle.std.proofs.Common.{◌≡◌, ◌<◌, List, map, length, set, get_or, sym, ap, ◌∙◌, subst, arith}
+use Rattle.std.proofs.Common.{◌<◌, map, length, set, get_or, sym, ap, ◌∙◌, subst, arith}
 use Rattle.std.proofs.lemmas.List.{length-map, get_or-map}
 use Rattle.snow_issue.specs.declared.lineup.Slot.{Slot}
 use Rattle.snow_issue.specs.declared.marks.Mark.{Mark}
-use Rattle.snow_issue.specs.Index.{IsIndexed, tag_of, seat_of}
-use Rattle.snow_issue.specs.Windows.{AreWithin}
+use Rattle.snow_issue.specs.Index.{seat_of}
 use Rattle.snow_issue.proofs.Tagged.{tags_set, seats_set}
 use Rattle.snow_issue.proofs.Windowed.{within_marked}
 use Rattle.snow_issue.proofs.lineup.Lineup.set.Goals as goal

@@ -1,8 +1,8 @@
-use Rattle.std.proofs.Common.{◌≡◌, ◌<◌, ℕ, List, map, length, get_or, sym, ap, ◌∙◌, subst, arith}
+use Rattle.std.proofs.Common.{◌<◌, map, length, sym, ap, ◌∙◌, subst, arith}
 use Rattle.std.specs.List.{remove}
 use Rattle.std.proofs.lemmas.List.{length-map, get_or-map}
 use Rattle.snow_issue.specs.Index.{tag_of, seat_of}
-use Rattle.snow_issue.proofs.Tagged.{map_remove, indexed_remove, Tag}
+use Rattle.snow_issue.proofs.Tagged.{map_remove, indexed_remove}
 use Rattle.snow_issue.proofs.Windowed.{within_removed}
 use Rattle.snow_issue.proofs.lineup.Lineup.take.Goals as goal
 

@@ -1,7 +1,5 @@
-use Rattle.std.proofs.Common.{◌≡◌, ◌<◌, List, length, All, sym, ap, subst, ◌∙◌}
-use Rattle.snow_plain.specs.Board.{Board}
+use Rattle.std.proofs.Common.{◌<◌, List, length, All, sym, ap, subst}
 use Rattle.snow_issue.specs.declared.work.Get.{Get}
-use Rattle.snow_issue.specs.Lists.{with_get}
 use Rattle.snow_issue.specs.Known.{Seen, items_of, Tells}
 use Rattle.snow_issue.specs.Keeping.{IsKept}
 use Rattle.snow_issue.proofs.Settled.{limits, kept_asked, knows_by}

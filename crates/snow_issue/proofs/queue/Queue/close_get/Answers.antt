@@ -1,5 +1,4 @@
-use Rattle.std.proofs.Common.{◌≡◌, List, All, find, map, Some, None, sym, ap, subst, ◌∙◌}
-use Rattle.std.specs.Option.{option_map}
+use Rattle.std.proofs.Common.{List, All, find, map, sym, ap, subst, ◌∙◌}
 use Rattle.snow_issue.specs.declared.work.Waiting.{Waiting}
 use Rattle.snow_issue.specs.declared.work.Get.{Get}
 use Rattle.snow_issue.specs.declared.work.Held.{Held}
@@ -9,7 +8,7 @@ use Rattle.snow_issue.specs.Known.{Seen, items_of, lists_of, Tells, NoneRipe}
 use Rattle.snow_issue.specs.Index.{woken}
 use Rattle.snow_issue.specs.Keeping.{IsKept}
 use Rattle.snow_issue.proofs.Asking.{none_without}
-use Rattle.snow_issue.proofs.Settled.{seen, kept_closed, knows_by, closed_get, no_get}
+use Rattle.snow_issue.proofs.Settled.{kept_closed, knows_by, closed_get, no_get}
 use Rattle.snow_issue.proofs.Taken.{tells_closed, items_woken, unripe_woken}
 use Rattle.snow_issue.proofs.queue.Queue.close_get.Goals as goal
 

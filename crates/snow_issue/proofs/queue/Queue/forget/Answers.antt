@@ -1,12 +1,12 @@
-use Rattle.std.proofs.Common.{List, All, map, filter, not, ◌==◌, sym, ap, ◌∙◌, subst}
+use Rattle.std.proofs.Common.{List, All, not, ◌==◌, sym, ap, ◌∙◌, subst}
 use Rattle.std.proofs.lemmas.List.Elements.{All-filter}
 use Rattle.snow_issue.specs.declared.work.Held.{Held}
 use Rattle.snow_issue.specs.declared.marks.Mark.{Mark}
 use Rattle.snow_issue.specs.Lists.{Lists, after_forgotten}
 use Rattle.snow_issue.specs.Known.{Seen, items_of, lists_of}
-use Rattle.snow_issue.specs.Keeping.{IsKept, Rests}
+use Rattle.snow_issue.specs.Keeping.{Rests}
 use Rattle.snow_issue.proofs.Replied.{items_filtered}
-use Rattle.snow_issue.proofs.Settled.{seen, kept_replies}
+use Rattle.snow_issue.proofs.Settled.{kept_replies}
 use Rattle.snow_issue.proofs.queue.Queue.forget.Goals as goal
 
 pub invariant_of-self : goal.invariant_of-self

@@ -1,5 +1,5 @@
 -- Nothing is remembered, so what is remembered is true of the board.
-use Rattle.std.proofs.Common.{◌≡◌, List, All, map, sym, ap, ◌∙◌, subst}
+use Rattle.std.proofs.Common.{◌≡◌, List, All, sym, ap, ◌∙◌, subst}
 use Rattle.snow_issue.specs.declared.work.Waiting.{Waiting}
 use Rattle.snow_issue.specs.declared.marks.Mark.{Mark}
 use Rattle.snow_issue.specs.Settling.{work_of, after}

@@ -1,5 +1,4 @@
-use Rattle.std.proofs.Common.{◌<◌, List, length, map, sym, ap, subst, ◌∙◌}
-use Rattle.std.specs.List.{remove}
+use Rattle.std.proofs.Common.{◌<◌, length, map, sym, ap, subst, ◌∙◌}
 use Rattle.snow_issue.specs.declared.work.Held.{Held}
 use Rattle.snow_issue.specs.Known.{Seen, items_of}
 use Rattle.snow_issue.specs.Index.{woken}

@@ -1,6 +1,6 @@
 -- The earliest hopeless block is taken out.
-use Rattle.std.proofs.Common.{◌≡◌, ◌<◌, ◌≤◌, List, All, length, find, get_or, sym, ap, ◌∙◌, subst, arith}
-use Rattle.std.specs.List.{remove, position_or_len}
+use Rattle.std.proofs.Common.{◌<◌, length, find, get_or, ap, ◌∙◌, arith}
+use Rattle.std.specs.List.{remove}
 use Rattle.std.proofs.lemmas.List.{length-map}
 use Rattle.snow_issue.specs.declared.work.Waiting.{Waiting}
 use Rattle.snow_issue.specs.declared.marks.Mark.{Mark}

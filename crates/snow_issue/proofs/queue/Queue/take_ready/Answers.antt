@@ -1,14 +1,13 @@
 -- The earliest ready block is taken out: what was looked at and is ripe.
-use Rattle.std.proofs.Common.{◌≡◌, ◌<◌, ◌≤◌, false, List, All, length, find, get_or, map, refl, sym, ap, ◌∙◌, subst, arith}
+use Rattle.std.proofs.Common.{◌≡◌, ◌<◌, false, List, All, length, find, get_or, sym, ap, ◌∙◌, subst, arith}
 use Rattle.std.specs.List.{remove, position_or_len}
-use Rattle.std.specs.Str.{bytes_eq}
 use Rattle.std.proofs.lemmas.List.{length-map}
 use Rattle.snow_issue.specs.declared.work.Waiting.{Waiting}
 use Rattle.snow_issue.specs.declared.marks.Mark.{Mark}
 use Rattle.snow_issue.specs.declared.marks.Mark.TheVariants.{New, Ripe}
 use Rattle.snow_issue.specs.Lists.{without}
 use Rattle.snow_issue.specs.Settling.{is_ready}
-use Rattle.snow_issue.specs.Known.{Seen, items_of, lists_of, has, Tells}
+use Rattle.snow_issue.specs.Known.{Seen, items_of, has, Tells}
 use Rattle.snow_issue.proofs.Looked.{found_first, found_none, position_same, ready_all, none_ripe}
 use Rattle.snow_issue.proofs.Settled.{lists_by, knows_from, knows_by, items_left}
 use Rattle.snow_issue.proofs.Taken.{item_is, tells_left, woken_forgets}

@@ -6,7 +6,7 @@ use Rattle.snow_issue.specs.declared.lineup.Slot.{Slot}
 use Rattle.snow_issue.specs.declared.work.Held.{Held}
 use Rattle.snow_issue.specs.declared.marks.Mark.{Mark}
 use Rattle.snow_issue.specs.Index.{IsIndexed, tag_of, seat_of, KeepsRows}
-use Rattle.snow_issue.specs.Windows.{AreWithin, all_left}
+use Rattle.snow_issue.specs.Windows.{AreWithin}
 use Rattle.snow_issue.proofs.Placed.{Rises, seats_filtered}
 use Rattle.snow_issue.proofs.Tagged.{AllPairs_unmap, indexed_filter}
 use Rattle.snow_issue.proofs.Windowed.{within_filtered}

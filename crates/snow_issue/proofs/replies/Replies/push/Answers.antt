@@ -4,7 +4,7 @@ use Rattle.snow_issue.specs.declared.marks.Mark.TheVariants.{New}
 use Rattle.snow_issue.specs.Lists.{holds_in}
 use Rattle.snow_issue.specs.Known.{items_of}
 use Rattle.snow_issue.specs.Index.{HasReplies}
-use Rattle.snow_issue.proofs.Replied.{held_pushed, held_undone, held_kept}
+use Rattle.snow_issue.proofs.Replied.{held_pushed, held_undone}
 use Rattle.snow_issue.proofs.Taken.{items_pushed}
 use Rattle.snow_issue.proofs.replies.Replies.push.Goals as goal
 

@@ -1,6 +1,5 @@
 use Rattle.std.proofs.Common.{◌<◌, List, length, sym, subst}
 use Rattle.snow_issue.specs.declared.work.Held.{Held}
-use Rattle.snow_issue.specs.Known.{items_of}
 use Rattle.snow_issue.specs.Index.{HasReplies}
 use Rattle.snow_issue.proofs.Looked.{items_after_set}
 use Rattle.snow_issue.proofs.replies.Replies.set.Goals as goal

@@ -1,5 +1,5 @@
 -- A key's row takes the place, or a new row of it comes in.
-use Rattle.std.proofs.Common.{◌≡◌, ℕ, List, [], ◌∷◌, ◌++◌, Some, None, cond, sym, ap, ◌∙◌}
+use Rattle.std.proofs.Common.{ℕ, List, [], ◌∷◌, ◌++◌, Some, cond, sym, ap, ◌∙◌}
 use Rattle.std.specs.Option.{is_some}
 use Rattle.std.specs.Str.{bytes_eq}
 use Rattle.std.proofs.lemmas.Result.{on_ok_weaker, on_err_weaker}
@@ -32,5 +32,5 @@ returns-clause-ok c q =
     let more : List ℕ → List ℕ = λ row. row ++ c.args.place ∷ [] in
     let before = c.get_mut.follows.lender-at-none in
     let none = no_row c.args.self.now.rows c.args.key c.in_default.ensures.value ∙ ap (λ m. row_of m c.args.key) (sym c.get_mut.follows.holds-at-none) in
-    changed before c.insert.new.self c.args.key (Some c.in_ok-row.row) more (c.in_ok-row.ensures ∙ ap more none) c.in_ok-insert.ensures.updates.0 q
+    changed before c.insert.new.self c.args.key (Some c.of-row.result) more (c.of-row.ensures ∙ ap more none) c.in_ok-insert.ensures.updates.0 q
     ∙ ap (λ m. cond (bytes_eq c.args.key q) (more (row_of m q)) (row_of m q)) c.get_mut.follows.holds-at-none
