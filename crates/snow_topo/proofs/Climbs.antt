@@ -1,5 +1,5 @@
 -- Lemmas on one step of a poll that climbs, and on its beginning and end.
-use Rattle.std.proofs.Common.{◌≡◌, ℕ, zero, suc, ◌+◌, ◌<◌, ◌≤◌, List, [], ◌∷◌, length, get_or, map, reverse, All, Option, Some, None, IfSome, slice_get, refl, sym, ap, subst, ◌∙◌, arith}
+use Rattle.std.proofs.Common.{◌≡◌, ℕ, zero, suc, ◌+◌, ◌<◌, ◌≤◌, false, List, [], ◌∷◌, length, get_or, take, drop, map, reverse, bytes_eq, All, Option, Some, None, IfSome, slice_get, refl, sym, ap, subst, ◌∙◌, arith}
 use Rattle.std.specs.Option.{option_map}
 use Rattle.std.proofs.lemmas.List.{get_or-map, length-map}
 use Rattle.std.proofs.lemmas.Option.{none-some, slice_get-map, slice_get_within, get_or_from_slice_get, slice_get_past, slice_get-get_or}
@@ -11,11 +11,13 @@ use Rattle.snow_plain.specs.declared.cursor.Cursor.{Cursor}
 use Rattle.snow_plain.specs.Conflict.{all_polled}
 use Rattle.snow_plain.specs.Cursors.{votes_at}
 use Rattle.snow_plain.specs.Grown.{IsGrown}
-use Rattle.snow_tree.specs.Held.{Entry, blocks_in, children_of, set_load}
+use Rattle.snow_tree.specs.Held.{Entry, Held, blocks_in, children_of, set_load, with_load}
 use Rattle.snow_topo.specs.Kept.{Kept, shown, IsFit}
 use Rattle.snow_topo.specs.View.{pending_of, all_pending}
-use Rattle.snow_topo.specs.Climbing.{reach, AreBelow, votes_for, merged, stepped_by}
+use Rattle.snow_topo.specs.declared.climber.Climber.{Climber}
+use Rattle.snow_topo.specs.Climbing.{reach, cursors_of, votes_for, merged, stepped_by, AreBelow, ArePlaced, HasCome}
 use Rattle.snow_topo.specs.Half.{AreClimbing, IsHalf, HasTaken}
+use Rattle.snow_topo.proofs.Climbers.{have_come, look_lower}
 use Rattle.snow_topo.proofs.Reached.{reach_at}
 use Rattle.snow_topo.proofs.Halfway.{sunk, visited, came_for, climbed}
 
@@ -158,3 +160,43 @@ climbed_past p votes last first at e cs g there climbing =
     let within : at < length bs = subst (λ n. at < n) (sym (length-map first (λ x. x.block))) inside in
     let block : get_or bs at e.block ≡ e.block = get_or-map (λ x. x.block) first at e e.block inside ∙ ap (λ x. x.block) (get_or_from_slice_get first at e e there) in
     subst (λ b. AreBelow bs at (merged b cs)) block (climbed p votes last bs at e.block cs g within climbing).below
+
+-- ---- the votes that look for the block at a place, behind those that look for earlier ones
+
+-- the block at a place, where its entry was seen
+pub block_at : (pending : List (Entry Kept)) (at : ℕ) (e : Entry Kept) → slice_get pending at ≡ Some e → slice_get (blocks_in pending) at ≡ Some e.block
+block_at pending at e there = slice_get-map (λ x. x.block) pending at ∙ ap (option_map (λ (x : Entry Kept). x.block)) there
+
+-- how far it reaches
+reached_at : (last : List ℕ) (pending : List (Entry Kept)) (at : ℕ) (e : Entry Kept) → IsGrown last (reverse (blocks_in pending)) → slice_get pending at ≡ Some e
+    → reach (blocks_in pending) e.block.id ≡ at + 1
+reached_at last pending at e g there =
+    let bs = blocks_in pending in
+    let here = block_at pending at e there in
+    ap (λ (b : Header). reach bs b.id) (sym (get_or_from_slice_get bs at e.block e.block here)) ∙ reach_at last bs at e.block g (slice_get_within bs at e.block here)
+
+-- they came to it by a child
+pub group_come : (p : Parameters) (votes : List Vote) (last : List ℕ) (pending : List (Entry Kept)) (at from : ℕ) (e : Entry Kept) (cs : List Climber) → IsGrown last (reverse (blocks_in pending))
+    → slice_get pending at ≡ Some e → AreClimbing p votes (blocks_in pending) (at + 1) (cursors_of (blocks_in pending) cs) → ArePlaced (blocks_in pending) cs → All (λ c. at < c.place) (drop from cs)
+    → All (HasCome (blocks_in pending) e.block.id) (cursors_of (blocks_in pending) (drop from cs))
+group_come p votes last pending at from e cs g there climbing placed high =
+    let bs = blocks_in pending in
+    let block = get_or_from_slice_get bs at e.block e.block (block_at pending at e there) in
+    subst (λ (b : Header). All (HasCome bs b.id) (cursors_of bs (drop from cs))) block (have_come last bs at from e.block cs g climbing.below climbing.came placed high)
+
+-- the others look for other blocks
+pub group_others : (last : List ℕ) (pending : List (Entry Kept)) (at from : ℕ) (e : Entry Kept) (cs : List Climber) → IsGrown last (reverse (blocks_in pending))
+    → slice_get pending at ≡ Some e → ArePlaced (blocks_in pending) cs → All (λ c. c.place ≤ at) (take from cs) → All (λ c. bytes_eq c.sought e.block.id ≡ false) (cursors_of (blocks_in pending) (take from cs))
+group_others last pending at from e cs g there placed low = look_lower (blocks_in pending) e.block at from cs (reached_at last pending at e g there) placed low
+
+-- the entry whose block was seen
+pub entry_of : (pending : List (Entry Kept)) (at : ℕ) (b : Header) → option_map (λ e. e.block) (slice_get pending at) ≡ Some b → (e : Entry Kept) × (slice_get pending at ≡ Some e) × (e.block ≡ b)
+entry_of pending at b h = by (slice_get pending at) refl h
+  where
+    by : (o : Option (Entry Kept)) → slice_get pending at ≡ o → option_map (λ e. e.block) o ≡ Some b → (e : Entry Kept) × (slice_get pending at ≡ Some e) × (e.block ≡ b)
+    by None e h = absurd (none-some b h)
+    by (Some x) e h = (x, e, cc)
+
+-- the blocks after a load was written
+pub blocks_after : (now held : Held Kept) (at : ℕ) (load : Kept) → now ≡ with_load held at load → blocks_in now.pending ≡ blocks_in held.pending
+blocks_after now held at load is = ap (λ (t : Held Kept). blocks_in t.pending) is ∙ set_blocks held.pending at load

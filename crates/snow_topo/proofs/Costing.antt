@@ -1,14 +1,12 @@
 -- Lemmas on how many steps a poll takes.
-use Rattle.std.proofs.Common.{◌≡◌, ℕ, zero, suc, ◌+◌, ◌<◌, ◌≤◌, List, [], ◌∷◌, length, get_or, drop, sum_by, Some, slice_get, refl, sym, ap, subst, ◌∙◌, arith, drop-cons, nat_le, false}
+use Rattle.std.proofs.Common.{◌≡◌, ℕ, zero, suc, ◌+◌, ◌<◌, ◌≤◌, List, [], ◌∷◌, length, get_or, drop, sum_by, Some, slice_get, sym, ap, subst, ◌∙◌, arith, drop-cons, nat_le, false}
 use Rattle.std.proofs.lemmas.Grind.{common_steps}
 use Rattle.std.proofs.lemmas.List.Sums.{sum_by-cons}
 use Rattle.std.proofs.lemmas.List.{get_or-map, length-map}
 use Rattle.std.proofs.lemmas.Option.{slice_get_within, get_or_from_slice_get}
 use Rattle.snow_base.specs.declared.header.Header.{Header}
 use Rattle.snow_base.specs.declared.vote.Vote.{Vote}
-use Rattle.snow_base.specs.Votes.{total_count}
 use Rattle.snow_flake.specs.Parameters.{Parameters}
-use Rattle.snow_plain.specs.Conflict.{votes_on}
 use Rattle.snow_tree.specs.Held.{Entry, blocks_in}
 use Rattle.snow_topo.specs.Kept.{Kept}
 use Rattle.snow_topo.specs.Recording.{recording_at, recording_in}
@@ -16,10 +14,6 @@ use Rattle.snow_topo.specs.Recording.{recording_at, recording_in}
 -- where there is no quorum there are too few
 pub no_quorum : (least n : ℕ) → nat_le least n ≡ false → n < least
 no_quorum least n h = grind (arith, common_steps)
-
--- every vote begins with no bits
-pub on_all : (votes : List Vote) → votes_on votes [] ≡ total_count votes
-on_all votes = refl
 
 -- fewer blocks count no more
 fewer_sum : (f : Header → ℕ) (n : ℕ) (bs : List Header) → sum_by f (drop n bs) ≤ sum_by f bs

@@ -1,5 +1,5 @@
 -- Lemmas on a poll on its way over the pending blocks.
-use Rattle.std.proofs.Common.{◌≡◌, inr, ℕ, zero, suc, ◌+◌, ◌<◌, ◌≤◌, Bool, false, not, nat_lt, List, [], ◌∷◌, length, get_or, reverse, filter, sum_by, bytes_eq, All, Contains, Option, Some, None, slice_get, refl, sym, ap, subst, ◌∙◌, arith, if◌then◌else◌}
+use Rattle.std.proofs.Common.{◌≡◌, ℕ, zero, suc, ◌+◌, ◌<◌, ◌≤◌, Bool, false, not, nat_lt, List, [], ◌∷◌, length, get_or, reverse, filter, sum_by, bytes_eq, All, Contains, Option, Some, None, slice_get, refl, sym, ap, subst, ◌∙◌, arith, if◌then◌else◌}
 use Rattle.std.specs.Bool.{beq}
 use Rattle.std.specs.List.{starts_with}
 use Rattle.std.specs.Option.{option_map}
@@ -25,8 +25,7 @@ use Rattle.snow_topo.specs.View.{pending_of, all_pending}
 use Rattle.snow_topo.specs.Climbing.{reach, AreBelow, CameBy, is_for, votes_for, merged, stepped_by}
 use Rattle.snow_topo.specs.Half.{AreClimbing, IsHalf}
 use Rattle.snow_topo.proofs.Stamped.{later}
-use Rattle.snow_topo.proofs.Reached.{not_below, reach_at, at_reach, below_at, near_back, off_reach}
-use Rattle.snow_tree.proofs.Descending.{parent_before, last_off}
+use Rattle.snow_topo.proofs.Reached.{not_below, reach_at, at_reach, below_at, parent_low}
 use Rattle.snow_topo.proofs.Merged.{merged_sum, all_merged, total_merged}
 
 -- before a place, or not
@@ -184,7 +183,7 @@ on_way : (bs : List Header) (b : Header) (q : List ℕ) (front : List Bool) (n :
 on_way bs b q front n other = split_on (bytes_eq b.parent q) (λ t. rw (t, other) refl) (λ t. rw t refl)
 
 -- a block is among the children of its parent
-listed : (bs : List Header) (at : ℕ) (d : Header) → at < length bs → Contains (children_of bs (get_or bs at d).parent) (get_or bs at d).id
+pub listed : (bs : List Header) (at : ℕ) (d : Header) → at < length bs → Contains (children_of bs (get_or bs at d).parent) (get_or bs at d).id
 listed [] at d h = absurd (omega (arith, h))
 listed (b ∷ bs) zero d h = rw (id_itself b.parent) (Contains-get_or (b.id ∷ children_of bs b.parent) 0 b.id (omega arith))
 listed (b ∷ bs) (suc at) d h =
@@ -201,11 +200,7 @@ climbed p votes last bs at d cs g h climbing =
     let b = get_or bs at d in
     let stays : Cursor → Bool = λ c. not (bytes_eq c.sought b.id) in
     let here : reach bs b.id ≡ at + 1 = reach_at last bs at d g h in
-    let parent_low : reach bs b.parent ≤ at =
-    split_on (bytes_eq last b.parent)
-    (λ t. let off : reach bs b.parent ≡ 0 = ap (reach bs) (sym (same_id last b.parent t)) ∙ off_reach bs last (last_off last bs g) in omega (arith, off))
-    (λ t. near_back bs b.parent at (parent_before last bs at d g h t))
-    in
+    let low_parent : reach bs b.parent ≤ at = parent_low last bs at d g h in
     let goes : List ℕ → List Bool → Bool = λ q front. if bytes_eq b.parent q then starts_with beq (bits b.id) front else is_below bs q front b.parent in
     record {
       below = all_merged (λ c. reach bs c.sought ≤ at) b cs
@@ -216,7 +211,7 @@ climbed p votes last bs at d cs g h climbing =
           (λ u. let is : reach bs c.sought ≡ at + 1 = omega (arith, u, up) in
           clash (bytes_eq c.sought b.id) (id_same c.sought b.id (sym (same_id b.id c.sought (at_reach bs c.sought at d is)))) (not-true (bytes_eq c.sought b.id) (filter_passes stays cs k e l)))
           (λ u. u))
-          (λ some. parent_low);
+          (λ some. low_parent);
       counted = λ q front low.
           let other : bytes_eq b.id q ≡ false = split_on (bytes_eq b.id q) (λ t. absurd (omega (arith, here, low, ap (reach bs) (same_id b.id q t)))) (λ t. t) in
           merged_sum (λ c. if is_for bs q front c then c.count else 0) b (goes q front) cs
@@ -226,7 +221,7 @@ climbed p votes last bs at d cs g h climbing =
           ap (λ u. if u then c.count else 0) is)
           (λ n. ap (λ u. if u then n else 0) (on_way bs b q front n other))
           ∙ climbing.counted q front (omega (arith, low));
-      came = all_merged (CameBy bs) b cs (All-filter stays (CameBy bs) cs climbing.came) (λ some. inr (listed bs at d h));
+      came = all_merged (CameBy bs) b cs (All-filter stays (CameBy bs) cs climbing.came) (λ some. listed bs at d h);
       counts = all_merged (λ c. 0 < c.count) b cs (All-filter stays (λ c. 0 < c.count) cs climbing.counts) (λ some. some);
       total = omega (arith, total_merged b cs, climbing.total);
     }

@@ -17,3 +17,5 @@ pub mod Standings
 pub mod Polls
 pub mod Advancing
 pub mod Climbers
+pub mod Begun
+pub mod Risen

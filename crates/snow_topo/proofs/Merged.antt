@@ -1,14 +1,16 @@
 -- Lemmas on votes that meet and go on as one.
-use Rattle.std.proofs.Common.{◌≡◌, ℕ, ◌+◌, ◌<◌, ◌≤◌, Bool, true, false, not, List, [], ◌∷◌, length, filter, sum_by, nat_lt, Some, bytes_eq, All, refl, sym, ap, ◌∙◌, arith, length-append, if◌then◌else◌}
+use Rattle.std.proofs.Common.{◌≡◌, ℕ, ◌+◌, ◌<◌, ◌≤◌, Bool, true, false, not, List, [], ◌∷◌, ◌++◌, length, filter, sum_by, nat_lt, bytes_eq, Some, All, refl, sym, ap, ◌∙◌, arith, length-append, append-nil, if◌then◌else◌}
+use Rattle.std.specs.Bool.{beq}
+use Rattle.std.specs.List.{starts_with}
 use Rattle.std.proofs.lemmas.Grind.{common_steps}
 use Rattle.std.proofs.lemmas.List.Sums.{sum_by-append, sum_by-cons}
-use Rattle.std.proofs.lemmas.List.Elements.{All-append, All-cons, All-nil}
+use Rattle.std.proofs.lemmas.List.Elements.{All-append, All-cons, All-nil, All-head, All-tail, filter-append}
 use Rattle.snow_base.specs.declared.header.Header.{Header}
+use Rattle.snow_base.specs.Identifier.{bits}
 use Rattle.snow_plain.specs.declared.cursor.Cursor.{Cursor}
-use Rattle.snow_plain.specs.Cursors.{child_at, cursor_total}
+use Rattle.snow_plain.specs.Cursors.{child_at, cursor_total, votes_at, votes_for as of_child}
 use Rattle.snow_plain.proofs.Cases.{split_on}
-use Rattle.std.proofs.lemmas.Option.{none-some}
-use Rattle.snow_topo.specs.Climbing.{count_at, merged}
+use Rattle.snow_topo.specs.Climbing.{count_at, merged, HasCome}
 
 -- nothing is picked of nothing
 nothing : (u : Bool) → ◌≡◌ {A = ℕ} (if u then 0 else 0) 0
@@ -41,18 +43,6 @@ grouped f p t same (c ∷ cs) =
     picked : (u : Bool) (x y z : ℕ) → x ≡ y + z → (if u then x else 0) ≡ (if u then y else 0) + (if u then z else 0)
     picked true x y z e = e
     picked false x y z e = refl
-
--- no more look for a block than there are
-pub few_at : (id : List ℕ) (cs : List Cursor) → count_at id cs ≤ cursor_total cs
-few_at id [] = omega arith
-few_at id (c ∷ cs) =
-    let rest = few_at id cs in
-    let g : Cursor → ℕ = λ c. if bytes_eq c.sought id then c.count else 0 in
-    let whole = sum_by-cons (λ c. c.count) c cs in
-    let group = sum_by-cons g c cs in
-    split_on (bytes_eq c.sought id)
-    (λ u. let own : g c ≡ c.count = rw u refl in omega (arith, rest, own, whole, group))
-    (λ u. let own : g c ≡ 0 = rw u refl in omega (arith, rest, own, whole, group))
 
 -- no more stay than there were
 few_stay : (p : Cursor → Bool) (cs : List Cursor) → length (filter p cs) ≤ length cs
@@ -114,12 +104,78 @@ all_merged P b cs stay new =
     (λ u. let some : 0 < n = grind (arith, common_steps) in rw u (All-cons P next [] (new some) (All-nil P)))
     (λ u. rw u (All-nil P)))
 
--- votes that came by a child
-pub came_some : (parent : List ℕ) (c : Cursor) (child : List ℕ) → child_at parent c ≡ Some child
-    → (bytes_eq c.sought parent ≡ true) × (bytes_eq c.passed parent ≡ false) × (c.passed ≡ child)
-came_some parent c child h =
-    split_on (bytes_eq c.sought parent)
-    (λ t. split_on (bytes_eq c.passed parent)
-    (λ s. absurd (none-some child (let k = rw (t, s) at h in k)))
-    (λ s. let k : Some c.passed ≡ Some child = rw (t, s) at h in (t, s, cc)))
-    (λ t. absurd (none-some child (let k = rw t at h in k)))
+-- ---- those that look for a block, behind those that look for others
+
+-- none of the others counts
+none_at : (id : List ℕ) (cs : List Cursor) → All (λ c. bytes_eq c.sought id ≡ false) cs → count_at id cs ≡ 0
+none_at id [] others = refl
+none_at id (c ∷ cs) others =
+    let f : Cursor → ℕ = λ c. if bytes_eq c.sought id then c.count else 0 in
+    let own : f c ≡ 0 = rw (All-head (λ c. bytes_eq c.sought id ≡ false) c cs others) refl in
+    omega (arith, sum_by-cons f c cs, own, none_at id cs (All-tail (λ c. bytes_eq c.sought id ≡ false) c cs others))
+
+-- all that look for it count
+all_at : (id : List ℕ) (cs : List Cursor) → All (λ c. bytes_eq c.sought id ≡ true) cs → count_at id cs ≡ cursor_total cs
+all_at id [] here = refl
+all_at id (c ∷ cs) here =
+    let f : Cursor → ℕ = λ c. if bytes_eq c.sought id then c.count else 0 in
+    let own : f c ≡ c.count = rw (All-head (λ c. bytes_eq c.sought id ≡ true) c cs here) refl in
+    omega (arith, sum_by-cons f c cs, sum_by-cons (λ (c : Cursor). c.count) c cs, own, all_at id cs (All-tail (λ c. bytes_eq c.sought id ≡ true) c cs here))
+
+pub joined_at : (id : List ℕ) (front group : List Cursor) → All (λ c. bytes_eq c.sought id ≡ false) front → All (λ c. bytes_eq c.sought id ≡ true) group
+    → count_at id (front ++ group) ≡ cursor_total group
+joined_at id front group others here =
+    omega (arith, sum_by-append (λ c. if bytes_eq c.sought id then c.count else 0) front group, none_at id front others, all_at id group here)
+
+-- the others stay
+none_leave : (id : List ℕ) (cs : List Cursor) → All (λ c. bytes_eq c.sought id ≡ false) cs → filter (λ c. not (bytes_eq c.sought id)) cs ≡ cs
+none_leave id [] others = refl
+none_leave id (c ∷ cs) others =
+    rw (All-head (λ c. bytes_eq c.sought id ≡ false) c cs others) (ap (λ l. c ∷ l) (none_leave id cs (All-tail (λ c. bytes_eq c.sought id ≡ false) c cs others)))
+
+all_leave : (id : List ℕ) (cs : List Cursor) → All (λ c. bytes_eq c.sought id ≡ true) cs → filter (λ c. not (bytes_eq c.sought id)) cs ≡ []
+all_leave id [] here = refl
+all_leave id (c ∷ cs) here =
+    rw (All-head (λ c. bytes_eq c.sought id ≡ true) c cs here) (all_leave id cs (All-tail (λ c. bytes_eq c.sought id ≡ true) c cs here))
+
+pub joined_left : (id : List ℕ) (front group : List Cursor) → All (λ c. bytes_eq c.sought id ≡ false) front → All (λ c. bytes_eq c.sought id ≡ true) group
+    → filter (λ c. not (bytes_eq c.sought id)) (front ++ group) ≡ front
+joined_left id front group others here =
+    filter-append (λ c. not (bytes_eq c.sought id)) front group
+    ∙ (λ i. none_leave id front others i ++ all_leave id group here i)
+    ∙ append-nil front
+
+-- votes that look for other blocks didn't come to it
+pub none_came : (id : List ℕ) (front group : List Cursor) (on : List Bool) → All (λ c. bytes_eq c.sought id ≡ false) front → votes_at (front ++ group) id on ≡ votes_at group id on
+none_came id [] group on others = refl
+none_came id (c ∷ front) group on others =
+    let f : Cursor → ℕ = λ c. of_child (child_at id c) c.count on in
+    let own : f c ≡ 0 = rw (All-head (λ c. bytes_eq c.sought id ≡ false) c front others) refl in
+    omega (arith, sum_by-cons f c (front ++ group), own, none_came id front group on (All-tail (λ c. bytes_eq c.sought id ≡ false) c front others))
+
+-- all that came to it are counted, whatever their bits
+pub all_came : (bs : List Header) (id : List ℕ) (cs : List Cursor) → All (HasCome bs id) cs → votes_at cs id [] ≡ cursor_total cs
+all_came bs id [] come = refl
+all_came bs id (c ∷ cs) come =
+    let f : Cursor → ℕ = λ c. of_child (child_at id c) c.count [] in
+    let first = All-head (HasCome bs id) c cs come in
+    let own : f c ≡ c.count = rw (first.0, first.1) refl in
+    omega (arith, sum_by-cons f c cs, sum_by-cons (λ (c : Cursor). c.count) c cs, own, all_came bs id cs (All-tail (HasCome bs id) c cs come))
+
+-- by no bits more
+pub few_came : (id : List ℕ) (cs : List Cursor) (on : List Bool) → votes_at cs id on ≤ cursor_total cs
+few_came id [] on = omega arith
+few_came id (c ∷ cs) on =
+    let f : Cursor → ℕ = λ c. of_child (child_at id c) c.count on in
+    let own : f c ≤ c.count =
+    split_on (bytes_eq c.sought id)
+    (λ t. split_on (bytes_eq c.passed id)
+    (λ s. rw (t, s) (omega arith))
+    (λ s. split_on (starts_with beq (bits c.passed) on) (λ u. rw (t, s, u) (omega arith)) (λ u. rw (t, s, u) (omega arith))))
+    (λ t. rw t (omega arith))
+    in
+    omega (arith, sum_by-cons f c cs, sum_by-cons (λ (c : Cursor). c.count) c cs, own, few_came id cs on)
+
+-- votes that came to it came by a child
+pub come_by : (bs : List Header) (id : List ℕ) (c : Cursor) → HasCome bs id c → child_at id c ≡ Some c.passed
+come_by bs id c come = rw (come.0, come.1) refl

@@ -10,12 +10,12 @@ use Rattle.snow_base.specs.declared.header.Header.{Header}
 use Rattle.snow_base.specs.Identifier.{bits}
 use Rattle.snow_base.specs.Ancestry.{line_in, begins_with, is_below}
 use Rattle.snow_plain.specs.Grown.{has_block, is_on, IsGrown}
-use Rattle.snow_plain.proofs.Cases.{split_on, clash, id_itself}
+use Rattle.snow_plain.proofs.Cases.{split_on, clash, same_id, id_same, id_itself}
 use Rattle.snow_plain.proofs.Kept.{has_own}
 use Rattle.snow_plain.proofs.Grown.{grown_new, grown_rest, grown_before, older, childless, no_child_on, no_line, line_passes, has_block-reverse}
 use Rattle.snow_plain.proofs.Lines.{acyclic}
 use Rattle.snow_tree.proofs.Placed.{position_cons}
-use Rattle.snow_tree.proofs.Descending.{around, line_at}
+use Rattle.snow_tree.proofs.Descending.{around, line_at, parent_before, last_off}
 use Rattle.snow_topo.specs.Climbing.{above, reach}
 
 -- the reach of a block with one block more in front
@@ -172,6 +172,44 @@ reach_at last bs at d g h =
   where
     by_cases : (n m : ℕ) → (n ≤ m → ⊥) → m < n
     by_cases n m never = lt_of_not-le never
+
+-- the parent of a block stands before it, or isn't there
+pub parent_low : (last : List ℕ) (bs : List Header) (at : ℕ) (d : Header) → IsGrown last (reverse bs) → at < length bs → reach bs (get_or bs at d).parent ≤ at
+parent_low last bs at d g h =
+    let b = get_or bs at d in
+    split_on (bytes_eq last b.parent)
+    (λ t. let off : reach bs b.parent ≡ 0 = ap (reach bs) (sym (same_id last b.parent t)) ∙ off_reach bs last (last_off last bs g) in omega (arith, off))
+    (λ t. near_back bs b.parent at (parent_before last bs at d g h t))
+
+-- no block is its own parent
+pub not_own : (last : List ℕ) (bs : List Header) (at : ℕ) (d : Header) → IsGrown last (reverse bs) → at < length bs → bytes_eq (get_or bs at d).id (get_or bs at d).parent ≡ false
+not_own last bs at d g h =
+    let b = get_or bs at d in
+    split_on (bytes_eq b.id b.parent)
+    (λ t. absurd (omega (arith, reach_at last bs at d g h, parent_low last bs at d g h, ap (reach bs) (same_id b.id b.parent t))))
+    (λ t. t)
+
+-- what is among the first is among all
+had : (bs : List Header) (n : ℕ) (id : List ℕ) → has_block (take n bs) id ≡ true → has_block bs id ≡ true
+had bs zero id h = absurd cc
+had [] (suc n) id h = absurd cc
+had (b ∷ bs) (suc n) id h =
+    split_on (bytes_eq b.id id)
+    (λ t. or_left (bytes_eq b.id id) (has_block bs id) t)
+    (λ t. let k = rw t at h in or_right (bytes_eq b.id id) (has_block bs id) (had bs n id k))
+
+-- what reaches nothing isn't there
+pub reaches_none : (bs : List Header) (id : List ℕ) → reach bs id ≤ 0 → has_block bs id ≡ false
+reaches_none bs id low = split_on (has_block bs id) (λ t. absurd (let k = near bs id 0 low t in cc)) (λ t. t)
+
+-- a parent that isn't there is the last accepted block
+pub parent_is_last : (last : List ℕ) (bs : List Header) (at : ℕ) (d : Header) → IsGrown last (reverse bs) → at < length bs → reach bs (get_or bs at d).parent ≤ 0
+    → bytes_eq (get_or bs at d).parent last ≡ true
+parent_is_last last bs at d g h low =
+    let id = (get_or bs at d).parent in
+    split_on (bytes_eq last id)
+    (λ t. id_same id last (sym (same_id last id t)))
+    (λ t. clash (has_block bs id) (had bs at id (parent_before last bs at d g h t)) (reaches_none bs id low))
 
 -- what reaches right above a place is the block there
 pub at_reach : (bs : List Header) (id : List ℕ) (at : ℕ) (d : Header) → reach bs id ≡ at + 1 → bytes_eq (get_or bs at d).id id ≡ true

@@ -1,16 +1,9 @@
 -- Lemmas on what is kept of a block when a poll comes to it.
-use Rattle.std.proofs.Common.{◌≡◌, ℕ, zero, suc, ◌+◌, ◌<◌, ◌≤◌, Bool, List, [], ◌∷◌, Option, Some, None, slice_get, IfSome, refl, sym, ap, ◌∙◌, arith, if◌then◌else◌}
-use Rattle.std.specs.Bool.{beq}
-use Rattle.std.specs.List.{starts_with}
+use Rattle.std.proofs.Common.{◌≡◌, ℕ, zero, suc, ◌+◌, ◌<◌, Bool, List, [], ◌∷◌, Option, Some, None, slice_get, IfSome, refl, sym, ap, ◌∙◌, arith}
 use Rattle.std.specs.Option.{option_map}
-use Rattle.std.proofs.lemmas.List.Sums.{sum_by-cons}
 use Rattle.std.proofs.lemmas.Option.{none-some}
-use Rattle.snow_base.specs.declared.vote.Vote.{Vote}
-use Rattle.snow_base.specs.Identifier.{bits}
-use Rattle.snow_base.specs.Votes.{total_count}
 use Rattle.snow_flake.specs.Parameters.{Parameters, AreGood}
-use Rattle.snow_plain.specs.Conflict.{all_polled, votes_on}
-use Rattle.snow_plain.proofs.Cases.{split_on}
+use Rattle.snow_plain.specs.Conflict.{all_polled}
 use Rattle.snow_plain.proofs.Failing.{few_fail}
 use Rattle.snow_tree.specs.Held.{Entry, set_load}
 use Rattle.snow_topo.specs.Kept.{Kept, shown, IsFit}
@@ -27,21 +20,11 @@ same_load [] at e h = refl
 same_load (x ∷ pending) zero e h = let same : x ≡ e = cc in ap (λ (y : Entry Kept). record x { load = y.load } ∷ pending) (sym same)
 same_load (x ∷ pending) (suc at) e h = ap (λ l. x ∷ l) (same_load pending at e h)
 
--- no more votes begin so than there are
-few_on : (votes : List Vote) (front : List Bool) → votes_on votes front ≤ total_count votes
-few_on [] front = omega arith
-few_on (v ∷ votes) front =
-    let f : Vote → ℕ = λ v. if starts_with beq (bits v.id) front then v.count else 0 in
-    let rest = few_on votes front in
-    split_on (starts_with beq (bits v.id) front)
-    (λ t. let own : f v ≡ v.count = rw t refl in omega (arith, rest, own, sum_by-cons f v votes, sum_by-cons (λ v. v.count) v votes))
-    (λ t. let own : f v ≡ 0 = rw t refl in omega (arith, rest, own, sum_by-cons f v votes, sum_by-cons (λ v. v.count) v votes))
-
 -- where there is no quorum nothing is recorded
-pub left_alone : (p : Parameters) (polls : ℕ) (children : List (List ℕ)) (kept : Kept) (votes : List Vote) → AreGood p → IsFit p polls children kept → total_count votes < p.alpha_preference
-    → (shown p (polls + 1) kept ≡ all_polled p (votes_on votes) (shown p polls kept)) × IsFit p (polls + 1) children kept
+pub left_alone : (p : Parameters) (polls : ℕ) (children : List (List ℕ)) (kept : Kept) (votes : List Bool → ℕ) → AreGood p → IsFit p polls children kept → ((front : List Bool) → votes front < p.alpha_preference)
+    → (shown p (polls + 1) kept ≡ all_polled p votes (shown p polls kept)) × IsFit p (polls + 1) children kept
 left_alone p polls children kept votes good fit few = (
-  later p polls kept good fit.past ∙ sym (few_fail p (votes_on votes) (shown p polls kept) (λ front. omega (arith, few, few_on votes front))),
+  later p polls kept good fit.past ∙ sym (few_fail p votes (shown p polls kept) few),
   record { past = omega (arith, fit.past); parameters = fit.parameters; ids = fit.ids },
 )
 

@@ -1,7 +1,9 @@
 -- Votes that climb the lines of their blocks, where those that meet go on as one.
-use Rattle.std.specs.Prelude.{◌≡◌, ◌⊎◌, ℕ, ◌+◌, ◌≤◌, Bool, not, ◌&&◌, List, [], ◌∷◌, ◌++◌, map, filter, sum_by, Option, None, Some, All, Contains, nat_lt, bytes_eq, if◌then◌else◌}
+use Rattle.std.specs.Prelude.{◌≡◌, ℕ, ◌+◌, ◌<◌, ◌≤◌, Bool, true, false, not, ◌&&◌, List, [], ◌∷◌, ◌++◌, length, map, filter, sum_by, slice_get, Option, None, Some, All, Contains, nat_lt, bytes_eq, if◌then◌else◌}
 use Rattle.std.specs.Bool.{beq}
 use Rattle.std.specs.List.{position, starts_with}
+use Rattle.std.specs.List.Sorted.{IsNonDecreasingBy}
+use Rattle.std.specs.Option.{option_map}
 use Rattle.snow_base.specs.declared.header.Header.{Header}
 use Rattle.snow_base.specs.declared.vote.Vote.{Vote}
 use Rattle.snow_base.specs.Identifier.{bits}
@@ -11,8 +13,7 @@ use Rattle.snow_plain.specs.declared.cursor.Cursor.{Cursor}
 use Rattle.snow_plain.specs.declared.pending.Pending.{Pending}
 use Rattle.snow_plain.specs.Board.{with_counters}
 use Rattle.snow_plain.specs.Poll.{with_votes}
-use Rattle.snow_plain.specs.Cursors.{started}
-use Rattle.snow_tree.specs.Held.{children_of}
+use Rattle.snow_tree.specs.Held.{Entry, blocks_in, children_of, place_in}
 use Rattle.snow_topo.specs.declared.climber.Climber.{Climber}
 
 -- one more than a place; 0 for none
@@ -24,17 +25,41 @@ above (Some i) = i + 1
 abbrev pub reach : List Header → List ℕ → ℕ
 reach blocks id = above (position (λ b. bytes_eq b.id id) blocks)
 
--- votes that climb, without where they look
-abbrev pub cursors_of : List Climber → List Cursor
-cursors_of climbers = map (λ c. c.cursor) climbers
+-- what a block says of its parent and itself, where there is one
+abbrev pub parent_in : Option Header → List ℕ
+parent_in None = []
+parent_in (Some b) = b.parent
 
--- a vote at its own block
-abbrev pub started_at : List Header → Vote → Climber
-started_at blocks v = record { cursor = started v; place = reach blocks v.id }
+abbrev pub id_in : Option Header → List ℕ
+id_in None = []
+id_in (Some b) = b.id
 
--- each goes with one more than the place of the block that it looks for
+-- votes that climb: they passed the block at a place, and look for its parent
+abbrev pub cursor_of : List Header → Climber → Cursor
+cursor_of blocks c = record { sought = parent_in (slice_get blocks c.passed); passed = id_in (slice_get blocks c.passed); count = c.count }
+
+abbrev pub cursors_of : List Header → List Climber → List Cursor
+cursors_of blocks climbers = map (cursor_of blocks) climbers
+
+-- how many votes there are in all
+abbrev pub climber_total : List Climber → ℕ
+climber_total climbers = sum_by (λ c. c.count) climbers
+
+-- so many votes that passed the block at a place
+abbrev pub passing : List Header → ℕ → ℕ → Climber
+passing blocks at count = record { place = reach blocks (parent_in (slice_get blocks at)); passed = at; count = count }
+
+-- a vote begins past its own block, and nowhere where that isn't pending
+abbrev pub begun : {T : Type 0} → List (Entry T) → Vote → Option Climber
+begun pending v = option_map (λ at. passing (blocks_in pending) at v.count) (place_in pending v.id)
+
+-- each passed a block, and goes with one more than the place of its parent
 abbrev pub ArePlaced : List Header → List Climber → Type 0
-ArePlaced blocks climbers = All (λ c. c.place ≡ reach blocks c.cursor.sought) climbers
+ArePlaced blocks climbers = All (λ c. (c.passed < length blocks) × (c.place ≡ reach blocks (parent_in (slice_get blocks c.passed)))) climbers
+
+-- those that look for the latest blocks stand last
+abbrev pub AreRising : List Climber → Type 0
+AreRising climbers = IsNonDecreasingBy (λ c. c.place) climbers
 
 -- all votes look for blocks below this place
 abbrev pub AreBelow : List Header → ℕ → List Cursor → Type 0
@@ -59,9 +84,13 @@ merged b cursors =
     filter (λ c. not (bytes_eq c.sought b.id)) cursors
     ++ (if nat_lt 0 (count_at b.id cursors) then record { sought = b.parent; passed = b.id; count = count_at b.id cursors } ∷ [] else [])
 
--- votes came to where they are by a child, or have not moved yet
+-- votes came to where they are by a child
 abbrev pub CameBy : List Header → Cursor → Type 0
-CameBy blocks c = (c.passed ≡ c.sought) ⊎ Contains (children_of blocks c.sought) c.passed
+CameBy blocks c = Contains (children_of blocks c.sought) c.passed
+
+-- votes came to this block by a child
+abbrev pub HasCome : List Header → List ℕ → Cursor → Type 0
+HasCome blocks id c = (bytes_eq c.sought id ≡ true) × (bytes_eq c.passed id ≡ false) × Contains (children_of blocks id) c.passed
 
 -- a block's counters take the bit step with all votes below it
 abbrev pub stepped_by : Parameters → List Header → List Vote → Pending → Pending

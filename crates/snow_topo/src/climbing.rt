@@ -3,13 +3,14 @@ ghost use Rattle.snow_base.specs.declared.vote.Vote.{Vote};
 ghost use Rattle.snow_tree.specs.Held.{blocks_in, children_of};
 ghost use Rattle.snow_topo.specs.Kept.{IsFit};
 ghost use Rattle.snow_topo.specs.View.{all_pending};
-ghost use Rattle.snow_topo.specs.Climbing.{cursors_of, ArePlaced, stepped_by};
+ghost use Rattle.snow_topo.specs.Climbing.{cursors_of, stepped_by, ArePlaced, AreRising};
 ghost use Rattle.snow_topo.specs.Half.{AreClimbing};
 ghost use Rattle.snow_topo.specs.Leading.{all_leads};
 ghost use Rattle.snow_topo.specs.Recording.{recording_in};
 
-use crate::climber::{Climber, highest};
+use crate::climber::Climber;
 use crate::load::Load;
+use crate::rising::top_of;
 use crate::visiting::visit;
 use snow_base::{Bag, Steps};
 use snow_flake::{Params, Rule};
@@ -44,13 +45,15 @@ pub(crate) fn climb<R: Rule, L: Ledger>(
 ) -> bool
     requires room { polls + 1 < 2 ^ 64 }
     requires places { length climbers.old.items ≤ children.old.room + length children.old.list }
-    requires climbing { (votes : List Vote) × AreClimbing params.now votes (blocks_in (tree.old).pending) (length (tree.old).pending) (cursors_of climbers.old.items) }
+    requires climbing { (votes : List Vote) × AreClimbing params.now votes (blocks_in (tree.old).pending) (length (tree.old).pending) (cursors_of (blocks_in (tree.old).pending) climbers.old.items) }
     requires placed { ArePlaced (blocks_in (tree.old).pending) climbers.old.items }
+    requires rising { AreRising climbers.old.items }
     requires fit { All (λ e. IsFit params.now polls (children_of (blocks_in (tree.old).pending) e.block.id) e.load) (tree.old).pending }
-    ensures pending { (votes : List Vote) → AreClimbing params.now votes (blocks_in (tree.old).pending) (length (tree.old).pending) (cursors_of climbers.old.items)
+    ensures pending { (votes : List Vote) → AreClimbing params.now votes (blocks_in (tree.old).pending) (length (tree.old).pending) (cursors_of (blocks_in (tree.old).pending) climbers.old.items)
         → all_pending params.now (polls + 1) (tree.new).pending ≡ map (stepped_by params.now (blocks_in (tree.old).pending) votes) (all_pending params.now polls (tree.old).pending) }
-    ensures climbing { (votes : List Vote) → AreClimbing params.now votes (blocks_in (tree.old).pending) (length (tree.old).pending) (cursors_of climbers.old.items)
-        → AreClimbing params.now votes (blocks_in (tree.old).pending) 0 (cursors_of climbers.new.items) }
+    ensures climbing { (votes : List Vote) → AreClimbing params.now votes (blocks_in (tree.old).pending) (length (tree.old).pending) (cursors_of (blocks_in (tree.old).pending) climbers.old.items)
+        → AreClimbing params.now votes (blocks_in (tree.old).pending) 0 (cursors_of (blocks_in (tree.old).pending) climbers.new.items) }
+    ensures placed { ArePlaced (blocks_in (tree.old).pending) climbers.new.items }
     ensures rest { tree.new ≡ record (tree.old) { pending = (tree.new).pending } }
     ensures blocks { blocks_in (tree.new).pending ≡ blocks_in (tree.old).pending }
     ensures fit { All (λ e. IsFit params.now (polls + 1) (children_of (blocks_in (tree.new).pending) e.block.id) e.load) (tree.new).pending }
@@ -58,18 +61,18 @@ pub(crate) fn climb<R: Rule, L: Ledger>(
     ensures short { length climbers.new.items ≤ length climbers.old.items }
     ensures room { vec_capacity climbers.new ≡ vec_capacity climbers.old }
     ensures steady { result ≡ false → all_leads R.answer (tree.new).pending ≡ all_leads R.answer (tree.old).pending }
-    ensures steps { (votes : List Vote) → AreClimbing params.now votes (blocks_in (tree.old).pending) (length (tree.old).pending) (cursors_of climbers.old.items)
+    ensures steps { (votes : List Vote) → AreClimbing params.now votes (blocks_in (tree.old).pending) (length (tree.old).pending) (cursors_of (blocks_in (tree.old).pending) climbers.old.items)
         → steps.new ≤ steps.old + 5 * recording_in params.now (blocks_in (tree.old).pending) votes (blocks_in (tree.old).pending) }
 {
     let _k = params.k();
     let _last = tree.last();
     let mut moved = false;
-    let mut top = highest(climbers);
+    let mut top = top_of(climbers);
     while top > 0 {
         let at = top - 1;
         let one = visit(params, tree, at, polls, climbers, children, steps);
         moved = either(one, moved);
-        top = lower(highest(climbers), at);
+        top = lower(top_of(climbers), at);
     }
     moved
 }

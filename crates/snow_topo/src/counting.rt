@@ -1,43 +1,54 @@
-ghost use Rattle.std.specs.Prelude.{◌≡◌, ◌+◌, ◌*◌, ◌^◌, ◌<◌, ◌≤◌, nat_le, false, List, ℕ, All, Contains, length, vec_capacity, if◌then◌else◌};
+ghost use Rattle.std.specs.Prelude.{◌≡◌, ◌+◌, ◌*◌, ◌^◌, ◌<◌, ◌≤◌, nat_le, false, All, length, vec_capacity, if◌then◌else◌};
 ghost use Rattle.snow_base.specs.Votes.{total_count};
-ghost use Rattle.snow_plain.specs.Conflict.{votes_on};
+ghost use Rattle.snow_plain.specs.Cursors.{votes_at};
 ghost use Rattle.snow_plain.specs.Poll.{counted};
 ghost use Rattle.snow_plain.specs.Preference.{preferred};
-ghost use Rattle.snow_tree.specs.Held.{blocks_in};
+ghost use Rattle.snow_tree.specs.Held.{blocks_in, children_of};
 ghost use Rattle.snow_topo.specs.Kept.{ids_in, IsFit};
 ghost use Rattle.snow_topo.specs.View.{view, AreFit};
+ghost use Rattle.snow_topo.specs.Climbing.{climber_total, cursors_of, HasCome};
 ghost use Rattle.snow_topo.specs.Half.{HasTaken};
 ghost use Rattle.snow_topo.specs.Leading.{IsSteady};
 ghost use Rattle.snow_topo.specs.Recording.{recording};
 
-use crate::climber::{Climber, start_all};
+use crate::climber::Climber;
 use crate::climbing::{climb, either};
 use crate::gathering::gather;
 use crate::load::Load;
+use crate::starting::start_all;
 use crate::visiting::has_quorum;
 use snow_base::{Bag, Steps, Vote};
 use snow_flake::{Params, Rule};
 use snow_tree::Tree;
 use std::sync::ledger::Ledger;
 
-// What is kept of the last accepted block takes the next poll with these votes, where they have
-// AlphaPreference; else it is left alone, and has failed by its number. The answer is whether it leads
+// What is kept of the last accepted block takes the next poll with the votes that came to it, where they
+// are AlphaPreference; else it is left alone, and has failed by its number. The answer is whether it leads
 // elsewhere then.
 fn record_root<R: Rule, L: Ledger>(
     params: &Params,
     root: &mut Load<R>,
+    tree: &Tree<Load<R>>,
     polls: u64,
-    children: &Bag,
+    came: &[Climber],
+    children: &mut Bag,
     steps: &mut Steps<L>,
 ) -> bool
     requires room { polls + 1 < 2 ^ 64 }
-    requires most { total_count (children.now).list ≤ params.now.k }
-    requires fit { (ids : List (List ℕ)) × IsFit params.now polls ids root.old × All (λ v. Contains ids v.id) (children.now).list }
-    ensures taken { HasTaken params.now polls (votes_on (children.now).list) root.old root.new }
+    requires places { length came.now ≤ children.old.room + length children.old.list }
+    requires placed { All (λ c. c.passed < length (tree.now).pending) came.now }
+    requires counts { All (λ c. 0 < c.count) came.now }
+    requires total { climber_total came.now ≤ params.now.k }
+    requires came { All (HasCome (blocks_in (tree.now).pending) (tree.now).last) (cursors_of (blocks_in (tree.now).pending) came.now) }
+    requires fit { IsFit params.now polls (children_of (blocks_in (tree.now).pending) (tree.now).last) root.old }
+    ensures taken { HasTaken params.now polls (votes_at (cursors_of (blocks_in (tree.now).pending) came.now) (tree.now).last) root.old root.new }
     ensures steady { IsSteady R.answer result root.old root.new }
-    ensures steps { steps.new ≤ steps.old + 5 * (if nat_le params.now.alpha_preference (total_count (children.now).list) then length (ids_in (root.old).contest) else 0) }
+    ensures steps { steps.new ≤ steps.old + 5 * (if nat_le params.now.alpha_preference (climber_total came.now) then length (ids_in (root.old).contest) else 0) }
+    ensures places { children.old.room + length children.old.list ≤ children.new.room + length children.new.list }
 {
-    if has_quorum(params, children) {
+    let _k = params.k();
+    if has_quorum(params, came) {
+        gather(tree, came, children);
         root.record(polls, children.entries(), steps)
     } else {
         false
@@ -73,10 +84,9 @@ pub(crate) fn count<R: Rule, L: Ledger>(
     ensures steps { steps.new ≤ steps.old + 5 * recording params.now (tree.old).last (blocks_in (tree.old).pending) votes.now }
 {
     let _k = params.k();
-    let last = tree.last();
+    let _last = tree.last();
     start_all(tree, climbers, votes);
     let moved = climb(params, tree, polls, climbers, children, steps);
-    gather(climbers, &last, children);
-    let first = record_root(params, root, polls, children, steps);
+    let first = record_root(params, root, tree, polls, climbers, children, steps);
     either(first, moved)
 }

@@ -1,21 +1,19 @@
-ghost use Rattle.std.specs.Prelude.{◌≡◌, ℕ, ◌+◌, ◌*◌, ◌^◌, ◌<◌, ◌≤◌, nat_le, [], List, All, Contains, IfSome, reverse, length, slice_get, vec_capacity, if◌then◌else◌};
+ghost use Rattle.std.specs.Prelude.{◌≡◌, ◌+◌, ◌*◌, ◌^◌, ◌<◌, ◌≤◌, nat_le, nat_lt, [], ◌∷◌, List, All, Contains, Some, IfSome, IsPermutation, length, take, drop, slice_get, vec_capacity, if◌then◌else◌};
 ghost use Rattle.snow_base.specs.Votes.{IsInBitOrder, total_count};
 ghost use Rattle.snow_base.specs.declared.vote.Vote.{Vote};
 ghost use Rattle.snow_flake.specs.Parameters.{AreGood};
-ghost use Rattle.snow_plain.specs.Conflict.{votes_on};
-ghost use Rattle.snow_plain.specs.Cursors.{cursor_total, votes_at};
-ghost use Rattle.snow_plain.specs.Grown.{IsGrown};
-ghost use Rattle.snow_tree.specs.Held.{Entry, blocks_in, children_of, with_load};
+ghost use Rattle.snow_plain.specs.Cursors.{votes_at};
+ghost use Rattle.snow_tree.specs.Held.{blocks_in, children_of, with_load};
 ghost use Rattle.snow_topo.specs.Kept.{Kept, ids_in, IsFit};
-ghost use Rattle.snow_topo.specs.Climbing.{cursors_of, ArePlaced, CameBy, merged};
-ghost use Rattle.snow_topo.specs.Half.{AreClimbing, IsHalf, IsRecorded, HasTaken};
+ghost use Rattle.snow_topo.specs.Climbing.{climber_total, cursors_of, passing, merged, ArePlaced, AreRising, HasCome};
+ghost use Rattle.snow_topo.specs.Half.{AreClimbing, IsRecorded, HasTaken};
 ghost use Rattle.snow_topo.specs.Leading.{IsSteady};
 
-use crate::climber::{Climber, reach_of};
-use crate::gathering::gather;
+use crate::climber::{Climber, go_on};
+use crate::gathering::{gather, total};
 use crate::load::Load;
-use crate::merging::merge;
-use snow_base::{Bag, Steps, Vote};
+use crate::rising::first_above;
+use snow_base::{Bag, Header, Steps, Vote};
 use snow_flake::{Params, Rule};
 use snow_tree::Tree;
 use std::sync::ledger::Ledger;
@@ -42,41 +40,74 @@ fn record_at<R: Rule, L: Ledger>(
     }
 }
 
-/// Whether the votes for children have AlphaPreference.
-pub(crate) fn has_quorum(params: &Params, children: &Bag) -> bool
-    ensures value { result ≡ nat_le params.now.alpha_preference (total_count (children.now).list) }
+/// Whether these votes are AlphaPreference.
+pub(crate) fn has_quorum(params: &Params, came: &[Climber]) -> bool
+    requires { climber_total came.now < 2 ^ 32 }
+    ensures value { result ≡ nat_le params.now.alpha_preference (climber_total came.now) }
     ensures good { AreGood params.now }
 {
-    children.total() >= params.alpha_preference()
+    total(came) >= params.alpha_preference()
 }
 
-// What is kept at a place takes the next poll with these votes, where they have AlphaPreference; else it
-// is left alone, and has failed by its number. The answer is whether it leads elsewhere then.
+// What is kept at a place takes the next poll with the votes that came to its block, where they are
+// AlphaPreference; else it is left alone, and has failed by its number. The answer is whether it leads
+// elsewhere then.
 fn record_quorum<R: Rule, L: Ledger>(
     params: &Params,
     tree: &mut Tree<Load<R>>,
     at: usize,
     polls: u64,
-    children: &Bag,
+    came: &[Climber],
+    children: &mut Bag,
     steps: &mut Steps<L>,
 ) -> bool
     requires room { polls + 1 < 2 ^ 64 }
-    requires most { total_count (children.now).list ≤ params.now.k }
+    requires places { length came.now ≤ children.old.room + length children.old.list }
+    requires placed { All (λ c. c.passed < length (tree.old).pending) came.now }
+    requires counts { All (λ c. 0 < c.count) came.now }
+    requires total { climber_total came.now ≤ params.now.k }
+    requires came { IfSome (slice_get (tree.old).pending at) (λ e. All (HasCome (blocks_in (tree.old).pending) e.block.id) (cursors_of (blocks_in (tree.old).pending) came.now)) }
     requires fit { IfSome (slice_get (tree.old).pending at) (λ e. IsFit params.now polls (children_of (blocks_in (tree.old).pending) e.block.id) e.load) }
-    requires given { IfSome (slice_get (tree.old).pending at) (λ e. All (λ v. Contains (children_of (blocks_in (tree.old).pending) e.block.id) v.id) (children.now).list) }
-    ensures taken { IfSome (slice_get (tree.old).pending at) (λ e. (load : Kept) × (tree.new ≡ with_load tree.old at load) × HasTaken params.now polls (votes_on (children.now).list) e.load load × IsSteady R.answer result e.load load) }
-    ensures steps { IfSome (slice_get (tree.old).pending at) (λ e. steps.new ≤ steps.old + 5 * (if nat_le params.now.alpha_preference (total_count (children.now).list) then length (ids_in e.load.contest) else 0)) }
+    ensures taken { IfSome (slice_get (tree.old).pending at) (λ e. (load : Kept) × (tree.new ≡ with_load tree.old at load) × HasTaken params.now polls (votes_at (cursors_of (blocks_in (tree.old).pending) came.now) e.block.id) e.load load × IsSteady R.answer result e.load load) }
+    ensures steps { IfSome (slice_get (tree.old).pending at) (λ e. steps.new ≤ steps.old + 5 * (if nat_le params.now.alpha_preference (climber_total came.now) then length (ids_in e.load.contest) else 0)) }
+    ensures places { children.old.room + length children.old.list ≤ children.new.room + length children.new.list }
 {
-    if has_quorum(params, children) {
+    let _k = params.k();
+    if has_quorum(params, came) {
+        gather(tree, came, children);
         record_at(tree, at, polls, children.entries(), steps)
     } else {
         false
     }
 }
 
-/// The block at a place is visited: what is kept of its children takes the next poll with the votes that
-/// came to it, and these go on to its parent. The answer is whether it leads elsewhere then. It takes no
-/// memory where the bag has places.
+// The votes that came to the block at a place go on to its parent together: those from there on.
+fn pass<R: Rule>(
+    tree: &Tree<Load<R>>,
+    at: usize,
+    block: &Header,
+    climbers: &mut Vec<Climber>,
+    from: usize,
+)
+    requires within { from ≤ length climbers.old.items }
+    requires rising { AreRising climbers.old.items }
+    requires total { climber_total (drop from climbers.old.items) < 2 ^ 32 }
+    requires block { slice_get (blocks_in (tree.now).pending) at ≡ Some block.now }
+    ensures rising { AreRising climbers.new.items }
+    ensures same { let n = climber_total (drop from climbers.old.items) in
+        IsPermutation (if nat_lt 0 n then passing (blocks_in (tree.now).pending) at n ∷ take from climbers.old.items else take from climbers.old.items) climbers.new.items }
+    ensures room { vec_capacity climbers.new ≡ vec_capacity climbers.old }
+{
+    let count = total(&climbers.as_slice()[from..]);
+    climbers.truncate(from);
+    if count > 0 {
+        go_on(tree, climbers, at, &block.parent, count);
+    }
+}
+
+/// The latest block for which votes look is visited: what is kept of its children takes the next poll
+/// with the votes that came to it, and these go on to its parent. The answer is whether it leads
+/// elsewhere then. It takes no memory where the bag has places.
 pub(crate) fn visit<R: Rule, L: Ledger>(
     params: &Params,
     tree: &mut Tree<Load<R>>,
@@ -88,24 +119,26 @@ pub(crate) fn visit<R: Rule, L: Ledger>(
 ) -> bool
     requires room { polls + 1 < 2 ^ 64 }
     requires places { length climbers.old.items ≤ children.old.room + length children.old.list }
-    requires counts { All (λ c. 0 < c.count) (cursors_of climbers.old.items) }
-    requires total { cursor_total (cursors_of climbers.old.items) ≤ params.now.k }
-    requires came { All (CameBy (blocks_in (tree.old).pending)) (cursors_of climbers.old.items) }
+    requires climbing { (votes : List Vote) × AreClimbing params.now votes (blocks_in (tree.old).pending) (at + 1) (cursors_of (blocks_in (tree.old).pending) climbers.old.items) }
+    requires placed { ArePlaced (blocks_in (tree.old).pending) climbers.old.items }
+    requires rising { AreRising climbers.old.items }
     requires fit { IfSome (slice_get (tree.old).pending at) (λ e. IsFit params.now polls (children_of (blocks_in (tree.old).pending) e.block.id) e.load) }
-    ensures taken { IfSome (slice_get (tree.old).pending at) (λ e. (load : Kept) × (tree.new ≡ with_load tree.old at load) × HasTaken params.now polls (votes_at (cursors_of climbers.old.items) e.block.id) e.load load × IsSteady R.answer result e.load load) }
-    ensures steps { IfSome (slice_get (tree.old).pending at) (λ e. steps.new ≤ steps.old + 5 * (if nat_le params.now.alpha_preference (votes_at (cursors_of climbers.old.items) e.block.id []) then length (ids_in e.load.contest) else 0)) }
-    ensures merged { IfSome (slice_get (tree.old).pending at) (λ e. cursors_of climbers.new.items ≡ merged e.block (cursors_of climbers.old.items)) }
-    ensures placed { ArePlaced (blocks_in (tree.old).pending) climbers.old.items → ArePlaced (blocks_in (tree.old).pending) climbers.new.items }
+    ensures taken { IfSome (slice_get (tree.old).pending at) (λ e. (load : Kept) × (tree.new ≡ with_load tree.old at load) × HasTaken params.now polls (votes_at (cursors_of (blocks_in (tree.old).pending) climbers.old.items) e.block.id) e.load load × IsSteady R.answer result e.load load) }
+    ensures steps { IfSome (slice_get (tree.old).pending at) (λ e. steps.new ≤ steps.old + 5 * (if nat_le params.now.alpha_preference (votes_at (cursors_of (blocks_in (tree.old).pending) climbers.old.items) e.block.id []) then length (ids_in e.load.contest) else 0)) }
+    ensures merged { IfSome (slice_get (tree.old).pending at) (λ e. IsPermutation (merged e.block (cursors_of (blocks_in (tree.old).pending) climbers.old.items)) (cursors_of (blocks_in (tree.old).pending) climbers.new.items)) }
+    ensures placed { ArePlaced (blocks_in (tree.old).pending) climbers.new.items }
+    ensures rising { AreRising climbers.new.items }
     ensures places { children.old.room + length children.old.list ≤ children.new.room + length children.new.list }
     ensures room { vec_capacity climbers.new ≡ vec_capacity climbers.old }
 {
     let _k = params.k();
+    let _last = tree.last();
     match tree.block(at) {
         Some(block) => {
-            let place = reach_of(tree, &block.parent);
-            gather(climbers, &block.id, children);
-            let moved = record_quorum(params, tree, at, polls, children, steps);
-            merge(climbers, &block, place);
+            let from = first_above(climbers, at);
+            let (_, came) = climbers.as_slice().split_at(from);
+            let moved = record_quorum(params, tree, at, polls, came, children, steps);
+            pass(tree, at, &block, climbers, from);
             moved
         }
         None => false,

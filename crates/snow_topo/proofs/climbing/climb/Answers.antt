@@ -1,16 +1,19 @@
-use Rattle.std.proofs.Common.{◌≡◌, ◌+◌, ◌*◌, ◌-◌, ◌≤◌, nat_le, Bool, [], drop, if◌then◌else◌, ℕ, List, All, Some, slice_get, length, refl, sym, ap, subst, ◌∙◌, arith}
+use Rattle.std.proofs.Common.{◌≡◌, ◌+◌, ◌*◌, ◌-◌, ◌≤◌, nat_le, Bool, [], drop, if◌then◌else◌, ℕ, List, All, Some, IsPermutation, slice_get, length, refl, sym, ap, subst, ◌∙◌, arith}
 use Rattle.std.proofs.lemmas.Bool.{or_parts}
 use Rattle.std.proofs.lemmas.List.{length-map}
+use Rattle.std.proofs.lemmas.List.Sorted.{All-permutation, IsPermutation-sym, length_permutation}
 use Rattle.snow_topo.specs.declared.climber.Climber.{Climber}
 use Rattle.snow_base.specs.Ancestry.{votes_below}
-use Rattle.snow_tree.specs.Held.{Held, blocks_in, children_of, set_load}
+use Rattle.snow_plain.specs.Cursors.{votes_at}
+use Rattle.snow_tree.specs.Held.{Held, blocks_in, children_of, set_load, with_load}
 use Rattle.snow_topo.specs.Kept.{Kept, ids_in, IsFit}
-use Rattle.snow_topo.specs.Climbing.{cursors_of, ArePlaced, AreBelow, CameBy, merged}
-use Rattle.snow_topo.specs.Half.{AreClimbing, IsHalf}
+use Rattle.snow_topo.specs.Climbing.{reach, cursor_of, cursors_of, ArePlaced, AreBelow, merged}
+use Rattle.snow_topo.specs.Half.{AreClimbing, IsHalf, HasTaken}
 use Rattle.snow_topo.proofs.Merged.{fewer_merged}
-use Rattle.snow_topo.specs.Leading.{all_leads}
+use Rattle.snow_topo.specs.Leading.{all_leads, IsSteady}
 use Rattle.snow_topo.specs.Recording.{recording_at, recording_in}
 use Rattle.snow_topo.proofs.Steady.{leads_set}
+use Rattle.snow_topo.proofs.Begun.{climbing_again}
 use Rattle.snow_topo.proofs.Climbers.{below_places, within_places}
 use Rattle.snow_topo.proofs.Costing.{paid}
 use Rattle.snow_topo.proofs.Climbs.{entry_at, came_here, one_of, all_there, some_of, set_blocks, begun_half, step_half, climbed_past, ended_half, ended_fit}
@@ -22,20 +25,21 @@ loop-top-init g c =
     let bs = blocks_in first in
     let climbers = c.args.climbers.now.items in
     let long = length-map first (λ e. e.block) in
-    let within : c.highest-top.result ≤ length first =
-    c.highest-top.ensures.least (length first)
+    let within : c.top_of-top.result ≤ length first =
+    c.top_of-top.ensures.least (length first)
     (rw c.deref.ensures.value (subst (λ n. All (λ (x : Climber). x.place ≤ n) climbers) long (within_places bs climbers c.requires.placed)))
     in
-    let below : AreBelow bs c.highest-top.result (cursors_of climbers) =
-    below_places bs c.highest-top.result climbers c.requires.placed (subst (λ l. All (λ (x : Climber). x.place ≤ c.highest-top.result) l) c.deref.ensures.value c.highest-top.ensures.all)
+    let below : AreBelow bs c.top_of-top.result (cursors_of bs climbers) =
+    below_places bs c.top_of-top.result climbers c.requires.placed (subst (λ l. All (λ (x : Climber). x.place ≤ c.top_of-top.result) l) c.deref.ensures.value c.top_of-top.ensures.all)
     in
     record {
-      all = λ votes climbing. begun_half c.args.params.now c.args.polls votes c.args.tree.now.last first c.highest-top.result (cursors_of climbers)
+      all = λ votes climbing. begun_half c.args.params.now c.args.polls votes c.args.tree.now.last first c.top_of-top.result (cursors_of bs climbers)
           c.k-k.ensures.good c.last-last.ensures.grown c.requires.fit climbing below within;
       rest = refl;
       blocks = refl;
       within = within;
       placed = c.requires.placed;
+      rising = c.requires.rising;
       short = omega arith;
       places = omega arith;
       room = refl;
@@ -43,15 +47,15 @@ loop-top-init g c =
       steps = λ votes climbing. omega arith;
     }
 
-pub visit-one-requires-clause-counts : goal.visit-one-requires-clause-counts
-visit-one-requires-clause-counts g c = (c.loop-top.invariant.all c.requires.climbing.0 c.requires.climbing.1).1.counts
-
-pub visit-one-requires-clause-total : goal.visit-one-requires-clause-total
-visit-one-requires-clause-total g c = (c.loop-top.invariant.all c.requires.climbing.0 c.requires.climbing.1).1.total
-
-pub visit-one-requires-clause-came : goal.visit-one-requires-clause-came
-visit-one-requires-clause-came g c =
-    subst (λ bs. All (CameBy bs) (cursors_of c.loop-top.climbers.items)) (sym c.loop-top.invariant.blocks) (c.loop-top.invariant.all c.requires.climbing.0 c.requires.climbing.1).1.came
+pub visit-one-requires-clause-climbing : goal.visit-one-requires-clause-climbing
+visit-one-requires-clause-climbing g c =
+    let votes = c.requires.climbing.0 in
+    let above : c.loop-top.top ≡ c.loop-top.top - 1 + 1 = omega (arith, c.loop-top-test.true) in (
+      votes,
+      subst (λ bs. AreClimbing c.args.params.now votes bs (c.loop-top.top - 1 + 1) (cursors_of bs c.loop-top.climbers.items)) (sym c.loop-top.invariant.blocks)
+          (subst (λ n. AreClimbing c.args.params.now votes (blocks_in c.args.tree.now.pending) n (cursors_of (blocks_in c.args.tree.now.pending) c.loop-top.climbers.items)) above
+          (c.loop-top.invariant.all votes c.requires.climbing.1).1),
+    )
 
 pub visit-one-requires-clause-fit : goal.visit-one-requires-clause-fit
 visit-one-requires-clause-fit g c =
@@ -67,7 +71,7 @@ loop-top-preserved g c =
     let last = c.args.tree.now.last in
     let first = c.args.tree.now.pending in
     let now = c.loop-top.tree.pending in
-    let cs = (cursors_of c.loop-top.climbers.items) in
+    let cs = cursors_of (blocks_in first) c.loop-top.climbers.items in
     let at = c.loop-top.top - 1 in
     let m = c.lower-top.result in
     let inv = c.loop-top.invariant in
@@ -76,21 +80,27 @@ loop-top-preserved g c =
     let found = entry_at first at (omega (arith, c.loop-top-test.true, inv.within)) in
     let e = found.0 in
     let seen : slice_get now at ≡ Some e = known.0.low at (omega (arith, c.loop-top-test.true)) ∙ found.1 in
-    let took = some_of (slice_get now at) _ e seen c.visit-one.ensures.taken in
-    let gone : (cursors_of c.visit-one.new.climbers.items) ≡ merged e.block cs = some_of (slice_get now at) _ e seen c.visit-one.ensures.merged in
+    let climbers = c.loop-top.climbers.items in
+    let later = c.visit-one.new.climbers.items in
+    let took = subst (λ bs. (load : Kept) × (c.visit-one.new.tree ≡ with_load c.loop-top.tree at load) × HasTaken p polls (votes_at (cursors_of bs climbers) e.block.id) e.load load × IsSteady g.R.Rule.answer c.visit-one.result e.load load) inv.blocks
+    (some_of (slice_get now at) _ e seen c.visit-one.ensures.taken)
+    in
+    let same : IsPermutation (merged e.block cs) (cursors_of (blocks_in first) later) =
+    subst (λ bs. IsPermutation (merged e.block (cursors_of bs climbers)) (cursors_of bs later)) inv.blocks
+    (some_of (slice_get now at) _ e seen c.visit-one.ensures.merged)
+    in
     let load = took.0 in
     let pending : c.visit-one.new.tree.pending ≡ set_load now at load = ap (λ (t : Held Kept). t.pending) took.1 in
     let blocks : blocks_in c.visit-one.new.tree.pending ≡ blocks_in first = ap blocks_in pending ∙ set_blocks now at load ∙ inv.blocks in
     let past : AreBelow (blocks_in first) at (merged e.block cs) =
     climbed_past p c.requires.climbing.0 last first at e cs c.last-last.ensures.grown found.1 (subst (λ n. AreClimbing p c.requires.climbing.0 (blocks_in first) n cs) above known.1)
     in
-    let placed : ArePlaced (blocks_in first) c.visit-one.new.climbers.items =
-    subst (λ bs. ArePlaced bs c.visit-one.new.climbers.items) inv.blocks (c.visit-one.ensures.placed (subst (λ bs. ArePlaced bs c.loop-top.climbers.items) (sym inv.blocks) inv.placed))
-    in
-    let high : AreBelow (blocks_in first) c.highest.result (merged e.block cs) =
-    subst (AreBelow (blocks_in first) c.highest.result) gone
-    (below_places (blocks_in first) c.highest.result c.visit-one.new.climbers.items placed
-    (subst (λ l. All (λ (x : Climber). x.place ≤ c.highest.result) l) c.deref-in-loop-top.ensures.value c.highest.ensures.all))
+    let placed : ArePlaced (blocks_in first) later = subst (λ bs. ArePlaced bs later) inv.blocks c.visit-one.ensures.placed in
+    let high : AreBelow (blocks_in first) c.top_of.result (merged e.block cs) =
+    All-permutation (λ x. reach (blocks_in first) x.sought ≤ c.top_of.result) (cursors_of (blocks_in first) later) (merged e.block cs)
+    (IsPermutation-sym (merged e.block cs) (cursors_of (blocks_in first) later) same)
+    (below_places (blocks_in first) c.top_of.result later placed
+    (subst (λ l. All (λ (x : Climber). x.place ≤ c.top_of.result) l) c.deref-in-loop-top.ensures.value c.top_of.ensures.all))
     in
     let below : AreBelow (blocks_in first) m (merged e.block cs) = λ k d l. c.lower-top.ensures.greatest _ (high k d l) (past k d l) in
     record {
@@ -100,13 +110,14 @@ loop-top-preserved g c =
           (subst (IsHalf p polls votes first now) above s.0) (subst (λ n. AreClimbing p votes (blocks_in first) n cs) above s.1) found.1 took.2 below c.lower-top.ensures.second
           in (
             subst (λ l. IsHalf p polls votes first l m) (sym pending) r.0,
-            subst (AreClimbing p votes (blocks_in first) m) (sym gone) r.1,
+            climbing_again p votes (blocks_in first) m (merged e.block cs) (cursors_of (blocks_in first) later) same r.1,
           );
       rest = took.1 ∙ ap (λ (t : Held Kept). record t { pending = set_load now at load }) inv.rest ∙ ap (λ l. record c.args.tree.now { pending = l }) (sym pending);
       blocks = blocks;
       within = omega (arith, c.lower-top.ensures.second, inv.within);
-      short = omega (arith, ap length gone, fewer_merged e.block cs, inv.short, length-map c.visit-one.new.climbers.items (λ x. x.cursor), length-map c.loop-top.climbers.items (λ x. x.cursor));
+      short = omega (arith, length_permutation (merged e.block cs) (cursors_of (blocks_in first) later) same, fewer_merged e.block cs, inv.short, length-map later (cursor_of (blocks_in first)), length-map climbers (cursor_of (blocks_in first)));
       placed = placed;
+      rising = c.visit-one.ensures.rising;
       places = omega (arith, c.visit-one.ensures.places, inv.places);
       room = c.visit-one.ensures.room ∙ inv.room;
       steady = λ s.
@@ -119,7 +130,8 @@ loop-top-preserved g c =
           let own : c.visit-one.new.steps ≤ c.loop-top.steps + 5 * recording_at p (blocks_in first) votes e.block.id =
           subst (λ (l : List (List ℕ)). c.visit-one.new.steps ≤ c.loop-top.steps + 5 * (if nat_le p.alpha_preference (votes_below (blocks_in first) votes e.block.id []) then length l else 0)) fit.ids
           (subst (λ (f : List Bool → ℕ). c.visit-one.new.steps ≤ c.loop-top.steps + 5 * (if nat_le p.alpha_preference (f []) then length (ids_in e.load.contest) else 0)) came
-          (some_of (slice_get now at) _ e seen c.visit-one.ensures.steps))
+          (subst (λ bs. c.visit-one.new.steps ≤ c.loop-top.steps + 5 * (if nat_le p.alpha_preference (votes_at (cursors_of bs climbers) e.block.id []) then length (ids_in e.load.contest) else 0)) inv.blocks
+          (some_of (slice_get now at) _ e seen c.visit-one.ensures.steps)))
           in
           let before : c.loop-top.steps ≤ c.args.steps.now + 5 * recording_in p (blocks_in first) votes (drop (at + 1) (blocks_in first)) =
           subst (λ n. c.loop-top.steps ≤ c.args.steps.now + 5 * recording_in p (blocks_in first) votes (drop n (blocks_in first))) above (inv.steps votes climbing)
@@ -139,7 +151,7 @@ pub returns-clause-climbing : goal.returns-clause-climbing
 returns-clause-climbing g c =
     λ votes climbing.
     let zero_left : c.loop-top.top ≡ 0 = omega (arith, c.loop-top-test.false) in
-    subst (λ n. AreClimbing c.args.params.now votes (blocks_in c.args.tree.now.pending) n (cursors_of c.loop-top.climbers.items)) zero_left (c.loop-top.invariant.all votes climbing).1
+    subst (λ n. AreClimbing c.args.params.now votes (blocks_in c.args.tree.now.pending) n (cursors_of (blocks_in c.args.tree.now.pending) c.loop-top.climbers.items)) zero_left (c.loop-top.invariant.all votes climbing).1
 
 pub returns-clause-fit : goal.returns-clause-fit
 returns-clause-fit g c =

@@ -1,7 +1,7 @@
 use Rattle.std.proofs.Common.{◌≡◌, ◌+◌, ◌*◌, ◌≤◌, false, List, drop, length, vec_capacity}
 use Rattle.snow_base.specs.declared.vote.Vote.{Vote}
 use Rattle.snow_tree.specs.Held.{blocks_in}
-use Rattle.snow_topo.specs.Climbing.{cursors_of, ArePlaced}
+use Rattle.snow_topo.specs.Climbing.{cursors_of, ArePlaced, AreRising}
 use Rattle.snow_topo.specs.Half.{AreClimbing, IsHalf}
 use Rattle.snow_topo.specs.Leading.{all_leads}
 use Rattle.snow_topo.specs.Recording.{recording_in}
@@ -9,8 +9,8 @@ use Rattle.snow_topo.proofs.climbing.climb.Given as goal
 
 abbrev pub invariant-loop-top : goal.invariant-loop-top
 invariant-loop-top g l = record {
-  all : (votes : List Vote) → AreClimbing l.params votes (blocks_in l.fn.tree.pending) (length l.fn.tree.pending) (cursors_of l.fn.climbers.items)
-      → IsHalf l.params l.polls votes l.fn.tree.pending l.tree.pending l.top × AreClimbing l.params votes (blocks_in l.fn.tree.pending) l.top (cursors_of l.climbers.items);
+  all : (votes : List Vote) → AreClimbing l.params votes (blocks_in l.fn.tree.pending) (length l.fn.tree.pending) (cursors_of (blocks_in l.fn.tree.pending) l.fn.climbers.items)
+      → IsHalf l.params l.polls votes l.fn.tree.pending l.tree.pending l.top × AreClimbing l.params votes (blocks_in l.fn.tree.pending) l.top (cursors_of (blocks_in l.fn.tree.pending) l.climbers.items);
   rest : l.tree ≡ record l.fn.tree { pending = l.tree.pending };
   blocks : blocks_in l.tree.pending ≡ blocks_in l.fn.tree.pending;
   within : l.top ≤ length l.fn.tree.pending;
@@ -18,8 +18,9 @@ invariant-loop-top g l = record {
   places : l.fn.children.room + length l.fn.children.list ≤ l.children.room + length l.children.list;
   room : vec_capacity l.climbers ≡ vec_capacity l.fn.climbers;
   placed : ArePlaced (blocks_in l.fn.tree.pending) l.climbers.items;
+  rising : AreRising l.climbers.items;
   steady : l.moved ≡ false → all_leads g.R.Rule.answer l.tree.pending ≡ all_leads g.R.Rule.answer l.fn.tree.pending;
-  steps : (votes : List Vote) → AreClimbing l.params votes (blocks_in l.fn.tree.pending) (length l.fn.tree.pending) (cursors_of l.fn.climbers.items)
+  steps : (votes : List Vote) → AreClimbing l.params votes (blocks_in l.fn.tree.pending) (length l.fn.tree.pending) (cursors_of (blocks_in l.fn.tree.pending) l.fn.climbers.items)
       → l.steps ≤ l.fn.steps + 5 * recording_in l.params (blocks_in l.fn.tree.pending) votes (drop l.top (blocks_in l.fn.tree.pending));
 }
 

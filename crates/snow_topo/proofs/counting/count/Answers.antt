@@ -1,84 +1,98 @@
-use Rattle.std.proofs.Common.{◌≡◌, ◌+◌, ◌*◌, ◌≤◌, ℕ, nat_le, [], List, length, sym, ap, subst, ◌∙◌, arith, if◌then◌else◌}
+use Rattle.std.proofs.Common.{◌≡◌, ◌+◌, ◌*◌, ◌<◌, ◌≤◌, ℕ, nat_le, [], List, All, length, sym, ap, subst, ◌∙◌, arith, if◌then◌else◌}
 use Rattle.std.proofs.lemmas.Bool.{or_parts}
 use Rattle.std.proofs.lemmas.List.{length-map}
+use Rattle.std.proofs.lemmas.List.Sorted.{length_permutation}
 use Rattle.snow_base.specs.Ancestry.{votes_below}
-use Rattle.snow_base.specs.Votes.{total_count}
 use Rattle.snow_plain.specs.Conflict.{all_polled}
-use Rattle.snow_plain.specs.Cursors.{votes_at, cursor_total}
+use Rattle.snow_plain.specs.Cursors.{votes_at}
 use Rattle.snow_tree.specs.Held.{Held, blocks_in, children_of}
 use Rattle.snow_topo.specs.Kept.{ids_in, shown, IsFit}
 use Rattle.snow_topo.specs.Recording.{recording_at}
-use Rattle.snow_topo.specs.Climbing.{cursors_of, started_at, ArePlaced}
-use Rattle.snow_topo.proofs.Climbers.{started_cursors, started_placed}
-use Rattle.snow_topo.proofs.Counted.{begun_at, came_last, came_among, counted_view}
+use Rattle.snow_topo.specs.Climbing.{climber_total, cursors_of, cursor_of, HasCome}
+use Rattle.snow_topo.proofs.Begun.{begun_at, begun_few, placed_at, no_block}
+use Rattle.snow_topo.proofs.Climbers.{all_back, same_total, have_come_last}
+use Rattle.snow_topo.proofs.Counted.{came_last, counted_view}
+use Rattle.snow_topo.proofs.Merged.{all_came}
 use Rattle.snow_topo.proofs.Steady.{preferred_same}
-use Rattle.snow_topo.proofs.Costing.{on_all}
 use Rattle.snow_topo.proofs.counting.count.Goals as goal
 
 pub climb-moved-requires-clause-places : goal.climb-moved-requires-clause-places
-climb-moved-requires-clause-places g c = omega (arith, c.requires.places, ap length c.start_all.ensures.climbers, length-map c.args.votes.now (started_at (blocks_in c.args.tree.now.pending)))
+climb-moved-requires-clause-places g c =
+    omega (arith, c.requires.places, length_permutation _ _ c.start_all.ensures.same, begun_few c.args.tree.now.pending c.args.votes.now)
 
 pub climb-moved-requires-clause-climbing : goal.climb-moved-requires-clause-climbing
 climb-moved-requires-clause-climbing g c = (
   c.args.votes.now,
-  begun_at c.args.params.now c.args.votes.now c.args.tree.now.last c.args.tree.now.pending (cursors_of c.start_all.new.climbers.items) c.last-last.ensures.grown (ap cursors_of c.start_all.ensures.climbers ∙ started_cursors (blocks_in c.args.tree.now.pending) c.args.votes.now) c.requires.counts
-      c.requires.total,
+  begun_at c.args.params.now c.args.votes.now c.args.tree.now.last c.args.tree.now.pending c.start_all.new.climbers.items c.last-last.ensures.grown c.start_all.ensures.same c.requires.counts c.requires.total,
 )
 
 pub climb-moved-requires-clause-placed : goal.climb-moved-requires-clause-placed
-climb-moved-requires-clause-placed g c =
-    subst (ArePlaced (blocks_in c.args.tree.now.pending)) (sym c.start_all.ensures.climbers) (started_placed (blocks_in c.args.tree.now.pending) c.args.votes.now)
+climb-moved-requires-clause-placed g c = placed_at c.args.tree.now.pending c.args.votes.now c.start_all.new.climbers.items c.start_all.ensures.same
 
-pub gather-requires-clause-places : goal.gather-requires-clause-places
-gather-requires-clause-places g c =
-    omega (arith, c.requires.places, ap length c.start_all.ensures.climbers, length-map c.args.votes.now (started_at (blocks_in c.args.tree.now.pending)), c.climb-moved.ensures.short, c.climb-moved.ensures.places)
+pub record_root-first-requires-clause-places : goal.record_root-first-requires-clause-places
+record_root-first-requires-clause-places g c =
+    omega (
+      arith,
+      c.requires.places,
+      length_permutation _ _ c.start_all.ensures.same,
+      begun_few c.args.tree.now.pending c.args.votes.now,
+      c.climb-moved.ensures.short,
+      c.climb-moved.ensures.places,
+      ap length c.deref.ensures.value,
+    )
 
-pub gather-requires-clause-counts : goal.gather-requires-clause-counts
-gather-requires-clause-counts g c =
-    let begun = begun_at c.args.params.now c.args.votes.now c.args.tree.now.last c.args.tree.now.pending (cursors_of c.start_all.new.climbers.items) c.last-last.ensures.grown (ap cursors_of c.start_all.ensures.climbers ∙ started_cursors (blocks_in c.args.tree.now.pending) c.args.votes.now)
-    c.requires.counts c.requires.total
-    in
-    rw c.deref.ensures.value (c.climb-moved.ensures.climbing c.args.votes.now begun).counts
+pub record_root-first-requires-clause-placed : goal.record_root-first-requires-clause-placed
+record_root-first-requires-clause-placed g c =
+    let long = ap length c.climb-moved.ensures.blocks in
+    rw c.deref.ensures.value
+    (λ k d h. omega (arith, (c.climb-moved.ensures.placed k d h).0, long, length-map c.climb-moved.new.tree.pending (λ e. e.block)))
 
-pub gather-requires-clause-total : goal.gather-requires-clause-total
-gather-requires-clause-total g c =
-    let begun = begun_at c.args.params.now c.args.votes.now c.args.tree.now.last c.args.tree.now.pending (cursors_of c.start_all.new.climbers.items) c.last-last.ensures.grown (ap cursors_of c.start_all.ensures.climbers ∙ started_cursors (blocks_in c.args.tree.now.pending) c.args.votes.now)
-    c.requires.counts c.requires.total
-    in
-    omega (arith, (c.climb-moved.ensures.climbing c.args.votes.now begun).total, ap (λ l. cursor_total (cursors_of l)) c.deref.ensures.value, c.k-k.ensures.good.k_small)
+pub record_root-first-requires-clause-counts : goal.record_root-first-requires-clause-counts
+record_root-first-requires-clause-counts g c =
+    let bs = blocks_in c.args.tree.now.pending in
+    let begun = begun_at c.args.params.now c.args.votes.now c.args.tree.now.last c.args.tree.now.pending c.start_all.new.climbers.items c.last-last.ensures.grown c.start_all.ensures.same c.requires.counts c.requires.total in
+    rw c.deref.ensures.value (all_back (λ c. 0 < c.count) (cursor_of bs) c.climb-moved.new.climbers.items (c.climb-moved.ensures.climbing c.args.votes.now begun).counts)
 
-pub record_root-first-requires-clause-most : goal.record_root-first-requires-clause-most
-record_root-first-requires-clause-most g c =
-    let begun = begun_at c.args.params.now c.args.votes.now c.args.tree.now.last c.args.tree.now.pending (cursors_of c.start_all.new.climbers.items) c.last-last.ensures.grown (ap cursors_of c.start_all.ensures.climbers ∙ started_cursors (blocks_in c.args.tree.now.pending) c.args.votes.now)
-    c.requires.counts c.requires.total
-    in
-    omega (arith, (c.climb-moved.ensures.climbing c.args.votes.now begun).total, ap (λ l. cursor_total (cursors_of l)) c.deref.ensures.value, c.gather.ensures.total)
+pub record_root-first-requires-clause-total : goal.record_root-first-requires-clause-total
+record_root-first-requires-clause-total g c =
+    let bs = blocks_in c.args.tree.now.pending in
+    let begun = begun_at c.args.params.now c.args.votes.now c.args.tree.now.last c.args.tree.now.pending c.start_all.new.climbers.items c.last-last.ensures.grown c.start_all.ensures.same c.requires.counts c.requires.total in
+    rw c.deref.ensures.value (omega (arith, (c.climb-moved.ensures.climbing c.args.votes.now begun).total, same_total bs c.climb-moved.new.climbers.items))
+
+pub record_root-first-requires-clause-came : goal.record_root-first-requires-clause-came
+record_root-first-requires-clause-came g c =
+    let held = c.args.tree.now in
+    let next = c.climb-moved.new.tree in
+    let cs = c.climb-moved.new.climbers.items in
+    let begun = begun_at c.args.params.now c.args.votes.now held.last held.pending c.start_all.new.climbers.items c.last-last.ensures.grown c.start_all.ensures.same c.requires.counts c.requires.total in
+    let climbing = c.climb-moved.ensures.climbing c.args.votes.now begun in
+    let come = have_come_last held.last (blocks_in held.pending) no_block cs c.last-last.ensures.grown climbing.below climbing.came c.climb-moved.ensures.placed in
+    rw c.deref.ensures.value
+    (subst (λ bs. All (HasCome bs next.last) (cursors_of bs cs)) (sym c.climb-moved.ensures.blocks)
+    (subst (λ id. All (HasCome (blocks_in held.pending) id) (cursors_of (blocks_in held.pending) cs)) (sym (ap (λ (t : Held _). t.last) c.climb-moved.ensures.rest)) come))
 
 pub record_root-first-requires-clause-fit : goal.record_root-first-requires-clause-fit
 record_root-first-requires-clause-fit g c =
-    let begun = begun_at c.args.params.now c.args.votes.now c.args.tree.now.last c.args.tree.now.pending (cursors_of c.start_all.new.climbers.items) c.last-last.ensures.grown (ap cursors_of c.start_all.ensures.climbers ∙ started_cursors (blocks_in c.args.tree.now.pending) c.args.votes.now)
-    c.requires.counts c.requires.total
-    in
-    let bs = blocks_in c.args.tree.now.pending in
-    let last = c.last-last.result in (
-      children_of bs last,
-      subst (λ id. IsFit c.args.params.now c.args.polls (children_of bs id) c.args.root.now) (sym c.last-last.ensures.last) c.requires.fit.root,
-      c.gather.ensures.among (children_of bs last) (rw c.deref.ensures.value (came_among last bs (cursors_of c.climb-moved.new.climbers.items) (c.climb-moved.ensures.climbing c.args.votes.now begun).came)),
-    )
+    let held = c.args.tree.now in
+    let next = c.climb-moved.new.tree in
+    subst (λ bs. IsFit c.args.params.now c.args.polls (children_of bs next.last) c.args.root.now) (sym c.climb-moved.ensures.blocks)
+    (subst (λ id. IsFit c.args.params.now c.args.polls (children_of (blocks_in held.pending) id) c.args.root.now) (sym (ap (λ (t : Held _). t.last) c.climb-moved.ensures.rest)) c.requires.fit.root)
 
 pub returns-clause-board : goal.returns-clause-board
 returns-clause-board g c =
-    let begun = begun_at c.args.params.now c.args.votes.now c.args.tree.now.last c.args.tree.now.pending (cursors_of c.start_all.new.climbers.items) c.last-last.ensures.grown (ap cursors_of c.start_all.ensures.climbers ∙ started_cursors (blocks_in c.args.tree.now.pending) c.args.votes.now)
-    c.requires.counts c.requires.total
-    in
     let p = c.args.params.now in
     let votes = c.args.votes.now in
     let held = c.args.tree.now in
+    let next = c.climb-moved.new.tree in
     let bs = blocks_in held.pending in
-    let cs = (cursors_of c.climb-moved.new.climbers.items) in
+    let climbers = c.climb-moved.new.climbers.items in
+    let begun = begun_at p votes held.last held.pending c.start_all.new.climbers.items c.last-last.ensures.grown c.start_all.ensures.same c.requires.counts c.requires.total in
     let took = c.record_root-first.ensures.taken (children_of bs held.last) c.requires.fit.root in
-    let came = c.gather.ensures.votes ∙ ap (λ l. votes_at (cursors_of l) c.last-last.result) c.deref.ensures.value ∙ ap (votes_at cs) c.last-last.ensures.last ∙ came_last p votes held.last bs cs c.last-last.ensures.grown (c.climb-moved.ensures.climbing votes begun) in
-    counted_view p c.args.polls c.args.root.now c.record_root-first.new.root held c.climb-moved.new.tree votes c.climb-moved.ensures.rest
+    let here : votes_at (cursors_of (blocks_in next.pending) c.deref.result.now) next.last ≡ votes_at (cursors_of bs climbers) held.last =
+    λ i. votes_at (cursors_of (c.climb-moved.ensures.blocks i) (c.deref.ensures.value i)) (c.climb-moved.ensures.rest i).last
+    in
+    let came = here ∙ came_last p votes held.last bs (cursors_of bs climbers) c.last-last.ensures.grown (c.climb-moved.ensures.climbing votes begun) in
+    counted_view p c.args.polls c.args.root.now c.record_root-first.new.root held next votes c.climb-moved.ensures.rest
     (took.0 ∙ ap (λ f. all_polled p f (shown p c.args.polls c.args.root.now)) came) (c.climb-moved.ensures.pending votes begun)
 
 pub returns-clause-fit : goal.returns-clause-fit
@@ -105,16 +119,19 @@ returns-clause-steady g c =
 
 pub returns-clause-steps : goal.returns-clause-steps
 returns-clause-steps g c =
-    let begun = begun_at c.args.params.now c.args.votes.now c.args.tree.now.last c.args.tree.now.pending (cursors_of c.start_all.new.climbers.items) c.last-last.ensures.grown (ap cursors_of c.start_all.ensures.climbers ∙ started_cursors (blocks_in c.args.tree.now.pending) c.args.votes.now)
-    c.requires.counts c.requires.total
-    in
     let p = c.args.params.now in
     let votes = c.args.votes.now in
     let held = c.args.tree.now in
     let bs = blocks_in held.pending in
-    let cs = (cursors_of c.climb-moved.new.climbers.items) in
-    let came = c.gather.ensures.votes ∙ ap (λ l. votes_at (cursors_of l) c.last-last.result) c.deref.ensures.value ∙ ap (votes_at cs) c.last-last.ensures.last ∙ came_last p votes held.last bs cs c.last-last.ensures.grown (c.climb-moved.ensures.climbing votes begun) in
-    let total : total_count c.gather.new.children.list ≡ votes_below bs votes held.last [] = sym (on_all c.gather.new.children.list) ∙ ap (λ f. f []) came in
+    let climbers = c.climb-moved.new.climbers.items in
+    let cs = cursors_of bs climbers in
+    let begun = begun_at p votes held.last held.pending c.start_all.new.climbers.items c.last-last.ensures.grown c.start_all.ensures.same c.requires.counts c.requires.total in
+    let climbing = c.climb-moved.ensures.climbing votes begun in
+    let come = have_come_last held.last bs no_block climbers c.last-last.ensures.grown climbing.below climbing.came c.climb-moved.ensures.placed in
+    let came = came_last p votes held.last bs cs c.last-last.ensures.grown climbing in
+    let total : climber_total c.deref.result.now ≡ votes_below bs votes held.last [] =
+    ap climber_total c.deref.ensures.value ∙ sym (same_total bs climbers) ∙ sym (all_came bs held.last cs come) ∙ ap (λ f. f []) came
+    in
     let own : c.record_root-first.new.steps ≤ c.climb-moved.new.steps + 5 * recording_at p bs votes held.last =
     subst (λ (l : List (List ℕ)). c.record_root-first.new.steps ≤ c.climb-moved.new.steps + 5 * (if nat_le p.alpha_preference (votes_below bs votes held.last []) then length l else 0)) c.requires.fit.root.ids
     (subst (λ n. c.record_root-first.new.steps ≤ c.climb-moved.new.steps + 5 * (if nat_le p.alpha_preference n then length (ids_in c.args.root.now.contest) else 0)) total c.record_root-first.ensures.steps)
