@@ -1,4 +1,4 @@
-ghost use Rattle.std.specs.Prelude.{◌≡◌, ◌≤◌, ℕ, List, ◌∷◌, ◌++◌, length, flat_map, decimal, OnOk, OnErr};
+ghost use Rattle.std.specs.Prelude.{◌≡◌, ◌<◌, ◌≤◌, ℕ, List, ◌∷◌, ◌++◌, length, flat_map, decimal, OnOk, OnErr};
 ghost use Rattle.hex.specs.Hex.{encode_lower};
 ghost use Rattle.snow_base.specs.Outside.{AppendsFront, HasCause};
 ghost use Rattle.snow_lines.specs.Gathered.{Gathers};
@@ -88,12 +88,7 @@ struct Times(u32);
 impl Part for Times {
     ghost text = { λ times. 42 ∷ decimal times.0 };
 
-    // Most nodes are drawn a few times: then the one digit is a sum.
-    #[tactic(auto, using(std::proofs::lemmas::Fmt::decimal_digit))]
     fn put_into<G: Gather, K: Sink>(&self, out: &mut G, sink: &mut K) -> Result<(), Failed> {
-        if self.0 < 10 {
-            return out.put(&[b'*', b'0' + self.0 as u8], sink);
-        }
         let mut buffer = [0; 21];
         out.put(marked(b'*', u64::from(self.0), &mut buffer), sink)
     }
@@ -122,9 +117,24 @@ impl Part for NodeId {
 impl Part for Draw {
     ghost text = { λ draw. spaced (draw_word draw) };
 
+    // Most nodes are drawn a few times: then the whole word is one piece.
     fn put_into<G: Gather, K: Sink>(&self, out: &mut G, sink: &mut K) -> Result<(), Failed> {
+        if self.count < 10 {
+            return out.put(&short_word(self), sink);
+        }
         put_two(out, &self.node, &Times(self.count), sink)
     }
+}
+
+/// The word of a draw whose count has one digit, behind a space.
+fn short_word(draw: &Draw) -> [u8; 43]
+    requires { draw.now.count < 10 }
+    ensures { result ≡ spaced (draw_word draw.now) }
+{
+    let mut word = *b" 0000000000000000000000000000000000000000*0";
+    word[42] = b'0' + draw.count as u8;
+    write_hex(draw.node.as_bytes(), &mut word[1..41]);
+    word
 }
 
 impl Part for Bytes {

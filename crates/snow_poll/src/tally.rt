@@ -6,6 +6,9 @@ ghost use Rattle.snow_poll.specs.Kept.{count_of};
 use crate::reply::Reply;
 use snow_base::{Bag, Id, Vote};
 
+// So few identifiers have their counts looked at sooner than one of them is found.
+const FEW: usize = 8;
+
 // Gives votes, for which there is room, to what a reply names, and answers the most that one
 // identifier has then. Before, one has `most`.
 #[tactic(auto, using(crate::proofs::Counting::most_added))]
@@ -23,6 +26,9 @@ pub(crate) fn give(votes: &mut Bag, most: u32, reply: &Reply, times: u32) -> u32
     };
     let added: Result<_, _> = votes.add(id, times);
     let _ = added.unwrap();
+    if votes.entries().len() <= FEW {
+        return votes.most();
+    }
     most.max(count(votes.entries(), &id))
 }
 
