@@ -10,13 +10,13 @@ use Rattle.snow_issue.specs.Lists.{has_number, with_get}
 use Rattle.snow_sample.specs.declared.roster.Node.{Node}
 use Rattle.snow_lines.specs.declared.line.Line.{Line}
 use Rattle.snow_lines.specs.declared.line.Line.TheVariants as line
-use Rattle.snow_boot.specs.declared.stop.BootStop.{BootStop}
-use Rattle.snow_boot.specs.declared.stop.BootStop.TheVariants as stop
+use Rattle.snow_store.specs.declared.stop.BootStop.{BootStop}
+use Rattle.snow_store.specs.declared.stop.BootStop.TheVariants as stop
 use Rattle.snow_boot.specs.Asking.{Asked, asked_node, asked_with, asked_one, and_asked, asked}
 use Rattle.snow_boot.specs.Calling.{AreDrawn}
-use Rattle.snow_boot.specs.Paths.{Fetch, missed}
+use Rattle.snow_store.specs.Paths.{Fetch, missed}
 use Rattle.snow_boot.specs.Requesting.{Asks}
-use Rattle.snow_boot.proofs.Cases.{split_on, same_some, not_none}
+use Rattle.snow_store.proofs.Cases.{split_on, same_some, not_none}
 use Rattle.snow_boot.proofs.Underway.{IsUnderway, goes_on, stops_here, runs_out}
 
 -- a number that comes behind all that were drawn is none of an open request

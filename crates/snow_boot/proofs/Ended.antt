@@ -1,17 +1,21 @@
 -- Where bootstrapping ends: exactly the path of the highest kept target was executed.
-use Rattle.std.proofs.Common.{◌≡◌, ℕ, Bool, true, false, List, [], ◌∷◌, ◌++◌, if◌then◌else◌, refl, ap}
-use Rattle.std.specs.Prelude.{Ok, Err}
+use Rattle.std.proofs.Common.{◌≡◌, ℕ, Bool, true, false, List, [], ◌∷◌, ◌++◌, if◌then◌else◌, inr, refl, ap, ◌∙◌}
+use Rattle.std.specs.Prelude.{Result, Ok, Err}
 use Rattle.snow_chain.specs.Chain.{Rules}
+use Rattle.snow_lines.specs.declared.line.Line.{Line}
 use Rattle.snow_lines.specs.declared.line.Line.TheVariants as line
+use Rattle.snow_store.specs.declared.stop.BootStop.{BootStop}
+use Rattle.snow_store.specs.declared.stop.BootStop.TheVariants as stop
 use Rattle.snow_boot.specs.declared.question.Question.{Question}
 use Rattle.snow_boot.specs.declared.question.Question.TheVariants as question
 use Rattle.snow_boot.specs.Asking.{Asked, asked}
 use Rattle.snow_boot.specs.Executing.{Executed, executed}
-use Rattle.snow_boot.specs.Paths.{is_whole, highest_target}
-use Rattle.snow_boot.specs.Booting.{Boot, fetch_of, with_requests, ended, finished, height_or, followed_by, followed}
+use Rattle.snow_store.specs.Paths.{is_whole, highest_target}
+use Rattle.snow_boot.specs.Booting.{Boot, Next, Outcome, fetch_of, with_requests, ended, finished, height_or, followed_by, followed}
 use Rattle.snow_boot.specs.OutcomeLaw.{IsExecution, whole_path_of, IsEnd}
+use Rattle.snow_boot.specs.Promising.{AcceptsBelow}
 use Rattle.snow_boot.proofs.Executed.{in_order}
-use Rattle.snow_boot.proofs.Cases.{clash}
+use Rattle.snow_store.proofs.Cases.{clash}
 
 -- the path is executed
 end_of_path : (boot : Boot) (e : Executed) → is_whole (fetch_of boot) ≡ true → IsExecution boot.store.last (whole_path_of boot) e
@@ -38,3 +42,14 @@ end_by rules state boot drawn question.Accepted = tt
 pub end_followed : (rules : Rules) (state : List ℕ) (boot : Boot) (drawn : ℕ) → IsEnd boot (followed rules state boot drawn)
 unfolding followed
 end_followed rules state boot drawn = end_by rules state boot drawn boot.question
+
+same_refused : (a b : List ℕ) (why : BootStop) → why ≡ stop.Refused a → (let r : Result Next BootStop = Err why in r) ≡ Err (stop.Refused b) → a ≡ b
+same_refused a b why is e = cc
+
+-- where a block of the path is refused, those below it were accepted
+pub refused_there : (o : Outcome) (boot : Boot) (before after : List Line) (id : List ℕ) → IsEnd boot o → is_whole (fetch_of boot) ≡ true → after ≡ before ++ o.0 → o.1 ≡ Err (stop.Refused id)
+    → AcceptsBelow before after boot id
+refused_there (lines, Ok next) boot before after id x whole grown e = cc
+refused_there (lines, Err why) boot before after id x whole grown e =
+    let p = x whole in
+    inr (p.0, grown ∙ ap (λ l. before ++ l) p.4, record { refused = p.1; above = p.2; whole = p.3; named = same_refused p.1.header.id id why p.5 e }, whole)

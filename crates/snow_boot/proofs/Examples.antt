@@ -8,10 +8,10 @@ use Rattle.snow_lines.specs.declared.line.Line.{Line}
 use Rattle.snow_lines.specs.declared.line.Line.TheVariants as line
 use Rattle.snow_lines.specs.declared.why.RestartWhy.TheVariants as restart
 use Rattle.snow_lines.specs.declared.why.SkipKind.TheVariants as skip
-use Rattle.snow_boot.specs.declared.stop.BootStop.{BootStop}
-use Rattle.snow_boot.specs.declared.stop.BootStop.TheVariants as stop
-use Rattle.snow_boot.specs.Keeping.{held, highest, stray, taken}
-use Rattle.snow_boot.specs.Paths.{path, missed, highest_target}
+use Rattle.snow_store.specs.declared.stop.BootStop.{BootStop}
+use Rattle.snow_store.specs.declared.stop.BootStop.TheVariants as stop
+use Rattle.snow_store.specs.Keeping.{held, highest, stray, taken}
+use Rattle.snow_store.specs.Paths.{path, missed, highest_target}
 use Rattle.snow_boot.specs.Executing.{executed}
 use Rattle.snow_boot.specs.Asking.{asked}
 use Rattle.snow_boot.specs.Replying.{replied}

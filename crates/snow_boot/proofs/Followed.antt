@@ -1,5 +1,5 @@
 -- What each event is followed by: asking or executing.
-use Rattle.std.proofs.Common.{◌≡◌, ℕ, Bool, true, false, List, [], ◌++◌, if◌then◌else◌, refl, sym, ap, subst, ◌∙◌, append-nil, append_assoc}
+use Rattle.std.proofs.Common.{◌≡◌, ℕ, Bool, true, false, List, [], ◌++◌, Option, Some, None, if◌then◌else◌, refl, sym, ap, subst, ◌∙◌, append-nil, append_assoc}
 use Rattle.std.specs.Prelude.{Result, Ok, Err, IfOk}
 use Rattle.snow_chain.specs.Chain.{Rules, Held}
 use Rattle.snow_issue.specs.declared.work.Get.{Get}
@@ -8,20 +8,20 @@ use Rattle.snow_boot.specs.declared.question.Question.{Question}
 use Rattle.snow_boot.specs.declared.question.Question.TheVariants as question
 use Rattle.snow_boot.specs.declared.stage.Stage.{Stage}
 use Rattle.snow_boot.specs.declared.stage.Stage.TheVariants as stage
-use Rattle.snow_boot.specs.declared.stop.BootStop.{BootStop}
-use Rattle.snow_boot.specs.declared.stop.BootStop.TheVariants as stop
+use Rattle.snow_store.specs.declared.stop.BootStop.{BootStop}
+use Rattle.snow_store.specs.declared.stop.BootStop.TheVariants as stop
 use Rattle.snow_boot.specs.Accepting.{Concludes}
 use Rattle.snow_boot.specs.Asking.{Asked, asked}
-use Rattle.snow_boot.specs.Booting.{Boot, Going, Outcome, behind, fetch_of, with_requests, finished, followed_by, followed}
+use Rattle.snow_boot.specs.Booting.{Boot, Next, Going, Outcome, behind, ask_frontier, fetch_of, with_requests, finished, followed_by, followed}
 use Rattle.snow_boot.specs.Calling.{AreDrawn, LogsFront}
 use Rattle.snow_boot.specs.Coursing.{boot_of, IsCourse, Comes}
 use Rattle.snow_boot.specs.Fetching.{Hunt}
 use Rattle.snow_boot.specs.OutcomeLaw.{IsEnd}
-use Rattle.snow_boot.specs.Paths.{Fetch, is_whole, highest_target}
+use Rattle.snow_store.specs.Paths.{Fetch, is_whole, highest_target}
 use Rattle.snow_boot.specs.Requesting.{Asks}
 use Rattle.snow_boot.specs.Surveying.{Surveyed}
-use Rattle.snow_boot.proofs.Ended.{end_followed}
-use Rattle.snow_boot.proofs.Requested.{all_asked, nothing_to_ask}
+use Rattle.snow_boot.proofs.Ended.{end_followed, refused_there}
+use Rattle.snow_boot.proofs.Requested.{all_asked, nothing_to_ask, asking_stops}
 
 -- what is expected may be said otherwise
 pub comes_as : (r : Result Stage BootStop) (before after : List Line) (s : Surveyed) (hunt : Hunt) (requests : List Get) (first last : ℕ) (old new : Held) (a b : Outcome) → a ≡ b
@@ -66,7 +66,9 @@ follows_whole rules state s hunt requests drawn old new before after r is whole 
     by_result (Err stop.Memory) ends x = x
     by_result (Err (stop.Conflict height first second)) ends x = x
     by_result (Err (stop.Fork id parent)) ends x = x
-    by_result (Err (stop.Refused id)) ends x = x
+    by_result (Err (stop.Refused id)) ends x =
+        let path = finished rules state hunt.fetch.store (highest_target hunt.fetch.store.kept hunt.fetch.targets) in
+        (x.0, x.1, refused_there path (boot_of s hunt.fetch requests) before after id ends whole x.0 x.1)
     by_result (Err stop.Full) ends x = x
     by_result (Err stop.Requests) ends x = x
 
@@ -139,6 +141,10 @@ follows_asked rules state s hunt requests more drawn last held before after is k
     comes_as (Ok stage.Going) before after s hunt more drawn last held held (what.0, Ok (Going (boot_of s f more) last)) (followed rules state (boot_of s f requests) drawn) (sym outcome)
     (a.0, refl, refl, record { whole = kept; settled = λ e. record { missing = missing; asked = all_asked s.nodes f f.targets requests more drawn last a.1 } }, a.2, same)
 
+-- no block is refused where what is missed is asked for
+other_stop : (id : List ℕ) {P : Type 0} → stop.Refused id ≡ stop.Requests → P
+other_stop id e = cc
+
 pub follows_stopped : (rules : Rules) (state : List ℕ) (s : Surveyed) (hunt : Hunt) (requests more : List Get) (drawn last : ℕ) (held : Held) (before after : List Line) (why : BootStop)
     → question.Nothing ≡ s.question → is_whole hunt.fetch ≡ false → Asks (Err why) before after more last (asked s.nodes hunt.fetch hunt.fetch.targets requests drawn)
     → Comes (Err why) before after s hunt more drawn last held held (followed rules state (boot_of s hunt.fetch requests) drawn)
@@ -162,7 +168,7 @@ follows_stopped rules state s hunt requests more drawn last held before after wh
     by_stop stop.Memory a = subst (LogsFront before after) (sym (with_lines (boot_of s f requests) what)) a
     by_stop (stop.Conflict height first second) a = stopped (stop.Conflict height first second) a
     by_stop (stop.Fork id parent) a = stopped (stop.Fork id parent) a
-    by_stop (stop.Refused id) a = stopped (stop.Refused id) a
+    by_stop (stop.Refused id) a = other_stop id (asking_stops s.nodes f f.targets requests drawn (stop.Refused id) a.1)
     by_stop stop.Full a = stopped stop.Full a
     by_stop stop.Requests a = stopped stop.Requests a
 
@@ -191,10 +197,18 @@ comes_ignored rules state s hunt requests drawn held log course are last =
     (sym (ignored rules state s hunt requests drawn course))
     (sym (append-nil log), refl, refl, course, are, last)
 
--- lines in front
+-- no block is refused where asking goes on, or where all nodes are asked for their frontier
+pub going_on : (boot : Boot) (drawn : ℕ) (id : List ℕ) → (let r : Result Next BootStop = Ok (Going boot drawn) in r) ≡ Err (stop.Refused id) → ⊥
+going_on boot drawn id e = cc
+
+pub frontier_refuses : (boot : Boot) (number : Option ℕ) (id : List ℕ) → (ask_frontier boot number).1 ≡ Err (stop.Refused id) → ⊥
+frontier_refuses boot None id e = cc
+frontier_refuses boot (Some number) id e = cc
+
+-- lines in front, where no block is refused
 pub comes_behind : (r : Result Stage BootStop) (before mid after lines : List Line) (s : Surveyed) (hunt : Hunt) (requests : List Get) (first last : ℕ) (old new : Held) (o : Outcome) → IfOk r (λ came. came ≡ stage.Going)
-    → mid ≡ before ++ lines → Comes r mid after s hunt requests first last old new o → Comes r before after s hunt requests first last old new (behind lines o)
-comes_behind r before mid after lines s hunt requests first last old new o goes is c = by_result r goes c
+    → ((id : List ℕ) → o.1 ≡ Err (stop.Refused id) → ⊥) → mid ≡ before ++ lines → Comes r mid after s hunt requests first last old new o → Comes r before after s hunt requests first last old new (behind lines o)
+comes_behind r before mid after lines s hunt requests first last old new o goes never is c = by_result r goes c
   where
     grown : after ≡ mid ++ o.0 → after ≡ before ++ (lines ++ o.0)
     grown e = e ∙ ap (λ l. l ++ o.0) is ∙ append_assoc before lines o.0
@@ -210,6 +224,6 @@ comes_behind r before mid after lines s hunt requests first last old new o goes 
     }
     by_result (Err (stop.Conflict height first second)) goes c = (grown c.0, c.1)
     by_result (Err (stop.Fork id parent)) goes c = (grown c.0, c.1)
-    by_result (Err (stop.Refused id)) goes c = (grown c.0, c.1)
+    by_result (Err (stop.Refused id)) goes c = absurd (never id c.1)
     by_result (Err stop.Full) goes c = (grown c.0, c.1)
     by_result (Err stop.Requests) goes c = (grown c.0, c.1)

@@ -1,5 +1,5 @@
 -- What each event makes of the parts of a node that bootstraps.
-use Rattle.std.proofs.Common.{◌≡◌, ℕ, zero, suc, true, false, List, [], ◌∷◌, ◌++◌, Option, Some, None, find, refl, sym, ap, subst, ◌∙◌, append-nil}
+use Rattle.std.proofs.Common.{◌≡◌, ℕ, zero, suc, true, false, List, [], ◌∷◌, ◌++◌, Option, Some, None, find, inl, refl, sym, ap, subst, ◌∙◌, append-nil}
 use Rattle.std.specs.Prelude.{Result, Ok, Err, is_none}
 use Rattle.std.specs.List.{position_or_len, remove}
 use Rattle.std.specs.Option.{option_map}
@@ -12,27 +12,28 @@ use Rattle.snow_lines.specs.declared.line.Line.{Line}
 use Rattle.snow_lines.specs.declared.line.Line.TheVariants as line
 use Rattle.snow_lines.specs.declared.why.SkipKind.TheVariants as skip
 use Rattle.snow_sample.specs.declared.roster.Node.{Node}
-use Rattle.snow_boot.specs.declared.block.KeptBlock.{KeptBlock}
+use Rattle.snow_store.specs.declared.block.KeptBlock.{KeptBlock}
 use Rattle.snow_boot.specs.declared.question.Candidate.{Candidate}
 use Rattle.snow_boot.specs.declared.question.Question.{Question}
 use Rattle.snow_boot.specs.declared.question.Question.TheVariants as question
 use Rattle.snow_boot.specs.declared.stage.Stage.TheVariants as stage
-use Rattle.snow_boot.specs.declared.stop.BootStop.{BootStop}
-use Rattle.snow_boot.specs.declared.stop.BootStop.TheVariants as stop
-use Rattle.snow_boot.specs.declared.verdict.Verdict.{Verdict}
-use Rattle.snow_boot.specs.declared.verdict.Verdict.TheVariants as verdict
+use Rattle.snow_store.specs.declared.stop.BootStop.{BootStop}
+use Rattle.snow_store.specs.declared.stop.BootStop.TheVariants as stop
+use Rattle.snow_store.specs.declared.verdict.Verdict.{Verdict}
+use Rattle.snow_store.specs.declared.verdict.Verdict.TheVariants as verdict
 use Rattle.snow_boot.specs.Booting.{Boot, Outcome, behind, followed, answered, or_all, if_awaited, awaited_by, request_of, with_came, if_requested, if_block, timeout_by, frontier_came, accepted_came, ancestors_came, timeout_came, stored_came}
 use Rattle.snow_boot.specs.Calling.{AreDrawn}
 use Rattle.snow_boot.specs.Coursing.{boot_of, IsCourse, Comes}
 use Rattle.snow_boot.specs.Electing.{still_awaited, collected, backed}
 use Rattle.snow_boot.specs.Fetching.{Hunt, Fetches}
-use Rattle.snow_boot.specs.Keeping.{taken, Answers}
-use Rattle.snow_boot.specs.Paths.{Fetch}
-use Rattle.snow_boot.specs.Replying.{after_verdict, if_taken, replied}
+use Rattle.snow_store.specs.Keeping.{taken, Answers}
+use Rattle.snow_store.specs.Paths.{Fetch}
+use Rattle.snow_store.specs.Coming.{after_verdict, if_taken}
+use Rattle.snow_boot.specs.Replying.{replied}
 use Rattle.snow_boot.specs.Surveying.{Surveyed}
-use Rattle.snow_boot.proofs.Followed.{comes_as, comes_ignored, comes_behind}
+use Rattle.snow_boot.proofs.Followed.{comes_as, ignored, comes_ignored, going_on, comes_behind}
 use Rattle.snow_boot.proofs.Replied.{replied_same}
-use Rattle.snow_boot.proofs.Cases.{clash, none_not, same_some}
+use Rattle.snow_store.proofs.Cases.{clash, none_not, same_some}
 
 -- ---- answers of all nodes
 
@@ -180,7 +181,7 @@ stop_comes rules state s hunt f requests more drawn held log why = by_stop why
     by_stop stop.Memory = record { front = []; rest = []; whole = refl; grown = sym (append-nil log) }
     by_stop (stop.Conflict height first second) = (sym (append-nil log), refl)
     by_stop (stop.Fork id parent) = (sym (append-nil log), refl)
-    by_stop (stop.Refused id) = (sym (append-nil log), refl)
+    by_stop (stop.Refused id) = (sym (append-nil log), refl, inl refl)
     by_stop stop.Full = (sym (append-nil log), refl)
     by_stop stop.Requests = (sym (append-nil log), refl)
 
@@ -221,7 +222,8 @@ skipped rules state s hunt requests drawn held log after frame bytes course are 
     comes_as (Ok stage.Going) log after s hunt requests drawn drawn held held (behind (line.Skip frame skip.Block ∷ []) (followed rules state (boot_of s hunt.fetch requests) drawn))
     (stored_came rules state (boot_of s hunt.fetch requests) drawn frame bytes)
     (ap (if_block rules state (boot_of s hunt.fetch requests) drawn frame bytes) none)
-    (comes_behind (Ok stage.Going) log after after (line.Skip frame skip.Block ∷ []) s hunt requests drawn drawn held held (followed rules state (boot_of s hunt.fetch requests) drawn) refl written
+    (comes_behind (Ok stage.Going) log after after (line.Skip frame skip.Block ∷ []) s hunt requests drawn drawn held held (followed rules state (boot_of s hunt.fetch requests) drawn) refl
+    (λ id e. going_on (boot_of s hunt.fetch requests) drawn id (sym (ap (λ (o : Outcome). o.1) (ignored rules state s hunt requests drawn course)) ∙ e)) written
     (comes_ignored rules state s hunt requests drawn held after course are last))
 
 stored_is : (rules : Rules) (state : List ℕ) (s : Surveyed) (f : Fetch) (requests : List Get) (drawn frame : ℕ) (bytes : List ℕ) (h : Header) (r : Result Verdict BootStop) → Some h ≡ rules.header_of bytes

@@ -7,9 +7,10 @@ use Rattle.snow_issue.specs.declared.work.Get.{Get}
 use Rattle.snow_lines.specs.declared.line.Line.{Line}
 use Rattle.snow_boot.specs.declared.stage.Stage.{Stage}
 use Rattle.snow_boot.specs.declared.stage.Stage.TheVariants as stage
-use Rattle.snow_boot.specs.declared.stop.BootStop.{BootStop}
+use Rattle.snow_store.specs.declared.stop.BootStop.{BootStop}
+use Rattle.snow_store.specs.declared.stop.BootStop.TheVariants as stop
 use Rattle.snow_boot.specs.Booting.{Boot, Going, Done, Outcome}
-use Rattle.snow_boot.specs.Calling.{last_state}
+use Rattle.snow_chain.specs.Alone.{last_state}
 use Rattle.snow_boot.specs.Coursing.{boot_of, Comes}
 use Rattle.snow_boot.specs.Fetching.{Hunt}
 use Rattle.snow_boot.specs.OutcomeLaw.{accepts, IsQuiet, IsEnd}
@@ -38,4 +39,9 @@ promised (Ok stage.Going) before after s hunt requests first last old new o c q 
     (λ asks. let settled = c.3.settled asks in (settled.missing, settled.asked), (o.0, c.0, quiet_lines o (boot_of s hunt.fetch requests) last q c.1))
 promised (Ok (stage.Done id height)) before after s hunt requests first last old new o c q =
     path_lines o (boot_of s hunt.fetch requests) id height (last_state new) before after c.5 c.1 c.0
-promised (Err why) before after s hunt requests first last old new o c q = tt
+promised (Err (stop.Refused id)) before after s hunt requests first last old new o c q = c.2
+promised (Err (stop.Conflict height one other)) before after s hunt requests first last old new o c q = tt
+promised (Err (stop.Fork id parent)) before after s hunt requests first last old new o c q = tt
+promised (Err stop.Full) before after s hunt requests first last old new o c q = tt
+promised (Err stop.Requests) before after s hunt requests first last old new o c q = tt
+promised (Err stop.Memory) before after s hunt requests first last old new o c q = tt

@@ -16,14 +16,15 @@ use Rattle.snow_lines.specs.declared.why.SkipKind.TheVariants as skip
 use Rattle.snow_boot.specs.declared.question.Candidate.{Candidate}
 use Rattle.snow_boot.specs.declared.question.Question.{Question}
 use Rattle.snow_boot.specs.declared.question.Question.TheVariants as question
-use Rattle.snow_boot.specs.declared.stop.BootStop.{BootStop}
+use Rattle.snow_store.specs.declared.stop.BootStop.{BootStop}
 use Rattle.snow_boot.specs.Asking.{Asked, asked_with, asked_one, and_asked, asked}
 use Rattle.snow_boot.specs.Executing.{Executed, executed}
-use Rattle.snow_boot.specs.Paths.{Fetch, missed, is_whole, highest_target, path_up}
+use Rattle.snow_store.specs.Paths.{Fetch, missed, is_whole, highest_target, path_up}
 use Rattle.snow_boot.specs.Booting.{Boot, Going, Done, Outcome, behind, ask_frontier, ask_accepted, fetch_of, with_requests, ended, finished, height_or, followed_by, followed, fetching, with_targets, with_collected, all_answered, answered, or_all, if_awaited, awaited_for, frontier_came, accepted_came, with_came, if_requested, request_of, closed, ancestors_came, timeout_by, timeout_came, if_block, stored_came, with_fetch}
 use Rattle.snow_boot.specs.OutcomeLaw.{accepts, IsQuiet, AreQuiet}
 use Rattle.snow_boot.specs.Electing.{collected, backed, majority}
-use Rattle.snow_boot.specs.Replying.{came, replied}
+use Rattle.snow_store.specs.Coming.{came}
+use Rattle.snow_boot.specs.Replying.{replied}
 use Rattle.snow_sample.specs.Roster.{total_weight}
 
 -- lines in front that accept nothing

@@ -2,15 +2,16 @@
 use Rattle.std.proofs.Common.{◌≡◌, ℕ, true, false, List, [], ◌∷◌, Option, Some, None, bytes_eq, refl, sym, ap, ◌∙◌}
 use Rattle.std.specs.Prelude.{Result, Ok, Err}
 use Rattle.snow_base.specs.declared.header.Header.{Header}
-use Rattle.snow_boot.specs.declared.block.KeptBlock.{KeptBlock}
-use Rattle.snow_boot.specs.declared.stop.BootStop.{BootStop}
-use Rattle.snow_boot.specs.declared.verdict.Verdict.{Verdict}
-use Rattle.snow_boot.specs.declared.verdict.Verdict.TheVariants as verdict
-use Rattle.snow_boot.specs.declared.stop.BootStop.TheVariants as stop
+use Rattle.snow_store.specs.declared.block.KeptBlock.{KeptBlock}
+use Rattle.snow_store.specs.declared.stop.BootStop.{BootStop}
+use Rattle.snow_store.specs.declared.verdict.Verdict.{Verdict}
+use Rattle.snow_store.specs.declared.verdict.Verdict.TheVariants as verdict
+use Rattle.snow_store.specs.declared.stop.BootStop.TheVariants as stop
 use Rattle.snow_boot.specs.Fetching.{Hunt, FetchesOne}
-use Rattle.snow_boot.specs.Keeping.{taken, Answers}
-use Rattle.snow_boot.specs.Paths.{Fetch}
-use Rattle.snow_boot.specs.Replying.{after_verdict, if_wanted, with_taken, with_wanted, replied}
+use Rattle.snow_store.specs.Keeping.{taken, Answers}
+use Rattle.snow_store.specs.Paths.{Fetch}
+use Rattle.snow_store.specs.Coming.{after_verdict}
+use Rattle.snow_boot.specs.Replying.{if_wanted, with_taken, with_wanted, replied}
 
 -- no block comes
 pub nothing_came : (header_of : List ℕ → Option Header) (f : Fetch) (id : List ℕ) → replied header_of f id [] ≡ Ok f

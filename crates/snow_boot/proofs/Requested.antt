@@ -6,12 +6,13 @@ use Rattle.snow_sample.specs.declared.roster.Node.{Node}
 use Rattle.snow_issue.specs.declared.work.Get.{Get}
 use Rattle.snow_issue.specs.Lists.{asked_in, with_get}
 use Rattle.snow_issue.proofs.Asking as gets
-use Rattle.snow_boot.specs.declared.stop.BootStop.{BootStop}
-use Rattle.snow_boot.specs.Paths.{Fetch, missed}
+use Rattle.snow_store.specs.declared.stop.BootStop.{BootStop}
+use Rattle.snow_store.specs.declared.stop.BootStop.TheVariants as stop
+use Rattle.snow_store.specs.Paths.{Fetch, missed}
 use Rattle.snow_boot.specs.Asking.{Asked, asked_node, asked_with, asked_one, and_asked, asked}
 use Rattle.snow_boot.specs.OutcomeLaw.{AreAsked}
-use Rattle.snow_boot.proofs.Cases.{clash, id_same}
-use Rattle.snow_boot.proofs.Whole.{first_or, later, first}
+use Rattle.snow_store.proofs.Cases.{clash, id_same}
+use Rattle.snow_store.proofs.Whole.{first_or, later, first}
 
 -- what two askings gave, one after the other
 pub record AskedBoth (one : Asked) (more : List Get → ℕ → Asked) (requests : List Get) (last : ℕ) : Type 0 where
@@ -106,3 +107,29 @@ nothing_to_ask nodes f [] requests drawn are = refl
 nothing_to_ask nodes f (t ∷ targets) requests drawn are =
     ap (λ one. and_asked one (λ requests drawn. asked nodes f targets requests drawn)) (none_new nodes requests drawn (missed f t) (λ id misses. are t id (first t targets) misses))
     ∙ ap (λ (next : Asked). ([] ++ next.0, next.1)) (nothing_to_ask nodes f targets requests drawn (λ u id among misses. are u id (later t u targets among) misses))
+
+-- ---- asking stops only where no number is left
+
+one_stops : (nodes : List Node) (requests : List Get) (drawn : ℕ) (o : Option (List ℕ)) (why : BootStop) → (asked_one nodes requests drawn o).1 ≡ Err why → why ≡ stop.Requests
+one_stops nodes requests drawn None why e = cc
+one_stops nodes requests drawn (Some id) why e = by_test (asked_in requests id) e
+  where
+    with_number : (o : Option ℕ) → (asked_with nodes requests id o).1 ≡ Err why → why ≡ stop.Requests
+    with_number None e = cc
+    with_number (Some n) e = cc
+
+    by_test : (t : Bool) → (let a : Asked = if t then ([], Ok (requests, drawn)) else asked_with nodes requests id (next_number drawn) in a).1 ≡ Err why → why ≡ stop.Requests
+    by_test true e = cc
+    by_test false e = with_number (next_number drawn) e
+
+both_stop : (one : Asked) (more : List Get → ℕ → Asked) (why : BootStop) → ((w : BootStop) → one.1 ≡ Err w → w ≡ stop.Requests)
+    → ((requests : List Get) (drawn : ℕ) (w : BootStop) → (more requests drawn).1 ≡ Err w → w ≡ stop.Requests) → (and_asked one more).1 ≡ Err why → why ≡ stop.Requests
+both_stop (lines, Err w) more why first second e = first why e
+both_stop (lines, Ok (requests, drawn)) more why first second e = second requests drawn why e
+
+pub asking_stops : (nodes : List Node) (f : Fetch) (targets : List (List ℕ)) (requests : List Get) (drawn : ℕ) (why : BootStop) → (asked nodes f targets requests drawn).1 ≡ Err why → why ≡ stop.Requests
+unfolding asked
+asking_stops nodes f [] requests drawn why e = cc
+asking_stops nodes f (t ∷ targets) requests drawn why e =
+    both_stop (asked_one nodes requests drawn (missed f t)) (λ requests drawn. asked nodes f targets requests drawn) why
+    (one_stops nodes requests drawn (missed f t)) (asking_stops nodes f targets) e

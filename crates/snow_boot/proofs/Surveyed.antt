@@ -7,9 +7,9 @@ use Rattle.snow_sample.specs.Roster.{total_weight}
 use Rattle.snow_boot.specs.declared.question.Candidate.{Candidate}
 use Rattle.snow_boot.specs.declared.question.Question.TheVariants as question
 use Rattle.snow_boot.specs.Electing.{awaits, still_awaited, is_collected, collected, backed}
-use Rattle.snow_boot.specs.Paths.{has_id}
+use Rattle.snow_store.specs.Paths.{has_id}
 use Rattle.snow_boot.specs.Surveying.{Surveyed, AreWithin, IsSurvey}
-use Rattle.snow_boot.proofs.Cases.{none_not, same_some}
+use Rattle.snow_store.proofs.Cases.{none_not, same_some}
 
 -- a higher bound
 pub within_more : (most more : ℕ) (candidates : List Candidate) → most ≤ more → AreWithin most candidates → AreWithin more candidates

@@ -1,5 +1,5 @@
 -- Lines that are written one after another: what is still to be done makes of what was done the whole.
-use Rattle.std.proofs.Common.{◌≡◌, ℕ, suc, ◌+◌, ◌<◌, List, [], ◌∷◌, ◌++◌, length, get_or, drop, drop-cons, arith, refl, sym, ap, ◌∙◌, append_assoc, append-nil}
+use Rattle.std.proofs.Common.{◌≡◌, List, [], ◌++◌, refl, sym, ap, ◌∙◌, append_assoc, append-nil}
 use Rattle.snow_lines.specs.declared.line.Line.{Line}
 use Rattle.snow_boot.specs.Calling.{LogsFront}
 
@@ -40,9 +40,3 @@ runs_out before now after lines more rest whole u is f = record {
   whole = append_assoc u.done f.front (f.rest ++ more) ∙ ap (λ l. u.done ++ l) (sym (append_assoc f.front f.rest more) ∙ ap (λ l. l ++ more) f.whole ∙ sym is) ∙ u.lines;
   grown = f.grown ∙ ap (λ l. l ++ f.front) u.grown ∙ append_assoc before u.done f.front;
 }
-
--- the next of some
-pub next_of : {A : Type 0} (xs : List A) (i : ℕ) (x : A) → i < length xs → x ≡ get_or xs i x → drop i xs ≡ x ∷ drop (i + 1) xs
-next_of xs i x within is =
-    let one : suc i ≡ i + 1 = omega arith in
-    drop-cons xs i x within ∙ ap (λ y. y ∷ drop (suc i) xs) (sym is) ∙ ap (λ n. x ∷ drop n xs) one

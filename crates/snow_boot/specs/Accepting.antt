@@ -3,16 +3,17 @@ use Rattle.std.specs.Prelude.{◌≡◌, ℕ, List, [], ◌∷◌, ◌++◌, Opt
 use Rattle.snow_chain.specs.Chain.{Rules, Held}
 use Rattle.snow_lines.specs.declared.line.Line.{Line}
 use Rattle.snow_lines.specs.declared.line.Line.TheVariants as line
-use Rattle.snow_boot.specs.declared.block.KeptBlock.{KeptBlock}
-use Rattle.snow_boot.specs.declared.stop.BootStop.{BootStop}
-use Rattle.snow_boot.specs.declared.stop.BootStop.TheVariants as stop
+use Rattle.snow_store.specs.declared.block.KeptBlock.{KeptBlock}
+use Rattle.snow_store.specs.declared.stop.BootStop.{BootStop}
+use Rattle.snow_store.specs.declared.stop.BootStop.TheVariants as stop
 use Rattle.snow_boot.specs.declared.stage.Stage.{Stage}
 use Rattle.snow_boot.specs.declared.stage.Stage.TheVariants as stage
 use Rattle.snow_boot.specs.Booting.{Outcome, Done}
-use Rattle.snow_boot.specs.Calling.{LogsFront, IsAlone, last_state}
+use Rattle.snow_chain.specs.Alone.{IsAlone, last_state}
+use Rattle.snow_boot.specs.Calling.{LogsFront}
 use Rattle.snow_boot.specs.Executing.{Executed, state_on, executed}
-use Rattle.snow_boot.specs.Indexing.{top_of, higher_height}
-use Rattle.snow_boot.specs.Linking.{listed}
+use Rattle.snow_store.specs.Indexing.{top_of, higher_height}
+use Rattle.snow_store.specs.Linking.{listed}
 use Rattle.snow_boot.specs.OutcomeLaw.{accept_lines}
 
 -- lines in front of what was executed

@@ -1,5 +1,5 @@
 -- Requests for what targets miss.
-use Rattle.std.specs.Prelude.{ℕ, ◌%◌, List, [], ◌∷◌, ◌++◌, length, Option, Some, None, Result, Ok, Err, if◌then◌else◌}
+use Rattle.std.specs.Prelude.{◌≡◌, ℕ, ◌%◌, true, false, List, [], ◌∷◌, ◌++◌, length, Option, Some, None, Result, Ok, Err, if◌then◌else◌}
 use Rattle.std.specs.List.{slice_get}
 use Rattle.std.specs.Option.{option_map, unwrap_or}
 use Rattle.snow_base.specs.Numbers.{next_number}
@@ -8,9 +8,12 @@ use Rattle.snow_issue.specs.declared.work.Get.{Get}
 use Rattle.snow_issue.specs.Lists.{asked_in, with_get}
 use Rattle.snow_lines.specs.declared.line.Line.{Line}
 use Rattle.snow_lines.specs.declared.line.Line.TheVariants as line
-use Rattle.snow_boot.specs.declared.stop.BootStop.{BootStop}
-use Rattle.snow_boot.specs.declared.stop.BootStop.TheVariants as stop
-use Rattle.snow_boot.specs.Paths.{Fetch, missed}
+use Rattle.snow_store.specs.declared.stop.BootStop.{BootStop}
+use Rattle.snow_store.specs.declared.stop.BootStop.TheVariants as stop
+use Rattle.snow_store.specs.declared.due.Due.{Due}
+use Rattle.snow_store.specs.declared.due.Due.TheVariants as due
+use Rattle.snow_store.specs.Needing.{is_missed, is_due}
+use Rattle.snow_store.specs.Paths.{Fetch, missed}
 
 -- the lines, and then the open requests with the last number drawn, or a stop
 abbrev pub Asked : Type 0
@@ -40,3 +43,12 @@ and_asked (lines, Ok (requests, drawn)) more = let next = more requests drawn in
 unfoldable pub asked : List Node → Fetch → List (List ℕ) → List Get → ℕ → Asked
 asked nodes f [] requests drawn = ([], Ok (requests, drawn))
 asked nodes f (t ∷ targets) requests drawn = and_asked (asked_one nodes requests drawn (missed f t)) (λ requests drawn. asked nodes f targets requests drawn)
+
+-- each identifier that one of the targets misses is named by a request, unless it is due
+abbrev pub AreAskedBut : Due → Fetch → List Get → Type 0
+AreAskedBut after f requests = (id : List ℕ) → is_missed f f.targets id ≡ true → is_due after id ≡ false → asked_in requests id ≡ true
+
+-- what is due once a request for an identifier is closed, if one is
+abbrev pub due_of : Option (List ℕ) → Due
+due_of None = due.Nothing
+due_of (Some id) = due.One id

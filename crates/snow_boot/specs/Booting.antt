@@ -12,18 +12,19 @@ use Rattle.snow_lines.specs.declared.line.Line.{Line}
 use Rattle.snow_lines.specs.declared.line.Line.TheVariants as line
 use Rattle.snow_lines.specs.declared.why.RestartWhy.TheVariants as restart
 use Rattle.snow_lines.specs.declared.why.SkipKind.TheVariants as skip
-use Rattle.snow_boot.specs.declared.block.KeptBlock.{KeptBlock}
+use Rattle.snow_store.specs.declared.block.KeptBlock.{KeptBlock}
 use Rattle.snow_boot.specs.declared.question.Candidate.{Candidate}
 use Rattle.snow_boot.specs.declared.question.Question.{Question}
 use Rattle.snow_boot.specs.declared.question.Question.TheVariants as question
-use Rattle.snow_boot.specs.declared.stop.BootStop.{BootStop}
-use Rattle.snow_boot.specs.declared.stop.BootStop.TheVariants as stop
+use Rattle.snow_store.specs.declared.stop.BootStop.{BootStop}
+use Rattle.snow_store.specs.declared.stop.BootStop.TheVariants as stop
 use Rattle.snow_boot.specs.Asking.{asked}
 use Rattle.snow_boot.specs.Electing.{awaits, still_awaited, collected, backed, majority}
 use Rattle.snow_boot.specs.Executing.{executed}
-use Rattle.snow_boot.specs.Keeping.{Store}
-use Rattle.snow_boot.specs.Paths.{Fetch, is_whole, highest_target, path_up}
-use Rattle.snow_boot.specs.Replying.{came, replied}
+use Rattle.snow_store.specs.Keeping.{Store}
+use Rattle.snow_store.specs.Paths.{Fetch, is_whole, highest_target, path_up}
+use Rattle.snow_store.specs.Coming.{came}
+use Rattle.snow_boot.specs.Replying.{replied}
 
 -- the last accepted block and the kept blocks; the nodes; what all nodes are being asked, with which number, and whose answer is
 -- awaited; what was collected, with the weight behind it; the targets and those of them that were found; and the open requests

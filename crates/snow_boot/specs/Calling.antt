@@ -1,10 +1,11 @@
 -- What the calls of a node that bootstraps need and owe.
-use Rattle.std.specs.Prelude.{◌≡◌, ℕ, ◌≤◌, Bool, true, List, [], ◌∷◌, ◌++◌, Option, Some, None, Result, Ok, Err, unwrap_or, ⊤}
-use Rattle.snow_chain.specs.Chain.{Held, state_of, begun}
+use Rattle.std.specs.Prelude.{◌≡◌, ℕ, ◌≤◌, Bool, true, List, [], ◌∷◌, ◌++◌, Option, Some, None, Result, Ok, Err, ⊤}
+use Rattle.snow_chain.specs.Alone.{IsAlone, last_state}
+use Rattle.snow_chain.specs.Chain.{Held}
 use Rattle.snow_issue.specs.declared.work.Get.{Get}
 use Rattle.snow_lines.specs.declared.line.Line.{Line}
-use Rattle.snow_boot.specs.declared.stop.BootStop.{BootStop}
-use Rattle.snow_boot.specs.declared.stop.BootStop.TheVariants as stop
+use Rattle.snow_store.specs.declared.stop.BootStop.{BootStop}
+use Rattle.snow_store.specs.declared.stop.BootStop.TheVariants as stop
 use Rattle.snow_boot.specs.declared.stage.Stage.{Stage}
 use Rattle.snow_boot.specs.declared.stage.Stage.TheVariants as stage
 use Rattle.snow_boot.specs.Booting.{Boot, Next, Going, Done}
@@ -13,14 +14,6 @@ use Rattle.snow_boot.specs.Booting.{Boot, Next, Going, Done}
 pub record Course : Type 0 where
   pub goes_on : Bool
   pub boot : Boot
-
--- the state of the last accepted block
-abbrev pub last_state : Held → List ℕ
-last_state held = unwrap_or (state_of held held.last) []
-
--- a chain holds the state of its last accepted block and no other
-abbrev pub IsAlone : Held → Type 0
-IsAlone held = held ≡ begun held.last (last_state held)
 
 -- the number of each open request was drawn
 abbrev pub AreDrawn : List Get → ℕ → Type 0

@@ -6,13 +6,15 @@ use Rattle.snow_lines.specs.declared.line.Line.{Line}
 use Rattle.snow_boot.specs.declared.question.Question.TheVariants as question
 use Rattle.snow_boot.specs.declared.stage.Stage.{Stage}
 use Rattle.snow_boot.specs.declared.stage.Stage.TheVariants as stage
-use Rattle.snow_boot.specs.declared.stop.BootStop.{BootStop}
-use Rattle.snow_boot.specs.declared.stop.BootStop.TheVariants as stop
+use Rattle.snow_store.specs.declared.stop.BootStop.{BootStop}
+use Rattle.snow_store.specs.declared.stop.BootStop.TheVariants as stop
 use Rattle.snow_boot.specs.Booting.{Boot, Going, Done, Outcome}
-use Rattle.snow_boot.specs.Calling.{Course, AreDrawn, LogsFront, IsAlone, last_state}
+use Rattle.snow_chain.specs.Alone.{IsAlone, last_state}
+use Rattle.snow_boot.specs.Calling.{Course, AreDrawn, LogsFront}
 use Rattle.snow_boot.specs.Fetching.{Hunt}
 use Rattle.snow_boot.specs.OutcomeLaw.{AreAsked, IsEnd}
-use Rattle.snow_boot.specs.Paths.{Fetch, is_whole}
+use Rattle.snow_boot.specs.Promising.{AcceptsBelow}
+use Rattle.snow_store.specs.Paths.{Fetch, is_whole}
 use Rattle.snow_boot.specs.Surveying.{Surveyed}
 
 -- the parts, put together
@@ -53,7 +55,8 @@ abbrev pub MayHear : Surveyed → Hunt → List Get → Held → ℕ → Type 0
 MayHear s hunt requests held drawn = IsCourse s hunt requests × IsAlone held × (held.last ≡ hunt.fetch.store.last) × AreDrawn requests drawn
 
 -- what is expected came: its lines, and then bootstrapping goes on with these parts, or is done with the state that the chain holds
--- and no other and the whole path executed, or it stopped; where memory ran out a front of the lines came
+-- and no other and the whole path executed, or it stopped; where a block is refused what is below it was accepted, and where memory
+-- ran out a front of the lines came
 abbrev pub Comes : Result Stage BootStop → List Line → List Line → Surveyed → Hunt → List Get → ℕ → ℕ → Held → Held → Outcome → Type 0
 Comes (Ok stage.Going) before after s hunt requests first last old new expected =
     (after ≡ before ++ expected.0) × (expected.1 ≡ Ok (Going (boot_of s hunt.fetch requests) last)) × (new ≡ old) × IsCourse s hunt requests × AreDrawn requests last
@@ -62,6 +65,8 @@ Comes (Ok (stage.Done id height)) before after s hunt requests first last old ne
     (after ≡ before ++ expected.0) × (expected.1 ≡ Ok (Done id height (last_state new))) × (new.last ≡ id) × IsAlone new × (last ≡ first)
     × IsEnd (boot_of s hunt.fetch requests) expected
 Comes (Err stop.Memory) before after s hunt requests first last old new expected = LogsFront before after expected.0
+Comes (Err (stop.Refused id)) before after s hunt requests first last old new expected =
+    (after ≡ before ++ expected.0) × (expected.1 ≡ Err (stop.Refused id)) × AcceptsBelow before after (boot_of s hunt.fetch requests) id
 Comes (Err why) before after s hunt requests first last old new expected = (after ≡ before ++ expected.0) × (expected.1 ≡ Err why)
 
 -- whether bootstrapping goes on

@@ -3,7 +3,7 @@ use Rattle.std.specs.Prelude.{ℕ, ◌+◌, ◌*◌, Bool, not, List, [], ◌∷
 use Rattle.std.specs.List.{list_any, filter}
 use Rattle.snow_sample.specs.declared.roster.Node.{Node}
 use Rattle.snow_boot.specs.declared.question.Candidate.{Candidate}
-use Rattle.snow_boot.specs.Paths.{has_id}
+use Rattle.snow_store.specs.Paths.{has_id}
 
 -- a node whose answer is awaited
 abbrev pub awaits : List Node → List ℕ → Option Node

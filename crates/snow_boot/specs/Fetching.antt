@@ -1,18 +1,11 @@
 -- What is known while blocks are fetched.
 use Rattle.std.specs.Prelude.{◌≡◌, ℕ, Bool, true, List, ◌∷◌, Option, Some, None, Result, Ok, Err, ⊤}
-use Rattle.std.specs.BTreeSet.{BTreeSet, contains}
-use Rattle.std.specs.Cmp.Lexicographic.{slice_cmp}
-use Rattle.std.specs.Ordering.{nat_cmp}
 use Rattle.snow_base.specs.declared.header.Header.{Header}
-use Rattle.snow_boot.specs.declared.due.Due.{Due}
-use Rattle.snow_boot.specs.declared.stop.BootStop.{BootStop}
-use Rattle.snow_boot.specs.declared.stop.BootStop.TheVariants as stop
-use Rattle.snow_boot.specs.Paths.{Fetch, has_id}
+use Rattle.snow_store.specs.declared.due.Due.{Due}
+use Rattle.snow_store.specs.declared.stop.BootStop.{BootStop}
+use Rattle.snow_store.specs.declared.stop.BootStop.TheVariants as stop
+use Rattle.snow_store.specs.Paths.{Fetch}
 use Rattle.snow_boot.specs.Replying.{replied}
-
--- the set has the identifiers of a list
-abbrev pub HasIds : BTreeSet (List ℕ) → List (List ℕ) → Type 0
-HasIds known ids = (id : List ℕ) → contains (slice_cmp nat_cmp) known id ≡ has_id ids id
 
 -- whether all is kept as it should be; which missed identifiers no request may name yet; and what is kept, wanted and found
 pub record Hunt : Type 0 where

@@ -7,15 +7,8 @@ pub mod Coursing
 pub mod Electing
 pub mod Executing
 pub mod Fetching
-pub mod Indexing
-pub mod Keeping
-pub mod Linking
-pub mod Needing
 pub mod OutcomeLaw
-pub mod Paths
-pub mod ProgressLaw
 pub mod Promising
-pub mod Renewing
 pub mod Replying
 pub mod Requesting
 pub mod Surveying

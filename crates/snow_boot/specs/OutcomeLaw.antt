@@ -7,11 +7,11 @@ use Rattle.snow_issue.specs.declared.work.Get.{Get}
 use Rattle.snow_issue.specs.Lists.{asked_in}
 use Rattle.snow_lines.specs.declared.line.Line.{Line}
 use Rattle.snow_lines.specs.declared.line.Line.TheVariants as line
-use Rattle.snow_boot.specs.declared.block.KeptBlock.{KeptBlock}
-use Rattle.snow_boot.specs.declared.stop.BootStop.TheVariants as stop
+use Rattle.snow_store.specs.declared.block.KeptBlock.{KeptBlock}
+use Rattle.snow_store.specs.declared.stop.BootStop.TheVariants as stop
 use Rattle.snow_boot.specs.Asking.{asked}
 use Rattle.snow_boot.specs.Executing.{Executed, executed}
-use Rattle.snow_boot.specs.Paths.{Fetch, has_id, missed, is_whole, highest_target, path_up}
+use Rattle.snow_store.specs.Paths.{Fetch, has_id, missed, is_whole, highest_target, path_up}
 use Rattle.snow_boot.specs.Booting.{Boot, Going, Done, Outcome, fetch_of, height_or, followed, frontier_came, accepted_came, ancestors_came, timeout_came, stored_came}
 
 -- ---- requests

@@ -2,8 +2,8 @@
 use Rattle.std.specs.Prelude.{◌≡◌, ℕ, List, ◌++◌, Result, Ok, Err}
 use Rattle.snow_issue.specs.declared.work.Get.{Get}
 use Rattle.snow_lines.specs.declared.line.Line.{Line}
-use Rattle.snow_boot.specs.declared.stop.BootStop.{BootStop}
-use Rattle.snow_boot.specs.declared.stop.BootStop.TheVariants as stop
+use Rattle.snow_store.specs.declared.stop.BootStop.{BootStop}
+use Rattle.snow_store.specs.declared.stop.BootStop.TheVariants as stop
 use Rattle.snow_boot.specs.Asking.{Asked}
 use Rattle.snow_boot.specs.Calling.{AreDrawn, LogsFront}
 

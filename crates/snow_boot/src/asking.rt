@@ -1,19 +1,17 @@
 ghost use Rattle.std.specs.Prelude.{◌≡◌, ◌<◌, true, false, length};
 ghost use Rattle.snow_issue.specs.Lists.{asked_in};
 ghost use Rattle.snow_boot.specs.Calling.{AreDrawn};
-ghost use Rattle.snow_boot.specs.Asking.{asked_node, asked_one, asked_with, asked};
+ghost use Rattle.snow_boot.specs.Asking.{asked_node, asked_one, asked_with, asked, AreAskedBut};
 ghost use Rattle.snow_base.specs.Numbers.{next_number};
-ghost use Rattle.snow_boot.specs.Needing.{AreAskedBut};
 ghost use Rattle.snow_boot.specs.Requesting.{Asks};
 
-use crate::due::Due;
 use crate::fetching::Fetching;
-use crate::stop::BootStop;
 use snow_base::{Id, NodeId, Numbers};
 use snow_interval::Kept;
 use snow_issue::{Get, Gets};
 use snow_lines::{Line, Lines};
 use snow_sample::Node;
+use snow_store::{BootStop, Due};
 
 // What is due is asked for, where a target misses it.
 pub(crate) fn ask_due<H: Kept>(

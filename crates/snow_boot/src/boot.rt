@@ -1,7 +1,8 @@
 ghost use Rattle.std.specs.Prelude.{◌≡◌, IfOk};
 ghost use Rattle.snow_chain.specs.Chain.{Held};
 ghost use Rattle.snow_boot.specs.Booting as model;
-ghost use Rattle.snow_boot.specs.Calling.{MayGoOn, OnGoing, OnDone, Brings, Begins, Logs, Leaves, IsAlone, last_state};
+ghost use Rattle.snow_chain.specs.Alone.{IsAlone, last_state};
+ghost use Rattle.snow_boot.specs.Calling.{MayGoOn, OnGoing, OnDone, Brings, Begins, Logs, Leaves};
 ghost use Rattle.snow_boot.specs.Coursing.{is_going};
 ghost use Rattle.snow_boot.specs.Promising.{Promises};
 
@@ -9,7 +10,6 @@ use crate::fetching::Fetching;
 use crate::inquiring;
 use crate::parts::Parts;
 use crate::stage::Stage;
-use crate::stop::BootStop;
 use crate::survey::Survey;
 use snow_base::{Blocks, Bytes, Id, Ids, NodeId, Numbers};
 use snow_chain::Chain;
@@ -17,6 +17,7 @@ use snow_interval::Kept;
 use snow_issue::Gets;
 use snow_lines::Lines;
 use snow_sample::Roster;
+use snow_store::BootStop;
 use std::alloc::Global;
 use std::marker::{Model, PhantomData};
 
@@ -29,7 +30,7 @@ use std::marker::{Model, PhantomData};
 /// Contracts see the node of the definitions, and whether it goes on. Each call appends its lines to a
 /// log. After a stop and at the end a node is only let go: all lines before the stop were appended,
 /// after `Memory` a front of the event's lines; and after `Memory` the chain and the numbers are only
-/// let go too.
+/// let go too. Where a block of the path is `Refused`, exactly the blocks below it were accepted.
 #[derive(Drop)]
 pub struct Boot<C: Chain, H: Kept> {
     going: bool,

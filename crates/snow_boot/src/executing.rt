@@ -1,21 +1,19 @@
 ghost use Rattle.std.specs.Prelude.{◌≡◌, ◌+◌, ◌-◌, true};
 ghost use Rattle.snow_boot.specs.Accepting.{ExecutesOne, ExecutesAt, Executes, EndsAt, Concludes};
 ghost use Rattle.snow_boot.specs.Booting.{finished};
-ghost use Rattle.snow_boot.specs.Calling.{IsAlone, last_state};
+ghost use Rattle.snow_chain.specs.Alone.{IsAlone, last_state};
 ghost use Rattle.snow_boot.specs.Executing.{executed};
-ghost use Rattle.snow_boot.specs.Keeping.{held};
-ghost use Rattle.snow_boot.specs.Linking.{upward};
-ghost use Rattle.snow_boot.specs.Paths.{is_whole, highest_target};
+ghost use Rattle.snow_store.specs.Keeping.{held};
+ghost use Rattle.snow_store.specs.Linking.{upward};
+ghost use Rattle.snow_store.specs.Paths.{is_whole, highest_target};
 
-use crate::block::KeptBlock;
 use crate::fetching::Fetching;
 use crate::stage::Stage;
-use crate::stop::BootStop;
-use crate::store::Store;
 use snow_base::Id;
 use snow_chain::Chain;
 use snow_interval::Kept;
 use snow_lines::{Line, Lines};
+use snow_store::{BootStop, KeptBlock, Store};
 
 // Where no target misses a block, the path of the highest kept target is executed.
 pub(crate) fn finish<C: Chain, H: Kept>(

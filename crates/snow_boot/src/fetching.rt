@@ -1,22 +1,18 @@
 ghost use Rattle.std.specs.Prelude.{◌≡◌, true, [], Some, None, IfOk, OnOk, if◌then◌else◌};
 ghost use Rattle.snow_boot.specs.Accepting.{higher_one, top_height};
-ghost use Rattle.snow_boot.specs.Keeping.{taken, Answers};
+ghost use Rattle.snow_store.specs.Keeping.{taken, Answers};
 ghost use Rattle.snow_boot.specs.Fetching.{Fetches, FetchesOne};
-ghost use Rattle.snow_boot.specs.Needing.{is_missed, Covers};
-ghost use Rattle.snow_boot.specs.Renewing.{is_known};
-ghost use Rattle.snow_boot.specs.Paths.{missed, is_whole};
-ghost use Rattle.snow_boot.specs.declared.due.Due.TheVariants as due;
-ghost use Rattle.snow_boot.specs.Replying.{after_verdict, replied};
+ghost use Rattle.snow_store.specs.Needing.{is_missed, Covers};
+ghost use Rattle.snow_store.specs.Renewing.{is_known};
+ghost use Rattle.snow_store.specs.Paths.{missed, is_whole};
+ghost use Rattle.snow_store.specs.declared.due.Due.TheVariants as due;
+ghost use Rattle.snow_store.specs.Coming.{after_verdict};
+ghost use Rattle.snow_boot.specs.Replying.{replied};
 
-use crate::due::Due;
-use crate::idset::IdSet;
-use crate::stop::BootStop;
-use crate::store::Store;
-use crate::verdict::Verdict;
-use crate::{index, needs};
 use snow_base::{Bytes, Header, Id};
 use snow_chain::Chain;
 use snow_interval::Kept;
+use snow_store::{BootStop, Due, IdSet, Store, Verdict, needs};
 use std::alloc::{AllocError, Global};
 use std::collections::BTreeSet;
 use std::marker::Model;
@@ -39,7 +35,7 @@ impl<H: Kept> Model for Fetching<H> {
     ghost use Rattle.std.specs.Prelude.{◌≡◌, true};
     ghost use Rattle.snow_boot.specs.BootCode.{coded_hunt};
     ghost use Rattle.snow_boot.specs.Fetching.{Hunt};
-    ghost use Rattle.snow_boot.specs.Renewing.{fetch_by, AreKnown};
+    ghost use Rattle.snow_store.specs.Renewing.{fetch_by, AreKnown};
 
     ghost Value = { Hunt };
 
@@ -257,8 +253,9 @@ impl<H: Kept> Fetching<H> {
 fn higher_one(height: Option<u64>, other: Option<u64>) -> Option<u64>
     ensures { result ≡ higher_one height other }
 {
-    match height {
-        Some(height) => Some(index::higher(height, other)),
-        None => other,
+    match (height, other) {
+        (Some(height), Some(other)) if height < other => Some(other),
+        (Some(height), _) => Some(height),
+        (None, other) => other,
     }
 }

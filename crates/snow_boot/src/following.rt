@@ -1,19 +1,19 @@
 ghost use Rattle.std.specs.Prelude.{◌≡◌};
+ghost use Rattle.snow_boot.specs.Asking.{AreAskedBut};
 ghost use Rattle.snow_boot.specs.Booting.{followed};
-ghost use Rattle.snow_boot.specs.Calling.{IsAlone, last_state};
+ghost use Rattle.snow_chain.specs.Alone.{IsAlone, last_state};
 ghost use Rattle.snow_boot.specs.Coursing.{boot_of, MayAsk, Comes};
-ghost use Rattle.snow_boot.specs.Needing.{AreAskedBut};
 ghost use Rattle.snow_boot.specs.declared.question.Question.TheVariants as question;
 
 use crate::parts::Parts;
 use crate::question::Question;
 use crate::stage::Stage;
-use crate::stop::BootStop;
 use crate::{asking, executing};
 use snow_base::Numbers;
 use snow_chain::Chain;
 use snow_interval::Kept;
 use snow_lines::Lines;
+use snow_store::BootStop;
 
 impl<H: Kept> Parts<H> {
     /// Where the targets are known, what they miss is asked for, and where none misses anything the

@@ -1,19 +1,18 @@
 //! What comes to a node that bootstraps, over its parts.
 ghost use Rattle.std.specs.Prelude.{◌≡◌};
+ghost use Rattle.snow_boot.specs.Asking.{due_of};
 ghost use Rattle.snow_boot.specs.Booting as model;
-ghost use Rattle.snow_boot.specs.Calling.{last_state};
+ghost use Rattle.snow_chain.specs.Alone.{last_state};
 ghost use Rattle.snow_boot.specs.Coursing.{boot_of, MayHear, Comes};
-ghost use Rattle.snow_boot.specs.Needing.{due_of};
 
-use crate::due::Due;
 use crate::parts::Parts;
 use crate::question::Question;
 use crate::stage::Stage;
-use crate::stop::BootStop;
 use snow_base::{Blocks, Bytes, Id, Ids, NodeId, Numbers};
 use snow_chain::Chain;
 use snow_interval::Kept;
 use snow_lines::{Line, Lines, SkipKind};
+use snow_store::{BootStop, Due};
 
 impl<H: Kept> Parts<H> {
     /// A node names its frontier.

@@ -4,7 +4,8 @@ ghost use Rattle.snow_issue.specs.declared.work.Get.{Get};
 ghost use Rattle.snow_boot.specs.Fetching.{Hunt};
 ghost use Rattle.snow_base.specs.Numbers.{next_number};
 ghost use Rattle.snow_boot.specs.Booting.{behind, ask_frontier, ask_accepted, with_collected, with_targets, or_all};
-ghost use Rattle.snow_boot.specs.Calling.{AreDrawn, IsAlone, last_state};
+ghost use Rattle.snow_chain.specs.Alone.{IsAlone, last_state};
+ghost use Rattle.snow_boot.specs.Calling.{AreDrawn};
 ghost use Rattle.snow_boot.specs.Coursing.{boot_of, MayAsk, MayHear, Comes};
 ghost use Rattle.snow_boot.specs.Electing.{majority};
 ghost use Rattle.snow_boot.specs.declared.question.Question.TheVariants as question;
@@ -15,13 +16,13 @@ ghost use Rattle.snow_sample.specs.Roster.{total_weight};
 use crate::parts::Parts;
 use crate::question::Question;
 use crate::stage::Stage;
-use crate::stop::BootStop;
 use crate::survey::Survey;
 use snow_base::Numbers;
 use snow_chain::Chain;
 use snow_interval::Kept;
 use snow_issue::Gets;
 use snow_lines::{Line, Lines, RestartWhy};
+use snow_store::BootStop;
 
 // All nodes are asked for their frontier.
 pub(crate) fn ask_frontier(

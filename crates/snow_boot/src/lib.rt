@@ -2,34 +2,22 @@
 #![tactic(auto)]
 
 mod asking;
-mod block;
 mod boot;
-mod due;
 mod executing;
 mod fetching;
 mod following;
 mod hearing;
-mod idset;
-mod index;
 mod inquiring;
 mod laws;
-mod needs;
 mod parts;
 mod question;
 mod stage;
-mod stop;
-mod store;
 mod survey;
-mod verdict;
 
-pub use block::KeptBlock;
 pub use boot::Boot;
-pub use index::Children;
-pub use laws::{
-    asked_law, asked_once_law, end_law, execution_law, linked_law, path_law, progress_law,
-    quiet_law, run_law,
-};
+pub use laws::{asked_law, asked_once_law, end_law, execution_law, quiet_law};
 pub use question::{Candidate, Question};
+pub use snow_store::{
+    BootStop, Children, KeptBlock, Verdict, linked_law, path_law, progress_law, run_law,
+};
 pub use stage::Stage;
-pub use stop::BootStop;
-pub use verdict::Verdict;

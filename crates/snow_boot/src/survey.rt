@@ -6,10 +6,10 @@ ghost use Rattle.snow_boot.specs.Electing.{awaits, still_awaited, is_collected, 
 ghost use Rattle.snow_boot.specs.Surveying.{AreWithin};
 ghost use Rattle.snow_boot.specs.declared.question.Question.TheVariants as question;
 
-use crate::idset::IdSet;
 use crate::question::{Candidate, Question};
 use snow_base::{Id, Ids, NodeId};
 use snow_sample::{Node, Roster};
+use snow_store::IdSet;
 use std::alloc::{AllocError, Global};
 use std::marker::Model;
 

@@ -1,3 +1,4 @@
+pub mod Alone
 pub mod Chain
 pub mod Coded
 pub mod Fields

@@ -7,14 +7,14 @@ use Rattle.snow_sample.specs.declared.roster.RosterFault.{RosterFault}
 use Rattle.snow_plain.proofs.Cases.{id_itself}
 use Rattle.snow_chain.specs.Chain.{Rules, Held, state_of, begun}
 use Rattle.snow_boot.specs.Booting.{Boot, Going, started}
-use Rattle.snow_boot.specs.Calling.{IsAlone, last_state}
+use Rattle.snow_chain.specs.Alone.{IsAlone, last_state}
 use Rattle.snow_wire.specs.declared.event.Start.{Start}
 use Rattle.snow_engine.specs.declared.stage.Stage.TheVariants as stage
 use Rattle.snow_engine.specs.Catching.{brings, new_booting}
 use Rattle.snow_engine.specs.Node.{runs_with}
-use Rattle.snow_engine.specs.Running.{Running, begun_above}
-use Rattle.snow_engine.specs.Turning.{members}
-use Rattle.snow_engine.proofs.Following.{state_with}
+use Rattle.snow_node.specs.Running.{Running, begun_above}
+use Rattle.snow_node.specs.Turning.{members}
+use Rattle.snow_node.proofs.Following.{state_with}
 
 -- ---- a chain that begins
 

@@ -5,8 +5,8 @@ use Rattle.snow_chain.specs.Plain.{header_of, plain_rules}
 use Rattle.snow_boot.specs.Asking.{asked}
 use Rattle.snow_boot.specs.Booting.{started as asked_first, followed, frontier_came, accepted_came, ancestors_came, timeout_came, stored_came}
 use Rattle.snow_boot.specs.Executing.{executed}
-use Rattle.snow_boot.specs.Keeping.{held, highest, stray, taken}
-use Rattle.snow_boot.specs.Paths.{path, missed, highest_target}
+use Rattle.snow_store.specs.Keeping.{held, highest, stray, taken}
+use Rattle.snow_store.specs.Paths.{path, missed, highest_target}
 use Rattle.snow_boot.specs.Replying.{replied}
 use Rattle.snow_wire.specs.declared.event.Event.{Event}
 use Rattle.snow_wire.specs.declared.event.Event.TheVariants as event
@@ -14,11 +14,11 @@ use Rattle.snow_wire.specs.declared.event.Start.{Start}
 use Rattle.snow_lines.specs.declared.line.Line.TheVariants as line
 use Rattle.snow_lines.specs.declared.why.SkipKind.TheVariants as skip
 use Rattle.snow_engine.specs.declared.task.Task.TheVariants as task
-use Rattle.snow_engine.specs.Outcome.{Comes, quietly, then_comes}
+use Rattle.snow_node.specs.Outcome.{Comes, quietly, then_comes}
 use Rattle.snow_engine.specs.Catching.{boots_on}
 use Rattle.snow_engine.specs.Node.{started, step}
 use Rattle.snow_engine.specs.Staging.{Node}
-use Rattle.snow_engine.specs.Turning.{runs_on}
+use Rattle.snow_node.specs.Turning.{runs_on}
 
 abbrev id_of : ℕ → List ℕ
 id_of first = first ∷ replicate 31 0

@@ -22,11 +22,11 @@ use Rattle.snow_engine.specs.declared.task.Task.TheVariants as task
 use Rattle.snow_engine.specs.declared.end.BadKind.TheVariants as kind
 use Rattle.snow_engine.specs.declared.end.End.{End}
 use Rattle.snow_engine.specs.declared.end.End.TheVariants as end
-use Rattle.snow_engine.specs.Outcome.{Comes, then_comes}
+use Rattle.snow_node.specs.Outcome.{Comes, then_comes}
 use Rattle.snow_engine.specs.Deciding.{Deciding, decides_on, issued_with}
 use Rattle.snow_engine.specs.Node.{started}
 use Rattle.snow_engine.specs.Run.{opened, after_frame, after_frames, lines_of, end_of}
-use Rattle.snow_engine.proofs.Following.{state_with}
+use Rattle.snow_node.proofs.Following.{state_with}
 
 -- an identifier by its first byte
 abbrev id_of : ℕ → List ℕ

@@ -1,12 +1,12 @@
 -- What comes of a node of one stage comes of it as a node, and a word tells a stop.
 use Rattle.std.proofs.Common.{List, Result, Ok, Err, ap}
 use Rattle.snow_lines.specs.declared.line.Line.{Line}
-use Rattle.snow_engine.specs.declared.stop.EngineStop.{EngineStop}
-use Rattle.snow_engine.specs.declared.stop.Halt.{Halt}
-use Rattle.snow_engine.specs.declared.stop.Halt.TheVariants as halt
+use Rattle.snow_node.specs.declared.stop.EngineStop.{EngineStop}
+use Rattle.snow_node.specs.declared.stop.Halt.{Halt}
+use Rattle.snow_node.specs.declared.stop.Halt.TheVariants as halt
 use Rattle.snow_engine.specs.Staging.{Node, staged}
-use Rattle.snow_engine.specs.Stepping.{Tells, Turns}
-use Rattle.snow_engine.specs.Stopping.{Logs, Steps, stops_by}
+use Rattle.snow_node.specs.Stepping.{Tells, Turns}
+use Rattle.snow_node.specs.Stopping.{Logs, Steps, stops_by}
 
 -- a step of one stage is one of the node
 pub turned : (S : Type 0) (as_node : S → Node) (result : Result (Unit {0}) Halt) (after : S) (expected : Result S EngineStop)

@@ -17,7 +17,7 @@ use Rattle.snow_engine.specs.declared.end.End.{End}
 use Rattle.snow_engine.specs.declared.end.End.TheVariants as end
 use Rattle.snow_engine.specs.Staging.{Node}
 use Rattle.snow_engine.specs.Run.{Stand, after_frame, is_stopped}
-use Rattle.snow_engine.specs.Stepping.{LogsFront}
+use Rattle.snow_node.specs.Stepping.{LogsFront}
 use Rattle.snow_engine.specs.Serving.{stand_of, Stands, LogsFrame, GathersLines, GathersFront, SinkFails, Halts, front_worked, one_worked}
 
 -- what isn't a stop is none

@@ -8,25 +8,20 @@ use Rattle.snow_wire.specs.declared.event.Start.{Start}
 use Rattle.snow_lines.specs.declared.line.Line.TheVariants as line
 use Rattle.snow_lines.specs.declared.why.SkipKind.{SkipKind}
 use Rattle.snow_lines.specs.declared.why.SkipKind.TheVariants as kind
-use Rattle.snow_boot.specs.declared.stop.BootStop.{BootStop}
-use Rattle.snow_boot.specs.declared.stop.BootStop.TheVariants as why
+use Rattle.snow_store.specs.declared.stop.BootStop.{BootStop}
+use Rattle.snow_store.specs.declared.stop.BootStop.TheVariants as why
 use Rattle.snow_boot.specs.Booting.{Boot, Next, Going, Done, Outcome, begun, started as asked_first, frontier_came, accepted_came, ancestors_came, timeout_came, stored_came}
 use Rattle.snow_engine.specs.declared.stage.Stage.TheVariants as stage
-use Rattle.snow_engine.specs.declared.stop.EngineStop.{EngineStop}
-use Rattle.snow_engine.specs.declared.stop.EngineStop.TheVariants as stop
-use Rattle.snow_engine.specs.Outcome.{Comes, quietly, with_line, stops}
+use Rattle.snow_node.specs.declared.stop.EngineStop.{EngineStop}
+use Rattle.snow_node.specs.declared.stop.EngineStop.TheVariants as stop
+use Rattle.snow_node.specs.Outcome.{Comes, quietly, with_line, stops}
 use Rattle.snow_engine.specs.Booting.{Booting}
-use Rattle.snow_engine.specs.Running.{begun_above}
+use Rattle.snow_node.specs.Running.{begun_above}
+use Rattle.snow_node.specs.Stepping.{stop_of_boot}
 use Rattle.snow_engine.specs.Staging.{Node}
-use Rattle.snow_engine.specs.Turning.{members}
+use Rattle.snow_node.specs.Turning.{members}
 
 -- ---- what comes of bootstrapping
-
--- the stop that one of bootstrapping is
-abbrev pub stop_of_boot : BootStop → EngineStop
-stop_of_boot why.Requests = stop.Requests
-stop_of_boot why.Memory = stop.Memory
-stop_of_boot other = stop.Boot other
 
 -- it goes on, or the node runs above the block that was accepted last
 abbrev pub brought : Booting → Next → Node

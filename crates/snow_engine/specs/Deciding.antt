@@ -14,10 +14,10 @@ use Rattle.snow_lines.specs.declared.line.Line.TheVariants as line
 use Rattle.snow_lines.specs.declared.why.DropWhy.{DropWhy}
 use Rattle.snow_lines.specs.declared.why.DropWhy.TheVariants as why
 use Rattle.snow_lines.specs.declared.why.SkipKind.TheVariants as kind
-use Rattle.snow_engine.specs.declared.stop.EngineStop.TheVariants as stop
-use Rattle.snow_engine.specs.Outcome.{Comes, quietly, with_line, stops}
-use Rattle.snow_engine.specs.Telling.{told, with_decisions}
-use Rattle.snow_engine.specs.Placing.{opposed}
+use Rattle.snow_node.specs.declared.stop.EngineStop.TheVariants as stop
+use Rattle.snow_node.specs.Outcome.{Comes, quietly, with_line, stops}
+use Rattle.snow_node.specs.Telling.{told, with_decisions}
+use Rattle.snow_node.specs.Placing.{opposed}
 
 -- the board, and what the chain holds
 pub record Deciding : Type 0 where

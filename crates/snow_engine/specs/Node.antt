@@ -12,14 +12,14 @@ use Rattle.snow_wire.specs.declared.event.Start.{Start}
 use Rattle.snow_engine.specs.declared.stage.Stage.TheVariants as stage
 use Rattle.snow_engine.specs.declared.task.Task.{Task}
 use Rattle.snow_engine.specs.declared.task.Task.TheVariants as task
-use Rattle.snow_engine.specs.declared.stop.EngineStop.{EngineStop}
-use Rattle.snow_engine.specs.declared.stop.EngineStop.TheVariants as stop
-use Rattle.snow_engine.specs.Outcome.{Comes, quietly, stops}
+use Rattle.snow_node.specs.declared.stop.EngineStop.{EngineStop}
+use Rattle.snow_node.specs.declared.stop.EngineStop.TheVariants as stop
+use Rattle.snow_node.specs.Outcome.{Comes, quietly, stops}
 use Rattle.snow_engine.specs.Catching.{boots_first, boots_on}
 use Rattle.snow_engine.specs.Deciding.{Deciding, decides_on}
-use Rattle.snow_engine.specs.Running.{Running, begun_above}
+use Rattle.snow_node.specs.Running.{Running, begun_above}
 use Rattle.snow_engine.specs.Staging.{Node, staged, goes_as}
-use Rattle.snow_engine.specs.Turning.{members, runs_on}
+use Rattle.snow_node.specs.Turning.{members, runs_on}
 
 -- ---- the start
 

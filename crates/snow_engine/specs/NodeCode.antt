@@ -12,8 +12,8 @@ use Rattle.snow_chain.specs.Chain.{Held}
 use Rattle.snow_chain.specs.Coded.{coded_held}
 use Rattle.snow_engine.specs.declared.stage.Stage.TheVariants as stage
 use Rattle.snow_engine.specs.Deciding.{Deciding}
-use Rattle.snow_engine.specs.Running.{Running}
-use Rattle.snow_engine.specs.RunningCode.{coded_running, coded_parameters, coded_member}
+use Rattle.snow_node.specs.Running.{Running}
+use Rattle.snow_node.specs.RunningCode.{coded_running, coded_parameters, coded_member}
 use Rattle.snow_engine.specs.Booting.{Booting}
 use Rattle.snow_engine.specs.Staging.{Node}
 

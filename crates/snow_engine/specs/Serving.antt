@@ -16,11 +16,11 @@ use Rattle.snow_engine.specs.declared.end.BadKind.TheVariants as kind
 use Rattle.snow_engine.specs.declared.end.End.{End}
 use Rattle.snow_engine.specs.declared.end.End.TheVariants as end
 use Rattle.snow_engine.specs.declared.end.Over.{Over}
-use Rattle.snow_engine.specs.declared.stop.EngineStop.{EngineStop}
+use Rattle.snow_node.specs.declared.stop.EngineStop.{EngineStop}
 use Rattle.snow_engine.specs.Ends.{is_stop}
 use Rattle.snow_engine.specs.Staging.{Node}
 use Rattle.snow_engine.specs.Run.{Stand, Fresh, Going, Stopped, end_at, after_frame, after_frames, is_stopped, lines_of, shows_stop}
-use Rattle.snow_engine.specs.Stepping.{LogsFront}
+use Rattle.snow_node.specs.Stepping.{LogsFront}
 
 -- where a run stands that has this node, or none yet
 abbrev pub stand_of : Option Node → Stand

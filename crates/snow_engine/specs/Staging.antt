@@ -1,11 +1,11 @@
 -- A node, by its task and by how far it is.
 use Rattle.std.specs.Prelude.{Result, Ok, Err}
 use Rattle.snow_engine.specs.declared.stage.Stage.{Stage}
-use Rattle.snow_engine.specs.declared.stop.EngineStop.{EngineStop}
-use Rattle.snow_engine.specs.Outcome.{Comes}
+use Rattle.snow_node.specs.declared.stop.EngineStop.{EngineStop}
+use Rattle.snow_node.specs.Outcome.{Comes}
 use Rattle.snow_engine.specs.Booting.{Booting}
 use Rattle.snow_engine.specs.Deciding.{Deciding}
-use Rattle.snow_engine.specs.Running.{Running}
+use Rattle.snow_node.specs.Running.{Running}
 
 -- a node that decides, one that bootstraps, or one that runs
 abbrev pub Node : Type 0

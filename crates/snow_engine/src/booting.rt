@@ -3,22 +3,22 @@
 ghost use Rattle.std.specs.Prelude.{◌≡◌, length, nat_lt};
 ghost use Rattle.snow_flake.specs.Parameters.{AreGood};
 ghost use Rattle.snow_chain.specs.Chain.{begun};
-ghost use Rattle.snow_boot.specs.Calling.{Brings, Leaves, MayGoOn, OnDone, OnGoing, last_state};
+ghost use Rattle.snow_chain.specs.Alone.{last_state};
+ghost use Rattle.snow_boot.specs.Calling.{Brings, Leaves, MayGoOn, OnDone, OnGoing};
 ghost use Rattle.snow_boot.specs.Calling.{Logs as BootLogs};
 ghost use Rattle.snow_engine.specs.Catching as model;
-ghost use Rattle.snow_engine.specs.Stepping.{Starts};
-ghost use Rattle.snow_engine.specs.Stopping.{Logs};
-ghost use Rattle.snow_engine.specs.Turning.{members};
+ghost use Rattle.snow_node.specs.Stepping.{Starts};
+ghost use Rattle.snow_node.specs.Stopping.{Logs};
+ghost use Rattle.snow_node.specs.Turning.{members};
 
-use crate::running::Running;
 use crate::stage::{Node, Stage};
-use crate::stop::EngineStop;
 use snow_base::{Numbers, Nums};
 use snow_boot::{Boot, BootStop, Stage as BootStage};
 use snow_chain::Chain;
 use snow_flake::Params;
 use snow_interval::Intervals;
 use snow_lines::{Line, Lines, SkipKind};
+use snow_node::{EngineStop, Running};
 use snow_plain::Board;
 use snow_sample::{Roster, Words};
 use snow_wire::{Event, Start};
@@ -41,10 +41,10 @@ pub struct Booting<C: Chain> {
 }
 
 impl<C: Chain> Model for Booting<C> {
-    ghost use Rattle.snow_boot.specs.Calling.{last_state};
+    ghost use Rattle.snow_chain.specs.Alone.{last_state};
     ghost use Rattle.snow_engine.specs.Booting.{Booting};
     ghost use Rattle.snow_engine.specs.NodeCode.{coded_booting};
-    ghost use Rattle.snow_engine.specs.Kept.{IsCatchingUp};
+    ghost use Rattle.snow_engine.specs.Booting.{IsCatchingUp};
 
     ghost Value = { Booting };
 
@@ -93,7 +93,7 @@ impl<C: Chain> Booting<C> {
     }
 
     /// One event, which came in this frame. The node that comes of it still bootstraps, or it runs.
-    #[tactic(auto, unfolding(crate::specs::Catching::boots_on), using(crate::proofs::Logs::logs_nothing))]
+    #[tactic(auto, unfolding(crate::specs::Catching::boots_on), using(snow_node::proofs::Logs::logs_nothing))]
     pub fn step<B: Board>(
         self,
         frame: u64,
@@ -124,7 +124,7 @@ impl<C: Chain> Booting<C> {
     }
 
     /// A frame is passed over.
-    #[tactic(auto, using(crate::proofs::Logs::logs_nothing))]
+    #[tactic(auto, using(snow_node::proofs::Logs::logs_nothing))]
     fn pass_over<B: Board>(
         self,
         frame: u64,
@@ -139,7 +139,7 @@ impl<C: Chain> Booting<C> {
     }
 
     /// Words came.
-    #[tactic(auto, using(crate::proofs::Logs::logs_nothing))]
+    #[tactic(auto, using(snow_node::proofs::Logs::logs_nothing))]
     fn take_words<B: Board>(
         mut self,
         frame: u64,
@@ -157,7 +157,7 @@ impl<C: Chain> Booting<C> {
     }
 
     /// An answer came, or none will, or a block that was stored; the node runs once it has caught up.
-    #[tactic(auto, using(crate::proofs::Logs::logs_whole))]
+    #[tactic(auto, using(snow_node::proofs::Logs::logs_whole))]
     fn catch_up<B: Board>(
         mut self,
         frame: u64,

@@ -8,16 +8,14 @@ ghost use Rattle.snow_plain.specs.Reached.{MayIssue};
 ghost use Rattle.snow_chain.specs.Chain.{next_on};
 ghost use Rattle.snow_engine.specs.Deciding as model;
 ghost use Rattle.snow_engine.specs.Node.{decides_with};
-ghost use Rattle.snow_engine.specs.Placing.{opposed};
-ghost use Rattle.snow_engine.specs.Stepping.{Tells, Starts, Turns};
+ghost use Rattle.snow_node.specs.Placing.{opposed};
+ghost use Rattle.snow_node.specs.Stepping.{Tells, Starts, Turns};
 
-use crate::admitting::{admit, apply, opposition};
-use crate::reporting::{tell, write};
-use crate::stop::{EngineStop, Halt};
 use snow_base::{Bag, Header, Ids};
 use snow_chain::Chain;
 use snow_flake::Params;
 use snow_lines::{DropWhy, Line, Lines, SkipKind};
+use snow_node::{EngineStop, Halt, admit, apply, opposition, tell, write};
 use snow_plain::Board;
 use snow_wire::{Event, Start};
 use std::alloc::{AllocError, Global};
@@ -36,7 +34,7 @@ impl<C: Chain, B: Board> Model for Deciding<C, B> {
     ghost use Rattle.std.specs.Prelude.{◌≡◌};
     ghost use Rattle.snow_engine.specs.Deciding.{Deciding};
     ghost use Rattle.snow_engine.specs.NodeCode.{coded_deciding};
-    ghost use Rattle.snow_engine.specs.Matching.{IsSteady};
+    ghost use Rattle.snow_node.specs.Matching.{IsSteady};
 
     ghost Value = { Deciding };
 
@@ -64,7 +62,7 @@ impl<C: Chain, B: Board> Deciding<C, B> {
     }
 
     /// One event, which came in this frame.
-    #[tactic(auto, unfolding(crate::specs::Deciding::decides_on), using(crate::proofs::Logs::logs_nothing))]
+    #[tactic(auto, unfolding(crate::specs::Deciding::decides_on), using(snow_node::proofs::Logs::logs_nothing))]
     pub fn step(&mut self, frame: u64, event: &Event, log: &mut Lines) -> Result<(), Halt>
         ensures answer { Turns result self.new (model.decides_on C.rules B.answer self.old frame event.now).1 }
         ensures lines { Tells result log.old log.new (model.decides_on C.rules B.answer self.old frame event.now).0 }

@@ -1,5 +1,9 @@
+ghost use Rattle.std.specs.Prelude.{◌≡◌};
+ghost use Rattle.snow_engine.specs.Run.{end_at};
+
 use snow_boot::BootStop;
 use snow_flake::ParamFault;
+use snow_node::EngineStop;
 use snow_sample::RosterFault;
 
 /// What is wrong with an input, at the frame where the run stops.
@@ -42,6 +46,24 @@ pub enum End {
     RequestLimit,
     /// Bootstrapping stopped; want of memory and of numbers are never told so.
     BootStopped(BootStop),
+}
+
+impl End {
+    /// The end of the run that a stop makes in a frame.
+    pub(crate) fn at(frame: u64, stop: EngineStop) -> End
+        ensures { result ≡ end_at frame stop }
+    {
+        let kind = match stop {
+            EngineStop::Params(fault) => BadKind::Params(fault),
+            EngineStop::Roster(fault) => BadKind::Roster(fault),
+            EngineStop::State => BadKind::State,
+            EngineStop::SecondStart => BadKind::SecondStart,
+            EngineStop::Boot(why) => return End::BootStopped(why),
+            EngineStop::Requests => return End::RequestLimit,
+            EngineStop::Memory => return End::Memory,
+        };
+        End::BadInput { frame, kind }
+    }
 }
 
 /// The run is over; how it ended is kept aside.

@@ -4,14 +4,14 @@ ghost use Rattle.snow_wire.specs.declared.event.Event.{Event};
 ghost use Rattle.snow_wire.specs.Reading.{Fault, Refuses};
 ghost use Rattle.snow_engine.specs.Run.{after_frame, end_at, named};
 ghost use Rattle.snow_engine.specs.Serving.{stand_of, ends_by, ends_in, told, Opens, Stands, LogsFrame};
-ghost use Rattle.snow_engine.specs.Stopping.{stop_for, stops_by};
+ghost use Rattle.snow_node.specs.Stopping.{stop_for, stops_by};
 
 use crate::end::{BadKind, End, Over};
 use crate::engine::Engine;
-use crate::stop::{EngineStop, Halt};
 use crate::task::Task;
 use snow_chain::Chain;
 use snow_lines::{Lines, SkipKind};
+use snow_node::{EngineStop, Halt};
 use snow_plain::Board;
 use snow_wire::{Event, Skip, block_in, decode};
 use std::alloc::{AllocError, Global};
@@ -102,7 +102,7 @@ impl<C: Chain, B: Board> Runner<C, B> {
         ensures log { self.new.log ≡ self.old.log }
         ensures task { self.new.task ≡ self.old.task }
     {
-        self.end = halt.stop(&self.stop).in_frame(frame);
+        self.end = End::at(frame, halt.stop(&self.stop));
         Over
     }
 }
@@ -125,7 +125,7 @@ fn open<C: Chain, B: Board>(
 }
 
 /// The engine that begins with this event of the first frame, which has to be a Start.
-#[tactic(auto, unfolding(crate::specs::Run::opened), using(crate::proofs::Logs::logs_nothing))]
+#[tactic(auto, unfolding(crate::specs::Run::opened), using(snow_node::proofs::Logs::logs_nothing))]
 fn open_with<C: Chain, B: Board>(
     alloc: Global,
     task: Task,
@@ -139,7 +139,7 @@ fn open_with<C: Chain, B: Board>(
     match first {
         Ok(Event::Start(start)) => match Engine::start(alloc, task, start, log) {
             Ok(engine) => Ok(engine),
-            Err(stop) => Err(stop.in_frame(frame)),
+            Err(stop) => Err(End::at(frame, stop)),
         },
         _ => Err(End::BadInput {
             frame,
@@ -173,7 +173,7 @@ fn follow<C: Chain, B: Board>(
 }
 
 /// The same for a payload that is read whole.
-#[tactic(auto, using(crate::proofs::Logs::logs_nothing, crate::proofs::Stopped::stands_in, crate::proofs::Stopped::logs_in))]
+#[tactic(auto, using(snow_node::proofs::Logs::logs_nothing, crate::proofs::Stopped::stands_in, crate::proofs::Stopped::logs_in))]
 fn follow_whole<C: Chain, B: Board>(
     alloc: Global,
     engine: &mut Engine<C, B>,

@@ -1,6 +1,6 @@
 use crate::booting::Booting;
 use crate::deciding::Deciding;
-use crate::running::Running;
+use snow_node::Running;
 
 /// A node, by its task and by how far it is.
 #[derive(Drop)]

@@ -1,7 +1,8 @@
 -- Lemmas on the nodes that stay when a child of the last accepted block is accepted.
-use Rattle.std.proofs.Common.{◌≡◌, ℕ, ◌<◌, Bool, true, false, not, ◌&&◌, List, [], ◌∷◌, length, get_or, reverse, map, filter, cond, bytes_eq, All, Some, None, find, refl, sym, ap, subst, ◌∙◌, arith}
+use Rattle.std.proofs.Common.{◌≡◌, ℕ, ◌<◌, Bool, true, false, not, ◌&&◌, List, [], ◌∷◌, length, get_or, drop, reverse, map, filter, cond, bytes_eq, All, Some, None, slice_get, find, refl, sym, ap, subst, ◌∙◌, arith}
 use Rattle.std.specs.List.{list_any, AllByRecursion, IsDistinct}
 use Rattle.std.specs.Map.{lookup, remove_entry, keys_of}
+use Rattle.std.specs.Option.{option_map}
 use Rattle.std.proofs.lemmas.List.{get_or-map, get_or_default, length-map}
 use Rattle.std.proofs.lemmas.List.Sums.{length-filter, count_by-le-length}
 use Rattle.std.proofs.lemmas.Map.Entries.{place_from_lookup}
@@ -17,10 +18,11 @@ use Rattle.snow_plain.proofs.Kept.{filter-reverse, grown_kept, has_own}
 use Rattle.snow_tree.specs.declared.key.Key.{Key}
 use Rattle.snow_tree.specs.declared.node.Node.{Node}
 use Rattle.snow_tree.specs.Held.{children_of, stays_with, blocks_in}
-use Rattle.snow_tree.specs.Nodes.{block_of, blocks_of, entry_of, judged, left, outsiders, IsKept}
-use Rattle.snow_tree.proofs.Descending.{line_at, descends_at, last_descends}
+use Rattle.snow_tree.specs.Nodes.{block_of, blocks_of, entry_of, judged, stays_by_note, left, outsiders, IsKept}
+use Rattle.snow_tree.proofs.Descending.{line_at, descends_at, last_descends, parent_before}
 use Rattle.snow_tree.proofs.Listed.{filter_kept}
-use Rattle.snow_tree.proofs.Linked.{key_eq, apart_off, not_found}
+use Rattle.snow_tree.specs.Row.{key_eq}
+use Rattle.snow_tree.proofs.Linked.{apart_off, not_found}
 
 -- ---- the child itself
 
@@ -37,19 +39,10 @@ own bs child h = own_line (reverse bs) child (has_block-reverse bs child ∙ h)
 
 -- ---- what a sweep leaves
 
--- a filter keeps the same where an entry that fails is removed
-pub filter_removed : {K X : Type 0} (test : K → Bool) (p : K × X → Bool) (es : List (K × X)) → ((e : K × X) → test e.0 ≡ true → p e ≡ false)
-    → filter p (remove_entry test es) ≡ filter p es
-filter_removed test p [] fails = refl
-filter_removed test p (e ∷ es) fails =
-    split_on (test e.0)
-    (λ t. rw t (rw (fails e t) refl))
-    (λ t. rw t (ap (λ l. cond (p e) (e ∷ l) l) (filter_removed test p es fails)))
-
 module _ {T : Type 0} where
   -- the nodes that stay are those of which nothing was noted before
   pub swept : (blocks : List Header) (child : List ℕ) (nodes : List (Key × Node T)) → All (λ e. e.1.is_rejected ≡ false) nodes
-      → filter (λ e. not e.1.is_rejected && not (bytes_eq e.0.id child)) (map (judged blocks child) nodes)
+      → filter (stays_by_note child) (map (judged blocks child) nodes)
       ≡ filter (λ e. descends blocks child e.0.id && not (bytes_eq e.0.id child)) nodes
   swept blocks child [] clear = refl
   swept blocks child (e ∷ nodes) clear =
@@ -60,14 +53,6 @@ module _ {T : Type 0} where
       (λ s. rw s rest)
       (λ s. rw s (λ i. (e.0, record e.1 { is_rejected = sym was i }) ∷ rest i))))
       (λ t. rw t rest)
-
-  -- the child isn't among those that a sweep keeps
-  pub child_goes : (child : List ℕ) (e : Key × Node T) → bytes_eq child e.0.id ≡ true → (not e.1.is_rejected && not (bytes_eq e.0.id child)) ≡ false
-  child_goes child e t = rw (id_same e.0.id child (sym (same_id child e.0.id t))) (off (not e.1.is_rejected))
-    where
-      off : (b : Bool) → (b && false) ≡ false
-      off true = refl
-      off false = refl
 
   -- the child is found as it was
   pub found_judged : (blocks : List Header) (child : List ℕ) (nodes : List (Key × Node T)) → All (λ e. e.1.is_rejected ≡ false) nodes → descends blocks child child ≡ true
@@ -307,10 +292,33 @@ module _ {T : Type 0} where
       subst (λ (b : Header). descends bs child b.id ≡ true) (get_or-map block_of nodes k d (block_of d) h)
       (all_under last child bs g only k (block_of d) (subst (λ n. k < n) (sym (length-map nodes block_of)) h))
 
+  -- and it was issued first
+  issued_first : (last child : List ℕ) (e : Key × Node T) (nodes : List (Key × Node T)) → IsGrown last (reverse (blocks_of (e ∷ nodes)))
+      → children_of (blocks_of (e ∷ nodes)) last ≡ child ∷ [] → bytes_eq child e.0.id ≡ true
+  issued_first last child e nodes g only =
+      let b = block_of e in
+      split_on (bytes_eq last b.parent)
+      (λ t.
+      let whole : b.id ∷ children_of (blocks_of nodes) last ≡ child ∷ [] = rw (id_same b.parent last (sym (same_id last b.parent t))) at only in
+      id_same child b.id (sym (first_is whole)))
+      (λ t. absurd (let before : false ≡ true = parent_before last (blocks_of (e ∷ nodes)) 0 b g (omega arith) t in cc))
+    where
+      first_is : {x : List ℕ} {xs : List (List ℕ)} → x ∷ xs ≡ child ∷ [] → x ≡ child
+      first_is h = cc
+
   -- so it alone leaves
   pub alone_left : (last child : List ℕ) (nodes : List (Key × Node T)) → IsGrown last (reverse (blocks_of nodes)) → IsDistinct key_eq (keys_of nodes)
-      → children_of (blocks_of nodes) last ≡ child ∷ [] → remove_entry (λ k. bytes_eq child k.id) nodes ≡ left nodes child
-  alone_left last child nodes g unique only = only_leaves (blocks_of nodes) child nodes unique (all_stay last child nodes g only)
+      → children_of (blocks_of nodes) last ≡ child ∷ [] → drop 1 nodes ≡ left nodes child
+  alone_left last child [] g unique only = absurd cc
+  alone_left last child (e ∷ nodes) g unique only =
+      let gone : remove_entry (λ k. bytes_eq child k.id) (e ∷ nodes) ≡ nodes = rw (issued_first last child e nodes g only) refl in
+      sym gone ∙ only_leaves (blocks_of (e ∷ nodes)) child (e ∷ nodes) unique (all_stay last child (e ∷ nodes) g only)
+
+  -- and it is the first node
+  pub alone_found : (last child : List ℕ) (nodes : List (Key × Node T)) → IsGrown last (reverse (blocks_of nodes)) → children_of (blocks_of nodes) last ≡ child ∷ []
+      → option_map (λ e. e.1) (slice_get nodes 0) ≡ lookup (λ k. bytes_eq child k.id) nodes
+  alone_found last child [] g only = absurd cc
+  alone_found last child (e ∷ nodes) g only = rw (issued_first last child e nodes g only) refl
 
   -- and none is rejected
   pub alone_told : (last child : List ℕ) (nodes : List (Key × Node T)) → IsGrown last (reverse (blocks_of nodes)) → children_of (blocks_of nodes) last ≡ child ∷ []

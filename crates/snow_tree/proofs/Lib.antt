@@ -2,6 +2,8 @@ pub mod Descending
 pub mod Listed
 pub mod Noted
 pub mod Placed
+pub mod Numbered
+pub mod Sifted
 pub mod Linked
 pub mod Left
 pub mod Climbed

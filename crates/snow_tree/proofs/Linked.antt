@@ -1,5 +1,5 @@
 -- Lemmas on the nodes when a block is issued or taken back: its parent's children change.
-use Rattle.std.proofs.Common.{◌≡◌, ℕ, zero, suc, ◌+◌, ◌-◌, ◌≤◌, Bool, true, false, ◌||◌, List, [], ◌∷◌, ◌++◌, length, get_or, take, reverse, map, bytes_eq, All, Option, Some, None, slice_get, Result, Ok, Err, OnOk, OnErr, IsOk, refl, sym, ap, subst, ◌∙◌, length-append, append-nil, if◌then◌else◌, arith}
+use Rattle.std.proofs.Common.{◌≡◌, ℕ, zero, suc, ◌+◌, ◌-◌, ◌≤◌, true, false, ◌||◌, List, [], ◌∷◌, ◌++◌, length, get_or, take, reverse, map, bytes_eq, All, Some, None, slice_get, Result, Ok, Err, OnOk, OnErr, IsOk, refl, sym, ap, subst, ◌∙◌, length-append, append-nil, if◌then◌else◌, arith}
 use Rattle.std.specs.List.{AllByRecursion, IsDistinct, position}
 use Rattle.std.specs.Option.{option_map}
 use Rattle.std.proofs.lemmas.Result.{on_ok_weaker, on_err_weaker}
@@ -8,7 +8,7 @@ use Rattle.std.proofs.lemmas.List.{map-append, reverse-append, length-map}
 use Rattle.std.proofs.lemmas.List.Elements.{All-append, All-map, All-cons, All-nil, All-head, All-tail}
 use Rattle.std.proofs.lemmas.Bool.{or_parts}
 use Rattle.std.proofs.lemmas.Option.{none-some, slice_get-map}
-use Rattle.indexmap.specs.IndexMap.{set_value_at}
+use Rattle.snow_tree.specs.Row.{set_value_at, key_eq}
 use Rattle.snow_base.specs.declared.header.Header.{Header}
 use Rattle.snow_plain.specs.Grown.{has_block, is_on, IsGrown, Grew}
 use Rattle.snow_plain.proofs.Cases.{split_on, clash, same_id, differs_back}
@@ -19,10 +19,7 @@ use Rattle.snow_tree.specs.Held.{children_of}
 use Rattle.snow_tree.specs.Nodes.{block_of, blocks_of, linked, unlinked, with_children, IsKept}
 use Rattle.snow_tree.proofs.Placed.{either_way, found_at}
 use Rattle.snow_tree.proofs.Listed.{children_push, no_children}
-
--- keys are the same where their identifiers are
-abbrev pub key_eq : Key → Key → Bool
-key_eq a b = bytes_eq a.id b.id
+use Rattle.snow_tree.proofs.Numbered.{of_key}
 
 -- a change of the parent's children alone
 abbrev pub ChangesOnly : (List ℕ → List (List ℕ) → List (List ℕ)) → List ℕ → Type 0
@@ -54,16 +51,6 @@ module _ {T : Type 0} where
   pub apart_off : (nodes : List (Key × Node T)) (k : Key) → AllByRecursion (λ y. key_eq k y ≡ false) (keys_of nodes) → has_block (blocks_of nodes) k.id ≡ false
   apart_off [] k h = refl
   apart_off (e ∷ nodes) k h = rw (differs_back e.0.id k.id h.0) (apart_off nodes k h.1)
-
-  -- what is so of each key is so of one
-  of_key : (P : Key → Type 0) (nodes : List (Key × Node T)) (i : ℕ) (e : Key × Node T) → AllByRecursion P (keys_of nodes) → slice_get nodes i ≡ Some e → P e.0
-  of_key P [] i e h at = absurd (none-some e at)
-  of_key P (x ∷ nodes) zero e h at = subst (λ o. P (key_or o)) at h.0
-    where
-      key_or : Option (Key × Node T) → Key
-      key_or None = x.0
-      key_or (Some y) = y.0
-  of_key P (x ∷ nodes) (suc i) e h at = of_key P nodes i e h.1 at
 
   -- where the parent isn't among the nodes nothing changes
   pub none_changed : (change : List ℕ → List (List ℕ) → List (List ℕ)) (parent : List ℕ) → ChangesOnly change parent → (nodes : List (Key × Node T))

@@ -6,7 +6,7 @@ use Rattle.std.proofs.lemmas.List.{get_or-map, length-map, length-take, map-appe
 use Rattle.std.proofs.lemmas.List.Sums.{length-filter, count_by-le-length}
 use Rattle.std.proofs.lemmas.Option.{none-some, slice_get-map, get_or_from_slice_get}
 use Rattle.std.proofs.lemmas.List.Elements.{filter_more}
-use Rattle.indexmap.specs.IndexMap.{set_value_at}
+use Rattle.snow_tree.specs.Row.{set_value_at}
 use Rattle.snow_base.specs.declared.header.Header.{Header}
 use Rattle.snow_base.specs.Ancestry.{descends}
 use Rattle.snow_plain.specs.Grown.{has_block, IsGrown}

@@ -9,8 +9,7 @@ use Rattle.std.proofs.lemmas.Map.Entries.{place_from_lookup}
 use Rattle.std.proofs.lemmas.Option.{none-some, slice_get_within, get_or_from_slice_get}
 use Rattle.std.proofs.lemmas.Grind.{common_steps}
 use Rattle.std.proofs.lemmas.List.Elements.{All-cons, All-head, All-tail}
-use Rattle.indexmap.specs.IndexMap.{set_value_at}
-use Rattle.indexmap.specs.Layout.{length-set_value_at}
+use Rattle.snow_tree.specs.Row.{set_value_at}
 use Rattle.snow_base.specs.declared.header.Header.{Header}
 use Rattle.snow_base.specs.Ancestry.{line_in, child_on}
 use Rattle.snow_plain.specs.Grown.{has_block, is_on, IsGrown}
@@ -23,6 +22,7 @@ use Rattle.snow_tree.specs.Nodes.{block_of, blocks_of, entry_of, with_children, 
 use Rattle.snow_tree.proofs.Placed.{position_cons}
 use Rattle.snow_tree.proofs.Listed.{no_children}
 use Rattle.snow_tree.proofs.Linked.{no_block}
+use Rattle.snow_tree.proofs.Numbered.{length-set_value_at}
 
 -- what holds where a call succeeded, after one that did
 pub ok_after : {A E P : Type 0} (r : Result A E) → is_err r ≡ false → OnOk r P → P

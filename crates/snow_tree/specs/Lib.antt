@@ -1,3 +1,5 @@
 pub mod Held
+pub mod Row
 pub mod Nodes
+pub mod Lent
 pub mod Lending

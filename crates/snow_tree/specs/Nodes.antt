@@ -57,6 +57,10 @@ module _ {T : Type 0} where
   abbrev pub judged : List Header → List ℕ → Key × Node T → Key × Node T
   judged blocks child e = noted (not (descends blocks child e.0.id)) e
 
+  -- whether a node stays, where it is noted which are rejected: it isn't the child
+  abbrev pub stays_by_note : List ℕ → Key × Node T → Bool
+  stays_by_note child e = not e.1.is_rejected && not (bytes_eq e.0.id child)
+
   -- the nodes that stay when a child is accepted
   abbrev pub left : List (Key × Node T) → List ℕ → List (Key × Node T)
   left nodes child = filter (λ e. descends (blocks_of nodes) child e.0.id && not (bytes_eq e.0.id child)) nodes

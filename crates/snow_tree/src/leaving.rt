@@ -1,11 +1,12 @@
-ghost use Rattle.std.specs.Prelude.{◌≡◌, ◌+◌, ◌<◌, ◌≤◌, ◌∷◌, ◌++◌, [], true, false, not, ◌&&◌, ◌||◌, All, filter, length, map, reverse, slice_get, bytes_eq, Some, vec_len, vec_capacity, if◌then◌else◌};
-ghost use Rattle.std.specs.Map.{lookup};
-ghost use Rattle.indexmap.specs.IndexMap.{values, set_value_at};
+ghost use Rattle.std.specs.Prelude.{◌≡◌, ◌+◌, ◌<◌, ◌≤◌, List, ◌∷◌, ◌++◌, [], true, false, All, drop, filter, length, map, reverse, slice_get, bytes_eq, Some, vec_len, vec_capacity, if◌then◌else◌};
+ghost use Rattle.std.specs.Map.{lookup, values_of};
+ghost use Rattle.std.specs.Option.{option_map};
 ghost use Rattle.snow_plain.specs.Grown.{IsGrown};
 ghost use Rattle.snow_tree.specs.declared.key.Key.{Key};
 ghost use Rattle.snow_tree.specs.declared.node.Node.{Node};
 ghost use Rattle.snow_tree.specs.Held.{children_of};
-ghost use Rattle.snow_tree.specs.Nodes.{block_of, blocks_of, noted, is_out, judged, left, outsiders};
+ghost use Rattle.snow_tree.specs.Nodes.{blocks_of, is_out, judged, stays_by_note, left, outsiders};
+ghost use Rattle.snow_tree.specs.Row.{set_value_at};
 
 use crate::key::Key;
 use crate::looking::block_at;
@@ -23,7 +24,7 @@ fn is_out<T>(nodes: &Nodes<T>, last: &Id, child: &Id, block: &Header) -> bool
     if *last == block.parent {
         return true;
     }
-    match nodes.get(&Key { id: block.parent }) {
+    match nodes.get(&block.parent) {
         Some(parent) => parent.is_rejected,
         None => false,
     }
@@ -32,10 +33,12 @@ fn is_out<T>(nodes: &Nodes<T>, last: &Id, child: &Id, block: &Header) -> bool
 // Notes of the block at a place whether it is rejected.
 fn note<T>(nodes: &mut Nodes<T>, place: usize, is_rejected: bool)
     requires { place < length nodes.old.entries }
-    ensures { (n : Node T) → slice_get (values nodes.old) place ≡ Some n → nodes.new.entries ≡ set_value_at nodes.old.entries place (record n { is_rejected = is_rejected }) }
+    ensures { (n : Node T) → slice_get (values_of nodes.old.entries) place ≡ Some n → nodes.new.entries ≡ set_value_at nodes.old.entries place (record n { is_rejected = is_rejected }) }
 {
-    let node = &mut nodes[place];
-    node.is_rejected = is_rejected;
+    match nodes.get_index_mut(place) {
+        Some(node) => node.is_rejected = is_rejected,
+        None => (),
+    }
 }
 
 // Tells a block where it is rejected.
@@ -70,22 +73,65 @@ fn judge_all<T>(nodes: &mut Nodes<T>, last: &Id, child: &Id, rejected: &mut Vec<
     }
 }
 
-// Takes out the child, and the blocks of which it is noted that they are rejected.
+// Whether the first node stays: it isn't the child, nor is it noted that it is rejected.
+fn first_stays<T>(nodes: &Nodes<T>, child: &Id) -> bool
+    ensures { (e : Key × Node T) (later : List (Key × Node T)) → nodes.now.entries ≡ e ∷ later → result ≡ stays_by_note child.now e }
+{
+    match nodes.get_index(0) {
+        Some((key, node)) => !node.is_rejected && key.id != *child,
+        None => false,
+    }
+}
+
+// Takes the first node out, which is the answer if it is the child.
+fn take_first<T: Drop>(nodes: &mut Nodes<T>, child: &Id, taken: Option<Node<T>>) -> Option<Node<T>>
+    ensures nodes { nodes.new.entries ≡ drop 1 nodes.old.entries }
+    ensures taken { (e : Key × Node T) (later : List (Key × Node T)) → nodes.old.entries ≡ e ∷ later → result ≡ (if bytes_eq child.now e.0.id then Some e.1 else taken) }
+{
+    match nodes.pop_first() {
+        Some((key, node)) => { if *child == key.id { Some(node) } else { taken } }
+        None => taken,
+    }
+}
+
+// The first node becomes the last if it stays, and else goes out.
+fn sift<T: Drop>(nodes: &mut Nodes<T>, child: &Id, taken: Option<Node<T>>) -> Option<Node<T>>
+    ensures nodes { (e : Key × Node T) (later : List (Key × Node T)) → nodes.old.entries ≡ e ∷ later → nodes.new.entries ≡ later ++ (if stays_by_note child.now e then e ∷ [] else []) }
+    ensures taken { (e : Key × Node T) (later : List (Key × Node T)) → nodes.old.entries ≡ e ∷ later → result ≡ (if bytes_eq child.now e.0.id then Some e.1 else taken) }
+{
+    if first_stays(nodes, child) {
+        nodes.turn();
+        return taken;
+    }
+    take_first(nodes, child, taken)
+}
+
+// Takes out the child, and the blocks of which it is noted that they are rejected: each node goes past once.
 fn sweep<T: Drop>(nodes: &mut Nodes<T>, child: &Id) -> Option<Node<T>>
     ensures node { result ≡ lookup (λ k. bytes_eq child.now k.id) nodes.old.entries }
-    ensures left { nodes.new.entries ≡ filter (λ e. not e.1.is_rejected && not (bytes_eq e.0.id child.now)) nodes.old.entries }
+    ensures left { nodes.new.entries ≡ filter (stays_by_note child.now) nodes.old.entries }
 {
-    let node = nodes.shift_remove(&Key { id: *child });
-    nodes.retain(
-        |key: &Key, node: &mut Node<T>| -> bool
-            ensures { (result ≡ (not node.old.is_rejected && not (bytes_eq key.now.id child.entry.now))) × (node.new ≡ node.old) }
-        { !node.is_rejected && key.id != *child },
-    );
-    node
+    let mut taken = None;
+    for place in 0..nodes.len() {
+        taken = sift(nodes, child, taken);
+    }
+    taken
+}
+
+// Takes the first node out.
+fn first_node<T>(nodes: &mut Nodes<T>) -> Option<Node<T>>
+    ensures node { result ≡ option_map (λ e. e.1) (slice_get nodes.old.entries 0) }
+    ensures left { nodes.new.entries ≡ drop 1 nodes.old.entries }
+{
+    match nodes.pop_first() {
+        Some((_, node)) => Some(node),
+        None => None,
+    }
 }
 
 /// Takes the child out that is accepted, and all that don't descend from it. These are told in order
-/// of issue. Where it is the only child, no other leaves, and none is looked at. It takes no memory.
+/// of issue. Where it is the only child it was issued first, and no other block is touched. It takes no
+/// memory.
 pub(crate) fn take_accepted<T: Drop>(
     nodes: &mut Nodes<T>,
     last: &Id,
@@ -104,7 +150,7 @@ pub(crate) fn take_accepted<T: Drop>(
 {
     let _len = nodes.len();
     if is_alone {
-        return nodes.shift_remove(&Key { id: *child });
+        return first_node(nodes);
     }
     judge_all(nodes, last, child, rejected);
     sweep(nodes, child)

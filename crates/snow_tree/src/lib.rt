@@ -7,6 +7,7 @@ mod leaving;
 mod linking;
 mod looking;
 mod node;
+mod row;
 mod tree;
 
 pub use tree::{Tree, TreeFull};

@@ -5,7 +5,6 @@ ghost use Rattle.snow_base.specs.Ancestry.{child_on};
 ghost use Rattle.snow_plain.specs.Grown.{IsGrown};
 ghost use Rattle.snow_tree.specs.Nodes.{block_of, blocks_of};
 
-use crate::key::Key;
 use crate::node::Nodes;
 use snow_base::{Header, Id};
 
@@ -13,7 +12,7 @@ use snow_base::{Header, Id};
 pub(crate) fn place_of<T>(nodes: &Nodes<T>, id: &Id) -> Option<usize>
     ensures { result ≡ position (λ e. bytes_eq e.0.id id.now) nodes.now.entries }
 {
-    nodes.get_index_of(&Key { id: *id })
+    nodes.get_index_of(id)
 }
 
 /// The block at a place.

@@ -1,6 +1,5 @@
 use crate::children::Children;
-use crate::key::Key;
-use indexmap::IndexMap;
+use crate::row::Row;
 use snow_base::Id;
 
 /// A pending block, with its children and its load. Its identifier is the key under which it stands.
@@ -15,4 +14,4 @@ pub(crate) struct Node<T> {
 }
 
 /// The pending blocks in order of issue, by identifier.
-pub(crate) type Nodes<T> = IndexMap<Key, Node<T>>;
+pub(crate) type Nodes<T> = Row<Node<T>>;

@@ -4,12 +4,11 @@ ghost use Rattle.snow_plain.specs.Grown.{has_block, is_on};
 ghost use Rattle.snow_tree.specs.Held.{blocks_in, begun, inserted, taken_back, place_in, entry_in, children_of, ancestor_in, promoted};
 
 use crate::children::Children;
-use crate::key::Key;
 use crate::leaving::take_accepted;
-use crate::linking::{append, make_room, unlink};
+use crate::linking::{make_room, unlink};
 use crate::looking::{ancestor, block_at, place_of};
 use crate::node::{Node, Nodes};
-use indexmap::IndexMap;
+use crate::row::Row;
 use snow_base::{Header, Id};
 use std::alloc::Global;
 use std::marker::Model;
@@ -67,7 +66,7 @@ impl<T: Drop> Tree<T> {
             last,
             height,
             children: Children::new(alloc),
-            nodes: IndexMap::new(alloc),
+            nodes: Row::new(alloc),
             rejected: Vec::new(alloc),
             alloc,
         }
@@ -100,7 +99,7 @@ impl<T: Drop> Tree<T> {
             is_rejected: false,
             load,
         };
-        append(&mut self.nodes, Key { id }, node);
+        self.nodes.push(id, node);
         self.rejected.clear();
         Ok(())
     }
@@ -164,7 +163,7 @@ impl<T: Drop> Tree<T> {
     pub fn header_of(&self, id: &Id) -> Option<Header>
         ensures { result ≡ option_map (λ e. e.block) (entry_in (self.now).pending id.now) }
     {
-        match self.nodes.get(&Key { id: *id }) {
+        match self.nodes.get(id) {
             Some(node) => Some(Header {
                 id: *id,
                 parent: node.parent,
@@ -189,7 +188,7 @@ impl<T: Drop> Tree<T> {
         if self.last == *id {
             return self.children.list();
         }
-        match self.nodes.get(&Key { id: *id }) {
+        match self.nodes.get(id) {
             Some(node) => node.children.list(),
             None => &[],
         }
@@ -226,9 +225,9 @@ impl<T: Drop> Tree<T> {
     }
 
     /// A child of the last accepted block becomes the last accepted one, and its load is the answer.
-    /// All that don't descend from it go, with their loads. It takes no memory. It costs one pass over
-    /// the pending blocks, with a look-up for each; where the child is the only one, no block is looked
-    /// at.
+    /// All that don't descend from it go, with their loads. It takes no memory. Where the child is the
+    /// only one it is one look-up, whatever is pending; where others leave, a pass over the pending
+    /// blocks, with look-ups for each.
     pub fn promote(&mut self, child: &Id) -> T
         requires child { option_map (λ e. e.block.parent) (entry_in (self.old).pending child.now) ≡ Some (self.old).last }
         ensures load { IfSome (entry_in (self.old).pending child.now) (λ e. result ≡ e.load) }

@@ -108,6 +108,15 @@ fn same_ends<B: Board>(a: &B, b: &B) -> bool {
         && a.decisions() == b.decisions()
 }
 
+// The polls replayed with their steps counted, where each has at most so many votes.
+fn replay<R: Rule, L: Ledger>(board: &mut Topo<R>, polls: &[Bag], most: u32, steps: &mut Steps<L>)
+    requires { most ≤ (board.old).board.parameters.k }
+{
+    if are_few(polls, most) {
+        replay_counted(board, polls, steps);
+    }
+}
+
 // The same polls replayed with their steps counted, and recorded one by one.
 fn replayed<R: Rule, L: Ledger>(alloc: Global, blank: Blank) -> Result<(), Fail>
     requires name { blank.name ≡ L.name }
@@ -119,9 +128,7 @@ fn replayed<R: Rule, L: Ledger>(alloc: Global, blank: Blank) -> Result<(), Fail>
     let polls = fifty_polls(alloc)?;
     let mut board = fifty::<Topo<R>>(alloc, params)?;
     let mut other = fifty::<Topo<R>>(alloc, params)?;
-    if are_few(&polls, params.k()) {
-        replay_counted(&mut board, &polls, &mut steps);
-    }
+    replay(&mut board, &polls, params.k(), &mut steps);
     one_by_one(&mut other, &polls, params.k());
     holds(same_ends(&board, &other))
 }

@@ -3,10 +3,10 @@ use Rattle.std.proofs.Common.{◌+◌, ◌-◌, [], append-nil, refl, sym, ap, s
 use Rattle.std.specs.Prelude.{Ok, Err}
 use Rattle.snow_boot.specs.Accepting.{Concludes}
 use Rattle.snow_boot.specs.Booting.{Outcome, ended}
-use Rattle.snow_boot.specs.Calling.{last_state}
+use Rattle.snow_chain.specs.Alone.{last_state}
 use Rattle.snow_boot.specs.Executing.{executed}
-use Rattle.snow_boot.specs.Indexing.{Shelf}
-use Rattle.snow_boot.specs.Linking.{IsLinked, upward}
+use Rattle.snow_store.specs.Indexing.{Shelf}
+use Rattle.snow_store.specs.Linking.{IsLinked, upward}
 use Rattle.snow_boot.proofs.Concluded.{concludes_at, concludes_not, path_of_top, path_of_none}
 use Rattle.snow_boot.proofs.executing.finish.Goals as goal
 

@@ -1,5 +1,5 @@
 -- The vote of this identifier is added to those before it.
-use Rattle.snow_engine.proofs.Offers.{votes_more}
+use Rattle.snow_engine.proofs.Voted.{votes_more}
 use Rattle.snow_engine.proofs.deciding.votes_for.Goals as goal
 
 pub loop-id-preserved : goal.loop-id-preserved

@@ -1,6 +1,6 @@
 -- A node runs at once, above the block with which its chain begins.
 use Rattle.snow_sample.specs.Roster.{first_fault}
-use Rattle.snow_engine.specs.Turning.{members}
+use Rattle.snow_node.specs.Turning.{members}
 use Rattle.snow_engine.proofs.Beginning.{begun_alone, runs}
 use Rattle.snow_engine.proofs.engine.begin.Goals as goal
 

@@ -1,5 +1,5 @@
 -- What comes of the event has all that is promised.
-use Rattle.snow_boot.specs.Calling.{last_state}
+use Rattle.snow_chain.specs.Alone.{last_state}
 use Rattle.snow_boot.specs.Coursing.{boot_of}
 use Rattle.snow_boot.specs.Booting.{ancestors_came}
 use Rattle.snow_boot.proofs.Promised.{promised}

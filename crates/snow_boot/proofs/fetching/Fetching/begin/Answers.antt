@@ -1,8 +1,8 @@
 -- Nothing is missed yet.
 use Rattle.std.proofs.Common.{ap}
-use Rattle.snow_boot.specs.Indexing.{Shelf}
-use Rattle.snow_boot.specs.Renewing.{fetch_by}
-use Rattle.snow_boot.proofs.Renewed.{none_needed}
+use Rattle.snow_store.specs.Indexing.{Shelf}
+use Rattle.snow_store.specs.Renewing.{fetch_by}
+use Rattle.snow_store.proofs.Renewed.{none_needed}
 use Rattle.snow_boot.proofs.fetching.Fetching.begin.Goals as goal
 
 pub invariant_of-result : goal.invariant_of-result

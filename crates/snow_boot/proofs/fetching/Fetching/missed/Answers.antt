@@ -1,8 +1,8 @@
 -- What a target misses, as its block or its absence in the list of those found tells.
 use Rattle.std.proofs.Common.{ap, ◌∙◌}
 use Rattle.snow_boot.specs.Fetching.{Hunt}
-use Rattle.snow_boot.specs.Paths.{Fetch, missed}
-use Rattle.snow_boot.proofs.Storing.{missed_is}
+use Rattle.snow_store.specs.Paths.{Fetch, missed}
+use Rattle.snow_store.proofs.Storing.{missed_is}
 use Rattle.snow_boot.proofs.fetching.Fetching.missed.Goals as goal
 
 pub returns : goal.returns

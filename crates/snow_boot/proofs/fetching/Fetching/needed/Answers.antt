@@ -1,7 +1,7 @@
 -- The set has what the targets miss.
 use Rattle.std.proofs.Common.{◌≡◌, Bool, Some, None, if◌then◌else◌, sym, ap, ◌∙◌}
 use Rattle.snow_boot.specs.Fetching.{Hunt}
-use Rattle.snow_boot.specs.Needing.{is_missed}
+use Rattle.snow_store.specs.Needing.{is_missed}
 use Rattle.snow_boot.proofs.fetching.Fetching.needed.Goals as goal
 
 pub returns-then-contains : goal.returns-then-contains

@@ -1,10 +1,10 @@
 -- The identifier is due at first.
 use Rattle.std.proofs.Common.{subst, ◌∙◌}
 use Rattle.std.specs.Prelude.{OnOk}
-use Rattle.snow_boot.specs.declared.due.Due.{Due}
+use Rattle.snow_store.specs.declared.due.Due.{Due}
 use Rattle.snow_boot.specs.Fetching.{Fetches}
-use Rattle.snow_boot.specs.Needing.{is_missed, Covers}
-use Rattle.snow_boot.specs.Paths.{Fetch}
+use Rattle.snow_store.specs.Needing.{is_missed, Covers}
+use Rattle.snow_store.specs.Paths.{Fetch}
 use Rattle.snow_boot.specs.Replying.{replied}
 use Rattle.snow_boot.proofs.fetching.Fetching.reply.Goals as goal
 

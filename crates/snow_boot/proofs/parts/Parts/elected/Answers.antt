@@ -1,8 +1,8 @@
 -- All that the new targets miss is due.
 use Rattle.std.proofs.Common.{ap}
 use Rattle.snow_boot.specs.Fetching.{Hunt}
-use Rattle.snow_boot.specs.Needing.{is_due}
-use Rattle.snow_boot.proofs.Cases.{clash}
+use Rattle.snow_store.specs.Needing.{is_due}
+use Rattle.snow_store.proofs.Cases.{clash}
 use Rattle.snow_boot.proofs.parts.Parts.elected.Goals as goal
 
 pub follow-requires-clause-due : goal.follow-requires-clause-due

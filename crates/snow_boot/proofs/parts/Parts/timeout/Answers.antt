@@ -2,15 +2,15 @@
 use Rattle.std.proofs.Common.{sym, ap, subst, ◌∙◌}
 use Rattle.std.specs.Prelude.{Ok, is_none}
 use Rattle.snow_boot.specs.declared.stage.Stage.TheVariants as stage
-use Rattle.snow_boot.specs.declared.due.Due.{Due}
+use Rattle.snow_store.specs.declared.due.Due.{Due}
 use Rattle.snow_boot.specs.Booting as model
-use Rattle.snow_boot.specs.Needing.{AreAskedBut}
-use Rattle.snow_boot.specs.Paths.{Fetch}
-use Rattle.snow_boot.specs.Calling.{last_state}
+use Rattle.snow_boot.specs.Asking.{AreAskedBut}
+use Rattle.snow_store.specs.Paths.{Fetch}
+use Rattle.snow_chain.specs.Alone.{last_state}
 use Rattle.snow_boot.specs.Coursing.{boot_of}
 use Rattle.snow_boot.proofs.Followed.{comes_as, comes_ignored}
 use Rattle.snow_boot.proofs.Heard.{drawn_without, timeout_closed, timeout_ignored, timeout_heard}
-use Rattle.snow_boot.proofs.Renewed.{closed_due}
+use Rattle.snow_boot.proofs.Owed.{closed_due}
 use Rattle.snow_boot.proofs.parts.Parts.timeout.Goals as goal
 
 pub follow-requires-clause-may : goal.follow-requires-clause-may

@@ -1,7 +1,8 @@
 -- Bootstrapping may go on, with a number that is still small; or the node runs, and the lines are those of the event.
 use Rattle.std.proofs.Common.{◌++◌, Ok, ap, ◌∙◌, subst}
 use Rattle.snow_boot.specs.declared.stage.Stage.{Stage}
-use Rattle.snow_boot.specs.Calling.{Brings, MayGoOn, OnGoing, last_state}
+use Rattle.snow_chain.specs.Alone.{last_state}
+use Rattle.snow_boot.specs.Calling.{Brings, MayGoOn, OnGoing}
 use Rattle.snow_engine.specs.Booting.{Booting}
 use Rattle.snow_engine.specs.Catching.{heard}
 use Rattle.snow_engine.proofs.Drawn.{still_fits}

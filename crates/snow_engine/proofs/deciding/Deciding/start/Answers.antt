@@ -2,8 +2,8 @@
 use Rattle.std.proofs.Common.{ap}
 use Rattle.snow_plain.specs.Board.{Board, begin}
 use Rattle.snow_chain.specs.Chain.{begun}
-use Rattle.snow_engine.proofs.Following.{begun_steady}
-use Rattle.snow_engine.proofs.Offers.{steady_as}
+use Rattle.snow_node.proofs.Following.{begun_steady}
+use Rattle.snow_node.proofs.Offers.{steady_as}
 use Rattle.snow_engine.proofs.deciding.Deciding.start.Goals as goal
 
 pub invariant_of-result : goal.invariant_of-result

@@ -12,13 +12,13 @@ use Rattle.snow_tree.proofs.Left.{same_blocks}
 use Rattle.snow_tree.proofs.Linked.{kept_issued, not_found, blocks_changed}
 use Rattle.snow_tree.proofs.Seen.{ok_after, seen_changed}
 use Rattle.snow_tree.proofs.tree.Tree.insert.Goals as goal
-use Rattle.snow_tree.proofs.tree.Tree.insert.Goals.{After-append, After-new}
+use Rattle.snow_tree.proofs.tree.Tree.insert.Goals.{After-push, After-new}
 
 pub make_room-room-requires : goal.make_room-room-requires
 make_room-room-requires g c = last_off c.self.inside.last (blocks_of c.self.inside.nodes.entries) c.self.invariant.grown
 
-pub append-requires-clause-new : goal.append-requires-clause-new
-append-requires-clause-new g c =
+pub push-requires-clause-new : goal.push-requires-clause-new
+push-requires-clause-new g c =
     let nodes = c.self.inside.nodes.entries in
     let id = c.args.id in
     let block : Header = record { id = id; parent = c.args.parent; height = c.args.height } in
@@ -37,7 +37,7 @@ invariant_of-self-2 g c =
     let went = sym c.is_err.ensures.value ∙ c.if-is_err.false in
     let unknown : is_on last (blocks_in (map entry_of nodes)) c.args.id ≡ false = rw (← c.self.view_is) at c.requires.unknown in
     let follows : is_on last (blocks_in (map entry_of nodes)) c.args.parent ≡ true = rw (← c.self.view_is) at c.requires.follows in
-    rw (c.append.ensures, ok_after c.make_room-room.result went c.make_room-room.ensures.nodes, ok_after c.make_room-room.result went c.make_room-room.ensures.first)
+    rw (c.push.ensures, ok_after c.make_room-room.result went c.make_room-room.ensures.nodes, ok_after c.make_room-room.result went c.make_room-room.ensures.first)
     (kept_issued last c.self.inside.children nodes _ _ (record { id = c.args.id }) _ c.self.invariant c.new.ensures refl
     (ap (λ l. is_on last l c.args.id) (sym (same_blocks nodes)) ∙ unknown)
     (ap (λ l. is_on last l c.args.parent) (sym (same_blocks nodes)) ∙ follows)
@@ -49,7 +49,7 @@ returns-clause-ok g c =
     let block : Header = record { id = c.args.id; parent = c.args.parent; height = c.args.height } in
     let went = sym c.is_err.ensures.value ∙ c.if-is_err.false in
     let new : Key × Node g.row.T.Denot = (record { id = c.args.id }, record { parent = c.args.parent; height = c.args.height; children = c.new.result; is_rejected = false; load = c.args.load }) in
-    let seen = ap (map entry_of) (c.append.ensures ∙ ap (λ l. l ++ new ∷ []) (ok_after c.make_room-room.result went c.make_room-room.ensures.nodes))
+    let seen = ap (map entry_of) (c.push.ensures ∙ ap (λ l. l ++ new ∷ []) (ok_after c.make_room-room.result went c.make_room-room.ensures.nodes))
     ∙ map-append entry_of (map (with_children (linked block)) nodes) (new ∷ []) ∙ ap (λ l. l ++ record { block = block; load = c.args.load } ∷ []) (seen_changed (linked block) nodes)
     in
     rw (← c.self.view_is) (λ j. record { last = c.self.inside.last; height = c.self.inside.height; pending = seen j; rejected = c.clear.ensures.items j })

@@ -1,5 +1,0 @@
-use Rattle.snow_boot.proofs.Linked.{kept_linked}
-use Rattle.snow_boot.proofs.laws.linked_law.Goals as goal
-
-pub returns : goal.returns
-returns c = kept_linked

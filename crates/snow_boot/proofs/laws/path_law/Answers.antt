@@ -1,5 +1,0 @@
-use Rattle.snow_boot.proofs.Whole.{whole_path}
-use Rattle.snow_boot.proofs.laws.path_law.Goals as goal
-
-pub returns : goal.returns
-returns c = whole_path

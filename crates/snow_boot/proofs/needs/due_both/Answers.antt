@@ -1,7 +1,0 @@
--- The other one isn't missed any more.
-use Rattle.std.proofs.Common.{sym, ◌∙◌}
-use Rattle.snow_boot.proofs.Renewed.{other_due}
-use Rattle.snow_boot.proofs.needs.due_both.Goals as goal
-
-pub returns-clause-others : goal.returns-clause-others
-returns-clause-others c q there free = other_due c.args.needs.now c.args.other q (sym c.contains.ensures ∙ c.if-contains.false) there

@@ -1,7 +1,0 @@
--- What peers are served followed the decisions so far.
-use Rattle.std.proofs.Common.{◌≡◌, take}
-use Rattle.snow_engine.specs.Supplying.{with_decisions}
-use Rattle.snow_engine.proofs.running.supplying.follow.Given as goal
-
-abbrev pub invariant-loop-decision : goal.invariant-loop-decision
-invariant-loop-decision l = l.served ≡ with_decisions l.initial.served (take l.decision-index l.decisions)

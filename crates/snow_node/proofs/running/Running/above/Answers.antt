@@ -1,0 +1,17 @@
+-- A node that begins to run has nothing that could be at odds.
+use Rattle.std.proofs.Common.{◌∙◌, ap}
+use Rattle.snow_chain.specs.Chain.{begun}
+use Rattle.snow_chain.specs.Alone.{last_state}
+use Rattle.snow_issue.specs.Known.{lists_of}
+use Rattle.snow_node.proofs.Keeping.{kept_new}
+use Rattle.snow_node.proofs.Supplying.{serves_new}
+use Rattle.snow_node.proofs.running.Running.above.Goals as goal
+
+pub invariant_of-result-2 : goal.invariant_of-result-2
+invariant_of-result-2 g c = (
+  kept_new c.args.params c.args.last c.args.height (last_state (g.C.Chain.held c.args.chain)) (g.B.Board.board c.in_ok-board.board) (g.C.Chain.held c.args.chain)
+      c.new.result (lists_of c.in_ok-new.field-0) c.args.numbers c.requires.good
+      c.in_ok-board.ensures.board (c.requires.alone ∙ ap (λ id. begun id (last_state (g.C.Chain.held c.args.chain))) c.requires.last) c.new.ensures c.in_ok-new.ensures.lists c.requires.small,
+  tt,
+  serves_new c.args.params c.args.last c.args.height (g.B.Board.board c.in_ok-board.board) c.in_ok-begin.field-0 c.in_ok-board.ensures.board c.in_ok-begin.ensures,
+)

@@ -1,0 +1,73 @@
+-- A block that was admitted is told of.
+use Rattle.std.proofs.Common.{sym, subst}
+use Rattle.std.proofs.lemmas.Result.{err_from_is_err_and}
+use Rattle.snow_chain.specs.Chain.{next_on}
+use Rattle.snow_issue.specs.Known.{lists_of}
+use Rattle.snow_node.specs.Kept.{IsApart}
+use Rattle.snow_node.specs.declared.running.remembering.Remembered.{Remembered}
+use Rattle.snow_node.specs.Remembering.{Remembers}
+use Rattle.snow_node.specs.Running.{Running}
+use Rattle.snow_node.specs.Settling.{issued_by}
+use Rattle.snow_node.specs.Stepping.{Tells, LogsFront}
+use Rattle.snow_node.proofs.Issuing.{kept_admitted, remembers_admitted, issue_front, issue_lines}
+use Rattle.snow_node.proofs.running.Running.issue.Goals as goal
+
+pub invariant_of-self-in_err-tell : goal.invariant_of-self-in_err-tell
+invariant_of-self-in_err-tell g c = (
+  kept_admitted c.self.inside.params (g.B.Board.board c.self.inside.board) (g.C.Chain.held c.self.inside.chain) c.self.inside.polls (lists_of c.self.inside.queue) c.self.inside.numbers c.self.invariant.0 c.in_ok-take_up.field-0 (g.B.Board.board c.take_up.new.board) (g.C.Chain.held c.take_up.new.chain) (g.B.Board.decided c.take_up.new.board) c.args.block.now
+      (next_on g.C.Chain.rules (g.C.Chain.held c.self.inside.chain) c.args.block.now.parent c.args.bytes)
+      c.if-not-branch.false c.in_ok-take_up.ensures.admits c.take_up.ensures.steady
+      (subst (λ (n : Running). IsApart n.board n.queue.waiting c.args.block.now.id) (sym c.self.view_is) c.requires.apart),
+  subst (λ (k : Remembered). Remembers (g.B.Board.board c.take_up.new.board) c.self.inside.queue k) (sym c.issued-self-inside.ensures)
+      (remembers_admitted (g.B.Board.board c.self.inside.board) (g.C.Chain.held c.self.inside.chain) c.self.inside.queue c.self.inside.remembered c.in_ok-take_up.field-0 (g.B.Board.board c.take_up.new.board) (g.C.Chain.held c.take_up.new.chain) (g.B.Board.decided c.take_up.new.board) c.args.block.now
+      (next_on g.C.Chain.rules (g.C.Chain.held c.self.inside.chain) c.args.block.now.parent c.args.bytes) c.if-not-branch.false c.in_ok-take_up.ensures.admits c.self.invariant.1),
+  c.take_up.ensures.serves,
+)
+
+pub invariant_of-self-2 : goal.invariant_of-self-2
+invariant_of-self-2 g c = (
+  kept_admitted c.self.inside.params (g.B.Board.board c.self.inside.board) (g.C.Chain.held c.self.inside.chain) c.self.inside.polls (lists_of c.self.inside.queue) c.self.inside.numbers c.self.invariant.0 c.in_ok-take_up.field-0 (g.B.Board.board c.take_up.new.board) (g.C.Chain.held c.take_up.new.chain) (g.B.Board.decided c.take_up.new.board) c.args.block.now
+      (next_on g.C.Chain.rules (g.C.Chain.held c.self.inside.chain) c.args.block.now.parent c.args.bytes)
+      c.if-not-branch.false c.in_ok-take_up.ensures.admits c.take_up.ensures.steady
+      (subst (λ (n : Running). IsApart n.board n.queue.waiting c.args.block.now.id) (sym c.self.view_is) c.requires.apart),
+  subst (λ (k : Remembered). Remembers (g.B.Board.board c.take_up.new.board) c.self.inside.queue k) (sym c.issued-self-inside.ensures)
+      (remembers_admitted (g.B.Board.board c.self.inside.board) (g.C.Chain.held c.self.inside.chain) c.self.inside.queue c.self.inside.remembered c.in_ok-take_up.field-0 (g.B.Board.board c.take_up.new.board) (g.C.Chain.held c.take_up.new.chain) (g.B.Board.decided c.take_up.new.board) c.args.block.now
+      (next_on g.C.Chain.rules (g.C.Chain.held c.self.inside.chain) c.args.block.now.parent c.args.bytes) c.if-not-branch.false c.in_ok-take_up.ensures.admits c.self.invariant.1),
+  c.take_up.ensures.serves,
+)
+
+pub returns-in_err-tell-clause-lines : goal.returns-in_err-tell-clause-lines
+returns-in_err-tell-clause-lines g c =
+    let p = err_from_is_err_and c.from_residual-in_err-tell.result c.from_residual-in_err-tell.ensures.1 in
+    rw (p.1, p.2) (subst (λ (node : Running). LogsFront c.args.log.now c.tell.new.log (issued_by g.B.Board.answer node c.args.block.now c.args.bytes (next_on g.C.Chain.rules node.chain c.args.block.now.parent c.args.bytes)).0) c.self.view_is
+    (issue_front g.B.Board.answer (record {
+      board = (g.B.Board.board c.self.inside.board);
+      chain = (g.C.Chain.held c.self.inside.chain);
+      served = c.self.inside.served;
+      roster = c.self.inside.roster;
+      polls = c.self.inside.polls;
+      queue = (lists_of c.self.inside.queue);
+      words = c.self.inside.words;
+      last = c.self.inside.numbers;
+      recorded = c.self.inside.recorded;
+    }) c.in_ok-take_up.field-0 (g.B.Board.board c.take_up.new.board) (g.C.Chain.held c.take_up.new.chain) c.take_up.new.served (g.B.Board.decided c.take_up.new.board) c.args.block.now c.args.bytes
+    (next_on g.C.Chain.rules (g.C.Chain.held c.self.inside.chain) c.args.block.now.parent c.args.bytes)
+    c.preference-before.result c.if-not-branch.false c.in_ok-take_up.ensures.admits c.in_ok-take_up.ensures.served c.preference-before.ensures c.args.log.now c.tell.new.log c.in_err-tell.ensures.err))
+
+pub returns-clause-lines : goal.returns-clause-lines
+returns-clause-lines g c =
+    subst (λ (node : Running). Tells c.ask_on_the_way.result c.args.log.now c.ask_on_the_way.new.log (issued_by g.B.Board.answer node c.args.block.now c.args.bytes (next_on g.C.Chain.rules node.chain c.args.block.now.parent c.args.bytes)).0) c.self.view_is
+    (issue_lines g.B.Board.answer (record {
+      board = (g.B.Board.board c.self.inside.board);
+      chain = (g.C.Chain.held c.self.inside.chain);
+      served = c.self.inside.served;
+      roster = c.self.inside.roster;
+      polls = c.self.inside.polls;
+      queue = (lists_of c.self.inside.queue);
+      words = c.self.inside.words;
+      last = c.self.inside.numbers;
+      recorded = c.self.inside.recorded;
+    }) c.in_ok-take_up.field-0 (g.B.Board.board c.take_up.new.board) (g.C.Chain.held c.take_up.new.chain) c.take_up.new.served (g.B.Board.decided c.take_up.new.board) c.args.block.now c.args.bytes
+    (next_on g.C.Chain.rules (g.C.Chain.held c.self.inside.chain) c.args.block.now.parent c.args.bytes)
+    c.preference-before.result c.if-not-branch.false c.in_ok-take_up.ensures.admits c.in_ok-take_up.ensures.served c.preference-before.ensures c.ask_on_the_way.result c.args.log.now c.tell.new.log c.ask_on_the_way.new.log
+    c.in_ok-tell.ensures.ok c.ask_on_the_way.ensures.lines)

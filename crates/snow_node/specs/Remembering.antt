@@ -1,0 +1,43 @@
+-- What is known of that which a queue remembers of its waiting blocks.
+use Rattle.std.specs.Prelude.{ℕ, List, Option, Some, None, bytes_eq, if◌then◌else◌}
+use Rattle.snow_plain.specs.Board.{Board}
+use Rattle.snow_issue.specs.declared.work.Work.{Work}
+use Rattle.snow_issue.specs.declared.work.Work.TheVariants as work
+use Rattle.snow_issue.specs.Known.{Seen, Knows, ForgetsChildren, NoneRipe}
+use Rattle.snow_node.specs.declared.running.remembering.Remembered.{Remembered}
+use Rattle.snow_node.specs.declared.running.remembering.Remembered.TheVariants as known
+
+-- it is so
+abbrev pub Remembers : Board → Seen → Remembered → Type 0
+Remembers board seen known.Nothing = Unit {0}
+Remembers board seen known.True = Knows seen board
+Remembers board seen known.Calm = Knows seen board × NoneRipe seen.seats
+Remembers board seen (known.Ready id) = Knows seen board × ForgetsChildren id seen.seats
+
+-- what is known once this was taken out
+abbrev pub when_taken : Option Work → Remembered
+when_taken None = known.Calm
+when_taken (Some (work.Hopeless w)) = known.True
+when_taken (Some (work.Ready w)) = known.Ready w.header.id
+when_taken (Some (work.Vote h)) = known.Calm
+
+-- once some blocks are to be looked at again
+abbrev pub when_woken : Remembered → Remembered
+when_woken known.Nothing = known.Nothing
+when_woken known.True = known.True
+when_woken known.Calm = known.Calm
+when_woken (known.Ready id) = known.True
+
+-- once this block was issued
+abbrev pub when_issued : Remembered → List ℕ → Remembered
+when_issued known.Nothing id = known.Nothing
+when_issued known.True id = known.Nothing
+when_issued known.Calm id = known.Nothing
+when_issued (known.Ready ready) id = if bytes_eq ready id then known.True else known.Nothing
+
+-- once a poll was recorded
+abbrev pub when_polled : Remembered → Remembered
+when_polled known.Nothing = known.Nothing
+when_polled known.True = known.Nothing
+when_polled known.Calm = known.Calm
+when_polled (known.Ready id) = known.Nothing

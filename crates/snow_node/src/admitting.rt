@@ -1,0 +1,90 @@
+//! What every node does with its board and its chain: a block is admitted, a poll applied.
+
+ghost use Rattle.std.specs.Prelude.{◌≡◌, ◌+◌, ◌≤◌, ◌==◌, None, IfOk, OnErr};
+ghost use Rattle.snow_base.specs.Votes.{total_count};
+ghost use Rattle.snow_plain.specs.Board.{height_of};
+ghost use Rattle.snow_plain.specs.Poll.{poll};
+ghost use Rattle.snow_plain.specs.Reached.{MayIssue};
+ghost use Rattle.snow_chain.specs.Chain.{next_on};
+ghost use Rattle.snow_node.specs.Matching.{IsSteady, Admits};
+ghost use Rattle.snow_node.specs.Placing.{opposed};
+ghost use Rattle.snow_node.specs.Telling.{with_decisions};
+
+use crate::telling;
+use snow_base::{Bag, Header};
+use snow_chain::Chain;
+use snow_lines::DropWhy;
+use snow_plain::Board;
+use std::alloc::AllocError;
+
+/// The most blocks that may be pending.
+const MOST_PENDING: usize = 4096;
+
+/// Why a block that isn't on the board can't be issued, whatever its chain says; nothing where it can.
+#[tactic(auto, using(crate::proofs::Offers::unopposed))]
+pub fn opposition<B: Board>(board: &B, block: &Header) -> Option<DropWhy>
+    requires { height_of (B.board board.now) block.now.id ≡ None }
+    ensures why { result ≡ opposed (B.board board.now) block.now (height_of (B.board board.now) block.now.parent) }
+    ensures none { result ≡ None → MayIssue (B.board board.now) block.now }
+{
+    let Some(below) = board.height_of(&block.parent) else {
+        return Some(DropWhy::Parent);
+    };
+    if board.pending_len() >= MOST_PENDING {
+        return Some(DropWhy::Full);
+    }
+    if is_above(block.height, below) {
+        None
+    } else {
+        Some(DropWhy::Invalid)
+    }
+}
+
+/// Whether a height is one more than another, as whole numbers.
+fn is_above(height: u64, below: u64) -> bool
+    ensures { result ≡ (height == below + 1) }
+{
+    height > below && height - below == 1
+}
+
+/// Issues a block, if it is valid; whether it was. After want of memory all is as before: the state of
+/// a valid block is taken back out of the chain where the board has no room for it.
+#[tactic(auto, using(crate::proofs::Offers::may_take_back))]
+pub fn admit<C: Chain, B: Board>(
+    board: &mut B,
+    chain: &mut C,
+    block: &Header,
+    bytes: &[u8],
+) -> Result<bool, AllocError>
+    requires steady { IsSteady (B.board board.old) (C.held chain.old) }
+    requires may { MayIssue (B.board board.old) block.now }
+    ensures admits { IfOk result (λ valid. Admits valid (B.board board.old) (C.held chain.old) (B.board board.new) (C.held chain.new)
+        (B.decided board.new) block.now (next_on C.rules (C.held chain.old) block.now.parent bytes.now)) }
+    ensures board { OnErr result (B.board board.new ≡ B.board board.old) }
+    ensures held { OnErr result (C.held chain.new ≡ C.held chain.old) }
+    ensures steady { IsSteady (B.board board.new) (C.held chain.new) }
+{
+    if !chain.verify(&block.parent, &block.id, bytes)? {
+        return Ok(false);
+    }
+    if let Err(error) = board.issue(block.id, block.parent, block.height) {
+        chain.reject(&block.id);
+        return Err(error);
+    }
+    Ok(true)
+}
+
+/// Applies a poll to the board, and tells the chain what it decided. It takes no memory.
+#[tactic(auto, using(crate::proofs::Offers::poll_keeps))]
+pub fn apply<C: Chain, B: Board>(board: &mut B, chain: &mut C, votes: &Bag)
+    requires steady { IsSteady (B.board board.old) (C.held chain.old) }
+    requires few { total_count votes.now.list ≤ (B.board board.old).parameters.k }
+    ensures board { B.board board.new ≡ (poll (B.board board.old) votes.now.list).0 }
+    ensures decided { B.decided board.new ≡ (poll (B.board board.old) votes.now.list).1 }
+    ensures held { C.held chain.new ≡ with_decisions (C.held chain.old) (poll (B.board board.old) votes.now.list).1 }
+    ensures steady { IsSteady (B.board board.new) (C.held chain.new) }
+    ensures parameters { (B.board board.new).parameters ≡ (B.board board.old).parameters }
+{
+    board.apply_poll(votes);
+    telling::tell(chain, board.decisions());
+}

@@ -1,0 +1,15 @@
+//! A node that runs, and what every node does with its board, its chain and its lines.
+#![tactic(auto)]
+
+mod admitting;
+mod laws;
+mod reporting;
+mod running;
+mod stop;
+mod telling;
+
+pub use admitting::{admit, apply, opposition};
+pub use laws::completion_law;
+pub use reporting::{tell, write};
+pub use running::{Running, roster_of};
+pub use stop::{EngineStop, Halt};

@@ -1,0 +1,75 @@
+ghost use Rattle.std.specs.Prelude.{◌≡◌, [], ◌∷◌, ◌++◌, map, Err, OnOk, OnErr};
+ghost use Rattle.snow_plain.specs.Preference.{preferred};
+ghost use Rattle.snow_node.specs.Telling as model;
+ghost use Rattle.snow_node.specs.Stepping.{Tells, LogsFront};
+
+use crate::stop::Halt;
+use snow_base::Id;
+use snow_lines::{DropWhy, Line, Lines};
+use snow_plain::{Board, Decision};
+use std::alloc::AllocError;
+
+/// Writes a line.
+#[tactic(auto, using(crate::proofs::Logs::logs_nothing))]
+pub fn write(line: Line, log: &mut Lines) -> Result<(), Halt>
+    ensures memory { OnErr result (result ≡ Err Halt.Memory) }
+    ensures lines { Tells result log.old log.new (line ∷ []) }
+{
+    log.push(line)?;
+    Ok(())
+}
+
+/// Writes that a block is given up.
+pub fn drop_block(id: Id, why: DropWhy, log: &mut Lines) -> Result<(), Halt>
+    ensures memory { OnErr result (result ≡ Err Halt.Memory) }
+    ensures lines { Tells result log.old log.new (Line.Drop id why ∷ []) }
+{
+    write(Line::Drop { id, why }, log)
+}
+
+/// The lines of the last poll's decisions, and that of the preference where it changed.
+#[tactic(auto, using(crate::proofs::Logs::logging))]
+pub fn tell<B: Board>(board: &B, before: &Id, log: &mut Lines) -> Result<(), AllocError>
+    ensures ok { OnOk result (log.new ≡ log.old ++ (map model.decision_line (B.decided board.now)
+        ++ model.preference_line before.now (preferred B.answer (B.board board.now)))) }
+    ensures err { OnErr result (LogsFront log.old log.new (map model.decision_line (B.decided board.now)
+        ++ model.preference_line before.now (preferred B.answer (B.board board.now)))) }
+{
+    tell_decisions(board.decisions(), log)?;
+    tell_preference(before, &board.preference(), log)
+}
+
+/// A line for each decision.
+#[tactic(auto, using(crate::proofs::Logs::logging))]
+fn tell_decisions(decisions: &[Decision], log: &mut Lines) -> Result<(), AllocError>
+    ensures ok { OnOk result (log.new ≡ log.old ++ map model.decision_line decisions.now) }
+    ensures err { OnErr result (LogsFront log.old log.new (map model.decision_line decisions.now)) }
+{
+    for decision in decisions {
+        log.push(line_of(decision))?;
+    }
+    Ok(())
+}
+
+/// A line where the preference changed.
+#[tactic(auto, using(crate::proofs::Logs::logging))]
+fn tell_preference(before: &Id, after: &Id, log: &mut Lines) -> Result<(), AllocError>
+    ensures ok { OnOk result (log.new ≡ log.old ++ model.preference_line before.now after.now) }
+    ensures err { OnErr result (LogsFront log.old log.new (model.preference_line before.now after.now)) }
+{
+    if before == after {
+        return Ok(());
+    }
+    log.push(Line::Prefer { id: *after })
+}
+
+/// The line of a decision.
+fn line_of(decision: &Decision) -> Line
+    ensures { result ≡ model.decision_line decision.now }
+{
+    if decision.accepted {
+        Line::Accept { id: decision.id }
+    } else {
+        Line::Reject { id: decision.id }
+    }
+}

@@ -1,0 +1,280 @@
+//! A node that runs: it asks other nodes, and decides by what they answer.
+
+ghost use Rattle.std.specs.Prelude.{◌≡◌, ◌+◌, ◌-◌, ◌^◌, ◌≤◌, [], ◌∷◌, ◌++◌, length, nat_lt, Err, IfOk, OnOk, OnErr};
+ghost use Rattle.snow_flake.specs.Parameters.{AreGood};
+ghost use Rattle.snow_sample.specs.Roster.{first_fault, IsRosterOf};
+ghost use Rattle.snow_wire.specs.Sent.{as_event};
+ghost use Rattle.snow_chain.specs.Alone.{IsAlone, last_state};
+ghost use Rattle.snow_node.specs.Hearing as hearing;
+ghost use Rattle.snow_node.specs.Outcome.{then_comes};
+ghost use Rattle.snow_node.specs.Running.{begun_above};
+ghost use Rattle.snow_node.specs.Stepping.{Tells, Turns};
+ghost use Rattle.snow_node.specs.Turning as model;
+
+mod closing;
+mod hearing;
+mod querying;
+mod remembering;
+mod settling;
+mod supplying;
+
+use crate::reporting::write;
+use crate::running::remembering::Remembered;
+use crate::stop::Halt;
+use snow_base::{Id, NodeId, Nodes, Numbers, Nums};
+use snow_chain::Chain;
+use snow_flake::Params;
+use snow_getter::Getter;
+use snow_issue::Queue;
+use snow_lines::{Line, Lines, SkipKind};
+use snow_plain::Board;
+use snow_poll::Polls;
+use snow_sample::{Node, Roster, RosterFault, Words};
+use snow_wire::{Event, SentBlock};
+use std::alloc::{AllocError, Global};
+use std::marker::Model;
+
+/// The most random words that wait.
+const MOST_WORDS: usize = 65_536;
+
+/// A node that runs, over any chain and any board. Contracts see the node of the definitions.
+#[derive(Drop)]
+pub struct Running<C: Chain, B: Board> {
+    params: Params,
+    board: B,
+    chain: C,
+    /// What peers are served.
+    served: Getter,
+    roster: Roster,
+    polls: Polls,
+    queue: Queue,
+    words: Words,
+    numbers: Numbers,
+    /// Whether a poll was recorded since the event began.
+    recorded: bool,
+    /// What is known of that which the queue remembers of its blocks.
+    remembered: Remembered,
+    alloc: Global,
+}
+
+impl<C: Chain, B: Board> Model for Running<C, B> {
+    ghost use Rattle.snow_issue.specs.Known.{lists_of};
+    ghost use Rattle.snow_node.specs.Running.{Running};
+    ghost use Rattle.snow_node.specs.RunningCode.{coded_running};
+    ghost use Rattle.snow_node.specs.Kept.{IsKept};
+    ghost use Rattle.snow_node.specs.Remembering.{Remembers};
+    ghost use Rattle.snow_node.specs.Supplying.{Serves};
+
+    ghost Value = { Running };
+
+    ghost coded = { coded_running };
+
+    ghost view = { λ r. record {
+      board = B.board r.board;
+      chain = C.held r.chain;
+      served = r.served;
+      roster = r.roster;
+      polls = r.polls;
+      queue = lists_of r.queue;
+      words = r.words;
+      last = r.numbers;
+      recorded = r.recorded;
+    } };
+
+    ghost invariant = { λ r.
+        IsKept r.params (B.board r.board) (C.held r.chain) (r.polls) (lists_of r.queue) r.numbers
+        × Remembers (B.board r.board) r.queue r.remembered
+        × Serves (B.board r.board) r.served };
+}
+
+impl<C: Chain, B: Board> Running<C, B> {
+    /// The node that begins to run above this block, whose state alone its chain holds.
+    pub fn above(
+        alloc: Global,
+        params: Params,
+        chain: C,
+        roster: Roster,
+        words: Words,
+        numbers: Numbers,
+        last: Id,
+        height: u64,
+    ) -> Result<Self, AllocError>
+        requires good { AreGood params }
+        requires last { (C.held chain).last ≡ last }
+        requires alone { IsAlone (C.held chain) }
+        requires small { numbers ≤ 2 ^ 32 - 1 }
+        ensures { IfOk result (λ node. node ≡ begun_above params roster words numbers last height (last_state (C.held chain))) }
+    {
+        let board = B::begin(alloc, params, last, height)?;
+        Ok(Running {
+            params,
+            board,
+            chain,
+            served: Getter::begin(alloc, last)?,
+            roster,
+            polls: Polls::new(alloc, params),
+            queue: Queue::new(alloc, last)?,
+            words,
+            numbers,
+            recorded: false,
+            remembered: Remembered::Nothing,
+            alloc,
+        })
+    }
+
+    /// One event, which came in this frame.
+    #[inline(never)]
+    #[tactic(auto, unfolding(crate::specs::Turning::runs_on), using(crate::proofs::Logs::logs_nothing))]
+    pub fn step(&mut self, frame: u64, event: &Event, log: &mut Lines) -> Result<(), Halt>
+        ensures answer { Turns result self.new (model.runs_on C.rules B.answer self.old frame event.now).1 }
+        ensures lines { Tells result log.old log.new (model.runs_on C.rules B.answer self.old frame event.now).0 }
+    {
+        match event {
+            Event::Start(_) => Err(Halt::SecondStart),
+            Event::Block {
+                node,
+                request,
+                bytes,
+            } => self.take_block(frame, *node, *request, bytes.list(), log),
+            Event::Chits { node, request, id } => self.take_vote(*request, node, *id, log),
+            Event::Timeout { node, request } => self.lapse(*request, node, log),
+            Event::Words { words } => self.take_words(frame, words, log),
+            Event::Validators { nodes } => self.take_nodes(frame, nodes, log),
+            Event::Frontier { .. } | Event::Accepted { .. } | Event::Ancestors { .. } => Ok(()),
+            Event::Poll { .. } | Event::Line { .. } => skip(frame, SkipKind::Task, log),
+            Event::Stored { .. } => skip(frame, SkipKind::Stage, log),
+            question @ (Event::AskQuery { .. }
+            | Event::AskFrontier { .. }
+            | Event::AskAccepted { .. }
+            | Event::AskAncestors { .. }
+            | Event::AskBlock { .. }) => self.reply(&question, log),
+        }
+    }
+
+    /// A block came, in this frame.
+    #[tactic(auto, unfolding(crate::specs::Turning::runs_on), using(crate::proofs::Logs::logs_nothing))]
+    pub fn receive(&mut self, frame: u64, block: &SentBlock, log: &mut Lines) -> Result<(), Halt>
+        ensures answer { Turns result self.new (model.runs_on C.rules B.answer self.old frame (as_event block.now)).1 }
+        ensures lines { Tells result log.old log.new (model.runs_on C.rules B.answer self.old frame (as_event block.now)).0 }
+    {
+        self.take_block(frame, block.node, block.request, block.bytes, log)
+    }
+
+    /// A block came, and the event ends.
+    fn take_block(
+        &mut self,
+        frame: u64,
+        peer: NodeId,
+        number: u32,
+        bytes: &[u8],
+        log: &mut Lines,
+    ) -> Result<(), Halt>
+        ensures answer { Turns result self.new (then_comes (hearing.block_came C.rules B.answer self.old frame peer number bytes.now) (model.rounded B.answer)).1 }
+        ensures lines { Tells result log.old log.new (then_comes (hearing.block_came C.rules B.answer self.old frame peer number bytes.now) (model.rounded B.answer)).0 }
+    {
+        self.receive_block(frame, peer, number, bytes, log)?;
+        self.round(log)
+    }
+
+    /// A vote came, and the event ends.
+    fn take_vote(&mut self, number: u32, peer: &NodeId, id: Id, log: &mut Lines) -> Result<(), Halt>
+        ensures answer { Turns result self.new (then_comes (hearing.vote_came C.rules B.answer self.old number peer.now id) (model.rounded B.answer)).1 }
+        ensures lines { Tells result log.old log.new (then_comes (hearing.vote_came C.rules B.answer self.old number peer.now id) (model.rounded B.answer)).0 }
+    {
+        self.receive_vote(number, peer, id, log)?;
+        self.round(log)
+    }
+
+    /// A peer won't answer, and the event ends.
+    fn lapse(&mut self, number: u32, peer: &NodeId, log: &mut Lines) -> Result<(), Halt>
+        ensures answer { Turns result self.new (then_comes (hearing.timed_out C.rules B.answer self.old number peer.now) (model.rounded B.answer)).1 }
+        ensures lines { Tells result log.old log.new (then_comes (hearing.timed_out C.rules B.answer self.old number peer.now) (model.rounded B.answer)).0 }
+    {
+        self.time_out(number, peer, log)?;
+        self.round(log)
+    }
+
+    /// The end of an event: queries follow where a poll was recorded.
+    fn round(&mut self, log: &mut Lines) -> Result<(), Halt>
+        ensures answer { Turns result self.new (model.rounded B.answer self.old).1 }
+        ensures lines { Tells result log.old log.new (model.rounded B.answer self.old).0 }
+    {
+        if !self.recorded {
+            return Ok(());
+        }
+        self.recorded = false;
+        self.repoll(log)
+    }
+
+    /// Whether the words would be too many.
+    fn overflows(&self, words: &Nums) -> bool
+        ensures { result ≡ nat_lt 65536 (length self.now.words + length words.now) }
+    {
+        words.list().len() > MOST_WORDS - self.words.len()
+    }
+
+    #[tactic(auto, using(crate::proofs::Logs::logs_nothing))]
+    /// Words came; they may bring queries where no poll runs.
+    fn take_words(&mut self, frame: u64, words: &Nums, log: &mut Lines) -> Result<(), Halt>
+        ensures answer { Turns result self.new (model.words_came B.answer self.old frame words.now).1 }
+        ensures lines { Tells result log.old log.new (model.words_came B.answer self.old frame words.now).0 }
+    {
+        if self.overflows(words) {
+            return skip(frame, SkipKind::Full, log);
+        }
+        self.words.push_all(words.list())?;
+        if self.polls.len() == 0 {
+            self.repoll(log)
+        } else {
+            Ok(())
+        }
+    }
+
+    /// A new roster is in force, unless something is wrong with it.
+    fn take_nodes(&mut self, frame: u64, nodes: &Nodes, log: &mut Lines) -> Result<(), Halt>
+        ensures answer { Turns result self.new (model.roster_came self.old frame (model.members nodes.now) (first_fault (model.members nodes.now))).1 }
+        ensures lines { Tells result log.old log.new (model.roster_came self.old frame (model.members nodes.now) (first_fault (model.members nodes.now))).0 }
+    {
+        match roster_of(self.alloc, nodes) {
+            Ok(roster) => {
+                self.roster = roster;
+                Ok(())
+            }
+            Err(RosterFault::Memory) => Err(Halt::Memory),
+            Err(RosterFault::Empty) => skip(frame, SkipKind::Nodes, log),
+            Err(RosterFault::Duplicate { .. }) => skip(frame, SkipKind::Nodes, log),
+            Err(RosterFault::ZeroWeight { .. }) => skip(frame, SkipKind::Nodes, log),
+            Err(RosterFault::TooHeavy) => skip(frame, SkipKind::Nodes, log),
+        }
+    }
+}
+
+/// A frame is passed over.
+fn skip(frame: u64, kind: SkipKind, log: &mut Lines) -> Result<(), Halt>
+    ensures memory { OnErr result (result ≡ Err Halt.Memory) }
+    ensures lines { Tells result log.old log.new (Line.Skip frame kind ∷ []) }
+{
+    write(Line::Skip { frame, kind }, log)
+}
+
+/// The roster of these nodes.
+pub fn roster_of(alloc: Global, nodes: &Nodes) -> Result<Roster, RosterFault>
+    ensures { IsRosterOf (model.members nodes.now) result }
+{
+    let members = members_of(alloc, nodes)?;
+    Roster::new(alloc, members.as_slice())
+}
+
+/// Nodes as a roster has them.
+fn members_of(alloc: Global, nodes: &Nodes) -> Result<Vec<Node>, AllocError>
+    ensures { IfOk result (λ members. members.items ≡ model.members nodes.now) }
+{
+    let mut members = Vec::new(alloc);
+    for (id, weight) in nodes.list() {
+        members.push(Node {
+            id: *id,
+            weight: *weight,
+        })?;
+    }
+    Ok(members)
+}

@@ -1,0 +1,68 @@
+ghost use Rattle.std.specs.Prelude.{◌≡◌, ◌≤◌};
+ghost use Rattle.snow_base.specs.Votes.{total_count};
+ghost use Rattle.snow_plain.specs.Poll.{poll};
+ghost use Rattle.snow_plain.specs.Board.{Board};
+ghost use Rattle.snow_issue.specs.Known.{Knows, lists_of};
+ghost use Rattle.snow_node.specs.Closing as model;
+ghost use Rattle.snow_node.specs.Stepping.{Answers, Tells, Turns};
+
+use crate::admitting::apply;
+use crate::reporting::tell;
+use crate::running::Running;
+use crate::running::supplying::follow;
+use crate::stop::Halt;
+use snow_base::Bag;
+use snow_chain::Chain;
+use snow_issue::Queue;
+use snow_lines::Lines;
+use snow_plain::{Board, Decision};
+
+impl<C: Chain, B: Board> Running<C, B> {
+    /// Polls leave while the front one is closed, and their votes are recorded.
+    pub(super) fn close_polls(&mut self, log: &mut Lines) -> Result<(), Halt>
+        ensures answer { Turns result self.new (model.closed_out B.answer self.old).1 }
+        ensures lines { Tells result log.old log.new (model.closed_out B.answer self.old).0 }
+    {
+        while self.close_one(log)? {}
+        Ok(())
+    }
+
+    /// The front poll leaves if it is closed, and its held replies with it; whether it did.
+    fn close_one(&mut self, log: &mut Lines) -> Result<bool, Halt>
+        ensures answer { Answers result self.new (model.one_closed B.answer self.old).1 }
+        ensures lines { Tells result log.old log.new (model.one_closed B.answer self.old).0 }
+    {
+        let Some(closed) = self.polls.take_finished() else {
+            return Ok(false);
+        };
+        self.queue.forget(closed.number);
+        self.record(&closed.votes, log)
+    }
+
+    /// Votes are recorded, and chain and queue told what they decided, which peers are served then.
+    fn record(&mut self, votes: &Bag, log: &mut Lines) -> Result<bool, Halt>
+        requires { total_count votes.now.list ≤ self.old.board.parameters.k }
+        ensures answer { Answers result self.new (model.moved_on B.answer self.old (poll self.old.board votes.now.list)).1 }
+        ensures lines { Tells result log.old log.new (model.moved_on B.answer self.old (poll self.old.board votes.now.list)).0 }
+    {
+        let before = self.board.preference();
+        apply(&mut self.board, &mut self.chain, votes);
+        bury(&mut self.queue, self.board.decisions());
+        follow(&mut self.served, self.board.decisions());
+        self.recorded = true;
+        self.remembered = self.remembered.polled();
+        tell(&self.board, &before, log)?;
+        Ok(true)
+    }
+}
+
+/// Each decided block is gone. It takes no memory.
+fn bury(queue: &mut Queue, decisions: &[Decision])
+    ensures lists { lists_of queue.new ≡ model.all_gone (lists_of queue.old) decisions.now }
+    ensures knows { (board : Board) → Knows queue.old board → Knows queue.new board }
+    ensures seats { queue.new.seats ≡ queue.old.seats }
+{
+    for decision in decisions {
+        queue.gone(decision.id, None);
+    }
+}

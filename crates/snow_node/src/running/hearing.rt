@@ -1,0 +1,259 @@
+ghost use Rattle.std.specs.Prelude.{◌≡◌, None, true, IfSome};
+ghost use Rattle.snow_issue.specs.declared.work.Waiting.{Waiting as Block};
+ghost use Rattle.snow_node.specs.Kept.{MayFetch};
+ghost use Rattle.snow_node.specs.Running.{numbered};
+ghost use Rattle.snow_node.specs.Hearing as model;
+ghost use Rattle.snow_node.specs.Stepping.{Tells, Turns};
+
+use crate::reporting::{drop_block, write};
+use crate::running::Running;
+use crate::stop::Halt;
+use snow_base::{Header, Id, NodeId};
+use snow_chain::Chain;
+use snow_issue::{Held, Offered};
+use snow_lines::{DropWhy, Line, Lines, SkipKind};
+use snow_plain::Board;
+
+impl<C: Chain, B: Board> Running<C, B> {
+    /// A block of no request came, or the answer to a get; one that no get awaits is passed over.
+    pub(super) fn receive_block(
+        &mut self,
+        frame: u64,
+        peer: NodeId,
+        number: u32,
+        bytes: &[u8],
+        log: &mut Lines,
+    ) -> Result<(), Halt>
+        ensures answer { Turns result self.new (model.block_came C.rules B.answer self.old frame peer number bytes.now).1 }
+        ensures lines { Tells result log.old log.new (model.block_came C.rules B.answer self.old frame peer number bytes.now).0 }
+    {
+        if number == 0 {
+            return self.read_block(frame, peer, bytes, None, log);
+        }
+        match self.close_get(number, &peer) {
+            None => Ok(()),
+            asked => self.read_block(frame, peer, bytes, asked, log),
+        }
+    }
+
+    /// Bytes of a block came, where this one was asked for, and all that it brings is done.
+    fn read_block(
+        &mut self,
+        frame: u64,
+        peer: NodeId,
+        bytes: &[u8],
+        asked: Option<Id>,
+        log: &mut Lines,
+    ) -> Result<(), Halt>
+        ensures answer { Turns result self.new (model.block_read C.rules B.answer self.old frame peer bytes.now asked).1 }
+        ensures lines { Tells result log.old log.new (model.block_read C.rules B.answer self.old frame peer bytes.now asked).0 }
+    {
+        self.read_as(frame, peer, bytes, asked, log)?;
+        self.settle(log)
+    }
+
+    /// What the bytes that came say.
+    fn read_as(
+        &mut self,
+        frame: u64,
+        peer: NodeId,
+        bytes: &[u8],
+        asked: Option<Id>,
+        log: &mut Lines,
+    ) -> Result<(), Halt>
+        ensures answer { Turns result self.new (model.read_as self.old frame peer bytes.now asked (C.rules.header_of bytes.now)).1 }
+        ensures lines { Tells result log.old log.new (model.read_as self.old frame peer bytes.now asked (C.rules.header_of bytes.now)).0 }
+    {
+        let Some(header) = self.chain.parse(bytes) else {
+            return write(
+                Line::Skip {
+                    frame,
+                    kind: SkipKind::Block,
+                },
+                log,
+            );
+        };
+        if is_other(&asked, &header.id) {
+            return Ok(());
+        }
+        self.offer(peer, header, bytes, log)
+    }
+
+    #[tactic(auto, using(crate::proofs::Logs::logs_nothing))]
+    /// A block is offered to the queue, and its parent asked for where that is unknown.
+    fn offer(
+        &mut self,
+        peer: NodeId,
+        header: Header,
+        bytes: &[u8],
+        log: &mut Lines,
+    ) -> Result<(), Halt>
+        ensures answer { let block : Block = record { node = peer; header = header; bytes = bytes.now } in
+            Turns result self.new (model.brought self.old block).1 }
+        ensures lines { let block : Block = record { node = peer; header = header; bytes = bytes.now } in
+            Tells result log.old log.new (model.brought self.old block).0 }
+    {
+        let id = header.id;
+        self.remembered = self.remembered.woken();
+        match self
+            .queue
+            .bring(self.alloc, peer, header, bytes, &self.board)?
+        {
+            Offered::Known => Ok(()),
+            Offered::Invalid => drop_block(id, DropWhy::Invalid, log),
+            Offered::Old => drop_block(id, DropWhy::Old, log),
+            Offered::Full => drop_block(id, DropWhy::Full, log),
+            Offered::Waits { ask } => self.fetch_if(&peer, ask, log),
+        }
+    }
+
+    /// A peer is asked for a block, if any is wanted.
+    fn fetch_if(&mut self, peer: &NodeId, id: Option<Id>, log: &mut Lines) -> Result<(), Halt>
+        requires { IfSome id (λ id. MayFetch self.old.queue id) }
+        ensures answer { Turns result self.new (model.fetched_if self.old peer.now id).1 }
+        ensures lines { Tells result log.old log.new (model.fetched_if self.old peer.now id).0 }
+    {
+        match id {
+            Some(id) => self.fetch(peer, id, log),
+            None => Ok(()),
+        }
+    }
+
+    #[tactic(auto, using(crate::proofs::Logs::logs_nothing))]
+    /// A peer is asked for a block, by a number of its own.
+    fn fetch(&mut self, peer: &NodeId, id: Id, log: &mut Lines) -> Result<(), Halt>
+        requires { MayFetch self.old.queue id }
+        ensures answer { Turns result self.new (numbered self.old (model.fetched peer.now id)).1 }
+        ensures lines { Tells result log.old log.new (numbered self.old (model.fetched peer.now id)).0 }
+    {
+        let Some(number) = self.numbers.draw() else {
+            return Err(Halt::Requests);
+        };
+        self.queue.asked(number, *peer, id)?;
+        log.push(Line::Get {
+            number,
+            node: *peer,
+            id,
+        })?;
+        Ok(())
+    }
+
+    /// A vote came.
+    pub(super) fn receive_vote(
+        &mut self,
+        number: u32,
+        peer: &NodeId,
+        id: Id,
+        log: &mut Lines,
+    ) -> Result<(), Halt>
+        ensures answer { Turns result self.new (model.vote_came C.rules B.answer self.old number peer.now id).1 }
+        ensures lines { Tells result log.old log.new (model.vote_came C.rules B.answer self.old number peer.now id).0 }
+    {
+        if self.awaits(number, peer) {
+            self.take_in(number, peer, id, log)
+        } else {
+            Ok(())
+        }
+    }
+
+    /// A reply that is awaited is held, and all that it brings is done.
+    fn take_in(&mut self, number: u32, peer: &NodeId, id: Id, log: &mut Lines) -> Result<(), Halt>
+        requires { model.waits_for self.old number peer.now ≡ true }
+        ensures answer { Turns result self.new (model.vote_counts C.rules B.answer self.old number peer.now id).1 }
+        ensures lines { Tells result log.old log.new (model.vote_counts C.rules B.answer self.old number peer.now id).0 }
+    {
+        self.hold(number, peer, id, log)?;
+        self.settle(log)
+    }
+
+    /// Whether a poll awaits a peer of which it holds no reply yet.
+    fn awaits(&self, number: u32, peer: &NodeId) -> bool
+        ensures { result ≡ model.waits_for self.now number peer.now }
+    {
+        self.polls.awaits(number, peer) && !self.queue.holds(number, peer)
+    }
+
+    #[tactic(auto, using(crate::proofs::Logs::logs_nothing))]
+    /// A reply is held, and its block asked for where that is unknown.
+    fn hold(&mut self, number: u32, peer: &NodeId, id: Id, log: &mut Lines) -> Result<(), Halt>
+        requires { model.waits_for self.old number peer.now ≡ true }
+        ensures answer { Turns result self.new (model.vote_held self.old number peer.now id).1 }
+        ensures lines { Tells result log.old log.new (model.vote_held self.old number peer.now id).0 }
+    {
+        self.queue.hold(Held {
+            number,
+            node: *peer,
+            id,
+        })?;
+        self.fetch_unknown(peer, id, log)
+    }
+
+    /// A peer is asked for a block, if nothing is known of it.
+    fn fetch_unknown(&mut self, peer: &NodeId, id: Id, log: &mut Lines) -> Result<(), Halt>
+        ensures answer { Turns result self.new (model.fetched_unknown self.old peer.now id).1 }
+        ensures lines { Tells result log.old log.new (model.fetched_unknown self.old peer.now id).0 }
+    {
+        if self.queue.wants(&id, &self.board) {
+            self.fetch(peer, id, log)
+        } else {
+            Ok(())
+        }
+    }
+
+    /// A get is closed, or a vote lost; then all that this brings is done.
+    pub(super) fn time_out(
+        &mut self,
+        number: u32,
+        peer: &NodeId,
+        log: &mut Lines,
+    ) -> Result<(), Halt>
+        ensures answer { Turns result self.new (model.timed_out C.rules B.answer self.old number peer.now).1 }
+        ensures lines { Tells result log.old log.new (model.timed_out C.rules B.answer self.old number peer.now).0 }
+    {
+        self.give_up_on(number, peer, log)?;
+        self.settle(log)
+    }
+
+    /// A get is closed, or a vote lost.
+    fn give_up_on(&mut self, number: u32, peer: &NodeId, log: &mut Lines) -> Result<(), Halt>
+        ensures answer { Turns result self.new (model.given_up_on B.answer self.old number peer.now (model.asked_by self.old.queue number peer.now)).1 }
+        ensures lines { Tells result log.old log.new (model.given_up_on B.answer self.old number peer.now (model.asked_by self.old.queue number peer.now)).0 }
+    {
+        match self.close_get(number, peer) {
+            Some(_) => Ok(()),
+            None => self.lose_vote(number, peer, log),
+        }
+    }
+
+    /// A peer gives no vote, and closed polls leave.
+    fn lose_vote(&mut self, number: u32, peer: &NodeId, log: &mut Lines) -> Result<(), Halt>
+        ensures answer { Turns result self.new (model.vote_lost B.answer self.old number peer.now).1 }
+        ensures lines { Tells result log.old log.new (model.vote_lost B.answer self.old number peer.now).0 }
+    {
+        if !self.awaits(number, peer) {
+            return Ok(());
+        }
+        self.polls.vote(number, peer, None);
+        self.close_polls(log)
+    }
+
+    /// An open get is closed; the block that it asked for.
+    fn close_get(&mut self, number: u32, peer: &NodeId) -> Option<Id>
+        ensures found { result ≡ model.asked_by self.old.queue number peer.now }
+        ensures node { self.new ≡ model.without_get self.old number peer.now }
+        ensures none { result ≡ None → self.new ≡ self.old }
+    {
+        self.remembered = self.remembered.woken();
+        self.queue.close_get(number, peer)
+    }
+}
+
+/// Whether a block is another than the one that was asked for.
+fn is_other(asked: &Option<Id>, id: &Id) -> bool
+    ensures { result ≡ model.is_other asked.now id.now }
+{
+    match asked {
+        Some(asked) => asked != id,
+        None => false,
+    }
+}

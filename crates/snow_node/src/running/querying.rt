@@ -1,0 +1,98 @@
+ghost use Rattle.std.specs.Prelude.{◌≡◌, ◌<◌, length};
+ghost use Rattle.snow_sample.specs.Sampling.{draw_count, AreOfDistinctNodes};
+ghost use Rattle.snow_node.specs.Running.{numbered};
+ghost use Rattle.snow_node.specs.Querying as model;
+ghost use Rattle.snow_node.specs.Stepping.{Answers, Tells, Turns};
+
+use crate::running::Running;
+use crate::stop::Halt;
+use snow_chain::Chain;
+use snow_lines::{Line, Lines, QueryWhy};
+use snow_plain::Board;
+use snow_sample::{Draws, SampleFault};
+
+/// The most polls that run at a time.
+const MOST_POLLS: usize = 1024;
+
+impl<C: Chain, B: Board> Running<C, B> {
+    /// A query for the preference; whether it was sent.
+    pub(super) fn query(&mut self, log: &mut Lines) -> Result<bool, Halt>
+        ensures answer { Answers result self.new (model.queried B.answer self.old).1 }
+        ensures lines { Tells result log.old log.new (model.queried B.answer self.old).0 }
+    {
+        if self.polls.len() >= MOST_POLLS {
+            return self.drop_query(QueryWhy::Full, log);
+        }
+        let mut draws = Draws::new(self.alloc);
+        match self
+            .roster
+            .sample(self.params.k(), &mut self.words, &mut draws)
+        {
+            Ok(()) => self.send(draws, log),
+            Err(SampleFault::TooFewUnits { .. }) => self.drop_query(QueryWhy::Units, log),
+            Err(SampleFault::WordsOut) => self.drop_query(QueryWhy::Words, log),
+            Err(SampleFault::Memory) => Err(Halt::Memory),
+        }
+    }
+
+    /// The query is sent to those drawn.
+    #[tactic(auto, using(crate::proofs::Logs::logs_nothing))]
+    fn send(&mut self, draws: Draws, log: &mut Lines) -> Result<bool, Halt>
+        requires room { length self.old.polls.polls < 1024 }
+        requires count { draw_count draws ≡ self.old.board.parameters.k }
+        requires nodes { AreOfDistinctNodes draws }
+        ensures answer { Answers result self.new (numbered self.old (model.sent B.answer draws)).1 }
+        ensures lines { Tells result log.old log.new (numbered self.old (model.sent B.answer draws)).0 }
+    {
+        let Some(number) = self.numbers.draw() else {
+            return Err(Halt::Requests);
+        };
+        // There is room for a poll, so that memory alone can run out.
+        if let Err(_) = self.polls.begin(number, &draws) {
+            return Err(Halt::Memory);
+        }
+        log.push(Line::Query {
+            number,
+            id: self.board.preference(),
+            draws,
+        })?;
+        Ok(true)
+    }
+
+    /// The query isn't sent.
+    fn drop_query(&mut self, why: QueryWhy, log: &mut Lines) -> Result<bool, Halt>
+        ensures answer { Answers result self.new (model.not_sent self.old why).1 }
+        ensures lines { Tells result log.old log.new (model.not_sent self.old why).0 }
+    {
+        log.push(Line::DropQuery { why })?;
+        Ok(false)
+    }
+
+    /// Whether a block is pending and fewer polls run than may.
+    fn lacks_polls(&self) -> bool
+        ensures { result ≡ model.lacks_polls self.now }
+    {
+        self.board.pending_len() > 0 && self.polls.len() < self.params.repolls() as usize
+    }
+
+    /// One query more where polls are lacking; whether it was sent.
+    fn repoll_one(&mut self, log: &mut Lines) -> Result<bool, Halt>
+        ensures answer { Answers result self.new (model.one_repolled B.answer self.old).1 }
+        ensures lines { Tells result log.old log.new (model.one_repolled B.answer self.old).0 }
+    {
+        if self.lacks_polls() {
+            self.query(log)
+        } else {
+            Ok(false)
+        }
+    }
+
+    /// Queries until enough polls run or one isn't sent.
+    pub(super) fn repoll(&mut self, log: &mut Lines) -> Result<(), Halt>
+        ensures answer { Turns result self.new (model.repolled B.answer self.old).1 }
+        ensures lines { Tells result log.old log.new (model.repolled B.answer self.old).0 }
+    {
+        while self.repoll_one(log)? {}
+        Ok(())
+    }
+}

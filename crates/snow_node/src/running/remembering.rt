@@ -1,0 +1,70 @@
+//! What the node knows of that which its queue remembers of the board.
+
+ghost use Rattle.std.specs.Prelude.{◌≡◌};
+ghost use Rattle.snow_node.specs.Remembering as model;
+
+use snow_base::Id;
+use snow_issue::Work;
+
+/// What is known of that which the queue remembers of its waiting blocks, so that they needn't all be
+/// looked at anew.
+#[derive(Clone, Copy, Debug, PartialEq, Eq)]
+pub enum Remembered {
+    /// Nothing: it may be wrong.
+    Nothing,
+    /// It is true of the board.
+    True,
+    /// It is true, and no block is remembered to be ready.
+    Calm,
+    /// It is true, and nothing is remembered of the children of this block.
+    Ready(Id),
+}
+
+impl Remembered {
+    /// Once this was taken out of the queue.
+    pub fn taken(work: &Option<Work>) -> Remembered
+        ensures { result ≡ model.when_taken work.now }
+    {
+        match work {
+            None | Some(Work::Vote(_)) => Remembered::Calm,
+            Some(Work::Hopeless(_)) => Remembered::True,
+            Some(Work::Ready(block)) => Remembered::Ready(block.header.id),
+        }
+    }
+
+    /// Once some blocks are to be looked at again.
+    pub fn woken(&self) -> Remembered
+        ensures { result ≡ model.when_woken self.now }
+    {
+        match self {
+            Remembered::Nothing => Remembered::Nothing,
+            Remembered::Calm => Remembered::Calm,
+            Remembered::True => Remembered::True,
+            Remembered::Ready(_) => Remembered::True,
+        }
+    }
+
+    /// Once this block was issued.
+    pub fn issued(&self, id: &Id) -> Remembered
+        ensures { result ≡ model.when_issued self.now id.now }
+    {
+        let Remembered::Ready(ready) = self else {
+            return Remembered::Nothing;
+        };
+        if ready == id {
+            Remembered::True
+        } else {
+            Remembered::Nothing
+        }
+    }
+
+    /// Once a poll was recorded.
+    pub fn polled(&self) -> Remembered
+        ensures { result ≡ model.when_polled self.now }
+    {
+        match self {
+            Remembered::Calm => Remembered::Calm,
+            _ => Remembered::Nothing,
+        }
+    }
+}

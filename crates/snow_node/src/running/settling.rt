@@ -1,0 +1,178 @@
+ghost use Rattle.std.specs.Prelude.{◌≡◌, IfSome};
+ghost use Rattle.snow_plain.specs.Board.{height_of};
+ghost use Rattle.snow_plain.specs.Preference.{is_preferred};
+ghost use Rattle.snow_plain.specs.Reached.{MayIssue};
+ghost use Rattle.snow_chain.specs.Chain.{next_on};
+ghost use Rattle.snow_issue.specs.Known.{Knows, RestsAfter, lists_of};
+ghost use Rattle.snow_issue.specs.Settling.{after, work_of};
+ghost use Rattle.snow_node.specs.Remembering.{Remembers};
+ghost use Rattle.snow_node.specs.Kept.{IsApart, MayWork};
+ghost use Rattle.snow_node.specs.Placing.{opposed};
+ghost use Rattle.snow_node.specs.Settling as model;
+ghost use Rattle.snow_node.specs.Stepping.{Answers, Tells, Turns};
+
+use crate::admitting::opposition;
+use crate::reporting::{drop_block, tell};
+use crate::running::Running;
+use crate::running::remembering::Remembered;
+use crate::running::supplying::take_up;
+use crate::stop::Halt;
+use snow_base::{Bytes, Header, Id};
+use snow_chain::Chain;
+use snow_issue::{Held, Queue, Work};
+use snow_lines::{DropWhy, Lines};
+use snow_plain::Board;
+
+impl<C: Chain, B: Board> Running<C, B> {
+    /// Does all that is to do with the blocks and replies that wait.
+    pub(super) fn settle(&mut self, log: &mut Lines) -> Result<(), Halt>
+        ensures answer { Turns result self.new (model.settled C.rules B.answer self.old).1 }
+        ensures lines { Tells result log.old log.new (model.settled C.rules B.answer self.old).0 }
+    {
+        while self.settle_one(log)? {}
+        Ok(())
+    }
+
+    /// Does the first thing that is to do; whether there was any.
+    fn settle_one(&mut self, log: &mut Lines) -> Result<bool, Halt>
+        ensures answer { Answers result self.new (model.one_settled C.rules B.answer self.old).1 }
+        ensures lines { Tells result log.old log.new (model.one_settled C.rules B.answer self.old).0 }
+    {
+        match self.take_work() {
+            None => Ok(false),
+            Some(work) => self.carry_out(work, log),
+        }
+    }
+
+    /// Takes the first thing that is to do out of the queue, if there is any.
+    fn take_work(&mut self) -> Option<Work>
+        ensures work { result ≡ work_of self.old.queue self.old.board }
+        ensures node { self.new ≡ model.without_work self.old result }
+        ensures may { IfSome result (λ work. MayWork self.new.board self.new.queue work) }
+    {
+        let work = take_next(&mut self.queue, &self.board, &self.remembered);
+        self.remembered = Remembered::taken(&work);
+        work
+    }
+
+    /// Does what was taken out of the queue, as there was something.
+    fn carry_out(&mut self, work: Work, log: &mut Lines) -> Result<bool, Halt>
+        requires { MayWork self.old.board self.old.queue work }
+        ensures answer { Answers result self.new (model.carried_out C.rules B.answer self.old work).1 }
+        ensures lines { Tells result log.old log.new (model.carried_out C.rules B.answer self.old work).0 }
+    {
+        self.work(work, log)?;
+        Ok(true)
+    }
+
+    /// Does what was taken out of the queue.
+    fn work(&mut self, work: Work, log: &mut Lines) -> Result<(), Halt>
+        requires { MayWork self.old.board self.old.queue work }
+        ensures answer { Turns result self.new (model.done C.rules B.answer self.old work).1 }
+        ensures lines { Tells result log.old log.new (model.done C.rules B.answer self.old work).0 }
+    {
+        match work {
+            Work::Hopeless(block) => drop_block(block.header.id, DropWhy::Parent, log),
+            Work::Ready(block) => {
+                let header = block.header;
+                self.place(&header, block.bytes, log)
+            }
+            Work::Vote(reply) => self.hear(&reply, log),
+        }
+    }
+
+    /// A block whose parent is on the board is issued, unless something stands against it.
+    fn place(&mut self, block: &Header, bytes: Bytes, log: &mut Lines) -> Result<(), Halt>
+        requires { IsApart self.old.board self.old.queue.waiting block.now.id }
+        ensures answer { Turns result self.new (model.placed_by B.answer self.old block.now bytes (next_on C.rules self.old.chain block.now.parent bytes)
+            (opposed self.old.board block.now (height_of self.old.board block.now.parent))).1 }
+        ensures lines { Tells result log.old log.new (model.placed_by B.answer self.old block.now bytes (next_on C.rules self.old.chain block.now.parent bytes)
+            (opposed self.old.board block.now (height_of self.old.board block.now.parent))).0 }
+    {
+        match opposition(&self.board, block) {
+            None => self.issue(block, bytes, log),
+            Some(DropWhy::Invalid) => self.refuse(block, log),
+            Some(DropWhy::Parent) => drop_block(block.id, DropWhy::Parent, log),
+            Some(DropWhy::Full) => drop_block(block.id, DropWhy::Full, log),
+            Some(DropWhy::Old) => drop_block(block.id, DropWhy::Old, log),
+        }
+    }
+
+    #[tactic(auto, using(crate::proofs::Logs::logs_nothing))]
+    /// A block is issued, if it is valid, and served then.
+    fn issue(&mut self, block: &Header, bytes: Bytes, log: &mut Lines) -> Result<(), Halt>
+        requires may { MayIssue self.old.board block.now }
+        requires apart { IsApart self.old.board self.old.queue.waiting block.now.id }
+        ensures answer { Turns result self.new (model.issued_by B.answer self.old block.now bytes (next_on C.rules self.old.chain block.now.parent bytes)).1 }
+        ensures lines { Tells result log.old log.new (model.issued_by B.answer self.old block.now bytes (next_on C.rules self.old.chain block.now.parent bytes)).0 }
+    {
+        let before = self.board.preference();
+        if !take_up(
+            &mut self.board,
+            &mut self.chain,
+            &mut self.served,
+            block,
+            bytes,
+        )? {
+            return self.refuse(block, log);
+        }
+        self.remembered = self.remembered.issued(&block.id);
+        tell(&self.board, &before, log)?;
+        self.ask_on_the_way(&block.id, log)
+    }
+
+    /// An invalid block is gone, with its parent.
+    fn refuse(&mut self, block: &Header, log: &mut Lines) -> Result<(), Halt>
+        ensures answer { Turns result self.new (model.refused self.old block.now).1 }
+        ensures lines { Tells result log.old log.new (model.refused self.old block.now).0 }
+    {
+        self.queue.gone(block.id, Some(block.parent));
+        drop_block(block.id, DropWhy::Invalid, log)
+    }
+
+    /// A block that was issued is asked about where it is on the way to the preference.
+    fn ask_on_the_way(&mut self, id: &Id, log: &mut Lines) -> Result<(), Halt>
+        ensures answer { Turns result self.new (model.asked_on_the_way B.answer id.now self.old).1 }
+        ensures lines { Tells result log.old log.new (model.asked_on_the_way B.answer id.now self.old).0 }
+    {
+        if self.leads(id) {
+            self.query(log)?;
+        }
+        Ok(())
+    }
+
+    /// Whether a block is on the way to the preference. The preference itself is told without walking
+    /// there.
+    #[tactic(auto, using(crate::proofs::Preferred::preference_leads))]
+    fn leads(&self, id: &Id) -> bool
+        ensures { result ≡ is_preferred B.answer self.now.board id.now }
+    {
+        self.board.preference() == *id || self.board.is_preferred(id)
+    }
+
+    /// A held reply votes for what its block stands for, and closed polls leave.
+    fn hear(&mut self, reply: &Held, log: &mut Lines) -> Result<(), Halt>
+        ensures answer { Turns result self.new (model.heard B.answer self.old reply.now).1 }
+        ensures lines { Tells result log.old log.new (model.heard B.answer self.old reply.now).0 }
+    {
+        let id = self.queue.bubble(&reply.id, &self.board);
+        self.polls.vote(reply.number, &reply.node, id);
+        self.close_polls(log)
+    }
+}
+
+/// Takes the first thing that is to do out of a queue, of which this is known.
+fn take_next<B: Board>(queue: &mut Queue, board: &B, remembered: &Remembered) -> Option<Work>
+    requires { Remembers (B.board board.now) queue.old remembered.now }
+    ensures work { result ≡ work_of (lists_of queue.old) (B.board board.now) }
+    ensures lists { lists_of queue.new ≡ after (lists_of queue.old) (B.board board.now) result }
+    ensures knows { Knows queue.new (B.board board.now) }
+    ensures rests { RestsAfter result queue.new.seats }
+{
+    match remembered {
+        Remembered::Nothing => queue.next_work(board),
+        Remembered::True => queue.next_known(board),
+        Remembered::Calm => queue.next_known(board),
+        Remembered::Ready(_) => queue.next_known(board),
+    }
+}

@@ -1,0 +1,110 @@
+ghost use Rattle.std.specs.Prelude.{◌≡◌, [], Err, IfOk, OnOk, OnErr};
+ghost use Rattle.snow_plain.specs.Board.{issued};
+ghost use Rattle.snow_plain.specs.Preference.{preferred};
+ghost use Rattle.snow_plain.specs.Reached.{MayIssue};
+ghost use Rattle.snow_chain.specs.Chain.{next_on};
+ghost use Rattle.snow_getter.specs.Answer.{answer};
+ghost use Rattle.snow_node.specs.Matching.{IsSteady, Admits};
+ghost use Rattle.snow_node.specs.Supplying as model;
+ghost use Rattle.snow_node.specs.Supplying.{Serves};
+ghost use Rattle.snow_node.specs.Stepping.{Tells};
+
+use crate::running::Running;
+use crate::stop::Halt;
+use snow_base::{Bytes, Header};
+use snow_chain::Chain;
+use snow_getter::Getter;
+use snow_lines::Lines;
+use snow_plain::{Board, Decision};
+use snow_wire::Event;
+use std::alloc::AllocError;
+
+impl<C: Chain, B: Board> Running<C, B> {
+    /// A peer's question is answered.
+    #[inline(never)]
+    #[tactic(auto, using(crate::proofs::Logs::logs_nothing))]
+    pub(super) fn reply(&self, question: &Event, log: &mut Lines) -> Result<(), Halt>
+        ensures memory { OnErr result (result ≡ Err Halt.Memory) }
+        ensures lines { Tells result log.old log.new (answer self.now.served (preferred B.answer self.now.board) question.now) }
+    {
+        self.served.answer(self.board.preference(), question, log)?;
+        Ok(())
+    }
+}
+
+/// Issues a block, if it is valid, and serves it then; whether it was. After want of memory all is as
+/// before: the state of a valid block is taken back out of the chain where there is no room for it.
+#[tactic(auto, using(crate::proofs::Offers::may_take_back))]
+pub(super) fn take_up<C: Chain, B: Board>(
+    board: &mut B,
+    chain: &mut C,
+    served: &mut Getter,
+    block: &Header,
+    bytes: Bytes,
+) -> Result<bool, AllocError>
+    requires steady { IsSteady (B.board board.old) (C.held chain.old) }
+    requires may { MayIssue (B.board board.old) block.now }
+    requires serves { Serves (B.board board.old) served.old }
+    ensures admits { IfOk result (λ valid. Admits valid (B.board board.old) (C.held chain.old) (B.board board.new) (C.held chain.new)
+        (B.decided board.new) block.now (next_on C.rules (C.held chain.old) block.now.parent bytes)) }
+    ensures served { IfOk result (λ valid. served.new ≡ model.if_issued served.old valid block.now bytes) }
+    ensures board { OnErr result (B.board board.new ≡ B.board board.old) }
+    ensures held { OnErr result (C.held chain.new ≡ C.held chain.old) }
+    ensures unserved { OnErr result (served.new ≡ served.old) }
+    ensures steady { IsSteady (B.board board.new) (C.held chain.new) }
+    ensures serves { Serves (B.board board.new) served.new }
+{
+    if !chain.verify(&block.parent, &block.id, bytes.list())? {
+        return Ok(false);
+    }
+    if let Err(error) = seat(board, served, block, bytes) {
+        chain.reject(&block.id);
+        return Err(error);
+    }
+    Ok(true)
+}
+
+/// Puts a block on the board, and serves it. After want of memory all is as before.
+#[tactic(auto, using(crate::proofs::Supplying::new_to_serve))]
+fn seat<B: Board>(
+    board: &mut B,
+    served: &mut Getter,
+    block: &Header,
+    bytes: Bytes,
+) -> Result<(), AllocError>
+    requires may { MayIssue (B.board board.old) block.now }
+    requires serves { Serves (B.board board.old) served.old }
+    ensures board { OnOk result (B.board board.new ≡ issued (B.board board.old) block.now) }
+    ensures decided { OnOk result (B.decided board.new ≡ []) }
+    ensures served { OnOk result (served.new ≡ model.with_issued served.old block.now bytes) }
+    ensures board_stays { OnErr result (B.board board.new ≡ B.board board.old) }
+    ensures unserved { OnErr result (served.new ≡ served.old) }
+    ensures serves { Serves (B.board board.new) served.new }
+{
+    served.issued(block.id, block.parent, bytes)?;
+    if let Err(error) = board.issue(block.id, block.parent, block.height) {
+        served.rejected(&block.id);
+        return Err(error);
+    }
+    Ok(())
+}
+
+/// What peers are served follows the decisions. It takes no memory.
+pub(super) fn follow(served: &mut Getter, decisions: &[Decision])
+    ensures { served.new ≡ model.with_decisions served.old decisions.now }
+{
+    for decision in decisions {
+        follow_one(served, decision);
+    }
+}
+
+/// What peers are served follows one decision.
+fn follow_one(served: &mut Getter, decision: &Decision)
+    ensures { served.new ≡ model.with_decision served.old decision.now }
+{
+    if decision.accepted {
+        served.accepted(&decision.id);
+    } else {
+        served.rejected(&decision.id);
+    }
+}

@@ -1,0 +1,28 @@
+ghost use Rattle.std.specs.Prelude.{◌≡◌};
+ghost use Rattle.snow_node.specs.Matching.{MayFollow, MayTell};
+ghost use Rattle.snow_node.specs.Telling.{with_decision, with_decisions};
+
+use snow_chain::Chain;
+use snow_plain::Decision;
+
+/// The chain is told each decision, in order. It takes no memory.
+pub fn tell<C: Chain>(chain: &mut C, decisions: &[Decision])
+    requires { MayFollow (C.held chain.old) decisions.now }
+    ensures { C.held chain.new ≡ with_decisions (C.held chain.old) decisions.now }
+{
+    for decision in decisions {
+        tell_one(chain, decision);
+    }
+}
+
+/// The chain is told one decision.
+fn tell_one<C: Chain>(chain: &mut C, decision: &Decision)
+    requires { MayTell (C.held chain.old) decision.now.id decision.now.accepted }
+    ensures { C.held chain.new ≡ with_decision (C.held chain.old) decision.now }
+{
+    if decision.accepted {
+        chain.accept(&decision.id);
+    } else {
+        chain.reject(&decision.id);
+    }
+}

@@ -1,0 +1,40 @@
+-- One block more is kept, and noted in each index.
+use Rattle.std.proofs.Common.{◌≡◌, ◌<◌, [], ◌∷◌, length, reverse, refl, sym, ap, subst, ◌∙◌, arith}
+use Rattle.std.specs.Prelude.{is_some, Ok}
+use Rattle.std.proofs.lemmas.List.{reverse-append, length-reverse}
+use Rattle.snow_store.specs.declared.block.KeptBlock.{KeptBlock}
+use Rattle.snow_store.specs.declared.verdict.Verdict.TheVariants as verdict
+use Rattle.snow_store.specs.Indexing.{Shelf}
+use Rattle.snow_store.specs.Keeping.{Store, taken}
+use Rattle.snow_store.proofs.Linked.{keeps_facts}
+use Rattle.snow_store.proofs.Storing.{stored_more}
+use Rattle.snow_store.proofs.store.Store.keep.Goals as goal
+
+pub add-requires-clause-above : goal.add-requires-clause-above
+add-requires-clause-above g c =
+    let s : Store = record { last = c.self.inside.last; height = c.self.inside.height; kept = reverse c.self.inside.kept.items } in
+    let is = c.self.invariant (ap (λ (v : Shelf). v.whole) c.self.view_is ∙ c.requires.whole) in
+    let fits : taken s c.args.header.now ≡ Ok verdict.Keeps = ap (λ (v : Shelf). taken v.store c.args.header.now) c.self.view_is ∙ c.requires.fits in
+    subst (λ n. n < c.args.header.now.height) (sym is.floor) (keeps_facts s c.args.header.now fits).above
+
+pub add-requires-clause-new : goal.add-requires-clause-new
+add-requires-clause-new g c =
+    let s : Store = record { last = c.self.inside.last; height = c.self.inside.height; kept = reverse c.self.inside.kept.items } in
+    let is = c.self.invariant (ap (λ (v : Shelf). v.whole) c.self.view_is ∙ c.requires.whole) in
+    let fits : taken s c.args.header.now ≡ Ok verdict.Keeps = ap (λ (v : Shelf). taken v.store c.args.header.now) c.self.view_is ∙ c.requires.fits in
+    is.runs c.args.header.now.height ∙ ap is_some (keeps_facts s c.args.header.now fits).free
+
+pub invariant_of-self-2 : goal.invariant_of-self-2
+invariant_of-self-2 g c whole =
+    let items = c.self.inside.kept.items in
+    let s : Store = record { last = c.self.inside.last; height = c.self.inside.height; kept = reverse items } in
+    let b : KeptBlock = record { header = c.args.header.now; bytes = c.in_ok-bytes.bytes } in
+    let is = c.self.invariant (ap (λ (v : Shelf). v.whole) c.self.view_is ∙ c.requires.whole) in
+    let fits : taken s b.header ≡ Ok verdict.Keeps = ap (λ (v : Shelf). taken v.store b.header) c.self.view_is ∙ c.requires.fits in
+    rw (c.in_ok-push.ensures.items, reverse-append items (b ∷ []))
+    (stored_more s b c.self.inside.places c.note_place.new.places c.self.inside.tops c.note_top.new.tops c.self.inside.children c.note_child.new.children
+    (g.H.Kept.floor c.self.inside.heights) (g.H.Kept.floor c.add.new.self) (g.H.Kept.held c.self.inside.heights) (g.H.Kept.held c.add.new.self) is fits c.note_place.ensures.fits
+    (c.in_ok-note_place.ensures.noted (reverse items) b refl (let e : length (reverse items) ≡ c.len.result = omega (arith, length-reverse items, c.len.ensures, c.self.inside.kept.ok.0) in e))
+    (c.in_ok-note_top.ensures (reverse items) b refl refl)
+    (c.in_ok-note_child.ensures (reverse items) b refl refl)
+    c.add.ensures.floor c.in_ok-add.ensures.held)

@@ -1,0 +1,27 @@
+-- What is missed below the highest block of a kept target.
+use Rattle.std.proofs.Common.{◌≡◌, Some, reverse, refl, sym, ap, ◌∙◌}
+use Rattle.snow_interval.specs.Heights.{lowest}
+use Rattle.snow_store.specs.Indexing.{Shelf, top_of}
+use Rattle.snow_store.specs.Keeping.{Store, highest}
+use Rattle.snow_store.specs.Linking.{held_heights}
+use Rattle.snow_store.specs.Needing.{need_at}
+use Rattle.snow_store.specs.Paths.{missed_from}
+use Rattle.snow_store.proofs.Storing.{top_held, missed_kept}
+use Rattle.snow_store.proofs.store.Store.missed.Goals as goal
+
+pub wanted_at-requires-clause-held : goal.wanted_at-requires-clause-held
+wanted_at-requires-clause-held g c =
+    let s : Store = record { last = c.self.inside.last; height = c.self.inside.height; kept = reverse c.self.inside.kept.items } in
+    let is = c.self.invariant (ap (λ (v : Shelf). v.whole) c.self.view_is ∙ c.requires) in
+    sym (ap (λ (v : Shelf). held_heights v.store.kept c.in-Some.top.now) c.self.view_is)
+    ∙ top_held s c.args.target.now c.in-Some.top.now is.linked (sym (c.in-Some.ensures.value ∙ is.tops c.args.target.now))
+
+pub returns-in-Some : goal.returns-in-Some
+returns-in-Some g c noted f =
+    let s : Store = record { last = c.self.inside.last; height = c.self.inside.height; kept = reverse c.self.inside.kept.items } in
+    let is = c.self.invariant (ap (λ (v : Shelf). v.whole) c.self.view_is ∙ c.requires) in
+    let t = c.args.target.now in
+    let top : top_of s.kept t ≡ Some c.in-Some.top.now = sym (c.in-Some.ensures.value ∙ is.tops t) in
+    c.wanted_at.ensures ∙ sym (ap (λ (v : Shelf). need_at v.store c.in-Some.top.now) c.self.view_is)
+    ∙ sym (missed_kept s noted t c.in-Some.top.now (lowest (held_heights s.kept) c.in-Some.top.now) (held_heights s.kept) is.linked (λ h. refl) top refl)
+    ∙ ap (λ (v : Shelf). missed_from v.store noted t (highest v.store.kept t)) c.self.view_is

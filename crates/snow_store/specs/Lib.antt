@@ -1,0 +1,9 @@
+pub mod Coming
+pub mod Indexing
+pub mod Keeping
+pub mod Linking
+pub mod Needing
+pub mod Paths
+pub mod ProgressLaw
+pub mod Renewing
+pub mod StoreCode

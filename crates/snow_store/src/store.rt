@@ -1,0 +1,342 @@
+ghost use Rattle.std.specs.Prelude.{◌≡◌, ℕ, ◌+◌, ◌-◌, ◌<◌, List, true, [], Some, None, Ok, IfOk, OnOk, if◌then◌else◌};
+ghost use Rattle.std.specs.List.{slice_get};
+ghost use Rattle.std.specs.Option.{option_copied};
+ghost use Rattle.snow_store.specs.declared.verdict.Verdict.TheVariants.{Keeps};
+ghost use Rattle.snow_store.specs.Keeping.{held, highest, stray, child_stop, fork_stop, below_stop, above_stop, misplaced, placed_there, placed, taken, keeping, after_taking, Answers};
+ghost use Rattle.snow_store.specs.Paths.{has_id, wanted_below, missed_from};
+ghost use Rattle.snow_store.specs.Indexing.{top_of};
+ghost use Rattle.snow_store.specs.Linking.{IsLinked, held_heights};
+ghost use Rattle.snow_store.specs.Needing.{need_at};
+
+use crate::block::KeptBlock;
+use crate::index;
+use crate::index::Children;
+use crate::stop::BootStop;
+use crate::verdict::Verdict;
+use snow_base::{Bytes, Header, Id};
+use snow_interval::Kept;
+use std::alloc::{AllocError, Global};
+use std::collections::BTreeMap;
+use std::marker::Model;
+
+/// The most blocks that are kept.
+const MOST_KEPT: usize = 32_768;
+
+/// The last accepted block, and the blocks that are kept above it, each found by its height, by its
+/// identifier and by its parent. Contracts see the kept blocks, and whether all is kept as it should
+/// be: not after want of memory, after which a store is only let go.
+#[derive(Drop)]
+pub struct Store<H: Kept> {
+    last: Id,
+    height: u64,
+    kept: Vec<KeptBlock>,
+    places: BTreeMap<u64, usize>,
+    tops: BTreeMap<Id, u64>,
+    children: BTreeMap<Id, Children>,
+    heights: H,
+    whole: bool,
+    alloc: Global,
+}
+
+impl<H: Kept> Model for Store<H> {
+    ghost use Rattle.std.specs.Prelude.{◌≡◌, true, reverse};
+    ghost use Rattle.snow_store.specs.StoreCode.{coded_shelf};
+    ghost use Rattle.snow_store.specs.Indexing.{Shelf, IsStored};
+
+    ghost Value = { Shelf };
+
+    ghost coded = { coded_shelf };
+
+    ghost view = { λ a. record { whole = a.whole; store = record { last = a.last; height = a.height; kept = reverse a.kept.items } } };
+
+    ghost invariant = { λ a. a.whole ≡ true → IsStored record { last = a.last; height = a.height; kept = reverse a.kept.items } a.places a.tops a.children (H.floor a.heights) (H.held a.heights) };
+}
+
+impl<H: Kept> Store<H> {
+    /// No block is kept above the last accepted one. It takes no memory.
+    pub fn begin(alloc: Global, last: Id, height: u64) -> Self
+        ensures { result ≡ record { whole = true; store = record { last = last; height = height; kept = [] } } }
+    {
+        Store {
+            last,
+            height,
+            kept: Vec::new(alloc),
+            places: BTreeMap::new(alloc),
+            tops: BTreeMap::new(alloc),
+            children: BTreeMap::new(alloc),
+            heights: H::begin(alloc, height),
+            whole: true,
+            alloc,
+        }
+    }
+
+    /// The last accepted block.
+    pub fn last(&self) -> Id
+        ensures { result ≡ self.now.store.last }
+    {
+        self.last
+    }
+
+    /// Its height.
+    pub fn height(&self) -> u64
+        ensures { result ≡ self.now.store.height }
+    {
+        self.height
+    }
+
+    /// The kept blocks fit one another.
+    pub fn links(&self)
+        requires { self.now.whole ≡ true }
+        ensures { IsLinked self.now.store }
+    {
+        let _count = self.kept.len();
+    }
+
+    /// The kept block at a height.
+    pub fn at(&self, height: u64) -> Option<&KeptBlock>
+        requires { self.now.whole ≡ true }
+        ensures { option_copied result ≡ held self.now.store.kept height }
+    {
+        match self.places.get(&height) {
+            Some(place) => item_at(self.kept.as_slice(), *place),
+            None => None,
+        }
+    }
+
+    /// The kept block at the height above one.
+    fn above_of(&self, height: u64) -> Option<&KeptBlock>
+        requires { self.now.whole ≡ true }
+        ensures { option_copied result ≡ held self.now.store.kept (height + 1) }
+    {
+        let _count = self.kept.len();
+        match height.checked_add(1) {
+            Some(above) => self.at(above),
+            None => None,
+        }
+    }
+
+    /// The highest height at which an identifier is kept.
+    pub fn top(&self, id: &Id) -> Option<u64>
+        requires { self.now.whole ≡ true }
+        ensures { result ≡ top_of self.now.store.kept id.now }
+    {
+        self.tops.get(id).copied()
+    }
+
+    /// The lowest kept child of a block that isn't right above its height.
+    fn stray(&self, header: &Header) -> Option<&KeptBlock>
+        requires { self.now.whole ≡ true }
+        ensures { option_copied result ≡ stray self.now.store.kept header.now.id header.now.height }
+    {
+        let children = self.children.get(&header.id).copied();
+        match index::stray_height(header.height, children) {
+            Some(height) => self.at(height),
+            None => None,
+        }
+    }
+
+    /// Where a kept child of a block is at a wrong height.
+    fn refused(&self, header: &Header) -> Option<BootStop>
+        requires { self.now.whole ≡ true }
+        ensures { result ≡ child_stop (stray self.now.store.kept header.now.id header.now.height) }
+    {
+        let child = self.stray(header)?;
+        Some(BootStop::Refused {
+            id: child.header.id,
+        })
+    }
+
+    /// What becomes of a block that is taken: the first of the rules that applies.
+    #[tactic(auto, unfolding(crate::specs::Keeping::taken))]
+    fn judge(&self, header: &Header) -> Result<Verdict, BootStop>
+        requires { self.now.whole ≡ true }
+        ensures { result ≡ taken self.now.store header.now }
+    {
+        if let Some(stop) = self.refused(header) {
+            return Err(stop);
+        }
+        if header.height <= self.height {
+            return Ok(Verdict::Low);
+        }
+        match self.at(header.height) {
+            Some(other) => judge_there(header, other),
+            None => self.judge_free(header),
+        }
+    }
+
+    /// The same for a block above the last accepted one, at a height that is free.
+    fn judge_free(&self, header: &Header) -> Result<Verdict, BootStop>
+        requires whole { self.now.whole ≡ true }
+        requires above { self.now.store.height < header.now.height }
+        ensures { result ≡ placed self.now.store header.now None }
+    {
+        if self.kept.len() >= MOST_KEPT {
+            return Err(BootStop::Full);
+        }
+        match self.misplaced(header) {
+            Some(stop) => Err(stop),
+            None => Ok(Verdict::Keeps),
+        }
+    }
+
+    /// Where a block doesn't fit the blocks around it.
+    fn misplaced(&self, header: &Header) -> Option<BootStop>
+        requires whole { self.now.whole ≡ true }
+        requires above { self.now.store.height < header.now.height }
+        ensures { result ≡ misplaced self.now.store header.now }
+    {
+        if let Some(stop) = self.fork(header) {
+            return Some(stop);
+        }
+        if let Some(stop) = self.below(header) {
+            return Some(stop);
+        }
+        self.above(header)
+    }
+
+    /// Where the block below, if one is kept, isn't the parent.
+    fn below(&self, header: &Header) -> Option<BootStop>
+        requires whole { self.now.whole ≡ true }
+        requires above { self.now.store.height < header.now.height }
+        ensures { result ≡ below_stop header.now (held self.now.store.kept (header.now.height - 1)) }
+    {
+        let block = self.at(header.height - 1)?;
+        if block.header.id == header.parent {
+            return None;
+        }
+        Some(BootStop::Conflict {
+            height: header.height - 1,
+            first: block.header.id,
+            second: header.parent,
+        })
+    }
+
+    /// Where the block above, if one is kept, has another parent.
+    fn above(&self, header: &Header) -> Option<BootStop>
+        requires { self.now.whole ≡ true }
+        ensures { result ≡ above_stop header.now (held self.now.store.kept (header.now.height + 1)) }
+    {
+        let block = self.above_of(header.height)?;
+        if block.header.parent == header.id {
+            return None;
+        }
+        Some(BootStop::Conflict {
+            height: header.height,
+            first: block.header.parent,
+            second: header.id,
+        })
+    }
+
+    /// Where a block right above the last accepted one has another parent.
+    fn fork(&self, header: &Header) -> Option<BootStop>
+        requires { self.now.store.height < header.now.height }
+        ensures { result ≡ fork_stop self.now.store header.now }
+    {
+        if header.height - 1 == self.height && header.parent != self.last {
+            return Some(BootStop::Fork {
+                id: header.id,
+                parent: header.parent,
+            });
+        }
+        None
+    }
+
+    /// Takes a block: it is kept, or not, or it stops the run.
+    pub fn take(&mut self, header: &Header, bytes: &[u8]) -> Result<Verdict, BootStop>
+        requires { self.old.whole ≡ true }
+        ensures answer { Answers result (taken self.old.store header.now) }
+        ensures store { IfOk result (λ verdict. self.new ≡ record { whole = true; store = after_taking self.old.store record { header = header.now; bytes = bytes.now } verdict }) }
+    {
+        let verdict = self.judge(header)?;
+        if let Verdict::Keeps = verdict {
+            self.keep(header, bytes)?;
+        }
+        Ok(verdict)
+    }
+
+    /// Keeps a block that fits.
+    fn keep(&mut self, header: &Header, bytes: &[u8]) -> Result<(), AllocError>
+        requires whole { self.old.whole ≡ true }
+        requires fits { taken self.old.store header.now ≡ Ok Keeps }
+        ensures { OnOk result (self.new ≡ record { whole = true; store = keeping self.old.store record { header = header.now; bytes = bytes.now } }) }
+    {
+        self.whole = false;
+        let bytes = Bytes::from_slice(self.alloc, bytes)?;
+        index::note_place(&mut self.places, header.height, self.kept.len())?;
+        index::note_top(&mut self.tops, header.id, header.height)?;
+        index::note_child(&mut self.children, header.parent, header.height)?;
+        let _ = self.heights.add(header.height)?;
+        self.kept.push(KeptBlock {
+            header: *header,
+            bytes,
+        })?;
+        self.whole = true;
+        Ok(())
+    }
+
+    /// What is missed below the run of held heights that ends at one: the parent of its lowest block,
+    /// unless that is right above the last accepted block.
+    pub fn wanted_at(&self, height: u64) -> Option<Id>
+        requires whole { self.now.whole ≡ true }
+        requires held { held_heights self.now.store.kept height ≡ true }
+        ensures { result ≡ need_at self.now.store height }
+    {
+        match self.at(self.heights.lowest(height)) {
+            Some(block) => wanted_below(self.height, block),
+            None => None,
+        }
+    }
+
+    /// What a target misses, of which it is known whether it was found at or below the last accepted
+    /// height: what is missed below its highest block, or itself.
+    pub fn missed(&self, target: &Id, found: bool) -> Option<Id>
+        requires { self.now.whole ≡ true }
+        ensures { (noted : List (List ℕ)) → found ≡ has_id noted target.now → result ≡ missed_from self.now.store noted target.now (highest self.now.store.kept target.now) }
+    {
+        match self.tops.get(target) {
+            Some(top) => self.wanted_at(*top),
+            None => wanted(target, *target == self.last || found),
+        }
+    }
+}
+
+// The block at a place.
+fn item_at(kept: &[KeptBlock], place: usize) -> Option<&KeptBlock>
+    ensures { option_copied result ≡ slice_get kept.now place }
+{
+    kept.get(place)
+}
+
+// The parent of a block that isn't right above a height.
+fn wanted_below(height: u64, block: &KeptBlock) -> Option<Id>
+    ensures { result ≡ wanted_below height (Some block.now) }
+{
+    if block.header.height > 0 && block.header.height - 1 == height {
+        return None;
+    }
+    Some(block.header.parent)
+}
+
+// A target that isn't kept, where it is neither the last accepted block nor found.
+fn wanted(target: &Id, had: bool) -> Option<Id>
+    ensures { result ≡ (if had then None else Some target.now) }
+{
+    if had {
+        return None;
+    }
+    Some(*target)
+}
+
+// A block at a height that another holds.
+fn judge_there(header: &Header, other: &KeptBlock) -> Result<Verdict, BootStop>
+    ensures { result ≡ placed_there header.now other.now }
+{
+    if other.header.id == header.id {
+        return Ok(Verdict::Known);
+    }
+    Err(BootStop::Conflict {
+        height: header.height,
+        first: other.header.id,
+        second: header.id,
+    })
+}

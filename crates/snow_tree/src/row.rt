@@ -1,0 +1,161 @@
+ghost use Rattle.std.specs.Prelude.{◌≡◌, ◌^◌, ◌<◌, ◌↔◌, IsSome, ◌∷◌, ◌++◌, [], None, length, drop, take, slice_get, bytes_eq, option_to_list, OnOk};
+ghost use Rattle.std.specs.List.{IsDistinct, position};
+ghost use Rattle.std.specs.Map.{keys_of, values_of, lookup};
+ghost use Rattle.std.specs.Option.{option_map, option_copied, option_copied_mut};
+ghost use Rattle.snow_tree.specs.Row.{key_eq};
+
+use crate::key::Key;
+use snow_base::Id;
+use std::alloc::{AllocError, Global};
+use std::collections::{HashMap, VecDeque};
+use std::marker::Model;
+
+/// Values in a row, each found by its key. As an `IndexMap`, but the first one leaves without moving
+/// the others: a key has a number and no place, and the place is how far that lies above the first's.
+#[derive(Debug, Drop)]
+pub(crate) struct Row<V> {
+    entries: VecDeque<(Key, V)>,
+    numbers: HashMap<Key, usize>,
+    first: usize,
+}
+
+impl<V> Model for Row<V> {
+    ghost use Rattle.std.specs.Prelude.{◌-◌, min};
+    ghost use Rattle.std.specs.HashMap.{get, spare};
+    ghost use Rattle.std.specs.VecDeque.{deque_len, deque_capacity};
+    ghost use Rattle.snow_tree.specs.Row.{Lined, IsNumbered, key_eq};
+
+    ghost Value = { Lined V };
+
+    ghost view = { λ a. record {
+      entries = a.entries.items;
+      spare = min (spare a.numbers) (deque_capacity a.entries - deque_len a.entries);
+    } };
+
+    ghost invariant = { λ a. IsNumbered a.entries.items (λ k. get key_eq a.numbers k) a.first };
+}
+
+impl<V> Row<V> {
+    ghost use Rattle.std.specs.Borrow.{sem};
+    ghost use Rattle.snow_tree.specs.Lent.{lends_value};
+
+    /// No entry. It takes no memory.
+    pub(crate) fn new(alloc: Global) -> Self
+        ensures { result.entries ≡ [] }
+    {
+        Row {
+            entries: VecDeque::new(alloc),
+            numbers: HashMap::new(alloc),
+            first: 0,
+        }
+    }
+
+    /// How many entries there are. No key stands twice.
+    pub(crate) fn len(&self) -> usize
+        ensures len { result ≡ length self.now.entries }
+        ensures small { result < 2 ^ 63 }
+        ensures unique { IsDistinct key_eq (keys_of self.now.entries) }
+    {
+        self.entries.len()
+    }
+
+    /// The place of an identifier.
+    pub(crate) fn get_index_of(&self, id: &Id) -> Option<usize>
+        ensures index { result ≡ position (λ k. bytes_eq id.now k.id) (keys_of self.now.entries) }
+        ensures unique { IsDistinct key_eq (keys_of self.now.entries) }
+    {
+        match self.numbers.get(&Key { id: *id }) {
+            Some(number) => Some(number.wrapping_sub(self.first)),
+            None => None,
+        }
+    }
+
+    /// The key and the value at a place.
+    pub(crate) fn get_index(&self, place: usize) -> Option<(&Key, &V)>
+        ensures { option_map (λ e. (e.0.now, e.1.now)) result ≡ slice_get self.now.entries place }
+    {
+        match self.entries.get(place) {
+            Some(entry) => Some((&entry.0, &entry.1)),
+            None => None,
+        }
+    }
+
+    /// The value of an identifier.
+    pub(crate) fn get(&self, id: &Id) -> Option<&V>
+        ensures value { option_copied result ≡ lookup (λ k. bytes_eq id.now k.id) self.now.entries }
+    {
+        let place = self.get_index_of(id)?;
+        match self.get_index(place) {
+            Some((_, value)) => Some(value),
+            None => None,
+        }
+    }
+
+    /// The value at a place, to write.
+    pub(crate) fn get_index_mut(&mut self, place: usize) -> Option<&mut V>
+        ensures* writes_back { sem 𝓛 (lends_value V.row self.entry place result) }
+        ensures value { option_copied_mut result ≡ slice_get (values_of self.old.entries) place }
+    {
+        match self.entries.get_mut(place) {
+            Some(entry) => Some(&mut entry.1),
+            None => None,
+        }
+    }
+
+    /// Makes room for one more entry. After want of memory all is as before.
+    pub(crate) fn reserve_one(&mut self) -> Result<(), AllocError>
+        ensures entries { self.new.entries ≡ self.old.entries }
+        ensures room { OnOk result (0 < self.new.spare) }
+    {
+        self.entries.reserve(1)?;
+        self.numbers.reserve(1)
+    }
+
+    /// Appends an entry, for which there is room.
+    pub(crate) fn push(&mut self, id: Id, value: V)
+        requires new { lookup (λ k. bytes_eq id k.id) self.old.entries ≡ None }
+        requires room { 0 < self.old.spare }
+        ensures { self.new.entries ≡ self.old.entries ++ (record { id = id }, value) ∷ [] }
+    {
+        let number = self.first.wrapping_add(self.entries.len());
+        let added: Result<_, _> = self.numbers.insert(Key { id }, number);
+        let _ = added.unwrap();
+        self.entries.push_back_reserved((Key { id }, value));
+    }
+
+    /// Takes the last entry out.
+    pub(crate) fn pop(&mut self) -> Option<(Key, V)>
+        ensures entries { self.old.entries ≡ self.new.entries ++ option_to_list result }
+        ensures found { IsSome result ↔ (0 < length self.old.entries) }
+    {
+        let entry = self.entries.pop_back()?;
+        let _number = self.numbers.remove(&entry.0);
+        Some(entry)
+    }
+
+    /// Takes the first entry out. No other is touched.
+    pub(crate) fn pop_first(&mut self) -> Option<(Key, V)>
+        ensures first { result ≡ slice_get self.old.entries 0 }
+        ensures rest { self.new.entries ≡ drop 1 self.old.entries }
+    {
+        let entry = self.entries.pop_front()?;
+        let _number = self.numbers.remove(&entry.0);
+        self.first = self.first.wrapping_add(1);
+        Some(entry)
+    }
+
+    /// The first entry becomes the last.
+    pub(crate) fn turn(&mut self)
+        ensures { self.new.entries ≡ drop 1 self.old.entries ++ take 1 self.old.entries }
+    {
+        let key = match self.entries.front() {
+            Some(entry) => entry.0,
+            None => return,
+        };
+        let number = self.first.wrapping_add(self.entries.len());
+        let moved: Result<_, _> = self.numbers.insert(key, number);
+        let _ = moved.unwrap();
+        self.entries.rotate_left(1);
+        self.first = self.first.wrapping_add(1);
+    }
+}
