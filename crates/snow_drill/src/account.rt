@@ -41,6 +41,10 @@ impl Account {
         ensures told { OnOk result (self.new.tally ≡ fold noted self.old.tally lines.now) }
         ensures digest { OnOk result ((past : List told.Line) → Digests self.old past → Digests self.new (past ++ lines.now)) }
     {
+        // Most events bring none.
+        if lines.is_empty() {
+            return Ok(());
+        }
         note_all(&mut self.tally, lines)?;
         digest(&mut self.hasher, &mut self.scratch, lines)
     }

@@ -1,23 +1,19 @@
 ghost use Rattle.std.specs.Prelude.{◌≡◌, ◌==◌, fold, if◌then◌else◌, OnOk};
-ghost use Rattle.snow_chain.specs.Tally.{tally_rules};
-ghost use Rattle.snow_engine.specs.Node.{step};
 ghost use Rattle.snow_drill.specs.Drill as model;
 ghost use Rattle.snow_drill.specs.Made.{newest};
 ghost use Rattle.snow_drill.specs.Following.{Follows};
 
+use crate::driven::Driven;
 use crate::player::Player;
 use crate::tally::Asked;
 use snow_base::{Header, Id, NodeId};
-use snow_chain::TallyChain;
-use snow_engine::Engine;
-use snow_plain::Board;
 use snow_wire::Event;
 use std::alloc::AllocError;
 
-impl<B: Board> Player<Engine<TallyChain, B>> {
+impl<E: Driven> Player<E> {
     /// So many random words.
     pub fn words(&mut self, n: u32) -> Result<(), AllocError>
-        ensures { OnOk result (Follows self.old self.new (λ d. model.with_words (step tally_rules B.answer) n d)) }
+        ensures { OnOk result (Follows self.old self.new (λ d. model.with_words E.step n d)) }
     {
         let words = self.generator.values(self.alloc, n)?;
         self.make(Event::Words { words })
@@ -25,7 +21,7 @@ impl<B: Board> Player<Engine<TallyChain, B>> {
 
     // A node's vote in the poll of a number.
     fn vote(&mut self, number: u32, node: NodeId) -> Result<(), AllocError>
-        ensures { OnOk result (Follows self.old self.new (λ d. model.with_vote (step tally_rules B.answer) number d node)) }
+        ensures { OnOk result (Follows self.old self.new (λ d. model.with_vote E.step number d node)) }
     {
         let picked = self.generator.pick(16);
         let id = voted(self.made.list(), &self.account.tally.tip(), picked);
@@ -39,7 +35,7 @@ impl<B: Board> Player<Engine<TallyChain, B>> {
     // The votes of all nodes of a query.
     fn votes(&mut self, query: &Asked) -> Result<(), AllocError>
         ensures { OnOk result (Follows self.old self.new (λ d.
-            fold (model.with_vote (step tally_rules B.answer) query.now.number) (model.with_words (step tally_rules B.answer) 20 d) query.now.nodes)) }
+            fold (model.with_vote E.step query.now.number) (model.with_words E.step 20 d) query.now.nodes)) }
     {
         self.words(20)?;
         for node in query.nodes.list() {
@@ -51,7 +47,7 @@ impl<B: Board> Player<Engine<TallyChain, B>> {
     /// Answers the oldest query that isn't answered; where there is none, nothing is done.
     #[tactic(auto, unfolding(crate::specs::Drill::with_answer))]
     pub fn answer(&mut self) -> Result<(), AllocError>
-        ensures { OnOk result (Follows self.old self.new (λ d. model.with_answer (step tally_rules B.answer) d)) }
+        ensures { OnOk result (Follows self.old self.new (λ d. model.with_answer E.step d)) }
     {
         match self.account.tally.take()? {
             None => Ok(()),
@@ -62,7 +58,7 @@ impl<B: Board> Player<Engine<TallyChain, B>> {
     /// The same so many times.
     #[tactic(auto, unfolding(crate::specs::Drill::with_answers))]
     pub fn answers(&mut self, times: u64) -> Result<(), AllocError>
-        ensures { OnOk result (Follows self.old self.new (λ d. model.with_answers times (step tally_rules B.answer) d)) }
+        ensures { OnOk result (Follows self.old self.new (λ d. model.with_answers times E.step d)) }
     {
         for _ in 0..times {
             self.answer()?;

@@ -8,10 +8,12 @@ ghost use Rattle.snow_drill.specs.Summary.{drilled};
 ghost use Rattle.snow_drill.specs.Following.{Follows, Opens, Wrote, HasFault};
 
 use crate::account::Account;
+use crate::driven::Driven;
 use crate::generator::Generator;
+use crate::made::Made;
 use crate::player::Player;
 use crate::summary::summary;
-use snow_base::{Bytes, Id, Items, NodeId, Nodes, Nums, Sink, write_whole};
+use snow_base::{Bytes, Id, NodeId, Nodes, Nums, Sink, write_whole};
 use snow_chain::TallyChain;
 use snow_engine::{End, Engine, Task};
 use snow_lines::Lines;
@@ -62,7 +64,7 @@ fn begin<B: Board>(alloc: Global, seed: u64) -> Result<Player<Engine<TallyChain,
         node,
         frame: 1,
         generator: Generator::new(seed),
-        made: Items::new(alloc),
+        made: Made::new(alloc),
         account,
         alloc,
     })
@@ -102,11 +104,11 @@ fn nodes(alloc: Global, count: u8) -> Result<Nodes, AllocError>
     Ok(list)
 }
 
-impl<B: Board> Player<Engine<TallyChain, B>> {
+impl<E: Driven> Player<E> {
     // The round of a block: words, the block, and three answers.
     #[tactic(auto, unfolding(crate::specs::Drill::with_round))]
     fn round(&mut self, number: u64) -> Result<(), AllocError>
-        ensures { OnOk result (Follows self.old self.new (λ d. model.with_round (step tally_rules B.answer) d number)) }
+        ensures { OnOk result (Follows self.old self.new (λ d. model.with_round E.step d number)) }
     {
         self.words(20)?;
         self.block(number)?;
@@ -116,7 +118,7 @@ impl<B: Board> Player<Engine<TallyChain, B>> {
     // The rounds of so many blocks.
     #[tactic(auto, unfolding(crate::specs::Drill::with_rounds))]
     fn rounds(&mut self, blocks: u32) -> Result<(), AllocError>
-        ensures { OnOk result (Follows self.old self.new (λ d. model.with_rounds blocks (step tally_rules B.answer) d)) }
+        ensures { OnOk result (Follows self.old self.new (λ d. model.with_rounds blocks E.step d)) }
     {
         for i in 0..blocks {
             self.round(u64::from(i) + 1)?;
@@ -126,7 +128,7 @@ impl<B: Board> Player<Engine<TallyChain, B>> {
 
     // All that follows the Start.
     fn play(&mut self, blocks: u32) -> Result<(), AllocError>
-        ensures { OnOk result (Follows self.old self.new (λ d. model.played (step tally_rules B.answer) blocks d)) }
+        ensures { OnOk result (Follows self.old self.new (λ d. model.played E.step blocks d)) }
     {
         self.words(1024)?;
         self.rounds(blocks)?;

@@ -5,7 +5,10 @@
 mod account;
 mod answering;
 mod drilling;
+mod driven;
 mod generator;
+mod key;
+mod made;
 mod making;
 mod player;
 mod scratch;

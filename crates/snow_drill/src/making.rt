@@ -1,27 +1,24 @@
 ghost use Rattle.std.specs.Prelude.{◌≡◌, ◌+◌, ◌==◌, slice_index, if◌then◌else◌, IfOk, OnOk};
-ghost use Rattle.snow_chain.specs.Tally.{tally_rules};
-ghost use Rattle.snow_engine.specs.Node.{step};
 ghost use Rattle.snow_drill.specs.Drill as model;
-ghost use Rattle.snow_drill.specs.Made.{block_of, height_in, below, bytes_of};
+ghost use Rattle.snow_drill.specs.Made.{height_in, below, bytes_of};
 ghost use Rattle.snow_drill.specs.Following.{Follows};
 
+use crate::driven::Driven;
+use crate::made::Made;
 use crate::player::Player;
 use sha2::{Digest, Sha256};
 use snow_base::{Bytes, Header, Id, NodeId};
-use snow_chain::TallyChain;
-use snow_engine::Engine;
-use snow_plain::Board;
 use snow_wire::Event;
 use std::alloc::{AllocError, Global};
 
-impl<B: Board> Player<Engine<TallyChain, B>> {
+impl<E: Driven> Player<E> {
     // A new block of this number on a parent, with this amount.
     fn child(&mut self, number: u64, parent: Id, amount: u64) -> Result<(), AllocError>
         ensures { OnOk result (Follows self.old self.new (λ d.
             let height = height_in d.made parent + 1 in
-            model.with_bytes (step tally_rules B.answer) d parent height (bytes_of parent height amount number))) }
+            model.with_bytes E.step d parent height (bytes_of parent height amount number))) }
     {
-        let Some(height) = height_in(self.made.list(), &parent).checked_add(1) else {
+        let Some(height) = height_in(&self.made, &parent).checked_add(1) else {
             return Err(AllocError);
         };
         let bytes = bytes_of(self.alloc, &parent, [height, amount, number])?;
@@ -39,47 +36,33 @@ impl<B: Board> Player<Engine<TallyChain, B>> {
 
     /// A new block of this number: its parent is the tip, or one time in four the tip's parent.
     pub fn block(&mut self, number: u64) -> Result<(), AllocError>
-        ensures { OnOk result (Follows self.old self.new (λ d. model.with_block (step tally_rules B.answer) d number)) }
+        ensures { OnOk result (Follows self.old self.new (λ d. model.with_block E.step d number)) }
     {
         let picked = self.generator.pick(4);
-        let parent = chosen(self.made.list(), &self.account.tally.tip(), picked);
+        let parent = chosen(&self.made, &self.account.tally.tip(), picked);
         let amount = self.generator.pick(1000);
         self.child(number, parent, amount)
     }
 }
 
-// The block of an identifier, where the drill made it.
-fn block_of(made: &[Header], id: &Id) -> Option<Header>
-    ensures { result ≡ block_of made.now id.now }
-{
-    let mut left = made;
-    while let [block, rest @ ..] = left {
-        if block.id == *id {
-            return Some(*block);
-        }
-        left = rest;
-    }
-    None
-}
-
 // The height of a block; that of the last accepted one of the Start is 0.
-fn height_in(made: &[Header], id: &Id) -> u64
+fn height_in(made: &Made, id: &Id) -> u64
     ensures { result ≡ height_in made.now id.now }
 {
-    match block_of(made, id) {
+    match made.block_of(id) {
         Some(block) => block.height,
         None => 0,
     }
 }
 
 // The parent of a new block.
-fn chosen(made: &[Header], tip: &Id, picked: u64) -> Id
+fn chosen(made: &Made, tip: &Id, picked: u64) -> Id
     ensures { result ≡ (if picked == 0 then below made.now tip.now else tip.now) }
 {
     if picked != 0 {
         return *tip;
     }
-    match block_of(made, tip) {
+    match made.block_of(tip) {
         Some(block) => block.parent,
         None => *tip,
     }

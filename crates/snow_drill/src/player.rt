@@ -1,6 +1,6 @@
 use crate::account::Account;
 use crate::generator::Generator;
-use snow_base::{Header, Items};
+use crate::made::Made;
 use std::alloc::Global;
 
 /// A drill under way: its node, the number of the last frame, the blocks that it made, and what is
@@ -10,7 +10,7 @@ pub struct Player<E> {
     pub node: E,
     pub frame: u64,
     pub generator: Generator,
-    pub made: Items<Header>,
+    pub made: Made,
     pub account: Account,
     pub alloc: Global,
 }

@@ -1,0 +1,81 @@
+ghost use Rattle.std.specs.Prelude.{◌≡◌, ◌<◌, ◌∷◌, ◌++◌, [], None, Some, bytes_eq, OnOk, if◌then◌else◌};
+ghost use Rattle.std.specs.HashMap.{get, spare};
+ghost use Rattle.std.specs.Option.{option_copied, option_or};
+ghost use Rattle.snow_drill.specs.declared.key.Key.{Key};
+ghost use Rattle.snow_drill.specs.Made.{block_of, key_eq};
+
+use crate::key::Key;
+use snow_base::{Header, Id};
+use std::alloc::{AllocError, Global};
+use std::collections::HashMap;
+use std::marker::Model;
+
+/// The blocks that a drill made, in order. One of an identifier is found without a walk over them.
+#[derive(Debug, Drop)]
+pub struct Made {
+    blocks: Vec<Header>,
+    // The first block of each identifier.
+    firsts: HashMap<Key, Header>,
+}
+
+impl Model for Made {
+    ghost use Rattle.std.specs.Prelude.{List};
+    ghost use Rattle.snow_base.specs.declared.header.Header.{Header};
+    ghost use Rattle.std.specs.HashMap.{get};
+    ghost use Rattle.snow_drill.specs.Made.{HasFirsts, key_eq};
+
+    ghost Value = { List Header };
+
+    ghost view = { λ a. a.blocks.items };
+
+    ghost invariant = { λ a. HasFirsts a.blocks.items (λ k. get key_eq a.firsts k) };
+}
+
+impl Made {
+    /// No block. It takes no memory.
+    pub fn new(alloc: Global) -> Self
+        ensures { result ≡ [] }
+    {
+        Made {
+            blocks: Vec::new(alloc),
+            firsts: HashMap::new(alloc),
+        }
+    }
+
+    /// Appends a block. After want of memory all is as before.
+    pub fn push(&mut self, block: Header) -> Result<(), AllocError>
+        ensures { OnOk result (self.new ≡ self.old ++ block ∷ []) }
+    {
+        self.firsts.reserve(1)?;
+        self.blocks.push(block)?;
+        file(&mut self.firsts, &block);
+        Ok(())
+    }
+
+    /// The blocks, in the order in which they were made.
+    pub fn list(&self) -> &[Header]
+        ensures { result.now ≡ self.now }
+    {
+        self.blocks.as_slice()
+    }
+
+    /// The block of an identifier, where the drill made it.
+    pub fn block_of(&self, id: &Id) -> Option<&Header>
+        ensures { option_copied result ≡ block_of self.now id.now }
+    {
+        self.firsts.get(&Key { id: *id })
+    }
+}
+
+// Files a block, if none of its identifier is.
+fn file(firsts: &mut HashMap<Key, Header>, block: &Header)
+    requires { 0 < spare firsts.old }
+    ensures { (k : Key) → get key_eq firsts.new k ≡ option_or (get key_eq firsts.old k) (if bytes_eq (block.now).id k.id then Some block.now else None) }
+{
+    let key = Key { id: block.id };
+    if firsts.contains_key(&key) {
+        return;
+    }
+    let added: Result<_, _> = firsts.insert(key, *block);
+    let _ = added.unwrap();
+}
