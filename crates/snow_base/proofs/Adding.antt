@@ -1,9 +1,10 @@
 -- Lemmas on votes in bit order: where an identifier's votes stand, and what adding to them does.
-use Rattle.std.proofs.Common.{◌≡◌, ℕ, zero, suc, ◌+◌, ◌<◌, ◌≤◌, List, [], ◌∷◌, length, get_or, set, take, insert, All, Result, Ok, Err, refl, sym, ap, ◌∙◌, arith, Ordering, Less, Equal, Greater, is_lt, inl, inr, ◌^◌, max}
+use Rattle.std.proofs.Common.{◌≡◌, ℕ, zero, suc, ◌+◌, ◌-◌, ◌<◌, ◌≤◌, List, [], ◌∷◌, ◌++◌, length, get_or, set, take, insert, All, Result, Ok, Err, Some, None, slice_get, refl, sym, ap, ◌∙◌, arith, Ordering, Less, Equal, Greater, is_lt, inl, inr, ◌^◌, max}
 use Rattle.std.specs.List.Sorted.{IsSortedBy, IsSearchInRange, IsBinarySearchResult}
 use Rattle.std.specs.Ordering.{match_ordering, ordering_reverse}
 use Rattle.std.proofs.lemmas.Bool.{cases_lt}
 use Rattle.std.proofs.lemmas.Cmp.{tied_itself, alike_right}
+use Rattle.std.proofs.lemmas.Option.{none-some, slice_get_within, slice_get-get_or, get_or_from_slice_get}
 use Rattle.std.proofs.lemmas.List.Elements.{All-cons, All-head, All-tail}
 use Rattle.std.proofs.lemmas.List.Sorted.{searchable_from_sorted}
 use Rattle.std.proofs.lemmas.List.{take_more}
@@ -47,6 +48,34 @@ searched votes id (Ok at) order bound found = (bound, found)
 searched votes id (Err at) order bound found =
     (bound, found (searchable_from_sorted bit_cmp-total (λ v. v.id) votes id (sorted votes order)))
 
+-- the last of all votes stands before an identifier: then all do
+pub past_last : (votes : List Vote) (id : List ℕ) (last : Vote) → IsInBitOrder votes → slice_get votes (length votes - 1) ≡ Some last → bit_cmp last.id id ≡ Less
+    → IsPlaceOf votes id (Err (length votes))
+past_last votes id last order is less =
+    let some : length votes - 1 < length votes = slice_get_within votes (length votes - 1) last is in (
+      omega arith,
+      (
+        λ k d p q.
+            let end : get_or votes (length votes - 1) d ≡ last = get_or_from_slice_get votes (length votes - 1) last d is in
+            elim (cases_lt k (length votes - 1)) [
+              | inl l ↦ bit_cmp-total.trans (get_or votes k d).id last.id id (ap (λ v. bit_cmp (get_or votes k d).id v.id) (sym end) ∙ order k (length votes - 1) d l some) less
+              | inr l ↦ let at : k ≡ length votes - 1 = omega arith in ap (λ j. bit_cmp (get_or votes j d).id id) at ∙ ap (λ v. bit_cmp v.id id) end ∙ less
+            ],
+        λ k d p q. absurd (omega arith),
+      ),
+    )
+
+-- the last of all votes are those for an identifier
+pub at_last : (votes : List Vote) (id : List ℕ) (last : Vote) → slice_get votes (length votes - 1) ≡ Some last → bit_cmp last.id id ≡ Equal
+    → IsPlaceOf votes id (Ok (length votes - 1))
+at_last votes id last is same =
+    (slice_get_within votes (length votes - 1) last is, λ d. ap (λ v. bit_cmp v.id id) (get_or_from_slice_get votes (length votes - 1) last d is) ∙ same)
+
+-- where there is no last one there are no votes
+pub no_last : (votes : List Vote) (id : List ℕ) → slice_get votes (length votes - 1) ≡ None → IsPlaceOf votes id (Err 0)
+no_last [] id e = (omega arith, (λ k d p q. absurd (omega arith), λ k d p q. absurd (omega arith)))
+no_last (v ∷ votes) id e = absurd (none-some _ (sym e ∙ slice_get-get_or (v ∷ votes) (length (v ∷ votes) - 1) v (omega arith)))
+
 -- at a place for new votes there are none yet
 pub none_there : (votes : List Vote) (id : List ℕ) (at : ℕ) → IsPlaceOf votes id (Err at) → HasVotesFor votes id → ⊥
 none_there votes id at place has =
@@ -59,7 +88,7 @@ none_there votes id at place has =
 
 -- ---- what adding does
 
-abbrev step : Ordering → Vote → List Vote → List ℕ → ℕ → List Vote
+abbrev pub step : Ordering → Vote → List Vote → List ℕ → ℕ → List Vote
 step o v votes id n =
     match_ordering o (v ∷ added votes id n) (record { id = v.id; count = v.count + n } ∷ votes) (record { id = id; count = n } ∷ v ∷ votes)
 
@@ -95,6 +124,11 @@ added_inserted (v ∷ votes) id n zero place = sym (ap (λ o. step o v votes id 
 added_inserted (v ∷ votes) id n (suc at) place =
     ap (λ l. v ∷ l) (added_inserted votes id n at (omega arith, (λ k d p q. place.1.0 (suc k) d (omega arith) (omega arith), λ k d p q. place.1.1 (suc k) d (omega arith) (omega arith))))
     ∙ sym (ap (λ o. step o v votes id n) (place.1.0 0 v (omega arith) (omega arith)))
+
+-- at the end they are put behind the others
+pub insert_end : (votes : List Vote) (v : Vote) → insert votes (length votes) v ≡ votes ++ v ∷ []
+insert_end [] v = refl
+insert_end (x ∷ votes) v = ap (λ l. x ∷ l) (insert_end votes v)
 
 -- what holds of all votes, of the new ones, and of votes as more are counted, holds after adding
 all_added : (P : Vote → Type 0) (votes : List Vote) (id : List ℕ) (n : ℕ) → All P votes → P (record { id = id; count = n })

@@ -1,5 +1,5 @@
 -- Lemmas on the bits of bytes and identifiers, and on bit order.
-use Rattle.std.proofs.Common.{◌≡◌, ◌≢◌, ℕ, zero, suc, ◌+◌, ◌*◌, ◌/◌, ◌%◌, ◌^◌, ◌<◌, ◌==◌, Bool, true, false, List, ◌∷◌, length, get_or, drop, map, bit_xor, w8, refl, sym, ap, ◌∙◌, inl, inr, arith, Ordering, Equal, eq-zero-or-pos, add-zero, zero-add, add-one, drop-cons, ext_get_or}
+use Rattle.std.proofs.Common.{◌≡◌, ◌≢◌, ℕ, zero, suc, ◌+◌, ◌*◌, ◌/◌, ◌%◌, ◌^◌, ◌<◌, ◌==◌, Bool, true, false, List, ◌∷◌, length, get_or, drop, map, bit_xor, w64, refl, sym, ap, ◌∙◌, inl, inr, arith, Ordering, Equal, eq-zero-or-pos, add-zero, zero-add, add-one, drop-cons, ext_get_or}
 use Rattle.std.specs.Int.{bit_at, trailing_zeros}
 use Rattle.std.specs.List.{range_with_len}
 use Rattle.std.specs.Ordering.{bool_cmp, ordering_then}
@@ -13,7 +13,7 @@ use Rattle.std.proofs.lemmas.Nat.Bits.{bit_at-lt, bit_at_xor, bit_at-zero, bit_a
 use Rattle.std.proofs.lemmas.List.FromFn.{length-map-range_with_len, get_or-map-range_with_len}
 use Rattle.snow_base.specs.Identifier.{bit, bits, bit_cmp}
 
--- ---- two bytes
+-- ---- two numbers
 
 same_bit : (x y : ℕ) → x < 2 → y < 2 → (x + y) % 2 ≡ 0 → x ≡ y
 same_bit x y p q e = omega arith
@@ -29,20 +29,20 @@ agree_at a b k h = same_bit (bit_at a k) (bit_at b k) (bit_at-lt a k) (bit_at-lt
 differ_at : (a b k : ℕ) → bit_at (bit_xor a b) k ≡ 1 → bit_at a k ≢ bit_at b k
 differ_at a b k h = other_bit (bit_at a k) (bit_at b k) (sym (bit_at_xor a b k) ∙ h)
 
-xor_positive : (a b : ℕ) → a < 2 ^ 8 → b < 2 ^ 8 → a ≢ b → 0 < bit_xor a b
+xor_positive : (a b : ℕ) → a < 2 ^ 64 → b < 2 ^ 64 → a ≢ b → 0 < bit_xor a b
 xor_positive a b p q n =
     elim (eq-zero-or-pos (bit_xor a b)) [
-      | inl e ↦ absurd (n (same_from_bits_below 8 a b p q (λ k h. agree_at a b k (ap (λ x. bit_at x k) e ∙ bit_at-zero k))))
+      | inl e ↦ absurd (n (same_from_bits_below 64 a b p q (λ k h. agree_at a b k (ap (λ x. bit_at x k) e ∙ bit_at-zero k))))
       | inr h ↦ h
     ]
 
--- the place of the lowest 1 of the exclusive or is the lowest bit in which two bytes differ
-pub lowest : (a b : ℕ) → a < 2 ^ 8 → b < 2 ^ 8 → a ≢ b
-    → (trailing_zeros w8 (bit_xor a b) < 8)
-    × ((k : ℕ) → k < trailing_zeros w8 (bit_xor a b) → bit_at a k ≡ bit_at b k)
-    × (bit_at a (trailing_zeros w8 (bit_xor a b)) ≢ bit_at b (trailing_zeros w8 (bit_xor a b)))
+-- the place of the lowest 1 of the exclusive or is the lowest bit in which two numbers differ
+pub lowest : (a b : ℕ) → a < 2 ^ 64 → b < 2 ^ 64 → a ≢ b
+    → (trailing_zeros w64 (bit_xor a b) < 64)
+    × ((k : ℕ) → k < trailing_zeros w64 (bit_xor a b) → bit_at a k ≡ bit_at b k)
+    × (bit_at a (trailing_zeros w64 (bit_xor a b)) ≢ bit_at b (trailing_zeros w64 (bit_xor a b)))
 lowest a b p q n =
-    let place = bit_at-trailing_zeros w8 (bit_xor a b) (xor_positive a b p q n) (xor_lt 8 a b p q) in
+    let place = bit_at-trailing_zeros w64 (bit_xor a b) (xor_positive a b p q n) (xor_lt 64 a b p q) in
     (place.0, λ k h. agree_at a b k (place.2 k h), differ_at a b _ place.1)
 
 -- ---- the bits of an identifier
@@ -121,7 +121,7 @@ bool_cmp-exact true false e = cc
 bool_cmp-exact false true e = cc
 bool_cmp-exact false false e = refl
 
-same_if_tested : (x y : ℕ) → x < 2 → y < 2 → (x == 1) ≡ (y == 1) → x ≡ y
+pub same_if_tested : (x y : ℕ) → x < 2 → y < 2 → (x == 1) ≡ (y == 1) → x ≡ y
 same_if_tested x y p q e = grind (arith, nat_tests)
 
 byte_from_bits : (a b : List ℕ) → bits a ≡ bits b → (i : ℕ) → i < 32 → get_or a i 0 < 2 ^ 8 → get_or b i 0 < 2 ^ 8 → get_or a i 0 ≡ get_or b i 0

@@ -1,7 +1,9 @@
 pub mod Ancestry
+pub mod Gathered
 pub mod Identifier
 pub mod Memory
 pub mod Numbers
 pub mod Outside
 pub mod Split
 pub mod Votes
+pub mod Words

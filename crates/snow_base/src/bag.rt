@@ -1,9 +1,11 @@
-ghost use Rattle.std.specs.Prelude.{◌≡◌, ℕ, ◌+◌, ◌^◌, ◌<◌, ◌≤◌, [], length, All, IsOk, OnOk, OnErr, vec_len, vec_capacity};
+ghost use Rattle.std.specs.Prelude.{◌≡◌, ℕ, ◌+◌, ◌^◌, ◌<◌, ◌≤◌, [], length, All, IsOk, IfOk, OnOk, OnErr, vec_len, vec_capacity};
 ghost use Rattle.snow_base.specs.Votes.{total_count, most_count, IsInBitOrder, HasVotesFor, added, IsPlaceOf};
+ghost use Rattle.snow_base.specs.Gathered.{one_each};
 
 use crate::identifier::Id;
 use crate::vote::Vote;
 use std::alloc::{AllocError, Global};
+use std::cmp::Ordering;
 use std::marker::Model;
 
 /// Votes in bit order: identifiers distinct, counts above 0, at most 2^32-1 votes in all. Contracts
@@ -34,6 +36,24 @@ impl Bag {
             votes: Vec::new(alloc),
             total: 0,
         }
+    }
+
+    /// One vote for each of these identifiers.
+    pub fn of(alloc: Global, ids: &[Id]) -> Result<Self, AllocError>
+        requires { length ids.now < 2 ^ 32 }
+        ensures votes { IfOk result (λ votes. votes.list ≡ one_each ids.now) }
+        ensures total { IfOk result (λ votes. total_count votes.list ≡ length ids.now) }
+    {
+        // In bit order each one goes to the end, and no other moves.
+        let mut sorted = Vec::from_slice(alloc, ids)?;
+        sorted.sort_unstable_by(|a, b| a.bit_cmp(b));
+        let mut votes = Bag::new(alloc);
+        votes.reserve(sorted.len())?;
+        for id in &sorted {
+            id.named();
+            votes.add(*id, 1)?;
+        }
+        Ok(votes)
     }
 
     /// Makes room for `n` more identifiers. The votes stay as they are, also after want of memory.
@@ -120,6 +140,10 @@ fn count_in(votes: &mut Vec<Vote>, id: Id, n: u32) -> Result<(), AllocError>
             votes[at].count += n;
             Ok(())
         }
+        Err(at) if at == votes.len() => {
+            votes.push(Vote { id, count: n })?;
+            Ok(())
+        }
         Err(at) => {
             votes.insert(at, Vote { id, count: n })?;
             Ok(())
@@ -127,8 +151,24 @@ fn count_in(votes: &mut Vec<Vote>, id: Id, n: u32) -> Result<(), AllocError>
     }
 }
 
-// Where the votes for `id` stand, or else where new ones belong.
+// Where the votes for `id` stand, or else where new ones belong. Identifiers that come in bit order
+// aren't searched for.
 fn place(votes: &[Vote], id: &Id) -> Result<usize, usize>
+    requires { IsInBitOrder votes.now }
+    ensures { IsPlaceOf votes.now id.now result }
+{
+    match votes.last() {
+        None => Err(0),
+        Some(last) => match last.id.bit_cmp(id) {
+            Ordering::Less => Err(votes.len()),
+            Ordering::Equal => Ok(votes.len() - 1),
+            Ordering::Greater => search(votes, id),
+        },
+    }
+}
+
+// The same by a search.
+fn search(votes: &[Vote], id: &Id) -> Result<usize, usize>
     requires { IsInBitOrder votes.now }
     ensures { IsPlaceOf votes.now id.now result }
 {

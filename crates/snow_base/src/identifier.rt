@@ -1,11 +1,13 @@
-ghost use Rattle.std.specs.Prelude.{◌≡◌, ◌≢◌, ℕ, ◌*◌, ◌<◌, ◌≤◌, List, IsTrue, length, bytes_eq};
+ghost use Rattle.std.specs.Prelude.{◌≡◌, ◌≢◌, ℕ, ◌+◌, ◌*◌, ◌/◌, ◌^◌, ◌<◌, ◌≤◌, length, slice_index};
 ghost use Rattle.std.specs.Int.{bit_at};
 
+use crate::comparing::{are_equal, order};
 use std::cmp::Ordering;
+use std::hash::{Hash, Hasher};
 use std::marker::Model;
 
 /// A block's identifier: 32 bytes, which contracts see as a list of bytes.
-#[derive(Clone, Copy, Debug, Eq, PartialOrd, Ord)]
+#[derive(Clone, Copy, Debug, Eq)]
 pub struct Id {
     bytes: [u8; 32],
 }
@@ -35,20 +37,58 @@ impl PartialEq for Id {
     }
 }
 
-// Whether all bytes are equal. Nothing branches on them, so that many are compared at a time.
-#[inline]
-fn are_equal(a: &[u8; 32], b: &[u8; 32]) -> bool
-    ensures { result ≡ bytes_eq a.now b.now }
-{
-    let mut same = true;
-    for at in 0..32 {
-        same = same & (a[at] == b[at]);
+impl PartialOrd for Id {
+    ghost use Rattle.std.specs.Cmp.Lexicographic.{slice_cmp, texts_po};
+    ghost use Rattle.std.specs.Ordering.{nat_cmp, as_partial_cmp};
+
+    ghost partial_cmp = { as_partial_cmp (slice_cmp nat_cmp) };
+
+    ghost laws = { texts_po };
+
+    #[inline]
+    fn partial_cmp(&self, other: &Self) -> Option<Ordering> {
+        Some(self.cmp(other))
     }
-    same
+}
+
+impl Ord for Id {
+    ghost use Rattle.std.specs.Prelude.{refl};
+    ghost use Rattle.std.specs.Cmp.Lexicographic.{slice_cmp, nat_list_cmp_total, texts_ties};
+    ghost use Rattle.std.specs.Ordering.{nat_cmp};
+
+    ghost cmp = { slice_cmp nat_cmp };
+
+    ghost total = { nat_list_cmp_total };
+
+    ghost matches_partial_cmp = { λ x y. refl };
+
+    ghost matches_eq = { texts_ties };
+
+    #[inline]
+    fn cmp(&self, other: &Self) -> Ordering {
+        order(&self.bytes, &other.bytes)
+    }
+}
+
+impl Hash for Id {
+    ghost use Rattle.std.specs.Prelude.{[], ◌∷◌};
+    ghost use Rattle.std.specs.Cmp.Rules.{comparing, hashing};
+    ghost use Rattle.std.proofs.Common.{rules};
+
+    ghost hash_input = { λ a. a ∷ [] };
+
+    ghost respects_eq = { Prim.search (hashing, rules) };
+
+    #[inline]
+    fn hash<H: Hasher>(&self, state: &mut H) {
+        state.write(&self.bytes);
+    }
 }
 
 impl Id {
-    ghost use Rattle.snow_base.specs.Identifier.{bit, bit_cmp, FirstDiffers};
+    ghost use Rattle.snow_base.specs.Identifier.{bit, bit_cmp, AgreeFrom, FirstDiffers};
+    ghost use Rattle.snow_base.specs.Gathered.{IsNamed};
+    ghost use Rattle.snow_base.specs.Words.{IsWord};
 
     /// The identifier of these bytes.
     pub fn from_bytes(bytes: [u8; 32]) -> Self
@@ -65,6 +105,13 @@ impl Id {
         &self.bytes
     }
 
+    // It has 32 bytes, which contracts see as a list of numbers.
+    pub(crate) fn named(&self)
+        ensures { IsNamed self.now }
+    {
+        small(self.as_bytes());
+    }
+
     /// Bit `i`: bit `i % 8`, counted from the least significant, of byte `i / 8`.
     pub fn bit(&self, i: u16) -> bool
         requires { i < 256 }
@@ -73,45 +120,70 @@ impl Id {
         (self.bytes[usize::from(i / 8)] >> (i % 8)) & 1 == 1
     }
 
+    // The 64 bits from bit `64 * at` on, the first one the lowest.
+    #[inline]
+    fn word(&self, at: usize) -> u64
+        requires { at < 4 }
+        ensures { IsWord self.now at result }
+    {
+        let from = 8 * at;
+        u64::from_le_bytes([
+            self.bytes[from],
+            self.bytes[from + 1],
+            self.bytes[from + 2],
+            self.bytes[from + 3],
+            self.bytes[from + 4],
+            self.bytes[from + 5],
+            self.bytes[from + 6],
+            self.bytes[from + 7],
+        ])
+    }
+
     /// Bit order: bit 0 is compared first, then bit 1, and so on; a 0 stands before a 1.
     #[inline]
     pub fn bit_cmp(&self, other: &Id) -> Ordering
         ensures { result ≡ bit_cmp self.now other.now }
     {
-        match self.first_apart(other) {
+        let (a, b) = (self.word(0), other.word(0));
+        if a == b {
+            return self.bit_cmp_past(other);
+        }
+        if (a >> lowest_differing(a, b)) & 1 == 0 {
+            Ordering::Less
+        } else {
+            Ordering::Greater
+        }
+    }
+
+    // The same where the first 64 bits agree: mostly the two are one then.
+    #[inline(never)]
+    fn bit_cmp_past(&self, other: &Id) -> Ordering
+        requires { AgreeFrom 0 64 self.now other.now }
+        ensures { result ≡ bit_cmp self.now other.now }
+    {
+        if self == other {
+            return Ordering::Equal;
+        }
+        match self.first_past(other, 1) {
             None => Ordering::Equal,
             Some(i) => self.bit(i).cmp(&other.bit(i)),
         }
     }
 
-    // The first bit in which the two differ. Most do in their first byte, and those that don't are mostly
-    // one.
-    #[inline]
-    fn first_apart(&self, other: &Id) -> Option<u16>
-        ensures { FirstDiffers 0 256 self.now other.now result }
-    {
-        let a = self.bytes[0];
-        let b = other.bytes[0];
-        if a != b {
-            return Some(lowest_differing(a, b));
-        }
-        if self == other {
-            return None;
-        }
-        self.first_past(other, 0)
-    }
-
     /// The first bit from `from` up to, not including, `to` in which the two differ; none where they
     /// agree there.
+    #[inline]
     pub fn first_difference(&self, other: &Id, from: u16, to: u16) -> Option<u16>
         requires order { from ≤ to }
         requires within { to ≤ 256 }
         ensures { FirstDiffers from to self.now other.now result }
     {
-        let whole = from.div_ceil(8);
-        let found = match self.first_bit(other, from, 8 * whole) {
+        if from == to {
+            return None;
+        }
+        let found = match self.first_in_word(other, from) {
             Some(i) => Some(i),
-            None => self.first_past(other, whole),
+            None => self.first_past(other, from / 64 + 1),
         };
         match found {
             Some(i) if i < to => Some(i),
@@ -119,40 +191,48 @@ impl Id {
         }
     }
 
-    // The same bit by bit, for the rest of a byte.
-    fn first_bit(&self, other: &Id, from: u16, to: u16) -> Option<u16>
-        requires { to ≤ 256 }
-        ensures { FirstDiffers from to self.now other.now result }
+    // The same up to the end of the 64 bits among which `from` is.
+    #[inline]
+    fn first_in_word(&self, other: &Id, from: u16) -> Option<u16>
+        requires { from < 256 }
+        ensures { FirstDiffers from (64 * (from / 64) + 64) self.now other.now result }
     {
-        for i in from..to {
-            if self.bit(i) != other.bit(i) {
-                return Some(i);
-            }
+        let at = usize::from(from / 64);
+        let a = self.word(at) >> (from % 64);
+        let b = other.word(at) >> (from % 64);
+        if a == b {
+            return None;
         }
-        None
+        Some(from + lowest_differing(a, b))
     }
 
-    // The same from a byte on: bytes that agree are passed whole.
+    // The same from bit `64 * from` on.
     #[inline(never)]
     fn first_past(&self, other: &Id, from: u16) -> Option<u16>
-        requires { from ≤ 32 }
-        ensures { FirstDiffers (8 * from) 256 self.now other.now result }
+        requires { from ≤ 4 }
+        ensures { FirstDiffers (64 * from) 256 self.now other.now result }
     {
-        for at in from..32 {
-            let a = self.bytes[usize::from(at)];
-            let b = other.bytes[usize::from(at)];
-            if a != b {
-                return Some(8 * at + lowest_differing(a, b));
+        for at in from..4 {
+            if let Some(i) = self.first_in_word(other, 64 * at) {
+                return Some(i);
             }
         }
         None
     }
 }
 
-// The lowest bit in which two bytes differ.
-fn lowest_differing(a: u8, b: u8) -> u16
+// Bytes are small, as their type says.
+fn small(bytes: &[u8])
+    ensures { (i : ℕ) → slice_index bytes.now i < 2 ^ 8 }
+{
+    let _len = bytes.len();
+}
+
+// The lowest bit in which two numbers differ.
+#[inline]
+fn lowest_differing(a: u64, b: u64) -> u16
     requires { a ≢ b }
-    ensures within { result < 8 }
+    ensures within { result < 64 }
     ensures below { (k : ℕ) → k < result → bit_at a k ≡ bit_at b k }
     ensures differs { bit_at a result ≢ bit_at b result }
 {

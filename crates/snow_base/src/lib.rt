@@ -3,6 +3,7 @@
 
 mod adapter;
 mod bag;
+mod comparing;
 mod header;
 mod identifier;
 mod items;

@@ -34,6 +34,18 @@ fn votes_stand_in_bit_order(rt: HostRuntime) -> Result<(), Fail> {
     Ok(())
 }
 
+#[test]
+fn votes_are_gathered_in_bit_order(rt: HostRuntime) -> Result<(), Fail> {
+    let ids = [id_of(0x01), id_of(0x80), id_of(0x03), id_of(0x80)];
+    let bag = Bag::of(rt.alloc(), &ids)?;
+    let votes = [(0x80, 2), (0x01, 1), (0x03, 1)];
+    assert_eq!(rt; (bag.total(), bag.entries().len()), (4, votes.len()));
+    for (vote, (first, count)) in bag.entries().iter().zip(votes) {
+        assert_eq!(rt; (vote.id, vote.count), (id_of(first), count));
+    }
+    Ok(())
+}
+
 // The list of this number alone.
 fn only(rt: &HostRuntime, number: u64) -> Result<Nums, Fail> {
     let mut list = Nums::new(rt.alloc());

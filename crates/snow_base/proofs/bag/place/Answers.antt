@@ -1,11 +1,17 @@
-use Rattle.std.proofs.Common.{rules}
-use Rattle.std.proofs.lemmas.Fn.{always_returns_same}
-use Rattle.snow_base.specs.Identifier.{bit_cmp}
-use Rattle.snow_base.proofs.Adding.{searched}
+use Rattle.std.proofs.Common.{sym, ap, ◌∙◌}
+use Rattle.std.specs.Option.{option_copied}
+use Rattle.snow_base.proofs.Adding.{no_last, past_last, at_last}
 use Rattle.snow_base.proofs.bag.place.Goals as goal
 
-pub returns : goal.returns
-returns c =
-    let facts = c.binary_search_by.ensures in
-    let by_id = facts.position (λ v. bit_cmp v.id c.args.id.now) (always_returns_same _ _ _ (λ a r g called. search rules)) in
-    searched c.args.votes.now c.args.id.now c.binary_search_by.result c.requires facts.bound by_id
+pub returns-in-None : goal.returns-in-None
+returns-in-None c = no_last c.args.votes.now c.args.id.now (sym c.last.ensures.value ∙ ap option_copied c.in-None.is)
+
+pub returns-in-Less : goal.returns-in-Less
+returns-in-Less c =
+    past_last c.args.votes.now c.args.id.now c.in-Some.last.now c.requires (sym c.last.ensures.value ∙ ap option_copied c.in-Some.is)
+    (sym c.bit_cmp.ensures ∙ c.in-Less.is)
+
+pub returns-in-Equal : goal.returns-in-Equal
+returns-in-Equal c =
+    at_last c.args.votes.now c.args.id.now c.in-Some.last.now (sym c.last.ensures.value ∙ ap option_copied c.in-Some.is)
+    (sym c.bit_cmp.ensures ∙ c.in-Equal.is)

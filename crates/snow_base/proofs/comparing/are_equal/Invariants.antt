@@ -1,5 +1,5 @@
 use Rattle.std.proofs.Common.{◌≡◌, take, bytes_eq}
-use Rattle.snow_base.proofs.identifier.are_equal.Given as goal
+use Rattle.snow_base.proofs.comparing.are_equal.Given as goal
 
 -- whether the bytes so far are equal
 abbrev pub invariant-loop-at : goal.invariant-loop-at

@@ -1,0 +1,71 @@
+//! Bytes that are compared many at a time.
+ghost use Rattle.std.specs.Prelude.{◌≡◌, ◌≢◌, ℕ, ◌+◌, ◌<◌, ◌≤◌, length, bytes_eq, slice_index};
+ghost use Rattle.std.specs.Cmp.Lexicographic.{slice_cmp};
+ghost use Rattle.std.specs.Ordering.{nat_cmp};
+ghost use Rattle.snow_base.specs.Words.{high_first};
+
+use std::cmp::Ordering;
+
+// Whether all bytes are equal. Nothing branches on them, so that many are compared at a time.
+#[inline]
+pub(crate) fn are_equal(a: &[u8], b: &[u8]) -> bool
+    requires { length a.now ≡ length b.now }
+    ensures { result ≡ bytes_eq a.now b.now }
+{
+    let mut same = true;
+    for at in 0..a.len() {
+        same = same & (a[at] == b[at]);
+    }
+    same
+}
+
+// Order by bytes: the first one that differs decides. Most differ in their first eight.
+#[inline]
+pub(crate) fn order(a: &[u8], b: &[u8]) -> Ordering
+    requires same { length a.now ≡ length b.now }
+    requires long { 8 ≤ length a.now }
+    ensures { result ≡ slice_cmp nat_cmp a.now b.now }
+{
+    let (x, y) = (high_word(a, 0), high_word(b, 0));
+    if x != y {
+        return x.cmp(&y);
+    }
+    order_past(a, b)
+}
+
+// The same where the first eight agree. The last eight may have been looked at in part.
+#[inline(never)]
+fn order_past(a: &[u8], b: &[u8]) -> Ordering
+    requires same { length a.now ≡ length b.now }
+    requires long { 8 ≤ length a.now }
+    requires agree { (k : ℕ) → k < 8 → slice_index a.now k ≡ slice_index b.now k }
+    ensures { result ≡ slice_cmp nat_cmp a.now b.now }
+{
+    let last = a.len() - 8;
+    for at in 1..a.len().div_ceil(8) {
+        let from = last.min(8 * at);
+        let (x, y) = (high_word(a, from), high_word(b, from));
+        if x != y {
+            return x.cmp(&y);
+        }
+    }
+    Ordering::Equal
+}
+
+// Eight bytes as a number, the first one the highest: so numbers stand in the order of bytes.
+#[inline]
+fn high_word(bytes: &[u8], from: usize) -> u64
+    requires { from + 8 ≤ length bytes.now }
+    ensures { result ≡ high_first (λ k. slice_index bytes.now (from + k)) 8 }
+{
+    u64::from_be_bytes([
+        bytes[from],
+        bytes[from + 1],
+        bytes[from + 2],
+        bytes[from + 3],
+        bytes[from + 4],
+        bytes[from + 5],
+        bytes[from + 6],
+        bytes[from + 7],
+    ])
+}
