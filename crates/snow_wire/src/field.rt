@@ -113,7 +113,7 @@ pub(crate) fn read_counted<T: Field>(
 fn read_items<T: Field>(alloc: Global, reader: &mut Reader, count: u16) -> Result<Items<T>, Skip>
     ensures { Reads result reader.new (items_at T.read_at count reader.old) }
 {
-    let mut items = Items::new(alloc);
+    let mut items = Items::with_capacity(alloc, usize::from(count))?;
     for _ in 0..count {
         items.push(T::read(alloc, reader)?)?;
     }
