@@ -56,6 +56,12 @@ times_more draws i d times more h is distinct has updates node =
         plus n = omega arith
     each false false n m new = refl
 
+-- the draws, with the next one
+pub drawn_more : (draws : List Draw) (i : ℕ) (d : Draw) (drawn more : List Draw) → i < length draws → d ≡ get_or draws i d → drawn ≡ take i draws → more ≡ drawn ++ d ∷ []
+    → more ≡ take (i + 1) draws
+drawn_more draws i d drawn more h is were are =
+    are ∙ ap (λ l. l ++ d ∷ []) were ∙ ap (λ e. take i draws ++ e ∷ []) is ∙ sym (take_more draws i d h)
+
 -- ---- what is kept of a new poll
 
 -- no node has replied

@@ -3,14 +3,14 @@ use Rattle.std.proofs.Common.{◌≡◌, ℕ, zero, suc, ◌+◌, ◌-◌, ◌%�
 use Rattle.std.specs.BTreeMap.{BTreeMap, get}
 use Rattle.std.specs.Option.{option_map}
 use Rattle.std.specs.Ordering.{nat_cmp}
-use Rattle.std.proofs.lemmas.Bool.{true≢false, or_parts, and_from, eqb-true, ne_eqb, eq-eqb, false_from_ne_true}
+use Rattle.std.proofs.lemmas.Bool.{true≢false, or_parts, eqb-true, ne_eqb, eq-eqb, false_from_ne_true}
 use Rattle.std.proofs.lemmas.List.{length-map, length-append}
 use Rattle.std.proofs.lemmas.List.Elements.{All-map, All-append, All-cons}
 use Rattle.std.proofs.lemmas.List.Folds.{list_any-append}
 use Rattle.snow_flake.specs.Parameters.{Parameters}
 use Rattle.snow_sample.specs.declared.draws.Draw.{Draw}
 use Rattle.snow_sample.specs.Sampling.{draw_count}
-use Rattle.snow_poll.specs.Poll.{Poll, awaits, with_reply}
+use Rattle.snow_poll.specs.Poll.{Poll, awaits, with_reply, replied}
 use Rattle.snow_poll.specs.Table.{has_number, HasNoneFrom, new_poll, is_awaited_by, is_awaited, answered}
 use Rattle.snow_poll.specs.Kept.{place, turn, HaveOwnNumbers, IsTable}
 
@@ -109,19 +109,18 @@ awaited_at (q ∷ polls) number at node r own is stood =
     last true = refl
     last false = refl
 
--- the reply is noted in that poll, and in no other
+-- the reply is noted in that poll, where that awaits it, and in no other
 pub voted_at : (polls : List Poll) (number at : ℕ) (node : List ℕ) (id : Option (List ℕ)) (r : Poll) → HaveOwnNumbers polls → place polls number ≡ Some at → r ≡ get_or polls at r
-    → awaits r node ≡ true → set polls at (with_reply r node id) ≡ map (answered number node id) polls
-voted_at [] number at node id r own is stood awaited = absurd (cc)
-voted_at (q ∷ polls) number at node id r own is stood awaited =
-    elim (stands q polls number at is) as (λ at _. r ≡ get_or (q ∷ polls) at r → set (q ∷ polls) at (with_reply r node id) ≡ map (answered number node id) (q ∷ polls)) [
+    → set polls at (replied r node id) ≡ map (answered number node id) polls
+voted_at [] number at node id r own is stood = absurd (cc)
+voted_at (q ∷ polls) number at node id r own is stood =
+    elim (stands q polls number at is) as (λ at _. r ≡ get_or (q ∷ polls) at r → set (q ∷ polls) at (replied r node id) ≡ map (answered number node id) (q ∷ polls)) [
       | Here same ↦ λ here.
           let alone = unchanged polls number node id (none_awaits polls number node (ap (has_number polls) (sym (eqb-true _ _ same)) ∙ own.0)) in
-          let asked = and_from (q.number == number) (awaits q node) same (ap (λ p. awaits p node) (sym here) ∙ awaited) in
-          ap (λ p. with_reply p node id ∷ polls) here
-          ∙ sym (ap (λ b. (if b then with_reply q node id else q) ∷ map (answered number node id) polls) asked ∙ ap (λ l. with_reply q node id ∷ l) alone)
+          ap (λ p. replied p node id ∷ polls) here
+          ∙ sym (ap (λ b. (if b && awaits q node then with_reply q node id else q) ∷ map (answered number node id) polls) same ∙ ap (λ l. replied q node id ∷ l) alone)
       | Later p other was ↦ λ there.
-          ap (λ l. q ∷ l) (voted_at polls number p node id r own.1 was there awaited)
+          ap (λ l. q ∷ l) (voted_at polls number p node id r own.1 was there)
           ∙ sym (ap (λ b. (if b && awaits q node then with_reply q node id else q) ∷ map (answered number node id) polls) other)
     ] stood
 

@@ -1,5 +1,5 @@
 -- Lemmas on a reply: what it leaves of what is kept of a poll.
-use Rattle.std.proofs.Common.{◌≡◌, ℕ, ◌+◌, ◌≤◌, Bool, true, false, not, nat_le, nat_lt, ◌==◌, ◌&&◌, ◌||◌, List, [], ◌∷◌, ◌++◌, length, filter, sum_by, bytes_eq, if◌then◌else◌, is_some, All, Option, None, Some, unwrap_or, refl, sym, ap, ◌∙◌, arith, inl, inr}
+use Rattle.std.proofs.Common.{◌≡◌, ℕ, ◌+◌, ◌≤◌, Bool, true, false, not, nat_le, nat_lt, ◌==◌, ◌&&◌, ◌||◌, List, [], ◌∷◌, ◌++◌, length, filter, sum_by, bytes_eq, if◌then◌else◌, is_some, All, Option, None, Some, refl, sym, ap, ◌∙◌, arith, inl, inr}
 use Rattle.std.proofs.lemmas.Bool.{true≢false, cases_Bool, or_cases, and_parts, cond-true, not-true}
 use Rattle.std.proofs.lemmas.List.{length-append}
 use Rattle.std.proofs.lemmas.List.Elements.{All-head, All-tail}
@@ -148,12 +148,24 @@ awaited_less poll node id other =
     each false was true o = refl
     each false was false o = refl
 
--- how often the node was drawn whose entry is taken out
-pub times_taken : (poll : Poll) (waiting : List ℕ → Option ℕ) (node : List ℕ) (found : Option ℕ) (times : ℕ)
-    → ((other : List ℕ) → waiting other ≡ awaited_times poll other) → awaits poll node ≡ true
-    → found ≡ waiting node → times ≡ unwrap_or found 0 → times ≡ times_drawn poll.draws node
-times_taken poll waiting node found times has awaited is_found is =
-    is ∙ ap (λ o. unwrap_or o 0) (is_found ∙ has node ∙ cond-true _ (Some (times_drawn poll.draws node)) None awaited)
+-- a node whose entry is taken out is awaited, and the entry says how often it was drawn
+pub taken_some : (poll : Poll) (node : List ℕ) (waiting : List ℕ → Option ℕ) (found : Option ℕ) (times : ℕ)
+    → ((other : List ℕ) → waiting other ≡ awaited_times poll other) → found ≡ waiting node → found ≡ Some times
+    → (awaits poll node ≡ true) × (times ≡ times_drawn poll.draws node)
+taken_some poll node waiting found times has is some =
+    elim (awaits poll node) as (λ b. (if b then Some (times_drawn poll.draws node) else None) ≡ Some times → (b ≡ true) × (times ≡ times_drawn poll.draws node)) [
+      | true ↦ λ e. (refl, cc)
+      | false ↦ λ e. absurd (cc)
+    ] (sym (is ∙ has node) ∙ some)
+
+-- a node without an entry isn't awaited
+pub taken_none : (poll : Poll) (node : List ℕ) (waiting : List ℕ → Option ℕ) (found : Option ℕ)
+    → ((other : List ℕ) → waiting other ≡ awaited_times poll other) → found ≡ waiting node → found ≡ None → awaits poll node ≡ false
+taken_none poll node waiting found has is none =
+    elim (awaits poll node) as (λ b. (if b then Some (times_drawn poll.draws node) else None) ≡ None → b ≡ false) [
+      | true ↦ λ e. absurd (cc)
+      | false ↦ λ e. refl
+    ] (sym (is ∙ has node) ∙ none)
 
 -- what is kept after a reply
 pub kept_more : (poll : Poll) (node : List ℕ) (id : Option (List ℕ)) (waiting less : List ℕ → Option ℕ) (bag more : Votes) (greatest most to_come left room : ℕ)

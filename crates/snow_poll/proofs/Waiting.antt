@@ -1,16 +1,15 @@
 -- Lemmas on the nodes that are awaited: which entry of a node counts, and what an entry more and a reply leave.
-use Rattle.std.proofs.Common.{◌≡◌, ℕ, zero, suc, ◌+◌, ◌-◌, ◌*◌, ◌/◌, ◌<◌, ◌≤◌, Bool, true, false, cond, List, [], ◌∷◌, ◌++◌, length, get_or, set, map, replicate, bytes_eq, nat_lt, is_some, Option, None, Some, refl, sym, ap, ◌∙◌, arith, inl, inr}
-use Rattle.std.proofs.lemmas.Bool.{cases_Bool, cond-true, cond-false, lt-ltb}
+use Rattle.std.proofs.Common.{◌≡◌, ℕ, zero, suc, ◌+◌, ◌-◌, ◌*◌, ◌/◌, ◌<◌, ◌≤◌, Bool, true, false, not, cond, if◌then◌else◌, List, [], ◌∷◌, ◌++◌, length, get_or, set, map, replicate, bytes_eq, is_some, Option, None, Some, refl, sym, ap, ◌∙◌, arith, inl, inr}
+use Rattle.std.proofs.lemmas.Bool.{cases_Bool, cond-true, cond-false}
 use Rattle.std.proofs.lemmas.List.{get_or_read, get_or-set_same, get_or-set_other, length-map, length-replicate, length-set, map-append}
 use Rattle.std.proofs.lemmas.List.Sums.{fold-append}
 use Rattle.std.proofs.lemmas.Nat.{and_le_r}
 use Rattle.std.proofs.lemmas.Slice.Eq.{bytes_eq-Decides}
 use Rattle.std.proofs.Math.Seq.{map-set_same}
-use Rattle.snow_sample.specs.Chains.{AreChained}
 use Rattle.snow_sample.proofs.Chains.{chained_none, chained_more}
 use Rattle.snow_sample.proofs.Walks.{last_of, last_none, last_here, IsSought, sought_begins, sought_on, none_later}
 use Rattle.snow_poll.specs.declared.awaited.Wait.{Wait}
-use Rattle.snow_poll.specs.Awaited.{some_count, counts_at, class_of, AreWaits, IsNumberOf}
+use Rattle.snow_poll.specs.Awaited.{count_left, counts_at, class_of, AreWaits, IsNumberOf}
 
 -- whether an entry is a node's
 abbrev pub is_of : List ℕ → Wait → Bool
@@ -26,7 +25,7 @@ before w = w.before
 
 -- what an entry counts
 abbrev count : Wait → Option ℕ
-count w = some_count w.count
+count w = count_left w
 
 -- ---- entries in classes
 
@@ -111,23 +110,21 @@ nowhere mask waits node number walked none = record {
 
 -- ---- what counts
 
--- a count that isn't 0
-pub some_count_is : (n : ℕ) → 0 < n → some_count n ≡ Some n
-some_count_is zero h = absurd (omega arith)
-some_count_is (suc n) h = refl
-
--- whether a count is there
-pub some_count_there : (n : ℕ) → nat_lt 0 n ≡ is_some (some_count n)
-some_count_there zero = refl
-some_count_there (suc n) = lt-ltb 0 (suc n) (omega arith)
+-- whether a count is left
+pub count_there : (w : Wait) → not w.replied ≡ is_some (count_left w)
+count_there w = each w.replied w.count
+  where
+    each : (b : Bool) (n : ℕ) → not b ≡ is_some (if b then None else Some n)
+    each true n = refl
+    each false n = refl
 
 -- an entry more counts for its node
-pub counts_more : (waits : List Wait) (w : Wait) (other : List ℕ) → counts_at (waits ++ w ∷ []) other ≡ cond (bytes_eq w.node other) (some_count w.count) (counts_at waits other)
-counts_more waits w other = fold-append (λ found (w : Wait). cond (bytes_eq w.node other) (some_count w.count) found) None waits (w ∷ [])
+pub counts_more : (waits : List Wait) (w : Wait) (other : List ℕ) → counts_at (waits ++ w ∷ []) other ≡ cond (bytes_eq w.node other) (count_left w) (counts_at waits other)
+counts_more waits w other = fold-append (λ found (w : Wait). cond (bytes_eq w.node other) (count_left w) found) None waits (w ∷ [])
 
 -- a node's last entry counts
 pub counts_here : (waits : List Wait) (node : List ℕ) (number : ℕ) (w : Wait) → IsNumberOf waits node number → 0 < number → w ≡ get_or waits (number - 1) w
-    → counts_at waits node ≡ some_count w.count
+    → counts_at waits node ≡ count_left w
 counts_here waits node number w is some read =
     let within = is.within in
     last_here (is_of node) count None waits (number - 1) w (omega arith) read (ap (is_of node) read ∙ is.here w some)
@@ -156,9 +153,9 @@ other_entry node found (v ∷ waits) (suc i) w h new old = other_entry node (con
 
 -- a node's last entry that counts nothing awaits the node no more
 pub counts_less : (waits : List Wait) (node : List ℕ) (number : ℕ) (w : Wait) (other : List ℕ) → IsNumberOf waits node number → 0 < number
-    → ((d : Wait) → w.node ≡ (get_or waits (number - 1) d).node) → w.count ≡ 0
+    → ((d : Wait) → w.node ≡ (get_or waits (number - 1) d).node) → w.replied ≡ true
     → counts_at (set waits (number - 1) w) other ≡ cond (bytes_eq node other) None (counts_at waits other)
-counts_less waits node number w other is some named none =
+counts_less waits node number w other is some named replied =
     let i = number - 1 in
     let within = is.within in
     let own : w.node ≡ node = named w ∙ (bytes_eq-Decides (get_or waits i w).node node).0 (is.here w some) in
@@ -169,7 +166,7 @@ counts_less waits node number w other is some named none =
           ((bytes_eq-Decides w.node other).1 (own ∙ one))
           (λ k d low high. ap (is_of other) (get_or-set_other waits i k w d (λ e. absurd (omega arith))) ∙ ap (λ n. is_of n (get_or waits k d)) (sym one)
           ∙ is.later k d (omega arith) (omega (arith, length-set waits i w)))
-          ∙ ap some_count none ∙ sym (cond-true (bytes_eq node other) None (counts_at waits other) same)
+          ∙ cond-true w.replied None (Some w.count) replied ∙ sym (cond-true (bytes_eq node other) None (counts_at waits other) same)
       | inr differ ↦
           let not_it : (v : Wait) → v.node ≡ node → is_of other v ≡ false = λ v it. ap (λ n. bytes_eq n other) it ∙ differ in
           other_entry other None waits i w (omega arith) (not_it w own)

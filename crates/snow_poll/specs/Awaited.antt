@@ -1,16 +1,20 @@
 -- The nodes that a poll awaits, in classes.
-use Rattle.std.specs.Prelude.{◌≡◌, ℕ, zero, suc, ◌+◌, ◌-◌, ◌*◌, ◌/◌, ◌<◌, ◌≤◌, true, false, List, length, map, fold, bytes_eq, bit_and, slice_index, slice_index_or, Option, Some, None, if◌then◌else◌}
+use Rattle.std.specs.Prelude.{◌≡◌, ℕ, ◌+◌, ◌-◌, ◌*◌, ◌/◌, ◌<◌, ◌≤◌, true, false, List, length, map, fold, bytes_eq, bit_and, slice_index, slice_index_or, Option, Some, None, if◌then◌else◌}
+use Rattle.snow_sample.specs.declared.draws.Draw.{Draw}
 use Rattle.snow_sample.specs.Chains.{AreChained}
 use Rattle.snow_poll.specs.declared.awaited.Wait.{Wait}
 
--- a count, and none where it is 0
-abbrev pub some_count : ℕ → Option ℕ
-some_count zero = None
-some_count (suc n) = Some (suc n)
+-- the draw of an entry
+abbrev pub draw_of : Wait → Draw
+draw_of w = record { node = w.node; count = w.count }
+
+-- how often an entry's node was drawn, and none once it has replied
+abbrev pub count_left : Wait → Option ℕ
+count_left w = if w.replied then None else Some w.count
 
 -- how often a node was drawn that is awaited: its last entry counts
 abbrev pub counts_at : List Wait → List ℕ → Option ℕ
-counts_at waits node = fold (λ found w. if bytes_eq w.node node then some_count w.count else found) None waits
+counts_at waits node = fold (λ found w. if bytes_eq w.node node then count_left w else found) None waits
 
 -- the class of a node, by its first two bytes and its last two
 abbrev pub class_of : ℕ → List ℕ → ℕ

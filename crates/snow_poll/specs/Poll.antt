@@ -32,6 +32,10 @@ awaits poll node = is_drawn poll.draws node && not (has_replied poll.replies nod
 abbrev pub with_reply : Poll → List ℕ → Option (List ℕ) → Poll
 with_reply poll node id = record poll { replies = poll.replies ++ record { node = node; id = id } ∷ [] }
 
+-- the poll after the reply of a node, which counts where the node is awaited
+abbrev pub replied : Poll → List ℕ → Option (List ℕ) → Poll
+replied poll node id = if awaits poll node then with_reply poll node id else poll
+
 -- n votes more for what a reply names
 abbrev pub given : List Vote → Option (List ℕ) → ℕ → List Vote
 given votes None n = votes

@@ -1,25 +1,27 @@
-ghost use Rattle.std.specs.Prelude.{◌≡◌, ℕ, ◌≤◌, List, None, Some, bytes_eq, if◌then◌else◌, IfOk, OnOk};
+ghost use Rattle.std.specs.Prelude.{◌≡◌, ℕ, ◌+◌, ◌^◌, ◌<◌, List, [], ◌∷◌, ◌++◌, length, map, None, Some, bytes_eq, if◌then◌else◌, IfOk, OnOk};
 ghost use Rattle.std.specs.Option.{is_some};
-ghost use Rattle.snow_poll.specs.Awaited.{counts_at, class_of, AreWaits, IsNumberOf};
+ghost use Rattle.snow_poll.specs.Awaited.{counts_at, draw_of, class_of, AreWaits, IsNumberOf};
 
 use snow_base::NodeId;
+use snow_sample::zeros;
 use std::alloc::{AllocError, Global};
 
-// A node that was drawn: how often, and 0 once it has replied. Nodes of one class wait one behind
+// A node that was drawn: how often, and whether it has replied. Nodes of one class wait one behind
 // another; `before` is the number, from 1, of the one before it, and 0 where there is none.
 #[derive(Clone, Copy, Debug)]
 pub(crate) struct Wait {
     pub(crate) node: NodeId,
     pub(crate) count: u32,
-    pub(crate) before: usize,
+    pub(crate) before: u32,
+    pub(crate) replied: bool,
 }
 
-// The nodes that are awaited, each with how often it was drawn. For each class of nodes it has the
-// number of the last one, so that a look-up walks one class alone.
+// The nodes that were drawn, each with how often, and whether it is awaited. For each class of nodes
+// it has the number of the last one, so that a look-up walks one class alone.
 #[derive(Debug, Drop)]
 pub(crate) struct Awaited {
     pub(crate) waits: Vec<Wait>,
-    lasts: Vec<usize>,
+    lasts: Vec<u32>,
     mask: u64,
     ghost chained: { AreWaits mask waits.items lasts.items },
 }
@@ -27,20 +29,22 @@ pub(crate) struct Awaited {
 impl Awaited {
     // No node, with room for so many.
     pub(crate) fn new(alloc: Global, nodes: usize) -> Result<Awaited, AllocError>
-        ensures { IfOk result (λ made. (node : List ℕ) → counts_at made.waits.items node ≡ None) }
+        ensures counts { IfOk result (λ made. (node : List ℕ) → counts_at made.waits.items node ≡ None) }
+        ensures none { IfOk result (λ made. made.waits.items ≡ []) }
     {
         let classes = nodes.min(65_536).next_power_of_two();
         Ok(Awaited {
             waits: Vec::with_capacity(alloc, nodes)?,
-            lasts: vec![in alloc; 0; classes]?,
+            lasts: zeros(alloc, classes)?,
             mask: classes as u64 - 1,
         })
     }
 
     // Awaits a node, drawn so often.
     pub(crate) fn insert(&mut self, node: NodeId, count: u32) -> Result<(), AllocError>
-        requires { 1 ≤ count }
-        ensures { OnOk result ((other : List ℕ) → counts_at self.new.waits.items other ≡ (if bytes_eq node other then Some count else counts_at self.old.waits.items other)) }
+        requires { length self.old.waits.items + 1 < 2 ^ 32 }
+        ensures counts { OnOk result ((other : List ℕ) → counts_at self.new.waits.items other ≡ (if bytes_eq node other then Some count else counts_at self.old.waits.items other)) }
+        ensures drawn { OnOk result (map draw_of self.new.waits.items ≡ map draw_of self.old.waits.items ++ record { node = node; count = count } ∷ []) }
     {
         let class = class(&node, self.mask);
         let before = self.lasts[class];
@@ -48,8 +52,9 @@ impl Awaited {
             node,
             count,
             before,
+            replied: false,
         })?;
-        self.lasts[class] = self.waits.len();
+        self.lasts[class] = self.waits.len() as u32;
         Ok(())
     }
 
@@ -58,24 +63,26 @@ impl Awaited {
         ensures { result ≡ is_some (counts_at self.now.waits.items node.now) }
     {
         let number = self.find(node);
-        number > 0 && self.waits[number - 1].count > 0
+        number > 0 && !self.waits[number - 1].replied
     }
 
     // Awaits a node no more; how often it was drawn, where it was awaited.
     pub(crate) fn remove(&mut self, node: &NodeId) -> Option<u32>
         ensures value { result ≡ counts_at self.old.waits.items node.now }
         ensures updates { (other : List ℕ) → counts_at self.new.waits.items other ≡ (if bytes_eq node.now other then None else counts_at self.old.waits.items other) }
+        ensures same { result ≡ None → self.new.waits.items ≡ self.old.waits.items }
+        ensures drawn { map draw_of self.new.waits.items ≡ map draw_of self.old.waits.items }
     {
         let number = self.find(node);
         if number == 0 {
             return None;
         }
-        let count = self.waits[number - 1].count;
-        if count == 0 {
+        let wait = self.waits[number - 1];
+        if wait.replied {
             return None;
         }
-        self.waits[number - 1].count = 0;
-        Some(count)
+        self.waits[number - 1].replied = true;
+        Some(wait.count)
     }
 
     // The number of a node, and 0 where it isn't there.
@@ -84,9 +91,9 @@ impl Awaited {
     {
         let mut number = self.lasts[class(node, self.mask)];
         while number > 0 {
-            let wait = self.waits[number - 1];
+            let wait = self.waits[number as usize - 1];
             if wait.node == *node {
-                return number;
+                return number as usize;
             }
             number = wait.before;
         }

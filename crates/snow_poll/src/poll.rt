@@ -1,7 +1,7 @@
-ghost use Rattle.std.specs.Prelude.{◌≡◌, ◌+◌, ◌≤◌, true, All, IfOk};
+ghost use Rattle.std.specs.Prelude.{◌≡◌, ◌+◌, ◌^◌, ◌<◌, ◌≤◌, length, map, IfOk};
 ghost use Rattle.snow_flake.specs.Parameters.{AreGood};
 ghost use Rattle.snow_sample.specs.Sampling.{draw_count, AreOfDistinctNodes};
-ghost use Rattle.snow_poll.specs.Awaited.{counts_at};
+ghost use Rattle.snow_poll.specs.Awaited.{counts_at, draw_of};
 ghost use Rattle.snow_poll.specs.Kept.{HasTimes, closes_by};
 
 use crate::awaited::Awaited;
@@ -15,11 +15,10 @@ use std::marker::Model;
 
 /// A poll under way. Contracts see its number, its draws, and the replies in order of arrival.
 ///
-/// The nodes that are awaited are kept with their counts, which go as they reply.
+/// The nodes that were drawn are kept with their counts, and are marked as they reply.
 #[derive(Debug, Drop)]
 pub(crate) struct Poll {
     number: u32,
-    draws: Vec<Draw>,
     replies: Vec<Reply>,
     awaited: Awaited,
     votes: Bag,
@@ -28,21 +27,21 @@ pub(crate) struct Poll {
 }
 
 impl Model for Poll {
-    ghost use Rattle.std.specs.Prelude.{vec_capacity};
+    ghost use Rattle.std.specs.Prelude.{map, vec_capacity};
     ghost use Rattle.snow_poll.specs.Poll as model;
-    ghost use Rattle.snow_poll.specs.Awaited.{counts_at};
+    ghost use Rattle.snow_poll.specs.Awaited.{counts_at, draw_of};
     ghost use Rattle.snow_poll.specs.Kept.{IsKept};
 
     ghost Value = { model.Poll };
 
-    ghost view = { λ a. record { number = a.number; draws = a.draws.items; replies = a.replies.items } };
+    ghost view = { λ a. record { number = a.number; draws = map draw_of a.awaited.waits.items; replies = a.replies.items } };
 
-    ghost invariant = { λ a. IsKept (record { number = a.number; draws = a.draws.items; replies = a.replies.items })
+    ghost invariant = { λ a. IsKept (record { number = a.number; draws = map draw_of a.awaited.waits.items; replies = a.replies.items })
         (counts_at a.awaited.waits.items) a.votes a.most a.outstanding (vec_capacity a.replies) };
 }
 
 impl Poll {
-    ghost use Rattle.snow_poll.specs.Poll.{awaits, with_reply, votes_of, received, outstanding};
+    ghost use Rattle.snow_poll.specs.Poll.{awaits, replied, votes_of, received, outstanding};
     ghost use Rattle.snow_poll.specs.Closing.{is_closed};
     ghost use Rattle.snow_poll.specs.Table.{new_poll};
 
@@ -62,7 +61,6 @@ impl Poll {
         votes.reserve(drawn.len())?;
         Ok(Poll {
             number,
-            draws: Vec::from_slice(alloc, drawn)?,
             replies: Vec::with_capacity(alloc, drawn.len())?,
             awaited: awaited_of(alloc, drawn)?,
             votes,
@@ -85,16 +83,20 @@ impl Poll {
         self.awaited.contains(node)
     }
 
-    /// Counts the reply of a node that is awaited. It takes no memory.
-    pub(crate) fn count(&mut self, node: &NodeId, id: Option<Id>)
-        requires { awaits self.old node.now ≡ true }
-        ensures { self.new ≡ with_reply self.old node.now id }
+    /// Counts the reply of a node, if it awaits one: whether it did. Else nothing changes. It takes
+    /// no memory.
+    pub(crate) fn count(&mut self, node: &NodeId, id: Option<Id>) -> bool
+        ensures awaited { result ≡ awaits self.old node.now }
+        ensures poll { self.new ≡ replied self.old node.now id }
     {
+        let Some(times) = self.awaited.remove(node) else {
+            return false;
+        };
         let reply = Reply { node: *node, id };
-        let times = self.awaited.remove(node).unwrap_or(0);
         self.outstanding -= times;
         self.most = tally::give(&mut self.votes, self.most, &reply, times);
         self.replies.push_reserved(reply);
+        true
     }
 
     /// Whether it is closed, by one of the four cases.
@@ -119,8 +121,9 @@ impl Poll {
 // The nodes of these draws, each with how often it was drawn.
 fn awaited_of(alloc: Global, draws: &[Draw]) -> Result<Awaited, AllocError>
     requires nodes { AreOfDistinctNodes draws.now }
-    requires counts { All (λ d. 1 ≤ d.count) draws.now }
-    ensures { IfOk result (λ awaited. HasTimes (counts_at awaited.waits.items) draws.now) }
+    requires few { length draws.now < 2 ^ 32 }
+    ensures times { IfOk result (λ awaited. HasTimes (counts_at awaited.waits.items) draws.now) }
+    ensures drawn { IfOk result (λ awaited. map draw_of awaited.waits.items ≡ draws.now) }
 {
     let mut awaited = Awaited::new(alloc, draws.len())?;
     for draw in draws {

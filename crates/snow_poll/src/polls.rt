@@ -140,10 +140,9 @@ impl Polls {
         let Some(at) = self.turns.place(number) else {
             return Answered::NotAwaited;
         };
-        if !self.polls[at].awaits(node) {
+        if !self.polls[at].count(node, id) {
             return Answered::NotAwaited;
         }
-        self.polls[at].count(node, id);
         Answered::Counted
     }
 

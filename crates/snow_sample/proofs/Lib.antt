@@ -7,6 +7,6 @@ mod Examples
 mod Guiding
 mod Listing
 mod Moves
-mod Slots
+pub mod Slots
 pub mod Walks
 mod Weights

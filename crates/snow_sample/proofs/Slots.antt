@@ -111,7 +111,7 @@ slots_new nodes slots draws i n has good h none =
     }
 
 -- there are no more nodes than draws
-few_places : (draws : List Draw) → All (λ d. 1 ≤ d.count) draws → length draws ≤ draw_count draws
+pub few_places : (draws : List Draw) → All (λ d. 1 ≤ d.count) draws → length draws ≤ draw_count draws
 few_places [] all = omega arith
 few_places (d ∷ draws) all =
     omega (arith, sum_by-cons (λ (x : Draw). x.count) d draws, All-head (λ (x : Draw). 1 ≤ x.count) d draws all, few_places draws (All-tail (λ (x : Draw). 1 ≤ x.count) d draws all))

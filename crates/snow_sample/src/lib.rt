@@ -2,6 +2,7 @@
 #![tactic(auto)]
 
 mod draws;
+mod fresh;
 mod guide;
 mod laws;
 mod places;
@@ -12,6 +13,7 @@ mod weighing;
 mod words;
 
 pub use draws::{Draw, Draws};
+pub use fresh::zeros;
 pub use laws::{distinct_units_law, whole_list_law};
 pub use roster::{Node, Roster, RosterFault};
 pub use sampling::SampleFault;

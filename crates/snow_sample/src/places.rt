@@ -4,6 +4,7 @@ ghost use Rattle.snow_sample.specs.Roster.{total_weight, owner};
 ghost use Rattle.snow_sample.specs.Sampling.{counted, draw_count};
 
 use crate::draws::{Draw, Draws};
+use crate::fresh;
 use crate::roster::Roster;
 use std::alloc::AllocError;
 
@@ -19,7 +20,7 @@ impl Places {
     pub(crate) fn new(roster: &Roster) -> Result<Places, AllocError>
         ensures { IfOk result (λ places. HasSlots roster.now places.slots.items []) }
     {
-        let slots = vec![in roster.alloc(); 0; roster.nodes().len()]?;
+        let slots = fresh::zeros(roster.alloc(), roster.nodes().len())?;
         Ok(Places { slots })
     }
 

@@ -1,7 +1,8 @@
-ghost use Rattle.std.specs.Prelude.{◌≡◌, ℕ, ◌==◌, ◌+◌, ◌^◌, ◌<◌, ◌≤◌, if◌then◌else◌, IfOk, OnOk};
+ghost use Rattle.std.specs.Prelude.{◌≡◌, ℕ, ◌==◌, ◌+◌, ◌^◌, ◌<◌, ◌≤◌, length, if◌then◌else◌, IfOk, OnOk};
 ghost use Rattle.snow_sample.specs.Kept.{AreMoves, unit_at};
 ghost use Rattle.snow_sample.specs.Sampling.{swapped};
 
+use crate::fresh;
 use std::alloc::{AllocError, Global};
 
 // A unit that was moved to a position. Positions with the same low bits are one class; `before` is
@@ -10,7 +11,7 @@ use std::alloc::{AllocError, Global};
 pub(crate) struct Move {
     pub(crate) place: u64,
     pub(crate) unit: u64,
-    pub(crate) before: usize,
+    pub(crate) before: u32,
 }
 
 // The units that were moved, in the order of their moves, and for each class of positions the number
@@ -19,7 +20,7 @@ pub(crate) struct Move {
 #[derive(Drop)]
 pub(crate) struct Shuffle {
     pub(crate) moved: Vec<Move>,
-    lasts: Vec<usize>,
+    lasts: Vec<u32>,
     mask: u64,
     ghost chained: { AreMoves mask moved.items lasts.items },
 }
@@ -29,12 +30,13 @@ impl Shuffle {
     // classes at least.
     pub(crate) fn new(alloc: Global, draws: usize) -> Result<Shuffle, AllocError>
         requires { draws ≤ 65536 }
-        ensures { IfOk result (λ shuffle. (p : ℕ) → unit_at shuffle.moved.items p ≡ p) }
+        ensures units { IfOk result (λ shuffle. (p : ℕ) → unit_at shuffle.moved.items p ≡ p) }
+        ensures none { IfOk result (λ shuffle. length shuffle.moved.items ≡ 0) }
     {
         let classes = (2 * draws).next_power_of_two();
         Ok(Shuffle {
             moved: Vec::with_capacity(alloc, draws)?,
-            lasts: vec![in alloc; 0; classes]?,
+            lasts: fresh::zeros(alloc, classes)?,
             mask: classes as u64 - 1,
         })
     }
@@ -42,9 +44,11 @@ impl Shuffle {
     // Exchanges position `at` with the one `r` behind it, and gives the unit that then stands there.
     // What stands at `at` isn't kept, since later draws look only behind it.
     pub(crate) fn draw(&mut self, at: u64, r: u64) -> Result<u64, AllocError>
-        requires { at + r < 2 ^ 64 }
+        requires within { at + r < 2 ^ 64 }
+        requires few { length self.old.moved.items + 1 < 2 ^ 32 }
         ensures unit { IfOk result (λ unit. unit ≡ unit_at self.old.moved.items (at + r)) }
         ensures behind { OnOk result ((p : ℕ) → at < p → unit_at self.new.moved.items p ≡ swapped (unit_at self.old.moved.items) (at + r) at p) }
+        ensures moves { OnOk result (length self.new.moved.items ≡ length self.old.moved.items + 1) }
     {
         let own = self.unit(at);
         let unit = self.unit(at + r);
@@ -58,7 +62,7 @@ impl Shuffle {
     {
         let mut number = self.lasts[(place & self.mask) as usize];
         while number > 0 {
-            let last = self.moved[number - 1];
+            let last = self.moved[number as usize - 1];
             if last.place == place {
                 return last.unit;
             }
@@ -69,7 +73,9 @@ impl Shuffle {
 
     // Moves a unit to a position.
     fn keep(&mut self, place: u64, unit: u64) -> Result<(), AllocError>
-        ensures { OnOk result ((p : ℕ) → unit_at self.new.moved.items p ≡ (if p == place then unit else unit_at self.old.moved.items p)) }
+        requires { length self.old.moved.items + 1 < 2 ^ 32 }
+        ensures units { OnOk result ((p : ℕ) → unit_at self.new.moved.items p ≡ (if p == place then unit else unit_at self.old.moved.items p)) }
+        ensures moves { OnOk result (length self.new.moved.items ≡ length self.old.moved.items + 1) }
     {
         let class = (place & self.mask) as usize;
         let before = self.lasts[class];
@@ -78,7 +84,7 @@ impl Shuffle {
             unit,
             before,
         })?;
-        self.lasts[class] = self.moved.len();
+        self.lasts[class] = self.moved.len() as u32;
         Ok(())
     }
 }

@@ -8,7 +8,7 @@ use Rattle.snow_sample.proofs.sampling.draw_all.Goals as goal
 
 pub loop-j-init : goal.loop-j-init
 loop-j-init c =
-    rw c.requires.empty (drawing_begins c.args.roster.now c.args.k c.args.words.now (unit_at c.in_ok-shuffle.shuffle.moved.items) c.in_ok-shuffle.ensures, c.in_ok-places.ensures)
+    rw c.requires.empty (drawing_begins c.args.roster.now c.args.k c.args.words.now (unit_at c.in_ok-shuffle.shuffle.moved.items) c.in_ok-shuffle.ensures.units, c.in_ok-places.ensures, c.in_ok-shuffle.ensures.none)
 
 pub returns-in_default-clause-fault : goal.returns-in_default-clause-fault
 returns-in_default-clause-fault c = (
@@ -45,6 +45,7 @@ loop-j-preserved c = (
       (rw c.total-total.ensures.total at c.in-Some.ensures.chosen) (rw c.total-total.ensures.total at c.in-Some.ensures.within)
       c.choose.ensures.rest c.in_ok-unit.ensures.behind),
   c.in_ok-count.ensures.slots,
+  omega (arith, c.loop-j.invariant.2, c.in_ok-unit.ensures.moves),
 )
 
 pub returns-clause-sample : goal.returns-clause-sample

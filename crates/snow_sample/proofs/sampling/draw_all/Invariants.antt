@@ -1,4 +1,5 @@
 -- The draws so far are made, and each node's slot has their place.
+use Rattle.std.proofs.Common.{◌≡◌, length}
 use Rattle.snow_sample.specs.Kept.{unit_at, HasSlots}
 use Rattle.snow_sample.proofs.Drawing.{Drawing}
 use Rattle.snow_sample.proofs.sampling.draw_all.Given as goal
@@ -6,3 +7,4 @@ use Rattle.snow_sample.proofs.sampling.draw_all.Given as goal
 abbrev pub invariant-loop-j : goal.invariant-loop-j
 invariant-loop-j l =
     Drawing l.roster l.k l.j l.initial.words l.words (unit_at l.shuffle.moved.items) l.out × HasSlots l.roster l.places.slots.items l.out
+    × (length l.shuffle.moved.items ≡ l.j)

@@ -1,12 +1,12 @@
 -- The node's last entry tells.
 use Rattle.std.proofs.Common.{is_some, sym, ap, ◌∙◌}
 use Rattle.std.proofs.lemmas.Bool.{le-ltb}
-use Rattle.snow_poll.proofs.Waiting.{counts_here, counts_none, some_count_there}
+use Rattle.snow_poll.proofs.Waiting.{counts_here, counts_none, count_there}
 use Rattle.snow_poll.proofs.awaited.Awaited.contains.Goals as goal
 
 pub returns-then-number-gt0 : goal.returns-then-number-gt0
 returns-then-number-gt0 c =
-    some_count_there c.index.result.now.count
+    count_there c.index.result.now
     ∙ ap is_some (sym (counts_here c.args.self.now.waits.items c.args.node.now c.find-number.result c.index.result.now c.find-number.ensures c.if-number-gt0.true c.index.ensures))
 
 pub returns-else-number-gt0 : goal.returns-else-number-gt0

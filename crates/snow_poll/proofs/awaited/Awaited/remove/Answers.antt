@@ -1,9 +1,11 @@
 -- The node's last entry counts no more.
-use Rattle.std.proofs.Common.{◌≡◌, ◌-◌, get_or, refl, sym, ap, arith, ◌∙◌}
+use Rattle.std.proofs.Common.{◌≡◌, ◌-◌, true, None, Some, get_or, refl, sym, ap, arith, ◌∙◌}
+use Rattle.std.proofs.lemmas.Bool.{cond-true, cond-false}
 use Rattle.std.proofs.lemmas.List.{get_or_read}
-use Rattle.snow_poll.specs.Awaited.{some_count}
+use Rattle.std.proofs.Math.Seq.{map-set_same}
+use Rattle.snow_poll.specs.Awaited.{draw_of}
 use Rattle.snow_poll.specs.declared.awaited.Wait.{Wait}
-use Rattle.snow_poll.proofs.Waiting.{counts_here, counts_none, counts_same, counts_less, some_count_is, waits_kept}
+use Rattle.snow_poll.proofs.Waiting.{counts_here, counts_none, counts_same, counts_less, waits_kept}
 use Rattle.snow_poll.proofs.awaited.Awaited.remove.Goals as goal
 
 pub returns-then-number-eq0-clause-value : goal.returns-then-number-eq0-clause-value
@@ -15,21 +17,21 @@ returns-then-number-eq0-clause-updates c other =
     counts_same c.args.self.now.waits.items c.args.node.now other
     (counts_none c.args.self.now.waits.items c.args.node.now c.find-number.result c.find-number.ensures (omega arith))
 
-pub returns-then-count-eq0-clause-value : goal.returns-then-count-eq0-clause-value
-returns-then-count-eq0-clause-value c =
-    sym (counts_here c.args.self.now.waits.items c.args.node.now c.find-number.result c.index.result.now c.find-number.ensures (omega arith) c.index.ensures
-    ∙ ap some_count c.if-count-eq0.true)
+pub returns-then-wait-clause-value : goal.returns-then-wait-clause-value
+returns-then-wait-clause-value c =
+    sym (counts_here c.args.self.now.waits.items c.args.node.now c.find-number.result c.index-wait.result.now c.find-number.ensures (omega arith) c.index-wait.ensures
+    ∙ cond-true c.index-wait.result.now.replied None (Some c.index-wait.result.now.count) c.if-wait.true)
 
-pub returns-then-count-eq0-clause-updates : goal.returns-then-count-eq0-clause-updates
-returns-then-count-eq0-clause-updates c other =
+pub returns-then-wait-clause-updates : goal.returns-then-wait-clause-updates
+returns-then-wait-clause-updates c other =
     counts_same c.args.self.now.waits.items c.args.node.now other
-    (counts_here c.args.self.now.waits.items c.args.node.now c.find-number.result c.index.result.now c.find-number.ensures (omega arith) c.index.ensures
-    ∙ ap some_count c.if-count-eq0.true)
+    (counts_here c.args.self.now.waits.items c.args.node.now c.find-number.result c.index-wait.result.now c.find-number.ensures (omega arith) c.index-wait.ensures
+    ∙ cond-true c.index-wait.result.now.replied None (Some c.index-wait.result.now.count) c.if-wait.true)
 
 pub invariant_of-self : goal.invariant_of-self
 invariant_of-self c =
     let self = c.args.self.now in
-    let w : Wait = record { node = c.index_mut.result.now.node; count = 0; before = c.index_mut.result.now.before } in
+    let w : Wait = record { node = c.index_mut.result.now.node; count = c.index_mut.result.now.count; before = c.index_mut.result.now.before; replied = true } in
     let read : (d : Wait) → c.index_mut.result.now ≡ get_or self.waits.items (c.find-number.result - 1) d = λ d.
     get_or_read self.waits.items (c.find-number.result - 1) c.index_mut.result.now (omega (arith, c.find-number.ensures.within)) c.index_mut.ensures.value d in
     record {
@@ -39,13 +41,21 @@ invariant_of-self c =
 
 pub returns-clause-value : goal.returns-clause-value
 returns-clause-value c =
-    sym (counts_here c.args.self.now.waits.items c.args.node.now c.find-number.result c.index.result.now c.find-number.ensures (omega arith) c.index.ensures
-    ∙ some_count_is c.index.result.now.count (omega arith))
+    sym (counts_here c.args.self.now.waits.items c.args.node.now c.find-number.result c.index-wait.result.now c.find-number.ensures (omega arith) c.index-wait.ensures
+    ∙ cond-false c.index-wait.result.now.replied None (Some c.index-wait.result.now.count) c.if-wait.false)
 
 pub returns-clause-updates : goal.returns-clause-updates
 returns-clause-updates c other =
     let self = c.args.self.now in
-    let w : Wait = record { node = c.index_mut.result.now.node; count = 0; before = c.index_mut.result.now.before } in
+    let w : Wait = record { node = c.index_mut.result.now.node; count = c.index_mut.result.now.count; before = c.index_mut.result.now.before; replied = true } in
     let read : (d : Wait) → c.index_mut.result.now ≡ get_or self.waits.items (c.find-number.result - 1) d = λ d.
     get_or_read self.waits.items (c.find-number.result - 1) c.index_mut.result.now (omega (arith, c.find-number.ensures.within)) c.index_mut.ensures.value d in
     counts_less self.waits.items c.args.node.now c.find-number.result w other c.find-number.ensures (omega arith) (λ d. ap (λ (x : Wait). x.node) (read d)) refl
+
+pub returns-clause-drawn : goal.returns-clause-drawn
+returns-clause-drawn c =
+    let self = c.args.self.now in
+    let w : Wait = record { node = c.index_mut.result.now.node; count = c.index_mut.result.now.count; before = c.index_mut.result.now.before; replied = true } in
+    let read : (d : Wait) → c.index_mut.result.now ≡ get_or self.waits.items (c.find-number.result - 1) d = λ d.
+    get_or_read self.waits.items (c.find-number.result - 1) c.index_mut.result.now (omega (arith, c.find-number.ensures.within)) c.index_mut.ensures.value d in
+    map-set_same draw_of self.waits.items (c.find-number.result - 1) w w (ap draw_of (read w))

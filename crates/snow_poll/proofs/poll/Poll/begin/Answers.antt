@@ -1,15 +1,21 @@
 -- What is kept of a new poll.
 use Rattle.std.proofs.Common.{ap, arith, length, List, ◌∙◌, vec_capacity}
 use Rattle.snow_sample.specs.declared.draws.Draw.{Draw}
+use Rattle.snow_sample.specs.Sampling.{draw_count}
+use Rattle.snow_sample.proofs.Slots.{few_places}
 use Rattle.snow_poll.specs.Awaited.{counts_at}
 use Rattle.snow_poll.proofs.Begun.{kept_new}
 use Rattle.snow_poll.proofs.poll.Poll.begin.Goals as goal
 
+pub awaited_of-requires-clause-few : goal.awaited_of-requires-clause-few
+awaited_of-requires-clause-few c =
+    omega (arith, few_places c.list-drawn.result.now c.list-drawn.ensures.counts, ap draw_count c.list-drawn.ensures.list, c.requires.count, c.ranges.outstanding.fits)
+
 pub invariant_of-result : goal.invariant_of-result
 invariant_of-result c =
     let drawn = c.list-drawn.ensures.list in
-    rw (c.in_ok-from_slice.ensures.items, c.in_ok-with_capacity.ensures.items, drawn)
+    rw (c.in_ok-awaited_of.ensures.drawn, c.in_ok-with_capacity.ensures.items, drawn)
     (kept_new c.args.number c.args.draws.now (counts_at c.in_ok-awaited_of.field-0.waits.items) c.reserve.new.self c.args.outstanding (vec_capacity c.in_ok-with_capacity.field-0)
-    (rw drawn at c.in_ok-awaited_of.ensures) (c.reserve.ensures.list ∙ c.new-votes.ensures) c.requires.count c.ranges.outstanding.fits (rw drawn at c.list-drawn.ensures.counts)
+    (rw drawn at c.in_ok-awaited_of.ensures.times) (c.reserve.ensures.list ∙ c.new-votes.ensures) c.requires.count c.ranges.outstanding.fits (rw drawn at c.list-drawn.ensures.counts)
     (omega (arith, c.in_ok-reserve.ensures.ok, ap (λ (l : List Draw). length l) drawn))
     (omega (arith, c.in_ok-with_capacity.ensures.exact, ap (λ (l : List Draw). length l) drawn)))

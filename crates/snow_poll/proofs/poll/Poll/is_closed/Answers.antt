@@ -1,6 +1,7 @@
 -- The votes received and outstanding fit 32 bits, and the numbers that are kept tell whether the poll is closed.
-use Rattle.std.proofs.Common.{ap, arith, ◌∙◌, ◌+◌}
+use Rattle.std.proofs.Common.{ap, arith, map, ◌∙◌, ◌+◌}
 use Rattle.snow_base.specs.Votes.{total_count}
+use Rattle.snow_poll.specs.Awaited.{draw_of}
 use Rattle.snow_poll.specs.Closing.{is_closed}
 use Rattle.snow_poll.specs.Kept.{closes_by}
 use Rattle.snow_poll.specs.Poll.{Poll, received}
@@ -10,13 +11,13 @@ use Rattle.snow_poll.proofs.poll.Poll.is_closed.Goals as goal
 
 pub overflow_add-reach : goal.overflow_add-reach
 overflow_add-reach c =
-    let q : Poll = record { number = c.self.inside.number; draws = c.self.inside.draws.items; replies = c.self.inside.replies.items } in
+    let q : Poll = record { number = c.self.inside.number; draws = map draw_of c.self.inside.awaited.waits.items; replies = c.self.inside.replies.items } in
     let total = c.total.ensures ∙ ap total_count c.self.invariant.votes ∙ total_received q in
     omega (arith, total, c.self.invariant.left, c.self.invariant.within, c.self.invariant.small)
 
 pub returns-clause-closed : goal.returns-clause-closed
 returns-clause-closed c =
-    let q : Poll = record { number = c.self.inside.number; draws = c.self.inside.draws.items; replies = c.self.inside.replies.items } in
+    let q : Poll = record { number = c.self.inside.number; draws = map draw_of c.self.inside.awaited.waits.items; replies = c.self.inside.replies.items } in
     let total = c.total.ensures ∙ ap total_count c.self.invariant.votes ∙ total_received q in
     c.closes.ensures.closed
     ∙ ap (λ got. closes_by c.args.params.now (got + c.self.inside.outstanding) c.self.inside.outstanding c.self.inside.most) total

@@ -30,59 +30,28 @@ returns-in_default-clause-table c =
     ∙ ap (λ (l : List Poll). to_table c.self.inside.params l) (sym (unchanged polls c.args.number c.args.node.now c.args.id none))
     ∙ same
 
-pub index-requires : goal.index-requires
-index-requires c =
-    let polls = c.self.inside.polls.items in
-    let stood = sym (c.place.ensures polls c.self.invariant.few c.self.invariant.placed) in
-    omega (arith, place_within polls c.args.number c.in-Some.at (stood ∙ c.in-Some.is), c.self.inside.polls.ok.0)
-
-pub returns-then-not-awaits-clause-answer : goal.returns-then-not-awaits-clause-answer
-returns-then-not-awaits-clause-answer c =
-    let polls = c.self.inside.polls.items in
-    let stood = sym (c.place.ensures polls c.self.invariant.few c.self.invariant.placed) in
-    let is = stood ∙ c.in-Some.is in
-    let one = awaited_at polls c.args.number c.in-Some.at c.args.node.now c.index.result.now c.self.invariant.distinct is c.index.ensures in
-    let answers = ap (λ (t : Table). answer t.polls c.args.number c.args.node.now) c.self.view_is in
-    let none = sym one ∙ sym c.awaits.ensures ∙ c.if-not-awaits.true in
-    sym (cond-false _ Counted NotAwaited none) ∙ answers
-
-pub returns-then-not-awaits-clause-table : goal.returns-then-not-awaits-clause-table
-returns-then-not-awaits-clause-table c =
-    let polls = c.self.inside.polls.items in
-    let stood = sym (c.place.ensures polls c.self.invariant.few c.self.invariant.placed) in
-    let is = stood ∙ c.in-Some.is in
-    let one = awaited_at polls c.args.number c.in-Some.at c.args.node.now c.index.result.now c.self.invariant.distinct is c.index.ensures in
-    let same = ap (λ (t : Table). voted t c.args.number c.args.node.now c.args.id) c.self.view_is in
-    let none = sym one ∙ sym c.awaits.ensures ∙ c.if-not-awaits.true in
-    sym c.self.view_is
-    ∙ ap (λ (l : List Poll). to_table c.self.inside.params l) (sym (unchanged polls c.args.number c.args.node.now c.args.id none))
-    ∙ same
-
 pub index_mut-requires : goal.index_mut-requires
 index_mut-requires c =
     let polls = c.self.inside.polls.items in
     let stood = sym (c.place.ensures polls c.self.invariant.few c.self.invariant.placed) in
     omega (arith, place_within polls c.args.number c.in-Some.at (stood ∙ c.in-Some.is), c.self.inside.polls.ok.0)
 
-pub count-requires : goal.count-requires
-count-requires c =
-    let polls = c.self.inside.polls.items in
-    let stood = sym (c.place.ensures polls c.self.invariant.few c.self.invariant.placed) in
-    let is = stood ∙ c.in-Some.is in
-    let one = awaited_at polls c.args.number c.in-Some.at c.args.node.now c.index.result.now c.self.invariant.distinct is c.index.ensures in
-    awaited_at polls c.args.number c.in-Some.at c.args.node.now c.index_mut.result.now c.self.invariant.distinct is c.index_mut.ensures.value
-    ∙ sym one ∙ sym c.awaits.ensures ∙ c.if-not-awaits.false
-
 pub invariant_of-self : goal.invariant_of-self
 invariant_of-self c =
     let polls = c.self.inside.polls.items in
     let stood = sym (c.place.ensures polls c.self.invariant.few c.self.invariant.placed) in
     let is = stood ∙ c.in-Some.is in
-    let one = awaited_at polls c.args.number c.in-Some.at c.args.node.now c.index.result.now c.self.invariant.distinct is c.index.ensures in
-    let asked = awaited_at polls c.args.number c.in-Some.at c.args.node.now c.index_mut.result.now c.self.invariant.distinct is c.index_mut.ensures.value
-    ∙ sym one ∙ sym c.awaits.ensures ∙ c.if-not-awaits.false in
-    let noted = ap (set polls c.in-Some.at) c.count.ensures
-    ∙ voted_at polls c.args.number c.in-Some.at c.args.node.now c.args.id c.index_mut.result.now c.self.invariant.distinct is c.index_mut.ensures.value asked in
+    let noted = ap (set polls c.in-Some.at) c.count.ensures.poll
+    ∙ voted_at polls c.args.number c.in-Some.at c.args.node.now c.args.id c.index_mut.result.now c.self.invariant.distinct is c.index_mut.ensures.value in
+    rw noted (table_voted c.self.inside.params polls c.self.inside.turns.turns c.self.inside.turns.gone c.args.number c.args.node.now c.args.id c.self.invariant)
+
+pub invariant_of-self-2 : goal.invariant_of-self-2
+invariant_of-self-2 c =
+    let polls = c.self.inside.polls.items in
+    let stood = sym (c.place.ensures polls c.self.invariant.few c.self.invariant.placed) in
+    let is = stood ∙ c.in-Some.is in
+    let noted = ap (set polls c.in-Some.at) c.count.ensures.poll
+    ∙ voted_at polls c.args.number c.in-Some.at c.args.node.now c.args.id c.index_mut.result.now c.self.invariant.distinct is c.index_mut.ensures.value in
     rw noted (table_voted c.self.inside.params polls c.self.inside.turns.turns c.self.inside.turns.gone c.args.number c.args.node.now c.args.id c.self.invariant)
 
 pub returns-clause-answer : goal.returns-clause-answer
@@ -90,19 +59,46 @@ returns-clause-answer c =
     let polls = c.self.inside.polls.items in
     let stood = sym (c.place.ensures polls c.self.invariant.few c.self.invariant.placed) in
     let is = stood ∙ c.in-Some.is in
-    let one = awaited_at polls c.args.number c.in-Some.at c.args.node.now c.index.result.now c.self.invariant.distinct is c.index.ensures in
+    let one = awaited_at polls c.args.number c.in-Some.at c.args.node.now c.index_mut.result.now c.self.invariant.distinct is c.index_mut.ensures.value in
     let answers = ap (λ (t : Table). answer t.polls c.args.number c.args.node.now) c.self.view_is in
-    sym (cond-true _ Counted NotAwaited (sym one ∙ sym c.awaits.ensures ∙ c.if-not-awaits.false)) ∙ answers
+    sym (cond-true _ Counted NotAwaited (sym one ∙ sym c.count.ensures.awaited ∙ c.if-not-count.false)) ∙ answers
 
 pub returns-clause-table : goal.returns-clause-table
 returns-clause-table c =
     let polls = c.self.inside.polls.items in
     let stood = sym (c.place.ensures polls c.self.invariant.few c.self.invariant.placed) in
     let is = stood ∙ c.in-Some.is in
-    let one = awaited_at polls c.args.number c.in-Some.at c.args.node.now c.index.result.now c.self.invariant.distinct is c.index.ensures in
-    let asked = awaited_at polls c.args.number c.in-Some.at c.args.node.now c.index_mut.result.now c.self.invariant.distinct is c.index_mut.ensures.value
-    ∙ sym one ∙ sym c.awaits.ensures ∙ c.if-not-awaits.false in
-    let noted = ap (set polls c.in-Some.at) c.count.ensures
-    ∙ voted_at polls c.args.number c.in-Some.at c.args.node.now c.args.id c.index_mut.result.now c.self.invariant.distinct is c.index_mut.ensures.value asked in
+    let noted = ap (set polls c.in-Some.at) c.count.ensures.poll
+    ∙ voted_at polls c.args.number c.in-Some.at c.args.node.now c.args.id c.index_mut.result.now c.self.invariant.distinct is c.index_mut.ensures.value in
     let same = ap (λ (t : Table). voted t c.args.number c.args.node.now c.args.id) c.self.view_is in
     ap (λ (l : List Poll). to_table c.self.inside.params l) noted ∙ same
+
+pub returns-then-not-count-clause-answer : goal.returns-then-not-count-clause-answer
+returns-then-not-count-clause-answer c =
+    let polls = c.self.inside.polls.items in
+    let stood = sym (c.place.ensures polls c.self.invariant.few c.self.invariant.placed) in
+    let is = stood ∙ c.in-Some.is in
+    let one = awaited_at polls c.args.number c.in-Some.at c.args.node.now c.index_mut.result.now c.self.invariant.distinct is c.index_mut.ensures.value in
+    let answers = ap (λ (t : Table). answer t.polls c.args.number c.args.node.now) c.self.view_is in
+    sym (cond-false _ Counted NotAwaited (sym one ∙ sym c.count.ensures.awaited ∙ c.if-not-count.true)) ∙ answers
+
+pub returns-then-not-count-clause-table : goal.returns-then-not-count-clause-table
+returns-then-not-count-clause-table c =
+    let polls = c.self.inside.polls.items in
+    let stood = sym (c.place.ensures polls c.self.invariant.few c.self.invariant.placed) in
+    let is = stood ∙ c.in-Some.is in
+    let noted = ap (set polls c.in-Some.at) c.count.ensures.poll
+    ∙ voted_at polls c.args.number c.in-Some.at c.args.node.now c.args.id c.index_mut.result.now c.self.invariant.distinct is c.index_mut.ensures.value in
+    let same = ap (λ (t : Table). voted t c.args.number c.args.node.now c.args.id) c.self.view_is in
+    ap (λ (l : List Poll). to_table c.self.inside.params l) noted ∙ same
+
+pub returns-then-not-count-clause-unchanged : goal.returns-then-not-count-clause-unchanged
+returns-then-not-count-clause-unchanged c _ =
+    let polls = c.self.inside.polls.items in
+    let stood = sym (c.place.ensures polls c.self.invariant.few c.self.invariant.placed) in
+    let is = stood ∙ c.in-Some.is in
+    let one = awaited_at polls c.args.number c.in-Some.at c.args.node.now c.index_mut.result.now c.self.invariant.distinct is c.index_mut.ensures.value in
+    let noted = ap (set polls c.in-Some.at) c.count.ensures.poll
+    ∙ voted_at polls c.args.number c.in-Some.at c.args.node.now c.args.id c.index_mut.result.now c.self.invariant.distinct is c.index_mut.ensures.value in
+    let none = sym one ∙ sym c.count.ensures.awaited ∙ c.if-not-count.true in
+    ap (λ (l : List Poll). to_table c.self.inside.params l) (noted ∙ unchanged polls c.args.number c.args.node.now c.args.id none) ∙ c.self.view_is

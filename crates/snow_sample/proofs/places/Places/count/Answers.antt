@@ -1,5 +1,5 @@
 -- A node that was drawn is counted at its place, and another at the end.
-use Rattle.std.proofs.Common.{arith, ◌∙◌, sym, ap}
+use Rattle.std.proofs.Common.{arith, ◌∙◌, ap}
 use Rattle.snow_sample.specs.Sampling.{counted}
 use Rattle.snow_sample.proofs.Slots.{drawn_again, drawn_first, few_drawn}
 use Rattle.snow_sample.proofs.places.Places.count.Goals as goal

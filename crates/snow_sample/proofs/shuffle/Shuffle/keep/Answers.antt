@@ -1,5 +1,5 @@
 -- The move is chained before the last one of its class.
-use Rattle.std.proofs.Common.{◌≡◌, ◌+◌, ◌++◌, ◌∷◌, [], arith, get_or, set, length, bit_and}
+use Rattle.std.proofs.Common.{◌≡◌, ◌+◌, arith, length, bit_and}
 use Rattle.std.proofs.lemmas.List.{get_or_read}
 use Rattle.snow_sample.specs.declared.shuffle.Move.{Move}
 use Rattle.snow_sample.proofs.Moves.{within_classes, moves_more}

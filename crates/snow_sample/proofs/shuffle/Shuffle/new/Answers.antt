@@ -10,5 +10,5 @@ invariant_of-result c =
     let classes : c.next_power_of_two-classes.result - 1 + 1 ≡ c.next_power_of_two-classes.result = omega arith in
     record {
       chained = rw c.in_ok-with_capacity.ensures.items
-          (moves_none (c.next_power_of_two-classes.result - 1) c.in_ok-vec.field-0.items (rw classes (c.in_ok-vec.ensures.items_if_clones_equal (λ y h. h))));
+          (moves_none (c.next_power_of_two-classes.result - 1) c.in_ok-zeros.field-0.items (rw classes c.in_ok-zeros.ensures));
     }
