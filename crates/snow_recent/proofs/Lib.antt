@@ -3,6 +3,7 @@ pub mod Examples
 mod Filed
 mod Forgotten
 mod Latest
+mod Looked
 mod Newest
 mod RowOf
 mod Rows

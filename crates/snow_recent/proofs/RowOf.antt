@@ -62,7 +62,7 @@ rising_row id rows at h rising =
 
 -- ---- by the last number
 
-is_less : (o : Ordering) → is_lt o ≡ true → o ≡ Less
+pub is_less : (o : Ordering) → is_lt o ≡ true → o ≡ Less
 is_less Less h = refl
 is_less Equal h = absurd cc
 is_less Greater h = absurd cc
@@ -80,7 +80,7 @@ row_below id key row rising below = λ k d within.
     ]
 
 -- where one identifier isn't below the key, a higher one is above it
-higher : (o : Ordering) (a b key : List ℕ) → byte_cmp a key ≡ o → is_lt o ≡ false → byte_cmp a b ≡ Less → byte_cmp b key ≡ Greater
+pub higher : (o : Ordering) (a b key : List ℕ) → byte_cmp a key ≡ o → is_lt o ≡ false → byte_cmp a b ≡ Less → byte_cmp b key ≡ Greater
 higher Less a b key is low less = absurd cc
 higher Equal a b key is low less =
     flip b key ∙ ap ordering_reverse (ap (λ i. byte_cmp i b) (sym (exact_bytes a key is)) ∙ less)
@@ -158,6 +158,43 @@ row_found id rows key point at rising some within found low last inside past = r
         subst (λ (l : List (List ℕ)). All (IsAbove id key) (concat l)) (sym none) (All-nil (IsAbove id key))
   ];
 }
+
+-- a row that doesn't end below the key, or the last row, where the row before ends below it
+pub row_seen : (id : ℕ → List ℕ) (rows : List (List ℕ)) (key : List ℕ) (at : ℕ) → AreFilled rows → IsRising id (concat rows) → at < length rows
+    → (0 < at → ends_below id key (get_or rows (at - 1) []) ≡ true) → (at + 1 < length rows → ends_below id key (get_or rows at []) ≡ false) → IsRowOf id rows key at
+row_seen id rows key at filled rising h before own = record {
+  there = h;
+  below = all_below id key rows at rising (omega (arith, h))
+      (λ k less. rows_partitioned id key rows filled rising k (at - 1) [] (omega (arith, less)) (omega (arith, less, h)) (before (omega (arith, less))));
+  above = elim (cases_lt (at + 1) (length rows)) [
+    | inl more ↦ subst (λ k. All (IsAbove id key) (concat (drop k rows))) (sym (next_is at)) (all_above id key rows at rising h (own more))
+    | inr last ↦
+        let none : drop (at + 1) rows ≡ [] = drop_all (at + 1) rows (omega (arith, last)) in
+        subst (λ (l : List (List ℕ)). All (IsAbove id key) (concat l)) (sym none) (All-nil (IsAbove id key))
+  ];
+}
+
+-- the row that has a number below the key and one above it
+pub row_inside : (id : ℕ → List ℕ) (rows : List (List ℕ)) (key : List ℕ) (at low high : ℕ) → IsRising id (concat rows) → at < length rows
+    → low < length (get_or rows at []) → high < length (get_or rows at [])
+    → ((d : ℕ) → byte_cmp (id (get_or (get_or rows at []) low d)) key ≡ Less) → ((d : ℕ) → byte_cmp (id (get_or (get_or rows at []) high d)) key ≡ Greater)
+    → IsRowOf id rows key at
+row_inside id rows key at low high rising h low_there high_there less more =
+    let row = get_or rows at [] in
+    let before = concat (take at rows) in
+    let behind = concat (drop (suc at) rows) in
+    let parts : IsRising id (before ++ (row ++ behind)) = subst (IsRising id) (concat_parts rows at h) rising in
+    record {
+      there = h;
+      below = λ k d inside.
+          nat_list_cmp_total.trans (id (get_or before k d)) (id (get_or row low d)) key
+          (ap (λ n. byte_cmp (id (get_or before k d)) (id n)) (sym (get_or_append_left row behind d low low_there))
+          ∙ rising_between id before (row ++ behind) k low d parts inside (omega (arith, low_there, length-append row behind)))
+          (less d);
+      above = subst (λ k. All (IsAbove id key) (concat (drop k rows))) (sym (next_is at))
+          (λ k d inside. higher Greater (id (get_or row high d)) (id (get_or behind k d)) key (more d) refl
+          (rising_between id row behind high k d (rising_right id before (row ++ behind) parts) high_there inside));
+    }
 
 -- the same rows and the same identifier, in other words
 pub belonging : (id : ℕ → List ℕ) (seen rows : List (List ℕ)) (key own : List ℕ) (at : ℕ) → key ≡ own → seen ≡ rows → IsRowOf id seen key at → IsRowOf id rows own at

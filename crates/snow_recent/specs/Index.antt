@@ -34,6 +34,10 @@ IsPlaceOf id numbers key (Ok at) = (at < length numbers) × HoldsAt (λ n. byte_
 IsPlaceOf id numbers key (Err at) =
     (at ≤ length numbers) × IsPartitionPoint (λ n. byte_cmp (id n) key ≡ Less) (λ n. byte_cmp (id n) key ≡ Greater) numbers at
 
+-- how the identifier of the number at a place stands to this one; the end stands behind all
+abbrev pub order_at : (ℕ → List ℕ) → List ℕ → ℕ → List ℕ → Ordering
+order_at id numbers at key = option_map_or (λ n. byte_cmp (id n) key) (slice_get numbers at) Greater
+
 -- the numbers but that of the oldest entry
 abbrev pub without_oldest : ℕ → List ℕ → List ℕ
 without_oldest first numbers = filter (λ n. not (n == first)) numbers

@@ -1,15 +1,17 @@
 //! Where the latest entry of an identifier stands: numbers in the order of identifiers, one for each.
 //! They rise by one from entry to entry, and go on from 0 after 2^32-1, so what is forgotten moves
 //! none.
-ghost use Rattle.std.specs.Prelude.{◌≡◌, ◌+◌, ◌<◌, ◌≤◌, length};
+ghost use Rattle.std.specs.Prelude.{◌≡◌, ◌==◌, ◌+◌, ◌-◌, ◌<◌, ◌≤◌, ◌||◌, true, false, [], length, get_or};
 ghost use Rattle.std.specs.List.{slice_get, concat};
 ghost use Rattle.std.specs.Option.{option_copied};
-ghost use Rattle.snow_recent.specs.Index.{place_of, id_at, id_of, IsRising, IsPlaceOf, without_oldest, filed};
+ghost use Rattle.std.specs.Ordering.{is_lt};
+ghost use Rattle.snow_recent.specs.Index.{place_of, id_at, id_of, IsRising, IsPlaceOf, order_at, without_oldest, filed};
 ghost use Rattle.snow_recent.specs.Table.{ends_below, AreFilled, IsRowOf};
 
 use crate::named::Named;
 use crate::row::Row;
 use snow_base::Id;
+use std::cmp::Ordering;
 use std::collections::VecDeque;
 
 // The entry at a place.
@@ -36,17 +38,73 @@ pub(crate) fn id_of<T: Named>(entries: &VecDeque<T>, first: u32, number: u32) ->
     }
 }
 
-// Where the number of an identifier's latest entry stands, or else where it belongs.
+// The first bytes of an identifier, which mostly tell it from all others. Numbers are looked for by
+// them first. What stands there is then compared as a whole, so they need tell nothing.
+pub(crate) fn key_of(id: &Id) -> u32 {
+    let bytes = id.as_bytes();
+    u32::from_be_bytes([bytes[0], bytes[1], bytes[2], bytes[3]])
+}
+
+// Where the number of an identifier's latest entry stands, or else where it belongs. It is looked
+// for at a likely place first.
 pub(crate) fn place<T: Named>(
     entries: &VecDeque<T>,
     first: u32,
     order: &[u32],
+    likely: usize,
     id: &Id,
 ) -> Result<usize, usize>
     requires { IsRising (id_of T.id entries.now.items first) order.now }
     ensures { IsPlaceOf (id_of T.id entries.now.items first) order.now id.now result }
 {
+    let at = likely.min(order.len());
+    let found = order_at(entries, first, order, at, id);
+    if found.is_eq() {
+        return Ok(at);
+    }
+    if found.is_gt() && is_behind(entries, first, order, at, id) {
+        return Err(at);
+    }
     order.binary_search_by(|number| id_of(entries, first, *number).cmp(id))
+}
+
+// How the identifier of the number at a place stands to this one; the end stands behind all.
+pub(crate) fn order_at<T: Named>(
+    entries: &VecDeque<T>,
+    first: u32,
+    order: &[u32],
+    at: usize,
+    id: &Id,
+) -> Ordering
+    ensures { result ≡ order_at (id_of T.id entries.now.items first) order.now at id.now }
+{
+    match order.get(at) {
+        Some(number) => id_of(entries, first, *number).cmp(id),
+        None => Ordering::Greater,
+    }
+}
+
+// Whether the number before a place, if there is one, has a lower identifier than this one.
+fn is_behind<T: Named>(entries: &VecDeque<T>, first: u32, order: &[u32], at: usize, id: &Id) -> bool
+    requires { at ≤ length order.now }
+    ensures { result ≡ (at == 0 || is_lt (order_at (id_of T.id entries.now.items first) order.now (at - 1) id.now)) }
+{
+    at == 0 || order_at(entries, first, order, at - 1, id).is_lt()
+}
+
+// Whether a number stands at a place, and one before it that has a lower identifier than this one.
+pub(crate) fn is_inside<T: Named>(
+    entries: &VecDeque<T>,
+    first: u32,
+    order: &[u32],
+    at: usize,
+    id: &Id,
+) -> bool
+    ensures some { result ≡ true → 0 < at }
+    ensures within { result ≡ true → at < length order.now }
+    ensures below { result ≡ true → is_lt (order_at (id_of T.id entries.now.items first) order.now (at - 1) id.now) ≡ true }
+{
+    at > 0 && at < order.len() && order_at(entries, first, order, at - 1, id).is_lt()
 }
 
 // Whether the identifiers of a row's numbers are all below this one.
@@ -59,15 +117,41 @@ fn ends_below<T: Named>(entries: &VecDeque<T>, first: u32, row: &Row, id: &Id) -
     }
 }
 
-// The row that an identifier belongs in.
+// The row that an identifier belongs in. The one that its first bytes lead to is looked at first.
 pub(crate) fn row_for<T: Named>(entries: &VecDeque<T>, first: u32, rows: &[Row], id: &Id) -> usize
     requires some { 0 < length rows.now }
     requires filled { AreFilled rows.now }
     requires order { IsRising (id_of T.id entries.now.items first) (concat rows.now) }
     ensures { IsRowOf (id_of T.id entries.now.items first) rows.now id.now result }
 {
+    let likely = likely_row(rows, key_of(id));
+    if is_row_for(entries, first, rows, likely, id) {
+        return likely;
+    }
     let at = rows.partition_point(|row| ends_below(entries, first, row, id));
     at.min(rows.len() - 1)
+}
+
+// The row that a key leads to.
+pub(crate) fn likely_row(rows: &[Row], key: u32) -> usize
+    requires { 0 < length rows.now }
+    ensures { result < length rows.now }
+{
+    let at = rows.partition_point(|row| row.ends_below(key));
+    at.min(rows.len() - 1)
+}
+
+// Whether an identifier belongs in a row: the row before it ends below, and it doesn't itself,
+// unless it is the last.
+fn is_row_for<T: Named>(entries: &VecDeque<T>, first: u32, rows: &[Row], at: usize, id: &Id) -> bool
+    requires { at < length rows.now }
+    ensures before { result ≡ true → 0 < at → ends_below (id_of T.id entries.now.items first) id.now (get_or rows.now (at - 1) []) ≡ true }
+    ensures own { result ≡ true → at + 1 < length rows.now → ends_below (id_of T.id entries.now.items first) id.now (get_or rows.now at []) ≡ false }
+{
+    if at > 0 && !ends_below(entries, first, &rows[at - 1], id) {
+        return false;
+    }
+    at + 1 == rows.len() || !ends_below(entries, first, &rows[at], id)
 }
 
 // Takes the number of the oldest entry out of a row, if it is there.
@@ -77,7 +161,8 @@ pub(crate) fn take_oldest<T: Named>(entries: &VecDeque<T>, first: u32, row: &mut
     ensures less { length row.old ≤ length row.new + 1 }
 {
     let oldest = id_of(entries, first, first);
-    if let Ok(at) = place(entries, first, row.list(), &oldest) {
+    let likely = row.find(key_of(&oldest));
+    if let Ok(at) = place(entries, first, row.list(), likely, &oldest) {
         if row.list()[at] == first {
             row.remove(at);
         }
@@ -92,8 +177,9 @@ pub(crate) fn file<T: Named>(entries: &VecDeque<T>, first: u32, row: &mut Row, n
     ensures { row.new ≡ filed (id_of T.id entries.now.items first) row.old number }
 {
     let id = id_of(entries, first, number);
-    match place(entries, first, row.list(), &id) {
+    let key = key_of(&id);
+    match place(entries, first, row.list(), row.find(key), &id) {
         Ok(at) => row.replace(at, number),
-        Err(at) => row.insert(at, number),
+        Err(at) => row.insert(at, number, key),
     }
 }

@@ -11,20 +11,22 @@ pub(crate) const ROW: usize = 128;
 // How many of them stay where a full row is halved.
 const HALF: usize = 64;
 
-/// At most 128 numbers. All room is made with the row.
+/// At most 128 numbers, each with a key, which tells where to look first for it. Contracts see the
+/// numbers. All room is made with the row.
 #[derive(Drop)]
 pub(crate) struct Row {
     numbers: Vec<u32>,
+    keys: Vec<u32>,
 }
 
 impl Model for Row {
-    ghost use Rattle.std.specs.Prelude.{ℕ, ◌≤◌, List, vec_capacity};
+    ghost use Rattle.std.specs.Prelude.{◌≡◌, ℕ, ◌≤◌, List, length, vec_capacity};
 
     ghost Value = { List ℕ };
 
     ghost view = { λ a. a.numbers.items };
 
-    ghost invariant = { λ a. 128 ≤ vec_capacity a.numbers };
+    ghost invariant = { λ a. (128 ≤ vec_capacity a.numbers) × (128 ≤ vec_capacity a.keys) × (length a.keys.items ≡ length a.numbers.items) };
 }
 
 impl Row {
@@ -33,7 +35,8 @@ impl Row {
         ensures { IfOk result (λ row. row ≡ []) }
     {
         let numbers = Vec::with_capacity(alloc, ROW)?;
-        Ok(Row { numbers })
+        let keys = Vec::with_capacity(alloc, ROW)?;
+        Ok(Row { numbers, keys })
     }
 
     pub(crate) fn len(&self) -> usize
@@ -49,7 +52,20 @@ impl Row {
         self.numbers.as_slice()
     }
 
-    /// Puts another number at a place.
+    /// Where the first number stands whose key isn't below this one, where keys rise.
+    pub(crate) fn find(&self, key: u32) -> usize {
+        self.keys.partition_point(|other| *other < key)
+    }
+
+    /// Whether the key of the last number is below this one, as it is where there is no number.
+    pub(crate) fn ends_below(&self, key: u32) -> bool {
+        match self.keys.last() {
+            Some(last) => *last < key,
+            None => true,
+        }
+    }
+
+    /// Puts another number of the same key at a place.
     pub(crate) fn replace(&mut self, at: usize, number: u32)
         requires { at < length self.old }
         ensures { self.new ≡ slice_set self.old at number }
@@ -58,13 +74,15 @@ impl Row {
     }
 
     /// Puts a number in.
-    pub(crate) fn insert(&mut self, at: usize, number: u32)
+    pub(crate) fn insert(&mut self, at: usize, number: u32, key: u32)
         requires within { at ≤ length self.old }
         requires room { length self.old < 128 }
         ensures { self.new ≡ insert self.old at number }
     {
         let inserted: Result<_, _> = self.numbers.insert(at, number);
         let _ = inserted.unwrap();
+        let keyed: Result<_, _> = self.keys.insert(at, key);
+        let _ = keyed.unwrap();
     }
 
     /// Takes the number at a place out.
@@ -73,6 +91,7 @@ impl Row {
         ensures { self.new ≡ remove self.old at }
     {
         self.numbers.remove(at);
+        self.keys.remove(at);
     }
 
     /// Its upper half goes to an empty row.
@@ -86,6 +105,9 @@ impl Row {
         let moved: Result<_, _> = upper.numbers.extend_from_slice(&self.numbers[HALF..]);
         let _ = moved.unwrap();
         self.numbers.truncate(HALF);
+        let keyed: Result<_, _> = upper.keys.extend_from_slice(&self.keys[HALF..]);
+        let _ = keyed.unwrap();
+        self.keys.truncate(HALF);
     }
 
     /// The numbers of another row come behind its own.
@@ -96,5 +118,7 @@ impl Row {
     {
         let joined: Result<_, _> = self.numbers.append(&mut other.numbers);
         let _ = joined.unwrap();
+        let keyed: Result<_, _> = self.keys.append(&mut other.keys);
+        let _ = keyed.unwrap();
     }
 }

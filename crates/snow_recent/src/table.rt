@@ -51,14 +51,35 @@ impl Table {
         Ok(Table { rows, spare, most })
     }
 
-    /// The number of an identifier's latest entry.
+    /// The number of an identifier's latest entry. Mostly the place that its first bytes lead to tells,
+    /// and the one before.
     pub(crate) fn latest<T: Named>(&self, entries: &VecDeque<T>, first: u32, id: &Id) -> Option<u32>
+        requires { IsRising (id_of T.id entries.now.items first) (concat self.now.rows) }
+        ensures { IsLatest (id_of T.id entries.now.items first) (concat self.now.rows) id.now result }
+    {
+        let key = index::key_of(id);
+        let at = index::likely_row(self.rows.as_slice(), key);
+        let row = self.rows[at].list();
+        let likely = self.rows[at].find(key);
+        let found = index::order_at(entries, first, row, likely, id);
+        if found.is_eq() {
+            return Some(row[likely]);
+        }
+        if found.is_gt() && index::is_inside(entries, first, row, likely, id) {
+            return None;
+        }
+        self.search(entries, first, id)
+    }
+
+    // The same, where the first bytes don't tell.
+    fn search<T: Named>(&self, entries: &VecDeque<T>, first: u32, id: &Id) -> Option<u32>
         requires { IsRising (id_of T.id entries.now.items first) (concat self.now.rows) }
         ensures { IsLatest (id_of T.id entries.now.items first) (concat self.now.rows) id.now result }
     {
         let at = index::row_for(entries, first, self.rows.as_slice(), id);
         let row = self.rows[at].list();
-        match index::place(entries, first, row, id) {
+        let likely = self.rows[at].find(index::key_of(id));
+        match index::place(entries, first, row, likely, id) {
             Ok(place) => Some(row[place]),
             Err(_) => None,
         }

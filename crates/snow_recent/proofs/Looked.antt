@@ -1,0 +1,90 @@
+-- What stands at a likely place, and before it, tells where an identifier's number stands or belongs.
+use Rattle.std.proofs.Common.{◌≡◌, ℕ, zero, suc, ◌-◌, ◌<◌, ◌≤◌, Bool, true, false, ◌||◌, ◌==◌, List, [], ◌∷◌, length, get_or, Some, None, Ok, Err, Ordering, Less, Equal, Greater, is_lt, refl, sym, ap, ◌∙◌, arith, inl, inr}
+use Rattle.std.specs.List.{concat}
+use Rattle.std.specs.Option.{option_map_or}
+use Rattle.std.specs.Ordering.{is_eq, is_gt}
+use Rattle.std.proofs.lemmas.Bool.{cases_lt, or_cases, eqb-true}
+use Rattle.std.proofs.lemmas.Cmp.{nat_list_cmp_total}
+use Rattle.std.proofs.lemmas.Option.{slice_get-get_or}
+use Rattle.snow_recent.specs.Index.{byte_cmp, order_at, IsRising, IsPlaceOf}
+use Rattle.snow_recent.specs.Table.{IsLatest}
+use Rattle.snow_recent.proofs.RowOf.{is_less, higher, rising_row, row_inside, latest_found, latest_missing}
+
+is_equal : (o : Ordering) → is_eq o ≡ true → o ≡ Equal
+is_equal Less h = absurd cc
+is_equal Equal h = refl
+is_equal Greater h = absurd cc
+
+is_greater : (o : Ordering) → is_gt o ≡ true → o ≡ Greater
+is_greater Less h = absurd cc
+is_greater Equal h = absurd cc
+is_greater Greater h = refl
+
+-- within the numbers it is the order of the number
+order_is : (id : ℕ → List ℕ) (numbers : List ℕ) (at d : ℕ) (key : List ℕ) → at < length numbers
+    → order_at id numbers at key ≡ byte_cmp (id (get_or numbers at d)) key
+order_is id numbers at d key h = ap (λ o. option_map_or (λ n. byte_cmp (id n) key) o Greater) (slice_get-get_or numbers at d h)
+
+-- a number that is found to be equal is one of them
+pub there : (id : ℕ → List ℕ) (numbers : List ℕ) (at : ℕ) (key : List ℕ) → is_eq (order_at id numbers at key) ≡ true → at < length numbers
+there id [] at key is = absurd cc
+there id (n ∷ numbers) zero key is = omega arith
+there id (n ∷ numbers) (suc at) key is = omega (arith, there id numbers at key is)
+
+-- the number has the identifier
+pub found_at : (id : ℕ → List ℕ) (numbers : List ℕ) (at : ℕ) (key : List ℕ) → is_eq (order_at id numbers at key) ≡ true → IsPlaceOf id numbers key (Ok at)
+found_at id numbers at key is =
+    let h = there id numbers at key is in
+    (h, λ d. sym (order_is id numbers at d key h) ∙ is_equal _ is)
+
+-- or it belongs between this number and the one before
+pub placed_at : (id : ℕ → List ℕ) (numbers : List ℕ) (at : ℕ) (key : List ℕ) → IsRising id numbers → at ≤ length numbers → is_gt (order_at id numbers at key) ≡ true
+    → (at == 0 || is_lt (order_at id numbers (at - 1) key)) ≡ true → IsPlaceOf id numbers key (Err at)
+placed_at id numbers at key rising within above below = (within, (lower, upper))
+  where
+    last_below : (d : ℕ) → 0 < at → byte_cmp (id (get_or numbers (at - 1) d)) key ≡ Less
+    last_below d some =
+        elim (or_cases (at == 0) (is_lt (order_at id numbers (at - 1) key)) below) [
+          | inl none ↦ absurd (omega (arith, eqb-true at 0 none, some))
+          | inr less ↦ sym (order_is id numbers (at - 1) d key (omega (arith, some, within))) ∙ is_less _ less
+        ]
+
+    lower : (k d : ℕ) → 0 ≤ k → k < at → byte_cmp (id (get_or numbers k d)) key ≡ Less
+    lower k d _ h =
+        let some : 0 < at = omega (arith, h) in
+        elim (cases_lt k (at - 1)) [
+          | inl before ↦ nat_list_cmp_total.trans (id (get_or numbers k d)) (id (get_or numbers (at - 1) d)) key
+              (rising k (at - 1) d before (omega (arith, some, within))) (last_below d some)
+          | inr behind ↦ let same : k ≡ at - 1 = omega (arith, h, behind) in ap (λ i. byte_cmp (id (get_or numbers i d)) key) same ∙ last_below d some
+        ]
+
+    upper : (k d : ℕ) → at ≤ k → k < length numbers → byte_cmp (id (get_or numbers k d)) key ≡ Greater
+    upper k d low h =
+        let first : byte_cmp (id (get_or numbers at d)) key ≡ Greater = sym (order_is id numbers at d key (omega (arith, low, h))) ∙ is_greater _ above in
+        elim (cases_lt at k) [
+          | inl before ↦ higher Greater (id (get_or numbers at d)) (id (get_or numbers k d)) key first refl (rising at k d before h)
+          | inr behind ↦ let same : k ≡ at = omega (arith, low, behind) in ap (λ i. byte_cmp (id (get_or numbers i d)) key) same ∙ first
+        ]
+
+-- ---- among all numbers
+
+-- a number at a likely place of a row is the latest one
+pub latest_at : (id : ℕ → List ℕ) (rows : List (List ℕ)) (key : List ℕ) (at place n : ℕ) → at < length rows → is_eq (order_at id (get_or rows at []) place key) ≡ true
+    → n ≡ get_or (get_or rows at []) place n → IsLatest id (concat rows) key (Some n)
+latest_at id rows key at place n h is = latest_found id rows key at place n h (found_at id (get_or rows at []) place key is)
+
+-- and there is none where the identifier belongs inside a row
+pub latest_inside : (id : ℕ → List ℕ) (rows : List (List ℕ)) (key : List ℕ) (at place : ℕ) → IsRising id (concat rows) → at < length rows → 0 < place
+    → place < length (get_or rows at []) → is_gt (order_at id (get_or rows at []) place key) ≡ true → is_lt (order_at id (get_or rows at []) (place - 1) key) ≡ true
+    → IsLatest id (concat rows) key None
+latest_inside id rows key at place rising h some within above below =
+    let row = get_or rows at [] in
+    latest_missing id rows key at place
+    (row_inside id rows key at (place - 1) place rising h (omega arith) within
+    (λ d. sym (order_is id row (place - 1) d key (omega arith)) ∙ is_less _ below)
+    (λ d. sym (order_is id row place d key within) ∙ is_greater _ above))
+    (placed_at id row place key (rising_row id rows at h rising) (omega arith) above (second (place == 0) _ below))
+  where
+    second : (a b : Bool) → b ≡ true → (a || b) ≡ true
+    second true b is = refl
+    second false b is = is
