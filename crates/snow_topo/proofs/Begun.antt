@@ -176,10 +176,3 @@ module _ {T : Type 0} where
       single : (o : Option Climber) → cons_option o [] ≡ option_to_list o
       single None = refl
       single (Some c) = refl
-
-  pub begun_short : (pending : List (Entry T)) (v : Vote) (cs ds : List Climber) (i : ℕ) → length cs ≤ i → IsPermutation (option_to_list (begun pending v) ++ cs) ds → length ds ≤ i + 1
-  begun_short pending v cs ds i short next = omega (arith, length_permutation (option_to_list (begun pending v) ++ cs) ds next, length-append (option_to_list (begun pending v)) cs, at_most (begun pending v), short)
-    where
-      at_most : (o : Option Climber) → length (option_to_list o) ≤ 1
-      at_most None = omega arith
-      at_most (Some c) = omega arith

@@ -1,5 +1,5 @@
 -- Lemmas on one step of a poll that climbs, and on its beginning and end.
-use Rattle.std.proofs.Common.{◌≡◌, ℕ, zero, suc, ◌+◌, ◌<◌, ◌≤◌, false, List, [], ◌∷◌, length, get_or, take, drop, map, reverse, bytes_eq, All, Option, Some, None, IfSome, slice_get, refl, sym, ap, subst, ◌∙◌, arith}
+use Rattle.std.proofs.Common.{◌≡◌, ℕ, zero, suc, ◌+◌, ◌<◌, ◌≤◌, false, List, [], ◌∷◌, length, get_or, map, reverse, bytes_eq, All, IsPermutation, Option, Some, None, IfSome, slice_get, refl, sym, ap, subst, ◌∙◌, arith}
 use Rattle.std.specs.Option.{option_map}
 use Rattle.std.proofs.lemmas.List.{get_or-map, length-map}
 use Rattle.std.proofs.lemmas.Option.{none-some, slice_get-map, slice_get_within, get_or_from_slice_get, slice_get_past, slice_get-get_or}
@@ -17,8 +17,9 @@ use Rattle.snow_topo.specs.View.{pending_of, all_pending}
 use Rattle.snow_topo.specs.declared.climber.Climber.{Climber}
 use Rattle.snow_topo.specs.Climbing.{reach, cursors_of, votes_for, merged, stepped_by, AreBelow, ArePlaced, HasCome}
 use Rattle.snow_topo.specs.Half.{AreClimbing, IsHalf, HasTaken}
-use Rattle.snow_topo.proofs.Climbers.{have_come, look_lower}
-use Rattle.snow_topo.proofs.Reached.{reach_at}
+use Rattle.snow_topo.specs.Ladder.{under, up_from}
+use Rattle.snow_topo.proofs.Climbers.{group_came, rest_others}
+use Rattle.snow_topo.proofs.Reached.{reach_at, parent_low}
 use Rattle.snow_topo.proofs.Halfway.{sunk, visited, came_for, climbed}
 
 -- there is an entry at a place within
@@ -168,26 +169,34 @@ pub block_at : (pending : List (Entry Kept)) (at : ℕ) (e : Entry Kept) → sli
 block_at pending at e there = slice_get-map (λ x. x.block) pending at ∙ ap (option_map (λ (x : Entry Kept). x.block)) there
 
 -- how far it reaches
-reached_at : (last : List ℕ) (pending : List (Entry Kept)) (at : ℕ) (e : Entry Kept) → IsGrown last (reverse (blocks_in pending)) → slice_get pending at ≡ Some e
+pub reached_at : (last : List ℕ) (pending : List (Entry Kept)) (at : ℕ) (e : Entry Kept) → IsGrown last (reverse (blocks_in pending)) → slice_get pending at ≡ Some e
     → reach (blocks_in pending) e.block.id ≡ at + 1
 reached_at last pending at e g there =
     let bs = blocks_in pending in
     let here = block_at pending at e there in
     ap (λ (b : Header). reach bs b.id) (sym (get_or_from_slice_get bs at e.block e.block here)) ∙ reach_at last bs at e.block g (slice_get_within bs at e.block here)
 
--- they came to it by a child
-pub group_come : (p : Parameters) (votes : List Vote) (last : List ℕ) (pending : List (Entry Kept)) (at from : ℕ) (e : Entry Kept) (cs : List Climber) → IsGrown last (reverse (blocks_in pending))
-    → slice_get pending at ≡ Some e → AreClimbing p votes (blocks_in pending) (at + 1) (cursors_of (blocks_in pending) cs) → ArePlaced (blocks_in pending) cs → All (λ c. at < c.place) (drop from cs)
-    → All (HasCome (blocks_in pending) e.block.id) (cursors_of (blocks_in pending) (drop from cs))
-group_come p votes last pending at from e cs g there climbing placed high =
+-- and its parent no further
+pub parent_reach : (last : List ℕ) (pending : List (Entry Kept)) (at : ℕ) (e : Entry Kept) → IsGrown last (reverse (blocks_in pending)) → slice_get pending at ≡ Some e
+    → reach (blocks_in pending) e.block.parent ≤ at
+parent_reach last pending at e g there =
+    let bs = blocks_in pending in
+    let here = block_at pending at e there in
+    subst (λ (b : Header). reach bs b.parent ≤ at) (get_or_from_slice_get bs at e.block e.block here) (parent_low last bs at e.block g (slice_get_within bs at e.block here))
+
+-- a group came to it by a child
+pub group_come : (p : Parameters) (votes : List Vote) (last : List ℕ) (pending : List (Entry Kept)) (at : ℕ) (e : Entry Kept) (cs came : List Climber) → IsGrown last (reverse (blocks_in pending))
+    → slice_get pending at ≡ Some e → AreClimbing p votes (blocks_in pending) (at + 1) (cursors_of (blocks_in pending) cs) → ArePlaced (blocks_in pending) cs → IsPermutation (up_from (at + 1) cs) came
+    → All (HasCome (blocks_in pending) e.block.id) (cursors_of (blocks_in pending) came)
+group_come p votes last pending at e cs came g there climbing placed same =
     let bs = blocks_in pending in
     let block = get_or_from_slice_get bs at e.block e.block (block_at pending at e there) in
-    subst (λ (b : Header). All (HasCome bs b.id) (cursors_of bs (drop from cs))) block (have_come last bs at from e.block cs g climbing.below climbing.came placed high)
+    subst (λ (b : Header). All (HasCome bs b.id) (cursors_of bs came)) block (group_came last bs at e.block cs came g climbing.below climbing.came placed same)
 
 -- the others look for other blocks
-pub group_others : (last : List ℕ) (pending : List (Entry Kept)) (at from : ℕ) (e : Entry Kept) (cs : List Climber) → IsGrown last (reverse (blocks_in pending))
-    → slice_get pending at ≡ Some e → ArePlaced (blocks_in pending) cs → All (λ c. c.place ≤ at) (take from cs) → All (λ c. bytes_eq c.sought e.block.id ≡ false) (cursors_of (blocks_in pending) (take from cs))
-group_others last pending at from e cs g there placed low = look_lower (blocks_in pending) e.block at from cs (reached_at last pending at e g there) placed low
+pub group_others : (last : List ℕ) (pending : List (Entry Kept)) (at : ℕ) (e : Entry Kept) (cs : List Climber) → IsGrown last (reverse (blocks_in pending))
+    → slice_get pending at ≡ Some e → ArePlaced (blocks_in pending) cs → All (λ c. bytes_eq c.sought e.block.id ≡ false) (cursors_of (blocks_in pending) (under (at + 1) cs))
+group_others last pending at e cs g there placed = rest_others (blocks_in pending) e.block at cs (reached_at last pending at e g there) placed
 
 -- the entry whose block was seen
 pub entry_of : (pending : List (Entry Kept)) (at : ℕ) (b : Header) → option_map (λ e. e.block) (slice_get pending at) ≡ Some b → (e : Entry Kept) × (slice_get pending at ≡ Some e) × (e.block ≡ b)

@@ -18,4 +18,4 @@ pub mod Polls
 pub mod Advancing
 pub mod Climbers
 pub mod Begun
-pub mod Risen
+pub mod Hung

@@ -127,24 +127,6 @@ pub joined_at : (id : List ℕ) (front group : List Cursor) → All (λ c. bytes
 joined_at id front group others here =
     omega (arith, sum_by-append (λ c. if bytes_eq c.sought id then c.count else 0) front group, none_at id front others, all_at id group here)
 
--- the others stay
-none_leave : (id : List ℕ) (cs : List Cursor) → All (λ c. bytes_eq c.sought id ≡ false) cs → filter (λ c. not (bytes_eq c.sought id)) cs ≡ cs
-none_leave id [] others = refl
-none_leave id (c ∷ cs) others =
-    rw (All-head (λ c. bytes_eq c.sought id ≡ false) c cs others) (ap (λ l. c ∷ l) (none_leave id cs (All-tail (λ c. bytes_eq c.sought id ≡ false) c cs others)))
-
-all_leave : (id : List ℕ) (cs : List Cursor) → All (λ c. bytes_eq c.sought id ≡ true) cs → filter (λ c. not (bytes_eq c.sought id)) cs ≡ []
-all_leave id [] here = refl
-all_leave id (c ∷ cs) here =
-    rw (All-head (λ c. bytes_eq c.sought id ≡ true) c cs here) (all_leave id cs (All-tail (λ c. bytes_eq c.sought id ≡ true) c cs here))
-
-pub joined_left : (id : List ℕ) (front group : List Cursor) → All (λ c. bytes_eq c.sought id ≡ false) front → All (λ c. bytes_eq c.sought id ≡ true) group
-    → filter (λ c. not (bytes_eq c.sought id)) (front ++ group) ≡ front
-joined_left id front group others here =
-    filter-append (λ c. not (bytes_eq c.sought id)) front group
-    ∙ (λ i. none_leave id front others i ++ all_leave id group here i)
-    ∙ append-nil front
-
 -- votes that look for other blocks didn't come to it
 pub none_came : (id : List ℕ) (front group : List Cursor) (on : List Bool) → All (λ c. bytes_eq c.sought id ≡ false) front → votes_at (front ++ group) id on ≡ votes_at group id on
 none_came id [] group on others = refl

@@ -20,6 +20,7 @@ use Rattle.snow_plain.proofs.Invariant.{settled_keeps, blocks_counted, blocks_is
 use Rattle.snow_plain.proofs.Kept.{blocks-filter}
 use Rattle.snow_tree.specs.Held.{Held, blocks_in, begun}
 use Rattle.snow_topo.specs.Kept.{Kept, bare}
+use Rattle.snow_topo.specs.Ladder.{Rungs, IsReady}
 use Rattle.snow_topo.specs.Standing.{IsStanding}
 use Rattle.snow_topo.specs.View.{pending_of, all_pending, view}
 use Rattle.snow_topo.specs.Recording.{recording, recording_at, recording_in}
@@ -31,14 +32,15 @@ use Rattle.snow_topo.proofs.Reached.{off_below}
 -- ---- the beginning
 
 -- where nothing is pending
-pub begun_standing : (answer : Answer) (p : Parameters) (last : List ℕ) (height decisions votes children : ℕ) → p.k ≤ votes → p.k ≤ children
-    → IsStanding answer p 0 bare (begun last height) last decisions votes children
+pub begun_standing : (answer : Answer) (p : Parameters) (last : List ℕ) (ladder : Rungs) (height decisions children : ℕ) → IsReady 0 ladder → p.k ≤ ladder.wide → p.k ≤ children
+    → IsStanding answer p 0 bare (begun last height) last ladder decisions children
 unfolding path_from
-begun_standing answer p last height decisions votes children counts gathers = record {
+begun_standing answer p last ladder height decisions children ready counts gathers = record {
   fit = record { root = record { past = omega arith; parameters = tt; ids = refl }; pending = All-nil _ };
   named = All-nil _;
   preference = refl;
   room = record { decides = omega arith; counts = counts; gathers = gathers };
+  ready = ready;
 }
 
 -- as many are pending on the board as in the tree

@@ -2,7 +2,6 @@
 use Rattle.std.specs.Prelude.{◌≡◌, ℕ, ◌+◌, ◌<◌, ◌≤◌, Bool, true, false, not, ◌&&◌, List, [], ◌∷◌, ◌++◌, length, map, filter, sum_by, slice_get, Option, None, Some, All, Contains, nat_lt, bytes_eq, if◌then◌else◌}
 use Rattle.std.specs.Bool.{beq}
 use Rattle.std.specs.List.{position, starts_with}
-use Rattle.std.specs.List.Sorted.{IsNonDecreasingBy}
 use Rattle.std.specs.Option.{option_map}
 use Rattle.snow_base.specs.declared.header.Header.{Header}
 use Rattle.snow_base.specs.declared.vote.Vote.{Vote}
@@ -56,10 +55,6 @@ begun pending v = option_map (λ at. passing (blocks_in pending) at v.count) (pl
 -- each passed a block, and goes with one more than the place of its parent
 abbrev pub ArePlaced : List Header → List Climber → Type 0
 ArePlaced blocks climbers = All (λ c. (c.passed < length blocks) × (c.place ≡ reach blocks (parent_in (slice_get blocks c.passed)))) climbers
-
--- those that look for the latest blocks stand last
-abbrev pub AreRising : List Climber → Type 0
-AreRising climbers = IsNonDecreasingBy (λ c. c.place) climbers
 
 -- all votes look for blocks below this place
 abbrev pub AreBelow : List Header → ℕ → List Cursor → Type 0

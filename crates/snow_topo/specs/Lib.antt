@@ -2,6 +2,7 @@ pub mod Kept
 pub mod KeptCode
 pub mod View
 pub mod Climbing
+pub mod Ladder
 pub mod Half
 pub mod Leading
 pub mod Recording

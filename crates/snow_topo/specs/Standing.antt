@@ -1,5 +1,5 @@
 -- A board that is kept by a tree, and what is true of each.
-use Rattle.std.specs.Prelude.{◌≡◌, ◌⊎◌, ℕ, List}
+use Rattle.std.specs.Prelude.{◌≡◌, ◌⊎◌, ℕ, List, length}
 use Rattle.snow_flake.specs.Parameters.{Parameters}
 use Rattle.snow_flake.specs.Rule.{Answer}
 use Rattle.snow_plain.specs.declared.decision.Decision.{Decision}
@@ -9,6 +9,7 @@ use Rattle.snow_plain.specs.Preference.{preferred}
 use Rattle.snow_plain.specs.Shown.{Shown, HasRoom}
 use Rattle.snow_tree.specs.Held.{Held, blocks_in}
 use Rattle.snow_topo.specs.Kept.{Kept}
+use Rattle.snow_topo.specs.Ladder.{Rungs, IsReady}
 use Rattle.snow_topo.specs.View.{view, AreFit}
 use Rattle.snow_topo.specs.Walking.{AreNamed}
 
@@ -17,11 +18,12 @@ abbrev pub shown_board : Parameters → ℕ → Kept → Held Kept → List Deci
 shown_board p polls root held decided = record { board = view p polls root held; decided = decided }
 
 -- what is kept fits, this is the preference, and there is room for the next poll
-pub record IsStanding (answer : Answer) (p : Parameters) (polls : ℕ) (root : Kept) (held : Held Kept) (leading : List ℕ) (decisions votes children : ℕ) : Type 0 where
+pub record IsStanding (answer : Answer) (p : Parameters) (polls : ℕ) (root : Kept) (held : Held Kept) (leading : List ℕ) (ladder : Rungs) (decisions children : ℕ) : Type 0 where
   pub fit : AreFit p polls root held
   pub named : AreNamed (blocks_in held.pending)
   pub preference : leading ≡ preferred answer (view p polls root held)
-  pub room : HasRoom (view p polls root held) decisions votes children
+  pub room : HasRoom (view p polls root held) decisions ladder.wide children
+  pub ready : IsReady (length held.pending) ladder
 
 -- counters that a tree keeps are those of the board, or have failed there since the tree recorded a poll
 abbrev pub AreKept : Parameters → Counters → Counters → Type 0

@@ -3,11 +3,12 @@ ghost use Rattle.snow_base.specs.Votes.{total_count};
 ghost use Rattle.snow_plain.specs.Poll.{poll};
 ghost use Rattle.snow_plain.specs.Preference.{preferred};
 ghost use Rattle.snow_tree.specs.Held.{blocks_in};
+ghost use Rattle.snow_topo.specs.Ladder.{KeepsRoom, IsReady};
 ghost use Rattle.snow_topo.specs.View.{view, AreFit};
 ghost use Rattle.snow_topo.specs.Recording.{recording};
 
-use crate::climber::Climber;
 use crate::counting::count;
+use crate::ladder::Ladder;
 use crate::load::Load;
 use crate::settling::settle;
 use snow_base::{Bag, Steps, Vote};
@@ -26,13 +27,14 @@ pub(crate) fn apply<R: Rule, L: Ledger>(
     root: &mut Load<R>,
     tree: &mut Tree<Load<R>>,
     votes: &[Vote],
-    climbers: &mut Vec<Climber>,
+    ladder: &mut Ladder,
     children: &mut Bag,
     decisions: &mut Vec<Decision>,
     steps: &mut Steps<L>,
 ) -> bool
     requires room { polls + 1 < 2 ^ 64 }
-    requires fits { length votes.now ≤ vec_capacity climbers.old }
+    requires fits { length votes.now ≤ (ladder.old).wide }
+    requires ready { IsReady (length (tree.old).pending) ladder.old }
     requires places { length votes.now ≤ children.old.room + length children.old.list }
     requires counts { All (λ v. 0 < v.count) votes.now }
     requires total { total_count votes.now ≤ params.now.k }
@@ -43,12 +45,13 @@ pub(crate) fn apply<R: Rule, L: Ledger>(
     ensures fit { AreFit params.now (polls + 1) root.new tree.new }
     ensures fewer { length (tree.new).pending ≤ length (tree.old).pending }
     ensures places { children.old.room + length children.old.list ≤ children.new.room + length children.new.list }
-    ensures climbers { vec_capacity climbers.new ≡ vec_capacity climbers.old }
+    ensures low { (ladder.new).low ≡ 0 }
+    ensures ladder { KeepsRoom ladder.old ladder.new }
     ensures decisions { vec_capacity decisions.new ≡ vec_capacity decisions.old }
     ensures steady { result ≡ false → preferred R.answer (view params.now (polls + 1) root.new tree.new) ≡ preferred R.answer (view params.now polls root.old tree.old) }
     ensures steps { steps.new ≤ steps.old + 5 * recording params.now (tree.old).last (blocks_in (tree.old).pending) votes.now }
 {
-    let moved = count(params, root, tree, polls, votes, climbers, children, steps);
+    let moved = count(params, root, tree, polls, votes, ladder, children, steps);
     let _last = tree.last();
     decisions.clear();
     settle(params, polls + 1, root, tree, decisions);

@@ -1,11 +1,9 @@
-ghost use Rattle.std.specs.Prelude.{◌≡◌, ◌+◌, ◌<◌, ◌∷◌, Some, length, slice_get, vec_capacity, IsPermutation};
-ghost use Rattle.std.specs.Option.{option_map};
+ghost use Rattle.std.specs.Prelude.{◌≡◌, ◌+◌, ◌<◌, ◌∷◌, length, slice_get, IsPermutation};
 ghost use Rattle.snow_tree.specs.Held.{blocks_in};
-ghost use Rattle.snow_topo.specs.Climbing.{reach, passing, AreRising};
+ghost use Rattle.snow_topo.specs.Climbing.{reach, parent_in, passing};
 
+use crate::ladder::Ladder;
 use crate::load::Load;
-use crate::rising::put;
-use snow_base::Id;
 use snow_flake::Rule;
 use snow_tree::Tree;
 
@@ -26,43 +24,30 @@ fn above(place: usize, len: usize) -> usize
     place + 1
 }
 
-// One more than the place of a block; 0 where it isn't pending.
-fn reach_of<R: Rule>(tree: &Tree<Load<R>>, id: &Id) -> usize
-    ensures { result ≡ reach (blocks_in (tree.now).pending) id.now }
+// One more than the place of the parent of the block at a place; 0 where that isn't pending.
+fn parent_reach<R: Rule>(tree: &Tree<Load<R>>, at: usize) -> usize
+    requires { at < length (tree.now).pending }
+    ensures { result ≡ reach (blocks_in (tree.now).pending) (parent_in (slice_get (blocks_in (tree.now).pending) at)) }
 {
-    // Many blocks stand on the last accepted one, which isn't pending.
-    if tree.last() == *id {
-        return 0;
-    }
     let len = tree.len();
-    match tree.place_of(id) {
+    match tree.parent_place(at) {
         Some(place) => above(place, len),
         None => 0,
     }
 }
 
 /// Votes that passed the block at a place go on to its parent. It takes no memory.
-pub(crate) fn go_on<R: Rule>(
-    tree: &Tree<Load<R>>,
-    climbers: &mut Vec<Climber>,
-    at: usize,
-    parent: &Id,
-    count: u32,
-)
-    requires room { length climbers.old.items < vec_capacity climbers.old }
-    requires rising { AreRising climbers.old.items }
-    requires parent { option_map (λ b. b.parent) (slice_get (blocks_in (tree.now).pending) at) ≡ Some parent.now }
-    ensures rising { AreRising climbers.new.items }
-    ensures same { IsPermutation (passing (blocks_in (tree.now).pending) at count ∷ climbers.old.items) climbers.new.items }
-    ensures room { vec_capacity climbers.new ≡ vec_capacity climbers.old }
+pub(crate) fn go_on<R: Rule>(tree: &Tree<Load<R>>, ladder: &mut Ladder, at: usize, count: u32)
+    requires room { (ladder.old).put < (ladder.old).most }
+    requires within { at < length (tree.now).pending }
+    requires below { reach (blocks_in (tree.now).pending) (parent_in (slice_get (blocks_in (tree.now).pending) at)) < (ladder.old).low }
+    ensures same { IsPermutation (passing (blocks_in (tree.now).pending) at count ∷ (ladder.old).climbers) (ladder.new).climbers }
+    ensures rest { ladder.new ≡ record (ladder.old) { climbers = (ladder.new).climbers; put = (ladder.old).put + 1 } }
 {
-    let place = reach_of(tree, parent);
-    put(
-        climbers,
-        Climber {
-            place,
-            passed: at,
-            count,
-        },
-    );
+    let place = parent_reach(tree, at);
+    ladder.put(Climber {
+        place,
+        passed: at,
+        count,
+    });
 }

@@ -1,16 +1,16 @@
-ghost use Rattle.std.specs.Prelude.{◌≡◌, ℕ, ◌+◌, ◌*◌, ◌^◌, ◌<◌, ◌≤◌, ◌||◌, false, List, All, map, length, vec_capacity};
+ghost use Rattle.std.specs.Prelude.{◌≡◌, ℕ, ◌+◌, ◌*◌, ◌^◌, ◌<◌, ◌≤◌, ◌||◌, false, List, All, map, length};
 ghost use Rattle.snow_base.specs.declared.vote.Vote.{Vote};
 ghost use Rattle.snow_tree.specs.Held.{blocks_in, children_of};
 ghost use Rattle.snow_topo.specs.Kept.{IsFit};
 ghost use Rattle.snow_topo.specs.View.{all_pending};
-ghost use Rattle.snow_topo.specs.Climbing.{cursors_of, stepped_by, ArePlaced, AreRising};
+ghost use Rattle.snow_topo.specs.Climbing.{cursors_of, stepped_by, ArePlaced};
 ghost use Rattle.snow_topo.specs.Half.{AreClimbing};
+ghost use Rattle.snow_topo.specs.Ladder.{KeepsRoom};
 ghost use Rattle.snow_topo.specs.Leading.{all_leads};
 ghost use Rattle.snow_topo.specs.Recording.{recording_in};
 
-use crate::climber::Climber;
+use crate::ladder::Ladder;
 use crate::load::Load;
-use crate::rising::top_of;
 use crate::visiting::visit;
 use snow_base::{Bag, Steps};
 use snow_flake::{Params, Rule};
@@ -39,40 +39,43 @@ pub(crate) fn climb<R: Rule, L: Ledger>(
     params: &Params,
     tree: &mut Tree<Load<R>>,
     polls: u64,
-    climbers: &mut Vec<Climber>,
+    ladder: &mut Ladder,
     children: &mut Bag,
     steps: &mut Steps<L>,
 ) -> bool
     requires room { polls + 1 < 2 ^ 64 }
-    requires places { length climbers.old.items ≤ children.old.room + length children.old.list }
-    requires climbing { (votes : List Vote) × AreClimbing params.now votes (blocks_in (tree.old).pending) (length (tree.old).pending) (cursors_of (blocks_in (tree.old).pending) climbers.old.items) }
-    requires placed { ArePlaced (blocks_in (tree.old).pending) climbers.old.items }
-    requires rising { AreRising climbers.old.items }
+    requires places { length (ladder.old).climbers ≤ children.old.room + length children.old.list }
+    requires put { (ladder.old).put + length (tree.old).pending ≤ (ladder.old).most }
+    requires wide { length (ladder.old).climbers ≤ (ladder.old).wide }
+    requires low { length (tree.old).pending < (ladder.old).low }
+    requires climbing { (votes : List Vote) × AreClimbing params.now votes (blocks_in (tree.old).pending) (length (tree.old).pending) (cursors_of (blocks_in (tree.old).pending) (ladder.old).climbers) }
+    requires placed { ArePlaced (blocks_in (tree.old).pending) (ladder.old).climbers }
     requires fit { All (λ e. IsFit params.now polls (children_of (blocks_in (tree.old).pending) e.block.id) e.load) (tree.old).pending }
-    ensures pending { (votes : List Vote) → AreClimbing params.now votes (blocks_in (tree.old).pending) (length (tree.old).pending) (cursors_of (blocks_in (tree.old).pending) climbers.old.items)
+    ensures pending { (votes : List Vote) → AreClimbing params.now votes (blocks_in (tree.old).pending) (length (tree.old).pending) (cursors_of (blocks_in (tree.old).pending) (ladder.old).climbers)
         → all_pending params.now (polls + 1) (tree.new).pending ≡ map (stepped_by params.now (blocks_in (tree.old).pending) votes) (all_pending params.now polls (tree.old).pending) }
-    ensures climbing { (votes : List Vote) → AreClimbing params.now votes (blocks_in (tree.old).pending) (length (tree.old).pending) (cursors_of (blocks_in (tree.old).pending) climbers.old.items)
-        → AreClimbing params.now votes (blocks_in (tree.old).pending) 0 (cursors_of (blocks_in (tree.old).pending) climbers.new.items) }
-    ensures placed { ArePlaced (blocks_in (tree.old).pending) climbers.new.items }
+    ensures climbing { (votes : List Vote) → AreClimbing params.now votes (blocks_in (tree.old).pending) (length (tree.old).pending) (cursors_of (blocks_in (tree.old).pending) (ladder.old).climbers)
+        → AreClimbing params.now votes (blocks_in (tree.old).pending) 0 (cursors_of (blocks_in (tree.old).pending) (ladder.new).climbers) }
+    ensures placed { ArePlaced (blocks_in (tree.old).pending) (ladder.new).climbers }
     ensures rest { tree.new ≡ record (tree.old) { pending = (tree.new).pending } }
     ensures blocks { blocks_in (tree.new).pending ≡ blocks_in (tree.old).pending }
     ensures fit { All (λ e. IsFit params.now (polls + 1) (children_of (blocks_in (tree.new).pending) e.block.id) e.load) (tree.new).pending }
     ensures places { children.old.room + length children.old.list ≤ children.new.room + length children.new.list }
-    ensures short { length climbers.new.items ≤ length climbers.old.items }
-    ensures room { vec_capacity climbers.new ≡ vec_capacity climbers.old }
+    ensures short { length (ladder.new).climbers ≤ length (ladder.old).climbers }
+    ensures low { 0 < (ladder.new).low }
+    ensures room { KeepsRoom ladder.old ladder.new }
     ensures steady { result ≡ false → all_leads R.answer (tree.new).pending ≡ all_leads R.answer (tree.old).pending }
-    ensures steps { (votes : List Vote) → AreClimbing params.now votes (blocks_in (tree.old).pending) (length (tree.old).pending) (cursors_of (blocks_in (tree.old).pending) climbers.old.items)
+    ensures steps { (votes : List Vote) → AreClimbing params.now votes (blocks_in (tree.old).pending) (length (tree.old).pending) (cursors_of (blocks_in (tree.old).pending) (ladder.old).climbers)
         → steps.new ≤ steps.old + 5 * recording_in params.now (blocks_in (tree.old).pending) votes (blocks_in (tree.old).pending) }
 {
     let _k = params.k();
     let _last = tree.last();
     let mut moved = false;
-    let mut top = top_of(climbers);
+    let mut top = lower(ladder.top(), tree.len());
     while top > 0 {
         let at = top - 1;
-        let one = visit(params, tree, at, polls, climbers, children, steps);
+        let one = visit(params, tree, at, polls, ladder, children, steps);
         moved = either(one, moved);
-        top = lower(top_of(climbers), at);
+        top = lower(ladder.top(), at);
     }
     moved
 }

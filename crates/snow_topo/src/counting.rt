@@ -1,4 +1,4 @@
-ghost use Rattle.std.specs.Prelude.{◌≡◌, ◌+◌, ◌*◌, ◌^◌, ◌<◌, ◌≤◌, nat_le, false, All, length, vec_capacity, if◌then◌else◌};
+ghost use Rattle.std.specs.Prelude.{◌≡◌, ◌+◌, ◌*◌, ◌^◌, ◌<◌, ◌≤◌, nat_le, false, All, length, if◌then◌else◌};
 ghost use Rattle.snow_base.specs.Votes.{total_count};
 ghost use Rattle.snow_plain.specs.Cursors.{votes_at};
 ghost use Rattle.snow_plain.specs.Poll.{counted};
@@ -8,12 +8,14 @@ ghost use Rattle.snow_topo.specs.Kept.{ids_in, IsFit};
 ghost use Rattle.snow_topo.specs.View.{view, AreFit};
 ghost use Rattle.snow_topo.specs.Climbing.{climber_total, cursors_of, HasCome};
 ghost use Rattle.snow_topo.specs.Half.{HasTaken};
+ghost use Rattle.snow_topo.specs.Ladder.{KeepsRoom, IsReady};
 ghost use Rattle.snow_topo.specs.Leading.{IsSteady};
 ghost use Rattle.snow_topo.specs.Recording.{recording};
 
 use crate::climber::Climber;
 use crate::climbing::{climb, either};
 use crate::gathering::gather;
+use crate::ladder::Ladder;
 use crate::load::Load;
 use crate::starting::start_all;
 use crate::visiting::has_quorum;
@@ -65,12 +67,13 @@ pub(crate) fn count<R: Rule, L: Ledger>(
     tree: &mut Tree<Load<R>>,
     polls: u64,
     votes: &[Vote],
-    climbers: &mut Vec<Climber>,
+    ladder: &mut Ladder,
     children: &mut Bag,
     steps: &mut Steps<L>,
 ) -> bool
     requires room { polls + 1 < 2 ^ 64 }
-    requires fits { length votes.now ≤ vec_capacity climbers.old }
+    requires fits { length votes.now ≤ (ladder.old).wide }
+    requires ready { IsReady (length (tree.old).pending) ladder.old }
     requires places { length votes.now ≤ children.old.room + length children.old.list }
     requires counts { All (λ v. 0 < v.count) votes.now }
     requires total { total_count votes.now ≤ params.now.k }
@@ -79,14 +82,16 @@ pub(crate) fn count<R: Rule, L: Ledger>(
     ensures fit { AreFit params.now (polls + 1) root.new tree.new }
     ensures blocks { blocks_in (tree.new).pending ≡ blocks_in (tree.old).pending }
     ensures places { children.old.room + length children.old.list ≤ children.new.room + length children.new.list }
-    ensures room { vec_capacity climbers.new ≡ vec_capacity climbers.old }
+    ensures low { (ladder.new).low ≡ 0 }
+    ensures room { KeepsRoom ladder.old ladder.new }
     ensures steady { result ≡ false → preferred R.answer (view params.now (polls + 1) root.new tree.new) ≡ preferred R.answer (view params.now polls root.old tree.old) }
     ensures steps { steps.new ≤ steps.old + 5 * recording params.now (tree.old).last (blocks_in (tree.old).pending) votes.now }
 {
     let _k = params.k();
     let _last = tree.last();
-    start_all(tree, climbers, votes);
-    let moved = climb(params, tree, polls, climbers, children, steps);
-    let first = record_root(params, root, tree, polls, climbers, children, steps);
+    start_all(tree, ladder, votes);
+    let moved = climb(params, tree, polls, ladder, children, steps);
+    ladder.take(0);
+    let first = record_root(params, root, tree, polls, ladder.came(), children, steps);
     either(first, moved)
 }

@@ -9,8 +9,8 @@ ghost use Rattle.snow_topo.specs.Costs.{most_steps};
 ghost use Rattle.snow_topo.specs.Standing.{AreKept};
 
 use crate::applying::apply;
-use crate::climber::Climber;
 use crate::issuing::issue;
+use crate::ladder::Ladder;
 use crate::leading::{is_preferred, is_top, kept_of, named, preference_after, preference_kept};
 use crate::load::Load;
 use crate::renewing::renew;
@@ -38,7 +38,7 @@ pub struct Topo<R: Rule> {
     preference: Id,
     decisions: Vec<Decision>,
     // Room for the votes of a poll, and for those that came to one block, by its children.
-    climbers: Vec<Climber>,
+    ladder: Ladder,
     children: Bag,
     alloc: Global,
 }
@@ -55,8 +55,8 @@ impl<R: Rule> Model for Topo<R> {
     ghost view = { λ a. shown_board a.params a.polls a.root a.tree a.decisions.items };
 
     ghost invariant = { λ a.
-        IsStanding R.answer a.params a.polls a.root a.tree a.preference
-        (vec_capacity a.decisions) (vec_capacity a.climbers) (a.children.room + length a.children.list) };
+        IsStanding R.answer a.params a.polls a.root a.tree a.preference a.ladder
+        (vec_capacity a.decisions) (a.children.room + length a.children.list) };
 }
 
 // A poll whose steps nobody counts.
@@ -88,7 +88,7 @@ impl<R: Rule> Topo<R> {
             &mut self.root,
             &mut self.tree,
             votes.entries(),
-            &mut self.climbers,
+            &mut self.ladder,
             &mut self.children,
             &mut self.decisions,
             steps,
@@ -125,7 +125,7 @@ impl<R: Rule> Board for Topo<R> {
 
     fn begin(alloc: Global, params: Params, last: Id, height: u64) -> Result<Self, AllocError> {
         let votes = params.k() as usize;
-        let climbers = Vec::with_capacity(alloc, votes)?;
+        let ladder = Ladder::new(alloc, votes)?;
         let mut children = Bag::new(alloc);
         children.reserve(votes)?;
         Ok(Topo {
@@ -135,7 +135,7 @@ impl<R: Rule> Board for Topo<R> {
             tree: Tree::new(alloc, last, height),
             preference: last,
             decisions: Vec::new(alloc),
-            climbers,
+            ladder,
             children,
             alloc,
         })
@@ -144,7 +144,9 @@ impl<R: Rule> Board for Topo<R> {
     fn issue(&mut self, id: Id, parent: Id, height: u64) -> Result<(), AllocError> {
         named(&id);
         let _last = self.tree.last();
-        self.decisions.reserve(self.tree.len() + 1)?;
+        let pending = self.tree.len() + 1;
+        self.decisions.reserve(pending)?;
+        self.ladder.make_room(pending)?;
         let child = Header { id, parent, height };
         let on_top = is_top(
             &self.params,

@@ -1,19 +1,20 @@
-ghost use Rattle.std.specs.Prelude.{◌≡◌, ◌+◌, ◌*◌, ◌^◌, ◌<◌, ◌≤◌, nat_le, nat_lt, [], ◌∷◌, List, All, Contains, Some, IfSome, IsPermutation, length, take, drop, slice_get, vec_capacity, if◌then◌else◌};
+ghost use Rattle.std.specs.Prelude.{◌≡◌, ◌+◌, ◌*◌, ◌^◌, ◌<◌, ◌≤◌, nat_le, nat_lt, [], ◌∷◌, List, All, Contains, IfSome, IsPermutation, length, slice_get, if◌then◌else◌};
 ghost use Rattle.snow_base.specs.Votes.{IsInBitOrder, total_count};
 ghost use Rattle.snow_base.specs.declared.vote.Vote.{Vote};
 ghost use Rattle.snow_flake.specs.Parameters.{AreGood};
 ghost use Rattle.snow_plain.specs.Cursors.{votes_at};
 ghost use Rattle.snow_tree.specs.Held.{blocks_in, children_of, with_load};
 ghost use Rattle.snow_topo.specs.Kept.{Kept, ids_in, IsFit};
-ghost use Rattle.snow_topo.specs.Climbing.{climber_total, cursors_of, passing, merged, ArePlaced, AreRising, HasCome};
+ghost use Rattle.snow_topo.specs.Climbing.{climber_total, cursors_of, parent_in, passing, reach, merged, ArePlaced, HasCome};
 ghost use Rattle.snow_topo.specs.Half.{AreClimbing, IsRecorded, HasTaken};
+ghost use Rattle.snow_topo.specs.Ladder.{KeepsRoom};
 ghost use Rattle.snow_topo.specs.Leading.{IsSteady};
 
 use crate::climber::{Climber, go_on};
 use crate::gathering::{gather, total};
+use crate::ladder::Ladder;
 use crate::load::Load;
-use crate::rising::first_above;
-use snow_base::{Bag, Header, Steps, Vote};
+use snow_base::{Bag, Steps, Vote};
 use snow_flake::{Params, Rule};
 use snow_tree::Tree;
 use std::sync::ledger::Ledger;
@@ -81,27 +82,21 @@ fn record_quorum<R: Rule, L: Ledger>(
     }
 }
 
-// The votes that came to the block at a place go on to its parent together: those from there on.
-fn pass<R: Rule>(
-    tree: &Tree<Load<R>>,
-    at: usize,
-    block: &Header,
-    climbers: &mut Vec<Climber>,
-    from: usize,
-)
-    requires within { from ≤ length climbers.old.items }
-    requires rising { AreRising climbers.old.items }
-    requires total { climber_total (drop from climbers.old.items) < 2 ^ 32 }
-    requires block { slice_get (blocks_in (tree.now).pending) at ≡ Some block.now }
-    ensures rising { AreRising climbers.new.items }
-    ensures same { let n = climber_total (drop from climbers.old.items) in
-        IsPermutation (if nat_lt 0 n then passing (blocks_in (tree.now).pending) at n ∷ take from climbers.old.items else take from climbers.old.items) climbers.new.items }
-    ensures room { vec_capacity climbers.new ≡ vec_capacity climbers.old }
+// The votes that came to the block at a place go on to its parent together.
+fn pass<R: Rule>(tree: &Tree<Load<R>>, at: usize, ladder: &mut Ladder)
+    requires room { (ladder.old).put < (ladder.old).most }
+    requires within { at < length (tree.now).pending }
+    requires below { reach (blocks_in (tree.now).pending) (parent_in (slice_get (blocks_in (tree.now).pending) at)) < (ladder.old).low }
+    requires total { climber_total (ladder.old).came < 2 ^ 32 }
+    ensures same { let n = climber_total (ladder.old).came in
+        IsPermutation (if nat_lt 0 n then passing (blocks_in (tree.now).pending) at n ∷ (ladder.old).climbers else (ladder.old).climbers) (ladder.new).climbers }
+    ensures put { (ladder.new).put ≤ (ladder.old).put + 1 }
+    ensures low { (ladder.new).low ≡ (ladder.old).low }
+    ensures room { KeepsRoom ladder.old ladder.new }
 {
-    let count = total(&climbers.as_slice()[from..]);
-    climbers.truncate(from);
+    let count = total(ladder.came());
     if count > 0 {
-        go_on(tree, climbers, at, &block.parent, count);
+        go_on(tree, ladder, at, count);
     }
 }
 
@@ -113,34 +108,35 @@ pub(crate) fn visit<R: Rule, L: Ledger>(
     tree: &mut Tree<Load<R>>,
     at: usize,
     polls: u64,
-    climbers: &mut Vec<Climber>,
+    ladder: &mut Ladder,
     children: &mut Bag,
     steps: &mut Steps<L>,
 ) -> bool
     requires room { polls + 1 < 2 ^ 64 }
-    requires places { length climbers.old.items ≤ children.old.room + length children.old.list }
-    requires climbing { (votes : List Vote) × AreClimbing params.now votes (blocks_in (tree.old).pending) (at + 1) (cursors_of (blocks_in (tree.old).pending) climbers.old.items) }
-    requires placed { ArePlaced (blocks_in (tree.old).pending) climbers.old.items }
-    requires rising { AreRising climbers.old.items }
+    requires places { length (ladder.old).climbers ≤ children.old.room + length children.old.list }
+    requires put { (ladder.old).put < (ladder.old).most }
+    requires wide { length (ladder.old).climbers ≤ (ladder.old).wide }
+    requires below { at + 1 < (ladder.old).low }
+    requires climbing { (votes : List Vote) × AreClimbing params.now votes (blocks_in (tree.old).pending) (at + 1) (cursors_of (blocks_in (tree.old).pending) (ladder.old).climbers) }
+    requires placed { ArePlaced (blocks_in (tree.old).pending) (ladder.old).climbers }
     requires fit { IfSome (slice_get (tree.old).pending at) (λ e. IsFit params.now polls (children_of (blocks_in (tree.old).pending) e.block.id) e.load) }
-    ensures taken { IfSome (slice_get (tree.old).pending at) (λ e. (load : Kept) × (tree.new ≡ with_load tree.old at load) × HasTaken params.now polls (votes_at (cursors_of (blocks_in (tree.old).pending) climbers.old.items) e.block.id) e.load load × IsSteady R.answer result e.load load) }
-    ensures steps { IfSome (slice_get (tree.old).pending at) (λ e. steps.new ≤ steps.old + 5 * (if nat_le params.now.alpha_preference (votes_at (cursors_of (blocks_in (tree.old).pending) climbers.old.items) e.block.id []) then length (ids_in e.load.contest) else 0)) }
-    ensures merged { IfSome (slice_get (tree.old).pending at) (λ e. IsPermutation (merged e.block (cursors_of (blocks_in (tree.old).pending) climbers.old.items)) (cursors_of (blocks_in (tree.old).pending) climbers.new.items)) }
-    ensures placed { ArePlaced (blocks_in (tree.old).pending) climbers.new.items }
-    ensures rising { AreRising climbers.new.items }
+    ensures taken { IfSome (slice_get (tree.old).pending at) (λ e. (load : Kept) × (tree.new ≡ with_load tree.old at load) × HasTaken params.now polls (votes_at (cursors_of (blocks_in (tree.old).pending) (ladder.old).climbers) e.block.id) e.load load × IsSteady R.answer result e.load load) }
+    ensures steps { IfSome (slice_get (tree.old).pending at) (λ e. steps.new ≤ steps.old + 5 * (if nat_le params.now.alpha_preference (votes_at (cursors_of (blocks_in (tree.old).pending) (ladder.old).climbers) e.block.id []) then length (ids_in e.load.contest) else 0)) }
+    ensures merged { IfSome (slice_get (tree.old).pending at) (λ e. IsPermutation (merged e.block (cursors_of (blocks_in (tree.old).pending) (ladder.old).climbers)) (cursors_of (blocks_in (tree.old).pending) (ladder.new).climbers)) }
+    ensures placed { ArePlaced (blocks_in (tree.old).pending) (ladder.new).climbers }
     ensures places { children.old.room + length children.old.list ≤ children.new.room + length children.new.list }
-    ensures room { vec_capacity climbers.new ≡ vec_capacity climbers.old }
+    ensures put { (ladder.new).put ≤ (ladder.old).put + 1 }
+    ensures low { at < (ladder.new).low }
+    ensures room { KeepsRoom ladder.old ladder.new }
 {
     let _k = params.k();
     let _last = tree.last();
-    match tree.block(at) {
-        Some(block) => {
-            let from = first_above(climbers, at);
-            let (_, came) = climbers.as_slice().split_at(from);
-            let moved = record_quorum(params, tree, at, polls, came, children, steps);
-            pass(tree, at, &block, climbers, from);
-            moved
-        }
-        None => false,
+    let _low = ladder.low();
+    if at >= tree.len() {
+        return false;
     }
+    ladder.take(at + 1);
+    let moved = record_quorum(params, tree, at, polls, ladder.came(), children, steps);
+    pass(tree, at, ladder);
+    moved
 }

@@ -8,7 +8,6 @@ use Rattle.snow_base.specs.Ancestry.{line_in, child_on}
 use Rattle.snow_plain.specs.Grown.{has_block, IsGrown}
 use Rattle.snow_plain.proofs.Cases.{split_on, same_id, differs_back}
 use Rattle.snow_plain.proofs.Grown.{no_line, has_block-reverse}
-use Rattle.snow_tree.specs.declared.key.Key.{Key}
 use Rattle.snow_tree.specs.declared.node.Node.{Node}
 use Rattle.snow_tree.specs.Nodes.{block_of, blocks_of}
 use Rattle.snow_tree.proofs.Descending.{line_at, parent_before}
@@ -36,22 +35,22 @@ height_of (Some i) = i + 1
 
 module _ {T : Type 0} where
   -- the block at the place of an identifier has it
-  pub sought_is : (nodes : List (Key × Node T)) (id : List ℕ)
-      → sought_at (blocks_of nodes) (position (λ e. bytes_eq e.0.id id) nodes) ≡ (if has_block (blocks_of nodes) id then Some id else None)
+  pub sought_is : (nodes : List (List ℕ × Node T)) (id : List ℕ)
+      → sought_at (blocks_of nodes) (position (λ e. bytes_eq e.0 id) nodes) ≡ (if has_block (blocks_of nodes) id then Some id else None)
   sought_is [] id = refl
   sought_is (e ∷ nodes) id =
-      rw (position_cons (λ e. bytes_eq e.0.id id) e nodes)
-      (split_on (bytes_eq e.0.id id)
-      (λ t. rw t (ap Some (same_id e.0.id id t)))
-      (λ t. rw t (later (position (λ e. bytes_eq e.0.id id) nodes) ∙ sought_is nodes id)))
+      rw (position_cons (λ e. bytes_eq e.0 id) e nodes)
+      (split_on (bytes_eq e.0 id)
+      (λ t. rw t (ap Some (same_id e.0 id t)))
+      (λ t. rw t (later (position (λ e. bytes_eq e.0 id) nodes) ∙ sought_is nodes id)))
     where
       later : (o : Option ℕ) → sought_at (block_of e ∷ blocks_of nodes) (option_map suc o) ≡ sought_at (blocks_of nodes) o
       later None = refl
       later (Some i) = refl
 
   -- a walk that goes on at the block of an identifier
-  pub climbed_at : (last : List ℕ) (nodes : List (Key × Node T)) (id : List ℕ)
-      → child_from (blocks_of nodes) last (sought_at (blocks_of nodes) (position (λ e. bytes_eq e.0.id id) nodes)) ≡ child_on (blocks_of nodes) last id
+  pub climbed_at : (last : List ℕ) (nodes : List (List ℕ × Node T)) (id : List ℕ)
+      → child_from (blocks_of nodes) last (sought_at (blocks_of nodes) (position (λ e. bytes_eq e.0 id) nodes)) ≡ child_on (blocks_of nodes) last id
   climbed_at last nodes id =
       ap (child_from (blocks_of nodes) last) (sought_is nodes id)
       ∙ split_on (has_block (blocks_of nodes) id)
@@ -59,17 +58,17 @@ module _ {T : Type 0} where
       (λ t. rw t (sym (ap (find (λ b. bytes_eq b.parent last)) (no_line (reverse (blocks_of nodes)) id (has_block-reverse (blocks_of nodes) id ∙ t)))))
 
   -- the place of what stands before a place is lower
-  pub placed_before : (nodes : List (Key × Node T)) (id : List ℕ) (i : ℕ) → has_block (blocks_of (take i nodes)) id ≡ true
-      → height_of (position (λ e. bytes_eq e.0.id id) nodes) ≤ i
+  pub placed_before : (nodes : List (List ℕ × Node T)) (id : List ℕ) (i : ℕ) → has_block (blocks_of (take i nodes)) id ≡ true
+      → height_of (position (λ e. bytes_eq e.0 id) nodes) ≤ i
   placed_before nodes id zero h = absurd cc
   placed_before [] id (suc i) h = absurd cc
   placed_before (e ∷ nodes) id (suc i) h =
-      rw (position_cons (λ e. bytes_eq e.0.id id) e nodes)
-      (split_on (bytes_eq e.0.id id)
+      rw (position_cons (λ e. bytes_eq e.0 id) e nodes)
+      (split_on (bytes_eq e.0 id)
       (λ t. rw t (omega arith))
       (λ t. let k = rw t at h in
       let rest = placed_before nodes id i k in
-      rw t (omega (arith, higher (position (λ e. bytes_eq e.0.id id) nodes)))))
+      rw t (omega (arith, higher (position (λ e. bytes_eq e.0 id) nodes)))))
     where
       higher : (o : Option ℕ) → height_of (option_map suc o) ≤ height_of o + 1
       higher None = omega arith
@@ -87,14 +86,14 @@ child_step last bs i b g at =
 
 module _ {T : Type 0} where
   -- nowhere where the walk came to no block
-  pub climbed_none : (last id : List ℕ) (nodes : List (Key × Node T)) (place : Option ℕ) (at : ℕ) → IsClimbed (blocks_of nodes) last id place → place ≡ Some at
+  pub climbed_none : (last id : List ℕ) (nodes : List (List ℕ × Node T)) (place : Option ℕ) (at : ℕ) → IsClimbed (blocks_of nodes) last id place → place ≡ Some at
       → option_map block_of (slice_get nodes at) ≡ None → child_on (blocks_of nodes) last id ≡ None
   climbed_none last id nodes place at climbed is none =
       sym climbed ∙ ap (λ o. child_from (blocks_of nodes) last (sought_at (blocks_of nodes) o)) is
       ∙ ap (λ o. child_from (blocks_of nodes) last (option_map (λ b. b.id) o)) (slice_get-map block_of nodes at ∙ none)
 
   -- where it came to a block, that block's line has the child
-  pub climbed_some : (last id : List ℕ) (nodes : List (Key × Node T)) (place : Option ℕ) (at : ℕ) (b : Header) → IsClimbed (blocks_of nodes) last id place → place ≡ Some at
+  pub climbed_some : (last id : List ℕ) (nodes : List (List ℕ × Node T)) (place : Option ℕ) (at : ℕ) (b : Header) → IsClimbed (blocks_of nodes) last id place → place ≡ Some at
       → option_map block_of (slice_get nodes at) ≡ Some b → child_on (blocks_of nodes) last b.id ≡ child_on (blocks_of nodes) last id
   climbed_some last id nodes place at b climbed is there =
       sym (ap (λ o. child_from (blocks_of nodes) last (sought_at (blocks_of nodes) o)) is
@@ -102,15 +101,15 @@ module _ {T : Type 0} where
       ∙ climbed
 
   -- the child on the line of the block there is that block or on its parent's line
-  pub step_at : (last : List ℕ) (nodes : List (Key × Node T)) (at : ℕ) (b : Header) → IsGrown last (reverse (blocks_of nodes))
+  pub step_at : (last : List ℕ) (nodes : List (List ℕ × Node T)) (at : ℕ) (b : Header) → IsGrown last (reverse (blocks_of nodes))
       → option_map block_of (slice_get nodes at) ≡ Some b
       → child_on (blocks_of nodes) last b.id ≡ (if bytes_eq b.parent last then Some b else child_on (blocks_of nodes) last b.parent)
   step_at last nodes at b g there = child_step last (blocks_of nodes) at b g (slice_get-map block_of nodes at ∙ there)
 
   -- and the parent's place is lower
-  pub lower_place : (last : List ℕ) (nodes : List (Key × Node T)) (at : ℕ) (b : Header) → IsGrown last (reverse (blocks_of nodes))
+  pub lower_place : (last : List ℕ) (nodes : List (List ℕ × Node T)) (at : ℕ) (b : Header) → IsGrown last (reverse (blocks_of nodes))
       → option_map block_of (slice_get nodes at) ≡ Some b → bytes_eq b.parent last ≡ false
-      → height_of (position (λ e. bytes_eq e.0.id b.parent) nodes) < at + 1
+      → height_of (position (λ e. bytes_eq e.0 b.parent) nodes) < at + 1
   lower_place last nodes at b g there other =
       let bs = blocks_of nodes in
       let seen : slice_get bs at ≡ Some b = slice_get-map block_of nodes at ∙ there in

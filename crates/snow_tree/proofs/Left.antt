@@ -15,13 +15,11 @@ use Rattle.snow_plain.specs.Grown.{has_block, IsGrown}
 use Rattle.snow_plain.proofs.Cases.{split_on, clash, same_id, id_same, differs_back}
 use Rattle.snow_plain.proofs.Grown.{grown_parent, grown_rest, has_block-reverse}
 use Rattle.snow_plain.proofs.Kept.{filter-reverse, grown_kept, has_own}
-use Rattle.snow_tree.specs.declared.key.Key.{Key}
 use Rattle.snow_tree.specs.declared.node.Node.{Node}
 use Rattle.snow_tree.specs.Held.{children_of, stays_with, blocks_in}
 use Rattle.snow_tree.specs.Nodes.{block_of, blocks_of, entry_of, judged, stays_by_note, left, outsiders, IsKept}
 use Rattle.snow_tree.proofs.Descending.{line_at, descends_at, last_descends, parent_before}
 use Rattle.snow_tree.proofs.Listed.{filter_kept}
-use Rattle.snow_tree.specs.Row.{key_eq}
 use Rattle.snow_tree.proofs.Linked.{apart_off, not_found}
 
 -- ---- the child itself
@@ -41,55 +39,55 @@ own bs child h = own_line (reverse bs) child (has_block-reverse bs child ∙ h)
 
 module _ {T : Type 0} where
   -- the nodes that stay are those of which nothing was noted before
-  pub swept : (blocks : List Header) (child : List ℕ) (nodes : List (Key × Node T)) → All (λ e. e.1.is_rejected ≡ false) nodes
+  pub swept : (blocks : List Header) (child : List ℕ) (nodes : List (List ℕ × Node T)) → All (λ e. e.1.is_rejected ≡ false) nodes
       → filter (stays_by_note child) (map (judged blocks child) nodes)
-      ≡ filter (λ e. descends blocks child e.0.id && not (bytes_eq e.0.id child)) nodes
+      ≡ filter (λ e. descends blocks child e.0 && not (bytes_eq e.0 child)) nodes
   swept blocks child [] clear = refl
   swept blocks child (e ∷ nodes) clear =
       let rest = swept blocks child nodes (All-tail (λ e. e.1.is_rejected ≡ false) e nodes clear) in
       let was : e.1.is_rejected ≡ false = All-head (λ e. e.1.is_rejected ≡ false) e nodes clear in
-      split_on (descends blocks child e.0.id)
-      (λ t. rw t (split_on (bytes_eq e.0.id child)
+      split_on (descends blocks child e.0)
+      (λ t. rw t (split_on (bytes_eq e.0 child)
       (λ s. rw s rest)
       (λ s. rw s (λ i. (e.0, record e.1 { is_rejected = sym was i }) ∷ rest i))))
       (λ t. rw t rest)
 
   -- the child is found as it was
-  pub found_judged : (blocks : List Header) (child : List ℕ) (nodes : List (Key × Node T)) → All (λ e. e.1.is_rejected ≡ false) nodes → descends blocks child child ≡ true
-      → lookup (λ k. bytes_eq child k.id) (map (judged blocks child) nodes) ≡ lookup (λ k. bytes_eq child k.id) nodes
+  pub found_judged : (blocks : List Header) (child : List ℕ) (nodes : List (List ℕ × Node T)) → All (λ e. e.1.is_rejected ≡ false) nodes → descends blocks child child ≡ true
+      → lookup (bytes_eq child) (map (judged blocks child) nodes) ≡ lookup (bytes_eq child) nodes
   found_judged blocks child [] clear under = refl
   found_judged blocks child (e ∷ nodes) clear under =
       let was : e.1.is_rejected ≡ false = All-head (λ e. e.1.is_rejected ≡ false) e nodes clear in
-      split_on (bytes_eq child e.0.id)
+      split_on (bytes_eq child e.0)
       (λ t.
-      let stays : not (descends blocks child e.0.id) ≡ false = ap (λ q. not (descends blocks child q)) (sym (same_id child e.0.id t)) ∙ ap not under in
+      let stays : not (descends blocks child e.0) ≡ false = ap (λ q. not (descends blocks child q)) (sym (same_id child e.0 t)) ∙ ap not under in
       rw t (λ i. Some (record e.1 { is_rejected = (stays ∙ sym was) i })))
       (λ t. rw t (found_judged blocks child nodes (All-tail (λ e. e.1.is_rejected ≡ false) e nodes clear) under))
 
   -- ---- the only child
 
   -- where all have the child above them, only it leaves
-  only_leaves : (blocks : List Header) (child : List ℕ) (nodes : List (Key × Node T)) → IsDistinct key_eq (keys_of nodes)
-      → All (λ e. descends blocks child e.0.id ≡ true) nodes
-      → remove_entry (λ k. bytes_eq child k.id) nodes ≡ filter (λ e. descends blocks child e.0.id && not (bytes_eq e.0.id child)) nodes
+  only_leaves : (blocks : List Header) (child : List ℕ) (nodes : List (List ℕ × Node T)) → IsDistinct bytes_eq (keys_of nodes)
+      → All (λ e. descends blocks child e.0 ≡ true) nodes
+      → remove_entry (bytes_eq child) nodes ≡ filter (λ e. descends blocks child e.0 && not (bytes_eq e.0 child)) nodes
   unfolding IsDistinct
   only_leaves blocks child [] unique all = refl
   only_leaves blocks child (e ∷ nodes) unique all =
-      let rest : All (λ e. descends blocks child e.0.id ≡ true) nodes = All-tail (λ e. descends blocks child e.0.id ≡ true) e nodes all in
-      let under : descends blocks child e.0.id ≡ true = All-head (λ e. descends blocks child e.0.id ≡ true) e nodes all in
-      split_on (bytes_eq child e.0.id)
+      let rest : All (λ e. descends blocks child e.0 ≡ true) nodes = All-tail (λ e. descends blocks child e.0 ≡ true) e nodes all in
+      let under : descends blocks child e.0 ≡ true = All-head (λ e. descends blocks child e.0 ≡ true) e nodes all in
+      split_on (bytes_eq child e.0)
       (λ t.
-      let is : e.0.id ≡ child = sym (same_id child e.0.id t) in
-      rw (t, under, id_same e.0.id child is) (sym (none_leaves nodes (ap (has_block (blocks_of nodes)) (sym is) ∙ apart_off nodes e.0 unique.0) rest)))
-      (λ t. rw (t, under, differs_back e.0.id child t) (ap (λ l. e ∷ l) (only_leaves blocks child nodes unique.1 rest)))
+      let is : e.0 ≡ child = sym (same_id child e.0 t) in
+      rw (t, under, id_same e.0 child is) (sym (none_leaves nodes (ap (has_block (blocks_of nodes)) (sym is) ∙ apart_off nodes e.0 unique.0) rest)))
+      (λ t. rw (t, under, differs_back e.0 child t) (ap (λ l. e ∷ l) (only_leaves blocks child nodes unique.1 rest)))
     where
-      none_leaves : (xs : List (Key × Node T)) → has_block (blocks_of xs) child ≡ false → All (λ e. descends blocks child e.0.id ≡ true) xs
-          → filter (λ e. descends blocks child e.0.id && not (bytes_eq e.0.id child)) xs ≡ xs
+      none_leaves : (xs : List (List ℕ × Node T)) → has_block (blocks_of xs) child ≡ false → All (λ e. descends blocks child e.0 ≡ true) xs
+          → filter (λ e. descends blocks child e.0 && not (bytes_eq e.0 child)) xs ≡ xs
       none_leaves [] off all = refl
       none_leaves (x ∷ xs) off all =
-          let parts = or_parts (bytes_eq x.0.id child) (has_block (blocks_of xs) child) off in
-          rw (All-head (λ e. descends blocks child e.0.id ≡ true) x xs all, parts.0)
-          (ap (λ l. x ∷ l) (none_leaves xs parts.1 (All-tail (λ e. descends blocks child e.0.id ≡ true) x xs all)))
+          let parts = or_parts (bytes_eq x.0 child) (has_block (blocks_of xs) child) off in
+          rw (All-head (λ e. descends blocks child e.0 ≡ true) x xs all, parts.0)
+          (ap (λ l. x ∷ l) (none_leaves xs parts.1 (All-tail (λ e. descends blocks child e.0 ≡ true) x xs all)))
 
 -- ---- all descend from an only child
 
@@ -167,25 +165,25 @@ children_stay last child q bs g parent under =
 
 module _ {T : Type 0} where
   -- the blocks of the nodes that stay
-  blocks-filter : (f : List ℕ → Bool) (nodes : List (Key × Node T)) → blocks_of (filter (λ e. f e.0.id) nodes) ≡ filter (λ b. f b.id) (blocks_of nodes)
+  blocks-filter : (f : List ℕ → Bool) (nodes : List (List ℕ × Node T)) → blocks_of (filter (λ e. f e.0) nodes) ≡ filter (λ b. f b.id) (blocks_of nodes)
   blocks-filter f [] = refl
   blocks-filter f (e ∷ nodes) =
-      split_on (f e.0.id)
+      split_on (f e.0)
       (λ t. rw t (ap (λ l. block_of e ∷ l) (blocks-filter f nodes)))
       (λ t. rw t (blocks-filter f nodes))
 
   -- what is kept stays true when a child is accepted
-  pub kept_accepted : (last child : List ℕ) (children : List (List ℕ)) (nodes : List (Key × Node T)) (room : ℕ) (n : Node T)
-      → IsKept last children nodes room → lookup (λ k. bytes_eq child k.id) nodes ≡ Some n → n.parent ≡ last
+  pub kept_accepted : (last child : List ℕ) (children : List (List ℕ)) (nodes : List (List ℕ × Node T)) (room : ℕ) (n : Node T)
+      → IsKept last children nodes room → lookup (bytes_eq child) nodes ≡ Some n → n.parent ≡ last
       → IsKept child n.children (left nodes child) room
   kept_accepted last child children nodes room n kept found parent =
       let bs = blocks_of nodes in
       let keep : List ℕ → Bool = λ id. descends bs child id && not (bytes_eq id child) in
       let same : blocks_of (left nodes child) ≡ filter (λ b. keep b.id) bs = blocks-filter keep nodes in
-      let at = place_from_lookup (λ k. bytes_eq child k.id) nodes n found in
+      let at = place_from_lookup (bytes_eq child) nodes n found in
       let inside : at.0 < length nodes = slice_get_within nodes at.0 (at.1, n) at.2 in
       let here : get_or nodes at.0 (at.1, n) ≡ (at.1, n) = get_or_from_slice_get nodes at.0 (at.1, n) (at.1, n) at.2 in
-      let is : at.1.id ≡ child = sym (same_id child at.1.id at.3) in
+      let is : at.1 ≡ child = sym (same_id child at.1 at.3) in
       let block : get_or bs at.0 (block_of (at.1, n)) ≡ block_of (at.1, n) = get_or-map block_of nodes at.0 (at.1, n) (block_of (at.1, n)) inside ∙ ap block_of here in
       let within : at.0 < length bs = subst (λ m. at.0 < m) (sym (length-map nodes block_of)) inside in
       let on : All (λ b. bytes_eq b.id child ≡ true → b.parent ≡ last) bs =
@@ -200,83 +198,83 @@ module _ {T : Type 0} where
       let stay : (q : List ℕ) → descends bs child q ≡ true → children_of (blocks_of (left nodes child)) q ≡ children_of bs q =
       λ q under. ap (λ l. children_of l q) same ∙ children_stay last child q bs kept.grown on under
       in
-      let below : All (λ e. e.1.children ≡ children_of bs e.0.id) (left nodes child) = All-filter (λ e. keep e.0.id) (λ e. e.1.children ≡ children_of bs e.0.id) nodes kept.below in
-      let passes : All (λ e. keep e.0.id ≡ true) (left nodes child) = filter_passes (λ e. keep e.0.id) nodes in
+      let below : All (λ e. e.1.children ≡ children_of bs e.0) (left nodes child) = All-filter (λ e. keep e.0) (λ e. e.1.children ≡ children_of bs e.0) nodes kept.below in
+      let passes : All (λ e. keep e.0 ≡ true) (left nodes child) = filter_passes (λ e. keep e.0) nodes in
       record {
         grown = subst (IsGrown child) (filter-reverse (λ b. keep b.id) bs ∙ ap reverse (sym same)) (grown_kept last child (reverse bs) kept.grown);
-        children = ap (λ (e : Key × Node T). e.1.children) (sym here) ∙ kept.below at.0 (at.1, n) inside ∙ ap (λ (e : Key × Node T). children_of bs e.0.id) here
+        children = ap (λ (e : List ℕ × Node T). e.1.children) (sym here) ∙ kept.below at.0 (at.1, n) inside ∙ ap (λ (e : List ℕ × Node T). children_of bs e.0) here
             ∙ ap (children_of bs) is ∙ sym (stay child (own bs child there));
         below = λ i d h.
-            let id = (get_or (left nodes child) i d).0.id in
+            let id = (get_or (left nodes child) i d).0 in
             below i d h ∙ sym (stay id (and_parts (descends bs child id) (not (bytes_eq id child)) (passes i d h)).0);
-        clear = All-filter (λ e. keep e.0.id) (λ e. e.1.is_rejected ≡ false) nodes kept.clear;
-        room = omega (arith, length-filter (λ (e : Key × Node T). keep e.0.id) nodes, count_by-le-length (λ (e : Key × Node T). keep e.0.id) nodes, kept.room);
+        clear = All-filter (λ e. keep e.0) (λ e. e.1.is_rejected ≡ false) nodes kept.clear;
+        room = omega (arith, length-filter (λ (e : List ℕ × Node T). keep e.0) nodes, count_by-le-length (λ (e : List ℕ × Node T). keep e.0) nodes, kept.room);
       }
 
   -- ---- what is seen
 
   -- the pending blocks are those of the nodes
-  pub same_blocks : (nodes : List (Key × Node T)) → blocks_in (map entry_of nodes) ≡ blocks_of nodes
+  pub same_blocks : (nodes : List (List ℕ × Node T)) → blocks_in (map entry_of nodes) ≡ blocks_of nodes
   same_blocks [] = refl
   same_blocks (e ∷ nodes) = ap (λ l. block_of e ∷ l) (same_blocks nodes)
 
   -- a filter of what is seen
-  seen_filter : (f : List ℕ → Bool) (nodes : List (Key × Node T)) → map entry_of (filter (λ e. f e.0.id) nodes) ≡ filter (λ e. f e.block.id) (map entry_of nodes)
+  seen_filter : (f : List ℕ → Bool) (nodes : List (List ℕ × Node T)) → map entry_of (filter (λ e. f e.0) nodes) ≡ filter (λ e. f e.block.id) (map entry_of nodes)
   seen_filter f [] = refl
   seen_filter f (e ∷ nodes) =
-      split_on (f e.0.id)
+      split_on (f e.0)
       (λ t. rw t (ap (λ l. entry_of e ∷ l) (seen_filter f nodes)))
       (λ t. rw t (seen_filter f nodes))
 
   -- the pending blocks that stay
-  pub left_seen : (nodes : List (Key × Node T)) (child : List ℕ)
+  pub left_seen : (nodes : List (List ℕ × Node T)) (child : List ℕ)
       → map entry_of (left nodes child) ≡ filter (λ e. stays_with (map entry_of nodes) child e && not (bytes_eq e.block.id child)) (map entry_of nodes)
   left_seen nodes child =
       seen_filter (λ id. descends (blocks_of nodes) child id && not (bytes_eq id child)) nodes
       ∙ ap (λ l. filter (λ e. descends l child e.block.id && not (bytes_eq e.block.id child)) (map entry_of nodes)) (sym (same_blocks nodes))
 
   -- the blocks that are rejected
-  pub outsiders_seen : (nodes : List (Key × Node T)) (child : List ℕ)
+  pub outsiders_seen : (nodes : List (List ℕ × Node T)) (child : List ℕ)
       → outsiders nodes child ≡ map (λ e. e.block.id) (filter (λ e. not (stays_with (map entry_of nodes) child e)) (map entry_of nodes))
   outsiders_seen nodes child =
-      ids (filter (λ e. not (descends (blocks_of nodes) child e.0.id)) nodes)
+      ids (filter (λ e. not (descends (blocks_of nodes) child e.0)) nodes)
       ∙ ap (map (λ e. e.block.id)) (seen_filter (λ id. not (descends (blocks_of nodes) child id)) nodes)
       ∙ ap (λ l. map (λ e. e.block.id) (filter (λ e. not (descends l child e.block.id)) (map entry_of nodes))) (sym (same_blocks nodes))
     where
-      ids : (xs : List (Key × Node T)) → map (λ e. e.0.id) xs ≡ map (λ e. e.block.id) (map entry_of xs)
+      ids : (xs : List (List ℕ × Node T)) → map (λ e. e.0) xs ≡ map (λ e. e.block.id) (map entry_of xs)
       ids [] = refl
-      ids (x ∷ xs) = ap (λ l. x.0.id ∷ l) (ids xs)
+      ids (x ∷ xs) = ap (λ l. x.0 ∷ l) (ids xs)
 
   -- the entry of an identifier
-  pub found_seen : (nodes : List (Key × Node T)) (child : List ℕ) (n : Node T) → lookup (λ k. bytes_eq child k.id) nodes ≡ Some n
-      → find (λ e. bytes_eq e.block.id child) (map entry_of nodes) ≡ Some (entry_of (record { id = child }, n))
+  pub found_seen : (nodes : List (List ℕ × Node T)) (child : List ℕ) (n : Node T) → lookup (bytes_eq child) nodes ≡ Some n
+      → find (λ e. bytes_eq e.block.id child) (map entry_of nodes) ≡ Some (entry_of (child, n))
   found_seen [] child n h = absurd (none-some n h)
   found_seen (e ∷ nodes) child n h =
-      split_on (bytes_eq child e.0.id)
+      split_on (bytes_eq child e.0)
       (λ t.
-      let is : e.0.id ≡ child = sym (same_id child e.0.id t) in
+      let is : e.0 ≡ child = sym (same_id child e.0 t) in
       let same : Some e.1 ≡ Some n = rw t at h in
-      rw (id_same e.0.id child is) (cc))
-      (λ t. let k = rw t at h in rw (differs_back e.0.id child t) (found_seen nodes child n k))
+      rw (id_same e.0 child is) (cc))
+      (λ t. let k = rw t at h in rw (differs_back e.0 child t) (found_seen nodes child n k))
 
   -- no entry has an identifier that isn't found
-  pub none_seen : (nodes : List (Key × Node T)) (child : List ℕ) → lookup (λ k. bytes_eq child k.id) nodes ≡ None → find (λ e. bytes_eq e.block.id child) (map entry_of nodes) ≡ None
+  pub none_seen : (nodes : List (List ℕ × Node T)) (child : List ℕ) → lookup (bytes_eq child) nodes ≡ None → find (λ e. bytes_eq e.block.id child) (map entry_of nodes) ≡ None
   none_seen [] child h = refl
   none_seen (e ∷ nodes) child h =
-      split_on (bytes_eq child e.0.id)
+      split_on (bytes_eq child e.0)
       (λ t. absurd (none-some e.1 (let k = rw t at h in sym k)))
-      (λ t. let k = rw t at h in rw (differs_back e.0.id child t) (none_seen nodes child k))
+      (λ t. let k = rw t at h in rw (differs_back e.0 child t) (none_seen nodes child k))
 
   -- ---- the child that leaves, and an only child
 
   -- what is noted changes no block
-  blocks_judged : (blocks : List Header) (child : List ℕ) (nodes : List (Key × Node T)) → blocks_of (map (judged blocks child) nodes) ≡ blocks_of nodes
+  blocks_judged : (blocks : List Header) (child : List ℕ) (nodes : List (List ℕ × Node T)) → blocks_of (map (judged blocks child) nodes) ≡ blocks_of nodes
   blocks_judged blocks child [] = refl
   blocks_judged blocks child (e ∷ nodes) = ap (λ l. block_of e ∷ l) (blocks_judged blocks child nodes)
 
   -- the child is found as it was, if it is there
-  pub lookup_judged : (child : List ℕ) (nodes : List (Key × Node T)) → All (λ e. e.1.is_rejected ≡ false) nodes
-      → lookup (λ k. bytes_eq child k.id) (map (judged (blocks_of nodes) child) nodes) ≡ lookup (λ k. bytes_eq child k.id) nodes
+  pub lookup_judged : (child : List ℕ) (nodes : List (List ℕ × Node T)) → All (λ e. e.1.is_rejected ≡ false) nodes
+      → lookup (bytes_eq child) (map (judged (blocks_of nodes) child) nodes) ≡ lookup (bytes_eq child) nodes
   lookup_judged child nodes clear =
       let bs = blocks_of nodes in
       split_on (has_block bs child)
@@ -284,8 +282,8 @@ module _ {T : Type 0} where
       (λ t. not_found (map (judged bs child) nodes) child (ap (λ l. has_block l child) (blocks_judged bs child nodes) ∙ t) ∙ sym (not_found nodes child t))
 
   -- where the child is the only one, all descend from it
-  all_stay : (last child : List ℕ) (nodes : List (Key × Node T)) → IsGrown last (reverse (blocks_of nodes)) → children_of (blocks_of nodes) last ≡ child ∷ []
-      → All (λ e. descends (blocks_of nodes) child e.0.id ≡ true) nodes
+  all_stay : (last child : List ℕ) (nodes : List (List ℕ × Node T)) → IsGrown last (reverse (blocks_of nodes)) → children_of (blocks_of nodes) last ≡ child ∷ []
+      → All (λ e. descends (blocks_of nodes) child e.0 ≡ true) nodes
   all_stay last child nodes g only =
       λ k d h.
       let bs = blocks_of nodes in
@@ -293,8 +291,8 @@ module _ {T : Type 0} where
       (all_under last child bs g only k (block_of d) (subst (λ n. k < n) (sym (length-map nodes block_of)) h))
 
   -- and it was issued first
-  issued_first : (last child : List ℕ) (e : Key × Node T) (nodes : List (Key × Node T)) → IsGrown last (reverse (blocks_of (e ∷ nodes)))
-      → children_of (blocks_of (e ∷ nodes)) last ≡ child ∷ [] → bytes_eq child e.0.id ≡ true
+  issued_first : (last child : List ℕ) (e : List ℕ × Node T) (nodes : List (List ℕ × Node T)) → IsGrown last (reverse (blocks_of (e ∷ nodes)))
+      → children_of (blocks_of (e ∷ nodes)) last ≡ child ∷ [] → bytes_eq child e.0 ≡ true
   issued_first last child e nodes g only =
       let b = block_of e in
       split_on (bytes_eq last b.parent)
@@ -307,24 +305,24 @@ module _ {T : Type 0} where
       first_is h = cc
 
   -- so it alone leaves
-  pub alone_left : (last child : List ℕ) (nodes : List (Key × Node T)) → IsGrown last (reverse (blocks_of nodes)) → IsDistinct key_eq (keys_of nodes)
+  pub alone_left : (last child : List ℕ) (nodes : List (List ℕ × Node T)) → IsGrown last (reverse (blocks_of nodes)) → IsDistinct bytes_eq (keys_of nodes)
       → children_of (blocks_of nodes) last ≡ child ∷ [] → drop 1 nodes ≡ left nodes child
   alone_left last child [] g unique only = absurd cc
   alone_left last child (e ∷ nodes) g unique only =
-      let gone : remove_entry (λ k. bytes_eq child k.id) (e ∷ nodes) ≡ nodes = rw (issued_first last child e nodes g only) refl in
+      let gone : remove_entry (bytes_eq child) (e ∷ nodes) ≡ nodes = rw (issued_first last child e nodes g only) refl in
       sym gone ∙ only_leaves (blocks_of (e ∷ nodes)) child (e ∷ nodes) unique (all_stay last child (e ∷ nodes) g only)
 
   -- and it is the first node
-  pub alone_found : (last child : List ℕ) (nodes : List (Key × Node T)) → IsGrown last (reverse (blocks_of nodes)) → children_of (blocks_of nodes) last ≡ child ∷ []
-      → option_map (λ e. e.1) (slice_get nodes 0) ≡ lookup (λ k. bytes_eq child k.id) nodes
+  pub alone_found : (last child : List ℕ) (nodes : List (List ℕ × Node T)) → IsGrown last (reverse (blocks_of nodes)) → children_of (blocks_of nodes) last ≡ child ∷ []
+      → option_map (λ e. e.1) (slice_get nodes 0) ≡ lookup (bytes_eq child) nodes
   alone_found last child [] g only = absurd cc
   alone_found last child (e ∷ nodes) g only = rw (issued_first last child e nodes g only) refl
 
   -- and none is rejected
-  pub alone_told : (last child : List ℕ) (nodes : List (Key × Node T)) → IsGrown last (reverse (blocks_of nodes)) → children_of (blocks_of nodes) last ≡ child ∷ []
+  pub alone_told : (last child : List ℕ) (nodes : List (List ℕ × Node T)) → IsGrown last (reverse (blocks_of nodes)) → children_of (blocks_of nodes) last ≡ child ∷ []
       → outsiders nodes child ≡ []
-  alone_told last child nodes g only = ap (map (λ e. e.0.id)) (none (λ e. descends (blocks_of nodes) child e.0.id) nodes (all_stay last child nodes g only))
+  alone_told last child nodes g only = ap (map (λ e. e.0)) (none (λ e. descends (blocks_of nodes) child e.0) nodes (all_stay last child nodes g only))
     where
-      none : (p : Key × Node T → Bool) (xs : List (Key × Node T)) → All (λ e. p e ≡ true) xs → filter (λ e. not (p e)) xs ≡ []
+      none : (p : List ℕ × Node T → Bool) (xs : List (List ℕ × Node T)) → All (λ e. p e ≡ true) xs → filter (λ e. not (p e)) xs ≡ []
       none p [] all = refl
       none p (x ∷ xs) all = rw (All-head (λ e. p e ≡ true) x xs all) (none p xs (All-tail (λ e. p e ≡ true) x xs all))

@@ -8,12 +8,11 @@ use Rattle.std.proofs.lemmas.List.{map-append, reverse-append, length-map}
 use Rattle.std.proofs.lemmas.List.Elements.{All-append, All-map, All-cons, All-nil, All-head, All-tail}
 use Rattle.std.proofs.lemmas.Bool.{or_parts}
 use Rattle.std.proofs.lemmas.Option.{none-some, slice_get-map}
-use Rattle.snow_tree.specs.Row.{set_value_at, key_eq}
+use Rattle.snow_tree.specs.Row.{set_value_at}
 use Rattle.snow_base.specs.declared.header.Header.{Header}
 use Rattle.snow_plain.specs.Grown.{has_block, is_on, IsGrown, Grew}
 use Rattle.snow_plain.proofs.Cases.{split_on, clash, same_id, differs_back}
 use Rattle.snow_plain.proofs.Grown.{grown_rest, has_block-reverse}
-use Rattle.snow_tree.specs.declared.key.Key.{Key}
 use Rattle.snow_tree.specs.declared.node.Node.{Node}
 use Rattle.snow_tree.specs.Held.{children_of}
 use Rattle.snow_tree.specs.Nodes.{block_of, blocks_of, linked, unlinked, with_children, IsKept}
@@ -27,57 +26,57 @@ ChangesOnly change parent = (q : List ℕ) (children : List (List ℕ)) → byte
 
 module _ {T : Type 0} where
   -- no block has an identifier that the nodes aren't found under
-  pub no_block : (nodes : List (Key × Node T)) (id : List ℕ) → lookup (λ k. bytes_eq id k.id) nodes ≡ None → has_block (blocks_of nodes) id ≡ false
+  pub no_block : (nodes : List (List ℕ × Node T)) (id : List ℕ) → lookup (bytes_eq id) nodes ≡ None → has_block (blocks_of nodes) id ≡ false
   no_block [] id h = refl
   no_block (e ∷ nodes) id h =
-      split_on (bytes_eq id e.0.id)
+      split_on (bytes_eq id e.0)
       (λ t. absurd (none-some e.1 (let k = rw t at h in sym k)))
-      (λ t. let k = rw t at h in rw (differs_back e.0.id id t) (no_block nodes id k))
+      (λ t. let k = rw t at h in rw (differs_back e.0 id t) (no_block nodes id k))
 
   -- and the other way round
-  pub not_found : (nodes : List (Key × Node T)) (id : List ℕ) → has_block (blocks_of nodes) id ≡ false → lookup (λ k. bytes_eq id k.id) nodes ≡ None
+  pub not_found : (nodes : List (List ℕ × Node T)) (id : List ℕ) → has_block (blocks_of nodes) id ≡ false → lookup (bytes_eq id) nodes ≡ None
   not_found [] id h = refl
   not_found (e ∷ nodes) id h =
-      let parts = or_parts (bytes_eq e.0.id id) (has_block (blocks_of nodes) id) h in
-      rw (differs_back id e.0.id parts.0) (not_found nodes id parts.1)
+      let parts = or_parts (bytes_eq e.0 id) (has_block (blocks_of nodes) id) h in
+      rw (differs_back id e.0 parts.0) (not_found nodes id parts.1)
 
   -- writing what stands there changes nothing
-  pub same_written : (nodes : List (Key × Node T)) (i : ℕ) (n : Node T) → slice_get (values_of nodes) i ≡ Some n → set_value_at nodes i n ≡ nodes
+  pub same_written : (nodes : List (List ℕ × Node T)) (i : ℕ) (n : Node T) → slice_get (values_of nodes) i ≡ Some n → set_value_at nodes i n ≡ nodes
   same_written [] i n h = refl
   same_written (e ∷ nodes) zero n h = let same : e.1 ≡ n = cc in ap (λ m. (e.0, m) ∷ nodes) (sym same)
   same_written (e ∷ nodes) (suc i) n h = ap (λ l. e ∷ l) (same_written nodes i n h)
 
   -- keys that all differ from one have no block of its identifier
-  pub apart_off : (nodes : List (Key × Node T)) (k : Key) → AllByRecursion (λ y. key_eq k y ≡ false) (keys_of nodes) → has_block (blocks_of nodes) k.id ≡ false
+  pub apart_off : (nodes : List (List ℕ × Node T)) (k : List ℕ) → AllByRecursion (λ y. bytes_eq k y ≡ false) (keys_of nodes) → has_block (blocks_of nodes) k ≡ false
   apart_off [] k h = refl
-  apart_off (e ∷ nodes) k h = rw (differs_back e.0.id k.id h.0) (apart_off nodes k h.1)
+  apart_off (e ∷ nodes) k h = rw (differs_back e.0 k h.0) (apart_off nodes k h.1)
 
   -- where the parent isn't among the nodes nothing changes
-  pub none_changed : (change : List ℕ → List (List ℕ) → List (List ℕ)) (parent : List ℕ) → ChangesOnly change parent → (nodes : List (Key × Node T))
+  pub none_changed : (change : List ℕ → List (List ℕ) → List (List ℕ)) (parent : List ℕ) → ChangesOnly change parent → (nodes : List (List ℕ × Node T))
       → has_block (blocks_of nodes) parent ≡ false → map (with_children change) nodes ≡ nodes
   none_changed change parent only [] h = refl
   none_changed change parent only (e ∷ nodes) h =
-      let parts = or_parts (bytes_eq e.0.id parent) (has_block (blocks_of nodes) parent) h in
-      λ i. (e.0, record e.1 { children = only e.0.id e.1.children parts.0 i }) ∷ none_changed change parent only nodes parts.1 i
+      let parts = or_parts (bytes_eq e.0 parent) (has_block (blocks_of nodes) parent) h in
+      λ i. (e.0, record e.1 { children = only e.0 e.1.children parts.0 i }) ∷ none_changed change parent only nodes parts.1 i
 
   -- a write at the parent's place is the change of all
-  pub one_changed : (change : List ℕ → List (List ℕ) → List (List ℕ)) (parent : List ℕ) → ChangesOnly change parent → (nodes : List (Key × Node T)) (i : ℕ) (e : Key × Node T)
-      → IsDistinct key_eq (keys_of nodes) → slice_get nodes i ≡ Some e → bytes_eq e.0.id parent ≡ true
-      → set_value_at nodes i (record e.1 { children = change e.0.id e.1.children }) ≡ map (with_children change) nodes
+  pub one_changed : (change : List ℕ → List (List ℕ) → List (List ℕ)) (parent : List ℕ) → ChangesOnly change parent → (nodes : List (List ℕ × Node T)) (i : ℕ) (e : List ℕ × Node T)
+      → IsDistinct bytes_eq (keys_of nodes) → slice_get nodes i ≡ Some e → bytes_eq e.0 parent ≡ true
+      → set_value_at nodes i (record e.1 { children = change e.0 e.1.children }) ≡ map (with_children change) nodes
   unfolding IsDistinct
   one_changed change parent only [] i e unique at is = absurd (none-some e at)
   one_changed change parent only (x ∷ nodes) zero e unique at is =
       let same : x ≡ e = cc in
-      let off : has_block (blocks_of nodes) parent ≡ false = ap (has_block (blocks_of nodes)) (sym (ap (λ (y : Key × Node T). y.0.id) same ∙ same_id e.0.id parent is)) ∙ apart_off nodes x.0 unique.0 in
-      rw same (ap (λ l. (e.0, record e.1 { children = change e.0.id e.1.children }) ∷ l) (sym (none_changed change parent only nodes off)))
+      let off : has_block (blocks_of nodes) parent ≡ false = ap (has_block (blocks_of nodes)) (sym (ap (λ (y : List ℕ × Node T). y.0) same ∙ same_id e.0 parent is)) ∙ apart_off nodes x.0 unique.0 in
+      rw same (ap (λ l. (e.0, record e.1 { children = change e.0 e.1.children }) ∷ l) (sym (none_changed change parent only nodes off)))
   one_changed change parent only (x ∷ nodes) (suc i) e unique at is =
-      let other : bytes_eq x.0.id parent ≡ false =
-      ap (bytes_eq x.0.id) (sym (same_id e.0.id parent is)) ∙ of_key (λ y. key_eq x.0 y ≡ false) nodes i e unique.0 at
+      let other : bytes_eq x.0 parent ≡ false =
+      ap (bytes_eq x.0) (sym (same_id e.0 parent is)) ∙ of_key (λ y. bytes_eq x.0 y ≡ false) nodes i e unique.0 at
       in
-      λ j. (x.0, record x.1 { children = sym (only x.0.id x.1.children other) j }) ∷ one_changed change parent only nodes i e unique.1 at is j
+      λ j. (x.0, record x.1 { children = sym (only x.0 x.1.children other) j }) ∷ one_changed change parent only nodes i e unique.1 at is j
 
   -- the blocks stay
-  pub blocks_changed : (change : List ℕ → List (List ℕ) → List (List ℕ)) (nodes : List (Key × Node T)) → blocks_of (map (with_children change) nodes) ≡ blocks_of nodes
+  pub blocks_changed : (change : List ℕ → List (List ℕ) → List (List ℕ)) (nodes : List (List ℕ × Node T)) → blocks_of (map (with_children change) nodes) ≡ blocks_of nodes
   blocks_changed change [] = refl
   blocks_changed change (e ∷ nodes) = ap (λ l. block_of e ∷ l) (blocks_changed change nodes)
 
@@ -93,7 +92,7 @@ ok_holds (Err e) ok p = absurd cc
 
 module _ {T : Type 0} where
   -- a write that didn't come about
-  pub kept_value : {A E : Type 0} (r : Result A E) (nodes : List (Key × Node T)) (at : ℕ) (n : Node T) (children : List (List ℕ)) → slice_get (values_of nodes) at ≡ Some n
+  pub kept_value : {A E : Type 0} (r : Result A E) (nodes : List (List ℕ × Node T)) (at : ℕ) (n : Node T) (children : List (List ℕ)) → slice_get (values_of nodes) at ≡ Some n
       → OnErr r (children ≡ n.children) → OnErr r (set_value_at nodes at (record n { children = children }) ≡ nodes)
   kept_value r nodes at n children there same =
       on_err_weaker r (λ e. ap (λ l. set_value_at nodes at (record n { children = l })) e ∙ same_written nodes at n there) same
@@ -114,23 +113,23 @@ linked_is bs b q children is =
 
 module _ {T : Type 0} where
   -- the block at the parent's place has one child more
-  pub linked_at : {A E : Type 0} (r : Result A E) (block : Header) (nodes new : List (Key × Node T)) (at : ℕ) → IsDistinct key_eq (keys_of nodes)
-      → position (λ k. bytes_eq block.parent k.id) (keys_of nodes) ≡ Some at
+  pub linked_at : {A E : Type 0} (r : Result A E) (block : Header) (nodes new : List (List ℕ × Node T)) (at : ℕ) → IsDistinct bytes_eq (keys_of nodes)
+      → position (bytes_eq block.parent) (keys_of nodes) ≡ Some at
       → ((n : Node T) → slice_get (values_of nodes) at ≡ Some n → OnOk r (new ≡ set_value_at nodes at (record n { children = n.children ++ block.id ∷ [] })))
       → OnOk r (new ≡ map (with_children (linked block)) nodes)
   linked_at r block nodes new at unique place written =
       let found = found_at nodes block.parent at place in
       let e = found.0 in
-      let same : linked block e.0.id e.1.children ≡ e.1.children ++ block.id ∷ [] = rw found.2 refl in
+      let same : linked block e.0 e.1.children ≡ e.1.children ++ block.id ∷ [] = rw found.2 refl in
       on_ok_weaker r
       (λ is. is ∙ ap (λ l. set_value_at nodes at (record e.1 { children = l })) (sym same)
       ∙ one_changed (linked block) block.parent (linked_only block) nodes at e unique found.1 found.2)
       (written e.1 (slice_get-map (λ x. x.1) nodes at ∙ ap (option_map (λ x. x.1)) found.1))
 
   -- what is kept stays true when a block is issued
-  pub kept_issued : (last : List ℕ) (children : List (List ℕ)) (nodes : List (Key × Node T)) (old room : ℕ) (k : Key) (n : Node T)
+  pub kept_issued : (last : List ℕ) (children : List (List ℕ)) (nodes : List (List ℕ × Node T)) (old room : ℕ) (k : List ℕ) (n : Node T)
       → IsKept last children nodes old → n.children ≡ [] → n.is_rejected ≡ false
-      → is_on last (blocks_of nodes) k.id ≡ false → is_on last (blocks_of nodes) n.parent ≡ true → length nodes + 1 ≤ room
+      → is_on last (blocks_of nodes) k ≡ false → is_on last (blocks_of nodes) n.parent ≡ true → length nodes + 1 ≤ room
       → IsKept last (linked (block_of (k, n)) last children) (map (with_children (linked (block_of (k, n)))) nodes ++ (k, n) ∷ []) room
   kept_issued last children nodes old room k n kept bare clear new parent fits =
       let b = block_of (k, n) in
@@ -144,15 +143,15 @@ module _ {T : Type 0} where
       split_on (bytes_eq b.parent b.id) (λ t. clash (is_on last bs b.parent) parent (ap (is_on last bs) (same_id b.parent b.id t) ∙ new)) (λ t. t)
       in
       let grown : IsGrown last (b ∷ reverse bs) = Grew b (reverse bs) (on b.id ∙ new) (on b.parent ∙ parent) kept.grown in
-      let Below : Key × Node T → Type 0 = λ e. e.1.children ≡ children_of (blocks_of (map change nodes ++ (k, n) ∷ [])) e.0.id in
-      let Clear : Key × Node T → Type 0 = λ e. e.1.is_rejected ≡ false in
+      let Below : List ℕ × Node T → Type 0 = λ e. e.1.children ≡ children_of (blocks_of (map change nodes ++ (k, n) ∷ [])) e.0 in
+      let Clear : List ℕ × Node T → Type 0 = λ e. e.1.is_rejected ≡ false in
       let none : children_of (bs ++ b ∷ []) b.id ≡ [] = children_push bs b b.id ∙ rw (no_children last bs b.id kept.grown (on b.id ∙ new), other) refl in
       record {
         grown = subst (λ l. IsGrown last (reverse l)) (sym all) (subst (IsGrown last) (sym (reverse-append bs (b ∷ []))) grown);
         children = linked_is bs b last children kept.children ∙ ap (λ l. children_of l last) (sym all);
         below = All-append Below (map change nodes) ((k, n) ∷ [])
-            (All-map Below change nodes (λ i d h. linked_is bs b (get_or nodes i d).0.id (get_or nodes i d).1.children (kept.below i d h) ∙ ap (λ l. children_of l (get_or nodes i d).0.id) (sym all)))
-            (All-cons Below (k, n) [] (bare ∙ sym none ∙ ap (λ l. children_of l k.id) (sym all)) (All-nil Below));
+            (All-map Below change nodes (λ i d h. linked_is bs b (get_or nodes i d).0 (get_or nodes i d).1.children (kept.below i d h) ∙ ap (λ l. children_of l (get_or nodes i d).0) (sym all)))
+            (All-cons Below (k, n) [] (bare ∙ sym none ∙ ap (λ l. children_of l k) (sym all)) (All-nil Below));
         clear = All-append Clear (map change nodes) ((k, n) ∷ []) (All-map Clear change nodes kept.clear) (All-cons Clear (k, n) [] clear (All-nil Clear));
         room = omega (arith, length-append (map change nodes) ((k, n) ∷ []), length-map nodes change);
       }
@@ -184,20 +183,20 @@ unlinked_is bs b q children is =
 
 module _ {T : Type 0} where
   -- the block at the parent's place has one child less
-  pub unlinked_at : (parent : List ℕ) (nodes new : List (Key × Node T)) (at : ℕ) → IsDistinct key_eq (keys_of nodes)
-      → position (λ k. bytes_eq parent k.id) (keys_of nodes) ≡ Some at
+  pub unlinked_at : (parent : List ℕ) (nodes new : List (List ℕ × Node T)) (at : ℕ) → IsDistinct bytes_eq (keys_of nodes)
+      → position (bytes_eq parent) (keys_of nodes) ≡ Some at
       → ((n : Node T) → slice_get (values_of nodes) at ≡ Some n → new ≡ set_value_at nodes at (record n { children = take (length n.children - 1) n.children }))
       → new ≡ map (with_children (unlinked parent)) nodes
   unlinked_at parent nodes new at unique place written =
       let found = found_at nodes parent at place in
       let e = found.0 in
-      let same : unlinked parent e.0.id e.1.children ≡ take (length e.1.children - 1) e.1.children = rw found.2 refl in
+      let same : unlinked parent e.0 e.1.children ≡ take (length e.1.children - 1) e.1.children = rw found.2 refl in
       written e.1 (slice_get-map (λ x. x.1) nodes at ∙ ap (option_map (λ x. x.1)) found.1)
       ∙ ap (λ l. set_value_at nodes at (record e.1 { children = l })) (sym same)
       ∙ one_changed (unlinked parent) parent (unlinked_only parent) nodes at e unique found.1 found.2
 
   -- what is kept stays true when the latest block is taken back
-  pub kept_back : (last : List ℕ) (children : List (List ℕ)) (nodes : List (Key × Node T)) (e : Key × Node T) (room : ℕ)
+  pub kept_back : (last : List ℕ) (children : List (List ℕ)) (nodes : List (List ℕ × Node T)) (e : List ℕ × Node T) (room : ℕ)
       → IsKept last children (nodes ++ e ∷ []) room
       → IsKept last (unlinked e.1.parent last children) (map (with_children (unlinked e.1.parent)) nodes) room
   kept_back last children nodes e room kept =
@@ -210,17 +209,17 @@ module _ {T : Type 0} where
       let of : (q : List ℕ) (c : List (List ℕ)) → c ≡ children_of (blocks_of (nodes ++ e ∷ [])) q → unlinked b.parent q c ≡ children_of (blocks_of (map change nodes)) q =
       λ q c is. unlinked_is bs b q c (is ∙ ap (λ l. children_of l q) all) ∙ ap (λ l. children_of l q) (sym same)
       in
-      let Was : Key × Node T → Type 0 = λ x. x.1.children ≡ children_of (blocks_of (nodes ++ e ∷ [])) x.0.id in
-      let Below : Key × Node T → Type 0 = λ x. x.1.children ≡ children_of (blocks_of (map change nodes)) x.0.id in
-      let Clear : Key × Node T → Type 0 = λ x. x.1.is_rejected ≡ false in
+      let Was : List ℕ × Node T → Type 0 = λ x. x.1.children ≡ children_of (blocks_of (nodes ++ e ∷ [])) x.0 in
+      let Below : List ℕ × Node T → Type 0 = λ x. x.1.children ≡ children_of (blocks_of (map change nodes)) x.0 in
+      let Clear : List ℕ × Node T → Type 0 = λ x. x.1.is_rejected ≡ false in
       record {
         grown = subst (λ l. IsGrown last (reverse l)) (sym same) (grown_rest grown);
         children = of last children kept.children;
-        below = All-map Below change nodes (λ i d h. of (get_or nodes i d).0.id (get_or nodes i d).1.children (front Was nodes e kept.below i d h));
+        below = All-map Below change nodes (λ i d h. of (get_or nodes i d).0 (get_or nodes i d).1.children (front Was nodes e kept.below i d h));
         clear = All-map Clear change nodes (front Clear nodes e kept.clear);
         room = omega (arith, length-append nodes (e ∷ []), length-map nodes change, kept.room);
       }
     where
-      front : (P : Key × Node T → Type 0) (xs : List (Key × Node T)) (x : Key × Node T) → All P (xs ++ x ∷ []) → All P xs
+      front : (P : List ℕ × Node T → Type 0) (xs : List (List ℕ × Node T)) (x : List ℕ × Node T) → All P (xs ++ x ∷ []) → All P xs
       front P [] x h = All-nil P
       front P (y ∷ xs) x h = All-cons P y xs (All-head P y (xs ++ x ∷ []) h) (front P xs x (All-tail P y (xs ++ x ∷ []) h))

@@ -10,7 +10,6 @@ use Rattle.std.proofs.lemmas.Map.Entries.{length-keys_of}
 use Rattle.std.proofs.lemmas.Option.{none-some, slice_get_cases}
 use Rattle.snow_plain.specs.Grown.{has_block}
 use Rattle.snow_plain.proofs.Cases.{split_on, same_id, id_same, differs_back}
-use Rattle.snow_tree.specs.declared.key.Key.{Key}
 use Rattle.snow_tree.specs.declared.node.Node.{Node}
 use Rattle.snow_tree.specs.Nodes.{blocks_of}
 
@@ -35,39 +34,39 @@ position_cons p x xs =
 
 module _ {T : Type 0} where
   -- where the node of an identifier stands, with its key
-  pub place_same : (nodes : List (Key × Node T)) (id : List ℕ) → position (λ k. bytes_eq id k.id) (keys_of nodes) ≡ position (λ e. bytes_eq e.0.id id) nodes
+  pub place_same : (nodes : List (List ℕ × Node T)) (id : List ℕ) → position (bytes_eq id) (keys_of nodes) ≡ position (λ e. bytes_eq e.0 id) nodes
   place_same nodes id = λ j. cond (nat_lt (lens nodes j) (length-keys_of nodes j)) (Some (lens nodes j)) None
     where
-      lens : (xs : List (Key × Node T)) → prefix_len (λ k. not (bytes_eq id k.id)) (keys_of xs) ≡ prefix_len (λ e. not (bytes_eq e.0.id id)) xs
+      lens : (xs : List (List ℕ × Node T)) → prefix_len (λ k. not (bytes_eq id k)) (keys_of xs) ≡ prefix_len (λ e. not (bytes_eq e.0 id)) xs
       lens [] = refl
       lens (x ∷ xs) =
-          split_on (bytes_eq id x.0.id)
-          (λ t. rw (t, id_same x.0.id id (sym (same_id id x.0.id t))) refl)
-          (λ t. rw (t, differs_back x.0.id id t) (ap (λ n. 1 + n) (lens xs)))
+          split_on (bytes_eq id x.0)
+          (λ t. rw (t, id_same x.0 id (sym (same_id id x.0 t))) refl)
+          (λ t. rw (t, differs_back x.0 id t) (ap (λ n. 1 + n) (lens xs)))
 
   -- the node at the place of an identifier
-  pub found_at : (nodes : List (Key × Node T)) (id : List ℕ) (at : ℕ) → position (λ k. bytes_eq id k.id) (keys_of nodes) ≡ Some at
-      → (e : Key × Node T) × (slice_get nodes at ≡ Some e) × (bytes_eq e.0.id id ≡ true)
+  pub found_at : (nodes : List (List ℕ × Node T)) (id : List ℕ) (at : ℕ) → position (bytes_eq id) (keys_of nodes) ≡ Some at
+      → (e : List ℕ × Node T) × (slice_get nodes at ≡ Some e) × (bytes_eq e.0 id ≡ true)
   found_at nodes id at h = by (slice_get_cases nodes at).1
     where
-      by : ((x : Key × Node T) × (at < length nodes) × (slice_get nodes at ≡ Some x) × (get_or nodes at x ≡ x)) ⊎ ((length nodes ≤ at) × (slice_get nodes at ≡ None))
-          → (e : Key × Node T) × (slice_get nodes at ≡ Some e) × (bytes_eq e.0.id id ≡ true)
+      by : ((x : List ℕ × Node T) × (at < length nodes) × (slice_get nodes at ≡ Some x) × (get_or nodes at x ≡ x)) ⊎ ((length nodes ≤ at) × (slice_get nodes at ≡ None))
+          → (e : List ℕ × Node T) × (slice_get nodes at ≡ Some e) × (bytes_eq e.0 id ≡ true)
       by (inl f) =
-          let here : get_or (keys_of nodes) at f.0.0 ≡ f.0.0 = get_or-map (λ e. e.0) nodes at f.0 f.0.0 f.1 ∙ ap (λ (e : Key × Node T). e.0) f.3 in
-          let is : bytes_eq id (get_or (keys_of nodes) at f.0.0).id ≡ true = (position-Some (λ k. bytes_eq id k.id) (keys_of nodes) at f.0.0 h).1 in
-          (f.0, f.2, either_way f.0.0.id id ∙ ap (λ (k : Key). bytes_eq id k.id) (sym here) ∙ is)
+          let here : get_or (keys_of nodes) at f.0.0 ≡ f.0.0 = get_or-map (λ e. e.0) nodes at f.0 f.0.0 f.1 ∙ ap (λ (e : List ℕ × Node T). e.0) f.3 in
+          let is : bytes_eq id (get_or (keys_of nodes) at f.0.0) ≡ true = (position-Some (bytes_eq id) (keys_of nodes) at f.0.0 h).1 in
+          (f.0, f.2, either_way f.0.0 id ∙ ap (bytes_eq id) (sym here) ∙ is)
       by (inr f) =
-          let within : at < length (keys_of nodes) = (position-Some (λ k. bytes_eq id k.id) (keys_of nodes) at (record { id = [] }) h).0 in
+          let within : at < length (keys_of nodes) = (position-Some (bytes_eq id) (keys_of nodes) at [] h).0 in
           absurd (omega (arith, within, length-keys_of nodes, f.0))
 
   -- no block has an identifier that has no place
-  pub not_placed : (nodes : List (Key × Node T)) (id : List ℕ) → position (λ k. bytes_eq id k.id) (keys_of nodes) ≡ None → has_block (blocks_of nodes) id ≡ false
+  pub not_placed : (nodes : List (List ℕ × Node T)) (id : List ℕ) → position (bytes_eq id) (keys_of nodes) ≡ None → has_block (blocks_of nodes) id ≡ false
   not_placed [] id h = refl
   not_placed (e ∷ nodes) id h =
-      let k = sym (position_cons (λ k. bytes_eq id k.id) e.0 (keys_of nodes)) ∙ h in
-      split_on (bytes_eq id e.0.id)
+      let k = sym (position_cons (bytes_eq id) e.0 (keys_of nodes)) ∙ h in
+      split_on (bytes_eq id e.0)
       (λ t. absurd (none-some 0 (let m = rw t at k in sym m)))
-      (λ t. let m = rw t at k in rw (differs_back e.0.id id t) (not_placed nodes id (missing (position (λ k. bytes_eq id k.id) (keys_of nodes)) m)))
+      (λ t. let m = rw t at k in rw (differs_back e.0 id t) (not_placed nodes id (missing (position (bytes_eq id) (keys_of nodes)) m)))
     where
       missing : (o : Option ℕ) → option_map suc o ≡ None → o ≡ None
       missing None e = refl

@@ -1,12 +1,12 @@
 -- Lemmas on what is seen of the nodes.
-use Rattle.std.proofs.Common.{◌≡◌, ℕ, zero, suc, ◌+◌, ◌-◌, Bool, true, false, not, cond, nat_lt, nat_eq, ◌||◌, List, [], ◌∷◌, ◌++◌, length, get_or, reverse, map, find, bytes_eq, All, Option, Some, None, is_some, slice_get, Result, Ok, Err, is_err, OnOk, refl, sym, ap, subst, ◌∙◌, arith, length-append}
+use Rattle.std.proofs.Common.{◌≡◌, ℕ, zero, suc, ◌+◌, ◌-◌, Bool, true, false, not, cond, nat_lt, nat_eq, ◌||◌, List, [], ◌∷◌, ◌++◌, length, get_or, reverse, map, find, bytes_eq, All, Option, Some, None, IfSome, is_some, slice_get, Result, Ok, Err, is_err, OnOk, refl, sym, ap, subst, ◌∙◌, arith, length-append}
 use Rattle.std.specs.List.{list_any, position, prefix_len}
-use Rattle.std.specs.Map.{lookup}
+use Rattle.std.specs.Map.{keys_of, lookup}
 use Rattle.std.specs.Option.{option_map}
 use Rattle.std.proofs.lemmas.Bool.{or_parts, or_left, or_right}
 use Rattle.std.proofs.lemmas.List.{length-map}
 use Rattle.std.proofs.lemmas.Map.Entries.{place_from_lookup}
-use Rattle.std.proofs.lemmas.Option.{none-some, slice_get_within, get_or_from_slice_get}
+use Rattle.std.proofs.lemmas.Option.{none-some, slice_get-map, slice_get_within, get_or_from_slice_get}
 use Rattle.std.proofs.lemmas.Grind.{common_steps}
 use Rattle.std.proofs.lemmas.List.Elements.{All-cons, All-head, All-tail}
 use Rattle.snow_tree.specs.Row.{set_value_at}
@@ -15,11 +15,10 @@ use Rattle.snow_base.specs.Ancestry.{line_in, child_on}
 use Rattle.snow_plain.specs.Grown.{has_block, is_on, IsGrown}
 use Rattle.snow_plain.proofs.Cases.{split_on, same_id, id_same, differs_back}
 use Rattle.snow_plain.proofs.Grown.{grown_parent, grown_rest, no_line, has_block-reverse}
-use Rattle.snow_tree.specs.declared.key.Key.{Key}
 use Rattle.snow_tree.specs.declared.node.Node.{Node}
 use Rattle.snow_tree.specs.Held.{children_of, set_load}
 use Rattle.snow_tree.specs.Nodes.{block_of, blocks_of, entry_of, with_children, IsKept}
-use Rattle.snow_tree.proofs.Placed.{position_cons}
+use Rattle.snow_tree.proofs.Placed.{position_cons, place_same}
 use Rattle.snow_tree.proofs.Listed.{no_children}
 use Rattle.snow_tree.proofs.Linked.{no_block}
 use Rattle.snow_tree.proofs.Numbered.{length-set_value_at}
@@ -62,83 +61,83 @@ line_there last bs id g =
 
 module _ {T : Type 0} where
   -- a block has a place exactly where it is there
-  pub place_there : (nodes : List (Key × Node T)) (id : List ℕ) → is_some (position (λ e. bytes_eq e.0.id id) nodes) ≡ has_block (blocks_of nodes) id
+  pub place_there : (nodes : List (List ℕ × Node T)) (id : List ℕ) → is_some (position (λ e. bytes_eq e.0 id) nodes) ≡ has_block (blocks_of nodes) id
   place_there [] id = refl
   place_there (e ∷ nodes) id =
-      ap is_some (position_cons (λ e. bytes_eq e.0.id id) e nodes)
-      ∙ split_on (bytes_eq e.0.id id)
+      ap is_some (position_cons (λ e. bytes_eq e.0 id) e nodes)
+      ∙ split_on (bytes_eq e.0 id)
       (λ t. rw t refl)
-      (λ t. rw t (mapped (position (λ e. bytes_eq e.0.id id) nodes) ∙ place_there nodes id))
+      (λ t. rw t (mapped (position (λ e. bytes_eq e.0 id) nodes) ∙ place_there nodes id))
     where
       mapped : (o : Option ℕ) → is_some (option_map suc o) ≡ is_some o
       mapped None = refl
       mapped (Some i) = refl
 
   -- its place among what is seen
-  pub place_seen : (nodes : List (Key × Node T)) (id : List ℕ) → position (λ e. bytes_eq e.0.id id) nodes ≡ position (λ e. bytes_eq e.block.id id) (map entry_of nodes)
+  pub place_seen : (nodes : List (List ℕ × Node T)) (id : List ℕ) → position (λ e. bytes_eq e.0 id) nodes ≡ position (λ e. bytes_eq e.block.id id) (map entry_of nodes)
   place_seen nodes id = λ j. cond (nat_lt (lens nodes j) (sym (length-map nodes entry_of) j)) (Some (lens nodes j)) None
     where
-      lens : (xs : List (Key × Node T)) → prefix_len (λ e. not (bytes_eq e.0.id id)) xs ≡ prefix_len (λ e. not (bytes_eq e.block.id id)) (map entry_of xs)
+      lens : (xs : List (List ℕ × Node T)) → prefix_len (λ e. not (bytes_eq e.0 id)) xs ≡ prefix_len (λ e. not (bytes_eq e.block.id id)) (map entry_of xs)
       lens [] = refl
       lens (x ∷ xs) =
-          split_on (bytes_eq x.0.id id)
+          split_on (bytes_eq x.0 id)
           (λ t. rw t refl)
           (λ t. rw t (ap (λ n. 1 + n) (lens xs)))
 
   -- what is seen doesn't show who is whose child
-  pub seen_changed : (change : List ℕ → List (List ℕ) → List (List ℕ)) (nodes : List (Key × Node T)) → map entry_of (map (with_children change) nodes) ≡ map entry_of nodes
+  pub seen_changed : (change : List ℕ → List (List ℕ) → List (List ℕ)) (nodes : List (List ℕ × Node T)) → map entry_of (map (with_children change) nodes) ≡ map entry_of nodes
   seen_changed change [] = refl
   seen_changed change (e ∷ nodes) = ap (λ l. entry_of e ∷ l) (seen_changed change nodes)
 
   -- the children that a node has are those of its block
-  pub children_found : (last id : List ℕ) (first : List (List ℕ)) (nodes : List (Key × Node T)) (most : ℕ) (n : Node T) → IsKept last first nodes most
-      → lookup (λ k. bytes_eq id k.id) nodes ≡ Some n → n.children ≡ children_of (blocks_of nodes) id
+  pub children_found : (last id : List ℕ) (first : List (List ℕ)) (nodes : List (List ℕ × Node T)) (most : ℕ) (n : Node T) → IsKept last first nodes most
+      → lookup (bytes_eq id) nodes ≡ Some n → n.children ≡ children_of (blocks_of nodes) id
   children_found last id first nodes most n kept found =
-      let at = place_from_lookup (λ k. bytes_eq id k.id) nodes n found in
+      let at = place_from_lookup (bytes_eq id) nodes n found in
       let here : get_or nodes at.0 (at.1, n) ≡ (at.1, n) = get_or_from_slice_get nodes at.0 (at.1, n) (at.1, n) at.2 in
-      ap (λ (e : Key × Node T). e.1.children) (sym here)
+      ap (λ (e : List ℕ × Node T). e.1.children) (sym here)
       ∙ kept.below at.0 (at.1, n) (slice_get_within nodes at.0 (at.1, n) at.2)
-      ∙ ap (λ (e : Key × Node T). children_of (blocks_of nodes) e.0.id) here
-      ∙ ap (children_of (blocks_of nodes)) (sym (same_id id at.1.id at.3))
+      ∙ ap (λ (e : List ℕ × Node T). children_of (blocks_of nodes) e.0) here
+      ∙ ap (children_of (blocks_of nodes)) (sym (same_id id at.1 at.3))
 
   -- what is neither there nor the last accepted block has none
-  pub children_none : (last id : List ℕ) (first : List (List ℕ)) (nodes : List (Key × Node T)) (most : ℕ) → IsKept last first nodes most
-      → bytes_eq last id ≡ false → lookup (λ k. bytes_eq id k.id) nodes ≡ None → children_of (blocks_of nodes) id ≡ []
+  pub children_none : (last id : List ℕ) (first : List (List ℕ)) (nodes : List (List ℕ × Node T)) (most : ℕ) → IsKept last first nodes most
+      → bytes_eq last id ≡ false → lookup (bytes_eq id) nodes ≡ None → children_of (blocks_of nodes) id ≡ []
   children_none last id first nodes most kept other none =
       let off : is_on last (reverse (blocks_of nodes)) id ≡ false = rw other (has_block-reverse (blocks_of nodes) id ∙ no_block nodes id none) in
       no_children last (blocks_of nodes) id kept.grown off
 
   -- the node of an entry that is seen
-  pub found_back : (nodes : List (Key × Node T)) (child parent : List ℕ) → option_map (λ e. e.block.parent) (find (λ e. bytes_eq e.block.id child) (map entry_of nodes)) ≡ Some parent
-      → (n : Node T) × (lookup (λ k. bytes_eq child k.id) nodes ≡ Some n) × (n.parent ≡ parent)
+  pub found_back : (nodes : List (List ℕ × Node T)) (child parent : List ℕ) → option_map (λ e. e.block.parent) (find (λ e. bytes_eq e.block.id child) (map entry_of nodes)) ≡ Some parent
+      → (n : Node T) × (lookup (bytes_eq child) nodes ≡ Some n) × (n.parent ≡ parent)
   found_back [] child parent h = absurd (none-some parent h)
   found_back (e ∷ nodes) child parent h =
-      split_on (bytes_eq e.0.id child)
-      (λ t. let k = rw t at h in (e.1, rw (id_same child e.0.id (sym (same_id e.0.id child t))) refl, cc))
+      split_on (bytes_eq e.0 child)
+      (λ t. let k = rw t at h in (e.1, rw (id_same child e.0 (sym (same_id e.0 child t))) refl, cc))
       (λ t. let k = rw t at h in
       let rest = found_back nodes child parent k in
-      (rest.0, rw (differs_back child e.0.id t) rest.1, rest.2))
+      (rest.0, rw (differs_back child e.0 t) rest.1, rest.2))
 
   -- a child of a block is among its children
-  listed : (nodes : List (Key × Node T)) (child parent : List ℕ) (n : Node T) → lookup (λ k. bytes_eq child k.id) nodes ≡ Some n → n.parent ≡ parent
+  listed : (nodes : List (List ℕ × Node T)) (child parent : List ℕ) (n : Node T) → lookup (bytes_eq child) nodes ≡ Some n → n.parent ≡ parent
       → list_any (λ x. bytes_eq x child) (children_of (blocks_of nodes) parent) ≡ true
   listed [] child parent n found is = absurd (none-some n found)
   listed (e ∷ nodes) child parent n found is =
-      split_on (bytes_eq child e.0.id)
+      split_on (bytes_eq child e.0)
       (λ t.
       let same : Some e.1 ≡ Some n = rw t at found in
       let own : e.1 ≡ n = cc in
       let of : bytes_eq e.1.parent parent ≡ true = id_same e.1.parent parent (ap (λ (m : Node T). m.parent) own ∙ is) in
-      rw of (or_left (bytes_eq e.0.id child) (list_any (λ x. bytes_eq x child) (children_of (blocks_of nodes) parent)) (id_same e.0.id child (sym (same_id child e.0.id t)))))
+      rw of (or_left (bytes_eq e.0 child) (list_any (λ x. bytes_eq x child) (children_of (blocks_of nodes) parent)) (id_same e.0 child (sym (same_id child e.0 t)))))
       (λ t.
       let k = rw t at found in
       let rest = listed nodes child parent n k is in
       split_on (bytes_eq e.1.parent parent)
-      (λ s. rw s (or_right (bytes_eq e.0.id child) (list_any (λ x. bytes_eq x child) (children_of (blocks_of nodes) parent)) rest))
+      (λ s. rw s (or_right (bytes_eq e.0 child) (list_any (λ x. bytes_eq x child) (children_of (blocks_of nodes) parent)) rest))
       (λ s. rw s rest))
 
   -- and the only one where there is no other
-  pub only_child : (nodes : List (Key × Node T)) (child parent : List ℕ) (n : Node T) → lookup (λ k. bytes_eq child k.id) nodes ≡ Some n → n.parent ≡ parent
+  pub only_child : (nodes : List (List ℕ × Node T)) (child parent : List ℕ) (n : Node T) → lookup (bytes_eq child) nodes ≡ Some n → n.parent ≡ parent
       → length (children_of (blocks_of nodes) parent) ≡ 1 → children_of (blocks_of nodes) parent ≡ child ∷ []
   only_child nodes child parent n found is one = alone (children_of (blocks_of nodes) parent) one (listed nodes child parent n found is)
     where
@@ -152,28 +151,28 @@ module _ {T : Type 0} where
       alone (x ∷ y ∷ xs) l h = absurd (omega (arith, l))
 
   -- the last accepted block isn't among fewer
-  pub fewer_off : (nodes : List (Key × Node T)) (e : Key × Node T) (last : List ℕ) → has_block (blocks_of (nodes ++ e ∷ [])) last ≡ false → has_block (blocks_of nodes) last ≡ false
+  pub fewer_off : (nodes : List (List ℕ × Node T)) (e : List ℕ × Node T) (last : List ℕ) → has_block (blocks_of (nodes ++ e ∷ [])) last ≡ false → has_block (blocks_of nodes) last ≡ false
   fewer_off [] e last h = refl
   fewer_off (x ∷ nodes) e last h =
-      let parts = or_parts (bytes_eq x.0.id last) (has_block (blocks_of (nodes ++ e ∷ [])) last) h in
+      let parts = or_parts (bytes_eq x.0 last) (has_block (blocks_of (nodes ++ e ∷ [])) last) h in
       rw parts.0 (fewer_off nodes e last parts.1)
 
   -- a load that is written
-  pub load_seen : (nodes : List (Key × Node T)) (i : ℕ) (n : Node T) (w : T) → slice_get (map (λ e. e.1) nodes) i ≡ Some n
+  pub load_seen : (nodes : List (List ℕ × Node T)) (i : ℕ) (n : Node T) (w : T) → slice_get (map (λ e. e.1) nodes) i ≡ Some n
       → map entry_of (set_value_at nodes i (record n { load = w })) ≡ set_load (map entry_of nodes) i w
   load_seen [] i n w h = refl
   load_seen (e ∷ nodes) zero n w h = let same : e.1 ≡ n = cc in ap (λ (m : Node T). record { block = block_of (e.0, m); load = w } ∷ map entry_of nodes) (sym same)
   load_seen (e ∷ nodes) (suc i) n w h = ap (λ l. entry_of e ∷ l) (load_seen nodes i n w h)
 
   -- a load that is read
-  pub load_at : (nodes : List (Key × Node T)) (i : ℕ) → option_map (λ e. e.load) (slice_get (map entry_of nodes) i) ≡ option_map (λ (n : Node T). n.load) (slice_get (map (λ e. e.1) nodes) i)
+  pub load_at : (nodes : List (List ℕ × Node T)) (i : ℕ) → option_map (λ e. e.load) (slice_get (map entry_of nodes) i) ≡ option_map (λ (n : Node T). n.load) (slice_get (map (λ e. e.1) nodes) i)
   load_at [] i = refl
   load_at (e ∷ nodes) zero = refl
   load_at (e ∷ nodes) (suc i) = load_at nodes i
 
   -- what is so of all is so after a write that keeps it
-  all_written : (P : Key × Node T → Type 0) (nodes : List (Key × Node T)) (i : ℕ) (n m : Node T) → slice_get (map (λ e. e.1) nodes) i ≡ Some n
-      → ((k : Key) → P (k, n) → P (k, m)) → All P nodes → All P (set_value_at nodes i m)
+  all_written : (P : List ℕ × Node T → Type 0) (nodes : List (List ℕ × Node T)) (i : ℕ) (n m : Node T) → slice_get (map (λ e. e.1) nodes) i ≡ Some n
+      → ((k : List ℕ) → P (k, n) → P (k, m)) → All P nodes → All P (set_value_at nodes i m)
   all_written P [] i n m h same all = absurd (none-some n h)
   all_written P (e ∷ nodes) zero n m h same all =
       let is : e.1 ≡ n = cc in
@@ -182,21 +181,21 @@ module _ {T : Type 0} where
       All-cons P e (set_value_at nodes i m) (All-head P e nodes all) (all_written P nodes i n m h same (All-tail P e nodes all))
 
   -- a load is no part of what is kept true
-  pub kept_loaded : (last : List ℕ) (first : List (List ℕ)) (nodes : List (Key × Node T)) (most i : ℕ) (n : Node T) (w : T) → slice_get (map (λ e. e.1) nodes) i ≡ Some n
+  pub kept_loaded : (last : List ℕ) (first : List (List ℕ)) (nodes : List (List ℕ × Node T)) (most i : ℕ) (n : Node T) (w : T) → slice_get (map (λ e. e.1) nodes) i ≡ Some n
       → IsKept last first nodes most → IsKept last first (set_value_at nodes i (record n { load = w })) most
   kept_loaded last first nodes most i n w h kept =
       let m : Node T = record n { load = w } in
       let same : blocks_of (set_value_at nodes i m) ≡ blocks_of nodes = blocks nodes i h in
-      let Below : Key × Node T → Type 0 = λ e. e.1.children ≡ children_of (blocks_of (set_value_at nodes i m)) e.0.id in
+      let Below : List ℕ × Node T → Type 0 = λ e. e.1.children ≡ children_of (blocks_of (set_value_at nodes i m)) e.0 in
       record {
         grown = subst (λ l. IsGrown last (reverse l)) (sym same) kept.grown;
         children = kept.children ∙ ap (λ l. children_of l last) (sym same);
-        below = all_written Below nodes i n m h (λ k p. p) (λ k d l. kept.below k d l ∙ ap (λ x. children_of x (get_or nodes k d).0.id) (sym same));
+        below = all_written Below nodes i n m h (λ k p. p) (λ k d l. kept.below k d l ∙ ap (λ x. children_of x (get_or nodes k d).0) (sym same));
         clear = all_written (λ e. e.1.is_rejected ≡ false) nodes i n m h (λ k p. p) kept.clear;
         room = omega (arith, length-set_value_at nodes i m, kept.room);
       }
     where
-      blocks : (xs : List (Key × Node T)) (k : ℕ) → slice_get (map (λ e. e.1) xs) k ≡ Some n → blocks_of (set_value_at xs k (record n { load = w })) ≡ blocks_of xs
+      blocks : (xs : List (List ℕ × Node T)) (k : ℕ) → slice_get (map (λ e. e.1) xs) k ≡ Some n → blocks_of (set_value_at xs k (record n { load = w })) ≡ blocks_of xs
       blocks [] k at = refl
       blocks (x ∷ xs) zero at = let is : x.1 ≡ n = cc in ap (λ (y : Node T). block_of (x.0, y) ∷ blocks_of xs) (sym is)
       blocks (x ∷ xs) (suc k) at = ap (λ l. block_of x ∷ l) (blocks xs k at)
@@ -204,3 +203,41 @@ module _ {T : Type 0} where
 -- a number that is found to be one
 pub one_is : (n : ℕ) → nat_eq n 1 ≡ true → n ≡ 1
 one_is n h = grind (arith, common_steps)
+
+-- ---- where the parent of a block stands
+
+module _ {T : Type 0} where
+  -- what isn't there has no place
+  off_place : (nodes : List (List ℕ × Node T)) (id : List ℕ) → has_block (blocks_of nodes) id ≡ false → position (λ e. bytes_eq e.0 id) nodes ≡ None
+  off_place nodes id off = none (position (λ e. bytes_eq e.0 id) nodes) (place_there nodes id ∙ off)
+    where
+      none : (o : Option ℕ) → is_some o ≡ false → o ≡ None
+      none None h = refl
+      none (Some i) h = absurd cc
+
+  one_seen : (x e : List ℕ × Node T) (o : Option (List ℕ × Node T)) → o ≡ Some x → o ≡ Some e → x ≡ e
+  one_seen x e o h at = let both : Some x ≡ Some e = sym h ∙ at in cc
+
+  -- the parent is the last accepted block
+  pub parent_off : (nodes : List (List ℕ × Node T)) (last : List ℕ) (place : ℕ) (x : List ℕ × Node T) → has_block (blocks_of nodes) last ≡ false → slice_get nodes place ≡ Some x → last ≡ x.1.parent
+      → (e : List ℕ × Node T) → slice_get nodes place ≡ Some e → None ≡ position (λ y. bytes_eq y.0 e.1.parent) nodes
+  parent_off nodes last place x off there is e at =
+      let same = one_seen x e (slice_get nodes place) there at in
+      sym (off_place nodes e.1.parent (ap (has_block (blocks_of nodes)) (sym (is ∙ ap (λ (y : List ℕ × Node T). y.1.parent) same)) ∙ off))
+
+  -- or it was looked for
+  pub parent_found : (nodes : List (List ℕ × Node T)) (place : ℕ) (x : List ℕ × Node T) (r : Option ℕ) → slice_get nodes place ≡ Some x → r ≡ position (bytes_eq x.1.parent) (keys_of nodes)
+      → (e : List ℕ × Node T) → slice_get nodes place ≡ Some e → r ≡ position (λ y. bytes_eq y.0 e.1.parent) nodes
+  parent_found nodes place x r there is e at =
+      let same = one_seen x e (slice_get nodes place) there at in
+      is ∙ place_same nodes x.1.parent ∙ ap (λ (y : List ℕ × Node T). position (λ z. bytes_eq z.0 y.1.parent) nodes) same
+
+  -- as it is seen
+  pub parent_seen : (nodes : List (List ℕ × Node T)) (place : ℕ) (r : Option ℕ) → ((e : List ℕ × Node T) → slice_get nodes place ≡ Some e → r ≡ position (λ y. bytes_eq y.0 e.1.parent) nodes)
+      → IfSome (slice_get (map entry_of nodes) place) (λ e. r ≡ position (λ y. bytes_eq y.block.id e.block.parent) (map entry_of nodes))
+  parent_seen nodes place r each =
+      subst (λ o. IfSome o (λ e. r ≡ position (λ y. bytes_eq y.block.id e.block.parent) (map entry_of nodes))) (sym (slice_get-map entry_of nodes place)) (by (slice_get nodes place) refl)
+    where
+      by : (o : Option (List ℕ × Node T)) → slice_get nodes place ≡ o → IfSome (option_map entry_of o) (λ e. r ≡ position (λ y. bytes_eq y.block.id e.block.parent) (map entry_of nodes))
+      by None h = tt
+      by (Some e) h = each e h ∙ place_seen nodes e.1.parent

@@ -5,8 +5,6 @@ use Rattle.std.specs.Map.{lookup, keys_of}
 use Rattle.std.proofs.lemmas.List.Elements.{filter_more}
 use Rattle.std.proofs.lemmas.Map.Keys.{IsDistinct-head, IsDistinct-tail}
 use Rattle.snow_plain.proofs.Cases.{split_on, same_id}
-use Rattle.snow_tree.specs.declared.key.Key.{Key}
-use Rattle.snow_tree.specs.Row.{key_eq}
 use Rattle.snow_tree.proofs.Numbered.{of_key}
 
 -- the element at a place
@@ -39,33 +37,33 @@ went_past p all now next i h is step =
 
 module _ {V : Type 0} where
   -- what is found among one more
-  found_more : (id : List ℕ) (all : List (Key × V)) (i : ℕ) (e : Key × V) → IsDistinct key_eq (keys_of all) → slice_get all i ≡ Some e
-      → lookup (λ k. bytes_eq id k.id) (take (i + 1) all) ≡ (if bytes_eq id e.0.id then Some e.1 else lookup (λ k. bytes_eq id k.id) (take i all))
+  found_more : (id : List ℕ) (all : List (List ℕ × V)) (i : ℕ) (e : List ℕ × V) → IsDistinct bytes_eq (keys_of all) → slice_get all i ≡ Some e
+      → lookup (bytes_eq id) (take (i + 1) all) ≡ (if bytes_eq id e.0 then Some e.1 else lookup (bytes_eq id) (take i all))
   found_more id [] i e unique at = absurd cc
   found_more id (x ∷ all) zero e unique at =
       let same : x ≡ e = cc in
-      rw same (split_on (bytes_eq id e.0.id) (λ t. rw t refl) (λ t. rw t refl))
+      rw same (split_on (bytes_eq id e.0) (λ t. rw t refl) (λ t. rw t refl))
   found_more id (x ∷ all) (suc i) e unique at =
       let next : suc i + 1 ≡ suc (i + 1) = omega arith in
-      let rest = found_more id all i e (IsDistinct-tail key_eq x.0 (keys_of all) unique) at in
+      let rest = found_more id all i e (IsDistinct-tail bytes_eq x.0 (keys_of all) unique) at in
       rw next
-      (split_on (bytes_eq id x.0.id)
+      (split_on (bytes_eq id x.0)
       (λ t.
-      let other : bytes_eq id e.0.id ≡ false =
-      ap (λ q. bytes_eq q e.0.id) (same_id id x.0.id t) ∙ of_key (λ y. key_eq x.0 y ≡ false) all i e (IsDistinct-head key_eq x.0 (keys_of all) unique) at
+      let other : bytes_eq id e.0 ≡ false =
+      ap (λ q. bytes_eq q e.0) (same_id id x.0 t) ∙ of_key (λ y. bytes_eq x.0 y ≡ false) all i e (IsDistinct-head bytes_eq x.0 (keys_of all) unique) at
       in
       rw (t, other) refl)
       (λ t. rw t rest))
 
   -- what was taken out once one more went past
-  pub taken_past : (id : List ℕ) (p : Key × V → Bool) (all now : List (Key × V)) (i : ℕ) (taken result : Option V) → IsDistinct key_eq (keys_of all) → i < length all
-      → now ≡ drop i all ++ filter p (take i all) → taken ≡ lookup (λ k. bytes_eq id k.id) (take i all)
-      → ((e : Key × V) (later : List (Key × V)) → now ≡ e ∷ later → result ≡ (if bytes_eq id e.0.id then Some e.1 else taken))
-      → result ≡ lookup (λ k. bytes_eq id k.id) (take (i + 1) all)
+  pub taken_past : (id : List ℕ) (p : List ℕ × V → Bool) (all now : List (List ℕ × V)) (i : ℕ) (taken result : Option V) → IsDistinct bytes_eq (keys_of all) → i < length all
+      → now ≡ drop i all ++ filter p (take i all) → taken ≡ lookup (bytes_eq id) (take i all)
+      → ((e : List ℕ × V) (later : List (List ℕ × V)) → now ≡ e ∷ later → result ≡ (if bytes_eq id e.0 then Some e.1 else taken))
+      → result ≡ lookup (bytes_eq id) (take (i + 1) all)
   taken_past id p all now i taken result unique h is was step =
       let found = at_place all i h in
       let e = found.0 in
       let front : drop i all ≡ e ∷ drop (suc i) all = drop-cons all i e h ∙ ap (λ x. x ∷ drop (suc i) all) found.1 in
       step e (drop (suc i) all ++ filter p (take i all)) (is ∙ ap (λ l. l ++ filter p (take i all)) front)
-      ∙ ap (λ o. if bytes_eq id e.0.id then Some e.1 else o) was
+      ∙ ap (λ o. if bytes_eq id e.0 then Some e.1 else o) was
       ∙ sym (found_more id all i e unique found.2)

@@ -5,7 +5,6 @@ use Rattle.std.specs.Option.{option_map_or}
 use Rattle.snow_base.specs.declared.header.Header.{Header}
 use Rattle.snow_base.specs.Ancestry.{descends}
 use Rattle.snow_plain.specs.Grown.{IsGrown}
-use Rattle.snow_tree.specs.declared.key.Key.{Key}
 use Rattle.snow_tree.specs.declared.node.Node.{Node}
 use Rattle.snow_tree.specs.Held.{Entry, children_of}
 
@@ -19,52 +18,52 @@ unlinked parent id children = if bytes_eq id parent then take (length children -
 
 module _ {T : Type 0} where
   -- what a node says of its block
-  abbrev pub block_of : Key × Node T → Header
-  block_of e = record { id = e.0.id; parent = e.1.parent; height = e.1.height }
+  abbrev pub block_of : List ℕ × Node T → Header
+  block_of e = record { id = e.0; parent = e.1.parent; height = e.1.height }
 
-  abbrev pub blocks_of : List (Key × Node T) → List Header
+  abbrev pub blocks_of : List (List ℕ × Node T) → List Header
   blocks_of nodes = map block_of nodes
 
-  abbrev pub entry_of : Key × Node T → Entry T
+  abbrev pub entry_of : List ℕ × Node T → Entry T
   entry_of e = record { block = block_of e; load = e.1.load }
 
   -- what is true of the nodes above a last accepted block with these children, where so many rejected ones can be told
-  pub record IsKept (last : List ℕ) (first : List (List ℕ)) (nodes : List (Key × Node T)) (most : ℕ) : Type 0 where
+  pub record IsKept (last : List ℕ) (first : List (List ℕ)) (nodes : List (List ℕ × Node T)) (most : ℕ) : Type 0 where
     -- each came after its parent
     pub grown : IsGrown last (reverse (blocks_of nodes))
     pub children : first ≡ children_of (blocks_of nodes) last
-    pub below : All (λ e. e.1.children ≡ children_of (blocks_of nodes) e.0.id) nodes
+    pub below : All (λ e. e.1.children ≡ children_of (blocks_of nodes) e.0) nodes
     pub clear : All (λ e. e.1.is_rejected ≡ false) nodes
     pub room : length nodes ≤ most
 
   -- a node whose children are changed by a function of its identifier
-  abbrev pub with_children : (List ℕ → List (List ℕ) → List (List ℕ)) → Key × Node T → Key × Node T
-  with_children change e = (e.0, record e.1 { children = change e.0.id e.1.children })
+  abbrev pub with_children : (List ℕ → List (List ℕ) → List (List ℕ)) → List ℕ × Node T → List ℕ × Node T
+  with_children change e = (e.0, record e.1 { children = change e.0 e.1.children })
 
   -- a node of which it is noted whether it is rejected
-  abbrev pub noted : Bool → Key × Node T → Key × Node T
+  abbrev pub noted : Bool → List ℕ × Node T → List ℕ × Node T
   noted is_rejected e = (e.0, record e.1 { is_rejected = is_rejected })
 
   -- whether this is noted of the node of an identifier
-  abbrev pub is_noted : List (Key × Node T) → List ℕ → Bool
-  is_noted nodes id = option_map_or (λ n. n.is_rejected) (lookup (λ k. bytes_eq id k.id) nodes) false
+  abbrev pub is_noted : List (List ℕ × Node T) → List ℕ → Bool
+  is_noted nodes id = option_map_or (λ n. n.is_rejected) (lookup (bytes_eq id) nodes) false
 
   -- whether a block is rejected, where that is noted of those issued before it: its parent is the last accepted block or is rejected, and it isn't the child
-  abbrev pub is_out : List (Key × Node T) → List ℕ → List ℕ → Header → Bool
+  abbrev pub is_out : List (List ℕ × Node T) → List ℕ → List ℕ → Header → Bool
   is_out nodes last child block = not (bytes_eq block.id child) && (bytes_eq last block.parent || is_noted nodes block.parent)
 
   -- a node of which it is noted whether it neither is the child nor descends from it
-  abbrev pub judged : List Header → List ℕ → Key × Node T → Key × Node T
-  judged blocks child e = noted (not (descends blocks child e.0.id)) e
+  abbrev pub judged : List Header → List ℕ → List ℕ × Node T → List ℕ × Node T
+  judged blocks child e = noted (not (descends blocks child e.0)) e
 
   -- whether a node stays, where it is noted which are rejected: it isn't the child
-  abbrev pub stays_by_note : List ℕ → Key × Node T → Bool
-  stays_by_note child e = not e.1.is_rejected && not (bytes_eq e.0.id child)
+  abbrev pub stays_by_note : List ℕ → List ℕ × Node T → Bool
+  stays_by_note child e = not e.1.is_rejected && not (bytes_eq e.0 child)
 
   -- the nodes that stay when a child is accepted
-  abbrev pub left : List (Key × Node T) → List ℕ → List (Key × Node T)
-  left nodes child = filter (λ e. descends (blocks_of nodes) child e.0.id && not (bytes_eq e.0.id child)) nodes
+  abbrev pub left : List (List ℕ × Node T) → List ℕ → List (List ℕ × Node T)
+  left nodes child = filter (λ e. descends (blocks_of nodes) child e.0 && not (bytes_eq e.0 child)) nodes
 
   -- the blocks that are rejected then
-  abbrev pub outsiders : List (Key × Node T) → List ℕ → List (List ℕ)
-  outsiders nodes child = map (λ e. e.0.id) (filter (λ e. not (descends (blocks_of nodes) child e.0.id)) nodes)
+  abbrev pub outsiders : List (List ℕ × Node T) → List ℕ → List (List ℕ)
+  outsiders nodes child = map (λ e. e.0) (filter (λ e. not (descends (blocks_of nodes) child e.0)) nodes)

@@ -1,14 +1,12 @@
-ghost use Rattle.std.specs.Prelude.{◌≡◌, ◌+◌, ◌<◌, ◌≤◌, List, ◌∷◌, ◌++◌, [], true, false, All, drop, filter, length, map, reverse, slice_get, bytes_eq, Some, vec_len, vec_capacity, if◌then◌else◌};
+ghost use Rattle.std.specs.Prelude.{◌≡◌, ℕ, ◌+◌, ◌<◌, ◌≤◌, List, ◌∷◌, ◌++◌, [], true, false, All, drop, filter, length, map, reverse, slice_get, bytes_eq, Some, vec_len, vec_capacity, if◌then◌else◌};
 ghost use Rattle.std.specs.Map.{lookup, values_of};
 ghost use Rattle.std.specs.Option.{option_map};
 ghost use Rattle.snow_plain.specs.Grown.{IsGrown};
-ghost use Rattle.snow_tree.specs.declared.key.Key.{Key};
 ghost use Rattle.snow_tree.specs.declared.node.Node.{Node};
 ghost use Rattle.snow_tree.specs.Held.{children_of};
 ghost use Rattle.snow_tree.specs.Nodes.{blocks_of, is_out, judged, stays_by_note, left, outsiders};
 ghost use Rattle.snow_tree.specs.Row.{set_value_at};
 
-use crate::key::Key;
 use crate::looking::block_at;
 use crate::node::{Node, Nodes};
 use snow_base::{Header, Id};
@@ -75,10 +73,10 @@ fn judge_all<T>(nodes: &mut Nodes<T>, last: &Id, child: &Id, rejected: &mut Vec<
 
 // Whether the first node stays: it isn't the child, nor is it noted that it is rejected.
 fn first_stays<T>(nodes: &Nodes<T>, child: &Id) -> bool
-    ensures { (e : Key × Node T) (later : List (Key × Node T)) → nodes.now.entries ≡ e ∷ later → result ≡ stays_by_note child.now e }
+    ensures { (e : List ℕ × Node T) (later : List (List ℕ × Node T)) → nodes.now.entries ≡ e ∷ later → result ≡ stays_by_note child.now e }
 {
     match nodes.get_index(0) {
-        Some((key, node)) => !node.is_rejected && key.id != *child,
+        Some((id, node)) => !node.is_rejected && *id != *child,
         None => false,
     }
 }
@@ -86,18 +84,18 @@ fn first_stays<T>(nodes: &Nodes<T>, child: &Id) -> bool
 // Takes the first node out, which is the answer if it is the child.
 fn take_first<T: Drop>(nodes: &mut Nodes<T>, child: &Id, taken: Option<Node<T>>) -> Option<Node<T>>
     ensures nodes { nodes.new.entries ≡ drop 1 nodes.old.entries }
-    ensures taken { (e : Key × Node T) (later : List (Key × Node T)) → nodes.old.entries ≡ e ∷ later → result ≡ (if bytes_eq child.now e.0.id then Some e.1 else taken) }
+    ensures taken { (e : List ℕ × Node T) (later : List (List ℕ × Node T)) → nodes.old.entries ≡ e ∷ later → result ≡ (if bytes_eq child.now e.0 then Some e.1 else taken) }
 {
     match nodes.pop_first() {
-        Some((key, node)) => { if *child == key.id { Some(node) } else { taken } }
+        Some((id, node)) => { if *child == id { Some(node) } else { taken } }
         None => taken,
     }
 }
 
 // The first node becomes the last if it stays, and else goes out.
 fn sift<T: Drop>(nodes: &mut Nodes<T>, child: &Id, taken: Option<Node<T>>) -> Option<Node<T>>
-    ensures nodes { (e : Key × Node T) (later : List (Key × Node T)) → nodes.old.entries ≡ e ∷ later → nodes.new.entries ≡ later ++ (if stays_by_note child.now e then e ∷ [] else []) }
-    ensures taken { (e : Key × Node T) (later : List (Key × Node T)) → nodes.old.entries ≡ e ∷ later → result ≡ (if bytes_eq child.now e.0.id then Some e.1 else taken) }
+    ensures nodes { (e : List ℕ × Node T) (later : List (List ℕ × Node T)) → nodes.old.entries ≡ e ∷ later → nodes.new.entries ≡ later ++ (if stays_by_note child.now e then e ∷ [] else []) }
+    ensures taken { (e : List ℕ × Node T) (later : List (List ℕ × Node T)) → nodes.old.entries ≡ e ∷ later → result ≡ (if bytes_eq child.now e.0 then Some e.1 else taken) }
 {
     if first_stays(nodes, child) {
         nodes.turn();
@@ -108,7 +106,7 @@ fn sift<T: Drop>(nodes: &mut Nodes<T>, child: &Id, taken: Option<Node<T>>) -> Op
 
 // Takes out the child, and the blocks of which it is noted that they are rejected: each node goes past once.
 fn sweep<T: Drop>(nodes: &mut Nodes<T>, child: &Id) -> Option<Node<T>>
-    ensures node { result ≡ lookup (λ k. bytes_eq child.now k.id) nodes.old.entries }
+    ensures node { result ≡ lookup (bytes_eq child.now) nodes.old.entries }
     ensures left { nodes.new.entries ≡ filter (stays_by_note child.now) nodes.old.entries }
 {
     let mut taken = None;
@@ -143,7 +141,7 @@ pub(crate) fn take_accepted<T: Drop>(
     requires clear { All (λ e. e.1.is_rejected ≡ false) nodes.old.entries }
     requires alone { is_alone ≡ true → children_of (blocks_of nodes.old.entries) last.now ≡ child.now ∷ [] }
     requires room { vec_len rejected.old + length nodes.old.entries ≤ vec_capacity rejected.old }
-    ensures node { result ≡ lookup (λ k. bytes_eq child.now k.id) nodes.old.entries }
+    ensures node { result ≡ lookup (bytes_eq child.now) nodes.old.entries }
     ensures left { nodes.new.entries ≡ left nodes.old.entries child.now }
     ensures told { rejected.new.items ≡ rejected.old.items ++ outsiders nodes.old.entries child.now }
     ensures room { vec_capacity rejected.new ≡ vec_capacity rejected.old }

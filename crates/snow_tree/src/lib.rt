@@ -2,7 +2,6 @@
 #![tactic(auto)]
 
 mod children;
-mod key;
 mod leaving;
 mod linking;
 mod looking;

@@ -1,8 +1,9 @@
-ghost use Rattle.std.specs.Prelude.{◌≡◌, ◌<◌, reverse, length, slice_get, bytes_eq};
+ghost use Rattle.std.specs.Prelude.{◌≡◌, ◌<◌, ℕ, List, false, Some, reverse, length, slice_get, bytes_eq};
 ghost use Rattle.std.specs.List.{position};
 ghost use Rattle.std.specs.Option.{option_map};
 ghost use Rattle.snow_base.specs.Ancestry.{child_on};
-ghost use Rattle.snow_plain.specs.Grown.{IsGrown};
+ghost use Rattle.snow_plain.specs.Grown.{IsGrown, has_block};
+ghost use Rattle.snow_tree.specs.declared.node.Node.{Node};
 ghost use Rattle.snow_tree.specs.Nodes.{block_of, blocks_of};
 
 use crate::node::Nodes;
@@ -10,9 +11,33 @@ use snow_base::{Header, Id};
 
 /// Where the block of an identifier stands in order of issue.
 pub(crate) fn place_of<T>(nodes: &Nodes<T>, id: &Id) -> Option<usize>
-    ensures { result ≡ position (λ e. bytes_eq e.0.id id.now) nodes.now.entries }
+    ensures { result ≡ position (λ e. bytes_eq e.0 id.now) nodes.now.entries }
 {
     nodes.get_index_of(id)
+}
+
+/// A guess where the parent of a block stands that is issued now; 0 where it isn't pending.
+pub(crate) fn guess_of<T>(nodes: &Nodes<T>, last: &Id, parent: &Id) -> usize {
+    if *last == *parent {
+        return 0;
+    }
+    place_of(nodes, parent).unwrap_or(0)
+}
+
+/// Where the parent of the block at a place stands. The map isn't asked where the guess is right.
+pub(crate) fn parent_of<T>(nodes: &Nodes<T>, last: &Id, place: usize) -> Option<usize>
+    requires { has_block (blocks_of nodes.now.entries) last.now ≡ false }
+    ensures { (e : List ℕ × Node T) → slice_get nodes.now.entries place ≡ Some e → result ≡ position (λ x. bytes_eq x.0 e.1.parent) nodes.now.entries }
+{
+    match nodes.get_index(place) {
+        Some((_, node)) => {
+            if *last == node.parent {
+                return None;
+            }
+            nodes.find(place.wrapping_sub(node.back), &node.parent)
+        }
+        None => None,
+    }
 }
 
 /// The block at a place.
@@ -20,8 +45,8 @@ pub(crate) fn block_at<T>(nodes: &Nodes<T>, place: usize) -> Option<Header>
     ensures { result ≡ option_map block_of (slice_get nodes.now.entries place) }
 {
     match nodes.get_index(place) {
-        Some((key, node)) => Some(Header {
-            id: key.id,
+        Some((id, node)) => Some(Header {
+            id: *id,
             parent: node.parent,
             height: node.height,
         }),

@@ -1,29 +1,28 @@
-ghost use Rattle.std.specs.Prelude.{◌≡◌, ◌^◌, ◌<◌, ◌↔◌, IsSome, ◌∷◌, ◌++◌, [], None, length, drop, take, slice_get, bytes_eq, option_to_list, OnOk};
+ghost use Rattle.std.specs.Prelude.{◌≡◌, ◌^◌, ◌<◌, ◌↔◌, IsSome, ◌∷◌, ◌++◌, [], None, Some, true, length, drop, take, slice_get, bytes_eq, option_to_list, OnOk};
 ghost use Rattle.std.specs.List.{IsDistinct, position};
 ghost use Rattle.std.specs.Map.{keys_of, values_of, lookup};
 ghost use Rattle.std.specs.Option.{option_map, option_copied, option_copied_mut};
-ghost use Rattle.snow_tree.specs.Row.{key_eq};
 
-use crate::key::Key;
 use snow_base::Id;
 use std::alloc::{AllocError, Global};
 use std::collections::{HashMap, VecDeque};
 use std::marker::Model;
 
-/// Values in a row, each found by its key. As an `IndexMap`, but the first one leaves without moving
-/// the others: a key has a number and no place, and the place is how far that lies above the first's.
+/// Values in a row, each found by its identifier. As an `IndexMap`, but the first one leaves without
+/// moving the others: an identifier has a number and no place, and the place is how far that lies above
+/// the first's.
 #[derive(Debug, Drop)]
 pub(crate) struct Row<V> {
-    entries: VecDeque<(Key, V)>,
-    numbers: HashMap<Key, usize>,
+    entries: VecDeque<(Id, V)>,
+    numbers: HashMap<Id, usize>,
     first: usize,
 }
 
 impl<V> Model for Row<V> {
-    ghost use Rattle.std.specs.Prelude.{◌-◌, min};
+    ghost use Rattle.std.specs.Prelude.{◌-◌, min, bytes_eq};
     ghost use Rattle.std.specs.HashMap.{get, spare};
     ghost use Rattle.std.specs.VecDeque.{deque_len, deque_capacity};
-    ghost use Rattle.snow_tree.specs.Row.{Lined, IsNumbered, key_eq};
+    ghost use Rattle.snow_tree.specs.Row.{Lined, IsNumbered};
 
     ghost Value = { Lined V };
 
@@ -32,7 +31,7 @@ impl<V> Model for Row<V> {
       spare = min (spare a.numbers) (deque_capacity a.entries - deque_len a.entries);
     } };
 
-    ghost invariant = { λ a. IsNumbered a.entries.items (λ k. get key_eq a.numbers k) a.first };
+    ghost invariant = { λ a. IsNumbered a.entries.items (get bytes_eq a.numbers) a.first };
 }
 
 impl<V> Row<V> {
@@ -50,28 +49,51 @@ impl<V> Row<V> {
         }
     }
 
-    /// How many entries there are. No key stands twice.
+    /// How many entries there are. No identifier stands twice.
     pub(crate) fn len(&self) -> usize
         ensures len { result ≡ length self.now.entries }
         ensures small { result < 2 ^ 63 }
-        ensures unique { IsDistinct key_eq (keys_of self.now.entries) }
+        ensures unique { IsDistinct bytes_eq (keys_of self.now.entries) }
     {
         self.entries.len()
     }
 
     /// The place of an identifier.
     pub(crate) fn get_index_of(&self, id: &Id) -> Option<usize>
-        ensures index { result ≡ position (λ k. bytes_eq id.now k.id) (keys_of self.now.entries) }
-        ensures unique { IsDistinct key_eq (keys_of self.now.entries) }
+        ensures index { result ≡ position (bytes_eq id.now) (keys_of self.now.entries) }
+        ensures unique { IsDistinct bytes_eq (keys_of self.now.entries) }
     {
-        match self.numbers.get(&Key { id: *id }) {
+        match self.numbers.get(id) {
             Some(number) => Some(number.wrapping_sub(self.first)),
             None => None,
         }
     }
 
-    /// The key and the value at a place.
-    pub(crate) fn get_index(&self, place: usize) -> Option<(&Key, &V)>
+    // Whether an identifier stands at a place.
+    fn is_at(&self, place: usize, id: &Id) -> bool
+        ensures { result ≡ true → position (bytes_eq id.now) (keys_of self.now.entries) ≡ Some place }
+    {
+        let _len = self.len();
+        match self.get_index(place) {
+            Some((other, _)) => other == id,
+            None => false,
+        }
+    }
+
+    /// The place of an identifier. The map isn't asked where the guess is right.
+    pub(crate) fn find(&self, guess: usize, id: &Id) -> Option<usize>
+        ensures index { result ≡ position (bytes_eq id.now) (keys_of self.now.entries) }
+        ensures unique { IsDistinct bytes_eq (keys_of self.now.entries) }
+    {
+        let _len = self.len();
+        if self.is_at(guess, id) {
+            return Some(guess);
+        }
+        self.get_index_of(id)
+    }
+
+    /// The identifier and the value at a place.
+    pub(crate) fn get_index(&self, place: usize) -> Option<(&Id, &V)>
         ensures { option_map (λ e. (e.0.now, e.1.now)) result ≡ slice_get self.now.entries place }
     {
         match self.entries.get(place) {
@@ -82,7 +104,7 @@ impl<V> Row<V> {
 
     /// The value of an identifier.
     pub(crate) fn get(&self, id: &Id) -> Option<&V>
-        ensures value { option_copied result ≡ lookup (λ k. bytes_eq id.now k.id) self.now.entries }
+        ensures value { option_copied result ≡ lookup (bytes_eq id.now) self.now.entries }
     {
         let place = self.get_index_of(id)?;
         match self.get_index(place) {
@@ -113,18 +135,18 @@ impl<V> Row<V> {
 
     /// Appends an entry, for which there is room.
     pub(crate) fn push(&mut self, id: Id, value: V)
-        requires new { lookup (λ k. bytes_eq id k.id) self.old.entries ≡ None }
+        requires new { lookup (bytes_eq id) self.old.entries ≡ None }
         requires room { 0 < self.old.spare }
-        ensures { self.new.entries ≡ self.old.entries ++ (record { id = id }, value) ∷ [] }
+        ensures { self.new.entries ≡ self.old.entries ++ (id, value) ∷ [] }
     {
         let number = self.first.wrapping_add(self.entries.len());
-        let added: Result<_, _> = self.numbers.insert(Key { id }, number);
+        let added: Result<_, _> = self.numbers.insert(id, number);
         let _ = added.unwrap();
-        self.entries.push_back_reserved((Key { id }, value));
+        self.entries.push_back_reserved((id, value));
     }
 
     /// Takes the last entry out.
-    pub(crate) fn pop(&mut self) -> Option<(Key, V)>
+    pub(crate) fn pop(&mut self) -> Option<(Id, V)>
         ensures entries { self.old.entries ≡ self.new.entries ++ option_to_list result }
         ensures found { IsSome result ↔ (0 < length self.old.entries) }
     {
@@ -134,7 +156,7 @@ impl<V> Row<V> {
     }
 
     /// Takes the first entry out. No other is touched.
-    pub(crate) fn pop_first(&mut self) -> Option<(Key, V)>
+    pub(crate) fn pop_first(&mut self) -> Option<(Id, V)>
         ensures first { result ≡ slice_get self.old.entries 0 }
         ensures rest { self.new.entries ≡ drop 1 self.old.entries }
     {

@@ -6,7 +6,7 @@ ghost use Rattle.snow_tree.specs.Held.{blocks_in, begun, inserted, taken_back, p
 use crate::children::Children;
 use crate::leaving::take_accepted;
 use crate::linking::{make_room, unlink};
-use crate::looking::{ancestor, block_at, place_of};
+use crate::looking::{ancestor, block_at, guess_of, parent_of, place_of};
 use crate::node::{Node, Nodes};
 use crate::row::Row;
 use snow_base::{Header, Id};
@@ -82,19 +82,23 @@ impl<T: Drop> Tree<T> {
         ensures load { IfErr result (λ full. full.load ≡ load) }
     {
         let block = Header { id, parent, height };
+        let guess = guess_of(&self.nodes, &self.last, &parent);
         let room = make_room(
             &mut self.children,
             &mut self.nodes,
             &mut self.rejected,
             &self.last,
             &block,
+            guess,
         );
         if room.is_err() {
             return Err(TreeFull { load });
         }
+        let back = self.nodes.len().wrapping_sub(guess);
         let node = Node {
             parent,
             height,
+            back,
             children: Children::new(self.alloc),
             is_rejected: false,
             load,
@@ -147,7 +151,7 @@ impl<T: Drop> Tree<T> {
         ensures { result ≡ option_map (λ e. e.block.id) (slice_get (self.now).pending place) }
     {
         match self.nodes.get_index(place) {
-            Some((key, _)) => Some(key.id),
+            Some((id, _)) => Some(*id),
             None => None,
         }
     }
@@ -179,6 +183,14 @@ impl<T: Drop> Tree<T> {
         ensures pending { is_some result ≡ has_block (blocks_in (self.now).pending) id.now }
     {
         place_of(&self.nodes, id)
+    }
+
+    /// Where the parent of the block at a place stands, and nothing where that isn't pending. It asks the
+    /// map of identifiers only where blocks between the two have gone.
+    pub fn parent_place(&self, place: usize) -> Option<usize>
+        ensures { IfSome (slice_get (self.now).pending place) (λ e. result ≡ place_in (self.now).pending e.block.parent) }
+    {
+        parent_of(&self.nodes, &self.last, place)
     }
 
     /// The children of a block in order of issue; none where it isn't on the board or has none.

@@ -1,4 +1,4 @@
-use Rattle.std.proofs.Common.{◌≡◌, ◌+◌, ◌*◌, ◌-◌, ◌≤◌, nat_le, Bool, [], drop, if◌then◌else◌, ℕ, List, All, Some, IsPermutation, slice_get, length, refl, sym, ap, subst, ◌∙◌, arith}
+use Rattle.std.proofs.Common.{◌≡◌, ◌+◌, ◌*◌, ◌-◌, ◌≤◌, nat_le, Bool, [], drop, if◌then◌else◌, ℕ, List, All, Some, IsPermutation, slice_get, get_or, length, refl, sym, ap, subst, ◌∙◌, arith}
 use Rattle.std.proofs.lemmas.Bool.{or_parts}
 use Rattle.std.proofs.lemmas.List.{length-map}
 use Rattle.std.proofs.lemmas.List.Sorted.{All-permutation, IsPermutation-sym, length_permutation}
@@ -23,26 +23,27 @@ pub loop-top-init : goal.loop-top-init
 loop-top-init g c =
     let first = c.args.tree.now.pending in
     let bs = blocks_in first in
-    let climbers = c.args.climbers.now.items in
+    let climbers = c.args.ladder.now.climbers in
+    let top = c.lower-top.result in
     let long = length-map first (λ e. e.block) in
-    let within : c.top_of-top.result ≤ length first =
-    c.top_of-top.ensures.least (length first)
-    (rw c.deref.ensures.value (subst (λ n. All (λ (x : Climber). x.place ≤ n) climbers) long (within_places bs climbers c.requires.placed)))
+    let within : top ≤ length first = omega (arith, c.lower-top.ensures.second, c.len.ensures) in
+    let each : All (λ (x : Climber). x.place ≤ length first) climbers = subst (λ n. All (λ (x : Climber). x.place ≤ n) climbers) long (within_places bs climbers c.requires.placed) in
+    let highest : All (λ (x : Climber). x.place ≤ top) climbers =
+    λ k d h. c.lower-top.ensures.greatest (get_or climbers k d).place (c.top.ensures k d h) (omega (arith, each k d h, c.len.ensures))
     in
-    let below : AreBelow bs c.top_of-top.result (cursors_of bs climbers) =
-    below_places bs c.top_of-top.result climbers c.requires.placed (subst (λ l. All (λ (x : Climber). x.place ≤ c.top_of-top.result) l) c.deref.ensures.value c.top_of-top.ensures.all)
-    in
+    let below : AreBelow bs top (cursors_of bs climbers) = below_places bs top climbers c.requires.placed highest in
     record {
-      all = λ votes climbing. begun_half c.args.params.now c.args.polls votes c.args.tree.now.last first c.top_of-top.result (cursors_of bs climbers)
+      all = λ votes climbing. begun_half c.args.params.now c.args.polls votes c.args.tree.now.last first top (cursors_of bs climbers)
           c.k-k.ensures.good c.last-last.ensures.grown c.requires.fit climbing below within;
       rest = refl;
       blocks = refl;
       within = within;
       placed = c.requires.placed;
-      rising = c.requires.rising;
       short = omega arith;
       places = omega arith;
-      room = refl;
+      put = omega (arith, c.requires.put, within);
+      below = omega (arith, c.requires.low, within);
+      room = record { most = refl; wide = refl; rungs = refl };
       steady = λ s. refl;
       steps = λ votes climbing. omega arith;
     }
@@ -52,8 +53,8 @@ visit-one-requires-clause-climbing g c =
     let votes = c.requires.climbing.0 in
     let above : c.loop-top.top ≡ c.loop-top.top - 1 + 1 = omega (arith, c.loop-top-test.true) in (
       votes,
-      subst (λ bs. AreClimbing c.args.params.now votes bs (c.loop-top.top - 1 + 1) (cursors_of bs c.loop-top.climbers.items)) (sym c.loop-top.invariant.blocks)
-          (subst (λ n. AreClimbing c.args.params.now votes (blocks_in c.args.tree.now.pending) n (cursors_of (blocks_in c.args.tree.now.pending) c.loop-top.climbers.items)) above
+      subst (λ bs. AreClimbing c.args.params.now votes bs (c.loop-top.top - 1 + 1) (cursors_of bs c.loop-top.ladder.climbers)) (sym c.loop-top.invariant.blocks)
+          (subst (λ n. AreClimbing c.args.params.now votes (blocks_in c.args.tree.now.pending) n (cursors_of (blocks_in c.args.tree.now.pending) c.loop-top.ladder.climbers)) above
           (c.loop-top.invariant.all votes c.requires.climbing.1).1),
     )
 
@@ -71,17 +72,17 @@ loop-top-preserved g c =
     let last = c.args.tree.now.last in
     let first = c.args.tree.now.pending in
     let now = c.loop-top.tree.pending in
-    let cs = cursors_of (blocks_in first) c.loop-top.climbers.items in
+    let cs = cursors_of (blocks_in first) c.loop-top.ladder.climbers in
     let at = c.loop-top.top - 1 in
-    let m = c.lower-top.result in
+    let m = c.lower-top-in-loop-top.result in
     let inv = c.loop-top.invariant in
     let known = inv.all c.requires.climbing.0 c.requires.climbing.1 in
     let above : c.loop-top.top ≡ at + 1 = omega (arith, c.loop-top-test.true) in
     let found = entry_at first at (omega (arith, c.loop-top-test.true, inv.within)) in
     let e = found.0 in
     let seen : slice_get now at ≡ Some e = known.0.low at (omega (arith, c.loop-top-test.true)) ∙ found.1 in
-    let climbers = c.loop-top.climbers.items in
-    let later = c.visit-one.new.climbers.items in
+    let climbers = c.loop-top.ladder.climbers in
+    let later = c.visit-one.new.ladder.climbers in
     let took = subst (λ bs. (load : Kept) × (c.visit-one.new.tree ≡ with_load c.loop-top.tree at load) × HasTaken p polls (votes_at (cursors_of bs climbers) e.block.id) e.load load × IsSteady g.R.Rule.answer c.visit-one.result e.load load) inv.blocks
     (some_of (slice_get now at) _ e seen c.visit-one.ensures.taken)
     in
@@ -96,30 +97,34 @@ loop-top-preserved g c =
     climbed_past p c.requires.climbing.0 last first at e cs c.last-last.ensures.grown found.1 (subst (λ n. AreClimbing p c.requires.climbing.0 (blocks_in first) n cs) above known.1)
     in
     let placed : ArePlaced (blocks_in first) later = subst (λ bs. ArePlaced bs later) inv.blocks c.visit-one.ensures.placed in
-    let high : AreBelow (blocks_in first) c.top_of.result (merged e.block cs) =
-    All-permutation (λ x. reach (blocks_in first) x.sought ≤ c.top_of.result) (cursors_of (blocks_in first) later) (merged e.block cs)
+    let high : AreBelow (blocks_in first) c.top-in-loop-top.result (merged e.block cs) =
+    All-permutation (λ x. reach (blocks_in first) x.sought ≤ c.top-in-loop-top.result) (cursors_of (blocks_in first) later) (merged e.block cs)
     (IsPermutation-sym (merged e.block cs) (cursors_of (blocks_in first) later) same)
-    (below_places (blocks_in first) c.top_of.result later placed
-    (subst (λ l. All (λ (x : Climber). x.place ≤ c.top_of.result) l) c.deref-in-loop-top.ensures.value c.top_of.ensures.all))
+    (below_places (blocks_in first) c.top-in-loop-top.result later placed c.top-in-loop-top.ensures)
     in
-    let below : AreBelow (blocks_in first) m (merged e.block cs) = λ k d l. c.lower-top.ensures.greatest _ (high k d l) (past k d l) in
+    let below : AreBelow (blocks_in first) m (merged e.block cs) = λ k d l. c.lower-top-in-loop-top.ensures.greatest _ (high k d l) (past k d l) in
     record {
       all = λ votes climbing.
           let s = inv.all votes climbing in
           let r = step_half p polls votes last first now at m e load cs c.k-k.ensures.good c.last-last.ensures.grown c.requires.fit
-          (subst (IsHalf p polls votes first now) above s.0) (subst (λ n. AreClimbing p votes (blocks_in first) n cs) above s.1) found.1 took.2 below c.lower-top.ensures.second
+          (subst (IsHalf p polls votes first now) above s.0) (subst (λ n. AreClimbing p votes (blocks_in first) n cs) above s.1) found.1 took.2 below c.lower-top-in-loop-top.ensures.second
           in (
             subst (λ l. IsHalf p polls votes first l m) (sym pending) r.0,
             climbing_again p votes (blocks_in first) m (merged e.block cs) (cursors_of (blocks_in first) later) same r.1,
           );
       rest = took.1 ∙ ap (λ (t : Held Kept). record t { pending = set_load now at load }) inv.rest ∙ ap (λ l. record c.args.tree.now { pending = l }) (sym pending);
       blocks = blocks;
-      within = omega (arith, c.lower-top.ensures.second, inv.within);
+      within = omega (arith, c.lower-top-in-loop-top.ensures.second, inv.within);
       short = omega (arith, length_permutation (merged e.block cs) (cursors_of (blocks_in first) later) same, fewer_merged e.block cs, inv.short, length-map later (cursor_of (blocks_in first)), length-map climbers (cursor_of (blocks_in first)));
       placed = placed;
-      rising = c.visit-one.ensures.rising;
       places = omega (arith, c.visit-one.ensures.places, inv.places);
-      room = c.visit-one.ensures.room ∙ inv.room;
+      put = omega (arith, c.visit-one.ensures.put, c.visit-one.ensures.room.most, c.lower-top-in-loop-top.ensures.second, c.loop-top-test.true, inv.put);
+      below = omega (arith, c.visit-one.ensures.low, c.lower-top-in-loop-top.ensures.second);
+      room = record {
+        most = c.visit-one.ensures.room.most ∙ inv.room.most;
+        wide = c.visit-one.ensures.room.wide ∙ inv.room.wide;
+        rungs = c.visit-one.ensures.room.rungs ∙ inv.room.rungs;
+      };
       steady = λ s.
           let parts = or_parts c.visit-one.result c.loop-top.moved (sym c.either-moved.ensures ∙ s) in
           ap (all_leads g.R.Rule.answer) pending ∙ leads_set g.R.Rule.answer now at e load seen (took.3 parts.0) ∙ inv.steady parts.1;
@@ -136,7 +141,7 @@ loop-top-preserved g c =
           let before : c.loop-top.steps ≤ c.args.steps.now + 5 * recording_in p (blocks_in first) votes (drop (at + 1) (blocks_in first)) =
           subst (λ n. c.loop-top.steps ≤ c.args.steps.now + 5 * recording_in p (blocks_in first) votes (drop n (blocks_in first))) above (inv.steps votes climbing)
           in
-          omega (arith, own, before, paid p votes first at m e found.1 c.lower-top.ensures.second);
+          omega (arith, own, before, paid p votes first at m e found.1 c.lower-top-in-loop-top.ensures.second);
     }
 
 pub returns-clause-pending : goal.returns-clause-pending
@@ -151,7 +156,7 @@ pub returns-clause-climbing : goal.returns-clause-climbing
 returns-clause-climbing g c =
     λ votes climbing.
     let zero_left : c.loop-top.top ≡ 0 = omega (arith, c.loop-top-test.false) in
-    subst (λ n. AreClimbing c.args.params.now votes (blocks_in c.args.tree.now.pending) n (cursors_of (blocks_in c.args.tree.now.pending) c.loop-top.climbers.items)) zero_left (c.loop-top.invariant.all votes climbing).1
+    subst (λ n. AreClimbing c.args.params.now votes (blocks_in c.args.tree.now.pending) n (cursors_of (blocks_in c.args.tree.now.pending) c.loop-top.ladder.climbers)) zero_left (c.loop-top.invariant.all votes climbing).1
 
 pub returns-clause-fit : goal.returns-clause-fit
 returns-clause-fit g c =

@@ -1,26 +1,28 @@
-use Rattle.std.proofs.Common.{◌≡◌, ◌+◌, ◌*◌, ◌≤◌, false, List, drop, length, vec_capacity}
+use Rattle.std.proofs.Common.{◌≡◌, ◌+◌, ◌*◌, ◌<◌, ◌≤◌, false, List, drop, length}
 use Rattle.snow_base.specs.declared.vote.Vote.{Vote}
 use Rattle.snow_tree.specs.Held.{blocks_in}
-use Rattle.snow_topo.specs.Climbing.{cursors_of, ArePlaced, AreRising}
+use Rattle.snow_topo.specs.Climbing.{cursors_of, ArePlaced}
 use Rattle.snow_topo.specs.Half.{AreClimbing, IsHalf}
+use Rattle.snow_topo.specs.Ladder.{KeepsRoom}
 use Rattle.snow_topo.specs.Leading.{all_leads}
 use Rattle.snow_topo.specs.Recording.{recording_in}
 use Rattle.snow_topo.proofs.climbing.climb.Given as goal
 
 abbrev pub invariant-loop-top : goal.invariant-loop-top
 invariant-loop-top g l = record {
-  all : (votes : List Vote) → AreClimbing l.params votes (blocks_in l.fn.tree.pending) (length l.fn.tree.pending) (cursors_of (blocks_in l.fn.tree.pending) l.fn.climbers.items)
-      → IsHalf l.params l.polls votes l.fn.tree.pending l.tree.pending l.top × AreClimbing l.params votes (blocks_in l.fn.tree.pending) l.top (cursors_of (blocks_in l.fn.tree.pending) l.climbers.items);
+  all : (votes : List Vote) → AreClimbing l.params votes (blocks_in l.fn.tree.pending) (length l.fn.tree.pending) (cursors_of (blocks_in l.fn.tree.pending) l.fn.ladder.climbers)
+      → IsHalf l.params l.polls votes l.fn.tree.pending l.tree.pending l.top × AreClimbing l.params votes (blocks_in l.fn.tree.pending) l.top (cursors_of (blocks_in l.fn.tree.pending) l.ladder.climbers);
   rest : l.tree ≡ record l.fn.tree { pending = l.tree.pending };
   blocks : blocks_in l.tree.pending ≡ blocks_in l.fn.tree.pending;
   within : l.top ≤ length l.fn.tree.pending;
-  short : length l.climbers.items ≤ length l.fn.climbers.items;
+  short : length l.ladder.climbers ≤ length l.fn.ladder.climbers;
   places : l.fn.children.room + length l.fn.children.list ≤ l.children.room + length l.children.list;
-  room : vec_capacity l.climbers ≡ vec_capacity l.fn.climbers;
-  placed : ArePlaced (blocks_in l.fn.tree.pending) l.climbers.items;
-  rising : AreRising l.climbers.items;
+  put : l.ladder.put + l.top ≤ l.ladder.most;
+  below : l.top < l.ladder.low;
+  room : KeepsRoom l.fn.ladder l.ladder;
+  placed : ArePlaced (blocks_in l.fn.tree.pending) l.ladder.climbers;
   steady : l.moved ≡ false → all_leads g.R.Rule.answer l.tree.pending ≡ all_leads g.R.Rule.answer l.fn.tree.pending;
-  steps : (votes : List Vote) → AreClimbing l.params votes (blocks_in l.fn.tree.pending) (length l.fn.tree.pending) (cursors_of (blocks_in l.fn.tree.pending) l.fn.climbers.items)
+  steps : (votes : List Vote) → AreClimbing l.params votes (blocks_in l.fn.tree.pending) (length l.fn.tree.pending) (cursors_of (blocks_in l.fn.tree.pending) l.fn.ladder.climbers)
       → l.steps ≤ l.fn.steps + 5 * recording_in l.params (blocks_in l.fn.tree.pending) votes (drop l.top (blocks_in l.fn.tree.pending));
 }
 

@@ -1,4 +1,4 @@
-use Rattle.std.proofs.Common.{◌≡◌, ◌+◌, ◌*◌, ◌<◌, ◌≤◌, ℕ, nat_le, [], List, All, length, sym, ap, subst, ◌∙◌, arith, if◌then◌else◌}
+use Rattle.std.proofs.Common.{◌≡◌, ◌+◌, ◌*◌, ◌<◌, ◌≤◌, ℕ, nat_le, [], List, All, length, slice_get, sym, ap, subst, ◌∙◌, arith, if◌then◌else◌}
 use Rattle.std.proofs.lemmas.Bool.{or_parts}
 use Rattle.std.proofs.lemmas.List.{length-map}
 use Rattle.std.proofs.lemmas.List.Sorted.{length_permutation}
@@ -8,9 +8,9 @@ use Rattle.snow_plain.specs.Cursors.{votes_at}
 use Rattle.snow_tree.specs.Held.{Held, blocks_in, children_of}
 use Rattle.snow_topo.specs.Kept.{ids_in, shown, IsFit}
 use Rattle.snow_topo.specs.Recording.{recording_at}
-use Rattle.snow_topo.specs.Climbing.{climber_total, cursors_of, cursor_of, HasCome}
+use Rattle.snow_topo.specs.Climbing.{climber_total, cursors_of, cursor_of, parent_in, reach, HasCome}
 use Rattle.snow_topo.proofs.Begun.{begun_at, begun_few, placed_at, no_block}
-use Rattle.snow_topo.proofs.Climbers.{all_back, same_total, have_come_last}
+use Rattle.snow_topo.proofs.Climbers.{all_back, same_total, have_come_last, highest_place, of_group, group_total, group_few, group_come_last, votes_of_all, none_under}
 use Rattle.snow_topo.proofs.Counted.{came_last, counted_view}
 use Rattle.snow_topo.proofs.Merged.{all_came}
 use Rattle.snow_topo.proofs.Steady.{preferred_same}
@@ -23,11 +23,39 @@ climb-moved-requires-clause-places g c =
 pub climb-moved-requires-clause-climbing : goal.climb-moved-requires-clause-climbing
 climb-moved-requires-clause-climbing g c = (
   c.args.votes.now,
-  begun_at c.args.params.now c.args.votes.now c.args.tree.now.last c.args.tree.now.pending c.start_all.new.climbers.items c.last-last.ensures.grown c.start_all.ensures.same c.requires.counts c.requires.total,
+  begun_at c.args.params.now c.args.votes.now c.args.tree.now.last c.args.tree.now.pending c.start_all.new.ladder.climbers c.last-last.ensures.grown c.start_all.ensures.same c.requires.counts c.requires.total,
 )
 
 pub climb-moved-requires-clause-placed : goal.climb-moved-requires-clause-placed
-climb-moved-requires-clause-placed g c = placed_at c.args.tree.now.pending c.args.votes.now c.start_all.new.climbers.items c.start_all.ensures.same
+climb-moved-requires-clause-placed g c = placed_at c.args.tree.now.pending c.args.votes.now c.start_all.new.ladder.climbers c.start_all.ensures.same
+
+pub climb-moved-requires-clause-put : goal.climb-moved-requires-clause-put
+climb-moved-requires-clause-put g c = omega (arith, c.requires.fits, c.requires.ready.most, c.start_all.ensures.put, c.start_all.ensures.room.most)
+
+pub climb-moved-requires-clause-wide : goal.climb-moved-requires-clause-wide
+climb-moved-requires-clause-wide g c =
+    omega (arith, c.requires.fits, c.start_all.ensures.room.wide, length_permutation _ _ c.start_all.ensures.same, begun_few c.args.tree.now.pending c.args.votes.now)
+
+pub climb-moved-requires-clause-low : goal.climb-moved-requires-clause-low
+climb-moved-requires-clause-low g c = omega (arith, c.requires.ready.rungs, c.start_all.ensures.low)
+
+pub take-requires-clause-highest : goal.take-requires-clause-highest
+take-requires-clause-highest g c =
+    let held = c.args.tree.now in
+    let begun = begun_at c.args.params.now c.args.votes.now held.last held.pending c.start_all.new.ladder.climbers c.last-last.ensures.grown c.start_all.ensures.same c.requires.counts c.requires.total in
+    highest_place (blocks_in held.pending) 0 c.climb-moved.new.ladder.climbers c.climb-moved.ensures.placed (c.climb-moved.ensures.climbing c.args.votes.now begun).below
+
+pub take-requires-clause-wide : goal.take-requires-clause-wide
+take-requires-clause-wide g c =
+    omega (
+      arith,
+      c.requires.fits,
+      c.start_all.ensures.room.wide,
+      c.climb-moved.ensures.room.wide,
+      c.climb-moved.ensures.short,
+      length_permutation _ _ c.start_all.ensures.same,
+      begun_few c.args.tree.now.pending c.args.votes.now,
+    )
 
 pub record_root-first-requires-clause-places : goal.record_root-first-requires-clause-places
 record_root-first-requires-clause-places g c =
@@ -38,38 +66,50 @@ record_root-first-requires-clause-places g c =
       begun_few c.args.tree.now.pending c.args.votes.now,
       c.climb-moved.ensures.short,
       c.climb-moved.ensures.places,
-      ap length c.deref.ensures.value,
+      ap length c.came.ensures,
+      group_few 0 c.climb-moved.new.ladder.climbers c.take.new.self.came c.take.ensures.came,
     )
 
 pub record_root-first-requires-clause-placed : goal.record_root-first-requires-clause-placed
 record_root-first-requires-clause-placed g c =
     let long = ap length c.climb-moved.ensures.blocks in
-    rw c.deref.ensures.value
-    (λ k d h. omega (arith, (c.climb-moved.ensures.placed k d h).0, long, length-map c.climb-moved.new.tree.pending (λ e. e.block)))
+    let bs = blocks_in c.args.tree.now.pending in
+    let all = of_group (λ x. (x.passed < length bs) × (x.place ≡ reach bs (parent_in (slice_get bs x.passed)))) 0 c.climb-moved.new.ladder.climbers c.take.new.self.came c.take.ensures.came c.climb-moved.ensures.placed in
+    rw c.came.ensures
+    (λ k d h. omega (arith, (all k d h).0, long, length-map c.climb-moved.new.tree.pending (λ e. e.block)))
 
 pub record_root-first-requires-clause-counts : goal.record_root-first-requires-clause-counts
 record_root-first-requires-clause-counts g c =
     let bs = blocks_in c.args.tree.now.pending in
-    let begun = begun_at c.args.params.now c.args.votes.now c.args.tree.now.last c.args.tree.now.pending c.start_all.new.climbers.items c.last-last.ensures.grown c.start_all.ensures.same c.requires.counts c.requires.total in
-    rw c.deref.ensures.value (all_back (λ c. 0 < c.count) (cursor_of bs) c.climb-moved.new.climbers.items (c.climb-moved.ensures.climbing c.args.votes.now begun).counts)
+    let begun = begun_at c.args.params.now c.args.votes.now c.args.tree.now.last c.args.tree.now.pending c.start_all.new.ladder.climbers c.last-last.ensures.grown c.start_all.ensures.same c.requires.counts c.requires.total in
+    rw c.came.ensures
+    (of_group (λ x. 0 < x.count) 0 c.climb-moved.new.ladder.climbers c.take.new.self.came c.take.ensures.came
+    (all_back (λ x. 0 < x.count) (cursor_of bs) c.climb-moved.new.ladder.climbers (c.climb-moved.ensures.climbing c.args.votes.now begun).counts))
 
 pub record_root-first-requires-clause-total : goal.record_root-first-requires-clause-total
 record_root-first-requires-clause-total g c =
     let bs = blocks_in c.args.tree.now.pending in
-    let begun = begun_at c.args.params.now c.args.votes.now c.args.tree.now.last c.args.tree.now.pending c.start_all.new.climbers.items c.last-last.ensures.grown c.start_all.ensures.same c.requires.counts c.requires.total in
-    rw c.deref.ensures.value (omega (arith, (c.climb-moved.ensures.climbing c.args.votes.now begun).total, same_total bs c.climb-moved.new.climbers.items))
+    let begun = begun_at c.args.params.now c.args.votes.now c.args.tree.now.last c.args.tree.now.pending c.start_all.new.ladder.climbers c.last-last.ensures.grown c.start_all.ensures.same c.requires.counts c.requires.total in
+    omega (
+      arith,
+      (c.climb-moved.ensures.climbing c.args.votes.now begun).total,
+      same_total bs c.climb-moved.new.ladder.climbers,
+      ap climber_total c.came.ensures,
+      group_total 0 c.climb-moved.new.ladder.climbers c.take.new.self.came c.take.ensures.came,
+    )
 
 pub record_root-first-requires-clause-came : goal.record_root-first-requires-clause-came
 record_root-first-requires-clause-came g c =
     let held = c.args.tree.now in
     let next = c.climb-moved.new.tree in
-    let cs = c.climb-moved.new.climbers.items in
-    let begun = begun_at c.args.params.now c.args.votes.now held.last held.pending c.start_all.new.climbers.items c.last-last.ensures.grown c.start_all.ensures.same c.requires.counts c.requires.total in
+    let cs = c.climb-moved.new.ladder.climbers in
+    let begun = begun_at c.args.params.now c.args.votes.now held.last held.pending c.start_all.new.ladder.climbers c.last-last.ensures.grown c.start_all.ensures.same c.requires.counts c.requires.total in
     let climbing = c.climb-moved.ensures.climbing c.args.votes.now begun in
-    let come = have_come_last held.last (blocks_in held.pending) no_block cs c.last-last.ensures.grown climbing.below climbing.came c.climb-moved.ensures.placed in
-    rw c.deref.ensures.value
-    (subst (λ bs. All (HasCome bs next.last) (cursors_of bs cs)) (sym c.climb-moved.ensures.blocks)
-    (subst (λ id. All (HasCome (blocks_in held.pending) id) (cursors_of (blocks_in held.pending) cs)) (sym (ap (λ (t : Held _). t.last) c.climb-moved.ensures.rest)) come))
+    let came = c.take.new.self.came in
+    let come = group_come_last held.last (blocks_in held.pending) no_block cs came c.last-last.ensures.grown climbing.below climbing.came c.climb-moved.ensures.placed c.take.ensures.came in
+    rw c.came.ensures
+    (subst (λ bs. All (HasCome bs next.last) (cursors_of bs came)) (sym c.climb-moved.ensures.blocks)
+    (subst (λ id. All (HasCome (blocks_in held.pending) id) (cursors_of (blocks_in held.pending) came)) (sym (ap (λ (t : Held _). t.last) c.climb-moved.ensures.rest)) come))
 
 pub record_root-first-requires-clause-fit : goal.record_root-first-requires-clause-fit
 record_root-first-requires-clause-fit g c =
@@ -85,13 +125,14 @@ returns-clause-board g c =
     let held = c.args.tree.now in
     let next = c.climb-moved.new.tree in
     let bs = blocks_in held.pending in
-    let climbers = c.climb-moved.new.climbers.items in
-    let begun = begun_at p votes held.last held.pending c.start_all.new.climbers.items c.last-last.ensures.grown c.start_all.ensures.same c.requires.counts c.requires.total in
+    let climbers = c.climb-moved.new.ladder.climbers in
+    let begun = begun_at p votes held.last held.pending c.start_all.new.ladder.climbers c.last-last.ensures.grown c.start_all.ensures.same c.requires.counts c.requires.total in
     let took = c.record_root-first.ensures.taken (children_of bs held.last) c.requires.fit.root in
-    let here : votes_at (cursors_of (blocks_in next.pending) c.deref.result.now) next.last ≡ votes_at (cursors_of bs climbers) held.last =
-    λ i. votes_at (cursors_of (c.climb-moved.ensures.blocks i) (c.deref.ensures.value i)) (c.climb-moved.ensures.rest i).last
+    let here : votes_at (cursors_of (blocks_in next.pending) c.came.result.now) next.last ≡ votes_at (cursors_of bs c.take.new.self.came) held.last =
+    λ i. votes_at (cursors_of (c.climb-moved.ensures.blocks i) (c.came.ensures i)) (c.climb-moved.ensures.rest i).last
     in
-    let came = here ∙ came_last p votes held.last bs (cursors_of bs climbers) c.last-last.ensures.grown (c.climb-moved.ensures.climbing votes begun) in
+    let all : votes_at (cursors_of bs climbers) held.last ≡ votes_at (cursors_of bs c.take.new.self.came) held.last = λ i front. votes_of_all bs held.last climbers c.take.new.self.came front c.take.ensures.came i in
+    let came = here ∙ sym all ∙ came_last p votes held.last bs (cursors_of bs climbers) c.last-last.ensures.grown (c.climb-moved.ensures.climbing votes begun) in
     counted_view p c.args.polls c.args.root.now c.record_root-first.new.root held next votes c.climb-moved.ensures.rest
     (took.0 ∙ ap (λ f. all_polled p f (shown p c.args.polls c.args.root.now)) came) (c.climb-moved.ensures.pending votes begun)
 
@@ -123,14 +164,17 @@ returns-clause-steps g c =
     let votes = c.args.votes.now in
     let held = c.args.tree.now in
     let bs = blocks_in held.pending in
-    let climbers = c.climb-moved.new.climbers.items in
+    let climbers = c.climb-moved.new.ladder.climbers in
     let cs = cursors_of bs climbers in
-    let begun = begun_at p votes held.last held.pending c.start_all.new.climbers.items c.last-last.ensures.grown c.start_all.ensures.same c.requires.counts c.requires.total in
+    let begun = begun_at p votes held.last held.pending c.start_all.new.ladder.climbers c.last-last.ensures.grown c.start_all.ensures.same c.requires.counts c.requires.total in
     let climbing = c.climb-moved.ensures.climbing votes begun in
     let come = have_come_last held.last bs no_block climbers c.last-last.ensures.grown climbing.below climbing.came c.climb-moved.ensures.placed in
     let came = came_last p votes held.last bs cs c.last-last.ensures.grown climbing in
-    let total : climber_total c.deref.result.now ≡ votes_below bs votes held.last [] =
-    ap climber_total c.deref.ensures.value ∙ sym (same_total bs climbers) ∙ sym (all_came bs held.last cs come) ∙ ap (λ f. f []) came
+    let all : climber_total c.came.result.now ≡ climber_total climbers =
+    omega (arith, ap climber_total c.came.ensures, group_total 0 climbers c.take.new.self.came c.take.ensures.came, ap climber_total (none_under climbers))
+    in
+    let total : climber_total c.came.result.now ≡ votes_below bs votes held.last [] =
+    all ∙ sym (same_total bs climbers) ∙ sym (all_came bs held.last cs come) ∙ ap (λ f. f []) came
     in
     let own : c.record_root-first.new.steps ≤ c.climb-moved.new.steps + 5 * recording_at p bs votes held.last =
     subst (λ (l : List (List ℕ)). c.record_root-first.new.steps ≤ c.climb-moved.new.steps + 5 * (if nat_le p.alpha_preference (votes_below bs votes held.last []) then length l else 0)) c.requires.fit.root.ids

@@ -1,11 +1,12 @@
-use Rattle.std.proofs.Common.{◌≡◌, ◌≤◌, IsPermutation, filter_map, length, take, vec_capacity}
-use Rattle.snow_topo.specs.Climbing.{begun, AreRising}
+use Rattle.std.proofs.Common.{◌≡◌, ◌≤◌, IsPermutation, filter_map, length, take}
+use Rattle.snow_topo.specs.Climbing.{begun}
+use Rattle.snow_topo.specs.Ladder.{KeepsRoom}
 use Rattle.snow_topo.proofs.starting.start_all.Given as goal
 
 abbrev pub invariant-loop-vote : goal.invariant-loop-vote
 invariant-loop-vote g l = record {
-  rising : AreRising l.climbers.items;
-  same : IsPermutation (filter_map (begun l.tree.pending) (take l.vote-index l.votes)) l.climbers.items;
-  short : length l.climbers.items ≤ l.vote-index;
-  room : vec_capacity l.climbers ≡ vec_capacity l.fn.climbers;
+  same : IsPermutation (filter_map (begun l.tree.pending) (take l.vote-index l.votes)) l.ladder.climbers;
+  put : l.ladder.put ≤ l.vote-index;
+  low : l.ladder.low ≡ l.fn.ladder.rungs;
+  room : KeepsRoom l.fn.ladder l.ladder;
 }

@@ -9,14 +9,14 @@ pub tell-requires : goal.tell-requires
 tell-requires g c =
     let all = c.args.nodes.now.entries in
     let child = c.args.child.now in
-    let told = map (λ e. e.0.id) (filter (λ e. not (descends (blocks_of all) child e.0.id)) (take c.loop-place.place all)) in
+    let told = map (λ e. e.0) (filter (λ e. not (descends (blocks_of all) child e.0)) (take c.loop-place.place all)) in
     omega (
       arith,
       c.loop-place.rejected.ok.0,
       c.args.rejected.now.ok.0,
       ap length c.loop-place.invariant.told,
       length-append c.args.rejected.now.items told,
-      few_told (λ e. not (descends (blocks_of all) child e.0.id)) all c.loop-place.place (omega (arith, c.loop-place-test.true, c.len-place-end.ensures.len)),
+      few_told (λ e. not (descends (blocks_of all) child e.0)) all c.loop-place.place (omega (arith, c.loop-place-test.true, c.len-place-end.ensures.len)),
       c.loop-place.invariant.room,
       c.requires.room,
       c.loop-place-test.true,
@@ -29,7 +29,7 @@ loop-place-preserved g c =
     let child = c.args.child.now in
     let place = c.loop-place.place in
     let inside : place < length all = omega (arith, c.loop-place-test.true, c.len-place-end.ensures.len) in
-    let told = map (λ e. e.0.id) (filter (λ e. not (descends (blocks_of all) child e.0.id)) (take place all)) in
+    let told = map (λ e. e.0) (filter (λ e. not (descends (blocks_of all) child e.0)) (take place all)) in
     elim c.match-block_at.branch [
       | in-Some w ↦
           let step = judge_step c.args.last.now child all c.loop-place.nodes.entries w.note.new.nodes.entries place w.in-Some.block w.is_out-is_rejected.result c.requires.grown inside
@@ -50,5 +50,5 @@ pub returns-clause-told : goal.returns-clause-told
 returns-clause-told g c =
     let all = c.args.nodes.now.entries in
     c.loop-place.invariant.told
-    ∙ ap (λ l. c.args.rejected.now.items ++ map (λ e. e.0.id) (filter (λ e. not (descends (blocks_of all) c.args.child.now e.0.id)) l))
+    ∙ ap (λ l. c.args.rejected.now.items ++ map (λ e. e.0) (filter (λ e. not (descends (blocks_of all) c.args.child.now e.0)) l))
     (take_all c.loop-place.place all (omega (arith, c.loop-place-test.false, c.len-place-end.ensures.len)))

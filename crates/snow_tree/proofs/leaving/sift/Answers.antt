@@ -8,8 +8,8 @@ returns-then-first_stays-clause-taken g c =
     λ e later is.
     let child = c.args.child.now in
     let stays = sym (c.first_stays.ensures e later is) ∙ c.if-first_stays.true in
-    let other : bytes_eq e.0.id child ≡ false = unless (bytes_eq e.0.id child) (and_parts (not e.1.is_rejected) (not (bytes_eq e.0.id child)) stays).1 in
-    rw (differs_back child e.0.id other) refl
+    let other : bytes_eq e.0 child ≡ false = unless (bytes_eq e.0 child) (and_parts (not e.1.is_rejected) (not (bytes_eq e.0 child)) stays).1 in
+    rw (differs_back child e.0 other) refl
   where
     unless : (t : Bool) → not t ≡ true → t ≡ false
     unless true h = absurd cc

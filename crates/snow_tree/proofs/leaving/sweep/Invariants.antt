@@ -6,5 +6,5 @@ use Rattle.snow_tree.proofs.leaving.sweep.Given as goal
 abbrev pub invariant-loop-place : goal.invariant-loop-place
 invariant-loop-place g l = record {
   nodes : l.nodes.entries ≡ drop l.place l.initial.nodes.entries ++ filter (stays_by_note l.child) (take l.place l.initial.nodes.entries);
-  taken : l.taken ≡ lookup (λ k. bytes_eq l.child k.id) (take l.place l.initial.nodes.entries);
+  taken : l.taken ≡ lookup (bytes_eq l.child) (take l.place l.initial.nodes.entries);
 }

@@ -20,7 +20,7 @@ returns-then-is_alone-clause-told g c =
 
 pub returns-clause-node : goal.returns-clause-node
 returns-clause-node g c =
-    c.sweep.ensures.node ∙ ap (lookup (λ k. bytes_eq c.args.child.now k.id)) c.judge_all.ensures.nodes
+    c.sweep.ensures.node ∙ ap (lookup (bytes_eq c.args.child.now)) c.judge_all.ensures.nodes
     ∙ lookup_judged c.args.child.now c.args.nodes.now.entries c.requires.clear
 
 pub returns-clause-left : goal.returns-clause-left

@@ -14,10 +14,10 @@ returns-then-eq-clause-nodes g c =
 
 pub returns-in-Some-clause-nodes : goal.returns-in-Some-clause-nodes
 returns-in-Some-clause-nodes g c =
-    linked_at c.link_at.result c.args.block.now c.args.nodes.now.entries c.link_at.new.nodes.entries c.in-Some.at c.get_index_of.ensures.unique
-    (sym c.get_index_of.ensures.index ∙ c.in-Some.is) c.link_at.ensures.ok
+    linked_at c.link_at.result c.args.block.now c.args.nodes.now.entries c.link_at.new.nodes.entries c.in-Some.at c.find.ensures.unique
+    (sym c.find.ensures.index ∙ c.in-Some.is) c.link_at.ensures.ok
 
 pub returns-in-None-clause-nodes : goal.returns-in-None-clause-nodes
 returns-in-None-clause-nodes g c =
     let block = c.args.block.now in
-    sym (none_changed (linked block) block.parent (linked_only block) c.args.nodes.now.entries (not_placed c.args.nodes.now.entries block.parent (sym c.get_index_of.ensures.index ∙ c.in-None.is)))
+    sym (none_changed (linked block) block.parent (linked_only block) c.args.nodes.now.entries (not_placed c.args.nodes.now.entries block.parent (sym c.find.ensures.index ∙ c.in-None.is)))

@@ -1,10 +1,11 @@
-use Rattle.std.proofs.Common.{◌≡◌, ◌+◌, length, sym, ap, subst, ◌∙◌, arith}
+use Rattle.std.proofs.Common.{◌≡◌, ◌+◌, ◌≤◌, length, sym, ap, subst, ◌∙◌, arith}
 use Rattle.snow_base.specs.Votes.{total_count}
 use Rattle.snow_plain.specs.Board.{Board, blocks_of}
 use Rattle.snow_plain.specs.Poll.{poll}
 use Rattle.snow_plain.specs.Shown.{Shown}
 use Rattle.snow_plain.proofs.Polled.{few_votes}
 use Rattle.snow_tree.specs.Held.{blocks_in}
+use Rattle.snow_topo.specs.Ladder.{IsReady}
 use Rattle.snow_topo.specs.Recording.{recording}
 use Rattle.snow_topo.specs.View.{view}
 use Rattle.snow_topo.specs.Walking.{AreNamed}
@@ -24,6 +25,20 @@ apply-moved-requires-clause-fits g c =
       ap (λ (s : Shown). s.board.parameters.k) c.self.view_is,
       c.self.invariant.room.counts,
     )
+
+pub apply-moved-requires-clause-ready : goal.apply-moved-requires-clause-ready
+apply-moved-requires-clause-ready g c =
+    let a = c.self.inside in
+    let board = c.renew-self-inside.ensures.board a.params c.self.invariant.fit in
+    let long : length c.renew-self-inside.new.tree.pending ≡ length a.tree.pending =
+    omega (
+      arith,
+      ap (λ (b : Board). length b.pending) board,
+      view_length a.params c.renew-self-inside.result c.renew-self-inside.new.root c.renew-self-inside.new.tree,
+      view_length a.params a.polls a.root a.tree,
+    )
+    in
+    subst (λ n. IsReady n a.ladder) (sym long) c.self.invariant.ready
 
 pub apply-moved-requires-clause-places : goal.apply-moved-requires-clause-places
 apply-moved-requires-clause-places g c =
@@ -57,6 +72,15 @@ pub invariant_of-self : goal.invariant_of-self
 invariant_of-self g c =
     let a = c.self.inside in
     let at = (goal.at.invariant_of-self g c).After-apply-moved in
+    let fewer : length c.apply-moved.new.tree.pending ≤ length a.tree.pending =
+    omega (
+      arith,
+      c.apply-moved.ensures.fewer,
+      ap (λ (b : Board). length b.pending) (anew g at),
+      view_length a.params c.renew-self-inside.result c.renew-self-inside.new.root c.renew-self-inside.new.tree,
+      view_length a.params a.polls a.root a.tree,
+    )
+    in
     record {
       fit = c.apply-moved.ensures.fit;
       named = names g at;
@@ -72,8 +96,13 @@ invariant_of-self g c =
               c.apply-moved.ensures.decisions,
               c.self.invariant.room.decides,
             );
-        counts = omega (arith, c.apply-moved.ensures.climbers, c.self.invariant.room.counts);
+        counts = omega (arith, c.apply-moved.ensures.ladder.wide, c.self.invariant.room.counts);
         gathers = omega (arith, c.apply-moved.ensures.places, c.self.invariant.room.gathers);
+      };
+      ready = record {
+        low = c.apply-moved.ensures.low;
+        most = omega (arith, fewer, c.apply-moved.ensures.ladder.most, c.apply-moved.ensures.ladder.wide, c.self.invariant.ready.most);
+        rungs = omega (arith, fewer, c.apply-moved.ensures.ladder.rungs, c.self.invariant.ready.rungs);
       };
     }
 

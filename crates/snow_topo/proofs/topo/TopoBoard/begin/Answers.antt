@@ -5,5 +5,5 @@ use Rattle.snow_topo.proofs.topo.TopoBoard.begin.Goals as goal
 
 pub invariant_of-result : goal.invariant_of-result
 invariant_of-result g c =
-    rw (c.new.ensures, c.new-2.ensures)
-    (begun_standing g.R.Rule.answer c.args.params c.args.last c.args.height _ _ _ (grind (arith, common_steps)) (grind (arith, common_steps)))
+    rw (c.new-2.ensures, c.new-3.ensures)
+    (begun_standing g.R.Rule.answer c.args.params c.args.last c.in_ok-ladder.ladder c.args.height _ _ c.in_ok-ladder.ensures.ready (grind (arith, common_steps)) (grind (arith, common_steps)))

@@ -1,4 +1,4 @@
-use Rattle.std.proofs.Common.{◌≡◌, length, sym, ap, subst, ◌∙◌, arith}
+use Rattle.std.proofs.Common.{◌≡◌, ◌+◌, length, sym, ap, subst, ◌∙◌, arith}
 use Rattle.std.proofs.lemmas.Grind.{common_steps}
 use Rattle.snow_base.specs.declared.header.Header.{Header}
 use Rattle.snow_plain.specs.declared.leading.Leading.{Leading}
@@ -8,6 +8,7 @@ use Rattle.snow_plain.specs.Preference.{preferred}
 use Rattle.snow_plain.specs.Reached.{MayIssue}
 use Rattle.snow_plain.specs.Shown.{Shown}
 use Rattle.snow_plain.proofs.Ended.{latest_alone, leading_issued}
+use Rattle.snow_topo.specs.Ladder.{IsReady}
 use Rattle.snow_topo.specs.View.{view}
 use Rattle.snow_topo.proofs.Standings.{issue_unknown, issue_follows, grown_seen, issued_length, view_length, names_issued, names_seen, names_kept}
 use Rattle.snow_topo.proofs.topo.TopoBoard.issue.Goals as goal
@@ -58,7 +59,12 @@ invariant_of-self-2 g c =
       preference = c.preference_after-self-inside.ensures ∙ ap (λ b. (leading_after answer leading b child).block) new ∙ after.block ∙ ap (preferred answer) (sym new);
       room = record {
         decides = let before = view_length a.params a.polls a.root a.tree in grind (arith, common_steps);
-        counts = c.self.invariant.room.counts;
+        counts = omega (arith, c.make_room.ensures.wide, c.self.invariant.room.counts);
         gathers = c.self.invariant.room.gathers;
       };
+      ready =
+          let size : c.len-pending.result + 1 ≡ length c.issue.new.tree.pending =
+          omega (arith, c.len-pending.ensures, longer, view_length a.params a.polls a.root a.tree, view_length a.params a.polls c.issue.new.root c.issue.new.tree)
+          in
+          subst (λ n. IsReady n c.make_room.new.self) size c.in_ok-make_room.ensures.ok;
     }

@@ -9,7 +9,7 @@ returns-in_err-place g c =
     record {
       value = ap option_copied c.from_residual.ensures
           ∙ ap (value_at entries) (sym c.in_err-place.was ∙ c.get_index_of.ensures.index)
-          ∙ value_found (λ k. bytes_eq c.args.id.now k.id) entries;
+          ∙ value_found (bytes_eq c.args.id.now) entries;
     }
 
 pub returns-in-Some : goal.returns-in-Some
@@ -18,7 +18,7 @@ returns-in-Some g c =
     record {
       value = sym (ap (option_map (λ e. e.1)) (sym c.get_index.ensures ∙ ap (option_map (λ e. (e.0.now, e.1.now))) c.in-Some.is))
           ∙ ap (value_at entries) (sym c.in_ok-place.was ∙ c.get_index_of.ensures.index)
-          ∙ value_found (λ k. bytes_eq c.args.id.now k.id) entries;
+          ∙ value_found (bytes_eq c.args.id.now) entries;
     }
 
 pub returns-in-None : goal.returns-in-None
@@ -27,5 +27,5 @@ returns-in-None g c =
     record {
       value = sym (ap (option_map (λ e. e.1)) (sym c.get_index.ensures ∙ ap (option_map (λ e. (e.0.now, e.1.now))) c.in-None.is))
           ∙ ap (value_at entries) (sym c.in_ok-place.was ∙ c.get_index_of.ensures.index)
-          ∙ value_found (λ k. bytes_eq c.args.id.now k.id) entries;
+          ∙ value_found (bytes_eq c.args.id.now) entries;
     }

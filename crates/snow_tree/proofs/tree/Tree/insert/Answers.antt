@@ -1,9 +1,8 @@
-use Rattle.std.proofs.Common.{◌≡◌, ◌∷◌, ◌++◌, [], true, false, map, refl, sym, ap, ◌∙◌, arith}
+use Rattle.std.proofs.Common.{◌≡◌, ℕ, List, ◌∷◌, ◌++◌, [], true, false, map, refl, sym, ap, ◌∙◌, arith}
 use Rattle.std.proofs.lemmas.Bool.{or_parts}
 use Rattle.std.proofs.lemmas.List.{map-append}
 use Rattle.snow_base.specs.declared.header.Header.{Header}
 use Rattle.snow_plain.specs.Grown.{has_block, is_on}
-use Rattle.snow_tree.specs.declared.key.Key.{Key}
 use Rattle.snow_tree.specs.declared.node.Node.{Node}
 use Rattle.snow_tree.specs.Held.{blocks_in}
 use Rattle.snow_tree.specs.Nodes.{blocks_of, entry_of, linked, with_children}
@@ -38,7 +37,7 @@ invariant_of-self-2 g c =
     let unknown : is_on last (blocks_in (map entry_of nodes)) c.args.id ≡ false = rw (← c.self.view_is) at c.requires.unknown in
     let follows : is_on last (blocks_in (map entry_of nodes)) c.args.parent ≡ true = rw (← c.self.view_is) at c.requires.follows in
     rw (c.push.ensures, ok_after c.make_room-room.result went c.make_room-room.ensures.nodes, ok_after c.make_room-room.result went c.make_room-room.ensures.first)
-    (kept_issued last c.self.inside.children nodes _ _ (record { id = c.args.id }) _ c.self.invariant c.new.ensures refl
+    (kept_issued last c.self.inside.children nodes _ _ c.args.id _ c.self.invariant c.new.ensures refl
     (ap (λ l. is_on last l c.args.id) (sym (same_blocks nodes)) ∙ unknown)
     (ap (λ l. is_on last l c.args.parent) (sym (same_blocks nodes)) ∙ follows)
     (omega (arith, (ok_after c.make_room-room.result went c.make_room-room.ensures.room).1, c.clear.ensures.capacity)))
@@ -48,7 +47,7 @@ returns-clause-ok g c =
     let nodes = c.self.inside.nodes.entries in
     let block : Header = record { id = c.args.id; parent = c.args.parent; height = c.args.height } in
     let went = sym c.is_err.ensures.value ∙ c.if-is_err.false in
-    let new : Key × Node g.row.T.Denot = (record { id = c.args.id }, record { parent = c.args.parent; height = c.args.height; children = c.new.result; is_rejected = false; load = c.args.load }) in
+    let new : List ℕ × Node g.row.T.Denot = (c.args.id, record { parent = c.args.parent; height = c.args.height; back = _; children = c.new.result; is_rejected = false; load = c.args.load }) in
     let seen = ap (map entry_of) (c.push.ensures ∙ ap (λ l. l ++ new ∷ []) (ok_after c.make_room-room.result went c.make_room-room.ensures.nodes))
     ∙ map-append entry_of (map (with_children (linked block)) nodes) (new ∷ []) ∙ ap (λ l. l ++ record { block = block; load = c.args.load } ∷ []) (seen_changed (linked block) nodes)
     in

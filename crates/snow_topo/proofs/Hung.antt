@@ -1,0 +1,426 @@
+-- Lemmas on how a ladder is kept.
+use Rattle.std.proofs.Common.{◌≡◌, ℕ, zero, suc, ◌+◌, ◌-◌, ◌*◌, ◌/◌, ◌%◌, ◌^◌, ◌<◌, ◌≤◌, ◌==◌, ◌≢◌, Bool, true, false, not, nat_lt, List, [], ◌∷◌, ◌++◌, length, get_or, set, take, map, filter, All, IsPermutation, refl, sym, ap, subst, ◌∙◌, arith, append_assoc, length-append, if◌then◌else◌}
+use Rattle.std.specs.Int.{bit_at}
+use Rattle.std.proofs.Math.Nat.{pow-suc}
+use Rattle.std.proofs.Math.Seq.{get_or-append_seam, take-append_seam}
+use Rattle.std.proofs.lemmas.Grind.{common_steps}
+use Rattle.std.proofs.lemmas.List.{get_or_append_left, get_or-set_same, get_or-set_other, length-set, map-append, length-map, take_more, take_all}
+use Rattle.std.proofs.lemmas.List.Elements.{All-cons, All-nil, All-head, All-tail, filter-append}
+use Rattle.std.proofs.lemmas.List.Sorted.{IsPermutation-refl, IsPermutation-cons, IsPermutation-trans, IsPermutation-to_front, length_permutation}
+use Rattle.std.proofs.lemmas.Nat.Bits.{bit_at-zero, bit_at_above}
+use Rattle.snow_plain.proofs.Cases.{split_on, clash}
+use Rattle.snow_topo.specs.declared.climber.Climber.{Climber}
+use Rattle.snow_topo.specs.declared.ladder.Link.{Link}
+use Rattle.snow_topo.specs.Ladder.{under, up_from, no_link, climbers_of, latest, group, mark_at, AreLinked, IsHung}
+use Rattle.snow_topo.proofs.Halfway.{halves}
+
+-- numbers that are found equal, and those that aren't
+same_nat : (a b : ℕ) → (a == b) ≡ true → a ≡ b
+same_nat a b h = grind (arith, common_steps)
+
+nat_same : (a b : ℕ) → a ≡ b → (a == b) ≡ true
+nat_same a b h = grind (arith, common_steps)
+
+nat_other : (a b : ℕ) → (a ≡ b → ⊥) → (a == b) ≡ false
+nat_other a b h = grind (arith, common_steps)
+
+is_less : (a b : ℕ) → nat_lt a b ≡ true → a < b
+is_less a b h = grind (arith, common_steps)
+
+no_less : (a b : ℕ) → nat_lt a b ≡ false → b ≤ a
+no_less a b h = grind (arith, common_steps)
+
+less_is : (a b : ℕ) → a < b → nat_lt a b ≡ true
+less_is a b h = grind (arith, common_steps)
+
+less_not : (a b : ℕ) → b ≤ a → nat_lt a b ≡ false
+less_not a b h = grind (arith, common_steps)
+
+-- ---- who was put on a rung last
+
+-- stands among those that are asked
+pub latest_within : (links : List Link) (n place : ℕ) → latest links n place ≤ n
+latest_within links zero place = omega arith
+latest_within links (suc n) place =
+    split_on ((get_or links n no_link).climber.place == place)
+    (λ t. rw t (omega arith))
+    (λ t. rw t (omega (arith, latest_within links n place)))
+
+-- and looks for the place
+pub latest_looks : (links : List Link) (n place i : ℕ) → latest links n place ≡ suc i → ((get_or links i no_link).climber.place ≡ place) × (i < n)
+latest_looks links zero place i h = absurd (omega (arith, h))
+latest_looks links (suc n) place i h =
+    split_on ((get_or links n no_link).climber.place == place)
+    (λ t.
+    let m = rw t at h in
+    let same : n ≡ i = omega (arith, m) in
+    (subst (λ j. (get_or links j no_link).climber.place ≡ place) same (same_nat (get_or links n no_link).climber.place place t), omega (arith, same)))
+    (λ t.
+    let m = rw t at h in
+    let rest = latest_looks links n place i m in
+    (rest.0, omega (arith, rest.1)))
+
+-- where none looks for the place there is none
+pub latest_none : (links : List Link) (n place : ℕ) → ((i : ℕ) → i < n → (get_or links i no_link).climber.place ≡ place → ⊥) → latest links n place ≡ 0
+latest_none links zero place none = refl
+latest_none links (suc n) place none =
+    rw (nat_other (get_or links n no_link).climber.place place (none n (omega arith))) (latest_none links n place (λ i h. none i (omega (arith, h))))
+
+-- those that are put on later change nothing
+pub latest_before : (links : List Link) (l : Link) (n place : ℕ) → n ≤ length links → latest (links ++ l ∷ []) n place ≡ latest links n place
+latest_before links l zero place h = refl
+latest_before links l (suc n) place h =
+    let here = get_or_append_left links (l ∷ []) no_link n (omega (arith, h)) in
+    (λ j. if (here j).climber.place == place then suc n else latest (links ++ l ∷ []) n place)
+    ∙ ap (λ m. if (get_or links n no_link).climber.place == place then suc n else m) (latest_before links l n place (omega (arith, h)))
+
+-- one more
+pub latest_more : (links : List Link) (l : Link) (place : ℕ) → latest (links ++ l ∷ []) (length (links ++ l ∷ [])) place ≡ (if l.climber.place == place then suc (length links) else latest links (length links) place)
+latest_more links l place =
+    let long : length (links ++ l ∷ []) ≡ suc (length links) = omega (arith, length-append links (l ∷ [])) in
+    ap (λ n. latest (links ++ l ∷ []) n place) long
+    ∙ (λ j. if (get_or-append_seam links l [] no_link j).climber.place == place then suc (length links) else latest (links ++ l ∷ []) (length links) place)
+    ∙ ap (λ m. if l.climber.place == place then suc (length links) else m) (latest_before links l (length links) place (omega arith))
+
+-- ---- all that were put on a rung
+
+-- are those up to the last one
+group_latest : (links : List Link) (n place : ℕ) → group links n place ≡ group links (latest links n place) place
+group_latest links zero place = refl
+group_latest links (suc n) place =
+    split_on ((get_or links n no_link).climber.place == place)
+    (λ t.
+    let own : group links (suc n) place ≡ (get_or links n no_link).climber ∷ group links n place = rw t refl in
+    let last : latest links (suc n) place ≡ suc n = rw t refl in
+    sym (ap (λ m. group links m place) last))
+    (λ t.
+    let own : group links (suc n) place ≡ group links n place = rw t refl in
+    let last : latest links (suc n) place ≡ latest links n place = rw t refl in
+    own ∙ group_latest links n place ∙ sym (ap (λ m. group links m place) last))
+
+-- the last one, and then those before it
+group_next : (links : List Link) (n place i : ℕ) → latest links n place ≡ suc i → group links n place ≡ (get_or links i no_link).climber ∷ group links i place
+group_next links n place i h =
+    let looks = latest_looks links n place i h in
+    let own : group links (suc i) place ≡ (get_or links i no_link).climber ∷ group links i place = rw (nat_same (get_or links i no_link).climber.place place looks.0) refl in
+    group_latest links n place ∙ ap (λ m. group links m place) h ∙ own
+
+-- those that were met on the way along a rung, with the number of the next
+pub record IsFollowed (links : List Link) (place number : ℕ) (came : List Climber) : Type 0 where
+  pub upto : ℕ
+  pub within : upto ≤ length links
+  pub next : number ≡ latest links upto place
+  pub all : came ++ group links upto place ≡ group links (length links) place
+
+pub followed_first : (links : List Link) (place head : ℕ) (came : List Climber) → came ≡ [] → head ≡ latest links (length links) place → IsFollowed links place head came
+followed_first links place head came none is = record {
+  upto = length links;
+  within = omega arith;
+  next = is;
+  all = ap (λ l. l ++ group links (length links) place) none;
+}
+
+pub followed_within : (links : List Link) (place number : ℕ) (came : List Climber) → IsFollowed links place number came → number ≤ length links
+followed_within links place number came so_far = omega (arith, so_far.next, so_far.within, latest_within links so_far.upto place)
+
+-- the one of a number, and those before it
+here : (links : List Link) (place number : ℕ) (came : List Climber) → 0 < number → (so_far : IsFollowed links place number came)
+    → ((get_or links (number - 1) no_link).climber.place ≡ place) × (number - 1 < so_far.upto) × (group links so_far.upto place ≡ (get_or links (number - 1) no_link).climber ∷ group links (number - 1) place)
+here links place number came some so_far =
+    let is : latest links so_far.upto place ≡ suc (number - 1) = omega (arith, so_far.next, some) in
+    let looks = latest_looks links so_far.upto place (number - 1) is in
+    (looks.0, looks.1, group_next links so_far.upto place (number - 1) is)
+
+pub followed_room : (links : List Link) (place number : ℕ) (came : List Climber) → 0 < number → IsFollowed links place number came → length came < length (group links (length links) place)
+followed_room links place number came some so_far =
+    let at = here links place number came some so_far in
+    omega (arith, ap length so_far.all, length-append came (group links so_far.upto place), ap length at.2)
+
+pub followed_more : (links : List Link) (place number : ℕ) (came : List Climber) → AreLinked links → 0 < number → IsFollowed links place number came
+    → IsFollowed links place (get_or links (number - 1) no_link).next (came ++ (get_or links (number - 1) no_link).climber ∷ [])
+followed_more links place number came linked some so_far =
+    let at = here links place number came some so_far in
+    let inside : number - 1 < length links = omega (arith, at.1, so_far.within) in
+    let x = (get_or links (number - 1) no_link).climber in
+    record {
+      upto = number - 1;
+      within = omega (arith, inside);
+      next = linked (number - 1) inside ∙ ap (latest links (number - 1)) at.0;
+      all = append_assoc came (x ∷ []) (group links (number - 1) place) ∙ ap (λ l. came ++ l) (sym at.2) ∙ so_far.all;
+    }
+
+pub followed_falls : (links : List Link) (number : ℕ) → AreLinked links → 0 < number → number ≤ length links → (get_or links (number - 1) no_link).next < number
+followed_falls links number linked some within =
+    omega (arith, some, linked (number - 1) (omega (arith, some, within)), latest_within links (number - 1) (get_or links (number - 1) no_link).climber.place)
+
+pub followed_all : (links : List Link) (place number : ℕ) (came : List Climber) → number ≤ 0 → IsFollowed links place number came → came ≡ group links (length links) place
+followed_all links place number came none so_far =
+    let no_more : latest links so_far.upto place ≡ 0 = omega (arith, so_far.next, none) in
+    let empty : group links so_far.upto place ≡ [] = group_latest links so_far.upto place ∙ ap (λ m. group links m place) no_more in
+    sym (append_nil came) ∙ ap (λ l. came ++ l) (sym empty) ∙ so_far.all
+  where
+    append_nil : (xs : List Climber) → xs ++ [] ≡ xs
+    append_nil [] = refl
+    append_nil (x ∷ xs) = ap (λ l. x ∷ l) (append_nil xs)
+
+-- ---- what is seen of those that were put on
+
+-- what is so of all that stand below a rung
+pub seen_each : (P : Climber → Type 0) (low : ℕ) (links : List Link) → All P (under low (climbers_of links)) → (i : ℕ) → i < length links → (get_or links i no_link).climber.place < low → P (get_or links i no_link).climber
+seen_each P low [] all i h lower = absurd (omega (arith, h))
+seen_each P low (l ∷ links) all zero h lower =
+    let m = rw (less_is l.climber.place low lower) at all in
+    All-head P l.climber (under low (climbers_of links)) m
+seen_each P low (l ∷ links) all (suc i) h lower =
+    split_on (nat_lt l.climber.place low)
+    (λ t. let m = rw t at all in seen_each P low links (All-tail P l.climber (under low (climbers_of links)) m) i (omega (arith, h)) lower)
+    (λ t. let m = rw t at all in seen_each P low links m i (omega (arith, h)) lower)
+
+pub each_seen : (P : Climber → Type 0) (low : ℕ) (links : List Link) → ((i : ℕ) → i < length links → (get_or links i no_link).climber.place < low → P (get_or links i no_link).climber) → All P (under low (climbers_of links))
+each_seen P low [] each = All-nil P
+each_seen P low (l ∷ links) each =
+    let rest = each_seen P low links (λ i h lower. each (suc i) (omega (arith, h)) lower) in
+    split_on (nat_lt l.climber.place low)
+    (λ t. rw t (All-cons P l.climber (under low (climbers_of links)) (each 0 (omega arith) (is_less l.climber.place low t)) rest))
+    (λ t. rw t rest)
+
+-- those below a rung are below a higher one
+pub under_twice : (rung low : ℕ) (cs : List Climber) → rung < low → under rung (under low cs) ≡ under rung cs
+under_twice rung low [] h = refl
+under_twice rung low (c ∷ cs) h =
+    let rest = under_twice rung low cs h in
+    split_on (nat_lt c.place low)
+    (λ t. rw t (split_on (nat_lt c.place rung) (λ s. rw s (ap (λ l. c ∷ l) rest)) (λ s. rw s rest)))
+    (λ t. let s : nat_lt c.place rung ≡ false = less_not c.place rung (omega (arith, no_less c.place low t, h)) in rw (t, s) rest)
+
+-- one more that stands below a rung
+pub under_more : (low : ℕ) (links : List Link) (l : Link) → l.climber.place < low → under low (climbers_of (links ++ l ∷ [])) ≡ under low (climbers_of links) ++ l.climber ∷ []
+under_more low links l lower =
+    let one : under low (l.climber ∷ []) ≡ l.climber ∷ [] = rw (less_is l.climber.place low lower) refl in
+    ap (under low) (map-append (λ (x : Link). x.climber) links (l ∷ []))
+    ∙ filter-append (λ c. nat_lt c.place low) (climbers_of links) (l.climber ∷ [])
+    ∙ ap (λ r. under low (climbers_of links) ++ r) one
+
+-- those of a rung
+abbrev on_rung : ℕ → List Climber → List Climber
+on_rung place cs = filter (λ c. c.place == place) cs
+
+-- are those that don't stand below it, where nobody stands higher
+picked : (rung low : ℕ) (cs : List Climber) → rung < low → All (λ c. c.place ≤ rung) (under low cs) → up_from rung (under low cs) ≡ on_rung rung cs
+picked rung low [] h all = refl
+picked rung low (c ∷ cs) h all =
+    split_on (nat_lt c.place low)
+    (λ t.
+    let m = rw t at all in
+    let own : c.place ≤ rung = All-head (λ c. c.place ≤ rung) c (under low cs) m in
+    let rest = picked rung low cs h (All-tail (λ c. c.place ≤ rung) c (under low cs) m) in
+    rw t
+    (split_on (nat_lt c.place rung)
+    (λ s. let other : (c.place == rung) ≡ false = nat_other c.place rung (λ e. omega (arith, e, is_less c.place rung s)) in rw (s, other) rest)
+    (λ s. let same : (c.place == rung) ≡ true = nat_same c.place rung (omega (arith, own, no_less c.place rung s)) in rw (s, same) (ap (λ l. c ∷ l) rest))))
+    (λ t.
+    let m = rw t at all in
+    let other : (c.place == rung) ≡ false = nat_other c.place rung (λ e. omega (arith, e, no_less c.place low t, h)) in
+    rw (t, other) (picked rung low cs h m))
+
+-- the group of a rung has them all
+grouped : (links : List Link) (n place : ℕ) → n ≤ length links → IsPermutation (on_rung place (climbers_of (take n links))) (group links n place)
+grouped links zero place h = subst (λ l. IsPermutation (on_rung place (climbers_of l)) []) (sym (none links)) (IsPermutation-refl [])
+  where
+    none : (xs : List Link) → take zero xs ≡ []
+    none [] = refl
+    none (x ∷ xs) = refl
+grouped links (suc n) place h =
+    let x = (get_or links n no_link).climber in
+    let rest = grouped links n place (omega (arith, h)) in
+    let next : suc n ≡ n + 1 = omega arith in
+    let whole : on_rung place (climbers_of (take (suc n) links)) ≡ on_rung place (climbers_of (take n links)) ++ on_rung place (x ∷ []) =
+    ap (λ m. on_rung place (climbers_of (take m links))) next
+    ∙ ap (λ l. on_rung place (climbers_of l)) (take_more links n no_link (omega (arith, h)))
+    ∙ ap (on_rung place) (map-append (λ (y : Link). y.climber) (take n links) (get_or links n no_link ∷ []))
+    ∙ filter-append (λ c. c.place == place) (climbers_of (take n links)) (x ∷ [])
+    in
+    subst (λ l. IsPermutation l (group links (suc n) place)) (sym whole)
+    (split_on (x.place == place)
+    (λ t.
+    let one : on_rung place (x ∷ []) ≡ x ∷ [] = rw t refl in
+    let own : group links (suc n) place ≡ x ∷ group links n place = rw t refl in
+    subst (λ l. IsPermutation (on_rung place (climbers_of (take n links)) ++ l) (group links (suc n) place)) (sym one)
+    (subst (IsPermutation (on_rung place (climbers_of (take n links)) ++ x ∷ [])) (sym own)
+    (IsPermutation-trans _ _ _ (IsPermutation-to_front (on_rung place (climbers_of (take n links))) x) (IsPermutation-cons x _ _ rest))))
+    (λ t.
+    let one : on_rung place (x ∷ []) ≡ [] = rw t refl in
+    let own : group links (suc n) place ≡ group links n place = rw t refl in
+    subst (λ l. IsPermutation (on_rung place (climbers_of (take n links)) ++ l) (group links (suc n) place)) (sym one)
+    (subst (λ l. IsPermutation l (group links (suc n) place)) (sym (append_nil (on_rung place (climbers_of (take n links)))))
+    (subst (IsPermutation (on_rung place (climbers_of (take n links)))) (sym own) rest))))
+  where
+    append_nil : (xs : List Climber) → xs ++ [] ≡ xs
+    append_nil [] = refl
+    append_nil (y ∷ xs) = ap (λ l. y ∷ l) (append_nil xs)
+
+-- so those that are taken off are those of the rung
+pub taken_off : (rung low : ℕ) (links : List Link) → rung < low → All (λ c. c.place ≤ rung) (under low (climbers_of links))
+    → IsPermutation (up_from rung (under low (climbers_of links))) (group links (length links) rung)
+taken_off rung low links h all =
+    subst (λ l. IsPermutation l (group links (length links) rung)) (sym (picked rung low (climbers_of links) h all))
+    (subst (λ l. IsPermutation (on_rung rung (climbers_of l)) (group links (length links) rung)) (take_all (length links) links (omega arith))
+    (grouped links (length links) rung (omega arith)))
+
+-- no more than stand there
+pub few_taken : (rung low : ℕ) (links : List Link) → rung < low → All (λ c. c.place ≤ rung) (under low (climbers_of links))
+    → length (group links (length links) rung) ≤ length (under low (climbers_of links))
+few_taken rung low links h all =
+    omega (arith, length_permutation _ _ (taken_off rung low links h all), few (under low (climbers_of links)))
+  where
+    few : (cs : List Climber) → length (up_from rung cs) ≤ length cs
+    few [] = omega arith
+    few (c ∷ cs) = let rest = few cs in split_on (nat_lt c.place rung) (λ t. rw t (omega (arith, rest))) (λ t. rw t (omega (arith, rest)))
+
+-- ---- marks
+
+pub mark_here : (words : List ℕ) (rung word : ℕ) → rung / 64 < length words → bit_at word (rung % 64) ≡ 1 → mark_at (set words (rung / 64) word) rung ≡ 1
+mark_here words rung word h is = ap (λ w. bit_at w (rung % 64)) (get_or-set_same words (rung / 64) word 0 h) ∙ is
+
+pub mark_others : (words : List ℕ) (rung word : ℕ) → rung / 64 < length words → ((i : ℕ) → i < 64 → i ≢ rung % 64 → bit_at word i ≡ bit_at (get_or words (rung / 64) 0) i)
+    → (other : ℕ) → other ≢ rung → mark_at (set words (rung / 64) word) other ≡ mark_at words other
+mark_others words rung word h same other differs =
+    split_on (other / 64 == rung / 64)
+    (λ t.
+    let at : other / 64 ≡ rung / 64 = same_nat (other / 64) (rung / 64) t in
+    ap (λ k. bit_at (get_or (set words (rung / 64) word) k 0) (other % 64)) at
+    ∙ ap (λ w. bit_at w (other % 64)) (get_or-set_same words (rung / 64) word 0 h)
+    ∙ same (other % 64) (omega arith) (omega (arith, at, differs))
+    ∙ ap (λ k. bit_at (get_or words k 0) (other % 64)) (sym at))
+    (λ t.
+    ap (λ w. bit_at w (other % 64)) (get_or-set_other words (rung / 64) (other / 64) word 0 (apart (other / 64) (rung / 64) t)))
+  where
+    apart : (a b : ℕ) → (a == b) ≡ false → a ≢ b
+    apart a b e = grind (arith, common_steps)
+
+-- the highest bit of the last word that isn't 0 is no lower than any that is set
+pub mark_highest : (words : List ℕ) (count at word high : ℕ) → 0 < at → ((k : ℕ) → at ≤ k → k < count → get_or words k 0 ≡ 0) → word ≡ get_or words (at - 1) 0 → word < 2 * 2 ^ high
+    → (rung : ℕ) → rung < 64 * count → mark_at words rung ≡ 1 → rung ≤ 64 * (at - 1) + high
+mark_highest words count at word high some zeros is less rung within marked =
+    halves (rung / 64) at
+    (λ t.
+    halves (rung / 64) (at - 1)
+    (λ u. omega (arith, u))
+    (λ u.
+    let same : rung / 64 ≡ at - 1 = omega (arith, t, u) in
+    halves high (rung % 64)
+    (λ v.
+    let low : word < 2 ^ suc high = omega (arith, less, pow-suc 2 high) in
+    let none : bit_at word (rung % 64) ≡ 0 = bit_at_above word (suc high) (rung % 64) low (omega (arith, v)) in
+    let one : bit_at word (rung % 64) ≡ 1 = ap (λ w. bit_at w (rung % 64)) (is ∙ ap (λ k. get_or words k 0) (sym same)) ∙ marked in
+    absurd (omega (arith, none, one)))
+    (λ v. omega (arith, same, v))))
+    (λ t. absurd (omega (arith, unmarked words count at zeros rung t within, marked)))
+  where
+    unmarked : (words : List ℕ) (count at : ℕ) → ((k : ℕ) → at ≤ k → k < count → get_or words k 0 ≡ 0) → (rung : ℕ) → at ≤ rung / 64 → rung < 64 * count → mark_at words rung ≡ 0
+    unmarked words count at zeros rung h within =
+        ap (λ w. bit_at w (rung % 64)) (zeros (rung / 64) h (omega (arith, within))) ∙ bit_at-zero (rung % 64)
+
+-- where all are 0 none is set
+pub mark_none : (words : List ℕ) (count at : ℕ) → at ≤ 0 → ((k : ℕ) → at ≤ k → k < count → get_or words k 0 ≡ 0) → (rung : ℕ) → rung < 64 * count → mark_at words rung ≡ 1 → rung ≤ 0
+mark_none words count at none zeros rung within marked =
+    let zero_word = zeros (rung / 64) (omega (arith, none)) (omega (arith, within)) in
+    let unset : mark_at words rung ≡ 0 = ap (λ w. bit_at w (rung % 64)) zero_word ∙ bit_at-zero (rung % 64) in
+    absurd (omega (arith, unset, marked))
+
+-- ---- what is kept true
+
+-- nothing was put on
+pub none_hung : (heads words : List ℕ) (low : ℕ) → ((rung : ℕ) → get_or heads rung 0 ≡ 0) → low ≤ length heads → length heads < 64 * length words → IsHung [] heads words low
+none_hung heads words low clear within covered = record {
+  linked = λ i h. absurd (omega (arith, h));
+  last = λ rung h. clear rung;
+  clear = λ rung h. clear rung;
+  marked = λ i h lower. absurd (omega (arith, h));
+  within = within;
+  covered = covered;
+}
+
+-- one more
+pub one_hung : (links : List Link) (heads words after : List ℕ) (low number : ℕ) (l : Link) → IsHung links heads words low → l.climber.place < low → l.next ≡ get_or heads l.climber.place 0
+    → number ≡ suc (length links) → mark_at after l.climber.place ≡ 1 → ((other : ℕ) → other ≢ l.climber.place → mark_at after other ≡ mark_at words other) → length after ≡ length words
+    → IsHung (links ++ l ∷ []) (set heads l.climber.place number) after low
+one_hung links heads words after low number l hung lower next is here others long =
+    let place = l.climber.place in
+    let size : length (links ++ l ∷ []) ≡ suc (length links) = omega (arith, length-append links (l ∷ [])) in
+    let before : (i : ℕ) → i < length links → get_or (links ++ l ∷ []) i no_link ≡ get_or links i no_link = λ i h. get_or_append_left links (l ∷ []) no_link i h in
+    let own : get_or (links ++ l ∷ []) (length links) no_link ≡ l = get_or-append_seam links l [] no_link in
+    record {
+      linked = λ i h.
+          halves i (length links)
+          (λ t. subst (λ (x : Link). x.next ≡ latest (links ++ l ∷ []) i x.climber.place) (sym (before i t))
+          (hung.linked i t ∙ sym (latest_before links l i (get_or links i no_link).climber.place (omega (arith, t)))))
+          (λ t. let same : length links ≡ i = omega (arith, t, h, size) in
+          subst (λ j. (get_or (links ++ l ∷ []) j no_link).next ≡ latest (links ++ l ∷ []) j (get_or (links ++ l ∷ []) j no_link).climber.place) same
+          (subst (λ (x : Link). x.next ≡ latest (links ++ l ∷ []) (length links) x.climber.place) (sym own)
+          (next ∙ hung.last place lower ∙ sym (latest_before links l (length links) place (omega arith)))));
+      last = λ rung h.
+          split_on (place == rung)
+          (λ t.
+          let same : place ≡ rung = same_nat place rung t in
+          let more : latest (links ++ l ∷ []) (length (links ++ l ∷ [])) rung ≡ suc (length links) = latest_more links l rung ∙ rw t refl in
+          ap (λ r. get_or (set heads place number) r 0) (sym same) ∙ get_or-set_same heads place number 0 (omega (arith, lower, hung.within)) ∙ is ∙ sym more)
+          (λ t.
+          let more : latest (links ++ l ∷ []) (length (links ++ l ∷ [])) rung ≡ latest links (length links) rung = latest_more links l rung ∙ rw t refl in
+          get_or-set_other heads place rung number 0 (apart rung place t) ∙ hung.last rung h ∙ sym more);
+      clear = λ rung h. get_or-set_other heads place rung number 0 (higher rung place (omega (arith, h, lower))) ∙ hung.clear rung h;
+      marked = λ i h low_enough.
+          halves i (length links)
+          (λ t. subst (λ (x : Link). mark_at after x.climber.place ≡ 1) (sym (before i t))
+          (marked_still (get_or links i no_link).climber.place
+          (hung.marked i t (subst (λ (x : Link). x.climber.place < low) (before i t) low_enough))))
+          (λ t. let same : length links ≡ i = omega (arith, t, h, size) in
+          subst (λ j. mark_at after (get_or (links ++ l ∷ []) j no_link).climber.place ≡ 1) same
+          (subst (λ (x : Link). mark_at after x.climber.place ≡ 1) (sym own) here));
+      within = omega (arith, hung.within, length-set heads place number);
+      covered = omega (arith, hung.covered, length-set heads place number, long);
+    }
+  where
+    apart : (a b : ℕ) → (b == a) ≡ false → a ≢ b
+    apart a b e = grind (arith, common_steps)
+
+    higher : (a b : ℕ) → b < a → a ≢ b
+    higher a b e = omega (arith, e)
+
+    other_nat : (a b : ℕ) → (a == b) ≡ false → a ≢ b
+    other_nat a b e = grind (arith, common_steps)
+
+    marked_still : (q : ℕ) → mark_at words q ≡ 1 → mark_at after q ≡ 1
+    marked_still q was =
+        split_on (q == l.climber.place)
+        (λ t. ap (mark_at after) (same_nat q l.climber.place t) ∙ here)
+        (λ t. others q (other_nat q l.climber.place t) ∙ was)
+
+-- the highest rung empty
+pub rung_empty : (links : List Link) (heads words after : List ℕ) (low rung : ℕ) → IsHung links heads words low → rung < low → All (λ c. c.place ≤ rung) (under low (climbers_of links))
+    → ((other : ℕ) → other ≢ rung → mark_at after other ≡ mark_at words other) → length after ≡ length words → IsHung links (set heads rung 0) after rung
+rung_empty links heads words after low rung hung lower all others long =
+    let each = seen_each (λ c. c.place ≤ rung) low links all in
+    record {
+      linked = hung.linked;
+      last = λ r h. get_or-set_other heads rung r 0 0 (omega (arith, h)) ∙ hung.last r (omega (arith, h, lower));
+      clear = λ r h.
+          split_on (r == rung)
+          (λ t. ap (λ q. get_or (set heads rung 0) q 0) (same_nat r rung t) ∙ get_or-set_same heads rung 0 0 (omega (arith, lower, hung.within)))
+          (λ t.
+          let other : r ≢ rung = apart r rung t in
+          get_or-set_other heads rung r 0 0 other
+          ∙ halves r low
+          (λ u. hung.last r u ∙ latest_none links (length links) r (λ i inside same. omega (arith, same, each i inside (omega (arith, same, u)), h, other)))
+          (λ u. hung.clear r u));
+      marked = λ i h low_enough. others (get_or links i no_link).climber.place (omega (arith, low_enough)) ∙ hung.marked i h (omega (arith, low_enough, lower));
+      within = omega (arith, lower, hung.within, length-set heads rung 0);
+      covered = omega (arith, hung.covered, length-set heads rung 0, long);
+    }
+  where
+    apart : (a b : ℕ) → (a == b) ≡ false → a ≢ b
+    apart a b e = grind (arith, common_steps)
+
+-- what a write through a slice leaves of a list is what was written
+pub written : (n : ℕ) (xs rest : List ℕ) → n ≡ length xs → take n (xs ++ rest) ≡ xs
+written n xs rest long = ap (λ m. take m (xs ++ rest)) long ∙ take-append_seam xs rest

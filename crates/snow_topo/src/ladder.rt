@@ -1,0 +1,226 @@
+ghost use Rattle.std.specs.Prelude.{◌≡◌, ◌≢◌, ℕ, ◌+◌, ◌*◌, ◌/◌, ◌%◌, ◌^◌, ◌<◌, ◌≤◌, All, length, get_or, vec_len, vec_capacity, OnOk};
+ghost use Rattle.snow_topo.specs.Ladder.{latest, group, mark_at, AreLinked};
+
+use crate::climber::Climber;
+use std::alloc::{AllocError, Global};
+use std::marker::Model;
+
+/// A climber that was put on a ladder. `next` tells who was put on its rung before: one more than where
+/// that stands among all, and 0 where nobody was.
+#[derive(Clone, Copy, Debug)]
+pub(crate) struct Link {
+    pub(crate) climber: Climber,
+    pub(crate) next: usize,
+}
+
+/// Climbers, each on the rung of the place for which it looks. To put one on, or to take those of the
+/// highest rung off, costs nothing for the others. It takes no memory, where there is room for those that
+/// are put on until the ladder is begun anew.
+#[derive(Debug, Drop)]
+pub(crate) struct Ladder {
+    links: Vec<Link>,
+    // Of each rung who was put on it last, as `next` of a link tells it.
+    heads: Vec<usize>,
+    // A bit for each rung, which is set where somebody stands.
+    words: Vec<u64>,
+    // Nobody stands on this rung or a higher one.
+    low: usize,
+    came: Vec<Climber>,
+}
+
+impl Model for Ladder {
+    ghost use Rattle.std.specs.Prelude.{length, vec_capacity};
+    ghost use Rattle.snow_topo.specs.Ladder.{Rungs, climbers_of, under, IsHung};
+
+    ghost Value = { Rungs };
+
+    ghost view = { λ a. record {
+      climbers = under a.low (climbers_of a.links.items);
+      came = a.came.items;
+      low = a.low;
+      put = length a.links.items;
+      most = vec_capacity a.links;
+      wide = vec_capacity a.came;
+      rungs = length a.heads.items;
+    } };
+
+    ghost invariant = { λ a. IsHung a.links.items a.heads.items a.words.items a.low };
+}
+
+// The bit of a rung is set.
+fn mark(words: &mut [u64], rung: usize)
+    requires { rung / 64 < length words.old }
+    ensures here { mark_at words.new rung ≡ 1 }
+    ensures others { (other : ℕ) → other ≢ rung → mark_at words.new other ≡ mark_at words.old other }
+    ensures len { length words.new ≡ length words.old }
+{
+    words[rung / 64] |= 1 << (rung % 64);
+}
+
+// It isn't set any more.
+fn unmark(words: &mut [u64], rung: usize)
+    requires { rung / 64 < length words.old }
+    ensures others { (other : ℕ) → other ≢ rung → mark_at words.new other ≡ mark_at words.old other }
+    ensures len { length words.new ≡ length words.old }
+{
+    words[rung / 64] &= !(1 << (rung % 64));
+}
+
+// The highest rung whose bit is set in the first so many words; 0 where none is.
+fn highest(words: &[u64], count: usize) -> usize
+    requires within { count ≤ length words.now }
+    requires small { 64 * count < 2 ^ 64 }
+    ensures { (rung : ℕ) → rung < 64 * count → mark_at words.now rung ≡ 1 → rung ≤ result }
+{
+    let mut at = count;
+    while at > 0 {
+        let word = words[at - 1];
+        if word > 0 {
+            return 64 * (at - 1) + word.ilog2() as usize;
+        }
+        at -= 1;
+    }
+    0
+}
+
+// Those of a rung, whose last one this is, the latest first.
+fn follow(links: &[Link], head: usize, came: &mut Vec<Climber>)
+    requires linked { AreLinked links.now }
+    requires head { (place : ℕ) × (head ≡ latest links.now (length links.now) place) × (length (group links.now (length links.now) place) ≤ vec_capacity came.old) }
+    ensures came { (place : ℕ) → head ≡ latest links.now (length links.now) place → came.new.items ≡ group links.now (length links.now) place }
+    ensures room { vec_capacity came.new ≡ vec_capacity came.old }
+{
+    came.clear();
+    let mut number = head;
+    while number > 0 {
+        let link = links[number - 1];
+        came.push_reserved(link.climber);
+        number = link.next;
+    }
+}
+
+// There is a bit for one rung more.
+fn add_bit(words: &mut Vec<u64>, rungs: usize) -> Result<(), AllocError>
+    requires small { rungs + 1 < 2 ^ 64 }
+    requires covered { rungs < 64 * length words.old.items }
+    ensures ok { OnOk result (rungs + 1 < 64 * length words.new.items) }
+    ensures covered { rungs < 64 * length words.new.items }
+{
+    if (rungs + 1) / 64 < words.len() {
+        return Ok(());
+    }
+    words.push(0)?;
+    Ok(())
+}
+
+// There is one rung more.
+fn add_rung(heads: &mut Vec<usize>, words: &mut Vec<u64>) -> Result<(), AllocError>
+    requires { length heads.old.items < 64 * length words.old.items }
+    ensures ok { OnOk result (length heads.new.items ≡ length heads.old.items + 1) }
+    ensures more { length heads.old.items ≤ length heads.new.items }
+    ensures covered { length heads.new.items < 64 * length words.new.items }
+    ensures clear { (rung : ℕ) → get_or heads.new.items rung 0 ≡ get_or heads.old.items rung 0 }
+{
+    add_bit(words, heads.len())?;
+    heads.push(0)?;
+    Ok(())
+}
+
+impl Ladder {
+    ghost use Rattle.std.specs.Prelude.{[], ◌∷◌, ◌++◌, IfOk, IsPermutation};
+    ghost use Rattle.snow_topo.specs.Ladder.{under, up_from, IsReady};
+
+    /// A ladder for polls of so many votes, as long as nothing is pending.
+    pub(crate) fn new(alloc: Global, votes: usize) -> Result<Self, AllocError>
+        ensures ready { IfOk result (λ r. IsReady 0 r) }
+        ensures wide { IfOk result (λ r. votes ≤ r.wide) }
+    {
+        let links = Vec::with_capacity(alloc, votes)?;
+        let came = Vec::with_capacity(alloc, votes)?;
+        let heads = vec![in alloc; 0]?;
+        let words = vec![in alloc; 0]?;
+        Ok(Ladder {
+            links,
+            heads,
+            words,
+            low: 0,
+            came,
+        })
+    }
+
+    /// Makes room for polls over so many pending blocks, where nobody stands on the ladder.
+    pub(crate) fn make_room(&mut self, pending: usize) -> Result<(), AllocError>
+        requires low { (self.old).low ≡ 0 }
+        requires pending { pending ≤ (self.old).rungs }
+        ensures ok { OnOk result (IsReady pending self.new) }
+        ensures low { (self.new).low ≡ 0 }
+        ensures wide { (self.new).wide ≡ (self.old).wide }
+        ensures most { (self.old).most ≤ (self.new).most }
+        ensures rungs { (self.old).rungs ≤ (self.new).rungs }
+    {
+        self.links.clear();
+        self.links.reserve(self.came.capacity() + pending)?;
+        if pending < self.heads.len() {
+            return Ok(());
+        }
+        add_rung(&mut self.heads, &mut self.words)
+    }
+
+    /// Begins anew, where nobody stands on it. It takes no memory.
+    pub(crate) fn begin(&mut self)
+        requires { (self.old).low ≡ 0 }
+        ensures { self.new ≡ record (self.old) { climbers = []; low = (self.old).rungs; put = 0 } }
+    {
+        self.links.clear();
+        self.low = self.heads.len();
+    }
+
+    /// Puts one on its rung. It takes no memory.
+    pub(crate) fn put(&mut self, climber: Climber)
+        requires below { climber.place < (self.old).low }
+        requires room { (self.old).put < (self.old).most }
+        ensures { self.new ≡ record (self.old) { climbers = (self.old).climbers ++ climber ∷ []; put = (self.old).put + 1 } }
+    {
+        let next = self.heads[climber.place];
+        self.links.push_reserved(Link { climber, next });
+        self.heads[climber.place] = self.links.len();
+        mark(&mut self.words, climber.place);
+    }
+
+    /// Nobody stands on this rung or a higher one.
+    pub(crate) fn low(&self) -> usize
+        ensures { result ≡ (self.now).low }
+    {
+        self.low
+    }
+
+    /// No rung is higher on which somebody stands.
+    pub(crate) fn top(&self) -> usize
+        ensures { All (λ c. c.place ≤ result) (self.now).climbers }
+    {
+        highest(&self.words, self.low / 64 + 1)
+    }
+
+    /// Takes all off the highest rung on which somebody stands, or one above it. It takes no memory.
+    pub(crate) fn take(&mut self, rung: usize)
+        requires below { rung < (self.old).low }
+        requires highest { All (λ c. c.place ≤ rung) (self.old).climbers }
+        requires wide { length (self.old).climbers ≤ (self.old).wide }
+        ensures climbers { (self.new).climbers ≡ under rung (self.old).climbers }
+        ensures came { IsPermutation (up_from rung (self.old).climbers) (self.new).came }
+        ensures rest { self.new ≡ record (self.old) { climbers = (self.new).climbers; came = (self.new).came; low = rung } }
+    {
+        let head = self.heads[rung];
+        self.heads[rung] = 0;
+        unmark(&mut self.words, rung);
+        self.low = rung;
+        follow(&self.links, head, &mut self.came);
+    }
+
+    /// Those that were taken off last.
+    pub(crate) fn came(&self) -> &[Climber]
+        ensures { result.now ≡ (self.now).came }
+    {
+        self.came.as_slice()
+    }
+}
