@@ -4,6 +4,7 @@ mod Bubbled
 mod GoneExamples
 pub mod Examples
 mod Heights
+pub mod Idle
 mod Looked
 mod Named
 pub mod Noted

@@ -126,7 +126,7 @@ tells_closed board seats gets number node get found tells =
     All-map (Tells other others board) (woken key get.id) seats
     (All-weaker (Tells before gets board) (λ s. Tells other others board (woken key get.id s)) (λ s h. woken_tells before other gets others board get.id s (stays s) h) seats tells)
 
-either_more : (a b c d : Bool) → (a ≡ true → c ≡ true) → (b ≡ true → d ≡ true) → (a || b) ≡ true → (c || d) ≡ true
+pub either_more : (a b c d : Bool) → (a ≡ true → c ≡ true) → (b ≡ true → d ≡ true) → (a || b) ≡ true → (c || d) ≡ true
 either_more true b c d ac bd h = ap (λ x. x || d) (ac refl)
 either_more false b true d ac bd h = refl
 either_more false b false d ac bd h = bd h
@@ -226,7 +226,7 @@ rests_closed waiting gets number node get replies found rests =
     (λ e. ap (λ b. not (waits_among waiting s.0.id || b)) (without_other (λ g. bytes_eq g.id s.0.id) gets (position_or_len (is_get number node) gets) get place.0 place.1 e)) r)
     replies rests)
 
-still_busy : (a b c d : Bool) → (a ≡ true → c ≡ true) → (b ≡ true → d ≡ true) → not (a || b) ≡ false → not (c || d) ≡ false
+pub still_busy : (a b c d : Bool) → (a ≡ true → c ≡ true) → (b ≡ true → d ≡ true) → not (a || b) ≡ false → not (c || d) ≡ false
 still_busy a b c d ac bd h = ap not (either_more a b c d ac bd (not-false (a || b) h))
 
 rests_more : (waiting other : List Waiting) (gets others : List Get) (h : Held) (mark : Mark) → (waits_among waiting h.id ≡ true → waits_among other h.id ≡ true)

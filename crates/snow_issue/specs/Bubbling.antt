@@ -1,10 +1,11 @@
 -- The vote that a held reply gives: gone blocks are replaced by their parents.
-use Rattle.std.specs.Prelude.{ℕ, zero, suc, List, bytes_eq, Option, Some, None, if◌then◌else◌}
+use Rattle.std.specs.Prelude.{ℕ, zero, suc, ◌||◌, List, bytes_eq, Option, Some, None, if◌then◌else◌}
 use Rattle.std.specs.Option.{option_and_then}
 use Rattle.snow_plain.specs.Board.{Board, is_pending}
 use Rattle.snow_issue.specs.declared.gone.Gone.{Gone}
 use Rattle.snow_issue.specs.Gone.{stands_for}
-use Rattle.snow_issue.specs.Lists.{Lists}
+use Rattle.snow_issue.specs.Lists.{Lists, waits, is_asked}
+use Rattle.snow_issue.specs.Offering.{wanted}
 
 -- a pending block is itself, the last accepted one gives no vote, and any other is replaced by the parent that stands for it, at most n times
 unfoldable pub bubbled_in : ℕ → List Gone → Board → List ℕ → Option (List ℕ)
@@ -15,3 +16,7 @@ bubbled_in (suc n) gone board id =
 
 abbrev pub bubbled : Lists → Board → List ℕ → Option (List ℕ)
 bubbled q board id = bubbled_in 8192 q.gone board id
+
+-- the vote that a reply gives as it comes; none where its block waits, is asked for, or is to be asked for
+abbrev pub vote_at_once : Lists → Board → List ℕ → Option (Option (List ℕ))
+vote_at_once q board id = if waits q id || (is_asked q id || wanted q board id) then None else Some (bubbled q board id)

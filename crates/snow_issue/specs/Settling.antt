@@ -1,5 +1,5 @@
 -- One step of settling: the first of hopeless, ready and vote that applies.
-use Rattle.std.specs.Prelude.{Bool, not, ◌||◌, List, find, Option, Some, None, is_some, if◌then◌else◌}
+use Rattle.std.specs.Prelude.{◌≡◌, Bool, not, ◌||◌, List, find, Option, Some, None, is_some, if◌then◌else◌}
 use Rattle.std.specs.Option.{option_map, option_or}
 use Rattle.snow_base.specs.declared.header.Header.{Header}
 use Rattle.snow_plain.specs.Board.{Board}
@@ -38,6 +38,10 @@ work_of q board =
     option_or (option_map work.Hopeless (find (is_hopeless q board) q.waiting))
     (option_or (option_map work.Ready (find (is_ready board) q.waiting))
     (option_map work.Vote (find (is_free q) q.held)))
+
+-- nothing is to be done
+abbrev pub IsIdle : Lists → Board → Type 0
+IsIdle q board = work_of q board ≡ None
 
 -- the gone list after a hopeless block: it goes after its parent, where that was found invalid
 abbrev pub gone_with : List Gone → Header → List Gone

@@ -8,7 +8,7 @@ ghost use Rattle.snow_issue.specs.Lists.{begun, has_number, is_asked, is_get, ho
 ghost use Rattle.snow_issue.specs.Offering.{offered, after_offer, refusal, wanted};
 ghost use Rattle.snow_issue.specs.Settling.{work_of, after, is_free};
 ghost use Rattle.snow_issue.specs.declared.work.Work.TheVariants as work;
-ghost use Rattle.snow_issue.specs.Bubbling.{bubbled};
+ghost use Rattle.snow_issue.specs.Bubbling.{bubbled, vote_at_once};
 ghost use Rattle.snow_issue.specs.Known.{lists_of, Knows, NoneRipe, RestsAfter};
 
 use crate::gets::Gets;
@@ -309,5 +309,23 @@ impl Queue {
         ensures { result ≡ bubbled (lists_of self.now) (B.board board.now) id.now }
     {
         bubbling::bubble(&self.gone, board, id)
+    }
+
+    /// The vote of a reply that may be counted as it comes, where nothing else is to be done. None
+    /// where its block waits, is asked for, or is to be asked for: such a reply is to be held.
+    pub fn vote_at_once<B: Board>(&self, id: &Id, board: &B) -> Option<Option<Id>>
+        ensures { result ≡ vote_at_once (lists_of self.now) (B.board board.now) id.now }
+    {
+        if self.gets.asks_for(id) || self.waiting.waits(id) {
+            return None;
+        }
+        // A block that gives a vote is pending or gone, so that it needn't be asked for.
+        if let Some(vote) = self.bubble(id, board) {
+            return Some(Some(vote));
+        }
+        if self.wants(id, board) {
+            return None;
+        }
+        Some(None)
     }
 }

@@ -68,6 +68,9 @@ impl Replies {
     pub(crate) fn holds(&self, number: u32, node: &NodeId) -> bool
         ensures { result ≡ holds_in (items_of self.now) number node.now }
     {
+        if self.lineup.len() == 0 {
+            return false;
+        }
         match self.polls.get(&number) {
             Some(nodes) => nodes.contains(node),
             None => false,

@@ -1,3 +1,4 @@
+pub mod AtOnce
 pub mod Following
 pub mod Follows
 pub mod Told

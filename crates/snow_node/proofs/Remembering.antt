@@ -1,24 +1,31 @@
 -- What is known of that which a queue remembers is kept by each thing that a node does.
-use Rattle.std.proofs.Common.{◌≡◌, ℕ, List, Option, Some, None, bytes_eq, refl, sym, subst}
+use Rattle.std.proofs.Common.{◌≡◌, ℕ, List, [], ◌∷◌, Option, Some, None, bytes_eq, refl, sym, ap, ◌∙◌, subst}
 use Rattle.snow_base.specs.declared.header.Header.{Header}
 use Rattle.snow_base.specs.declared.vote.Vote.{Vote}
+use Rattle.snow_plain.specs.declared.decision.Decision.{Decision}
 use Rattle.snow_plain.specs.Board.{Board, issued}
 use Rattle.snow_plain.specs.Poll.{poll}
 use Rattle.snow_plain.proofs.Cases.{split_on, same_id}
 use Rattle.snow_issue.specs.declared.work.Work.{Work}
 use Rattle.snow_issue.specs.declared.work.Work.TheVariants as work
-use Rattle.snow_issue.specs.Known.{Seen, Knows, ForgetsChildren, NoneRipe, RestsAfter}
+use Rattle.snow_issue.specs.Known.{Seen, lists_of, Knows, ForgetsChildren, NoneRipe, RestsAfter}
+use Rattle.snow_issue.specs.Lists.{Lists, after_gone}
+use Rattle.snow_issue.specs.Settling.{work_of, after, IsIdle}
+use Rattle.snow_issue.proofs.Idle.{idle_polled}
 use Rattle.snow_issue.proofs.Remembered.{tells_issued, tells_polled}
+use Rattle.snow_node.specs.Closing.{all_gone}
 use Rattle.snow_node.specs.declared.running.remembering.Remembered.{Remembered}
 use Rattle.snow_node.specs.declared.running.remembering.Remembered.TheVariants as known
 use Rattle.snow_node.specs.Remembering.{Remembers, when_taken, when_woken, when_issued, when_polled}
 
--- no block is looked at again
-pub kept_seats : (board : Board) (old now : Seen) (k : Remembered) → ((b : Board) → Knows old b → Knows now b) → now.seats ≡ old.seats → Remembers board old k → Remembers board now k
-kept_seats board old now known.Nothing knows same r = tt
-kept_seats board old now known.True knows same r = knows board r
-kept_seats board old now known.Calm knows same r = (knows board r.0, subst NoneRipe (sym same) r.1)
-kept_seats board old now (known.Ready id) knows same r = (knows board r.0, subst (ForgetsChildren id) (sym same) r.1)
+-- no block is looked at again, and no more is to be done
+pub kept_seats : (board : Board) (old now : Seen) (k : Remembered) → ((b : Board) → Knows old b → Knows now b) → now.seats ≡ old.seats
+    → (IsIdle (lists_of old) board → IsIdle (lists_of now) board) → Remembers board old k → Remembers board now k
+kept_seats board old now known.Nothing knows same idle r = tt
+kept_seats board old now known.True knows same idle r = knows board r
+kept_seats board old now known.Calm knows same idle r = (knows board r.0, subst NoneRipe (sym same) r.1)
+kept_seats board old now known.Idle knows same idle r = (knows board r.0, subst NoneRipe (sym same) r.1, idle r.2)
+kept_seats board old now (known.Ready id) knows same idle r = (knows board r.0, subst (ForgetsChildren id) (sym same) r.1)
 
 -- some are
 pub kept_woken : (board : Board) (old now : Seen) (k : Remembered) → ((b : Board) → Knows old b → Knows now b) → (NoneRipe old.seats → NoneRipe now.seats) → Remembers board old k
@@ -26,6 +33,7 @@ pub kept_woken : (board : Board) (old now : Seen) (k : Remembered) → ((b : Boa
 kept_woken board old now known.Nothing knows ripe r = tt
 kept_woken board old now known.True knows ripe r = knows board r
 kept_woken board old now known.Calm knows ripe r = (knows board r.0, ripe r.1)
+kept_woken board old now known.Idle knows ripe r = (knows board r.0, ripe r.1)
 kept_woken board old now (known.Ready id) knows ripe r = knows board r.0
 
 -- nothing changed
@@ -37,30 +45,44 @@ pub kept_at_issue : (board now : Board) (seen : Seen) (k : Remembered) (block : 
 kept_at_issue board now seen known.Nothing block e r = tt
 kept_at_issue board now seen known.True block e r = tt
 kept_at_issue board now seen known.Calm block e r = tt
+kept_at_issue board now seen known.Idle block e r = tt
 kept_at_issue board now seen (known.Ready ready) block e r =
     split_on (bytes_eq ready block.id)
     (λ t. rw t (subst (λ (b : Board). Knows seen b) (sym e) (tells_issued seen board block r.0 (subst (λ (id : List ℕ). ForgetsChildren id seen.seats) (same_id ready block.id t) r.1))))
     (λ t. rw t tt)
 
+-- blocks that went leave nothing to be done
+idle_gone : (queue : Lists) (board : Board) (decisions : List Decision) → IsIdle queue board → IsIdle (all_gone queue decisions) board
+idle_gone queue board [] idle = idle
+idle_gone queue board (d ∷ decisions) idle = idle_gone (after_gone queue (record { id = d.id; parent = None })) board decisions idle
+
 -- a poll was recorded
-pub kept_at_poll : (board now : Board) (old seen : Seen) (k : Remembered) (votes : List Vote) → now ≡ (poll board votes).0 → ((b : Board) → Knows old b → Knows seen b) → seen.seats ≡ old.seats
-    → Remembers board old k → Remembers now seen (when_polled k)
-kept_at_poll board now old seen known.Nothing votes e knows same r = tt
-kept_at_poll board now old seen known.True votes e knows same r = tt
-kept_at_poll board now old seen (known.Ready id) votes e knows same r = tt
-kept_at_poll board now old seen known.Calm votes e knows same r =
+pub kept_at_poll : (board now : Board) (old seen : Seen) (k : Remembered) (votes : List Vote) (decisions : List Decision) → now ≡ (poll board votes).0 → lists_of seen ≡ all_gone (lists_of old) decisions
+    → ((b : Board) → Knows old b → Knows seen b) → seen.seats ≡ old.seats → Remembers board old k → Remembers now seen (when_polled k)
+kept_at_poll board now old seen known.Nothing votes decisions e l knows same r = tt
+kept_at_poll board now old seen known.True votes decisions e l knows same r = tt
+kept_at_poll board now old seen (known.Ready id) votes decisions e l knows same r = tt
+kept_at_poll board now old seen known.Calm votes decisions e l knows same r =
     (knows now (subst (λ (b : Board). Knows old b) (sym e) (tells_polled old board votes r.0 r.1)), subst NoneRipe (sym same) r.1)
+kept_at_poll board now old seen known.Idle votes decisions e l knows same r =
+    let idle = subst (λ (b : Board). IsIdle (lists_of old) b) (sym e) (idle_polled (lists_of old) board votes r.2) in (
+      knows now (subst (λ (b : Board). Knows old b) (sym e) (tells_polled old board votes r.0 r.1)),
+      subst NoneRipe (sym same) r.1,
+      subst (λ (q : Lists). IsIdle q now) (sym l) (idle_gone (lists_of old) now decisions idle),
+    )
 
 -- something was taken out
-pub kept_taken : (board : Board) (seen : Seen) (o : Option Work) → Knows seen board → RestsAfter o seen.seats → Remembers board seen (when_taken o)
-kept_taken board seen None knows rests = (knows, rests)
-kept_taken board seen (Some (work.Hopeless w)) knows rests = knows
-kept_taken board seen (Some (work.Ready w)) knows rests = (knows, rests)
-kept_taken board seen (Some (work.Vote h)) knows rests = (knows, rests)
+pub kept_taken : (board : Board) (before : Lists) (seen : Seen) (o : Option Work) → o ≡ work_of before board → lists_of seen ≡ after before board o
+    → Knows seen board → RestsAfter o seen.seats → Remembers board seen (when_taken o)
+kept_taken board before seen None e l knows rests = (knows, rests, ap (λ (q : Lists). work_of q board) l ∙ sym e)
+kept_taken board before seen (Some (work.Hopeless w)) e l knows rests = knows
+kept_taken board before seen (Some (work.Ready w)) e l knows rests = (knows, rests)
+kept_taken board before seen (Some (work.Vote h)) e l knows rests = (knows, rests)
 
 -- what is known of anything but nothing is true
 pub known_true : (board : Board) (seen : Seen) (k : Remembered) → Remembers board seen k → (k ≡ known.Nothing → ⊥) → Knows seen board
 known_true board seen known.Nothing r other = absurd (other refl)
 known_true board seen known.True r other = r
 known_true board seen known.Calm r other = r.0
+known_true board seen known.Idle r other = r.0
 known_true board seen (known.Ready id) r other = r.0

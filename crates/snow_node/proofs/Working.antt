@@ -1,7 +1,7 @@
 -- What is taken out of a queue: it was there, and less is left.
-use Rattle.std.proofs.Common.{◌≡◌, ℕ, suc, ◌+◌, ◌<◌, Bool, true, false, cond, List, [], ◌∷◌, length, find, Option, Some, None, bytes_eq, ◌⊎◌, inl, inr, refl, ap, ◌∙◌, subst, arith}
+use Rattle.std.proofs.Common.{◌≡◌, ℕ, ◌+◌, ◌<◌, Bool, true, false, cond, List, [], ◌∷◌, length, find, Option, Some, None, bytes_eq, ◌⊎◌, inl, inr, refl, ap, ◌∙◌, subst, arith}
 use Rattle.std.proofs.lemmas.Bool.{or_parts}
-use Rattle.std.specs.List.{list_any, remove, position_or_len}
+use Rattle.std.specs.List.{list_any}
 use Rattle.std.specs.Option.{option_map, option_or}
 use Rattle.snow_plain.specs.Board.{Board}
 use Rattle.snow_plain.proofs.Cases.{split_on, differs_back}
@@ -12,21 +12,10 @@ use Rattle.snow_issue.specs.declared.work.Work.{Work}
 use Rattle.snow_issue.specs.declared.work.Work.TheVariants as work
 use Rattle.snow_issue.specs.Lists.{Lists, without, waits_among, is_get, after_closed}
 use Rattle.snow_issue.specs.Settling.{work_of, after, is_hopeless, is_ready, is_free}
+use Rattle.snow_issue.proofs.Idle.{without_cons}
 use Rattle.snow_node.specs.Kept.{AreAtMost, AreOff, IsApart, MayWork}
 
 -- ---- the first item that passes is taken out
-
--- it is in front, or behind
-without_cons : {A : Type 0} (t : A → Bool) (x : A) (xs : List A) → without t (x ∷ xs) ≡ cond (t x) xs (x ∷ without t xs)
-without_cons {A = A} t x xs =
-    split_on (t x)
-    (λ e. rw e refl)
-    (λ e. rw e (next (position_or_len t xs)))
-  where
-    next : (n : ℕ) → remove (x ∷ xs) (1 + n) ≡ x ∷ remove xs n
-    next n =
-        let one : 1 + n ≡ suc n = omega arith in
-        ap (λ (k : ℕ). remove (x ∷ xs) k) one
 
 -- what no item has, none has that is left
 without_none : {A : Type 0} (t p : A → Bool) (xs : List A) → list_any p xs ≡ false → list_any p (without t xs) ≡ false

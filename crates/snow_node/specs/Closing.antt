@@ -5,7 +5,7 @@ use Rattle.snow_flake.specs.Rule.{Answer}
 use Rattle.snow_plain.specs.declared.decision.Decision.{Decision}
 use Rattle.snow_plain.specs.Board.{Board}
 use Rattle.snow_plain.specs.Poll.{poll}
-use Rattle.snow_poll.specs.Table.{finished, shortened}
+use Rattle.snow_poll.specs.Table.{finished, shortened, voted}
 use Rattle.snow_issue.specs.Lists.{Lists, after_gone, after_forgotten}
 use Rattle.snow_node.specs.Outcome.{Comes, quietly}
 use Rattle.snow_node.specs.Again.{all_made}
@@ -50,3 +50,7 @@ running_polls node = length node.polls.polls
 -- polls leave while the front one is closed
 abbrev pub closed_out : Answer → Running → Comes Running
 closed_out answer node = all_made running_polls (one_closed answer) node
+
+-- a peer's vote is counted, or that it gives none, and closed polls leave
+abbrev pub tallied : Answer → Running → ℕ → List ℕ → Option (List ℕ) → Comes Running
+tallied answer node number peer vote = closed_out answer (record node { polls = voted node.polls number peer vote })

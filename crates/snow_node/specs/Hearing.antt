@@ -1,5 +1,5 @@
 -- What blocks, votes and timeouts do to a node that runs.
-use Rattle.std.specs.Prelude.{ℕ, Bool, false, not, ◌&&◌, ◌==◌, List, find, Option, Some, None, bytes_eq, if◌then◌else◌}
+use Rattle.std.specs.Prelude.{◌≡◌, ℕ, Bool, false, not, ◌&&◌, ◌==◌, List, find, Option, Some, None, bytes_eq, if◌then◌else◌}
 use Rattle.std.specs.Option.{option_map}
 use Rattle.snow_base.specs.declared.header.Header.{Header}
 use Rattle.snow_flake.specs.Rule.{Answer}
@@ -7,15 +7,17 @@ use Rattle.snow_chain.specs.Chain.{Rules}
 use Rattle.snow_lines.specs.declared.line.Line.TheVariants as line
 use Rattle.snow_lines.specs.declared.why.DropWhy.TheVariants as why
 use Rattle.snow_lines.specs.declared.why.SkipKind.TheVariants as kind
-use Rattle.snow_poll.specs.Table.{is_awaited, voted}
+use Rattle.snow_poll.specs.Table.{is_awaited}
 use Rattle.snow_issue.specs.declared.work.Waiting.{Waiting}
 use Rattle.snow_issue.specs.declared.work.Offered.{Offered}
 use Rattle.snow_issue.specs.declared.work.Offered.TheVariants as answer
 use Rattle.snow_issue.specs.Lists.{Lists, after_asked, after_closed, after_held, holds_in, is_get}
 use Rattle.snow_issue.specs.Offering.{offered, after_offer, wanted}
+use Rattle.snow_issue.specs.Bubbling.{vote_at_once}
+use Rattle.snow_issue.specs.Settling.{IsIdle}
 use Rattle.snow_node.specs.Outcome.{Comes, quietly, with_line, then_comes}
 use Rattle.snow_node.specs.Running.{Running, numbered}
-use Rattle.snow_node.specs.Closing.{closed_out}
+use Rattle.snow_node.specs.Closing.{tallied}
 use Rattle.snow_node.specs.Settling.{settled}
 
 -- ---- blocks are asked for
@@ -98,10 +100,14 @@ vote_counts rules answer node number peer id = then_comes (vote_held node number
 abbrev pub vote_came : Rules → Answer → Running → ℕ → List ℕ → List ℕ → Comes Running
 vote_came rules answer node number peer id = if waits_for node number peer then vote_counts rules answer node number peer id else quietly node
 
+-- a reply that names this block would be the first thing to do, and gives this vote
+abbrev pub IsFirst : Running → List ℕ → Option (List ℕ) → Type 0
+IsFirst node id vote = IsIdle node.queue node.board × (vote_at_once node.queue node.board id ≡ Some vote)
+
 -- a peer gives no vote, and closed polls leave
 abbrev pub vote_lost : Answer → Running → ℕ → List ℕ → Comes Running
 vote_lost answer node number peer =
-    if waits_for node number peer then closed_out answer (record node { polls = voted node.polls number peer None }) else quietly node
+    if waits_for node number peer then tallied answer node number peer None else quietly node
 
 -- a get is closed, or a vote lost
 abbrev pub given_up_on : Answer → Running → ℕ → List ℕ → Option (List ℕ) → Comes Running

@@ -8,7 +8,6 @@ use Rattle.snow_chain.specs.Chain.{Rules, next_on, with_state}
 use Rattle.snow_lines.specs.declared.line.Line.TheVariants as line
 use Rattle.snow_lines.specs.declared.why.DropWhy.{DropWhy}
 use Rattle.snow_lines.specs.declared.why.DropWhy.TheVariants as why
-use Rattle.snow_poll.specs.Table.{voted}
 use Rattle.snow_issue.specs.declared.work.Work.{Work}
 use Rattle.snow_issue.specs.declared.work.Work.TheVariants as work
 use Rattle.snow_issue.specs.declared.work.Waiting.{Waiting}
@@ -23,7 +22,7 @@ use Rattle.snow_node.specs.Telling.{told}
 use Rattle.snow_node.specs.Placing.{opposed}
 use Rattle.snow_node.specs.Running.{Running}
 use Rattle.snow_node.specs.Querying.{queried}
-use Rattle.snow_node.specs.Closing.{closed_out}
+use Rattle.snow_node.specs.Closing.{tallied}
 
 -- ---- a block whose parent is on the board
 
@@ -69,8 +68,7 @@ readied rules answer node w =
 
 -- a held reply votes for what its block stands for, and closed polls leave
 abbrev pub heard : Answer → Running → Held → Comes Running
-heard answer node reply =
-    closed_out answer (record node { polls = voted node.polls reply.number reply.node (bubbled node.queue node.board reply.id) })
+heard answer node reply = tallied answer node reply.number reply.node (bubbled node.queue node.board reply.id)
 
 -- what was taken out of the queue is done
 abbrev pub done : Rules → Answer → Running → Work → Comes Running

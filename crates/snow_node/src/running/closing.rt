@@ -11,15 +11,30 @@ use crate::reporting::tell;
 use crate::running::Running;
 use crate::running::supplying::follow;
 use crate::stop::Halt;
-use snow_base::Bag;
+use snow_base::{Bag, Id, NodeId};
 use snow_chain::Chain;
 use snow_issue::Queue;
 use snow_lines::Lines;
 use snow_plain::{Board, Decision};
 
 impl<C: Chain, B: Board> Running<C, B> {
+    /// A peer's vote is counted, or that it gives none, and closed polls leave.
+    pub(super) fn tally(
+        &mut self,
+        number: u32,
+        peer: &NodeId,
+        vote: Option<Id>,
+        log: &mut Lines,
+    ) -> Result<(), Halt>
+        ensures answer { Turns result self.new (model.tallied B.answer self.old number peer.now vote).1 }
+        ensures lines { Tells result log.old log.new (model.tallied B.answer self.old number peer.now vote).0 }
+    {
+        self.polls.vote(number, peer, vote);
+        self.close_polls(log)
+    }
+
     /// Polls leave while the front one is closed, and their votes are recorded.
-    pub(super) fn close_polls(&mut self, log: &mut Lines) -> Result<(), Halt>
+    fn close_polls(&mut self, log: &mut Lines) -> Result<(), Halt>
         ensures answer { Turns result self.new (model.closed_out B.answer self.old).1 }
         ensures lines { Tells result log.old log.new (model.closed_out B.answer self.old).0 }
     {

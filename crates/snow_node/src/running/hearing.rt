@@ -3,10 +3,14 @@ ghost use Rattle.snow_issue.specs.declared.work.Waiting.{Waiting as Block};
 ghost use Rattle.snow_node.specs.Kept.{MayFetch};
 ghost use Rattle.snow_node.specs.Running.{numbered};
 ghost use Rattle.snow_node.specs.Hearing as model;
+ghost use Rattle.snow_node.specs.Closing.{tallied};
+ghost use Rattle.snow_node.specs.Outcome.{then_comes};
+ghost use Rattle.snow_node.specs.Settling.{settled};
 ghost use Rattle.snow_node.specs.Stepping.{Tells, Turns};
 
 use crate::reporting::{drop_block, write};
 use crate::running::Running;
+use crate::running::remembering::Remembered;
 use crate::stop::Halt;
 use snow_base::{Header, Id, NodeId};
 use snow_chain::Chain;
@@ -156,8 +160,45 @@ impl<C: Chain, B: Board> Running<C, B> {
         }
     }
 
-    /// A reply that is awaited is held, and all that it brings is done.
+    /// A reply that is awaited is counted as it comes, or else held, and all that it brings is done.
     fn take_in(&mut self, number: u32, peer: &NodeId, id: Id, log: &mut Lines) -> Result<(), Halt>
+        requires { model.waits_for self.old number peer.now ≡ true }
+        ensures answer { Turns result self.new (model.vote_counts C.rules B.answer self.old number peer.now id).1 }
+        ensures lines { Tells result log.old log.new (model.vote_counts C.rules B.answer self.old number peer.now id).0 }
+    {
+        match self.vote_at_once(&id) {
+            Some(vote) => self.count(number, peer, vote, log),
+            None => self.hold_back(number, peer, id, log),
+        }
+    }
+
+    /// The vote of a reply, where it would be the first thing to do: then it needn't be held.
+    fn vote_at_once(&self, id: &Id) -> Option<Option<Id>>
+        ensures { IfSome result (λ vote. model.IsFirst self.now id.now vote) }
+    {
+        match self.remembered {
+            Remembered::Idle => self.queue.vote_at_once(id, &self.board),
+            _ => None,
+        }
+    }
+
+    /// A vote is counted, and all that it brings is done.
+    fn count(
+        &mut self,
+        number: u32,
+        peer: &NodeId,
+        vote: Option<Id>,
+        log: &mut Lines,
+    ) -> Result<(), Halt>
+        ensures answer { Turns result self.new (then_comes (tallied B.answer self.old number peer.now vote) (settled C.rules B.answer)).1 }
+        ensures lines { Tells result log.old log.new (then_comes (tallied B.answer self.old number peer.now vote) (settled C.rules B.answer)).0 }
+    {
+        self.tally(number, peer, vote, log)?;
+        self.settle(log)
+    }
+
+    /// A reply is held, and all that it brings is done.
+    fn hold_back(&mut self, number: u32, peer: &NodeId, id: Id, log: &mut Lines) -> Result<(), Halt>
         requires { model.waits_for self.old number peer.now ≡ true }
         ensures answer { Turns result self.new (model.vote_counts C.rules B.answer self.old number peer.now id).1 }
         ensures lines { Tells result log.old log.new (model.vote_counts C.rules B.answer self.old number peer.now id).0 }
@@ -180,6 +221,7 @@ impl<C: Chain, B: Board> Running<C, B> {
         ensures answer { Turns result self.new (model.vote_held self.old number peer.now id).1 }
         ensures lines { Tells result log.old log.new (model.vote_held self.old number peer.now id).0 }
     {
+        self.remembered = self.remembered.woken();
         self.queue.hold(Held {
             number,
             node: *peer,
@@ -233,8 +275,7 @@ impl<C: Chain, B: Board> Running<C, B> {
         if !self.awaits(number, peer) {
             return Ok(());
         }
-        self.polls.vote(number, peer, None);
-        self.close_polls(log)
+        self.tally(number, peer, None, log)
     }
 
     /// An open get is closed; the block that it asked for.

@@ -16,6 +16,8 @@ pub enum Remembered {
     True,
     /// It is true, and no block is remembered to be ready.
     Calm,
+    /// It is true, no block is remembered to be ready, and nothing is to be done.
+    Idle,
     /// It is true, and nothing is remembered of the children of this block.
     Ready(Id),
 }
@@ -26,19 +28,20 @@ impl Remembered {
         ensures { result ≡ model.when_taken work.now }
     {
         match work {
-            None | Some(Work::Vote(_)) => Remembered::Calm,
+            None => Remembered::Idle,
+            Some(Work::Vote(_)) => Remembered::Calm,
             Some(Work::Hopeless(_)) => Remembered::True,
             Some(Work::Ready(block)) => Remembered::Ready(block.header.id),
         }
     }
 
-    /// Once some blocks are to be looked at again.
+    /// Once some blocks or replies are to be looked at.
     pub fn woken(&self) -> Remembered
         ensures { result ≡ model.when_woken self.now }
     {
         match self {
             Remembered::Nothing => Remembered::Nothing,
-            Remembered::Calm => Remembered::Calm,
+            Remembered::Calm | Remembered::Idle => Remembered::Calm,
             Remembered::True => Remembered::True,
             Remembered::Ready(_) => Remembered::True,
         }
@@ -64,6 +67,7 @@ impl Remembered {
     {
         match self {
             Remembered::Calm => Remembered::Calm,
+            Remembered::Idle => Remembered::Idle,
             _ => Remembered::Nothing,
         }
     }

@@ -156,8 +156,7 @@ impl<C: Chain, B: Board> Running<C, B> {
         ensures lines { Tells result log.old log.new (model.heard B.answer self.old reply.now).0 }
     {
         let id = self.queue.bubble(&reply.id, &self.board);
-        self.polls.vote(reply.number, &reply.node, id);
-        self.close_polls(log)
+        self.tally(reply.number, &reply.node, id, log)
     }
 }
 
@@ -173,6 +172,7 @@ fn take_next<B: Board>(queue: &mut Queue, board: &B, remembered: &Remembered) ->
         Remembered::Nothing => queue.next_work(board),
         Remembered::True => queue.next_known(board),
         Remembered::Calm => queue.next_known(board),
+        Remembered::Idle => None,
         Remembered::Ready(_) => queue.next_known(board),
     }
 }

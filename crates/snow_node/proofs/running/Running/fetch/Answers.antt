@@ -1,6 +1,9 @@
 -- The number is new, and no get has a greater one.
-use Rattle.std.proofs.Common.{ap}
+use Rattle.std.proofs.Common.{sym, ap, subst}
 use Rattle.snow_issue.specs.Known.{lists_of}
+use Rattle.snow_issue.specs.Lists.{Lists}
+use Rattle.snow_issue.specs.Settling.{IsIdle}
+use Rattle.snow_issue.proofs.Idle.{idle_asked}
 use Rattle.snow_node.proofs.Keeping.{kept_numbered, kept_asked, kept_unasked, new_to_gets}
 use Rattle.snow_node.proofs.Remembering.{kept_seats, kept_seen}
 use Rattle.snow_node.proofs.running.Running.fetch.Goals as goal
@@ -22,7 +25,9 @@ pub invariant_of-self-in_err-push : goal.invariant_of-self-in_err-push
 invariant_of-self-in_err-push g c = (
   kept_asked c.self.inside.params (g.B.Board.board c.self.inside.board) (g.C.Chain.held c.self.inside.chain) c.self.inside.polls (lists_of c.self.inside.queue) c.self.inside.numbers c.self.invariant.0 c.in-Some.number c.draw.new.self c.args.peer.now c.args.id (lists_of c.asked.new.self)
       c.in-Some.ensures.number c.draw.ensures.last c.in_ok-asked.ensures.lists,
-  kept_seats (g.B.Board.board c.self.inside.board) c.self.inside.queue c.asked.new.self c.self.inside.remembered c.asked.ensures.knows c.asked.ensures.seats c.self.invariant.1,
+  kept_seats (g.B.Board.board c.self.inside.board) c.self.inside.queue c.asked.new.self c.self.inside.remembered c.asked.ensures.knows c.asked.ensures.seats
+      (λ idle. subst (λ (q : Lists). IsIdle q (g.B.Board.board c.self.inside.board)) (sym c.in_ok-asked.ensures.lists)
+      (idle_asked (lists_of c.self.inside.queue) (g.B.Board.board c.self.inside.board) (record { number = c.in-Some.number; node = c.args.peer.now; id = c.args.id }) idle)) c.self.invariant.1,
   c.self.invariant.2,
 )
 
@@ -30,6 +35,8 @@ pub invariant_of-self-2 : goal.invariant_of-self-2
 invariant_of-self-2 g c = (
   kept_asked c.self.inside.params (g.B.Board.board c.self.inside.board) (g.C.Chain.held c.self.inside.chain) c.self.inside.polls (lists_of c.self.inside.queue) c.self.inside.numbers c.self.invariant.0 c.in-Some.number c.draw.new.self c.args.peer.now c.args.id (lists_of c.asked.new.self)
       c.in-Some.ensures.number c.draw.ensures.last c.in_ok-asked.ensures.lists,
-  kept_seats (g.B.Board.board c.self.inside.board) c.self.inside.queue c.asked.new.self c.self.inside.remembered c.asked.ensures.knows c.asked.ensures.seats c.self.invariant.1,
+  kept_seats (g.B.Board.board c.self.inside.board) c.self.inside.queue c.asked.new.self c.self.inside.remembered c.asked.ensures.knows c.asked.ensures.seats
+      (λ idle. subst (λ (q : Lists). IsIdle q (g.B.Board.board c.self.inside.board)) (sym c.in_ok-asked.ensures.lists)
+      (idle_asked (lists_of c.self.inside.queue) (g.B.Board.board c.self.inside.board) (record { number = c.in-Some.number; node = c.args.peer.now; id = c.args.id }) idle)) c.self.invariant.1,
   c.self.invariant.2,
 )

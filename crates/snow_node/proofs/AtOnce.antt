@@ -1,0 +1,45 @@
+-- A reply that would be the first thing to do is counted as it comes: it needn't be held.
+use Rattle.std.proofs.Common.{◌≡◌, ℕ, Bool, true, List, ◌++◌, append-nil, Option, Some, Result, Ok, Err, refl, ap, ◌∙◌}
+use Rattle.snow_flake.specs.Rule.{Answer}
+use Rattle.snow_chain.specs.Chain.{Rules}
+use Rattle.snow_lines.specs.declared.line.Line.{Line}
+use Rattle.snow_issue.specs.declared.work.Held.{Held}
+use Rattle.snow_issue.specs.declared.work.Work.{Work}
+use Rattle.snow_issue.specs.declared.work.Work.TheVariants as work
+use Rattle.snow_issue.specs.Lists.{Lists, after_held}
+use Rattle.snow_issue.proofs.Idle.{first_to_do, counts}
+use Rattle.snow_node.specs.declared.stop.EngineStop.{EngineStop}
+use Rattle.snow_node.specs.Outcome.{Comes, quietly, after_lines, going_on, then_comes, where_made}
+use Rattle.snow_node.specs.Running.{Running, numbered}
+use Rattle.snow_node.specs.Closing.{tallied}
+use Rattle.snow_node.specs.Settling.{heard, worked, carried_out, one_settled, left_to_do, settled}
+use Rattle.snow_node.specs.Hearing.{IsFirst, fetched, vote_held, vote_counts}
+use Rattle.snow_node.proofs.Looping.{settling_falls}
+use Rattle.snow_node.proofs.Made.{one_then}
+
+-- a step that was made, and then all that follow
+made_then : (first : Comes Running) (next : Running → Comes Running)
+    → then_comes (then_comes first (λ n. quietly (n, true))) (where_made next) ≡ then_comes first next
+made_then first next = by first.0 first.1
+  where
+    by : (lines : List Line) (r : Result Running EngineStop) → then_comes (going_on lines r (λ n. quietly (n, true))) (where_made next) ≡ going_on lines r next
+    by lines (Err s) = refl
+    by lines (Ok x) = ap (λ (l : List Line). after_lines l (next x)) (append-nil lines)
+
+-- to hold such a reply and to settle is to count it and to settle
+pub counted_at_once : (rules : Rules) (answer : Answer) (node : Running) (number : ℕ) (peer id : List ℕ) (vote : Option (List ℕ)) → IsFirst node id vote
+    → vote_counts rules answer node number peer id ≡ then_comes (tallied answer node number peer vote) (settled rules answer)
+counted_at_once rules answer node number peer id vote first =
+    let reply : Held = record { number = number; node = peer; id = id } in
+    let holding : Running = record node { queue = after_held node.queue reply } in
+    let parts = counts node.queue node.board id vote first.1 in
+    let work_is = first_to_do node.queue node.board reply first.0 parts.0 in
+    let known : vote_held node number peer id ≡ quietly holding = rw parts.1 refl in
+    let step : one_settled rules answer holding ≡ then_comes (heard answer node reply) (λ n. quietly (n, true)) =
+    ap (worked rules answer holding) work_is.0 ∙ ap (λ (q : Lists). carried_out rules answer (record node { queue = q }) (work.Vote reply)) work_is.1
+    in
+    ap (λ (c : Comes Running). then_comes c (settled rules answer)) known
+    ∙ one_then Running left_to_do (one_settled rules answer) (settling_falls rules answer) holding
+    ∙ ap (λ (c : Comes (Running × Bool)). then_comes c (where_made (settled rules answer))) step
+    ∙ made_then (heard answer node reply) (settled rules answer)
+    ∙ ap (λ (v : Option (List ℕ)). then_comes (tallied answer node number peer v) (settled rules answer)) parts.2

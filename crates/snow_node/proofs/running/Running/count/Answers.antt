@@ -1,0 +1,18 @@
+-- A vote is counted, and then all is settled.
+use Rattle.std.proofs.lemmas.Result.{err_from_is_err_and}
+use Rattle.snow_node.specs.Running.{Running}
+use Rattle.snow_node.specs.Closing.{tallied}
+use Rattle.snow_node.specs.Settling.{settled}
+use Rattle.snow_node.proofs.Sequel.{lines_first, lines_then}
+use Rattle.snow_node.proofs.running.Running.count.Goals as goal
+
+pub returns-in_err-tally-clause-lines : goal.returns-in_err-tally-clause-lines
+returns-in_err-tally-clause-lines g c =
+    let p = err_from_is_err_and c.from_residual.result c.from_residual.ensures.1 in
+    rw (p.1, p.2) (lines_first Running Running (tallied g.B.Board.answer c.args.self.now c.args.number c.args.peer.now c.args.vote) (settled g.C.Chain.rules g.B.Board.answer) (Unit {0}) (Unit {0})
+    c.in_err-tally.field-0.0 c.args.log.now c.tally.new.log c.in_err-tally.ensures.answer c.in_err-tally.ensures.lines)
+
+pub returns-clause-lines : goal.returns-clause-lines
+returns-clause-lines g c =
+    lines_then Running Running (tallied g.B.Board.answer c.args.self.now c.args.number c.args.peer.now c.args.vote) (settled g.C.Chain.rules g.B.Board.answer) (Unit {0}) c.settle.result c.tally.new.self
+    c.args.log.now c.tally.new.log c.settle.new.log c.in_ok-tally.ensures.answer c.in_ok-tally.ensures.lines c.settle.ensures.lines
