@@ -1,11 +1,10 @@
 -- The blocks that a drill makes, and what it picks of them.
-use Rattle.std.specs.Prelude.{◌≡◌, ℕ, ◌-◌, Bool, List, ◌++◌, length, find, Option, bytes_eq, ◌==◌, if◌then◌else◌}
+use Rattle.std.specs.Prelude.{◌≡◌, ℕ, ◌-◌, List, ◌++◌, length, find, Option, bytes_eq, ◌==◌, if◌then◌else◌}
 use Rattle.std.specs.Int.{w64, to_be_bytes}
 use Rattle.std.specs.List.{slice_get}
 use Rattle.std.specs.Option.{option_map_or}
 use Rattle.sha2.specs.Sha256.{sha256}
 use Rattle.snow_base.specs.declared.header.Header.{Header}
-use Rattle.snow_drill.specs.declared.key.Key.{Key}
 use Rattle.snow_drill.specs.Generator.{picked}
 use Rattle.snow_drill.specs.Told.{nobody}
 
@@ -13,13 +12,9 @@ use Rattle.snow_drill.specs.Told.{nobody}
 abbrev pub block_of : List Header → List ℕ → Option Header
 block_of made id = find (λ b. bytes_eq b.id id) made
 
--- keys are the same where their identifiers are
-abbrev pub key_eq : Key → Key → Bool
-key_eq a b = bytes_eq a.id b.id
-
--- each key finds the first block of its identifier
-abbrev pub HasFirsts : List Header → (Key → Option Header) → Type 0
-HasFirsts made first = (k : Key) → first k ≡ block_of made k.id
+-- each identifier finds its first block
+abbrev pub HasFirsts : List Header → (List ℕ → Option Header) → Type 0
+HasFirsts made first = (id : List ℕ) → first id ≡ block_of made id
 
 -- the height of a block; that of the last accepted one of the Start is 0
 abbrev pub height_in : List Header → List ℕ → ℕ

@@ -1,4 +1,4 @@
-ghost use Rattle.std.specs.Prelude.{◌≡◌, ◌<◌, OnOk, IfOk};
+ghost use Rattle.std.specs.Prelude.{◌≡◌, ◌<◌, [], Ok, OnOk, IfOk};
 ghost use Rattle.snow_chain.specs.Tally.{tally_rules};
 ghost use Rattle.snow_engine.specs.Node.{started, step};
 ghost use Rattle.snow_engine.specs.declared.task.Task.TheVariants as task;
@@ -39,25 +39,51 @@ pub fn drill<B: Board, O: Sink>(alloc: Global, seed: u64, blocks: u32, out: &mut
     }
 }
 
-// The summary of a drill.
+// The summary of a drill. The node is handed on at once, to calls over any kind of node: what lets go of
+// this one is many steps.
 fn drilled<B: Board>(alloc: Global, seed: u64, blocks: u32) -> Result<Bytes, AllocError>
     ensures { IfOk result (λ text. text
         ≡ drilled (step tally_rules B.answer) seed blocks (started tally_rules task.Run first)) }
 {
-    let mut player = begin::<B>(alloc, seed)?;
+    let mut log = Lines::new(alloc);
+    match start::<B>(alloc, &mut log) {
+        Ok(node) => played(alloc, seed, blocks, node, &log),
+        Err(_) => Err(AllocError),
+    }
+}
+
+// The node of a drill.
+fn start<B: Board>(alloc: Global, log: &mut Lines) -> Result<Engine<TallyChain, B>, AllocError>
+    requires { log.old ≡ [] }
+    ensures node { IfOk result (λ node. (started tally_rules task.Run first).1 ≡ Ok node) }
+    ensures lines { OnOk result (log.new ≡ (started tally_rules task.Run first).0) }
+{
+    let first = first(alloc)?;
+    match Engine::start(alloc, Task::Run, &first, log) {
+        Ok(node) => Ok(node),
+        Err(_) => Err(AllocError),
+    }
+}
+
+// The summary of a drill of this node, whose Start brought these lines.
+fn played<E: Driven>(
+    alloc: Global,
+    seed: u64,
+    blocks: u32,
+    node: E,
+    log: &Lines,
+) -> Result<Bytes, AllocError>
+    ensures { IfOk result (λ text. text ≡ drilled E.step seed blocks (log.now, Ok node)) }
+{
+    let mut player = begin(alloc, seed, node, log)?;
     player.play(blocks)?;
     summary(alloc, blocks, player.account)
 }
 
-// A drill behind its Start.
-fn begin<B: Board>(alloc: Global, seed: u64) -> Result<Player<Engine<TallyChain, B>>, AllocError>
-    ensures { IfOk result (λ player. Opens player seed (started tally_rules task.Run first)) }
+// A drill behind its Start, which brought these lines.
+fn begin<E: Driven>(alloc: Global, seed: u64, node: E, log: &Lines) -> Result<Player<E>, AllocError>
+    ensures { IfOk result (λ player. Opens player seed (log.now, Ok node)) }
 {
-    let first = first(alloc)?;
-    let mut log = Lines::new(alloc);
-    let Ok(node) = Engine::start(alloc, Task::Run, &first, &mut log) else {
-        return Err(AllocError);
-    };
     let mut account = Account::new(alloc);
     account.keep(log.list())?;
     Ok(Player {

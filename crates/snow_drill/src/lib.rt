@@ -7,7 +7,6 @@ mod answering;
 mod drilling;
 mod driven;
 mod generator;
-mod key;
 mod made;
 mod making;
 mod player;

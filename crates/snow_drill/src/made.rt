@@ -1,10 +1,8 @@
-ghost use Rattle.std.specs.Prelude.{◌≡◌, ◌<◌, ◌∷◌, ◌++◌, [], None, Some, bytes_eq, OnOk, if◌then◌else◌};
+ghost use Rattle.std.specs.Prelude.{◌≡◌, ℕ, ◌<◌, List, ◌∷◌, ◌++◌, [], None, Some, bytes_eq, OnOk, if◌then◌else◌};
 ghost use Rattle.std.specs.HashMap.{get, spare};
 ghost use Rattle.std.specs.Option.{option_copied, option_or};
-ghost use Rattle.snow_drill.specs.declared.key.Key.{Key};
-ghost use Rattle.snow_drill.specs.Made.{block_of, key_eq};
+ghost use Rattle.snow_drill.specs.Made.{block_of};
 
-use crate::key::Key;
 use snow_base::{Header, Id};
 use std::alloc::{AllocError, Global};
 use std::collections::HashMap;
@@ -15,20 +13,20 @@ use std::marker::Model;
 pub struct Made {
     blocks: Vec<Header>,
     // The first block of each identifier.
-    firsts: HashMap<Key, Header>,
+    firsts: HashMap<Id, Header>,
 }
 
 impl Model for Made {
-    ghost use Rattle.std.specs.Prelude.{List};
+    ghost use Rattle.std.specs.Prelude.{List, bytes_eq};
     ghost use Rattle.snow_base.specs.declared.header.Header.{Header};
     ghost use Rattle.std.specs.HashMap.{get};
-    ghost use Rattle.snow_drill.specs.Made.{HasFirsts, key_eq};
+    ghost use Rattle.snow_drill.specs.Made.{HasFirsts};
 
     ghost Value = { List Header };
 
     ghost view = { λ a. a.blocks.items };
 
-    ghost invariant = { λ a. HasFirsts a.blocks.items (λ k. get key_eq a.firsts k) };
+    ghost invariant = { λ a. HasFirsts a.blocks.items (get bytes_eq a.firsts) };
 }
 
 impl Made {
@@ -63,19 +61,18 @@ impl Made {
     pub fn block_of(&self, id: &Id) -> Option<&Header>
         ensures { option_copied result ≡ block_of self.now id.now }
     {
-        self.firsts.get(&Key { id: *id })
+        self.firsts.get(id)
     }
 }
 
 // Files a block, if none of its identifier is.
-fn file(firsts: &mut HashMap<Key, Header>, block: &Header)
+fn file(firsts: &mut HashMap<Id, Header>, block: &Header)
     requires { 0 < spare firsts.old }
-    ensures { (k : Key) → get key_eq firsts.new k ≡ option_or (get key_eq firsts.old k) (if bytes_eq (block.now).id k.id then Some block.now else None) }
+    ensures { (id : List ℕ) → get bytes_eq firsts.new id ≡ option_or (get bytes_eq firsts.old id) (if bytes_eq (block.now).id id then Some block.now else None) }
 {
-    let key = Key { id: block.id };
-    if firsts.contains_key(&key) {
+    if firsts.contains_key(&block.id) {
         return;
     }
-    let added: Result<_, _> = firsts.insert(key, *block);
+    let added: Result<_, _> = firsts.insert(block.id, *block);
     let _ = added.unwrap();
 }

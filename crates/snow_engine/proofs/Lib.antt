@@ -11,4 +11,3 @@ pub mod Ended
 pub mod Examples
 pub mod Staged
 pub mod Stopped
-pub mod Voted

@@ -172,15 +172,10 @@ impl<C: Chain, B: Board> Deciding<C, B> {
 }
 
 /// One vote for each of these identifiers.
-#[tactic(auto, using(snow_base::proofs::Adding::total_added))]
 fn votes_for(alloc: Global, ids: &Ids) -> Result<Bag, AllocError>
     requires { length ids.now ≤ 1024 }
     ensures votes { IfOk result (λ votes. votes.list ≡ model.votes_for ids.now) }
     ensures total { IfOk result (λ votes. total_count votes.list ≡ length ids.now) }
 {
-    let mut votes = Bag::new(alloc);
-    for id in ids.list() {
-        votes.add(*id, 1)?;
-    }
-    Ok(votes)
+    Bag::of(alloc, ids.list())
 }

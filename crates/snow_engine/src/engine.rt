@@ -143,12 +143,16 @@ impl<C: Chain, B: Board> Engine<C, B> {
         ensures answer { Steps (stops_by kept.new result) self.new (model.step C.rules B.answer self.old frame event.now).1 }
         ensures lines { Logs (stops_by kept.new result) log.old log.new (model.step C.rules B.answer self.old frame event.now).0 }
     {
-        let Stage::Booting(node) = mem::replace(&mut self.stage, Stage::Ended) else {
-            return Ok(());
+        let node = match mem::replace(&mut self.stage, Stage::Ended) {
+            Stage::Booting(node) => node,
+            other => {
+                drop(other);
+                return Ok(());
+            }
         };
         match node.step(frame, event, log) {
             Ok(stage) => {
-                self.stage = stage;
+                drop(mem::replace(&mut self.stage, stage));
                 Ok(())
             }
             Err(stop) => {

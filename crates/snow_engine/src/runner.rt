@@ -83,7 +83,7 @@ impl<C: Chain, B: Board> Runner<C, B> {
     {
         match open(self.alloc, self.task, frame, payload, &mut self.log) {
             Ok(engine) => {
-                self.engine = Some(engine);
+                drop(self.engine.replace(engine));
                 Ok(None)
             }
             Err(end) => {
@@ -186,13 +186,16 @@ fn follow_whole<C: Chain, B: Board>(
     ensures stand { Stands (ends_in frame (stops_by kept.new result)) (Some engine.new) (model.followed C.rules B.answer engine.old frame (model.read payload.now)).1 }
     ensures lines { LogsFrame (ends_in frame (stops_by kept.new result)) [] (told frame result log.new) (model.followed C.rules B.answer engine.old frame (model.read payload.now)).0 }
 {
-    let read = decode(alloc, payload);
-    match &read {
-        Ok(event) => match engine.turn(frame, event, log, kept) {
-            Ok(()) => Ok(None),
-            Err(halt) => Err(halt),
-        },
-        Err(skip) => match kind_of(*skip) {
+    match decode(alloc, payload) {
+        Ok(event) => {
+            let turned = engine.turn(frame, &event, log, kept);
+            drop(event);
+            match turned {
+                Ok(()) => Ok(None),
+                Err(halt) => Err(halt),
+            }
+        }
+        Err(skip) => match kind_of(skip) {
             Ok(kind) => Ok(Some(kind)),
             Err(_) => Err(Halt::Memory),
         },

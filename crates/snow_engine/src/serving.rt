@@ -41,7 +41,12 @@ pub fn serve<C: Chain, B: Board, S: Source, O: Sink>(
     ensures out_later { O.faults out.old ≤ O.faults out.new }
 {
     match Session::<C, B>::begin(alloc, task) {
-        Ok(mut session) => session.run(source, out),
+        Ok(mut session) => {
+            let end = session.run(source, out);
+            // (by a call: what lets go of a whole node is many steps, which stand in one place then)
+            drop(session);
+            end
+        }
         Err(_) => End::Memory,
     }
 }

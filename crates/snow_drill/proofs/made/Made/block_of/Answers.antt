@@ -3,4 +3,4 @@ use Rattle.snow_drill.specs.Made.{block_of}
 use Rattle.snow_drill.proofs.made.Made.block_of.Goals as goal
 
 pub returns : goal.returns
-returns c = c.get.ensures.value ∙ c.self.invariant (record { id = c.args.id.now }) ∙ ap (λ made. block_of made c.args.id.now) c.self.view_is
+returns c = c.get.ensures.value ∙ c.self.invariant c.args.id.now ∙ ap (λ made. block_of made c.args.id.now) c.self.view_is
