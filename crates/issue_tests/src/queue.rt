@@ -10,6 +10,17 @@ type Told = (char, u16);
 
 const NOTHING: Told = ('-', 0);
 
+// What the calls of a case answer, and nothing behind.
+type Tale = [Told; 8];
+
+fn tale(told: &[Told]) -> Tale {
+    let mut tale = [NOTHING; 8];
+    for (place, one) in tale.iter_mut().zip(told) {
+        *place = *one;
+    }
+    tale
+}
+
 // The identifier that begins with the bytes of a number.
 fn named(number: u16) -> Id {
     let mut bytes = [0; 32];
@@ -127,19 +138,54 @@ fn bubble<B: Board>(queue: &Queue, board: &B, id: u16) -> Told {
     told_of('b', queue.bubble(&named(id), board))
 }
 
-// A board above the block 0, and the queue of a node that begins there.
-fn begun(alloc: Global) -> Result<(PlainBoard<Snowball>, Queue), Fail> {
-    let params = Params::check(1, 1, 1, 1, 1)?;
-    let board = PlainBoard::begin(alloc, params, named(0), 0)?;
-    let queue = Queue::new(alloc, named(0))?;
-    Ok((board, queue))
+// What happens to a queue over a board.
+#[derive(Clone, Copy)]
+enum Case {
+    Hopeless,
+    Invalid,
+    Bubbling,
+    ByItself,
+    Forgetting,
+    GetsFill,
+    BlocksFill,
+    OldestGoes,
 }
 
-fn hopeless<B: Board>(
+// What is told in a case, over a board above the block 0.
+fn told_in(alloc: Global, case: Case) -> Result<Tale, Fail> {
+    let params = Params::check(1, 1, 1, 1, 1)?;
+    let board = PlainBoard::<Snowball>::begin(alloc, params, named(0), 0)?;
+    Ok(told_over(alloc, case, board)?)
+}
+
+// The same, by the queue of a node that begins there. The queue is let go by a call: the steps that let
+// go of all that it holds are many, and are proved once then.
+fn told_over<B: Board>(alloc: Global, case: Case, mut board: B) -> Result<Tale, AllocError> {
+    let mut queue = Queue::new(alloc, named(0))?;
+    let told = play(alloc, case, &mut queue, &mut board);
+    drop(queue);
+    told
+}
+
+fn play<B: Board>(
     alloc: Global,
+    case: Case,
     queue: &mut Queue,
-    board: &B,
-) -> Result<([Told; 5], [Told; 3]), AllocError> {
+    board: &mut B,
+) -> Result<Tale, AllocError> {
+    match case {
+        Case::Hopeless => hopeless(alloc, queue, board),
+        Case::Invalid => invalid(alloc, queue, board),
+        Case::Bubbling => bubbling(queue, board),
+        Case::ByItself => by_itself(alloc, queue, board),
+        Case::Forgetting => forgetting(queue, board),
+        Case::GetsFill => gets_fill(queue, board),
+        Case::BlocksFill => blocks_fill(alloc, queue, board),
+        Case::OldestGoes => oldest_goes(alloc, queue, board),
+    }
+}
+
+fn hopeless<B: Board>(alloc: Global, queue: &mut Queue, board: &B) -> Result<Tale, AllocError> {
     let first = offer(alloc, queue, board, (5, 4, 2))?;
     ask(queue, 1, 4)?;
     let again = offer(alloc, queue, board, (5, 4, 2))?;
@@ -148,57 +194,58 @@ fn hopeless<B: Board>(
     let closed = close(queue, 1);
     let steps = (step(queue, board), step(queue, board));
     let rest = step_known(queue, board);
-    Ok((
-        [first, again, second, waits, closed],
-        [steps.0, steps.1, rest],
-    ))
+    Ok([first, again, second, waits, closed, steps.0, steps.1, rest])
 }
 
 #[test]
 fn hopeless_blocks_go_one_after_another(rt: HostRuntime) -> Result<(), Fail> {
-    let (board, mut queue) = begun(rt.alloc())?;
-    let told = hopeless(rt.alloc(), &mut queue, &board)?;
-    let waits = [('w', 4), ('k', 0), ('w', 0), NOTHING, ('c', 4)];
-    let steps = [('h', 5), ('h', 6), NOTHING];
-    assert_eq!(rt; told, (waits, steps));
+    let told = told_in(rt.alloc(), Case::Hopeless)?;
+    let waits = tale(&[
+        ('w', 4),
+        ('k', 0),
+        ('w', 0),
+        NOTHING,
+        ('c', 4),
+        ('h', 5),
+        ('h', 6),
+    ]);
+    assert_eq!(rt; told, waits);
     Ok(())
 }
 
-fn invalid<B: Board>(alloc: Global, queue: &mut Queue, board: &B) -> Result<[Told; 4], AllocError> {
+fn invalid<B: Board>(alloc: Global, queue: &mut Queue, board: &B) -> Result<Tale, AllocError> {
     go(queue, 4, Some(0));
     let waits = offer(alloc, queue, board, (5, 4, 2))?;
     let goes = step(queue, board);
     let again = offer(alloc, queue, board, (5, 4, 2))?;
     let low = offer(alloc, queue, board, (6, 4, 0))?;
-    Ok([waits, goes, again, low])
+    Ok(tale(&[waits, goes, again, low]))
 }
 
 #[test]
 fn a_block_follows_its_invalid_parent(rt: HostRuntime) -> Result<(), Fail> {
-    let (board, mut queue) = begun(rt.alloc())?;
-    let told = invalid(rt.alloc(), &mut queue, &board)?;
-    assert_eq!(rt; told, [('w', 0), ('h', 5), ('i', 0), ('o', 0)]);
+    let told = told_in(rt.alloc(), Case::Invalid)?;
+    assert_eq!(rt; told, tale(&[('w', 0), ('h', 5), ('i', 0), ('o', 0)]));
     Ok(())
 }
 
-fn bubbling<B: Board>(queue: &mut Queue, board: &mut B) -> Result<[Told; 3], AllocError> {
+fn bubbling<B: Board>(queue: &mut Queue, board: &mut B) -> Result<Tale, AllocError> {
     issue(board, 4, 0)?;
     go(queue, 5, Some(4));
     go(queue, 6, Some(5));
     go(queue, 8, Some(9));
     go(queue, 9, Some(8));
-    Ok([
+    Ok(tale(&[
         bubble(queue, board, 6),
         bubble(queue, board, 8),
         bubble(queue, board, 0),
-    ])
+    ]))
 }
 
 #[test]
 fn a_reply_bubbles_twice_and_a_circle_ends(rt: HostRuntime) -> Result<(), Fail> {
-    let (mut board, mut queue) = begun(rt.alloc())?;
-    let told = bubbling(&mut queue, &mut board)?;
-    assert_eq!(rt; told, [('b', 4), NOTHING, NOTHING]);
+    let told = told_in(rt.alloc(), Case::Bubbling)?;
+    assert_eq!(rt; told, tale(&[('b', 4), NOTHING, NOTHING]));
     Ok(())
 }
 
@@ -206,7 +253,7 @@ fn by_itself<B: Board>(
     alloc: Global,
     queue: &mut Queue,
     board: &mut B,
-) -> Result<[Told; 5], AllocError> {
+) -> Result<Tale, AllocError> {
     ask(queue, 1, 4)?;
     hold(queue, 3, 4)?;
     let comes = offer(alloc, queue, board, (4, 0, 1))?;
@@ -214,91 +261,89 @@ fn by_itself<B: Board>(
     issue(board, 4, 0)?;
     let waits = step_known(queue, board);
     let closed = close(queue, 1);
-    Ok([comes, ready, waits, closed, step(queue, board)])
+    let last = step(queue, board);
+    Ok(tale(&[comes, ready, waits, closed, last]))
 }
 
 #[test]
 fn a_block_comes_by_itself(rt: HostRuntime) -> Result<(), Fail> {
-    let (mut board, mut queue) = begun(rt.alloc())?;
-    let told = by_itself(rt.alloc(), &mut queue, &mut board)?;
-    assert_eq!(rt; told, [('w', 0), ('r', 4), NOTHING, ('c', 4), ('v', 4)]);
+    let told = told_in(rt.alloc(), Case::ByItself)?;
+    let comes = tale(&[('w', 0), ('r', 4), NOTHING, ('c', 4), ('v', 4)]);
+    assert_eq!(rt; told, comes);
     Ok(())
 }
 
-fn forgetting<B: Board>(queue: &mut Queue, board: &B) -> Result<[Told; 2], AllocError> {
+fn forgetting<B: Board>(queue: &mut Queue, board: &B) -> Result<Tale, AllocError> {
     hold(queue, 5, 8)?;
     hold(queue, 6, 9)?;
     queue.forget(5);
     let steps = (step(queue, board), step(queue, board));
     queue.forget(6);
-    Ok([steps.0, steps.1])
+    Ok(tale(&[steps.0, steps.1]))
 }
 
 #[test]
 fn a_poll_takes_its_replies(rt: HostRuntime) -> Result<(), Fail> {
-    let (board, mut queue) = begun(rt.alloc())?;
-    assert_eq!(rt; forgetting(&mut queue, &board)?, [('v', 9), NOTHING]);
+    let told = told_in(rt.alloc(), Case::Forgetting)?;
+    assert_eq!(rt; told, tale(&[('v', 9), NOTHING]));
     Ok(())
 }
 
+fn told_wanted(is_wanted: bool) -> Told {
+    if is_wanted { ('y', 0) } else { ('n', 0) }
+}
+
 // Whether a block is wanted with 4,095 open gets, and with one more.
-fn gets_fill<B: Board>(queue: &mut Queue, board: &B) -> Result<[bool; 2], AllocError> {
+fn gets_fill<B: Board>(queue: &mut Queue, board: &B) -> Result<Tale, AllocError> {
     for number in 0..4095u16 {
         ask(queue, u32::from(number), 10_000 + number)?;
     }
     let wanted = queue.wants(&named(4), board);
     ask(queue, 5_000, 5)?;
-    Ok([wanted, queue.wants(&named(4), board)])
+    let more = queue.wants(&named(4), board);
+    Ok(tale(&[told_wanted(wanted), told_wanted(more)]))
 }
 
 #[test]
 fn no_more_than_4096_gets_are_open(rt: HostRuntime) -> Result<(), Fail> {
-    let (board, mut queue) = begun(rt.alloc())?;
-    assert_eq!(rt; gets_fill(&mut queue, &board)?, [true, false]);
+    let told = told_in(rt.alloc(), Case::GetsFill)?;
+    assert_eq!(rt; told, tale(&[('y', 0), ('n', 0)]));
     Ok(())
 }
 
 // What a block is told where 4,096 wait, and the step that then applies.
-fn blocks_fill<B: Board>(
-    alloc: Global,
-    queue: &mut Queue,
-    board: &B,
-) -> Result<[Told; 2], AllocError> {
+fn blocks_fill<B: Board>(alloc: Global, queue: &mut Queue, board: &B) -> Result<Tale, AllocError> {
     ask(queue, 9_000, 10_000)?;
     for number in 10_000..14_096u16 {
         offer(alloc, queue, board, (number + 1, number, u64::from(number)))?;
     }
     let full = offer(alloc, queue, board, (5, 4, 2))?;
-    Ok([full, step(queue, board)])
+    let waits = step(queue, board);
+    Ok(tale(&[full, waits]))
 }
 
 #[test]
 fn no_more_than_4096_blocks_wait(rt: HostRuntime) -> Result<(), Fail> {
-    let (board, mut queue) = begun(rt.alloc())?;
-    let told = blocks_fill(rt.alloc(), &mut queue, &board)?;
-    assert_eq!(rt; told, [('f', 0), NOTHING]);
+    let told = told_in(rt.alloc(), Case::BlocksFill)?;
+    assert_eq!(rt; told, tale(&[('f', 0), NOTHING]));
     Ok(())
 }
 
 // What an invalid block is told where 8,191 others went after it, and where one more did.
-fn oldest_goes<B: Board>(
-    alloc: Global,
-    queue: &mut Queue,
-    board: &B,
-) -> Result<[Told; 2], AllocError> {
+fn oldest_goes<B: Board>(alloc: Global, queue: &mut Queue, board: &B) -> Result<Tale, AllocError> {
     go(queue, 1, Some(0));
     for number in 10_000..18_191u16 {
         go(queue, number, None);
     }
     let still = offer(alloc, queue, board, (1, 0, 1))?;
     go(queue, 9, None);
-    Ok([still, offer(alloc, queue, board, (1, 0, 1))?])
+    let gone = offer(alloc, queue, board, (1, 0, 1))?;
+    Ok(tale(&[still, gone]))
 }
 
 #[test]
 fn the_oldest_entry_is_forgotten(rt: HostRuntime) -> Result<(), Fail> {
-    let (board, mut queue) = begun(rt.alloc())?;
-    let told = oldest_goes(rt.alloc(), &mut queue, &board)?;
-    assert_eq!(rt; told, [('i', 0), ('w', 0)]);
+    let told = told_in(rt.alloc(), Case::OldestGoes)?;
+    assert_eq!(rt; told, tale(&[('i', 0), ('w', 0)]));
     Ok(())
 }

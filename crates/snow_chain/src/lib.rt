@@ -15,6 +15,3 @@ pub use plain::PlainChain;
 pub use snow_base::Header;
 pub use states::States;
 pub use tally::TallyChain;
-
-#[cfg(test)]
-mod tests;

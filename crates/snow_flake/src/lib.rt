@@ -11,6 +11,3 @@ pub use binary::Binary;
 pub use params::{ParamFault, Params};
 pub use rule::{Rule, Snowball, Snowflake};
 pub use unary::Unary;
-
-#[cfg(test)]
-mod tests;

@@ -10,6 +10,3 @@ mod served;
 pub use getter::Getter;
 pub use laws::longest_chain_law;
 pub use served::Served;
-
-#[cfg(test)]
-mod tests;

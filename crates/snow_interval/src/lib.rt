@@ -11,6 +11,3 @@ pub use intervals::Intervals;
 pub use kept::Kept;
 pub use list::KeptList;
 pub use span::Span;
-
-#[cfg(test)]
-mod tests;

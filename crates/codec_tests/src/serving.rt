@@ -1,15 +1,41 @@
-use crate::Getter;
 use snow_base::{Bytes, Id, Ids, NodeId};
+use snow_getter::Getter;
 use snow_lines::{Line, Lines};
 use snow_wire::Event;
 use std::alloc::{AllocError, Global};
-use std::test::Fail;
 
 // The one line of an answer: a letter, the request, and a block, or how many blocks, identifiers or
 // bytes there are.
 type Told = (char, u32, u64);
 
 const NOTHING: Told = ('-', 0, 0);
+
+// The answers of a case, and nothing behind.
+type Tale = [Told; 4];
+
+// What a node serves, and what it is asked then.
+#[derive(Clone, Copy)]
+enum Case {
+    Peers,
+    Rejected,
+    ManyBlocks,
+    ManyBytes,
+    ManyAccepted,
+    Again,
+}
+
+// What is told in a case, above block 0. All cases share it, since only here what is served is dropped.
+fn told_in(alloc: Global, case: Case) -> Result<Tale, AllocError> {
+    let mut getter = Getter::begin(alloc, named(0))?;
+    match case {
+        Case::Peers => peers(alloc, &mut getter),
+        Case::Rejected => rejected(alloc, &mut getter),
+        Case::ManyBlocks => many_blocks(alloc, &mut getter),
+        Case::ManyBytes => many_bytes(alloc, &mut getter),
+        Case::ManyAccepted => many_accepted(alloc, &mut getter),
+        Case::Again => again(alloc, &mut getter),
+    }
+}
 
 // The identifier that begins with the bytes of a number.
 fn named(number: u16) -> Id {
@@ -40,8 +66,15 @@ fn told_of(line: &Line) -> Told {
     }
 }
 
-// What a node answers that prefers block 1.
-fn ask(alloc: Global, getter: &Getter, question: &Event) -> Result<Told, AllocError> {
+// What a node answers that prefers block 1. The question is let go by a call, since the steps for all
+// kinds of events are many.
+fn ask(alloc: Global, getter: &Getter, question: Event) -> Result<Told, AllocError> {
+    let told = told_to(alloc, getter, &question);
+    drop(question);
+    told
+}
+
+fn told_to(alloc: Global, getter: &Getter, question: &Event) -> Result<Told, AllocError> {
     let mut log = Lines::new(alloc);
     getter.answer(named(1), question, &mut log)?;
     match log.list() {
@@ -57,7 +90,7 @@ fn ask_block(alloc: Global, getter: &Getter, id: u16) -> Result<Told, AllocError
         request: 5,
         id: named(id),
     };
-    ask(alloc, getter, &question)
+    ask(alloc, getter, question)
 }
 
 fn ask_ancestors(alloc: Global, getter: &Getter, id: u16) -> Result<Told, AllocError> {
@@ -66,7 +99,7 @@ fn ask_ancestors(alloc: Global, getter: &Getter, id: u16) -> Result<Told, AllocE
         request: 6,
         id: named(id),
     };
-    ask(alloc, getter, &question)
+    ask(alloc, getter, question)
 }
 
 fn ask_accepted(alloc: Global, getter: &Getter, named_ones: &[u16]) -> Result<Told, AllocError> {
@@ -79,7 +112,7 @@ fn ask_accepted(alloc: Global, getter: &Getter, named_ones: &[u16]) -> Result<To
         request: 7,
         ids,
     };
-    ask(alloc, getter, &question)
+    ask(alloc, getter, question)
 }
 
 // So many bytes.
@@ -132,27 +165,25 @@ fn accept_all(
     Ok(())
 }
 
-fn peers(alloc: Global, getter: &mut Getter) -> Result<[Told; 4], AllocError> {
+fn peers(alloc: Global, getter: &mut Getter) -> Result<Tale, AllocError> {
     issue(alloc, getter, (1, 0), 73)?;
     let (node, request) = (node(), 8);
-    let preferred = ask(alloc, getter, &Event::AskQuery { node, request })?;
+    let preferred = ask(alloc, getter, Event::AskQuery { node, request })?;
     getter.accepted(&named(1));
-    let last = ask(alloc, getter, &Event::AskFrontier { node, request })?;
+    let last = ask(alloc, getter, Event::AskFrontier { node, request })?;
     let accepted = ask_accepted(alloc, getter, &[0, 2, 1, 0])?;
     Ok([preferred, last, accepted, ask_block(alloc, getter, 1)?])
 }
 
 #[test]
-fn peers_ask(rt: HostRuntime) -> Result<(), Fail> {
-    let mut getter = Getter::begin(rt.alloc(), named(0))?;
-    let told = peers(rt.alloc(), &mut getter)?;
-    assert_eq!(rt; told, [('c', 8, 0), ('f', 8, 1), ('a', 7, 2), ('b', 5, 73)]);
-    Ok(())
+fn peers_ask(rt: HostRuntime) {
+    let told = [('c', 8, 0), ('f', 8, 1), ('a', 7, 2), ('b', 5, 73)];
+    assert_eq!(rt; told_in(rt.alloc(), Case::Peers), Ok(told));
 }
 
 // What is told of a block without bytes while it is pending and once it was rejected, and of blocks
 // that never were issued.
-fn rejected(alloc: Global, getter: &mut Getter) -> Result<[Told; 4], AllocError> {
+fn rejected(alloc: Global, getter: &mut Getter) -> Result<Tale, AllocError> {
     issue(alloc, getter, (1, 0), 0)?;
     let pending = ask_block(alloc, getter, 1)?;
     getter.rejected(&named(1));
@@ -162,76 +193,70 @@ fn rejected(alloc: Global, getter: &mut Getter) -> Result<[Told; 4], AllocError>
 }
 
 #[test]
-fn what_is_not_served_has_no_answer(rt: HostRuntime) -> Result<(), Fail> {
-    let mut getter = Getter::begin(rt.alloc(), named(0))?;
-    let told = rejected(rt.alloc(), &mut getter)?;
-    assert_eq!(rt; told, [('b', 5, 0), NOTHING, NOTHING, NOTHING]);
-    Ok(())
+fn what_is_not_served_has_no_answer(rt: HostRuntime) {
+    let told = [('b', 5, 0), NOTHING, NOTHING, NOTHING];
+    assert_eq!(rt; told_in(rt.alloc(), Case::Rejected), Ok(told));
 }
 
 // How many blocks come with the 64th and the 65th of a chain.
-fn many_blocks(alloc: Global, getter: &mut Getter) -> Result<[Told; 2], AllocError> {
+fn many_blocks(alloc: Global, getter: &mut Getter) -> Result<Tale, AllocError> {
     issue_all(alloc, getter, (1, 66), 1)?;
     let all = ask_ancestors(alloc, getter, 64)?;
-    Ok([all, ask_ancestors(alloc, getter, 65)?])
+    let rest = ask_ancestors(alloc, getter, 65)?;
+    Ok([all, rest, NOTHING, NOTHING])
 }
 
 #[test]
-fn a_chain_has_at_most_64_blocks(rt: HostRuntime) -> Result<(), Fail> {
-    let mut getter = Getter::begin(rt.alloc(), named(0))?;
-    let told = many_blocks(rt.alloc(), &mut getter)?;
-    assert_eq!(rt; told, [('n', 6, 64), ('n', 6, 64)]);
-    Ok(())
+fn a_chain_has_at_most_64_blocks(rt: HostRuntime) {
+    let told = [('n', 6, 64), ('n', 6, 64), NOTHING, NOTHING];
+    assert_eq!(rt; told_in(rt.alloc(), Case::ManyBlocks), Ok(told));
 }
 
 // How many blocks come above eight with 524,288 bytes: with a block of one byte, and of none.
-fn many_bytes(alloc: Global, getter: &mut Getter) -> Result<[Told; 2], AllocError> {
+fn many_bytes(alloc: Global, getter: &mut Getter) -> Result<Tale, AllocError> {
     issue_all(alloc, getter, (1, 9), 65_536)?;
     issue(alloc, getter, (9, 8), 1)?;
     issue(alloc, getter, (10, 8), 0)?;
     let more = ask_ancestors(alloc, getter, 9)?;
-    Ok([more, ask_ancestors(alloc, getter, 10)?])
+    let none = ask_ancestors(alloc, getter, 10)?;
+    Ok([more, none, NOTHING, NOTHING])
 }
 
 #[test]
-fn a_chain_has_at_most_524288_bytes(rt: HostRuntime) -> Result<(), Fail> {
-    let mut getter = Getter::begin(rt.alloc(), named(0))?;
-    let told = many_bytes(rt.alloc(), &mut getter)?;
-    assert_eq!(rt; told, [('n', 6, 8), ('n', 6, 9)]);
-    Ok(())
+fn a_chain_has_at_most_524288_bytes(rt: HostRuntime) {
+    let told = [('n', 6, 8), ('n', 6, 9), NOTHING, NOTHING];
+    assert_eq!(rt; told_in(rt.alloc(), Case::ManyBytes), Ok(told));
 }
 
 // What is told of the first of 4,096 accepted blocks, and of the first two of one more.
-fn many_accepted(alloc: Global, getter: &mut Getter) -> Result<[Told; 3], AllocError> {
+fn many_accepted(alloc: Global, getter: &mut Getter) -> Result<Tale, AllocError> {
     accept_all(alloc, getter, (1, 4_097))?;
     let first = ask_block(alloc, getter, 1)?;
     accept_all(alloc, getter, (4_097, 4_098))?;
     let gone = ask_block(alloc, getter, 1)?;
-    Ok([first, gone, ask_ancestors(alloc, getter, 2)?])
+    let second = ask_ancestors(alloc, getter, 2)?;
+    Ok([first, gone, second, NOTHING])
 }
 
 #[test]
-fn the_last_4096_accepted_blocks_are_served(rt: HostRuntime) -> Result<(), Fail> {
-    let mut getter = Getter::begin(rt.alloc(), named(0))?;
-    let told = many_accepted(rt.alloc(), &mut getter)?;
-    assert_eq!(rt; told, [('b', 5, 1), NOTHING, ('n', 6, 1)]);
-    Ok(())
+fn the_last_4096_accepted_blocks_are_served(rt: HostRuntime) {
+    let told = [('b', 5, 1), NOTHING, ('n', 6, 1), NOTHING];
+    assert_eq!(rt; told_in(rt.alloc(), Case::ManyAccepted), Ok(told));
 }
 
 // What is told of a block that was accepted with one byte, and issued again with five.
-fn again(alloc: Global, getter: &mut Getter) -> Result<[Told; 3], AllocError> {
+fn again(alloc: Global, getter: &mut Getter) -> Result<Tale, AllocError> {
     accept_all(alloc, getter, (1, 3))?;
     issue(alloc, getter, (1, 7), 5)?;
     let pending = ask_block(alloc, getter, 1)?;
     let accepted = ask_accepted(alloc, getter, &[1])?;
     getter.rejected(&named(1));
-    Ok([pending, accepted, ask_block(alloc, getter, 1)?])
+    let served = ask_block(alloc, getter, 1)?;
+    Ok([pending, accepted, served, NOTHING])
 }
 
 #[test]
-fn the_pending_block_comes_before_the_accepted_one(rt: HostRuntime) -> Result<(), Fail> {
-    let mut getter = Getter::begin(rt.alloc(), named(0))?;
-    let told = again(rt.alloc(), &mut getter)?;
-    assert_eq!(rt; told, [('b', 5, 5), ('a', 7, 1), ('b', 5, 1)]);
-    Ok(())
+fn the_pending_block_comes_before_the_accepted_one(rt: HostRuntime) {
+    let told = [('b', 5, 5), ('a', 7, 1), ('b', 5, 1), NOTHING];
+    assert_eq!(rt; told_in(rt.alloc(), Case::Again), Ok(told));
 }

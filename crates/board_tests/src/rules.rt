@@ -1,4 +1,4 @@
-use crate::{Binary, ParamFault, Params, Rule, Snowball, Snowflake, Unary};
+use snow_flake::{Binary, ParamFault, Params, Rule, Snowball, Snowflake, Unary};
 use std::test::Fail;
 
 /// Parameters, and the first thing that is wrong with them.

@@ -1,6 +1,6 @@
 ghost use Rattle.std.specs.Prelude.{◌≡◌, ℕ, ◌<◌, true, false, OnOk};
 
-use crate::{Intervals, Kept, KeptList, Span};
+use snow_interval::{Intervals, Kept, KeptList, Span};
 use std::alloc::AllocError;
 use std::test::Fail;
 
