@@ -61,6 +61,10 @@ fn looks_up(rt: HostRuntime) -> Result<(), Fail> {
     assert_eq!(rt; tree.child_ids(&named(7)).len(), 0);
     assert_eq!(rt; tree.ancestor(&named(5)), Some(named(1)));
     assert_eq!(rt; tree.load(4).copied(), Some(5));
+    assert_eq!(rt;
+        (tree.parent_place(2), tree.parent_place(0)),
+        (Some(0), None)
+    );
     Ok(())
 }
 
@@ -75,6 +79,7 @@ fn promotes(rt: HostRuntime) -> Result<(), Fail> {
     );
     assert_eq!(rt; tree.rejected(), [named(2), named(4)].as_slice());
     assert_eq!(rt; tree.place_of(&named(6)), Some(2));
+    assert_eq!(rt; tree.parent_place(1), Some(0));
     offer(&mut tree, 7, 6)?;
     assert_eq!(rt; tree.rejected().len(), 0);
     assert_eq!(rt; tree.ancestor(&named(7)), Some(named(6)));

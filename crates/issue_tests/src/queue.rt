@@ -138,12 +138,21 @@ fn bubble<B: Board>(queue: &Queue, board: &B, id: u16) -> Told {
     told_of('b', queue.bubble(&named(id), board))
 }
 
+// The vote that a reply gives as it comes, or that it is to be held.
+fn count<B: Board>(queue: &Queue, board: &B, id: u16) -> Told {
+    match queue.vote_at_once(&named(id), board) {
+        Some(vote) => told_of('b', vote),
+        None => ('h', 0),
+    }
+}
+
 // What happens to a queue over a board.
 #[derive(Clone, Copy)]
 enum Case {
     Hopeless,
     Invalid,
     Bubbling,
+    AtOnce,
     ByItself,
     Forgetting,
     GetsFill,
@@ -177,6 +186,7 @@ fn play<B: Board>(
         Case::Hopeless => hopeless(alloc, queue, board),
         Case::Invalid => invalid(alloc, queue, board),
         Case::Bubbling => bubbling(queue, board),
+        Case::AtOnce => at_once(alloc, queue, board),
         Case::ByItself => by_itself(alloc, queue, board),
         Case::Forgetting => forgetting(queue, board),
         Case::GetsFill => gets_fill(queue, board),
@@ -246,6 +256,29 @@ fn bubbling<B: Board>(queue: &mut Queue, board: &mut B) -> Result<Tale, AllocErr
 fn a_reply_bubbles_twice_and_a_circle_ends(rt: HostRuntime) -> Result<(), Fail> {
     let told = told_in(rt.alloc(), Case::Bubbling)?;
     assert_eq!(rt; told, tale(&[('b', 4), NOTHING, NOTHING]));
+    Ok(())
+}
+
+// Replies for a pending block, a gone one, the last accepted one, one that is asked for, one that waits,
+// and one of which nothing is known.
+fn at_once<B: Board>(alloc: Global, queue: &mut Queue, board: &mut B) -> Result<Tale, AllocError> {
+    issue(board, 4, 0)?;
+    go(queue, 5, Some(4));
+    ask(queue, 1, 6)?;
+    let waits = offer(alloc, queue, board, (7, 6, 3))?;
+    let voted = (count(queue, board, 4), count(queue, board, 5));
+    let last = count(queue, board, 0);
+    let held = (count(queue, board, 6), count(queue, board, 7));
+    let unknown = count(queue, board, 8);
+    Ok(tale(&[waits, voted.0, voted.1, last, held.0, held.1, unknown]))
+}
+
+#[test]
+fn a_reply_counts_as_it_comes(rt: HostRuntime) -> Result<(), Fail> {
+    let told = told_in(rt.alloc(), Case::AtOnce)?;
+    let counted = [('w', 0), ('b', 4), ('b', 4), NOTHING];
+    assert_eq!(rt; told[..4], counted[..]);
+    assert_eq!(rt; told[4..7], [('h', 0), ('h', 0), ('h', 0)][..]);
     Ok(())
 }
 
