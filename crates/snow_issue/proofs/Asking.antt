@@ -1,8 +1,6 @@
 -- Lemmas on open gets: their order by number, and which blocks are asked for.
 use Rattle.std.proofs.Common.{◌≡◌, ℕ, suc, ◌<◌, ◌+◌, ◌==◌, Bool, true, false, not, ◌&&◌, ◌||◌, ltb, cond, List, [], ◌∷◌, map, length, get_or, find, Option, Some, None, Less, Equal, Greater, refl, sym, ap, ◌∙◌, arith, ⊎_elim}
-use Rattle.std.specs.BTreeMap.{get, is_at, insert_entry}
-use Rattle.std.specs.BTreeSet.{BTreeSet, contains}
-use Rattle.std.specs.Cmp.Lexicographic.{slice_cmp}
+use Rattle.std.specs.BTreeMap.{is_at, insert_entry}
 use Rattle.std.specs.List.{remove, position_or_len, AllByRecursion}
 use Rattle.std.specs.List.Sorted.{IsStrictlySortedBy}
 use Rattle.std.specs.Map.{lookup, remove_entry, keys_of}
@@ -10,7 +8,6 @@ use Rattle.std.specs.Option.{is_some, option_map}
 use Rattle.std.specs.Ordering.{nat_cmp, is_eq, match_ordering}
 use Rattle.std.specs.Str.{bytes_eq}
 use Rattle.std.proofs.lemmas.Bool.{or_parts, both_ways, eqb-true, lt-ltb, le-ltb, ne_eqb, eq-eqb, cases_order}
-use Rattle.std.proofs.lemmas.Map.Text.{is_eq-slice_cmp}
 use Rattle.snow_issue.specs.declared.gets.Asked.{Asked}
 use Rattle.snow_issue.specs.declared.work.Get.{Get}
 use Rattle.snow_issue.specs.Lists.{asked_in, has_number, is_get, with_get, without}
@@ -25,8 +22,9 @@ Entries = List (ℕ × Asked)
 abbrev pub id_of_get : Get → List ℕ
 id_of_get g = g.id
 
-pub asked_nothing : (ids : BTreeSet (List ℕ)) (es : Entries) → ids.keys ≡ [] → es ≡ [] → HasAsked ids (map get_of es)
-asked_nothing ids es none empty = rw empty (record { known = λ id. rw none refl; apart = tt })
+-- whether a set has an identifier
+abbrev Test : Type 0
+Test = List ℕ → Bool
 
 -- ---- booleans
 
@@ -70,24 +68,22 @@ apart_with (g ∷ gets) get new apart =
       | false ↦ (asked_with gets get g.id ∙ ap (λ b. b || bytes_eq get.id g.id) apart.0 ∙ (id_turned get.id g.id ∙ parts.0), apart_with gets get parts.1 apart.1)
     ]
 
-pub asked_opened : (before now : BTreeSet (List ℕ)) (gets : List Get) (get : Get) → HasAsked before gets → asked_in gets get.id ≡ false
-    → ((q : List ℕ) → contains (slice_cmp nat_cmp) now q ≡ cond (is_at (slice_cmp nat_cmp get.id) q) true (contains (slice_cmp nat_cmp) before q))
+pub asked_opened : (before now : Test) (gets : List Get) (get : Get) → HasAsked before gets → asked_in gets get.id ≡ false
+    → ((q : List ℕ) → now q ≡ cond (bytes_eq get.id q) true (before q))
     → HasAsked now (with_get gets get)
 asked_opened before now gets get is new change = record {
-  known = λ id. change id ∙ ap (λ b. cond b true (contains (slice_cmp nat_cmp) before id)) (is_eq-slice_cmp get.id id)
-      ∙ ap (λ b. cond (bytes_eq get.id id) true b) (is.known id) ∙ cond_or (bytes_eq get.id id) (asked_in gets id) ∙ sym (asked_with gets get id);
+  known = λ id. change id ∙ ap (λ b. cond (bytes_eq get.id id) true b) (is.known id) ∙ cond_or (bytes_eq get.id id) (asked_in gets id) ∙ sym (asked_with gets get id);
   apart = apart_with gets get new is.apart;
 }
 
 -- an identifier that came and went
-pub asked_undone : (before mid now : BTreeSet (List ℕ)) (gets : List Get) (id : List ℕ) → HasAsked before gets → asked_in gets id ≡ false
-    → ((q : List ℕ) → contains (slice_cmp nat_cmp) mid q ≡ cond (is_at (slice_cmp nat_cmp id) q) true (contains (slice_cmp nat_cmp) before q))
-    → ((q : List ℕ) → contains (slice_cmp nat_cmp) now q ≡ cond (is_at (slice_cmp nat_cmp id) q) false (contains (slice_cmp nat_cmp) mid q))
+pub asked_undone : (before mid now : Test) (gets : List Get) (id : List ℕ) → HasAsked before gets → asked_in gets id ≡ false
+    → ((q : List ℕ) → mid q ≡ cond (bytes_eq id q) true (before q))
+    → ((q : List ℕ) → now q ≡ cond (bytes_eq id q) false (mid q))
     → HasAsked now gets
 asked_undone before mid now gets id is new came went = record {
-  known = λ q. went q ∙ ap (λ b. cond (is_at (slice_cmp nat_cmp id) q) false b) (came q)
-      ∙ undone (is_at (slice_cmp nat_cmp id) q) (contains (slice_cmp nat_cmp) before q)
-      (λ e. is.known q ∙ ap (asked_in gets) (sym (same_id id q (sym (is_eq-slice_cmp id q) ∙ e))) ∙ new)
+  known = λ q. went q ∙ ap (λ b. cond (bytes_eq id q) false b) (came q)
+      ∙ undone (bytes_eq id q) (before q) (λ e. is.known q ∙ ap (asked_in gets) (sym (same_id id q e)) ∙ new)
       ∙ is.known q;
   apart = is.apart;
 }
@@ -183,17 +179,16 @@ pub cond_none : {T : Type 0} (b : Bool) (o : Option T) → is_some (cond b None 
 cond_none true o = refl
 cond_none false o = refl
 
-pub asked_closed : (before now : BTreeSet (List ℕ)) (gets : List Get) (number : ℕ) (node : List ℕ) (get : Get) → HasAsked before gets
+pub asked_closed : (before now : Test) (gets : List Get) (number : ℕ) (node : List ℕ) (get : Get) → HasAsked before gets
     → find (is_get number node) gets ≡ Some get
-    → ((q : List ℕ) → contains (slice_cmp nat_cmp) now q ≡ cond (is_at (slice_cmp nat_cmp get.id) q) false (contains (slice_cmp nat_cmp) before q))
+    → ((q : List ℕ) → now q ≡ cond (bytes_eq get.id q) false (before q))
     → HasAsked now (without (is_get number node) gets)
 asked_closed before now gets number node get is found change =
     let at = position_or_len (is_get number node) gets in
     let place = first_at (is_get number node) gets get found in
     record {
       known = λ id.
-          change id ∙ ap (λ b. cond b false (contains (slice_cmp nat_cmp) before id)) (is_eq-slice_cmp get.id id)
-          ∙ ap (λ b. cond (bytes_eq get.id id) false b) (is.known id ∙ sym (named_is_some id_of_get gets id))
+          change id ∙ ap (λ b. cond (bytes_eq get.id id) false b) (is.known id ∙ sym (named_is_some id_of_get gets id))
           ∙ sym (cond_none (bytes_eq get.id id) (named id_of_get gets id))
           ∙ sym (ap is_some (named_removed id_of_get gets at get id place.0 place.1 is.apart))
           ∙ named_is_some id_of_get (remove gets at) id;

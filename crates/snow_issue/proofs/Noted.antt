@@ -1,18 +1,12 @@
 -- Lemmas on rows: the places of each key.
 use Rattle.std.proofs.Common.{◌≡◌, ℕ, ◌==◌, Bool, true, false, not, ◌||◌, cond, List, [], ◌∷◌, ◌++◌, Option, Some, None, unwrap_or, refl, sym, ap, ◌∙◌}
-use Rattle.std.specs.BTreeMap.{BTreeMap, get, is_at}
-use Rattle.std.specs.Cmp.Lexicographic.{slice_cmp}
-use Rattle.std.specs.Ordering.{nat_cmp}
+use Rattle.std.specs.HashMap.{get}
 use Rattle.std.specs.Str.{bytes_eq}
 use Rattle.std.proofs.lemmas.Bool.{ne_eqb, eqb-true, false_from_ne_true}
 use Rattle.std.proofs.lemmas.List.Folds.{list_any-append}
-use Rattle.std.proofs.lemmas.Map.Text.{is_eq-slice_cmp}
 use Rattle.std.proofs.lemmas.Slice.Eq.{bytes_eq-Decides}
-use Rattle.snow_issue.specs.Index.{row_of, has_place, left_by}
+use Rattle.snow_issue.specs.Index.{RowMap, row_of, has_place, left_by}
 use Rattle.snow_issue.proofs.Booleans.{or_false}
-
-abbrev pub RowMap : Type 0
-RowMap = BTreeMap (List ℕ) (List ℕ)
 
 pub same_id : (a b : List ℕ) → bytes_eq a b ≡ true → a ≡ b
 same_id a b = (bytes_eq-Decides a b).0
@@ -31,12 +25,12 @@ id_turned a b =
 -- where a key's row is exchanged, or goes, and is then what `change` makes of it
 pub changed : (before now : RowMap) (key : List ℕ) (w : Option (List ℕ)) (change : List ℕ → List ℕ)
     → unwrap_or w [] ≡ change (row_of before key)
-    → ((q : List ℕ) → get (slice_cmp nat_cmp) now q ≡ cond (is_at (slice_cmp nat_cmp key) q) w (get (slice_cmp nat_cmp) before q))
+    → ((q : List ℕ) → get bytes_eq now q ≡ cond (bytes_eq key q) w (get bytes_eq before q))
     → (q : List ℕ) → row_of now q ≡ cond (bytes_eq key q) (change (row_of before q)) (row_of before q)
 changed before now key w change is h q =
-    let found = get (slice_cmp nat_cmp) before q in
+    let found = get bytes_eq before q in
     let Goal : Bool → Type 0 = λ b. bytes_eq key q ≡ b → unwrap_or (cond b w found) [] ≡ cond b (change (row_of before q)) (row_of before q) in
-    ap (λ o. unwrap_or o []) (h q ∙ ap (λ b. cond b w found) (is_eq-slice_cmp key q))
+    ap (λ o. unwrap_or o []) (h q)
     ∙ (elim (bytes_eq key q) as Goal [
       | true ↦ λ e. is ∙ ap (λ k. change (row_of before k)) (same_id key q e)
       | false ↦ λ e. refl
@@ -54,10 +48,10 @@ untouched before key change is q =
     ] refl
 
 -- the row of a key that the map has
-pub row_is : (m : RowMap) (key row : List ℕ) → Some row ≡ get (slice_cmp nat_cmp) m key → row ≡ row_of m key
+pub row_is : (m : RowMap) (key row : List ℕ) → Some row ≡ get bytes_eq m key → row ≡ row_of m key
 row_is m key row h = ap (λ o. unwrap_or o []) h
 
-pub no_row : (m : RowMap) (key : List ℕ) → None ≡ get (slice_cmp nat_cmp) m key → [] ≡ row_of m key
+pub no_row : (m : RowMap) (key : List ℕ) → None ≡ get bytes_eq m key → [] ≡ row_of m key
 no_row m key h = ap (λ o. unwrap_or o []) h
 
 -- two changes of one row, the second of which leaves nothing

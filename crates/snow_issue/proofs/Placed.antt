@@ -11,10 +11,9 @@ use Rattle.std.proofs.lemmas.List.Sums.{position_or_len_is, fails_before_first, 
 use Rattle.snow_issue.specs.declared.lineup.Slot.{Slot}
 use Rattle.snow_issue.specs.declared.marks.Mark.{Mark}
 use Rattle.snow_issue.specs.declared.marks.Mark.TheVariants.{New}
-use Rattle.snow_issue.proofs.Noted.{RowMap}
 use Rattle.snow_issue.proofs.Tagged.{other_left, unused_left}
 use Rattle.snow_issue.specs.declared.work.Held.{Held}
-use Rattle.snow_issue.specs.Index.{row_of, left_by, KeepsRows, has_place, tag_of, seat_of, woken, woken_at, reset, forgotten}
+use Rattle.snow_issue.specs.Index.{RowMap, row_of, left_by, KeepsRows, has_place, tag_of, seat_of, woken, woken_at, reset, forgotten}
 
 abbrev pub Rises : {T : Type 0} → List (Slot T) → Type 0
 Rises slots = AllPairs (λ s t. s.place < t.place) slots

@@ -10,8 +10,8 @@ use Rattle.std.proofs.lemmas.List.Kept.{AllPairs-filter}
 use Rattle.std.proofs.lemmas.List.Quantifiers.{all_pairs_push, all_pairs_remove}
 use Rattle.snow_issue.specs.declared.lineup.Slot.{Slot}
 use Rattle.snow_issue.specs.declared.marks.Mark.{Mark}
-use Rattle.snow_issue.specs.Index.{row_of, has_place, left_by, tag_of, seat_of, IsIndexed, KeepsRows}
-use Rattle.snow_issue.proofs.Noted.{RowMap, id_turned, has_pushed, has_left, none_left}
+use Rattle.snow_issue.specs.Index.{RowMap, row_of, has_place, left_by, tag_of, seat_of, IsIndexed, KeepsRows}
+use Rattle.snow_issue.proofs.Noted.{id_turned, has_pushed, has_left, none_left}
 use Rattle.snow_issue.proofs.Booleans.{or_false, or_true}
 
 abbrev pub Tag : Type 0

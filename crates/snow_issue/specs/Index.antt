@@ -3,7 +3,11 @@ use Rattle.std.specs.Prelude.{◌≡◌, ℕ, ◌<◌, ◌≤◌, Bool, true, fa
 use Rattle.std.specs.List.{list_any, AllPairs}
 use Rattle.std.specs.BTreeMap.{BTreeMap, get}
 use Rattle.std.specs.BTreeSet.{BTreeSet, contains}
+use Rattle.std.specs.HashMap as hash
+use Rattle.std.specs.HashMap.{HashMap}
 use Rattle.std.specs.Option.{option_map, option_map_or}
+use Rattle.std.specs.declared.hash.BuildHasherDefault.{BuildHasherDefault}
+use Rattle.std.specs.declared.hash.FoldHasher.{FoldHasher}
 use Rattle.std.specs.Cmp.Lexicographic.{slice_cmp}
 use Rattle.std.specs.Ordering.{nat_cmp}
 use Rattle.snow_issue.specs.declared.lineup.Slot.{Slot}
@@ -15,9 +19,13 @@ use Rattle.snow_issue.specs.declared.marks.Mark.{Mark}
 use Rattle.snow_issue.specs.declared.marks.Mark.TheVariants.{New}
 use Rattle.snow_issue.specs.Lists.{asked_in, holds_in}
 
+-- the rows of a lineup: places by key
+abbrev pub RowMap : Type 0
+RowMap = HashMap (List ℕ) (List ℕ) (BuildHasherDefault FoldHasher)
+
 -- the places of the items of a key
-abbrev pub row_of : BTreeMap (List ℕ) (List ℕ) → List ℕ → List ℕ
-row_of rows key = unwrap_or (get (slice_cmp nat_cmp) rows key) []
+abbrev pub row_of : RowMap → List ℕ → List ℕ
+row_of rows key = unwrap_or (hash.get bytes_eq rows key) []
 
 abbrev pub has_place : ℕ → List ℕ → Bool
 has_place place row = list_any (λ p. p == place) row
@@ -35,7 +43,7 @@ abbrev pub seat_of : {T : Type 0} → Slot T → T × Mark
 seat_of s = (s.item, s.mark)
 
 -- places rise, all are below the next one, and each stands in the row of its item's key and in no other
-pub record IsIndexed (tags : List (ℕ × List ℕ)) (rows : BTreeMap (List ℕ) (List ℕ)) (next : ℕ) : Type 0 where
+pub record IsIndexed (tags : List (ℕ × List ℕ)) (rows : RowMap) (next : ℕ) : Type 0 where
   pub rising : AllPairs (λ a b. a.0 < b.0) tags
   pub below : All (λ t. t.0 < next) tags
   pub found : All (λ t. (id : List ℕ) → has_place t.0 (row_of rows id) ≡ bytes_eq id t.1) tags
@@ -66,18 +74,18 @@ abbrev pub AreNamedApart : {T : Type 0} → (T → List ℕ) → List T → Type
 AreNamedApart name [] = Unit {0}
 AreNamedApart name (x ∷ items) = (list_any (λ y. bytes_eq (name y) (name x)) items ≡ false) × AreNamedApart name items
 
--- the map has the height of each waiting block, and no block waits twice
-pub record HasHeights (heights : BTreeMap (List ℕ) ℕ) (waiting : List Waiting) : Type 0 where
-  pub known : (id : List ℕ) → get (slice_cmp nat_cmp) heights id ≡ height_among waiting id
+-- each waiting block's height is found by its identifier, and no block waits twice
+pub record HasHeights (height : List ℕ → Option ℕ) (waiting : List Waiting) : Type 0 where
+  pub known : (id : List ℕ) → height id ≡ height_among waiting id
   pub apart : AreNamedApart (λ w. w.header.id) waiting
 
 -- the gets of a map by number
 abbrev pub get_of : ℕ × Asked → Get
 get_of e = record { number = e.0; node = e.1.node; id = e.1.id }
 
--- the set has the identifier of each get, and no block is asked for twice
-pub record HasAsked (ids : BTreeSet (List ℕ)) (gets : List Get) : Type 0 where
-  pub known : (id : List ℕ) → contains (slice_cmp nat_cmp) ids id ≡ asked_in gets id
+-- a set has the identifier of each get, and no block is asked for twice
+pub record HasAsked (has : List ℕ → Bool) (gets : List Get) : Type 0 where
+  pub known : (id : List ℕ) → has id ≡ asked_in gets id
   pub apart : AreNamedApart (λ g. g.id) gets
 
 -- whether the map has a node's reply to a poll
@@ -94,6 +102,6 @@ pub record HasReplies (polls : BTreeMap ℕ (BTreeSet (List ℕ))) (held : List 
   pub apart : AreNamedApart reply_key held
 
 -- the items that pass keep their places in the rows
-abbrev pub KeepsRows : {T : Type 0} → (Slot T → Bool) → List (Slot T) → BTreeMap (List ℕ) (List ℕ) → BTreeMap (List ℕ) (List ℕ) → Type 0
+abbrev pub KeepsRows : {T : Type 0} → (Slot T → Bool) → List (Slot T) → RowMap → RowMap → Type 0
 KeepsRows stays slots before now =
     All (λ s. stays s ≡ true → (id : List ℕ) → has_place s.place (row_of now id) ≡ has_place s.place (row_of before id)) slots

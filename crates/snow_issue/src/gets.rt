@@ -5,7 +5,7 @@ ghost use Rattle.snow_issue.specs.Lists.{asked_in, has_number, is_get, with_get,
 use crate::work::Get;
 use snow_base::{Id, NodeId};
 use std::alloc::{AllocError, Global};
-use std::collections::{BTreeMap, BTreeSet};
+use std::collections::{BTreeMap, HashSet};
 use std::marker::Model;
 
 /// The node that a block was asked of, and the block.
@@ -19,11 +19,12 @@ pub(crate) struct Asked {
 #[derive(Drop)]
 pub struct Gets {
     open: BTreeMap<u32, Asked>,
-    ids: BTreeSet<Id>,
+    ids: HashSet<Id>,
 }
 
 impl Model for Gets {
-    ghost use Rattle.std.specs.Prelude.{List, map};
+    ghost use Rattle.std.specs.Prelude.{List, map, bytes_eq};
+    ghost use Rattle.std.specs.HashSet.{contains};
     ghost use Rattle.snow_issue.specs.declared.work.Get.{Get};
     ghost use Rattle.snow_issue.specs.Index.{get_of, HasAsked};
 
@@ -31,7 +32,7 @@ impl Model for Gets {
 
     ghost view = { λ a. map get_of a.open.entries };
 
-    ghost invariant = { λ a. HasAsked a.ids (map get_of a.open.entries) };
+    ghost invariant = { λ a. HasAsked (contains bytes_eq a.ids) (map get_of a.open.entries) };
 }
 
 impl Gets {
@@ -41,7 +42,7 @@ impl Gets {
     {
         Gets {
             open: BTreeMap::new(alloc),
-            ids: BTreeSet::new(alloc),
+            ids: HashSet::new(alloc),
         }
     }
 

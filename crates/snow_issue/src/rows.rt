@@ -5,7 +5,7 @@ ghost use Rattle.snow_issue.specs.Index.{row_of, left_by};
 
 use snow_base::Id;
 use std::alloc::{AllocError, Global};
-use std::collections::BTreeMap;
+use std::collections::HashMap;
 use std::marker::Model;
 
 /// Places, in the order in which they came. The last one stands apart, so that a row of one place
@@ -84,11 +84,10 @@ fn other_than(place: Option<u64>, other: u64) -> Option<u64>
     }
 }
 
-/// At which places the items of each key stand. A key of senders' choice costs no more than any
-/// other, since the map is in order of the keys.
+/// At which places the items of each key stand.
 #[derive(Drop)]
 pub(crate) struct Rows {
-    pub(crate) rows: BTreeMap<Id, Row>,
+    pub(crate) rows: HashMap<Id, Row>,
 }
 
 impl Rows {
@@ -97,7 +96,7 @@ impl Rows {
         ensures { (key : List ℕ) → row_of result.rows key ≡ [] }
     {
         Rows {
-            rows: BTreeMap::new(alloc),
+            rows: HashMap::new(alloc),
         }
     }
 

@@ -9,7 +9,7 @@ use crate::marks::Mark;
 use crate::work::Waiting;
 use snow_base::{Header, Id};
 use std::alloc::{AllocError, Global};
-use std::collections::BTreeMap;
+use std::collections::HashMap;
 use std::marker::Model;
 
 impl Keyed for Waiting {
@@ -25,11 +25,12 @@ impl Keyed for Waiting {
 #[derive(Drop)]
 pub(crate) struct WaitingList {
     lineup: Lineup<Waiting>,
-    heights: BTreeMap<Id, u64>,
+    heights: HashMap<Id, u64>,
 }
 
 impl Model for WaitingList {
-    ghost use Rattle.std.specs.Prelude.{List};
+    ghost use Rattle.std.specs.Prelude.{List, bytes_eq};
+    ghost use Rattle.std.specs.HashMap.{get};
     ghost use Rattle.snow_issue.specs.declared.work.Waiting.{Waiting};
     ghost use Rattle.snow_issue.specs.declared.marks.Mark.{Mark};
     ghost use Rattle.snow_issue.specs.Known.{items_of};
@@ -39,7 +40,7 @@ impl Model for WaitingList {
 
     ghost view = { λ a. a.lineup };
 
-    ghost invariant = { λ a. HasHeights a.heights (items_of a.lineup) };
+    ghost invariant = { λ a. HasHeights (get bytes_eq a.heights) (items_of a.lineup) };
 }
 
 impl WaitingList {
@@ -51,7 +52,7 @@ impl WaitingList {
     {
         WaitingList {
             lineup: Lineup::new(alloc),
-            heights: BTreeMap::new(alloc),
+            heights: HashMap::new(alloc),
         }
     }
 

@@ -1,5 +1,7 @@
 -- The get goes to its place by number, and its block is asked for.
 use Rattle.std.proofs.Common.{◌≡◌, List, map, false, sym, ap, ◌∙◌, subst}
+use Rattle.std.specs.HashSet.{contains}
+use Rattle.std.specs.Str.{bytes_eq}
 use Rattle.snow_issue.specs.declared.gets.Asked.{Asked}
 use Rattle.snow_issue.specs.declared.work.Get.{Get}
 use Rattle.snow_issue.specs.Lists.{asked_in, has_number, with_get}
@@ -13,8 +15,8 @@ invariant_of-self-in-Err c =
     let gets = map get_of inside.«open».entries in
     let id = c.args.get.id in
     let new = subst (λ l. asked_in l id ≡ false) (sym c.self.view_is) c.requires.id in
-    subst (λ (l : List Get). HasAsked c.remove.new.self l) (sym (ap (map get_of) c.in-Err.ensures.err))
-    (asked_undone inside.ids c.insert.new.self c.remove.new.self gets id c.self.invariant new c.in_ok-insert.ensures.updates.0 c.remove.ensures.updates.0)
+    subst (λ (l : List Get). HasAsked (λ q. contains bytes_eq c.remove.new.self q) l) (sym (ap (map get_of) c.in-Err.ensures.err))
+    (asked_undone (λ q. contains bytes_eq inside.ids q) (λ q. contains bytes_eq c.insert.new.self q) (λ q. contains bytes_eq c.remove.new.self q) gets id c.self.invariant new c.in_ok-insert.ensures.updates.0 c.remove.ensures.updates.0)
 
 pub invariant_of-self-in_default : goal.invariant_of-self-in_default
 invariant_of-self-in_default c =
@@ -24,8 +26,8 @@ invariant_of-self-in_default c =
     let asked : Asked = record { node = get.node; id = get.id } in
     let new = subst (λ l. asked_in l get.id ≡ false) (sym c.self.view_is) c.requires.id in
     let number = subst (λ l. has_number l get.number ≡ false) (sym c.self.view_is) c.requires.number in
-    subst (λ (l : List Get). HasAsked c.insert.new.self l) (sym (ap (map get_of) c.in_default.ensures.entries ∙ entered inside.«open».entries get.number asked number))
-    (asked_opened inside.ids c.insert.new.self gets get c.self.invariant new c.in_ok-insert.ensures.updates.0)
+    subst (λ (l : List Get). HasAsked (λ q. contains bytes_eq c.insert.new.self q) l) (sym (ap (map get_of) c.in_default.ensures.entries ∙ entered inside.«open».entries get.number asked number))
+    (asked_opened (λ q. contains bytes_eq inside.ids q) (λ q. contains bytes_eq c.insert.new.self q) gets get c.self.invariant new c.in_ok-insert.ensures.updates.0)
 
 pub returns-clause-ok : goal.returns-clause-ok
 returns-clause-ok c =

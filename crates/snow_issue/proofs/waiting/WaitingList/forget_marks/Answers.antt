@@ -1,4 +1,6 @@
 use Rattle.std.proofs.Common.{List, sym, ap, ◌∙◌, subst}
+use Rattle.std.specs.HashMap.{get}
+use Rattle.std.specs.Str.{bytes_eq}
 use Rattle.snow_issue.specs.declared.work.Waiting.{Waiting}
 use Rattle.snow_issue.specs.Known.{items_of}
 use Rattle.snow_issue.specs.Index.{HasHeights}
@@ -7,4 +9,4 @@ use Rattle.snow_issue.proofs.waiting.WaitingList.forget_marks.Goals as goal
 
 pub invariant_of-self : goal.invariant_of-self
 invariant_of-self c =
-    subst (λ (l : List Waiting). HasHeights c.self.inside.heights l) (sym (ap items_of c.forget_marks.ensures ∙ items_forgotten c.self.inside.lineup)) c.self.invariant
+    subst (λ (l : List Waiting). HasHeights (λ q. get bytes_eq c.self.inside.heights q) l) (sym (ap items_of c.forget_marks.ensures ∙ items_forgotten c.self.inside.lineup)) c.self.invariant

@@ -1,4 +1,6 @@
 use Rattle.std.proofs.Common.{◌≡◌, List, false, sym, ap, ◌∙◌, subst}
+use Rattle.std.specs.HashMap.{get}
+use Rattle.std.specs.Str.{bytes_eq}
 use Rattle.snow_issue.specs.declared.work.Waiting.{Waiting}
 use Rattle.snow_issue.specs.declared.marks.Mark.TheVariants.{New}
 use Rattle.snow_issue.specs.Lists.{waits_among}
@@ -13,12 +15,12 @@ invariant_of-self-in-Err c =
     let inside = c.self.inside in
     let header = c.args.block.header in
     let new = subst (λ l. waits_among (items_of l) header.id ≡ false) (sym c.self.view_is) c.requires in
-    subst (λ (l : List Waiting). HasHeights c.remove.new.self l) (sym (ap items_of c.in-Err.ensures.err))
-    (heights_undone inside.heights c.insert.new.self c.remove.new.self (items_of inside.lineup) header.id header.height c.self.invariant new c.in_ok-insert.ensures.updates.0 c.remove.ensures.updates.0)
+    subst (λ (l : List Waiting). HasHeights (λ q. get bytes_eq c.remove.new.self q) l) (sym (ap items_of c.in-Err.ensures.err))
+    (heights_undone (λ q. get bytes_eq inside.heights q) (λ q. get bytes_eq c.insert.new.self q) (λ q. get bytes_eq c.remove.new.self q) (items_of inside.lineup) header.id header.height c.self.invariant new c.in_ok-insert.ensures.updates.0 c.remove.ensures.updates.0)
 
 pub invariant_of-self-in_default : goal.invariant_of-self-in_default
 invariant_of-self-in_default c =
     let inside = c.self.inside in
     let new = subst (λ l. waits_among (items_of l) c.args.block.header.id ≡ false) (sym c.self.view_is) c.requires in
-    subst (λ (l : List Waiting). HasHeights c.insert.new.self l) (sym (ap items_of c.in_default.ensures.ok ∙ items_pushed inside.lineup c.args.block New))
-    (heights_pushed inside.heights c.insert.new.self (items_of inside.lineup) c.args.block c.self.invariant new c.in_ok-insert.ensures.updates.0)
+    subst (λ (l : List Waiting). HasHeights (λ q. get bytes_eq c.insert.new.self q) l) (sym (ap items_of c.in_default.ensures.ok ∙ items_pushed inside.lineup c.args.block New))
+    (heights_pushed (λ q. get bytes_eq inside.heights q) (λ q. get bytes_eq c.insert.new.self q) (items_of inside.lineup) c.args.block c.self.invariant new c.in_ok-insert.ensures.updates.0)

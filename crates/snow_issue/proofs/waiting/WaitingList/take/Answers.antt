@@ -1,5 +1,7 @@
 use Rattle.std.proofs.Common.{◌<◌, List, length, sym, ap, ◌∙◌, subst, arith}
 use Rattle.std.proofs.lemmas.List.{length-map}
+use Rattle.std.specs.HashMap.{get}
+use Rattle.std.specs.Str.{bytes_eq}
 use Rattle.snow_issue.specs.declared.work.Waiting.{Waiting}
 use Rattle.snow_issue.specs.declared.marks.Mark.{Mark}
 use Rattle.snow_issue.specs.Known.{items_of}
@@ -14,6 +16,6 @@ invariant_of-self c =
     let at = c.args.at in
     let w = c.take-block.result in
     let there : at < length seats = subst (λ l. at < length l) (sym c.self.view_is) c.requires in
-    subst (λ (l : List Waiting). HasHeights c.remove.new.self l) (sym (ap items_of c.take-block.ensures.rest ∙ items_removed seats at))
-    (heights_removed c.self.inside.heights c.remove.new.self (items_of seats) at w c.self.invariant (omega (arith, there, length-map seats (λ (s : Waiting × Mark). s.0)))
+    subst (λ (l : List Waiting). HasHeights (λ q. get bytes_eq c.remove.new.self q) l) (sym (ap items_of c.take-block.ensures.rest ∙ items_removed seats at))
+    (heights_removed (λ q. get bytes_eq c.self.inside.heights q) (λ q. get bytes_eq c.remove.new.self q) (items_of seats) at w c.self.invariant (omega (arith, there, length-map seats (λ (s : Waiting × Mark). s.0)))
     (item_is seats at w there c.take-block.ensures.taken) c.remove.ensures.updates.0)

@@ -1,4 +1,6 @@
 use Rattle.std.proofs.Common.{ap, ◌∙◌}
+use Rattle.std.specs.HashMap.{get}
+use Rattle.std.specs.Str.{bytes_eq}
 use Rattle.snow_issue.specs.Lists.{waits_among}
 use Rattle.snow_issue.specs.Known.{items_of}
 use Rattle.snow_issue.proofs.Heights.{waits_known}
@@ -6,5 +8,5 @@ use Rattle.snow_issue.proofs.waiting.WaitingList.waits.Goals as goal
 
 pub returns : goal.returns
 returns c =
-    c.contains_key.ensures ∙ waits_known c.self.inside.heights (items_of c.self.inside.lineup) c.args.id.now c.self.invariant
+    c.contains_key.ensures ∙ waits_known (λ q. get bytes_eq c.self.inside.heights q) (items_of c.self.inside.lineup) c.args.id.now c.self.invariant
     ∙ ap (λ l. waits_among (items_of l) c.args.id.now) c.self.view_is
