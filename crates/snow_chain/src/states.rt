@@ -3,7 +3,7 @@ ghost use Rattle.std.specs.Option.{option_copied};
 
 use snow_base::{Id, Nums};
 use std::alloc::{AllocError, Global};
-use std::collections::BTreeMap;
+use std::collections::HashMap;
 use std::marker::Model;
 
 /// The last accepted block, and states by identifier: what any chain can be built on. A state is a
@@ -12,7 +12,7 @@ use std::marker::Model;
 pub struct States {
     alloc: Global,
     last: Id,
-    states: BTreeMap<Id, Nums>,
+    states: HashMap<Id, Nums>,
 }
 
 impl Model for States {
@@ -34,7 +34,7 @@ impl States {
     pub fn begin(alloc: Global, last: Id, state: Nums) -> Result<Self, AllocError>
         ensures { IfOk result (λ made. made ≡ begun last state) }
     {
-        let mut states = BTreeMap::new(alloc);
+        let mut states = HashMap::new(alloc);
         states.insert(last, state)?;
         Ok(States {
             alloc,

@@ -1,0 +1,6 @@
+-- The entry that was put in is the one state that is held.
+use Rattle.snow_chain.proofs.Maps.{after_begin}
+use Rattle.snow_chain.proofs.states.States.begin.Goals as goal
+
+pub returns : goal.returns
+returns c = after_begin c.args.last c.new-states.result.entries c.insert.new.self.entries c.args.state c.new-states.ensures.empty c.in_ok-insert.ensures.updates.0
