@@ -5,7 +5,7 @@ ghost use Rattle.snow_getter.specs.Serving.{is_block, without};
 use crate::served::Served;
 use snow_base::Id;
 use std::alloc::{AllocError, Global};
-use std::collections::BTreeMap;
+use std::collections::HashMap;
 use std::marker::Model;
 
 /// A pending block, with the number of its issue.
@@ -16,10 +16,10 @@ pub(crate) struct Issued {
 }
 
 /// The pending blocks, found by identifier. Contracts see the list of them in order of issue, which
-/// their numbers keep. Identifiers of senders' choice cost no more than any others.
+/// their numbers keep.
 #[derive(Drop)]
 pub(crate) struct Pending {
-    blocks: BTreeMap<Id, Issued>,
+    blocks: HashMap<Id, Issued>,
     next: u64,
 }
 
@@ -41,7 +41,7 @@ impl Pending {
         ensures { result ≡ [] }
     {
         Pending {
-            blocks: BTreeMap::new(alloc),
+            blocks: HashMap::new(alloc),
             next: 0,
         }
     }
@@ -50,8 +50,8 @@ impl Pending {
     pub(crate) fn block(&self, id: &Id) -> Option<&Served>
         ensures { option_copied result ≡ find (is_block id.now) self.now }
     {
-        // Identifiers rise, so no other block has this one.
-        let _rising = self.blocks.len();
+        // No other block has its identifier.
+        let _unique = self.blocks.len();
         match self.blocks.get(id) {
             Some(issued) => Some(&issued.block),
             None => None,
@@ -69,6 +69,7 @@ impl Pending {
             return Err(AllocError);
         }
         let number = self.next;
+        let _unique = self.blocks.len();
         self.blocks.insert(block.id, Issued { number, block })?;
         self.next += 1;
         Ok(())
@@ -79,7 +80,7 @@ impl Pending {
         ensures taken { result ≡ find (is_block id.now) self.old }
         ensures left { self.new ≡ without id.now self.old }
     {
-        let _rising = self.blocks.len();
+        let _unique = self.blocks.len();
         match self.blocks.remove(id) {
             Some(issued) => Some(issued.block),
             None => None,

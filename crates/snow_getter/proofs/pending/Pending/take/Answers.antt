@@ -1,20 +1,19 @@
 -- The block of an identifier goes with the map's entry.
-use Rattle.std.proofs.Common.{find, sym, ap, ◌∙◌, subst}
+use Rattle.std.proofs.Common.{find, sym, ap, ◌∙◌}
 use Rattle.std.specs.Option.{option_map}
 use Rattle.snow_getter.specs.Serving.{is_block, without}
-use Rattle.snow_getter.specs.Order.{AreIssued, issued_before}
 use Rattle.snow_getter.proofs.Ordered.{block_of, block_found, block_left, issued_left}
 use Rattle.snow_getter.proofs.pending.Pending.take.Goals.{in-Some, in-None}
 use Rattle.snow_getter.proofs.pending.Pending.take.Goals as goal
 
 pub invariant_of-self : goal.invariant_of-self
 invariant_of-self c =
-    subst (AreIssued c.self.inside.next) (sym c.remove.ensures.entries) (issued_left c.self.inside.next c.args.id.now c.self.inside.blocks.entries c.self.invariant)
+    issued_left c.self.inside.next c.args.id.now c.self.inside.blocks.entries c.remove.new.self.entries c.self.invariant c.remove.ensures.entries
 
 pub returns-clause-taken : goal.returns-clause-taken
 returns-clause-taken c =
     let found = ap (option_map block_of) c.remove.ensures.value
-    ∙ sym (block_found c.self.inside.next c.args.id.now c.self.inside.blocks.entries c.self.invariant c.len-rising.ensures.ordered)
+    ∙ sym (block_found c.self.inside.next c.args.id.now c.self.inside.blocks.entries c.self.invariant c.len-unique.ensures.unique)
     ∙ ap (find (is_block c.args.id.now)) c.self.view_is in
     elim c.match-remove.branch [
       | in-Some w ↦ w.result-is ∙ ap (option_map block_of) (sym w.in-Some.is) ∙ found
@@ -23,6 +22,5 @@ returns-clause-taken c =
 
 pub returns-clause-left : goal.returns-clause-left
 returns-clause-left c =
-    ap (issued_before c.self.inside.next) c.remove.ensures.entries
-    ∙ block_left c.self.inside.next c.self.inside.next c.args.id.now c.self.inside.blocks.entries c.self.invariant c.len-rising.ensures.ordered
+    block_left c.self.inside.next c.args.id.now c.self.inside.blocks.entries c.remove.new.self.entries c.self.invariant c.len-unique.ensures.unique c.remove.ensures.entries
     ∙ ap (without c.args.id.now) c.self.view_is
