@@ -57,6 +57,9 @@ impl Gets {
     pub fn asks_for(&self, id: &Id) -> bool
         ensures { result ≡ asked_in self.now id.now }
     {
+        if self.open.len() == 0 {
+            return false;
+        }
         self.ids.contains(id)
     }
 

@@ -148,6 +148,9 @@ impl<T: Keyed> Lineup<T> {
     pub(crate) fn wake(&mut self, key: &Id)
         ensures { self.new ≡ map (woken T.key key.now) self.old }
     {
+        if self.slots.is_empty() {
+            return;
+        }
         let places = self.rows.of(key);
         wake_row(&mut self.slots, &mut self.windows, places.0, places.1);
     }

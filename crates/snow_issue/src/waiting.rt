@@ -66,6 +66,9 @@ impl WaitingList {
     pub(crate) fn waits(&self, id: &Id) -> bool
         ensures { result ≡ waits_among (items_of self.now) id.now }
     {
+        if self.lineup.len() == 0 {
+            return false;
+        }
         self.heights.contains_key(id)
     }
 
@@ -73,6 +76,9 @@ impl WaitingList {
     pub(crate) fn waits_below(&self, child: &Header) -> bool
         ensures { result ≡ waits_below (items_of self.now) child.now }
     {
+        if self.lineup.len() == 0 {
+            return false;
+        }
         match self.heights.get(&child.parent) {
             Some(height) => is_right_below(*height, child.height),
             None => false,
