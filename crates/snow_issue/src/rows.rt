@@ -26,13 +26,13 @@ impl Model for Row {
 }
 
 impl Row {
-    // A row of one place.
-    fn of(alloc: Global, place: u64) -> Row
-        ensures { result ≡ place ∷ [] }
+    // No place.
+    fn new(alloc: Global) -> Row
+        ensures { result ≡ [] }
     {
         Row {
             before: Vec::new(alloc),
-            last: Some(place),
+            last: None,
         }
     }
 
@@ -105,12 +105,8 @@ impl Rows {
         ensures ok { OnOk result ((q : List ℕ) → row_of self.new.rows q ≡ (if bytes_eq key q then row_of self.old.rows q ++ place ∷ [] else row_of self.old.rows q)) }
         ensures err { OnErr result ((q : List ℕ) → row_of self.new.rows q ≡ row_of self.old.rows q) }
     {
-        if let Some(row) = self.rows.get_mut(&key) {
-            return row.push(place);
-        }
-        let row = Row::of(alloc, place);
-        self.rows.insert(key, row)?;
-        Ok(())
+        let row = self.rows.entry(key)?.or_insert(Row::new(alloc));
+        row.push(place)
     }
 
     /// A place of a key goes. It takes no memory.
