@@ -94,7 +94,3 @@ heights_undone before mid now waiting id h is new came went = record {
       ∙ is.known q;
   apart = is.apart;
 }
-
--- another map that finds the same
-pub heights_same : (before now : Finder) (waiting : List Waiting) → HasHeights before waiting → ((q : List ℕ) → now q ≡ before q) → HasHeights now waiting
-heights_same before now waiting is same = record { known = λ q. same q ∙ is.known q; apart = is.apart }

@@ -36,23 +36,9 @@ changed before now key w change is h q =
       | false ↦ λ e. refl
     ] refl)
 
--- where a key has no row, nothing is left to change
-pub untouched : (before : RowMap) (key : List ℕ) (change : List ℕ → List ℕ)
-    → row_of before key ≡ change (row_of before key)
-    → (q : List ℕ) → row_of before q ≡ cond (bytes_eq key q) (change (row_of before q)) (row_of before q)
-untouched before key change is q =
-    let Goal : Bool → Type 0 = λ b. bytes_eq key q ≡ b → row_of before q ≡ cond b (change (row_of before q)) (row_of before q) in
-    elim (bytes_eq key q) as Goal [
-      | true ↦ λ e. let k = same_id key q e in ap (λ k. row_of before k) (sym k) ∙ is ∙ ap (λ k. change (row_of before k)) k
-      | false ↦ λ e. refl
-    ] refl
-
 -- the row of a key that the map has
 pub row_is : (m : RowMap) (key row : List ℕ) → Some row ≡ get bytes_eq m key → row ≡ row_of m key
 row_is m key row h = ap (λ o. unwrap_or o []) h
-
-pub no_row : (m : RowMap) (key : List ℕ) → None ≡ get bytes_eq m key → [] ≡ row_of m key
-no_row m key h = ap (λ o. unwrap_or o []) h
 
 -- two changes of one row, the second of which leaves nothing
 pub changed_twice : (b : Bool) (change : List ℕ → List ℕ) (row other : List ℕ) → other ≡ cond b (change row) row → (b ≡ true → change row ≡ [])
