@@ -1,19 +1,23 @@
--- Where nothing is to be done: what leaves it so, and a reply that then comes.
-use Rattle.std.proofs.Common.{◌≡◌, ℕ, suc, ◌+◌, ◌==◌, Bool, true, false, not, ◌||◌, cond, List, [], ◌∷◌, ◌++◌, filter, find, Option, Some, None, bytes_eq, refl, ap, ◌∙◌, arith}
+-- Where nothing is to be done: what leaves it so, and a reply or a block that then comes.
+use Rattle.std.proofs.Common.{◌≡◌, ℕ, suc, ◌+◌, ◌==◌, Bool, true, false, not, ◌&&◌, ◌||◌, cond, List, [], ◌∷◌, ◌++◌, filter, find, Option, Some, None, is_none, bytes_eq, refl, ap, ◌∙◌, arith}
 use Rattle.std.proofs.lemmas.Bool.{or_left}
+use Rattle.std.proofs.lemmas.List.Folds.{list_any-append}
 use Rattle.std.specs.List.{remove, position_or_len}
 use Rattle.std.specs.Option.{option_map, option_or}
+use Rattle.snow_base.specs.declared.header.Header.{Header}
 use Rattle.snow_base.specs.declared.vote.Vote.{Vote}
 use Rattle.snow_plain.specs.Board.{Board}
 use Rattle.snow_plain.specs.Poll.{poll}
 use Rattle.snow_plain.proofs.Cases.{split_on}
 use Rattle.snow_issue.specs.declared.work.Get.{Get}
 use Rattle.snow_issue.specs.declared.work.Held.{Held}
+use Rattle.snow_issue.specs.declared.work.Offered.{Offered}
+use Rattle.snow_issue.specs.declared.work.Offered.TheVariants as offer
 use Rattle.snow_issue.specs.declared.work.Waiting.{Waiting}
 use Rattle.snow_issue.specs.declared.work.Work.TheVariants as work
 use Rattle.snow_issue.specs.Bubbling.{bubbled, vote_at_once}
-use Rattle.snow_issue.specs.Lists.{Lists, without, waits, waits_below, is_asked, after_asked, after_forgotten, after_held}
-use Rattle.snow_issue.specs.Offering.{is_on, wanted}
+use Rattle.snow_issue.specs.Lists.{Lists, without, waits, waits_below, is_asked, after_asked, after_forgotten, after_held, with_waiting}
+use Rattle.snow_issue.specs.Offering.{is_on, is_high, is_next, wanted, asks, refusal, offered}
 use Rattle.snow_issue.specs.Settling.{work_of, after, is_hopeless, is_ready, is_free, IsIdle}
 use Rattle.snow_issue.proofs.Asking.{asked_with}
 use Rattle.snow_issue.proofs.Remembered.{off_polled}
@@ -158,3 +162,75 @@ counts q board id vote e = by (waits q id) (is_asked q id) (wanted q board id) (
     by false true c o e = absurd cc
     by false false true o e = absurd cc
     by false false false o e = (refl, refl, cc)
+
+-- ---- a block comes
+
+-- what fails at the last too is not found
+none_last : {T : Type 0} (p : T → Bool) (xs : List T) (x : T) → find p xs ≡ None → p x ≡ false → find p (xs ++ x ∷ []) ≡ None
+none_last p [] x none fails = rw fails refl
+none_last {T = T} p (y ∷ xs) x none fails = by (p y) (λ c. none_last p xs x c fails) refl none
+  where
+    by : (b : Bool) → (find p xs ≡ None → find p (xs ++ x ∷ []) ≡ None) → p y ≡ b → cond b (Some y) (find p xs) ≡ None → find p (y ∷ (xs ++ x ∷ [])) ≡ None
+    by true rest e none = absurd cc
+    by false rest e none = rw e (rest none)
+
+-- with no block hopeless, the first ready one is to be issued
+ready_of : (q : Lists) (board : Board) (w : Waiting) → find (is_hopeless q board) q.waiting ≡ None → find (is_ready board) q.waiting ≡ Some w
+    → work_of q board ≡ Some (work.Ready w)
+ready_of q board w a b =
+    let vote = option_map work.Vote (find (is_free q) q.held) in
+    ap (λ (o : Option Waiting). option_or (option_map work.Hopeless o) (option_or (option_map work.Ready (find (is_ready board) q.waiting)) vote)) a
+    ∙ ap (λ (o : Option Waiting). option_or (option_map work.Ready o) vote) b
+
+-- one whose parent is on the board is then the first thing to do
+pub next_to_do : (q : Lists) (board : Board) (w : Waiting) → IsIdle q board → is_on board w.header.parent ≡ true
+    → (work_of (with_waiting q w) board ≡ Some (work.Ready w)) × (after (with_waiting q w) board (Some (work.Ready w)) ≡ q)
+next_to_do q board w idle on =
+    let now = with_waiting q w in
+    let parts = idle_parts q board idle in
+    let below : (h : Header) → waits_below q.waiting h ≡ true → waits_below now.waiting h ≡ true = λ h e.
+    list_any-append (λ v. bytes_eq v.header.id h.parent && (v.header.height + 1 == h.height)) q.waiting (w ∷ [])
+    ∙ or_left (waits_below q.waiting h) ((bytes_eq w.header.id h.parent && (w.header.height + 1 == h.height)) || false) e
+    in
+    let hopes : find (is_hopeless now board) q.waiting ≡ None =
+    none_by (is_hopeless q board) (is_hopeless q board) (is_hopeless now board) q.waiting
+    (λ x a b. let asked = is_asked q x.header.parent in
+    still_busy (is_on board x.header.parent) (asked || waits_below q.waiting x.header) (is_on board x.header.parent) (asked || waits_below now.waiting x.header) (λ e. e)
+    (either_more asked (waits_below q.waiting x.header) asked (waits_below now.waiting x.header) (λ e. e) (below x.header)) a)
+    parts.0 parts.0
+    in
+    let rises : is_hopeless now board w ≡ false = rw on refl in (
+      ready_of now board w (none_last (is_hopeless now board) q.waiting w hopes rises) (found_last (is_ready board) q.waiting w parts.1 on),
+      ap (λ (waiting : List Waiting). record q { waiting = waiting }) (left_last (is_ready board) q.waiting w parts.1 on),
+    )
+
+-- what is so where a block is ready as it comes
+pub next_parts : (q : Lists) (board : Board) (block : Header) → is_next q board block ≡ true → (is_on board block.parent ≡ true) × (refusal q board block ≡ None)
+next_parts q board block e = by (is_on board block.parent) (refusal q board block) e
+  where
+    by : (a : Bool) (o : Option Offered) → (a && is_none o) ≡ true → (a ≡ true) × (o ≡ None)
+    by false o e = absurd cc
+    by true (Some x) e = absurd cc
+    by true None e = (refl, refl)
+
+-- it waits if it is offered, and its parent isn't asked for
+pub next_waits : (q : Lists) (board : Board) (w : Waiting) → is_next q board w.header ≡ true → offered q board w ≡ offer.Waits None
+next_waits q board w e =
+    let parts = next_parts q board w.header e in
+    rw parts.1 (ap offer.Waits (unasked (with_waiting q w) parts.0))
+  where
+    never : (b : Bool) → cond (b && false) (Some w.header.parent) None ≡ None
+    never true = refl
+    never false = refl
+
+    unasked : (l : Lists) → is_on board w.header.parent ≡ true → asks l board w.header ≡ None
+    unasked l on = rw on (never (is_high board w.header))
+
+-- it is neither on the board, nor does it wait
+pub next_unknown : (q : Lists) (board : Board) (block : Header) → is_next q board block ≡ true → (is_on board block.id ≡ false) × (waits q block.id ≡ false)
+next_unknown q board block e = by (is_on board block.id) (waits q block.id) _ (next_parts q board block e).1
+  where
+    by : (a b : Bool) (rest : Option Offered) → cond (a || b) (Some offer.Known) rest ≡ None → (a ≡ false) × (b ≡ false)
+    by true b rest e = absurd cc
+    by false true rest e = absurd cc
+    by false false rest e = (refl, refl)

@@ -108,6 +108,18 @@ tells_left gets board seats at w there is tells =
     (All-weaker (Tells before gets board) (λ s. Tells other gets board (woken key id s)) (λ s h. woken_tells before other gets gets board id s (stays s) h)
     (remove seats at) (All_remove (Tells before gets board) seats at tells))
 
+-- a block's children were woken
+pub tells_woken : (gets : List Get) (board : Board) (id : List ℕ) (seats : List (Waiting × Mark)) → All (Tells (items_of seats) gets board) seats
+    → All (Tells (items_of (map (woken (λ w. w.header.parent) id) seats)) gets board) (map (woken (λ w. w.header.parent) id) seats)
+tells_woken gets board id seats tells =
+    let key : Waiting → List ℕ = λ w. w.header.parent in
+    let before = items_of seats in
+    let other = items_of (map (woken key id) seats) in
+    let stays : (s : Waiting × Mark) → sight other gets board s.0.header ≡ sight before gets board s.0.header =
+    λ s. ap (λ (l : List Waiting). sight l gets board s.0.header) (items_woken key id seats) in
+    All-map (Tells other gets board) (woken key id) seats
+    (All-weaker (Tells before gets board) (λ s. Tells other gets board (woken key id s)) (λ s h. woken_tells before other gets gets board id s (λ e. stays s) h) seats tells)
+
 -- a get was closed and the children of its block woken
 pub tells_closed : (board : Board) (seats : List (Waiting × Mark)) (gets : List Get) (number : ℕ) (node : List ℕ) (get : Get) → find (is_get number node) gets ≡ Some get
     → All (Tells (items_of seats) gets board) seats

@@ -1,5 +1,5 @@
 -- A block is offered to the queue: whether it waits, and whether its parent is to be asked for.
-use Rattle.std.specs.Prelude.{ℕ, ◌+◌, Bool, not, ◌&&◌, ◌||◌, List, length, Option, Some, None, is_some, nat_lt, nat_le, if◌then◌else◌}
+use Rattle.std.specs.Prelude.{ℕ, ◌+◌, Bool, not, ◌&&◌, ◌||◌, List, length, Option, Some, None, is_some, is_none, nat_lt, nat_le, if◌then◌else◌}
 use Rattle.std.specs.Option.{unwrap_or}
 use Rattle.snow_base.specs.declared.header.Header.{Header}
 use Rattle.snow_plain.specs.Board.{Board, height_of}
@@ -40,6 +40,10 @@ refusal q board block =
     else (if is_some (stands_for q.gone block.id) then Some offer.Invalid
     else (if is_gone q block.id || nat_le block.height board.height then Some offer.Old
     else (if nat_lt (length q.waiting) 4096 then None else Some offer.Full)))
+
+-- whether an offered block is ready as it comes: its parent is on the board, and nothing stands against it
+abbrev pub is_next : Lists → Board → Header → Bool
+is_next q board block = is_on board block.parent && is_none (refusal q board block)
 
 -- what becomes of a block that is offered
 abbrev pub offered : Lists → Board → Waiting → Offered

@@ -5,11 +5,11 @@ ghost use Rattle.snow_issue.specs.declared.work.Get.{Get};
 ghost use Rattle.snow_issue.specs.declared.work.Waiting.{Waiting};
 ghost use Rattle.snow_issue.specs.declared.gone.Gone.{Gone};
 ghost use Rattle.snow_issue.specs.Lists.{begun, has_number, is_asked, is_get, holds_in, after_asked, after_closed, after_held, after_forgotten, after_gone, AreWithinLimits};
-ghost use Rattle.snow_issue.specs.Offering.{offered, after_offer, refusal, wanted};
+ghost use Rattle.snow_issue.specs.Offering.{offered, after_offer, refusal, is_next, wanted};
 ghost use Rattle.snow_issue.specs.Settling.{work_of, after, is_free};
 ghost use Rattle.snow_issue.specs.declared.work.Work.TheVariants as work;
 ghost use Rattle.snow_issue.specs.Bubbling.{bubbled, vote_at_once};
-ghost use Rattle.snow_issue.specs.Known.{lists_of, Knows, NoneRipe, RestsAfter};
+ghost use Rattle.snow_issue.specs.Known.{lists_of, Knows, ForgetsChildren, NoneRipe, RestsAfter};
 
 use crate::gets::Gets;
 use crate::gone::{Gone, GoneList};
@@ -131,6 +131,27 @@ impl Queue {
         Ok(Offered::Waits {
             ask: offering::ask(&self.waiting, &self.gets, &self.gone, board, &header),
         })
+    }
+
+    /// Whether a block that comes needn't wait where nothing else is to be done: its parent is on the
+    /// board, and it would wait if it were offered.
+    pub fn is_next<B: Board>(&self, block: &Header, board: &B) -> bool
+        ensures { result ≡ is_next (lists_of self.now) (B.board board.now) block.now }
+    {
+        offering::is_on(board, &block.parent)
+            && offering::refusal(&self.waiting, &self.gone, board, block).is_none()
+    }
+
+    /// Forgets what is remembered of a block's children, so that it may be issued. The lists stay as
+    /// they were. It takes no memory.
+    pub fn forget_children(&mut self, id: &Id)
+        ensures lists { lists_of self.new ≡ lists_of self.old }
+        ensures knows { (b : model.Board) → Knows self.old b → Knows self.new b }
+        ensures forgets { ForgetsChildren id.now self.new.seats }
+        ensures ripe { NoneRipe self.old.seats → NoneRipe self.new.seats }
+        ensures limits { AreWithinLimits (lists_of self.new) }
+    {
+        self.waiting.wake(id);
     }
 
     /// Whether a block that a reply names is to be asked for: nothing is known of it, and fewer than
