@@ -1,19 +1,19 @@
--- A reply that would be the first thing to do is counted as it comes: it needn't be held.
-use Rattle.std.proofs.Common.{◌≡◌, ℕ, Bool, true, List, ◌++◌, append-nil, Option, Some, Result, Ok, Err, refl, ap, ◌∙◌}
+-- What would be the first thing to do is done as it comes: a reply needn't be held, nor need a block wait.
+use Rattle.std.proofs.Common.{◌≡◌, ℕ, Bool, true, List, append-nil, Option, Result, Ok, Err, refl, ap, ◌∙◌}
 use Rattle.snow_flake.specs.Rule.{Answer}
 use Rattle.snow_chain.specs.Chain.{Rules}
 use Rattle.snow_lines.specs.declared.line.Line.{Line}
 use Rattle.snow_issue.specs.declared.work.Held.{Held}
-use Rattle.snow_issue.specs.declared.work.Work.{Work}
+use Rattle.snow_issue.specs.declared.work.Waiting.{Waiting}
 use Rattle.snow_issue.specs.declared.work.Work.TheVariants as work
-use Rattle.snow_issue.specs.Lists.{Lists, after_held}
-use Rattle.snow_issue.proofs.Idle.{first_to_do, counts}
+use Rattle.snow_issue.specs.Lists.{Lists, after_held, with_waiting}
+use Rattle.snow_issue.proofs.Idle.{first_to_do, counts, next_to_do, next_parts, next_waits}
 use Rattle.snow_node.specs.declared.stop.EngineStop.{EngineStop}
 use Rattle.snow_node.specs.Outcome.{Comes, quietly, after_lines, going_on, then_comes, where_made}
-use Rattle.snow_node.specs.Running.{Running, numbered}
+use Rattle.snow_node.specs.Running.{Running}
 use Rattle.snow_node.specs.Closing.{tallied}
-use Rattle.snow_node.specs.Settling.{heard, worked, carried_out, one_settled, left_to_do, settled}
-use Rattle.snow_node.specs.Hearing.{IsFirst, fetched, vote_held, vote_counts}
+use Rattle.snow_node.specs.Settling.{heard, placed, worked, carried_out, one_settled, left_to_do, settled}
+use Rattle.snow_node.specs.Hearing.{IsFirst, IsNext, vote_held, vote_counts, taken_in, brought, block_brings}
 use Rattle.snow_node.proofs.Looping.{settling_falls}
 use Rattle.snow_node.proofs.Made.{one_then}
 
@@ -43,3 +43,19 @@ counted_at_once rules answer node number peer id vote first =
     ∙ ap (λ (c : Comes (Running × Bool)). then_comes c (where_made (settled rules answer))) step
     ∙ made_then (heard answer node reply) (settled rules answer)
     ∙ ap (λ (v : Option (List ℕ)). then_comes (tallied answer node number peer v) (settled rules answer)) parts.2
+
+-- to let such a block wait and to settle is to place it and to settle
+pub placed_at_once : (rules : Rules) (answer : Answer) (node : Running) (w : Waiting) → IsNext node w.header
+    → block_brings rules answer node w ≡ then_comes (placed rules answer node w.header w.bytes) (settled rules answer)
+placed_at_once rules answer node w next =
+    let waiting : Running = record node { queue = with_waiting node.queue w } in
+    let parts = next_parts node.queue node.board w.header next.1 in
+    let work_is = next_to_do node.queue node.board w next.0 parts.0 in
+    let known : brought node w ≡ quietly waiting = ap (taken_in node w) (next_waits node.queue node.board w next.1) in
+    let step : one_settled rules answer waiting ≡ then_comes (placed rules answer node w.header w.bytes) (λ n. quietly (n, true)) =
+    ap (worked rules answer waiting) work_is.0 ∙ ap (λ (q : Lists). carried_out rules answer (record node { queue = q }) (work.Ready w)) work_is.1
+    in
+    ap (λ (c : Comes Running). then_comes c (settled rules answer)) known
+    ∙ one_then Running left_to_do (one_settled rules answer) (settling_falls rules answer) waiting
+    ∙ ap (λ (c : Comes (Running × Bool)). then_comes c (where_made (settled rules answer))) step
+    ∙ made_then (placed rules answer node w.header w.bytes) (settled rules answer)

@@ -20,8 +20,9 @@ use Rattle.snow_issue.specs.declared.work.Waiting.{Waiting}
 use Rattle.snow_issue.specs.declared.work.Offered.TheVariants as offer
 use Rattle.snow_issue.specs.declared.work.Work.{Work}
 use Rattle.snow_issue.specs.Lists.{Lists, begun as first_lists, after_gone, with_get, with_waiting, waits, waits_among, has_number as has_get}
-use Rattle.snow_issue.specs.Offering.{is_on, offered}
+use Rattle.snow_issue.specs.Offering.{is_on, is_next, offered}
 use Rattle.snow_issue.specs.Settling.{work_of, after as left_by}
+use Rattle.snow_issue.proofs.Idle.{next_unknown}
 use Rattle.snow_node.specs.Closing.{all_gone}
 use Rattle.snow_node.specs.Kept.{AreAtMost, AreOff, IsApart, IsKept, MayWork}
 use Rattle.snow_node.specs.Matching.{IsSteady}
@@ -77,19 +78,26 @@ one_more_off board (x ∷ waiting) w off apart =
     list_any-append (λ (v : Waiting). bytes_eq v.header.id x.header.id) waiting (w ∷ []) ∙ rw (off.1, differs) refl in
     (off.0, alone, one_more_off board waiting w off.2 (record { off = apart.off; other = parts.1 }))
 
+-- what has no height is off the board
+no_height : (o : Option ℕ) → is_some o ≡ false → o ≡ None
+no_height None e = refl
+no_height (Some h) e = clash true refl e
+
 -- a block that waits now was apart from all others
 pub offered_apart : (queue : Lists) (board : Board) (w : Waiting) (ask : Option (List ℕ)) → offer.Waits ask ≡ offered queue board w → IsApart board queue.waiting w.header.id
 offered_apart queue board w ask e = by (is_on board w.header.id || waits queue w.header.id) refl e
   where
-    without : (o : Option ℕ) → is_some o ≡ false → o ≡ None
-    without None e = refl
-    without (Some h) e = clash true refl e
-
     by : (b : Bool) → (is_on board w.header.id || waits queue w.header.id) ≡ b → offer.Waits ask ≡ offered queue board w → IsApart board queue.waiting w.header.id
     by true t e = let known = rw t at e in absurd cc
     by false t e =
         let parts = or_parts (is_on board w.header.id) (waits queue w.header.id) t in
-        record { off = without (height_of board w.header.id) parts.0; other = parts.1 }
+        record { off = no_height (height_of board w.header.id) parts.0; other = parts.1 }
+
+-- so is one that is ready as it comes
+pub next_apart : (queue : Lists) (board : Board) (block : Header) → is_next queue board block ≡ true → IsApart board queue.waiting block.id
+next_apart queue board block e =
+    let unknown = next_unknown queue board block e in
+    record { off = no_height (height_of board block.id) unknown.0; other = unknown.1 }
 
 -- a node that begins
 pub kept_new : (p : Parameters) (last : List ℕ) (height : ℕ) (state : List ℕ) (board : Board) (held : Held) (table : Table) (queue : Lists) (number : ℕ) → AreGood p
@@ -182,11 +190,7 @@ module _ (p : Parameters) (board : Board) (held : Held) (table : Table) (queue :
   off_held id e = kept.steady.matches.each id ∙ ap (λ o. is_some o) e
 
   held_off : (now : Board) (states : Held) (id : List ℕ) → IsSteady now states → holds states id ≡ false → height_of now id ≡ None
-  held_off now states id steady none = without (height_of now id) (sym (steady.matches.each id) ∙ none)
-    where
-      without : (o : Option ℕ) → is_some o ≡ false → o ≡ None
-      without None e = refl
-      without (Some h) e = clash true refl e
+  held_off now states id steady none = no_height (height_of now id) (sym (steady.matches.each id) ∙ none)
 
   -- a block was issued that is apart from all that waits
   pub kept_issued : (now : Board) (states : Held) (block : Header) (state : List ℕ) → IsSteady now states → now ≡ issued board block → states ≡ with_state held block.id state

@@ -16,7 +16,7 @@ use Rattle.snow_issue.proofs.Remembered.{tells_issued, tells_polled}
 use Rattle.snow_node.specs.Closing.{all_gone}
 use Rattle.snow_node.specs.declared.running.remembering.Remembered.{Remembered}
 use Rattle.snow_node.specs.declared.running.remembering.Remembered.TheVariants as known
-use Rattle.snow_node.specs.Remembering.{Remembers, when_taken, when_woken, when_issued, when_polled}
+use Rattle.snow_node.specs.Remembering.{Remembers, when_taken, when_woken, when_next, when_issued, when_polled}
 
 -- no block is looked at again, and no more is to be done
 pub kept_seats : (board : Board) (old now : Seen) (k : Remembered) → ((b : Board) → Knows old b → Knows now b) → now.seats ≡ old.seats
@@ -35,6 +35,15 @@ kept_woken board old now known.True knows ripe r = knows board r
 kept_woken board old now known.Calm knows ripe r = (knows board r.0, ripe r.1)
 kept_woken board old now known.Idle knows ripe r = (knows board r.0, ripe r.1)
 kept_woken board old now (known.Ready id) knows ripe r = knows board r.0
+
+-- those are that wait for this block
+pub kept_next : (board : Board) (old now : Seen) (k : Remembered) (id : List ℕ) → ((b : Board) → Knows old b → Knows now b) → ForgetsChildren id now.seats → Remembers board old k
+    → Remembers board now (when_next k id)
+kept_next board old now known.Nothing id knows forgets r = tt
+kept_next board old now known.True id knows forgets r = (knows board r, forgets)
+kept_next board old now known.Calm id knows forgets r = (knows board r.0, forgets)
+kept_next board old now known.Idle id knows forgets r = (knows board r.0, forgets)
+kept_next board old now (known.Ready ready) id knows forgets r = (knows board r.0, forgets)
 
 -- nothing changed
 pub kept_seen : (board : Board) (old now : Seen) (k : Remembered) → now ≡ old → Remembers board old k → Remembers board now k

@@ -1,5 +1,5 @@
 -- What blocks, votes and timeouts do to a node that runs.
-use Rattle.std.specs.Prelude.{◌≡◌, ℕ, Bool, false, not, ◌&&◌, ◌==◌, List, find, Option, Some, None, bytes_eq, if◌then◌else◌}
+use Rattle.std.specs.Prelude.{◌≡◌, ℕ, Bool, true, false, not, ◌&&◌, ◌==◌, List, find, Option, Some, None, bytes_eq, if◌then◌else◌}
 use Rattle.std.specs.Option.{option_map}
 use Rattle.snow_base.specs.declared.header.Header.{Header}
 use Rattle.snow_flake.specs.Rule.{Answer}
@@ -12,7 +12,7 @@ use Rattle.snow_issue.specs.declared.work.Waiting.{Waiting}
 use Rattle.snow_issue.specs.declared.work.Offered.{Offered}
 use Rattle.snow_issue.specs.declared.work.Offered.TheVariants as answer
 use Rattle.snow_issue.specs.Lists.{Lists, after_asked, after_closed, after_held, holds_in, is_get}
-use Rattle.snow_issue.specs.Offering.{offered, after_offer, wanted}
+use Rattle.snow_issue.specs.Offering.{offered, after_offer, is_next, wanted}
 use Rattle.snow_issue.specs.Bubbling.{vote_at_once}
 use Rattle.snow_issue.specs.Settling.{IsIdle}
 use Rattle.snow_node.specs.Outcome.{Comes, quietly, with_line, then_comes}
@@ -43,6 +43,14 @@ taken_in node w (answer.Waits ask) = fetched_if (record node { queue = after_off
 
 abbrev pub brought : Running → Waiting → Comes Running
 brought node w = taken_in node w (offered node.queue node.board w)
+
+-- a block is offered, and all that it brings is done
+abbrev pub block_brings : Rules → Answer → Running → Waiting → Comes Running
+block_brings rules answer node w = then_comes (brought node w) (settled rules answer)
+
+-- a block that comes would be the first thing to do, and it is ready
+abbrev pub IsNext : Running → Header → Type 0
+IsNext node block = IsIdle node.queue node.board × (is_next node.queue node.board block ≡ true)
 
 -- whether a block is another than the one that was asked for
 abbrev pub is_other : Option (List ℕ) → List ℕ → Bool

@@ -31,6 +31,14 @@ when_woken known.Calm = known.Calm
 when_woken known.Idle = known.Calm
 when_woken (known.Ready id) = known.True
 
+-- once nothing is remembered of the children of this block, which may then be issued
+abbrev pub when_next : Remembered → List ℕ → Remembered
+when_next known.Nothing id = known.Nothing
+when_next known.True id = known.Ready id
+when_next known.Calm id = known.Ready id
+when_next known.Idle id = known.Ready id
+when_next (known.Ready ready) id = known.Ready id
+
 -- once this block was issued
 abbrev pub when_issued : Remembered → List ℕ → Remembered
 when_issued known.Nothing id = known.Nothing

@@ -60,9 +60,13 @@ abbrev pub placed_by : Answer → Running → Header → List ℕ → Option (Li
 placed_by answer node block bytes state (Some why) = given_up node block why
 placed_by answer node block bytes state None = issued_by answer node block bytes state
 
+-- the same, by what the chain and the board say of it
+abbrev pub placed : Rules → Answer → Running → Header → List ℕ → Comes Running
+placed rules answer node block bytes =
+    placed_by answer node block bytes (next_on rules node.chain block.parent bytes) (opposed node.board block (height_of node.board block.parent))
+
 abbrev pub readied : Rules → Answer → Running → Waiting → Comes Running
-readied rules answer node w =
-    placed_by answer node w.header w.bytes (next_on rules node.chain w.header.parent w.bytes) (opposed node.board w.header (height_of node.board w.header.parent))
+readied rules answer node w = placed rules answer node w.header w.bytes
 
 -- ---- the steps of settling
 

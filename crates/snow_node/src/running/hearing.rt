@@ -1,18 +1,20 @@
 ghost use Rattle.std.specs.Prelude.{◌≡◌, None, true, IfSome};
+ghost use Rattle.snow_lines.specs.declared.line.Line.TheVariants as line;
+ghost use Rattle.snow_lines.specs.declared.why.SkipKind.TheVariants as kind;
 ghost use Rattle.snow_issue.specs.declared.work.Waiting.{Waiting as Block};
 ghost use Rattle.snow_node.specs.Kept.{MayFetch};
 ghost use Rattle.snow_node.specs.Running.{numbered};
 ghost use Rattle.snow_node.specs.Hearing as model;
 ghost use Rattle.snow_node.specs.Closing.{tallied};
-ghost use Rattle.snow_node.specs.Outcome.{then_comes};
-ghost use Rattle.snow_node.specs.Settling.{settled};
+ghost use Rattle.snow_node.specs.Outcome.{then_comes, with_line};
+ghost use Rattle.snow_node.specs.Settling.{placed, settled};
 ghost use Rattle.snow_node.specs.Stepping.{Tells, Turns};
 
 use crate::reporting::{drop_block, write};
 use crate::running::Running;
 use crate::running::remembering::Remembered;
 use crate::stop::Halt;
-use snow_base::{Header, Id, NodeId};
+use snow_base::{Bytes, Header, Id, NodeId};
 use snow_chain::Chain;
 use snow_issue::{Held, Offered};
 use snow_lines::{DropWhy, Line, Lines, SkipKind};
@@ -52,35 +54,91 @@ impl<C: Chain, B: Board> Running<C, B> {
         ensures answer { Turns result self.new (model.block_read C.rules B.answer self.old frame peer bytes.now asked).1 }
         ensures lines { Tells result log.old log.new (model.block_read C.rules B.answer self.old frame peer bytes.now asked).0 }
     {
-        self.read_as(frame, peer, bytes, asked, log)?;
+        let Some(header) = self.chain.parse(bytes) else {
+            return self.skip_block(frame, log);
+        };
+        if is_other(&asked, &header.id) {
+            return self.settle(log);
+        }
+        self.bring(peer, header, bytes, log)
+    }
+
+    /// Bytes of no block are passed over, and all that is to do is done.
+    fn skip_block(&mut self, frame: u64, log: &mut Lines) -> Result<(), Halt>
+        ensures answer { Turns result self.new (then_comes (with_line (line.Skip frame kind.Block) self.old) (settled C.rules B.answer)).1 }
+        ensures lines { Tells result log.old log.new (then_comes (with_line (line.Skip frame kind.Block) self.old) (settled C.rules B.answer)).0 }
+    {
+        let kind = SkipKind::Block;
+        write(Line::Skip { frame, kind }, log)?;
         self.settle(log)
     }
 
-    /// What the bytes that came say.
-    fn read_as(
+    /// A block is placed as it comes where that would be the first thing to do, or else offered to the
+    /// queue, and all that it brings is done.
+    fn bring(
         &mut self,
-        frame: u64,
         peer: NodeId,
+        header: Header,
         bytes: &[u8],
-        asked: Option<Id>,
         log: &mut Lines,
     ) -> Result<(), Halt>
-        ensures answer { Turns result self.new (model.read_as self.old frame peer bytes.now asked (C.rules.header_of bytes.now)).1 }
-        ensures lines { Tells result log.old log.new (model.read_as self.old frame peer bytes.now asked (C.rules.header_of bytes.now)).0 }
+        ensures answer { let block : Block = record { node = peer; header = header; bytes = bytes.now } in
+            Turns result self.new (model.block_brings C.rules B.answer self.old block).1 }
+        ensures lines { let block : Block = record { node = peer; header = header; bytes = bytes.now } in
+            Tells result log.old log.new (model.block_brings C.rules B.answer self.old block).0 }
     {
-        let Some(header) = self.chain.parse(bytes) else {
-            return write(
-                Line::Skip {
-                    frame,
-                    kind: SkipKind::Block,
-                },
-                log,
-            );
-        };
-        if is_other(&asked, &header.id) {
-            return Ok(());
+        if self.is_next(&header) {
+            self.place_at_once(&header, bytes, log)
+        } else {
+            self.line_up(peer, header, bytes, log)
         }
-        self.offer(peer, header, bytes, log)
+    }
+
+    /// Whether a block is ready as it comes, and would be the first thing to do: then it needn't wait.
+    fn is_next(&self, block: &Header) -> bool
+        ensures { result ≡ true → model.IsNext self.now block.now }
+    {
+        match self.remembered {
+            Remembered::Idle => self.queue.is_next(block, &self.board),
+            _ => false,
+        }
+    }
+
+    #[tactic(auto, using(crate::proofs::Logs::logs_nothing))]
+    /// A block that would be the first thing to do is placed, and all that it brings is done.
+    fn place_at_once(&mut self, block: &Header, bytes: &[u8], log: &mut Lines) -> Result<(), Halt>
+        requires { model.IsNext self.old block.now }
+        ensures answer { Turns result self.new (then_comes (placed C.rules B.answer self.old block.now bytes.now) (settled C.rules B.answer)).1 }
+        ensures lines { Tells result log.old log.new (then_comes (placed C.rules B.answer self.old block.now bytes.now) (settled C.rules B.answer)).0 }
+    {
+        let bytes = Bytes::from_slice(self.alloc, bytes)?;
+        self.forget_children(&block.id);
+        self.place_and_settle(block, bytes, log)
+    }
+
+    /// The queue forgets what it remembers of a block's children, so that the block may be issued.
+    fn forget_children(&mut self, id: &Id)
+        ensures { self.new ≡ self.old }
+    {
+        self.remembered = self.remembered.next(id);
+        self.queue.forget_children(id);
+    }
+
+    /// A block is offered to the queue, and all that it brings is done.
+    fn line_up(
+        &mut self,
+        peer: NodeId,
+        header: Header,
+        bytes: &[u8],
+        log: &mut Lines,
+    ) -> Result<(), Halt>
+        ensures answer { let block : Block = record { node = peer; header = header; bytes = bytes.now } in
+            Turns result self.new (model.block_brings C.rules B.answer self.old block).1 }
+        ensures lines { let block : Block = record { node = peer; header = header; bytes = bytes.now } in
+            Tells result log.old log.new (model.block_brings C.rules B.answer self.old block).0 }
+    {
+        self.offer(peer, header, bytes, log)?;
+        self.settle(log)
     }
 
     #[tactic(auto, using(crate::proofs::Logs::logs_nothing))]

@@ -47,6 +47,16 @@ impl Remembered {
         }
     }
 
+    /// Once nothing is remembered of the children of this block, which may then be issued.
+    pub fn next(&self, id: &Id) -> Remembered
+        ensures { result ≡ model.when_next self.now id.now }
+    {
+        match self {
+            Remembered::Nothing => Remembered::Nothing,
+            _ => Remembered::Ready(*id),
+        }
+    }
+
     /// Once this block was issued.
     pub fn issued(&self, id: &Id) -> Remembered
         ensures { result ≡ model.when_issued self.now id.now }

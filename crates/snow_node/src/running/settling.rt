@@ -7,6 +7,7 @@ ghost use Rattle.snow_issue.specs.Known.{Knows, RestsAfter, lists_of};
 ghost use Rattle.snow_issue.specs.Settling.{after, work_of};
 ghost use Rattle.snow_node.specs.Remembering.{Remembers};
 ghost use Rattle.snow_node.specs.Kept.{IsApart, MayWork};
+ghost use Rattle.snow_node.specs.Outcome.{then_comes};
 ghost use Rattle.snow_node.specs.Placing.{opposed};
 ghost use Rattle.snow_node.specs.Settling as model;
 ghost use Rattle.snow_node.specs.Stepping.{Answers, Tells, Turns};
@@ -79,6 +80,21 @@ impl<C: Chain, B: Board> Running<C, B> {
             }
             Work::Vote(reply) => self.hear(&reply, log),
         }
+    }
+
+    /// A block whose parent is on the board is placed, and all that it brings is done.
+    pub(super) fn place_and_settle(
+        &mut self,
+        block: &Header,
+        bytes: Bytes,
+        log: &mut Lines,
+    ) -> Result<(), Halt>
+        requires { IsApart self.old.board self.old.queue.waiting block.now.id }
+        ensures answer { Turns result self.new (then_comes (model.placed C.rules B.answer self.old block.now bytes) (model.settled C.rules B.answer)).1 }
+        ensures lines { Tells result log.old log.new (then_comes (model.placed C.rules B.answer self.old block.now bytes) (model.settled C.rules B.answer)).0 }
+    {
+        self.place(block, bytes, log)?;
+        self.settle(log)
     }
 
     /// A block whose parent is on the board is issued, unless something stands against it.

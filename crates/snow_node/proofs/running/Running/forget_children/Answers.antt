@@ -1,0 +1,32 @@
+-- The lists stay, and so does what is known of them.
+use Rattle.std.proofs.Common.{◌∙◌, sym, ap, subst}
+use Rattle.snow_issue.specs.Lists.{Lists}
+use Rattle.snow_issue.specs.Known.{lists_of}
+use Rattle.snow_node.specs.declared.running.remembering.Remembered.{Remembered}
+use Rattle.snow_node.specs.Remembering.{Remembers}
+use Rattle.snow_node.proofs.Keeping.{kept_same}
+use Rattle.snow_node.proofs.Remembering.{kept_next}
+use Rattle.snow_node.proofs.running.Running.forget_children.Goals as goal
+
+pub invariant_of-self : goal.invariant_of-self
+invariant_of-self g c = (
+  kept_same c.self.inside.params (g.B.Board.board c.self.inside.board) (g.C.Chain.held c.self.inside.chain) c.self.inside.polls (lists_of c.self.inside.queue) c.self.inside.numbers c.self.invariant.0 (lists_of c.forget_children.new.self) c.forget_children.ensures.lists,
+  subst (λ (k : Remembered). Remembers (g.B.Board.board c.self.inside.board) c.forget_children.new.self k) (sym c.next-self-inside.ensures)
+      (kept_next (g.B.Board.board c.self.inside.board) c.self.inside.queue c.forget_children.new.self c.self.inside.remembered c.args.id.now c.forget_children.ensures.knows c.forget_children.ensures.forgets c.self.invariant.1),
+  c.self.invariant.2,
+)
+
+pub returns : goal.returns
+returns g c =
+    ap (λ (queue : Lists). record {
+      board = g.B.Board.board c.self.inside.board;
+      chain = g.C.Chain.held c.self.inside.chain;
+      served = c.self.inside.served;
+      roster = c.self.inside.roster;
+      polls = c.self.inside.polls;
+      queue = queue;
+      words = c.self.inside.words;
+      last = c.self.inside.numbers;
+      recorded = c.self.inside.recorded;
+    }) c.forget_children.ensures.lists
+    ∙ c.self.view_is
