@@ -1,150 +1,12 @@
-use snow_base::{Bytes, Header, Id, NodeId};
+use crate::calls::{
+    NOTHING, Tale, ask, bubble, close, count, go, hold, is_next, issue, named, offer, step,
+    step_known, tale, told_flag,
+};
 use snow_flake::{Params, Snowball};
-use snow_issue::{Held, Offered, Queue, Waiting, Work};
+use snow_issue::Queue;
 use snow_plain::{Board, PlainBoard};
 use std::alloc::{AllocError, Global};
 use std::test::Fail;
-
-// What a call answers: a letter, and a block or 0.
-type Told = (char, u16);
-
-const NOTHING: Told = ('-', 0);
-
-// What the calls of a case answer, and nothing behind.
-type Tale = [Told; 8];
-
-fn tale(told: &[Told]) -> Tale {
-    let mut tale = [NOTHING; 8];
-    for (place, one) in tale.iter_mut().zip(told) {
-        *place = *one;
-    }
-    tale
-}
-
-// The identifier that begins with the bytes of a number.
-fn named(number: u16) -> Id {
-    let mut bytes = [0; 32];
-    let [a, b] = number.to_be_bytes();
-    bytes[0] = a;
-    bytes[1] = b;
-    Id::from_bytes(bytes)
-}
-
-fn number_of(id: &Id) -> u16 {
-    let bytes = id.as_bytes();
-    u16::from_be_bytes([bytes[0], bytes[1]])
-}
-
-fn node() -> NodeId {
-    NodeId::from_bytes([7; 20])
-}
-
-fn told_of(letter: char, id: Option<Id>) -> Told {
-    match id {
-        Some(id) => (letter, number_of(&id)),
-        None => NOTHING,
-    }
-}
-
-// Offers the block of a number on another, so high.
-fn offer<B: Board>(
-    alloc: Global,
-    queue: &mut Queue,
-    board: &B,
-    (id, parent, height): (u16, u16, u64),
-) -> Result<Told, AllocError> {
-    let header = Header {
-        id: named(id),
-        parent: named(parent),
-        height,
-    };
-    let block = Waiting {
-        node: node(),
-        header,
-        bytes: Bytes::new(alloc),
-    };
-    let answer = queue.offer(block, board)?;
-    Ok(told_answer(answer))
-}
-
-fn told_answer(answer: Offered) -> Told {
-    match answer {
-        Offered::Known => ('k', 0),
-        Offered::Invalid => ('i', 0),
-        Offered::Old => ('o', 0),
-        Offered::Full => ('f', 0),
-        Offered::Waits { ask: Some(id) } => ('w', number_of(&id)),
-        Offered::Waits { ask: None } => ('w', 0),
-    }
-}
-
-fn ask(queue: &mut Queue, number: u32, id: u16) -> Result<(), AllocError> {
-    let id = named(id);
-    if queue.gets_len() >= 4096 || queue.has_number(number) || queue.is_asked(&id) {
-        return Ok(());
-    }
-    queue.asked(number, node(), id)
-}
-
-fn hold(queue: &mut Queue, number: u32, id: u16) -> Result<(), AllocError> {
-    let (node, id) = (node(), named(id));
-    if queue.holds(number, &node) {
-        return Ok(());
-    }
-    queue.hold(Held { number, node, id })
-}
-
-fn issue<B: Board>(board: &mut B, id: u16, parent: u16) -> Result<(), AllocError> {
-    let (id, parent) = (named(id), named(parent));
-    let Some(below) = board.height_of(&parent) else {
-        return Ok(());
-    };
-    if below == u64::MAX || board.height_of(&id).is_some() || board.pending_len() >= 4096 {
-        return Ok(());
-    }
-    board.issue(id, parent, below + 1)
-}
-
-fn told_work(work: Option<Work>) -> Told {
-    match work {
-        Some(Work::Hopeless(block)) => ('h', number_of(&block.header.id)),
-        Some(Work::Ready(block)) => ('r', number_of(&block.header.id)),
-        Some(Work::Vote(reply)) => ('v', number_of(&reply.id)),
-        None => NOTHING,
-    }
-}
-
-fn step<B: Board>(queue: &mut Queue, board: &B) -> Told {
-    told_work(queue.next_work(board))
-}
-
-// A step without a look at everything, behind one with it that found nothing.
-fn step_known<B: Board>(queue: &mut Queue, board: &B) -> Told {
-    if queue.next_work(board).is_some() {
-        return ('?', 0);
-    }
-    told_work(queue.next_known(board))
-}
-
-fn close(queue: &mut Queue, number: u32) -> Told {
-    told_of('c', queue.close_get(number, &node()))
-}
-
-fn go(queue: &mut Queue, id: u16, parent: Option<u16>) {
-    queue.gone(named(id), parent.map(|number| named(number)));
-}
-
-fn bubble<B: Board>(queue: &Queue, board: &B, id: u16) -> Told {
-    told_of('b', queue.bubble(&named(id), board))
-}
-
-// The vote that a reply gives as it comes, or that it is to be held.
-fn count<B: Board>(queue: &Queue, board: &B, id: u16) -> Told {
-    match queue.vote_at_once(&named(id), board) {
-        Some(vote) => told_of('b', vote),
-        None => ('h', 0),
-    }
-}
 
 // What happens to a queue over a board.
 #[derive(Clone, Copy)]
@@ -153,6 +15,7 @@ enum Case {
     Invalid,
     Bubbling,
     AtOnce,
+    Next,
     ByItself,
     Forgetting,
     GetsFill,
@@ -187,6 +50,7 @@ fn play<B: Board>(
         Case::Invalid => invalid(alloc, queue, board),
         Case::Bubbling => bubbling(queue, board),
         Case::AtOnce => at_once(alloc, queue, board),
+        Case::Next => next(alloc, queue, board),
         Case::ByItself => by_itself(alloc, queue, board),
         Case::Forgetting => forgetting(queue, board),
         Case::GetsFill => gets_fill(queue, board),
@@ -282,6 +146,33 @@ fn a_reply_counts_as_it_comes(rt: HostRuntime) -> Result<(), Fail> {
     Ok(())
 }
 
+// Blocks on a pending one, on an unknown one, at a height that is no longer to be issued; one that is on
+// the board, one that was found invalid; and the first again, once it waits.
+fn next<B: Board>(alloc: Global, queue: &mut Queue, board: &mut B) -> Result<Tale, AllocError> {
+    issue(board, 4, 0)?;
+    go(queue, 5, Some(4));
+    let ready = is_next(queue, board, (6, 4, 2));
+    let others = (
+        is_next(queue, board, (7, 6, 3)),
+        is_next(queue, board, (8, 4, 0)),
+    );
+    let known = (
+        is_next(queue, board, (4, 0, 1)),
+        is_next(queue, board, (5, 4, 2)),
+    );
+    let waits = offer(alloc, queue, board, (6, 4, 2))?;
+    let again = is_next(queue, board, (6, 4, 2));
+    Ok(tale(&[ready, others.0, others.1, known.0, known.1, waits, again]))
+}
+
+#[test]
+fn a_child_of_the_board_is_next(rt: HostRuntime) -> Result<(), Fail> {
+    let told = told_in(rt.alloc(), Case::Next)?;
+    let no = ('n', 0);
+    assert_eq!(rt; told, tale(&[('y', 0), no, no, no, no, ('w', 0), no]));
+    Ok(())
+}
+
 fn by_itself<B: Board>(
     alloc: Global,
     queue: &mut Queue,
@@ -322,10 +213,6 @@ fn a_poll_takes_its_replies(rt: HostRuntime) -> Result<(), Fail> {
     Ok(())
 }
 
-fn told_wanted(is_wanted: bool) -> Told {
-    if is_wanted { ('y', 0) } else { ('n', 0) }
-}
-
 // Whether a block is wanted with 4,095 open gets, and with one more.
 fn gets_fill<B: Board>(queue: &mut Queue, board: &B) -> Result<Tale, AllocError> {
     for number in 0..4095u16 {
@@ -334,7 +221,7 @@ fn gets_fill<B: Board>(queue: &mut Queue, board: &B) -> Result<Tale, AllocError>
     let wanted = queue.wants(&named(4), board);
     ask(queue, 5_000, 5)?;
     let more = queue.wants(&named(4), board);
-    Ok(tale(&[told_wanted(wanted), told_wanted(more)]))
+    Ok(tale(&[told_flag(wanted), told_flag(more)]))
 }
 
 #[test]
