@@ -4,7 +4,7 @@ ghost use Rattle.snow_poll.specs.Awaited.{counts_at, draw_of, class_of, AreWaits
 
 use snow_base::NodeId;
 use snow_sample::zeros;
-use std::alloc::{AllocError, Global};
+use std::alloc::AllocError;
 
 // A node that was drawn: how often, and whether it has replied. Nodes of one class wait one behind
 // another; `before` is the number, from 1, of the one before it, and 0 where there is none.
@@ -21,21 +21,27 @@ pub(crate) struct Wait {
 #[derive(Debug, Drop)]
 pub(crate) struct Awaited {
     pub(crate) waits: Vec<Wait>,
-    lasts: Vec<u32>,
+    pub(crate) lasts: Vec<u32>,
     mask: u64,
     ghost chained: { AreWaits mask waits.items lasts.items },
 }
 
 impl Awaited {
-    // No node, with room for so many.
-    pub(crate) fn new(alloc: Global, nodes: usize) -> Result<Awaited, AllocError>
+    // No node. There is room for so many: in these vectors, of which only the room is used.
+    pub(crate) fn begin(
+        mut waits: Vec<Wait>,
+        lasts: Vec<u32>,
+        nodes: usize,
+    ) -> Result<Awaited, AllocError>
         ensures counts { IfOk result (λ made. (node : List ℕ) → counts_at made.waits.items node ≡ None) }
         ensures none { IfOk result (λ made. made.waits.items ≡ []) }
     {
         let classes = nodes.min(65_536).next_power_of_two();
+        waits.clear();
+        waits.reserve(nodes)?;
         Ok(Awaited {
-            waits: Vec::with_capacity(alloc, nodes)?,
-            lasts: zeros(alloc, classes)?,
+            waits,
+            lasts: zeros(lasts, classes)?,
             mask: classes as u64 - 1,
         })
     }

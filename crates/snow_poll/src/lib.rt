@@ -7,6 +7,7 @@ mod laws;
 mod poll;
 mod polls;
 mod reply;
+mod room;
 mod tally;
 mod turns;
 

@@ -4,8 +4,9 @@ ghost use Rattle.snow_sample.specs.Sampling.{draw_count, AreOfDistinctNodes};
 ghost use Rattle.snow_poll.specs.Awaited.{counts_at, draw_of};
 ghost use Rattle.snow_poll.specs.Kept.{HasTimes, closes_by};
 
-use crate::awaited::Awaited;
+use crate::awaited::{Awaited, Wait};
 use crate::reply::Reply;
+use crate::room::Room;
 use crate::tally;
 use snow_base::{Bag, Id, NodeId};
 use snow_flake::Params;
@@ -45,9 +46,11 @@ impl Poll {
     ghost use Rattle.snow_poll.specs.Closing.{is_closed};
     ghost use Rattle.snow_poll.specs.Table.{new_poll};
 
-    /// A poll over these draws, without replies. All room that it will need is made here.
+    /// A poll over these draws, without replies, in the room of one that left. What it will need
+    /// beyond that is made here.
     pub(crate) fn begin(
         alloc: Global,
+        room: Room,
         number: u32,
         draws: &Draws,
         outstanding: u32,
@@ -57,12 +60,19 @@ impl Poll {
         ensures { IfOk result (λ made. made ≡ new_poll number draws.now) }
     {
         let drawn = draws.list();
+        let Room {
+            mut replies,
+            waits,
+            lasts,
+        } = room;
+        replies.clear();
+        replies.reserve(drawn.len())?;
         let mut votes = Bag::new(alloc);
         votes.reserve(drawn.len())?;
         Ok(Poll {
             number,
-            replies: Vec::with_capacity(alloc, drawn.len())?,
-            awaited: awaited_of(alloc, drawn)?,
+            replies,
+            awaited: awaited_of(waits, lasts, drawn)?,
             votes,
             most: 0,
             outstanding,
@@ -108,24 +118,35 @@ impl Poll {
         closes(params, reach, self.outstanding, self.most)
     }
 
-    /// Its votes.
-    pub(crate) fn into_votes(self) -> Bag
-        ensures votes { result.list ≡ votes_of self }
+    /// Its votes, and its room for one that is begun later.
+    pub(crate) fn into_votes(self) -> (Bag, Room)
+        ensures votes { result.0.list ≡ votes_of self }
         ensures within { received self + outstanding self ≤ draw_count self.draws }
     {
-        let Poll { votes, .. } = self;
-        votes
+        let Poll {
+            replies,
+            awaited,
+            votes,
+            ..
+        } = self;
+        let Awaited { waits, lasts, .. } = awaited;
+        let room = Room {
+            replies,
+            waits,
+            lasts,
+        };
+        (votes, room)
     }
 }
 
 // The nodes of these draws, each with how often it was drawn.
-fn awaited_of(alloc: Global, draws: &[Draw]) -> Result<Awaited, AllocError>
+fn awaited_of(waits: Vec<Wait>, lasts: Vec<u32>, draws: &[Draw]) -> Result<Awaited, AllocError>
     requires nodes { AreOfDistinctNodes draws.now }
     requires few { length draws.now < 2 ^ 32 }
     ensures times { IfOk result (λ awaited. HasTimes (counts_at awaited.waits.items) draws.now) }
     ensures drawn { IfOk result (λ awaited. map draw_of awaited.waits.items ≡ draws.now) }
 {
-    let mut awaited = Awaited::new(alloc, draws.len())?;
+    let mut awaited = Awaited::begin(waits, lasts, draws.len())?;
     for draw in draws {
         awaited.insert(draw.node, draw.count)?;
     }

@@ -4,6 +4,7 @@ ghost use Rattle.snow_base.specs.Votes.{total_count};
 ghost use Rattle.snow_sample.specs.Sampling.{draw_count, AreOfDistinctNodes};
 
 use crate::poll::Poll;
+use crate::room::Room;
 use crate::turns::Turns;
 use snow_base::{Bag, Id, NodeId};
 use snow_flake::Params;
@@ -11,6 +12,7 @@ use snow_sample::Draws;
 use std::alloc::{AllocError, Global};
 use std::collections::VecDeque;
 use std::marker::Model;
+use std::mem;
 use thiserror::Error;
 
 // How many polls are in the table at most.
@@ -62,13 +64,15 @@ pub struct Closed {
 /// only. It is closed where nothing is outstanding, where no identifier can reach AlphaPreference,
 /// where one has AlphaPreference and none can reach AlphaConfidence, or where one has
 /// AlphaConfidence, as in AvalancheGo's early termination. Only the front poll leaves, and only
-/// while it is closed; until it leaves, its late replies count.
+/// while it is closed; until it leaves, its late replies count. The room of the one that left last is
+/// used by the next one that is begun.
 #[derive(Debug, Drop)]
 pub struct Polls {
     alloc: Global,
     params: Params,
     polls: VecDeque<Poll>,
     turns: Turns,
+    room: Room,
 }
 
 impl Model for Polls {
@@ -94,6 +98,7 @@ impl Polls {
             params,
             polls: VecDeque::new(alloc),
             turns: Turns::new(alloc),
+            room: Room::new(alloc),
         }
     }
 
@@ -111,7 +116,8 @@ impl Polls {
         if self.polls.len() >= MOST_POLLS {
             return Err(PollFault::Full);
         }
-        let poll = Poll::begin(self.alloc, number, draws, self.params.k())?;
+        let room = mem::replace(&mut self.room, Room::new(self.alloc));
+        let poll = Poll::begin(self.alloc, room, number, draws, self.params.k())?;
         self.polls.reserve(1)?;
         self.turns.enter(number, self.polls.len())?;
         self.polls.push_back_reserved(poll);
@@ -162,10 +168,9 @@ impl Polls {
         let poll = self.polls.pop_front()?;
         let number = poll.number();
         self.turns.leave(number);
-        Some(Closed {
-            number,
-            votes: poll.into_votes(),
-        })
+        let (votes, room) = poll.into_votes();
+        self.room = room;
+        Some(Closed { number, votes })
     }
 
     /// How many polls there are.

@@ -1,14 +1,14 @@
 -- Lemmas on draws: where a node's are counted, and how many there are.
-use Rattle.std.proofs.Common.{◌≡◌, ◌≢◌, ℕ, zero, suc, ◌+◌, ◌<◌, Bool, true, false, cond, List, [], ◌∷◌, ◌++◌, length, get_or, set, None, Some, Option, All, refl, sym, ap, ◌∙◌, arith}
+use Rattle.std.proofs.Common.{◌≡◌, ◌≢◌, ℕ, zero, suc, ◌+◌, ◌<◌, Bool, true, false, cond, List, [], ◌∷◌, ◌++◌, length, get_or, set, None, Some, Option, All, refl, sym, ap, ◌∙◌, arith, inl, inr}
 use Rattle.std.specs.Option.{option_map}
 use Rattle.std.specs.Str.{bytes_eq}
-use Rattle.std.proofs.lemmas.Bool.{both_ways}
+use Rattle.std.proofs.lemmas.Bool.{both_ways, cases_Bool}
 use Rattle.std.proofs.lemmas.List.Elements.{All-cons, All-head, All-tail}
 use Rattle.std.proofs.lemmas.List.Kept.{AllPairs-cons}
 use Rattle.std.proofs.lemmas.List.Sums.{sum_by-cons}
 use Rattle.std.proofs.lemmas.Slice.Eq.{bytes_eq-Decides}
 use Rattle.snow_sample.specs.declared.draws.Draw.{Draw}
-use Rattle.snow_sample.specs.Kept.{place, one_more}
+use Rattle.snow_sample.specs.Kept.{place, is_at, one_more}
 use Rattle.snow_sample.specs.Sampling.{counted, draw_count, AreOfDistinctNodes}
 
 -- ---- one draw more
@@ -46,6 +46,46 @@ counted_at (d ∷ draws) node at is =
       | true ↦ λ here. let first : zero ≡ at = cc in rw (← first) (omega arith, refl)
       | false ↦ λ there. later (place draws node) refl there
     ] is
+
+-- where a draw of a node stands somewhere, the node has a place
+pub place_there : (draws : List Draw) (at : ℕ) (node : List ℕ) → is_at draws at node ≡ true → (first : ℕ) × (place draws node ≡ Some first)
+place_there [] at node is = absurd (cc)
+place_there (d ∷ draws) zero node is = (0, ap (λ same. first_place same (place draws node)) is)
+place_there (d ∷ draws) (suc at) node is =
+    let rest = place_there draws at node is in
+    elim (cases_Bool (bytes_eq d.node node)) [
+      | inl same ↦ (0, ap (λ same. first_place same (place draws node)) same)
+      | inr differ ↦ (suc rest.0, ap (λ same. first_place same (place draws node)) differ ∙ ap (option_map suc) rest.1)
+    ]
+
+-- a draw of it stands at that place
+at_place : (draws : List Draw) (at : ℕ) (node : List ℕ) → place draws node ≡ Some at → is_at draws at node ≡ true
+at_place [] at node is = absurd (cc)
+at_place (d ∷ draws) at node is =
+    let later : (o : Option ℕ) → place draws node ≡ o → option_map suc o ≡ Some at → is_at (d ∷ draws) at node ≡ true =
+    λ o. elim o as (λ o. place draws node ≡ o → option_map suc o ≡ Some at → is_at (d ∷ draws) at node ≡ true) [
+      | None ↦ λ was now. absurd (cc)
+      | Some p ↦ λ was now.
+          let next : suc p ≡ at = cc in
+          rw (← next) (at_place draws p node was)
+    ] in
+    elim (cases_Bool (bytes_eq d.node node)) [
+      | inl same ↦
+          let here : Some zero ≡ Some at = sym (ap (λ same. first_place same (place draws node)) same) ∙ is in
+          let first : zero ≡ at = cc in
+          rw (← first) same
+      | inr differ ↦ later (place draws node) refl (sym (ap (λ same. first_place same (place draws node)) differ) ∙ is)
+    ]
+
+-- where none stands at a place, and a place of the node would be that one, it has none
+pub no_place : (draws : List Draw) (at : ℕ) (node : List ℕ) → is_at draws at node ≡ false → ((p : ℕ) → place draws node ≡ Some p → at ≡ p)
+    → place draws node ≡ None
+no_place draws at node other only =
+    let each : (o : Option ℕ) → place draws node ≡ o → o ≡ None = λ o. elim o as (λ o. place draws node ≡ o → o ≡ None) [
+      | None ↦ λ was. refl
+      | Some p ↦ λ was. absurd (both_ways (is_at draws at node) other (ap (λ q. is_at draws q node) (only p was) ∙ at_place draws p node was))
+    ] in
+    each (place draws node) refl
 
 -- counting at a place changes no place
 pub place_kept : (draws : List Draw) (at : ℕ) (node : List ℕ) → place (one_more draws at) node ≡ place draws node

@@ -13,10 +13,10 @@ use Rattle.snow_sample.specs.declared.draws.Draw.{Draw}
 use Rattle.snow_sample.specs.declared.roster.Node.{Node}
 use Rattle.snow_sample.specs.declared.roster.RosterFault.{RosterFault}
 use Rattle.snow_sample.specs.declared.roster.RosterFault.TheVariants as faults
-use Rattle.snow_sample.specs.Kept.{place, one_more, slot_place, HasSlots}
+use Rattle.snow_sample.specs.Kept.{place, is_at, one_more, HasSlots}
 use Rattle.snow_sample.specs.Roster.{has_node, repeated_behind, first_repeated, none_fault, first_fault}
 use Rattle.snow_sample.specs.Sampling.{counted, draw_count}
-use Rattle.snow_sample.proofs.Counting.{counted_at, counted_new, count_more, place_new, place_kept}
+use Rattle.snow_sample.proofs.Counting.{counted_at, counted_new, count_more, no_place, place_there, place_new, place_kept}
 
 -- ---- no node stands twice
 
@@ -79,34 +79,32 @@ nodes_differ nodes i k m n good apart within_i within_k same =
 -- ---- slots
 
 -- no node was drawn
-pub slots_begin : (nodes : List Node) → HasSlots nodes (replicate (length nodes) 0) []
-slots_begin nodes = record {
-  each = length-replicate (length nodes) 0;
-  places = λ i n h. ap slot_place (get_or-replicate (length nodes) i 0 0 h);
-}
+pub slots_begin : (nodes : List Node) (slots : List ℕ) → length nodes ≤ length slots → HasSlots nodes slots []
+slots_begin nodes slots long = record { each = long; places = λ i at n h is. absurd (cc) }
 
 -- the places after a node's first draw
 slots_new : (nodes : List Node) (slots : List ℕ) (draws : List Draw) (i : ℕ) (n : Node) → HasSlots nodes slots draws → first_fault nodes ≡ None
     → i < length nodes → place draws (get_or nodes i n).id ≡ None
-    → HasSlots nodes (set slots i (suc (length draws))) (draws ++ record { node = (get_or nodes i n).id; count = 1 } ∷ [])
+    → HasSlots nodes (set slots i (length draws)) (draws ++ record { node = (get_or nodes i n).id; count = 1 } ∷ [])
 slots_new nodes slots draws i n has good h none =
     let id = (get_or nodes i n).id in
-    let number = suc (length draws) in
+    let last = length draws in
     let each = has.each in
     record {
-      each = length-set slots i number ∙ each;
-      places = λ k m within.
+      each = omega (arith, length-set slots i last);
+      places = λ k at m within is.
           let other = (get_or nodes k m).id in
           elim (cases_eq k i) [
             | inl here ↦
                 let same : id ≡ other = ap (λ p. (get_or nodes p n).id) (sym here) ∙ ap (λ (x : Node). x.id) (get_or_default nodes k n m within) in
-                ap (λ p. slot_place (get_or (set slots i number) p 0)) here ∙ ap slot_place (get_or-set_same slots i number 0 (omega arith))
-                ∙ sym (place_new draws id other none ∙ cond-true _ (Some (length draws)) (place draws other) ((bytes_eq-Decides id other).1 same))
+                let end : Some last ≡ Some at = sym (place_new draws id other none ∙ cond-true _ (Some last) (place draws other) ((bytes_eq-Decides id other).1 same)) ∙ is in
+                let one : last ≡ at = cc in
+                ap (λ p. get_or (set slots i last) p 0) here ∙ get_or-set_same slots i last 0 (omega arith) ∙ one
             | inr there ↦
-                ap slot_place (get_or-set_other slots i k number 0 there) ∙ has.places k m within
-                ∙ sym (place_new draws id other none
-                ∙ cond-false _ (Some (length draws)) (place draws other)
-                (false_from_ne_true (bytes_eq id other) (λ is. nodes_differ nodes i k n m good (λ e. there (sym e)) h within ((bytes_eq-Decides id other).0 is))))
+                let before : place draws other ≡ Some at = sym (place_new draws id other none
+                ∙ cond-false _ (Some last) (place draws other)
+                (false_from_ne_true (bytes_eq id other) (λ eq. nodes_differ nodes i k n m good (λ e. there (sym e)) h within ((bytes_eq-Decides id other).0 eq)))) ∙ is in
+                get_or-set_other slots i k last 0 there ∙ has.places k at m within before
           ];
     }
 
@@ -118,33 +116,32 @@ few_places (d ∷ draws) all =
 
 -- a draw more of a node that was drawn: its slot has the place
 pub drawn_again : (nodes : List Node) (slots : List ℕ) (draws : List Draw) (i slot : ℕ) (id : List ℕ) → HasSlots nodes slots draws → i < length nodes
-    → ((n : Node) → (get_or nodes i n).id ≡ id) → slot ≡ get_or slots i slot → 0 < slot
-    → (slot - 1 < length draws) × (one_more draws (slot - 1) ≡ counted draws id) × HasSlots nodes slots (one_more draws (slot - 1))
-drawn_again nodes slots draws i zero id has h named is some = absurd (omega arith)
-drawn_again nodes slots draws i (suc at) id has h named is some =
+    → ((n : Node) → (get_or nodes i n).id ≡ id) → slot ≡ get_or slots i slot → is_at draws slot id ≡ true
+    → (slot < length draws) × (one_more draws slot ≡ counted draws id) × HasSlots nodes slots (one_more draws slot)
+drawn_again nodes slots draws i slot id has h named is there =
     let n : Node = record { id = id; weight = 0 } in
-    let one_less : suc at - 1 ≡ at = omega arith in
-    let read : suc at ≡ get_or slots i 0 = get_or_read slots i (suc at) (omega (arith, has.each)) is 0 in
-    let placed : place draws id ≡ Some at = rw (← named n) (sym (has.places i n h) ∙ ap slot_place (sym read)) in
-    let at_place = counted_at draws id at placed in
-    rw one_less (
+    let read : slot ≡ get_or slots i 0 = get_or_read slots i slot (omega (arith, has.each)) is 0 in
+    let first = place_there draws slot id there in
+    let at : slot ≡ first.0 = read ∙ has.places i first.0 n h (ap (place draws) (named n) ∙ first.1) in
+    let placed : place draws id ≡ Some slot = first.1 ∙ ap Some (sym at) in
+    let at_place = counted_at draws id slot placed in (
       at_place.0,
       sym at_place.1,
-      record { each = has.each; places = λ k m within. has.places k m within ∙ sym (place_kept draws at (get_or nodes k m).id) },
+      record { each = has.each; places = λ k p m within was. has.places k p m within (sym (place_kept draws slot (get_or nodes k m).id) ∙ was) },
     )
 
 -- the first draw of a node: it stands at the end, and its slot has that place
 pub drawn_first : (nodes : List Node) (slots : List ℕ) (draws more : List Draw) (i slot : ℕ) (n : Node) → HasSlots nodes slots draws
-    → first_fault nodes ≡ None → i < length nodes → slot ≡ get_or slots i slot → slot ≤ 0
+    → first_fault nodes ≡ None → i < length nodes → slot ≡ get_or slots i slot → is_at draws slot (get_or nodes i n).id ≡ false
     → more ≡ draws ++ record { node = (get_or nodes i n).id; count = 1 } ∷ []
-    → (more ≡ counted draws (get_or nodes i n).id) × HasSlots nodes (set slots i (length more)) more
-drawn_first nodes slots draws more i (suc at) n has good h is none all = absurd (omega arith)
-drawn_first nodes slots draws more i zero n has good h is none all =
-    let read : zero ≡ get_or slots i 0 = get_or_read slots i zero (omega (arith, has.each)) is 0 in
-    let free : place draws (get_or nodes i n).id ≡ None = sym (has.places i n h) ∙ ap slot_place (sym read) in
-    let long : length more ≡ suc (length draws) =
-    omega (arith, ap (λ (l : List Draw). length l) all, length-append draws (record { node = (get_or nodes i n).id; count = 1 } ∷ [])) in (
-      all ∙ sym (counted_new draws (get_or nodes i n).id free),
+    → (more ≡ counted draws (get_or nodes i n).id) × HasSlots nodes (set slots i (length more - 1)) more
+drawn_first nodes slots draws more i slot n has good h is other all =
+    let id = (get_or nodes i n).id in
+    let read : slot ≡ get_or slots i 0 = get_or_read slots i slot (omega (arith, has.each)) is 0 in
+    let free : place draws id ≡ None = no_place draws slot id other (λ at was. read ∙ has.places i at n h was) in
+    let long : length more - 1 ≡ length draws =
+    omega (arith, ap (λ (l : List Draw). length l) all, length-append draws (record { node = id; count = 1 } ∷ [])) in (
+      all ∙ sym (counted_new draws id free),
       rw (long, all) (slots_new nodes slots draws i n has good h free),
     )
 

@@ -1,6 +1,6 @@
 -- What is kept while a sample is drawn: the units that were moved, and where each node's draws are counted.
-use Rattle.std.specs.Prelude.{◌≡◌, ℕ, zero, suc, ◌+◌, ◌<◌, List, [], ◌∷◌, length, map, fold, bit_and, Option, Some, None, ◌==◌, slice_index, slice_index_or, if◌then◌else◌}
-use Rattle.std.specs.Option.{option_map}
+use Rattle.std.specs.Prelude.{◌≡◌, ℕ, zero, suc, ◌+◌, ◌<◌, ◌≤◌, Bool, false, List, [], ◌∷◌, length, map, fold, bit_and, Option, Some, None, ◌==◌, slice_get, slice_index, slice_index_or, if◌then◌else◌}
+use Rattle.std.specs.Option.{option_map, option_map_or}
 use Rattle.std.specs.Str.{bytes_eq}
 use Rattle.snow_sample.specs.Chains.{AreChained}
 use Rattle.snow_sample.specs.declared.draws.Draw.{Draw}
@@ -39,12 +39,11 @@ one_more [] place = []
 one_more (d ∷ draws) zero = record { node = d.node; count = d.count + 1 } ∷ draws
 one_more (d ∷ draws) (suc place) = d ∷ one_more draws place
 
--- the place that a slot has: one less than its number, and none where that is 0
-abbrev pub slot_place : ℕ → Option ℕ
-slot_place zero = None
-slot_place (suc place) = Some place
+-- whether a draw of a node stands at a place
+abbrev pub is_at : List Draw → ℕ → List ℕ → Bool
+is_at draws at node = option_map_or (λ d. bytes_eq d.node node) (slice_get draws at) false
 
--- each node's slot has the place at which its draws are counted
+-- each node has a slot: where it was drawn, that has the place at which its draws are counted, else it may have any number
 pub record HasSlots (nodes : List Node) (slots : List ℕ) (draws : List Draw) : Type 0 where
-  pub each : length slots ≡ length nodes
-  pub places : (i : ℕ) (n : Node) → i < length nodes → slot_place (slice_index slots i) ≡ place draws (slice_index_or nodes i n).id
+  pub each : length nodes ≤ length slots
+  pub places : (i at : ℕ) (n : Node) → i < length nodes → place draws (slice_index_or nodes i n).id ≡ Some at → slice_index slots i ≡ at

@@ -31,7 +31,7 @@ impl Model for Draws {
 }
 
 impl Draws {
-    ghost use Rattle.snow_sample.specs.Kept.{one_more};
+    ghost use Rattle.snow_sample.specs.Kept.{is_at, one_more};
     ghost use Rattle.snow_sample.specs.Sampling.{draw_count};
 
     /// No draws. It takes no memory.
@@ -59,6 +59,23 @@ impl Draws {
         ensures counts { All (λ d. 1 ≤ d.count) result.now }
     {
         self.draws.as_slice()
+    }
+
+    // Makes room for so many draws more.
+    pub(crate) fn reserve(&mut self, more: usize) -> Result<(), AllocError>
+        ensures same { self.new ≡ self.old }
+    {
+        self.draws.reserve(more)
+    }
+
+    // Whether a draw of this node stands at a place.
+    pub(crate) fn is_at(&self, place: usize, node: &NodeId) -> bool
+        ensures { result ≡ is_at self.now place node.now }
+    {
+        match self.draws.get(place) {
+            Some(draw) => draw.node == *node,
+            None => false,
+        }
     }
 
     // Counts one draw more at a place.

@@ -1,13 +1,13 @@
 ghost use Rattle.std.specs.Prelude.{◌≡◌, replicate, IfOk};
 
-use std::alloc::{AllocError, Global};
+use std::alloc::AllocError;
 
-/// So many zeros, written at once into fresh room, as for the numbers of chains and places that are
-/// none yet.
-pub fn zeros(alloc: Global, count: usize) -> Result<Vec<u32>, AllocError>
+/// So many zeros, written at once over whatever is in this room, as for the numbers of chains that
+/// have no item yet. It grows where it is too small.
+pub fn zeros(mut room: Vec<u32>, count: usize) -> Result<Vec<u32>, AllocError>
     ensures { IfOk result (λ made. made.items ≡ replicate count 0) }
 {
-    let mut made = Vec::with_capacity(alloc, count)?;
-    made.resize(count, 0)?;
-    Ok(made)
+    room.clear();
+    room.resize(count, 0)?;
+    Ok(room)
 }

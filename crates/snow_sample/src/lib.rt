@@ -6,6 +6,7 @@ mod fresh;
 mod guide;
 mod laws;
 mod places;
+mod room;
 mod roster;
 mod sampling;
 mod shuffle;

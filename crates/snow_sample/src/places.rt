@@ -4,23 +4,26 @@ ghost use Rattle.snow_sample.specs.Roster.{total_weight, owner};
 ghost use Rattle.snow_sample.specs.Sampling.{counted, draw_count};
 
 use crate::draws::{Draw, Draws};
-use crate::fresh;
 use crate::roster::Roster;
 use std::alloc::AllocError;
 
-// For each node of a roster one more than the place at which its draws are counted, and 0 where it
-// wasn't drawn, so that a draw needs no walk over them all.
+// For each node of a roster a slot, so that a draw needs no walk over them all. That of a node that
+// was drawn has the place at which its draws are counted. Any other may have whatever an earlier
+// sample left there: no draw of its node stands at that place.
 #[derive(Drop)]
 pub(crate) struct Places {
     pub(crate) slots: Vec<u32>,
 }
 
 impl Places {
-    // No node was drawn.
-    pub(crate) fn new(roster: &Roster) -> Result<Places, AllocError>
+    // No node was drawn. The slots may have any numbers, and are made more where they are too few.
+    pub(crate) fn begin(mut slots: Vec<u32>, roster: &Roster) -> Result<Places, AllocError>
         ensures { IfOk result (λ places. HasSlots roster.now places.slots.items []) }
     {
-        let slots = fresh::zeros(roster.alloc(), roster.nodes().len())?;
+        let nodes = roster.nodes().len();
+        if slots.len() < nodes {
+            slots.resize(nodes, 0)?;
+        }
         Ok(Places { slots })
     }
 
@@ -38,14 +41,14 @@ impl Places {
         ensures slots { OnOk result (HasSlots roster.now self.new.slots.items draws.new) }
     {
         let at = roster.place(unit);
-        let slot = self.slots[at];
-        if slot > 0 {
-            draws.add_one(slot as usize - 1);
+        let node = roster.nodes()[at].id;
+        let slot = self.slots[at] as usize;
+        if draws.is_at(slot, &node) {
+            draws.add_one(slot);
             return Ok(());
         }
-        let node = roster.nodes()[at].id;
         draws.push(Draw { node, count: 1 })?;
-        self.slots[at] = draws.list().len() as u32;
+        self.slots[at] = draws.list().len() as u32 - 1;
         Ok(())
     }
 }

@@ -1,9 +1,11 @@
-ghost use Rattle.std.specs.Prelude.{◌≡◌, ◌<◌, ◌≤◌, [], Ok, Err, IfErr, OnOk, OnErr};
+ghost use Rattle.std.specs.Prelude.{◌≡◌, ℕ, ◌<◌, ◌≤◌, [], length, Ok, Err, IfErr, OnOk, OnErr};
+ghost use Rattle.snow_sample.specs.Kept.{unit_at, HasSlots};
 ghost use Rattle.snow_sample.specs.Roster.{total_weight};
 ghost use Rattle.snow_sample.specs.Sampling.{sample_of, IsFault, draw_count, AreOfDistinctNodes};
 
 use crate::draws::Draws;
 use crate::places::Places;
+use crate::room::Room;
 use crate::roster::Roster;
 use crate::shuffle::Shuffle;
 use crate::words::Words;
@@ -69,10 +71,47 @@ fn draw_all(roster: &Roster, k: u32, words: &mut Words, out: &mut Draws) -> Resu
     ensures counts { OnOk result (draw_count out.new ≡ k) }
     ensures nodes { OnOk result (AreOfDistinctNodes out.new) }
 {
-    let total = roster.total();
     // Each draw takes a word.
-    let mut shuffle = Shuffle::new(roster.alloc(), words.len().min(k as usize))?;
-    let mut places = Places::new(roster)?;
+    let draws = words.len().min(k as usize);
+    out.reserve(draws.min(roster.nodes().len()))?;
+    let Room {
+        moved,
+        lasts,
+        slots,
+    } = words.take_room(roster.alloc());
+    let mut shuffle = Shuffle::begin(moved, lasts, draws)?;
+    let mut places = Places::begin(slots, roster)?;
+    let drawn = draw_each(roster, k, words, &mut shuffle, &mut places, out);
+    let Shuffle { moved, lasts, .. } = shuffle;
+    let Places { slots } = places;
+    words.leave_room(Room {
+        moved,
+        lasts,
+        slots,
+    });
+    drawn
+}
+
+// Draws `k` units, where nothing was moved and no node was drawn.
+fn draw_each(
+    roster: &Roster,
+    k: u32,
+    words: &mut Words,
+    shuffle: &mut Shuffle,
+    places: &mut Places,
+    out: &mut Draws,
+) -> Result<(), SampleFault>
+    requires enough { k ≤ total_weight roster.now }
+    requires units { (p : ℕ) → unit_at shuffle.old.moved.items p ≡ p }
+    requires none { length shuffle.old.moved.items ≡ 0 }
+    requires slots { HasSlots roster.now places.old.slots.items [] }
+    requires empty { out.old ≡ [] }
+    ensures sample { OnOk result (sample_of roster.now k words.old ≡ Ok (out.new, words.new)) }
+    ensures fault { IfErr result (λ fault. IsFault (sample_of roster.now k words.old) words.old fault words.new) }
+    ensures counts { OnOk result (draw_count out.new ≡ k) }
+    ensures nodes { OnOk result (AreOfDistinctNodes out.new) }
+{
+    let total = roster.total();
     for j in 0..u64::from(k) {
         let Some(r) = words.choose(total - 1 - j) else {
             return Err(SampleFault::WordsOut);

@@ -3,11 +3,11 @@ ghost use Rattle.snow_sample.specs.Kept.{AreMoves, unit_at};
 ghost use Rattle.snow_sample.specs.Sampling.{swapped};
 
 use crate::fresh;
-use std::alloc::{AllocError, Global};
+use std::alloc::AllocError;
 
 // A unit that was moved to a position. Positions with the same low bits are one class; `before` is
 // the number, from 1, of the last move before this one in its class, and 0 where there is none.
-#[derive(Clone, Copy)]
+#[derive(Clone, Copy, Debug)]
 pub(crate) struct Move {
     pub(crate) place: u64,
     pub(crate) unit: u64,
@@ -20,23 +20,29 @@ pub(crate) struct Move {
 #[derive(Drop)]
 pub(crate) struct Shuffle {
     pub(crate) moved: Vec<Move>,
-    lasts: Vec<u32>,
+    pub(crate) lasts: Vec<u32>,
     mask: u64,
     ghost chained: { AreMoves mask moved.items lasts.items },
 }
 
 impl Shuffle {
     // Each unit stands at its own position. There is room for so many draws, and twice as many
-    // classes at least.
-    pub(crate) fn new(alloc: Global, draws: usize) -> Result<Shuffle, AllocError>
+    // classes at least: in these vectors, of which only the room is used.
+    pub(crate) fn begin(
+        mut moved: Vec<Move>,
+        lasts: Vec<u32>,
+        draws: usize,
+    ) -> Result<Shuffle, AllocError>
         requires { draws ≤ 65536 }
         ensures units { IfOk result (λ shuffle. (p : ℕ) → unit_at shuffle.moved.items p ≡ p) }
         ensures none { IfOk result (λ shuffle. length shuffle.moved.items ≡ 0) }
     {
         let classes = (2 * draws).next_power_of_two();
+        moved.clear();
+        moved.reserve(draws)?;
         Ok(Shuffle {
-            moved: Vec::with_capacity(alloc, draws)?,
-            lasts: fresh::zeros(alloc, classes)?,
+            moved,
+            lasts: fresh::zeros(lasts, classes)?,
             mask: classes as u64 - 1,
         })
     }

@@ -2,17 +2,22 @@ ghost use Rattle.std.specs.Prelude.{◌≡◌, ◌+◌, ◌^◌, ◌<◌, ◌≤
 ghost use Rattle.std.specs.Option.{option_map};
 ghost use Rattle.snow_sample.specs.Words.{choice, masked, reduced, IsRest};
 
+use crate::room::Room;
 use std::alloc::{AllocError, Global};
 use std::collections::VecDeque;
 use std::marker::Model;
+use std::mem;
 
 // The low 63 bits of a word.
 const LOW_BITS: u64 = 0x7fff_ffff_ffff_ffff;
 
 /// Random words, first in first out, at most 65,536 of them. Contracts see the list of them.
+///
+/// The room of a sample stays with the words that it took, for the next one.
 #[derive(Debug, Drop)]
 pub struct Words {
     words: VecDeque<u64>,
+    room: Room,
 }
 
 impl Model for Words {
@@ -32,6 +37,7 @@ impl Words {
     {
         Words {
             words: VecDeque::new(alloc),
+            room: Room::new(alloc),
         }
     }
 
@@ -51,6 +57,20 @@ impl Words {
         ensures small { result ≤ 65536 }
     {
         self.words.len()
+    }
+
+    // Takes out the room that the last sample left.
+    pub(crate) fn take_room(&mut self, alloc: Global) -> Room
+        ensures { self.new ≡ self.old }
+    {
+        mem::replace(&mut self.room, Room::new(alloc))
+    }
+
+    // Leaves the room of a sample for the next.
+    pub(crate) fn leave_room(&mut self, room: Room)
+        ensures { self.new ≡ self.old }
+    {
+        self.room = room;
     }
 
     // A number from 0 to `n` by the words at the front, which are taken out. There is none where a

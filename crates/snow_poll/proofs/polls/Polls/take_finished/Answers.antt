@@ -21,13 +21,13 @@ returns-clause-stands c =
     let whole = rw c.in_ok-poll.ensures.items at c.self.invariant.whole in
     let front : c.in_ok-front.field-0.now ≡ q = c.in_ok-front.ensures.lookup ∙ ap (λ l. get_or l 0 c.in_ok-front.field-0.now) c.in_ok-poll.ensures.items in
     let closed : is_closed c.self.inside.params q ≡ true = ap (is_closed c.self.inside.params) (sym front) ∙ sym c.is_closed.ensures.closed ∙ c.if-not-is_closed.false in
-    let few : received q + outstanding q ≤ c.self.inside.params.k = omega (arith, c.into_votes.ensures.within, whole 0 q (omega arith)) in
-    subst (λ (t : Table). StandsForFront t.parameters t.polls c.into_votes.result.list) c.self.view_is
-    (rw (c.in_ok-poll.ensures.items, c.into_votes.ensures.votes) (closed_stands c.self.inside.params q c.is_closed.ensures.good few closed))
+    let few : received q + outstanding q ≤ c.self.inside.params.k = omega (arith, c.into_votes-votes.ensures.within, whole 0 q (omega arith)) in
+    subst (λ (t : Table). StandsForFront t.parameters t.polls c.into_votes-votes.result.0.list) c.self.view_is
+    (rw (c.in_ok-poll.ensures.items, c.into_votes-votes.ensures.votes) (closed_stands c.self.inside.params q c.is_closed.ensures.good few closed))
 
 pub returns-clause-few : goal.returns-clause-few
 returns-clause-few c =
     let q = c.in_ok-poll.poll in
     let whole = rw c.in_ok-poll.ensures.items at c.self.invariant.whole in
-    let total = ap total_count c.into_votes.ensures.votes ∙ total_received q in
-    omega (arith, total, c.into_votes.ensures.within, whole 0 q (omega arith), ap (λ (t : Table). t.parameters.k) c.self.view_is)
+    let total = ap total_count c.into_votes-votes.ensures.votes ∙ total_received q in
+    omega (arith, total, c.into_votes-votes.ensures.within, whole 0 q (omega arith), ap (λ (t : Table). t.parameters.k) c.self.view_is)

@@ -2,7 +2,7 @@
 use Rattle.std.proofs.Common.{◌≡◌, length}
 use Rattle.snow_sample.specs.Kept.{unit_at, HasSlots}
 use Rattle.snow_sample.proofs.Drawing.{Drawing}
-use Rattle.snow_sample.proofs.sampling.draw_all.Given as goal
+use Rattle.snow_sample.proofs.sampling.draw_each.Given as goal
 
 abbrev pub invariant-loop-j : goal.invariant-loop-j
 invariant-loop-j l =
