@@ -2,6 +2,7 @@ ghost use Rattle.std.specs.Prelude.{◌≡◌, ◌≤◌, ◌↔◌, false, leng
 ghost use Rattle.std.specs.Option.{option_map};
 ghost use Rattle.snow_base.specs.Votes.{total_count};
 ghost use Rattle.snow_sample.specs.Sampling.{draw_count, AreOfDistinctNodes};
+ghost use Rattle.snow_poll.specs.Kept.{place, ArePlaced};
 
 use crate::poll::Poll;
 use crate::room::Room;
@@ -129,7 +130,7 @@ impl Polls {
     pub fn awaits(&self, number: u32, node: &NodeId) -> bool
         ensures { result ≡ is_awaited self.now.polls number node.now }
     {
-        match self.turns.place(number) {
+        match find_place(&self.polls, &self.turns, number) {
             Some(at) => self.polls[at].awaits(node),
             None => false,
         }
@@ -143,7 +144,7 @@ impl Polls {
         ensures table { self.new ≡ voted self.old number node.now id }
         ensures unchanged { result ≡ Answered.NotAwaited → self.new ≡ self.old }
     {
-        let Some(at) = self.turns.place(number) else {
+        let Some(at) = find_place(&self.polls, &self.turns, number) else {
             return Answered::NotAwaited;
         };
         if !self.polls[at].count(node, id) {
@@ -180,4 +181,17 @@ impl Polls {
     {
         self.polls.len()
     }
+}
+
+// The place of the poll of a number, where there is one. Most replies are to the front poll, whose
+// place needs no look-up.
+fn find_place(polls: &VecDeque<Poll>, turns: &Turns, number: u32) -> Option<usize>
+    ensures { length polls.now.items ≤ 1024 → ArePlaced turns.now.turns turns.now.gone polls.now.items → result ≡ place polls.now.items number }
+{
+    if let Some(front) = polls.front() {
+        if front.number() == number {
+            return Some(0);
+        }
+    }
+    turns.place(number)
 }

@@ -15,7 +15,7 @@ to_table p polls = record { parameters = p; polls = polls }
 pub returns-in_default-clause-answer : goal.returns-in_default-clause-answer
 returns-in_default-clause-answer c =
     let polls = c.self.inside.polls.items in
-    let stood = sym (c.place.ensures polls c.self.invariant.few c.self.invariant.placed) in
+    let stood = sym (c.find_place.ensures c.self.invariant.few c.self.invariant.placed) in
     let none = none_awaits polls c.args.number c.args.node.now (unplaced polls c.args.number (stood ∙ c.in_default.is)) in
     let answers = ap (λ (t : Table). answer t.polls c.args.number c.args.node.now) c.self.view_is in
     sym (cond-false _ Counted NotAwaited none) ∙ answers
@@ -23,7 +23,7 @@ returns-in_default-clause-answer c =
 pub returns-in_default-clause-table : goal.returns-in_default-clause-table
 returns-in_default-clause-table c =
     let polls = c.self.inside.polls.items in
-    let stood = sym (c.place.ensures polls c.self.invariant.few c.self.invariant.placed) in
+    let stood = sym (c.find_place.ensures c.self.invariant.few c.self.invariant.placed) in
     let none = none_awaits polls c.args.number c.args.node.now (unplaced polls c.args.number (stood ∙ c.in_default.is)) in
     let same = ap (λ (t : Table). voted t c.args.number c.args.node.now c.args.id) c.self.view_is in
     sym c.self.view_is
@@ -33,13 +33,13 @@ returns-in_default-clause-table c =
 pub index_mut-requires : goal.index_mut-requires
 index_mut-requires c =
     let polls = c.self.inside.polls.items in
-    let stood = sym (c.place.ensures polls c.self.invariant.few c.self.invariant.placed) in
+    let stood = sym (c.find_place.ensures c.self.invariant.few c.self.invariant.placed) in
     omega (arith, place_within polls c.args.number c.in-Some.at (stood ∙ c.in-Some.is), c.self.inside.polls.ok.0)
 
 pub invariant_of-self : goal.invariant_of-self
 invariant_of-self c =
     let polls = c.self.inside.polls.items in
-    let stood = sym (c.place.ensures polls c.self.invariant.few c.self.invariant.placed) in
+    let stood = sym (c.find_place.ensures c.self.invariant.few c.self.invariant.placed) in
     let is = stood ∙ c.in-Some.is in
     let noted = ap (set polls c.in-Some.at) c.count.ensures.poll
     ∙ voted_at polls c.args.number c.in-Some.at c.args.node.now c.args.id c.index_mut.result.now c.self.invariant.distinct is c.index_mut.ensures.value in
@@ -48,7 +48,7 @@ invariant_of-self c =
 pub invariant_of-self-2 : goal.invariant_of-self-2
 invariant_of-self-2 c =
     let polls = c.self.inside.polls.items in
-    let stood = sym (c.place.ensures polls c.self.invariant.few c.self.invariant.placed) in
+    let stood = sym (c.find_place.ensures c.self.invariant.few c.self.invariant.placed) in
     let is = stood ∙ c.in-Some.is in
     let noted = ap (set polls c.in-Some.at) c.count.ensures.poll
     ∙ voted_at polls c.args.number c.in-Some.at c.args.node.now c.args.id c.index_mut.result.now c.self.invariant.distinct is c.index_mut.ensures.value in
@@ -57,7 +57,7 @@ invariant_of-self-2 c =
 pub returns-clause-answer : goal.returns-clause-answer
 returns-clause-answer c =
     let polls = c.self.inside.polls.items in
-    let stood = sym (c.place.ensures polls c.self.invariant.few c.self.invariant.placed) in
+    let stood = sym (c.find_place.ensures c.self.invariant.few c.self.invariant.placed) in
     let is = stood ∙ c.in-Some.is in
     let one = awaited_at polls c.args.number c.in-Some.at c.args.node.now c.index_mut.result.now c.self.invariant.distinct is c.index_mut.ensures.value in
     let answers = ap (λ (t : Table). answer t.polls c.args.number c.args.node.now) c.self.view_is in
@@ -66,7 +66,7 @@ returns-clause-answer c =
 pub returns-clause-table : goal.returns-clause-table
 returns-clause-table c =
     let polls = c.self.inside.polls.items in
-    let stood = sym (c.place.ensures polls c.self.invariant.few c.self.invariant.placed) in
+    let stood = sym (c.find_place.ensures c.self.invariant.few c.self.invariant.placed) in
     let is = stood ∙ c.in-Some.is in
     let noted = ap (set polls c.in-Some.at) c.count.ensures.poll
     ∙ voted_at polls c.args.number c.in-Some.at c.args.node.now c.args.id c.index_mut.result.now c.self.invariant.distinct is c.index_mut.ensures.value in
@@ -76,7 +76,7 @@ returns-clause-table c =
 pub returns-then-not-count-clause-answer : goal.returns-then-not-count-clause-answer
 returns-then-not-count-clause-answer c =
     let polls = c.self.inside.polls.items in
-    let stood = sym (c.place.ensures polls c.self.invariant.few c.self.invariant.placed) in
+    let stood = sym (c.find_place.ensures c.self.invariant.few c.self.invariant.placed) in
     let is = stood ∙ c.in-Some.is in
     let one = awaited_at polls c.args.number c.in-Some.at c.args.node.now c.index_mut.result.now c.self.invariant.distinct is c.index_mut.ensures.value in
     let answers = ap (λ (t : Table). answer t.polls c.args.number c.args.node.now) c.self.view_is in
@@ -85,7 +85,7 @@ returns-then-not-count-clause-answer c =
 pub returns-then-not-count-clause-table : goal.returns-then-not-count-clause-table
 returns-then-not-count-clause-table c =
     let polls = c.self.inside.polls.items in
-    let stood = sym (c.place.ensures polls c.self.invariant.few c.self.invariant.placed) in
+    let stood = sym (c.find_place.ensures c.self.invariant.few c.self.invariant.placed) in
     let is = stood ∙ c.in-Some.is in
     let noted = ap (set polls c.in-Some.at) c.count.ensures.poll
     ∙ voted_at polls c.args.number c.in-Some.at c.args.node.now c.args.id c.index_mut.result.now c.self.invariant.distinct is c.index_mut.ensures.value in
@@ -95,7 +95,7 @@ returns-then-not-count-clause-table c =
 pub returns-then-not-count-clause-unchanged : goal.returns-then-not-count-clause-unchanged
 returns-then-not-count-clause-unchanged c _ =
     let polls = c.self.inside.polls.items in
-    let stood = sym (c.place.ensures polls c.self.invariant.few c.self.invariant.placed) in
+    let stood = sym (c.find_place.ensures c.self.invariant.few c.self.invariant.placed) in
     let is = stood ∙ c.in-Some.is in
     let one = awaited_at polls c.args.number c.in-Some.at c.args.node.now c.index_mut.result.now c.self.invariant.distinct is c.index_mut.ensures.value in
     let noted = ap (set polls c.in-Some.at) c.count.ensures.poll
