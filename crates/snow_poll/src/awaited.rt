@@ -108,7 +108,9 @@ impl Awaited {
 }
 
 // The class of a node, by its first two bytes and its last two, which may count nodes: a product
-// spreads them.
+// spreads them. It stands apart, so that the bytes which it reads don't keep those of a node from
+// being compared many at a time.
+#[inline(never)]
 fn class(node: &NodeId, mask: u64) -> usize
     ensures { result ≡ class_of mask node.now }
 {

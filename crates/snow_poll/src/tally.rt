@@ -21,15 +21,15 @@ pub(crate) fn give(votes: &mut Bag, most: u32, reply: &Reply, times: u32) -> u32
     ensures most { result ≡ most_count votes.new.list }
     ensures places { votes.old.room ≤ votes.new.room + 1 }
 {
-    let Some(id) = reply.id else {
+    let Some(id) = &reply.id else {
         return most;
     };
-    let added: Result<_, _> = votes.add(id, times);
+    let added: Result<_, _> = votes.add(*id, times);
     let _ = added.unwrap();
     if votes.entries().len() <= FEW {
         return votes.most();
     }
-    most.max(count(votes.entries(), &id))
+    most.max(count(votes.entries(), id))
 }
 
 // How many votes an identifier has.
