@@ -1,9 +1,9 @@
 -- Lemmas on the table: at which place a number's poll stands, and what a reply to it changes.
-use Rattle.std.proofs.Common.{◌≡◌, ℕ, zero, suc, ◌+◌, ◌-◌, ◌%◌, ◌^◌, ◌<◌, ◌≤◌, Bool, true, false, cond, ◌&&◌, ◌||◌, ◌==◌, List, [], ◌∷◌, ◌++◌, length, get_or, set, map, if◌then◌else◌, Option, None, Some, refl, sym, ap, ◌∙◌, arith}
+use Rattle.std.proofs.Common.{◌≡◌, ℕ, zero, suc, ◌+◌, ◌-◌, ◌%◌, ◌^◌, ◌<◌, ◌≤◌, Bool, true, false, cond, ◌&&◌, ◌||◌, ◌==◌, List, [], ◌∷◌, ◌++◌, length, get_or, set, map, nat_lt, if◌then◌else◌, Option, None, Some, refl, sym, ap, ◌∙◌, arith}
 use Rattle.std.specs.BTreeMap.{BTreeMap, get}
 use Rattle.std.specs.Option.{option_map}
 use Rattle.std.specs.Ordering.{nat_cmp}
-use Rattle.std.proofs.lemmas.Bool.{true≢false, or_parts, eqb-true, ne_eqb, eq-eqb, false_from_ne_true}
+use Rattle.std.proofs.lemmas.Bool.{true≢false, or_parts, eqb-true, ne_eqb, eq-eqb, lt-ltb, false_from_ne_true}
 use Rattle.std.proofs.lemmas.List.{length-map, length-append}
 use Rattle.std.proofs.lemmas.List.Elements.{All-map, All-append, All-cons}
 use Rattle.std.proofs.lemmas.List.Folds.{list_any-append}
@@ -12,7 +12,7 @@ use Rattle.snow_sample.specs.declared.draws.Draw.{Draw}
 use Rattle.snow_sample.specs.Sampling.{draw_count}
 use Rattle.snow_poll.specs.Poll.{Poll, awaits, with_reply, replied}
 use Rattle.snow_poll.specs.Table.{has_number, HasNoneFrom, new_poll, is_awaited_by, is_awaited, answered}
-use Rattle.snow_poll.specs.Kept.{place, turn, HaveOwnNumbers, IsTable}
+use Rattle.snow_poll.specs.Kept.{place, turn, is_front, ArePlaced, HaveOwnNumbers, IsTable}
 
 -- ---- turns
 
@@ -160,6 +160,10 @@ own_still number node id (q ∷ polls) own = (
   own_still number node id polls own.1,
 )
 
+same_front : (number : ℕ) (node : List ℕ) (id : Option (List ℕ)) (polls : List Poll) (m : ℕ) → is_front (map (answered number node id) polls) m ≡ is_front polls m
+same_front number node id [] m = refl
+same_front number node id (q ∷ polls) m = ap (λ n. n == m) (same_number number node id q)
+
 pub table_voted : (p : Parameters) (polls : List Poll) (turns : BTreeMap ℕ ℕ) (gone number : ℕ) (node : List ℕ) (id : Option (List ℕ))
     → IsTable p polls turns gone → IsTable p (map (answered number node id) polls) turns gone
 table_voted p polls turns gone number node id table =
@@ -168,7 +172,8 @@ table_voted p polls turns gone number node id table =
       whole = All-map (λ (q : Poll). draw_count q.draws ≡ p.k) (answered number node id) polls
           (λ k d h. ap draw_count (same_draws number node id (get_or polls k d)) ∙ table.whole k d h);
       distinct = own_still number node id polls table.distinct;
-      placed = λ m. table.placed m ∙ ap (option_map (turn gone)) (sym (same_places number node id polls m));
+      placed = λ m behind.
+          table.placed m (sym (same_front number node id polls m) ∙ behind) ∙ ap (option_map (turn gone)) (sym (same_places number node id polls m));
     }
 
 -- ---- a poll more
@@ -209,9 +214,25 @@ place_more (q ∷ polls) r m new =
     each false true n o differ = refl
     each false false n o differ = refl
 
+-- the turn of a number behind the front, after one was entered unless it stands at the front
+placed_more : (polls : List Poll) (turns more : BTreeMap ℕ ℕ) (gone : ℕ) (r : Poll) (m : ℕ) → ArePlaced turns gone polls → has_number polls r.number ≡ false
+    → get nat_cmp more m ≡ (if nat_lt 0 (length polls) && (r.number == m) then Some (turn gone (length polls)) else get nat_cmp turns m)
+    → is_front (polls ++ r ∷ []) m ≡ false → get nat_cmp more m ≡ option_map (turn gone) (place (polls ++ r ∷ []) m)
+placed_more [] turns more gone r m placed new entered behind =
+    entered ∙ placed m refl ∙ sym (ap (λ same. option_map (turn gone) (first_place same None)) behind)
+placed_more (q ∷ polls) turns more gone r m placed new entered behind =
+    let at = length (q ∷ polls) in
+    let some : nat_lt 0 at ≡ true = lt-ltb 0 at (omega arith) in
+    entered ∙ ap (λ b. if b && (r.number == m) then Some (turn gone at) else get nat_cmp turns m) some ∙ ap (λ o. if r.number == m then Some (turn gone at) else o) (placed m behind)
+    ∙ each (r.number == m) (turn gone) at (place (q ∷ polls) m) ∙ ap (option_map (turn gone)) (sym (place_more (q ∷ polls) r m new))
+  where
+    each : (same : Bool) (f : ℕ → ℕ) (n : ℕ) (o : Option ℕ) → (if same then Some (f n) else option_map f o) ≡ option_map f (if same then Some n else o)
+    each true f n o = refl
+    each false f n o = refl
+
 pub table_begun : (p : Parameters) (polls : List Poll) (turns more : BTreeMap ℕ ℕ) (gone number : ℕ) (draws : List Draw)
     → IsTable p polls turns gone → length polls < 1024 → has_number polls number ≡ false → draw_count draws ≡ p.k
-    → ((m : ℕ) → get nat_cmp more m ≡ (if number == m then Some (turn gone (length polls)) else get nat_cmp turns m))
+    → ((m : ℕ) → get nat_cmp more m ≡ (if nat_lt 0 (length polls) && (number == m) then Some (turn gone (length polls)) else get nat_cmp turns m))
     → IsTable p (polls ++ new_poll number draws ∷ []) more gone
 table_begun p polls turns more gone number draws table room new whole entered =
     let r = new_poll number draws in
@@ -219,30 +240,24 @@ table_begun p polls turns more gone number draws table room new whole entered =
       few = omega (arith, length-append polls (r ∷ []), room);
       whole = All-append (λ (q : Poll). draw_count q.draws ≡ p.k) polls (r ∷ []) table.whole (All-cons (λ (q : Poll). draw_count q.draws ≡ p.k) r [] whole (λ k d h. absurd (omega arith)));
       distinct = own_more polls r table.distinct new;
-      placed = λ m. entered m ∙ ap (λ o. if number == m then Some (turn gone (length polls)) else o) (table.placed m)
-          ∙ each (number == m) (turn gone) (length polls) (place polls m) ∙ ap (option_map (turn gone)) (sym (place_more polls r m new));
+      placed = λ m behind. placed_more polls turns more gone r m table.placed new (entered m) behind;
     }
-  where
-    each : (same : Bool) (f : ℕ → ℕ) (n : ℕ) (o : Option ℕ) → (if same then Some (f n) else option_map f o) ≡ option_map f (if same then Some n else o)
-    each true f n o = refl
-    each false f n o = refl
 
 -- ---- the front poll leaves
 
 pub table_left : (p : Parameters) (q : Poll) (polls : List Poll) (turns less : BTreeMap ℕ ℕ) (gone now : ℕ) → IsTable p (q ∷ polls) turns gone
     → ((m : ℕ) → get nat_cmp less m ≡ (if q.number == m then None else get nat_cmp turns m)) → now ≡ turn gone 1 → IsTable p polls less now
 table_left p q polls turns less gone now table left is =
-    let later : (same : Bool) (m : ℕ) → (q.number == m) ≡ same
-    → (if same then None else option_map (turn gone) (first_place same (place polls m))) ≡ option_map (turn (turn gone 1)) (place polls m) = λ same m.
-    elim same as (λ same. (q.number == m) ≡ same → (if same then None else option_map (turn gone) (first_place same (place polls m))) ≡ option_map (turn (turn gone 1)) (place polls m)) [
+    let later : (same : Bool) (m : ℕ) → (q.number == m) ≡ same → (if same then None else get nat_cmp turns m) ≡ option_map (turn (turn gone 1)) (place polls m) = λ same m.
+    elim same as (λ same. (q.number == m) ≡ same → (if same then None else get nat_cmp turns m) ≡ option_map (turn (turn gone 1)) (place polls m)) [
       | true ↦ λ one. sym (ap (option_map (turn (turn gone 1))) (no_place polls m (ap (has_number polls) (sym (eqb-true _ _ one)) ∙ table.distinct.0)))
-      | false ↦ λ other. shifted (place polls m)
+      | false ↦ λ other. table.placed m other ∙ ap (λ same. option_map (turn gone) (first_place same (place polls m))) other ∙ shifted (place polls m)
     ] in
     record {
       few = omega (arith, table.few);
       whole = λ k d h. table.whole (suc k) d (omega arith);
       distinct = table.distinct.1;
-      placed = λ m. left m ∙ ap (λ o. if q.number == m then None else o) (table.placed m) ∙ later (q.number == m) m refl
+      placed = λ m behind. left m ∙ later (q.number == m) m refl
           ∙ ap (λ n. option_map (turn n) (place polls m)) (sym is);
     }
   where

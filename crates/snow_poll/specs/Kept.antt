@@ -53,9 +53,15 @@ place (q ∷ polls) number = if q.number == number then Some 0 else option_map s
 abbrev pub turn : ℕ → ℕ → ℕ
 turn gone at = (gone + at) % 2 ^ 64
 
--- the turn of each number in the table
+-- whether the front poll has a number
+abbrev pub is_front : List Poll → ℕ → Bool
+is_front [] number = false
+is_front (q ∷ polls) number = q.number == number
+
+-- the turn of each number in the table, but for the front poll's, which may have none
 abbrev pub ArePlaced : BTreeMap ℕ ℕ → ℕ → List Poll → Type 0
-ArePlaced turns gone polls = (number : ℕ) → get nat_cmp turns number ≡ option_map (turn gone) (place polls number)
+ArePlaced turns gone polls =
+    (number : ℕ) → is_front polls number ≡ false → get nat_cmp turns number ≡ option_map (turn gone) (place polls number)
 
 -- no two polls have one number
 abbrev pub HaveOwnNumbers : List Poll → Type 0

@@ -184,7 +184,7 @@ impl Polls {
 }
 
 // The place of the poll of a number, where there is one. Most replies are to the front poll, whose
-// place needs no look-up.
+// turn needn't be kept.
 fn find_place(polls: &VecDeque<Poll>, turns: &Turns, number: u32) -> Option<usize>
     ensures { length polls.now.items ≤ 1024 → ArePlaced turns.now.turns turns.now.gone polls.now.items → result ≡ place polls.now.items number }
 {

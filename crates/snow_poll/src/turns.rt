@@ -1,15 +1,16 @@
-ghost use Rattle.std.specs.Prelude.{◌≡◌, ℕ, ◌^◌, ◌<◌, ◌≤◌, List, length, Some, None, OnOk, OnErr, ◌==◌, if◌then◌else◌};
+ghost use Rattle.std.specs.Prelude.{◌≡◌, ℕ, ◌^◌, ◌<◌, ◌≤◌, List, length, Some, None, OnOk, OnErr, ◌==◌, ◌&&◌, false, nat_lt, if◌then◌else◌};
 ghost use Rattle.std.specs.BTreeMap.{get};
 ghost use Rattle.std.specs.Ordering.{nat_cmp};
 ghost use Rattle.snow_poll.specs.Poll.{Poll};
-ghost use Rattle.snow_poll.specs.Kept.{place, turn, ArePlaced};
+ghost use Rattle.snow_poll.specs.Kept.{place, turn, is_front, ArePlaced};
 
 use std::alloc::{AllocError, Global};
 use std::collections::BTreeMap;
 
 // At which place each number's poll stands, so that a reply needs no walk over the polls. The turn
 // of a poll is how many were begun before it, and its place is its turn less the polls that left;
-// both are counted modulo 2^64.
+// both are counted modulo 2^64. A poll that is begun at the front isn't entered: where one runs at a
+// time, no turn is kept.
 #[derive(Debug, Drop)]
 pub(crate) struct Turns {
     pub(crate) turns: BTreeMap<u32, u64>,
@@ -28,20 +29,23 @@ impl Turns {
         }
     }
 
-    // The place of the poll of a number, where there is one.
+    // The place of the poll of a number, where there is one. It isn't the front one.
     pub(crate) fn place(&self, number: u32) -> Option<usize>
-        ensures { (polls : List Poll) → length polls ≤ 1024 → ArePlaced self.now.turns self.now.gone polls → result ≡ place polls number }
+        ensures { (polls : List Poll) → length polls ≤ 1024 → ArePlaced self.now.turns self.now.gone polls → is_front polls number ≡ false → result ≡ place polls number }
     {
         let kept = self.turns.get(&number)?;
         Some(place_of(*kept, self.gone))
     }
 
-    // Enters a number, whose poll stands at this place.
+    // Enters a number, whose poll stands at this place, unless that is the front.
     pub(crate) fn enter(&mut self, number: u32, at: usize) -> Result<(), AllocError>
-        ensures entered { OnOk result ((m : ℕ) → get nat_cmp self.new.turns m ≡ (if number == m then Some (turn self.old.gone at) else get nat_cmp self.old.turns m)) }
+        ensures entered { OnOk result ((m : ℕ) → get nat_cmp self.new.turns m ≡ (if nat_lt 0 at && (number == m) then Some (turn self.old.gone at) else get nat_cmp self.old.turns m)) }
         ensures err { OnErr result ((m : ℕ) → get nat_cmp self.new.turns m ≡ get nat_cmp self.old.turns m) }
         ensures gone { self.new.gone ≡ self.old.gone }
     {
+        if at == 0 {
+            return Ok(());
+        }
         let turn = self.gone.wrapping_add(at as u64);
         self.turns.insert(number, turn)?;
         Ok(())
