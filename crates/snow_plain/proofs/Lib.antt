@@ -18,6 +18,7 @@ pub mod Lookup
 pub mod Lines
 pub mod Given
 pub mod Gathered
+pub mod OneEach
 pub mod Climbed
 pub mod Swept
 pub mod Polled

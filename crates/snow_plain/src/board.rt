@@ -1,4 +1,5 @@
 ghost use Rattle.std.specs.Prelude.{◌≡◌, ℕ, ◌≤◌, Bool, List, [], length, IfOk, OnOk, OnErr, is_some};
+ghost use Rattle.snow_base.specs.Gathered.{one_each};
 ghost use Rattle.snow_base.specs.Votes.{total_count};
 ghost use Rattle.snow_base.specs.declared.header.Header.{Header};
 ghost use Rattle.snow_flake.specs.Parameters.{AreGood};
@@ -49,6 +50,15 @@ pub trait Board: Sized + Drop {
         ensures decided { decided self.new ≡ (poll (board self.old) votes.now.list).1 }
         // Each other multiset of at most K votes that is alike to these gives the same.
         ensures alike { GivesAll (board self.old) votes.now.list (board self.new) (decided self.new) };
+
+    /// Records a poll with one vote for each of these identifiers. After want of memory all is as
+    /// before.
+    fn apply_votes(&mut self, ids: &[Id]) -> Result<(), AllocError>
+        requires { length ids.now ≤ (board self.old).parameters.k }
+        ensures board { OnOk result (board self.new ≡ (poll (board self.old) (one_each ids.now)).0) }
+        ensures decided { OnOk result (decided self.new ≡ (poll (board self.old) (one_each ids.now)).1) }
+        ensures board_stays { OnErr result (board self.new ≡ board self.old) }
+        ensures decided_stays { OnErr result (decided self.new ≡ decided self.old) };
 
     /// The decisions of the last poll, in the order in which they are told. There are none before
     /// the first poll and after an issue.

@@ -89,6 +89,13 @@ impl<R: Rule> Board for PlainBoard<R> {
         };
     }
 
+    fn apply_votes(&mut self, ids: &[Id]) -> Result<(), AllocError> {
+        let _k = self.state.k();
+        let votes = Bag::of(self.alloc, ids)?;
+        self.apply_poll(&votes);
+        Ok(())
+    }
+
     fn decisions(&self) -> &[Decision] {
         self.decisions.as_slice()
     }

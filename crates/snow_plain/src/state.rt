@@ -84,6 +84,13 @@ impl State {
         Ok(())
     }
 
+    /// How many votes a poll may have.
+    pub fn k(&self) -> u32
+        ensures { result ≡ self.now.parameters.k }
+    {
+        self.params.k()
+    }
+
     pub fn last(&self) -> Id
         ensures { result ≡ self.now.last }
     {
