@@ -1,11 +1,11 @@
 -- Lemmas on the votes of a poll before they climb: each begins past its own block.
-use Rattle.std.proofs.Common.{◌≡◌, ℕ, ◌+◌, ◌<◌, ◌≤◌, Bool, false, List, [], ◌∷◌, ◌++◌, length, get_or, take, reverse, filter_map, slice_get, bytes_eq, Option, Some, None, All, Contains, IsPermutation, refl, sym, ap, subst, ◌∙◌, arith, length-append, if◌then◌else◌}
+use Rattle.std.proofs.Common.{◌≡◌, ℕ, ◌+◌, ◌<◌, ◌≤◌, Bool, false, List, [], ◌∷◌, ◌++◌, length, get_or, reverse, filter_map, slice_get, bytes_eq, Option, Some, None, All, Contains, IsPermutation, refl, sym, ap, subst, ◌∙◌, arith, if◌then◌else◌}
 use Rattle.std.specs.List.{cons_option}
 use Rattle.std.specs.Option.{option_to_list}
-use Rattle.std.proofs.lemmas.List.{length-map, take_more}
+use Rattle.std.proofs.lemmas.List.{length-map}
 use Rattle.std.proofs.lemmas.List.Sums.{sum_by-cons}
-use Rattle.std.proofs.lemmas.List.Sorted.{IsPermutation-map, IsPermutation-trans, IsPermutation-append_comm, IsPermutation-append_right, All-permutation, sum_by-IsPermutation, length_permutation}
-use Rattle.std.proofs.lemmas.List.Elements.{All-nil, All-cons, All-head, All-tail, All-map, filter_map-append}
+use Rattle.std.proofs.lemmas.List.Sorted.{IsPermutation-map, IsPermutation-trans, IsPermutation-append_right, All-permutation, sum_by-IsPermutation}
+use Rattle.std.proofs.lemmas.List.Elements.{All-nil, All-cons, All-head, All-tail, All-map}
 use Rattle.std.proofs.lemmas.Option.{slice_get-get_or}
 use Rattle.snow_base.specs.declared.header.Header.{Header}
 use Rattle.snow_base.specs.declared.vote.Vote.{Vote}
@@ -162,17 +162,12 @@ module _ {T : Type 0} where
       (begun_placed pending votes)
 
   -- one more begins
-  pub begun_more : (pending : List (Entry T)) (votes : List Vote) (i : ℕ) (v : Vote) (cs ds : List Climber) → i < length votes → v ≡ get_or votes i v
-      → IsPermutation (filter_map (begun pending) (take i votes)) cs → IsPermutation (option_to_list (begun pending v) ++ cs) ds → IsPermutation (filter_map (begun pending) (take (i + 1) votes)) ds
-  begun_more pending votes i v cs ds h is same next =
-      let one : filter_map (begun pending) (v ∷ []) ≡ option_to_list (begun pending v) = single (begun pending v) in
-      let whole : filter_map (begun pending) (take (i + 1) votes) ≡ filter_map (begun pending) (take i votes) ++ option_to_list (begun pending v) =
-      ap (filter_map (begun pending)) (take_more votes i v h ∙ ap (λ (x : Vote). take i votes ++ x ∷ []) (sym is)) ∙ filter_map-append (begun pending) (take i votes) (v ∷ []) ∙ ap (λ l. filter_map (begun pending) (take i votes) ++ l) one
-      in
-      subst (λ l. IsPermutation l ds) (sym whole)
-      (IsPermutation-trans _ _ _ (IsPermutation-append_comm (filter_map (begun pending) (take i votes)) (option_to_list (begun pending v)))
-      (IsPermutation-trans _ _ _ (IsPermutation-append_right (option_to_list (begun pending v)) _ _ same) next))
+  pub begun_first : (pending : List (Entry T)) (v : Vote) (votes : List Vote) (cs ds : List Climber) → IsPermutation (filter_map (begun pending) votes) cs
+      → IsPermutation (option_to_list (begun pending v) ++ cs) ds → IsPermutation (filter_map (begun pending) (v ∷ votes)) ds
+  begun_first pending v votes cs ds same next =
+      let whole : filter_map (begun pending) (v ∷ votes) ≡ option_to_list (begun pending v) ++ filter_map (begun pending) votes = single (begun pending v) (filter_map (begun pending) votes) in
+      subst (λ l. IsPermutation l ds) (sym whole) (IsPermutation-trans _ _ _ (IsPermutation-append_right (option_to_list (begun pending v)) _ _ same) next)
     where
-      single : (o : Option Climber) → cons_option o [] ≡ option_to_list o
-      single None = refl
-      single (Some c) = refl
+      single : (o : Option Climber) (rest : List Climber) → cons_option o rest ≡ option_to_list o ++ rest
+      single None rest = refl
+      single (Some c) rest = refl

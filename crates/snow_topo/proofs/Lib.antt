@@ -18,4 +18,5 @@ pub mod Polls
 pub mod Advancing
 pub mod Climbers
 pub mod Begun
+pub mod Started
 pub mod Hung

@@ -34,7 +34,7 @@ use Rattle.snow_topo.proofs.Steady.{chosen_shown}
 -- ---- identifiers
 
 -- a byte of an identifier
-small_byte : (id : List ℕ) → IsNamed id → (i : ℕ) → get_or id i 0 < 2 ^ 8
+pub small_byte : (id : List ℕ) → IsNamed id → (i : ℕ) → get_or id i 0 < 2 ^ 8
 small_byte id n i =
     halves i (length id)
     (λ t. n.bytes i 0 t)

@@ -4,6 +4,7 @@ pub mod View
 pub mod Climbing
 pub mod Ladder
 pub mod Half
+pub mod Starting
 pub mod Leading
 pub mod Recording
 pub mod Told

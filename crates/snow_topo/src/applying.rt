@@ -1,47 +1,47 @@
-ghost use Rattle.std.specs.Prelude.{◌≡◌, ◌+◌, ◌*◌, ◌^◌, ◌<◌, ◌≤◌, false, All, length, vec_capacity};
-ghost use Rattle.snow_base.specs.Votes.{total_count};
+ghost use Rattle.std.specs.Prelude.{◌≡◌, ◌+◌, ◌*◌, ◌^◌, ◌<◌, ◌≤◌, false, List, length, vec_capacity};
+ghost use Rattle.snow_base.specs.declared.vote.Vote.{Vote};
 ghost use Rattle.snow_plain.specs.Poll.{poll};
 ghost use Rattle.snow_plain.specs.Preference.{preferred};
 ghost use Rattle.snow_tree.specs.Held.{blocks_in};
-ghost use Rattle.snow_topo.specs.Ladder.{KeepsRoom, IsReady};
-ghost use Rattle.snow_topo.specs.View.{view, AreFit};
+ghost use Rattle.snow_topo.specs.Ladder.{KeepsRoom};
 ghost use Rattle.snow_topo.specs.Recording.{recording};
+ghost use Rattle.snow_topo.specs.Starting.{HaveBegun, IsLoaded};
+ghost use Rattle.snow_topo.specs.View.{view, AreFit};
 
 use crate::counting::count;
 use crate::ladder::Ladder;
 use crate::load::Load;
 use crate::settling::settle;
-use snow_base::{Bag, Steps, Vote};
+use snow_base::{Bag, Steps};
 use snow_flake::{Params, Rule};
 use snow_plain::Decision;
 use snow_tree::Tree;
 use std::sync::ledger::Ledger;
 
-/// A poll: every counter takes the bit step with its own votes, and then blocks are accepted and
-/// rejected. After it one poll more was recorded. The answer is false only where the board prefers what
-/// it preferred. It takes no memory where there is room for the votes, for them once more by child, and
+/// A poll whose votes have begun to climb: every counter takes the bit step with its own votes, and then
+/// blocks are accepted and rejected. After it one poll more was recorded. The answer is false only where
+/// the board prefers what it preferred. It takes no memory where there is room for the votes by child, and
 /// for a decision on each pending block.
 pub(crate) fn apply<R: Rule, L: Ledger>(
     params: &Params,
     polls: u64,
     root: &mut Load<R>,
     tree: &mut Tree<Load<R>>,
-    votes: &[Vote],
     ladder: &mut Ladder,
     children: &mut Bag,
     decisions: &mut Vec<Decision>,
     steps: &mut Steps<L>,
 ) -> bool
     requires room { polls + 1 < 2 ^ 64 }
-    requires fits { length votes.now ≤ (ladder.old).wide }
-    requires ready { IsReady (length (tree.old).pending) ladder.old }
-    requires places { length votes.now ≤ children.old.room + length children.old.list }
-    requires counts { All (λ v. 0 < v.count) votes.now }
-    requires total { total_count votes.now ≤ params.now.k }
+    requires begun { (votes : List Vote) × HaveBegun params.now votes (tree.old).pending ladder.old }
+    requires loaded { IsLoaded (tree.old).pending ladder.old }
+    requires places { length (ladder.old).climbers ≤ children.old.room + length children.old.list }
     requires fit { AreFit params.now polls root.old tree.old }
     requires decisions { length (tree.old).pending ≤ vec_capacity decisions.old }
-    ensures board { view params.now (polls + 1) root.new tree.new ≡ (poll (view params.now polls root.old tree.old) votes.now).0 }
-    ensures decided { decisions.new.items ≡ (poll (view params.now polls root.old tree.old) votes.now).1 }
+    ensures board { (votes : List Vote) → HaveBegun params.now votes (tree.old).pending ladder.old
+        → view params.now (polls + 1) root.new tree.new ≡ (poll (view params.now polls root.old tree.old) votes).0 }
+    ensures decided { (votes : List Vote) → HaveBegun params.now votes (tree.old).pending ladder.old
+        → decisions.new.items ≡ (poll (view params.now polls root.old tree.old) votes).1 }
     ensures fit { AreFit params.now (polls + 1) root.new tree.new }
     ensures fewer { length (tree.new).pending ≤ length (tree.old).pending }
     ensures places { children.old.room + length children.old.list ≤ children.new.room + length children.new.list }
@@ -49,9 +49,10 @@ pub(crate) fn apply<R: Rule, L: Ledger>(
     ensures ladder { KeepsRoom ladder.old ladder.new }
     ensures decisions { vec_capacity decisions.new ≡ vec_capacity decisions.old }
     ensures steady { result ≡ false → preferred R.answer (view params.now (polls + 1) root.new tree.new) ≡ preferred R.answer (view params.now polls root.old tree.old) }
-    ensures steps { steps.new ≤ steps.old + 5 * recording params.now (tree.old).last (blocks_in (tree.old).pending) votes.now }
+    ensures steps { (votes : List Vote) → HaveBegun params.now votes (tree.old).pending ladder.old
+        → steps.new ≤ steps.old + 5 * recording params.now (tree.old).last (blocks_in (tree.old).pending) votes }
 {
-    let moved = count(params, root, tree, polls, votes, ladder, children, steps);
+    let moved = count(params, root, tree, polls, ladder, children, steps);
     let _last = tree.last();
     decisions.clear();
     settle(params, polls + 1, root, tree, decisions);

@@ -1,5 +1,5 @@
-ghost use Rattle.std.specs.Prelude.{◌≡◌, ◌+◌, ◌*◌, ◌^◌, ◌<◌, ◌≤◌, nat_le, false, All, length, if◌then◌else◌};
-ghost use Rattle.snow_base.specs.Votes.{total_count};
+ghost use Rattle.std.specs.Prelude.{◌≡◌, ◌+◌, ◌*◌, ◌^◌, ◌<◌, ◌≤◌, nat_le, false, List, All, length, if◌then◌else◌};
+ghost use Rattle.snow_base.specs.declared.vote.Vote.{Vote};
 ghost use Rattle.snow_plain.specs.Cursors.{votes_at};
 ghost use Rattle.snow_plain.specs.Poll.{counted};
 ghost use Rattle.snow_plain.specs.Preference.{preferred};
@@ -8,7 +8,8 @@ ghost use Rattle.snow_topo.specs.Kept.{ids_in, IsFit};
 ghost use Rattle.snow_topo.specs.View.{view, AreFit};
 ghost use Rattle.snow_topo.specs.Climbing.{climber_total, cursors_of, HasCome};
 ghost use Rattle.snow_topo.specs.Half.{HasTaken};
-ghost use Rattle.snow_topo.specs.Ladder.{KeepsRoom, IsReady};
+ghost use Rattle.snow_topo.specs.Starting.{HaveBegun, IsLoaded};
+ghost use Rattle.snow_topo.specs.Ladder.{KeepsRoom};
 ghost use Rattle.snow_topo.specs.Leading.{IsSteady};
 ghost use Rattle.snow_topo.specs.Recording.{recording};
 
@@ -17,9 +18,8 @@ use crate::climbing::{climb, either};
 use crate::gathering::gather;
 use crate::ladder::Ladder;
 use crate::load::Load;
-use crate::starting::start_all;
 use crate::visiting::has_quorum;
-use snow_base::{Bag, Steps, Vote};
+use snow_base::{Bag, Steps};
 use snow_flake::{Params, Rule};
 use snow_tree::Tree;
 use std::sync::ledger::Ledger;
@@ -57,39 +57,37 @@ fn record_root<R: Rule, L: Ledger>(
     }
 }
 
-/// Every counter of the board takes the bit step with its own votes: those of the blocks for which there
-/// are AlphaPreference votes in their trees, all others by the number of the poll. The answer is false
-/// only where the board prefers what it preferred. It takes no memory where there is room for the votes,
-/// and for them once more by child.
+/// Every counter of the board takes the bit step with its own votes, which have begun to climb: those of
+/// the blocks for which there are AlphaPreference votes in their trees, all others by the number of the
+/// poll. The answer is false only where the board prefers what it preferred. It takes no memory where
+/// there is room for the votes by child.
 pub(crate) fn count<R: Rule, L: Ledger>(
     params: &Params,
     root: &mut Load<R>,
     tree: &mut Tree<Load<R>>,
     polls: u64,
-    votes: &[Vote],
     ladder: &mut Ladder,
     children: &mut Bag,
     steps: &mut Steps<L>,
 ) -> bool
     requires room { polls + 1 < 2 ^ 64 }
-    requires fits { length votes.now ≤ (ladder.old).wide }
-    requires ready { IsReady (length (tree.old).pending) ladder.old }
-    requires places { length votes.now ≤ children.old.room + length children.old.list }
-    requires counts { All (λ v. 0 < v.count) votes.now }
-    requires total { total_count votes.now ≤ params.now.k }
+    requires begun { (votes : List Vote) × HaveBegun params.now votes (tree.old).pending ladder.old }
+    requires loaded { IsLoaded (tree.old).pending ladder.old }
+    requires places { length (ladder.old).climbers ≤ children.old.room + length children.old.list }
     requires fit { AreFit params.now polls root.old tree.old }
-    ensures board { view params.now (polls + 1) root.new tree.new ≡ counted (view params.now polls root.old tree.old) votes.now }
+    ensures board { (votes : List Vote) → HaveBegun params.now votes (tree.old).pending ladder.old
+        → view params.now (polls + 1) root.new tree.new ≡ counted (view params.now polls root.old tree.old) votes }
     ensures fit { AreFit params.now (polls + 1) root.new tree.new }
     ensures blocks { blocks_in (tree.new).pending ≡ blocks_in (tree.old).pending }
     ensures places { children.old.room + length children.old.list ≤ children.new.room + length children.new.list }
     ensures low { (ladder.new).low ≡ 0 }
     ensures room { KeepsRoom ladder.old ladder.new }
     ensures steady { result ≡ false → preferred R.answer (view params.now (polls + 1) root.new tree.new) ≡ preferred R.answer (view params.now polls root.old tree.old) }
-    ensures steps { steps.new ≤ steps.old + 5 * recording params.now (tree.old).last (blocks_in (tree.old).pending) votes.now }
+    ensures steps { (votes : List Vote) → HaveBegun params.now votes (tree.old).pending ladder.old
+        → steps.new ≤ steps.old + 5 * recording params.now (tree.old).last (blocks_in (tree.old).pending) votes }
 {
     let _k = params.k();
     let _last = tree.last();
-    start_all(tree, ladder, votes);
     let moved = climb(params, tree, polls, ladder, children, steps);
     ladder.take(0);
     let first = record_root(params, root, tree, polls, ladder.came(), children, steps);

@@ -28,6 +28,15 @@ pub(crate) fn named(id: &Id)
     small(id.as_bytes());
 }
 
+/// So have all of these.
+pub(crate) fn all_named(ids: &[Id])
+    ensures { All IsNamed ids.now }
+{
+    for id in ids {
+        named(id);
+    }
+}
+
 /// What is kept of a block on the board.
 pub(crate) fn kept_of<'a, R: Rule>(
     root: &'a Load<R>,

@@ -11,6 +11,7 @@ mod issuing;
 mod ladder;
 mod leading;
 mod load;
+mod polling;
 mod renewing;
 mod replaying;
 mod settling;

@@ -1,12 +1,17 @@
-ghost use Rattle.std.specs.Prelude.{◌≡◌, ◌+◌, ◌++◌, ◌<◌, ◌≤◌, filter_map, length, IsPermutation};
+ghost use Rattle.std.specs.Prelude.{◌≡◌, ℕ, ◌+◌, ◌^◌, ◌<◌, ◌≤◌, ◌++◌, Bool, List, length, filter_map, IsPermutation, if◌then◌else◌};
 ghost use Rattle.std.specs.Option.{option_to_list};
+ghost use Rattle.snow_base.specs.Gathered.{one_each};
+ghost use Rattle.snow_base.specs.Votes.{total_count};
+ghost use Rattle.snow_flake.specs.Parameters.{Parameters};
 ghost use Rattle.snow_topo.specs.Climbing.{begun};
-ghost use Rattle.snow_topo.specs.Ladder.{KeepsRoom};
+ghost use Rattle.snow_topo.specs.Ladder.{KeepsRoom, IsReady};
+ghost use Rattle.snow_topo.specs.Starting.{share, votes_by, ids_by, HaveStarted, HaveBegun, IsLoaded};
 
 use crate::climber::go_on;
 use crate::ladder::Ladder;
+use crate::leading::all_named;
 use crate::load::Load;
-use snow_base::Vote;
+use snow_base::{Id, Vote};
 use snow_flake::Rule;
 use snow_tree::Tree;
 
@@ -25,18 +30,115 @@ fn start<R: Rule>(tree: &Tree<Load<R>>, ladder: &mut Ladder, vote: &Vote)
     }
 }
 
-/// All votes past their own blocks, where these are pending. It takes no memory.
-pub(crate) fn start_all<R: Rule>(tree: &Tree<Load<R>>, ladder: &mut Ladder, votes: &[Vote])
-    requires empty { (ladder.old).low ≡ 0 }
-    requires rungs { length (tree.now).pending < (ladder.old).rungs }
-    requires room { length votes.now ≤ (ladder.old).most }
-    ensures same { IsPermutation (filter_map (begun (tree.now).pending) votes.now) (ladder.new).climbers }
-    ensures put { (ladder.new).put ≤ length votes.now }
-    ensures low { (ladder.new).low ≡ (ladder.old).rungs }
+// Votes that waited begin, if there are some.
+fn let_go<R: Rule>(tree: &Tree<Load<R>>, ladder: &mut Ladder, vote: &Vote)
+    requires room { (ladder.old).put + vote.now.count ≤ (ladder.old).most }
+    requires low { length (tree.now).pending < (ladder.old).low }
+    ensures started { (others counted : (List ℕ → Bool) → ℕ) → HaveStarted (tree.now).pending (λ test. share test vote.now + others test) counted (ladder.old).climbers
+        → HaveStarted (tree.now).pending others counted (ladder.new).climbers }
+    ensures put { (ladder.new).put ≤ (ladder.old).put + vote.now.count }
+    ensures low { (ladder.new).low ≡ (ladder.old).low }
     ensures room { KeepsRoom ladder.old ladder.new }
 {
-    ladder.begin();
-    for vote in votes {
+    if vote.count > 0 {
         start(tree, ladder, vote);
     }
+}
+
+// All votes that waited begin.
+fn let_all_go<R: Rule>(tree: &Tree<Load<R>>, ladder: &mut Ladder, votes: &[Vote])
+    requires room { (ladder.old).put + total_count votes.now ≤ (ladder.old).most }
+    requires low { length (tree.now).pending < (ladder.old).low }
+    ensures started { (counted : (List ℕ → Bool) → ℕ) → HaveStarted (tree.now).pending (λ test. votes_by test votes.now) counted (ladder.old).climbers
+        → HaveStarted (tree.now).pending (λ test. 0) counted (ladder.new).climbers }
+    ensures put { (ladder.new).put ≤ (ladder.old).put + total_count votes.now }
+    ensures low { (ladder.new).low ≡ (ladder.old).low }
+    ensures room { KeepsRoom ladder.old ladder.new }
+{
+    for vote in votes {
+        let_go(tree, ladder, vote);
+    }
+}
+
+/// The votes of a poll, each past its own block, where this is pending. It takes no memory.
+pub(crate) fn start_votes<R: Rule>(tree: &Tree<Load<R>>, ladder: &mut Ladder, votes: &[Vote])
+    requires ready { IsReady (length (tree.now).pending) ladder.old }
+    requires few { total_count votes.now ≤ (ladder.old).wide }
+    ensures begun { (p : Parameters) → total_count votes.now ≤ p.k → HaveBegun p votes.now (tree.now).pending ladder.new }
+    ensures loaded { IsLoaded (tree.now).pending ladder.new }
+    ensures few { length (ladder.new).climbers ≤ total_count votes.now }
+    ensures room { KeepsRoom ladder.old ladder.new }
+{
+    let _last = tree.last();
+    ladder.begin();
+    let_all_go(tree, ladder, votes);
+}
+
+// One vote more for a block. It waits with those that wait for the same one; those for another begin, and
+// it waits alone.
+fn count_one<R: Rule>(tree: &Tree<Load<R>>, ladder: &mut Ladder, waiting: &mut Vote, id: &Id)
+    requires room { (ladder.old).put + waiting.old.count ≤ (ladder.old).most }
+    requires few { waiting.old.count + 1 < 2 ^ 32 }
+    requires low { length (tree.now).pending < (ladder.old).low }
+    ensures started { (others counted : (List ℕ → Bool) → ℕ) → HaveStarted (tree.now).pending (λ test. share test waiting.old + others test) counted (ladder.old).climbers
+        → HaveStarted (tree.now).pending (λ test. share test waiting.new + others test) (λ test. (if test id.now then 1 else 0) + counted test) (ladder.new).climbers }
+    ensures put { (ladder.new).put + waiting.new.count ≤ (ladder.old).put + waiting.old.count + 1 }
+    ensures more { waiting.new.count ≤ waiting.old.count + 1 }
+    ensures low { (ladder.new).low ≡ (ladder.old).low }
+    ensures room { KeepsRoom ladder.old ladder.new }
+{
+    if waiting.id == *id {
+        waiting.count += 1;
+    } else {
+        let_go(tree, ladder, waiting);
+        *waiting = Vote { id: *id, count: 1 };
+    }
+}
+
+// Where votes for a block wait: those for different blocks are to wait at different places.
+fn seat_of(id: &Id) -> usize
+    ensures { result < 8 }
+{
+    usize::from(id.as_bytes()[0] % 8)
+}
+
+// One vote more for each of these identifiers.
+fn count_each<R: Rule>(tree: &Tree<Load<R>>, ladder: &mut Ladder, waiting: &mut [Vote], ids: &[Id])
+    requires seats { length waiting.old ≡ 8 }
+    requires room { (ladder.old).put + total_count waiting.old + length ids.now ≤ (ladder.old).most }
+    requires few { total_count waiting.old + length ids.now < 2 ^ 32 }
+    requires low { length (tree.now).pending < (ladder.old).low }
+    ensures started { (counted : (List ℕ → Bool) → ℕ) → HaveStarted (tree.now).pending (λ test. votes_by test waiting.old) counted (ladder.old).climbers
+        → HaveStarted (tree.now).pending (λ test. votes_by test waiting.new) (λ test. ids_by test ids.now + counted test) (ladder.new).climbers }
+    ensures put { (ladder.new).put + total_count waiting.new ≤ (ladder.old).put + total_count waiting.old + length ids.now }
+    ensures low { (ladder.new).low ≡ (ladder.old).low }
+    ensures room { KeepsRoom ladder.old ladder.new }
+{
+    for id in ids {
+        let seat = &mut waiting[seat_of(id)];
+        count_one(tree, ladder, seat, id);
+    }
+}
+
+/// The votes of a poll, one for each of these identifiers, past its own block, where this is pending.
+/// Most of those for one block go on as one: a few wait for others. It takes no memory.
+pub(crate) fn start_each<R: Rule>(tree: &Tree<Load<R>>, ladder: &mut Ladder, ids: &[Id])
+    requires ready { IsReady (length (tree.now).pending) ladder.old }
+    requires few { length ids.now ≤ (ladder.old).wide }
+    requires small { length ids.now < 2 ^ 32 }
+    ensures begun { (p : Parameters) → length ids.now ≤ p.k → HaveBegun p (one_each ids.now) (tree.now).pending ladder.new }
+    ensures loaded { IsLoaded (tree.now).pending ladder.new }
+    ensures few { length (ladder.new).climbers ≤ length ids.now }
+    ensures room { KeepsRoom ladder.old ladder.new }
+{
+    let _last = tree.last();
+    all_named(ids);
+    ladder.begin();
+    let nobody = Vote {
+        id: Id::from_bytes([0; 32]),
+        count: 0,
+    };
+    let mut waiting = [nobody; 8];
+    count_each(tree, ladder, &mut waiting, ids);
+    let_all_go(tree, ladder, &waiting);
 }

@@ -1,5 +1,6 @@
-ghost use Rattle.std.specs.Prelude.{◌≡◌, ◌+◌, ◌<◌, ◌≤◌, ◌&&◌, IfSome, is_some};
+ghost use Rattle.std.specs.Prelude.{◌≡◌, ◌+◌, ◌<◌, ◌≤◌, ◌&&◌, IfSome, is_some, length};
 ghost use Rattle.std.specs.Option.{option_copied};
+ghost use Rattle.snow_base.specs.Gathered.{one_each};
 ghost use Rattle.snow_base.specs.Votes.{total_count};
 ghost use Rattle.snow_plain.specs.Board.{blocks_of, counters_on};
 ghost use Rattle.snow_plain.specs.Ending.{has_pending_child};
@@ -8,12 +9,12 @@ ghost use Rattle.snow_plain.specs.Poll.{poll};
 ghost use Rattle.snow_topo.specs.Costs.{most_steps};
 ghost use Rattle.snow_topo.specs.Standing.{AreKept};
 
-use crate::applying::apply;
 use crate::issuing::issue;
 use crate::ladder::Ladder;
-use crate::leading::{is_preferred, is_top, kept_of, named, preference_after, preference_kept};
+use crate::leading::{is_preferred, is_top, kept_of, named, preference_after};
 use crate::load::Load;
-use crate::renewing::renew;
+use crate::polling::record;
+use crate::starting::{start_each, start_votes};
 use snow_base::{Bag, Header, Id, Steps};
 use snow_flake::{Params, Rule};
 use snow_plain::{Board, Decision};
@@ -72,6 +73,19 @@ fn apply_alone<R: Rule, L: Ledger>(board: &mut Topo<R>, votes: &Bag, blank: Blan
     board.apply_counted(votes, &mut steps);
 }
 
+// The same with one vote for each of these identifiers.
+fn apply_each_alone<R: Rule, L: Ledger>(board: &mut Topo<R>, ids: &[Id], blank: Blank)
+    requires name { blank.name ≡ L.name }
+    requires parts { blank.parts ≡ L.parts }
+    requires some { 0 < L.parts }
+    requires most { length ids.now ≤ (board.old).board.parameters.k }
+    ensures board { (board.new).board ≡ (poll (board.old).board (one_each ids.now)).0 }
+    ensures decided { (board.new).decided ≡ (poll (board.old).board (one_each ids.now)).1 }
+{
+    let mut steps = Steps::<L>::new(blank);
+    board.apply_each_counted(ids, &mut steps);
+}
+
 impl<R: Rule> Topo<R> {
     /// `apply_poll` with its steps counted. A step is a node of a tree that is visited, or the failing of
     /// a tree.
@@ -81,27 +95,44 @@ impl<R: Rule> Topo<R> {
         ensures decided { (self.new).decided ≡ (poll (self.old).board votes.now.list).1 }
         ensures steps { steps.new ≤ steps.old + most_steps (self.old).board votes.now.list }
     {
-        self.polls = renew(self.polls, &mut self.root, &mut self.tree);
-        let moved = apply(
+        start_votes(&self.tree, &mut self.ladder, votes.entries());
+        let (polls, preference) = record(
             &self.params,
             self.polls,
             &mut self.root,
             &mut self.tree,
-            votes.entries(),
+            &self.preference,
             &mut self.ladder,
             &mut self.children,
             &mut self.decisions,
             steps,
         );
-        self.polls += 1;
-        self.preference = preference_kept(
+        self.polls = polls;
+        self.preference = preference;
+    }
+
+    /// `apply_votes` with its steps counted. It takes no memory.
+    pub fn apply_each_counted<L: Ledger>(&mut self, ids: &[Id], steps: &mut Steps<L>)
+        requires { length ids.now ≤ (self.old).board.parameters.k }
+        ensures board { (self.new).board ≡ (poll (self.old).board (one_each ids.now)).0 }
+        ensures decided { (self.new).decided ≡ (poll (self.old).board (one_each ids.now)).1 }
+        ensures steps { steps.new ≤ steps.old + most_steps (self.old).board (one_each ids.now) }
+    {
+        let _k = self.params.k();
+        start_each(&self.tree, &mut self.ladder, ids);
+        let (polls, preference) = record(
             &self.params,
             self.polls,
-            &self.root,
-            &self.tree,
+            &mut self.root,
+            &mut self.tree,
             &self.preference,
-            moved,
+            &mut self.ladder,
+            &mut self.children,
+            &mut self.decisions,
+            steps,
         );
+        self.polls = polls;
+        self.preference = preference;
     }
 
     /// The tree of a block's children; none where the block isn't on the board or has no child there.
@@ -178,6 +209,11 @@ impl<R: Rule> Board for Topo<R> {
 
     fn apply_poll(&mut self, votes: &Bag) {
         apply_alone::<R, Brand>(self, votes, Blank::new(1));
+    }
+
+    fn apply_votes(&mut self, ids: &[Id]) -> Result<(), AllocError> {
+        apply_each_alone::<R, Brand>(self, ids, Blank::new(1));
+        Ok(())
     }
 
     fn decisions(&self) -> &[Decision] {

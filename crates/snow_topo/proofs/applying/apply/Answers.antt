@@ -23,19 +23,21 @@ settle-requires-clause-room g c =
 
 pub returns-clause-board : goal.returns-clause-board
 returns-clause-board g c =
+    λ votes begun.
     let p = c.args.params.now in
     let before = view p c.args.polls c.args.root.now c.args.tree.now in
     let counted = view p (c.args.polls + 1) c.count-moved.new.root c.count-moved.new.tree in
-    c.settle.ensures.board ∙ ap (λ r. r.0) (polled before counted c.args.votes.now c.count-moved.ensures.board)
+    c.settle.ensures.board ∙ ap (λ r. r.0) (polled before counted votes (c.count-moved.ensures.board votes begun))
 
 pub returns-clause-decided : goal.returns-clause-decided
 returns-clause-decided g c =
+    λ votes begun.
     let p = c.args.params.now in
     let before = view p c.args.polls c.args.root.now c.args.tree.now in
     let counted = view p (c.args.polls + 1) c.count-moved.new.root c.count-moved.new.tree in
     c.settle.ensures.told
     ∙ ap (λ l. l ++ (settled (length counted.pending) counted).1) c.clear.ensures.items
-    ∙ ap (λ r. r.1) (polled before counted c.args.votes.now c.count-moved.ensures.board)
+    ∙ ap (λ r. r.1) (polled before counted votes (c.count-moved.ensures.board votes begun))
 
 pub returns-clause-fewer : goal.returns-clause-fewer
 returns-clause-fewer g c =

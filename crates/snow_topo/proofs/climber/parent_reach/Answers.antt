@@ -1,7 +1,7 @@
-use Rattle.std.proofs.Common.{◌≡◌, length, slice_get, sym, ap, ◌∙◌, arith}
+use Rattle.std.proofs.Common.{slice_get, sym, ap, ◌∙◌, arith}
 use Rattle.std.proofs.lemmas.List.{length-map}
-use Rattle.snow_tree.specs.Held.{blocks_in, place_in}
-use Rattle.snow_topo.specs.Climbing.{above, reach, parent_in}
+use Rattle.snow_tree.specs.Held.{blocks_in}
+use Rattle.snow_topo.specs.Climbing.{above, parent_in}
 use Rattle.snow_topo.proofs.Climbers.{parent_placed}
 use Rattle.snow_topo.proofs.Reached.{reach_within}
 use Rattle.snow_topo.proofs.climber.parent_reach.Goals as goal

@@ -1,7 +1,6 @@
 use Rattle.std.proofs.Common.{◌≡◌, ◌+◌, ◌*◌, ◌<◌, ◌≤◌, ℕ, nat_le, [], List, All, length, slice_get, sym, ap, subst, ◌∙◌, arith, if◌then◌else◌}
 use Rattle.std.proofs.lemmas.Bool.{or_parts}
 use Rattle.std.proofs.lemmas.List.{length-map}
-use Rattle.std.proofs.lemmas.List.Sorted.{length_permutation}
 use Rattle.snow_base.specs.Ancestry.{votes_below}
 use Rattle.snow_plain.specs.Conflict.{all_polled}
 use Rattle.snow_plain.specs.Cursors.{votes_at}
@@ -9,61 +8,26 @@ use Rattle.snow_tree.specs.Held.{Held, blocks_in, children_of}
 use Rattle.snow_topo.specs.Kept.{ids_in, shown, IsFit}
 use Rattle.snow_topo.specs.Recording.{recording_at}
 use Rattle.snow_topo.specs.Climbing.{climber_total, cursors_of, cursor_of, parent_in, reach, HasCome}
-use Rattle.snow_topo.proofs.Begun.{begun_at, begun_few, placed_at, no_block}
+use Rattle.snow_topo.proofs.Begun.{no_block}
 use Rattle.snow_topo.proofs.Climbers.{all_back, same_total, have_come_last, highest_place, of_group, group_total, group_few, group_come_last, votes_of_all, none_under}
 use Rattle.snow_topo.proofs.Counted.{came_last, counted_view}
 use Rattle.snow_topo.proofs.Merged.{all_came}
 use Rattle.snow_topo.proofs.Steady.{preferred_same}
 use Rattle.snow_topo.proofs.counting.count.Goals as goal
 
-pub climb-moved-requires-clause-places : goal.climb-moved-requires-clause-places
-climb-moved-requires-clause-places g c =
-    omega (arith, c.requires.places, length_permutation _ _ c.start_all.ensures.same, begun_few c.args.tree.now.pending c.args.votes.now)
-
-pub climb-moved-requires-clause-climbing : goal.climb-moved-requires-clause-climbing
-climb-moved-requires-clause-climbing g c = (
-  c.args.votes.now,
-  begun_at c.args.params.now c.args.votes.now c.args.tree.now.last c.args.tree.now.pending c.start_all.new.ladder.climbers c.last-last.ensures.grown c.start_all.ensures.same c.requires.counts c.requires.total,
-)
-
-pub climb-moved-requires-clause-placed : goal.climb-moved-requires-clause-placed
-climb-moved-requires-clause-placed g c = placed_at c.args.tree.now.pending c.args.votes.now c.start_all.new.ladder.climbers c.start_all.ensures.same
-
-pub climb-moved-requires-clause-put : goal.climb-moved-requires-clause-put
-climb-moved-requires-clause-put g c = omega (arith, c.requires.fits, c.requires.ready.most, c.start_all.ensures.put, c.start_all.ensures.room.most)
-
-pub climb-moved-requires-clause-wide : goal.climb-moved-requires-clause-wide
-climb-moved-requires-clause-wide g c =
-    omega (arith, c.requires.fits, c.start_all.ensures.room.wide, length_permutation _ _ c.start_all.ensures.same, begun_few c.args.tree.now.pending c.args.votes.now)
-
-pub climb-moved-requires-clause-low : goal.climb-moved-requires-clause-low
-climb-moved-requires-clause-low g c = omega (arith, c.requires.ready.rungs, c.start_all.ensures.low)
-
 pub take-requires-clause-highest : goal.take-requires-clause-highest
 take-requires-clause-highest g c =
     let held = c.args.tree.now in
-    let begun = begun_at c.args.params.now c.args.votes.now held.last held.pending c.start_all.new.ladder.climbers c.last-last.ensures.grown c.start_all.ensures.same c.requires.counts c.requires.total in
-    highest_place (blocks_in held.pending) 0 c.climb-moved.new.ladder.climbers c.climb-moved.ensures.placed (c.climb-moved.ensures.climbing c.args.votes.now begun).below
+    highest_place (blocks_in held.pending) 0 c.climb-moved.new.ladder.climbers c.climb-moved.ensures.placed (c.climb-moved.ensures.climbing c.requires.begun.0 c.requires.begun.1).below
 
 pub take-requires-clause-wide : goal.take-requires-clause-wide
-take-requires-clause-wide g c =
-    omega (
-      arith,
-      c.requires.fits,
-      c.start_all.ensures.room.wide,
-      c.climb-moved.ensures.room.wide,
-      c.climb-moved.ensures.short,
-      length_permutation _ _ c.start_all.ensures.same,
-      begun_few c.args.tree.now.pending c.args.votes.now,
-    )
+take-requires-clause-wide g c = omega (arith, c.requires.loaded.wide, c.climb-moved.ensures.room.wide, c.climb-moved.ensures.short)
 
 pub record_root-first-requires-clause-places : goal.record_root-first-requires-clause-places
 record_root-first-requires-clause-places g c =
     omega (
       arith,
       c.requires.places,
-      length_permutation _ _ c.start_all.ensures.same,
-      begun_few c.args.tree.now.pending c.args.votes.now,
       c.climb-moved.ensures.short,
       c.climb-moved.ensures.places,
       ap length c.came.ensures,
@@ -81,18 +45,16 @@ record_root-first-requires-clause-placed g c =
 pub record_root-first-requires-clause-counts : goal.record_root-first-requires-clause-counts
 record_root-first-requires-clause-counts g c =
     let bs = blocks_in c.args.tree.now.pending in
-    let begun = begun_at c.args.params.now c.args.votes.now c.args.tree.now.last c.args.tree.now.pending c.start_all.new.ladder.climbers c.last-last.ensures.grown c.start_all.ensures.same c.requires.counts c.requires.total in
     rw c.came.ensures
     (of_group (λ x. 0 < x.count) 0 c.climb-moved.new.ladder.climbers c.take.new.self.came c.take.ensures.came
-    (all_back (λ x. 0 < x.count) (cursor_of bs) c.climb-moved.new.ladder.climbers (c.climb-moved.ensures.climbing c.args.votes.now begun).counts))
+    (all_back (λ x. 0 < x.count) (cursor_of bs) c.climb-moved.new.ladder.climbers (c.climb-moved.ensures.climbing c.requires.begun.0 c.requires.begun.1).counts))
 
 pub record_root-first-requires-clause-total : goal.record_root-first-requires-clause-total
 record_root-first-requires-clause-total g c =
     let bs = blocks_in c.args.tree.now.pending in
-    let begun = begun_at c.args.params.now c.args.votes.now c.args.tree.now.last c.args.tree.now.pending c.start_all.new.ladder.climbers c.last-last.ensures.grown c.start_all.ensures.same c.requires.counts c.requires.total in
     omega (
       arith,
-      (c.climb-moved.ensures.climbing c.args.votes.now begun).total,
+      (c.climb-moved.ensures.climbing c.requires.begun.0 c.requires.begun.1).total,
       same_total bs c.climb-moved.new.ladder.climbers,
       ap climber_total c.came.ensures,
       group_total 0 c.climb-moved.new.ladder.climbers c.take.new.self.came c.take.ensures.came,
@@ -103,8 +65,7 @@ record_root-first-requires-clause-came g c =
     let held = c.args.tree.now in
     let next = c.climb-moved.new.tree in
     let cs = c.climb-moved.new.ladder.climbers in
-    let begun = begun_at c.args.params.now c.args.votes.now held.last held.pending c.start_all.new.ladder.climbers c.last-last.ensures.grown c.start_all.ensures.same c.requires.counts c.requires.total in
-    let climbing = c.climb-moved.ensures.climbing c.args.votes.now begun in
+    let climbing = c.climb-moved.ensures.climbing c.requires.begun.0 c.requires.begun.1 in
     let came = c.take.new.self.came in
     let come = group_come_last held.last (blocks_in held.pending) no_block cs came c.last-last.ensures.grown climbing.below climbing.came c.climb-moved.ensures.placed c.take.ensures.came in
     rw c.came.ensures
@@ -120,13 +81,12 @@ record_root-first-requires-clause-fit g c =
 
 pub returns-clause-board : goal.returns-clause-board
 returns-clause-board g c =
+    λ votes begun.
     let p = c.args.params.now in
-    let votes = c.args.votes.now in
     let held = c.args.tree.now in
     let next = c.climb-moved.new.tree in
     let bs = blocks_in held.pending in
     let climbers = c.climb-moved.new.ladder.climbers in
-    let begun = begun_at p votes held.last held.pending c.start_all.new.ladder.climbers c.last-last.ensures.grown c.start_all.ensures.same c.requires.counts c.requires.total in
     let took = c.record_root-first.ensures.taken (children_of bs held.last) c.requires.fit.root in
     let here : votes_at (cursors_of (blocks_in next.pending) c.came.result.now) next.last ≡ votes_at (cursors_of bs c.take.new.self.came) held.last =
     λ i. votes_at (cursors_of (c.climb-moved.ensures.blocks i) (c.came.ensures i)) (c.climb-moved.ensures.rest i).last
@@ -160,13 +120,12 @@ returns-clause-steady g c =
 
 pub returns-clause-steps : goal.returns-clause-steps
 returns-clause-steps g c =
+    λ votes begun.
     let p = c.args.params.now in
-    let votes = c.args.votes.now in
     let held = c.args.tree.now in
     let bs = blocks_in held.pending in
     let climbers = c.climb-moved.new.ladder.climbers in
     let cs = cursors_of bs climbers in
-    let begun = begun_at p votes held.last held.pending c.start_all.new.ladder.climbers c.last-last.ensures.grown c.start_all.ensures.same c.requires.counts c.requires.total in
     let climbing = c.climb-moved.ensures.climbing votes begun in
     let come = have_come_last held.last bs no_block climbers c.last-last.ensures.grown climbing.below climbing.came c.climb-moved.ensures.placed in
     let came = came_last p votes held.last bs cs c.last-last.ensures.grown climbing in

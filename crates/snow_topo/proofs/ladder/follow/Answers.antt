@@ -1,5 +1,5 @@
-use Rattle.std.proofs.Common.{◌≡◌, ◌-◌, ◌<◌, ◌≤◌, length, get_or, rules, ap, subst, sym, ◌∙◌, arith}
-use Rattle.snow_topo.specs.Ladder.{no_link, group}
+use Rattle.std.proofs.Common.{◌-◌, ◌<◌, length, get_or, rules, subst, sym, ◌∙◌, arith}
+use Rattle.snow_topo.specs.Ladder.{no_link}
 use Rattle.snow_topo.proofs.Hung.{IsFollowed, followed_within, followed_room, followed_more, followed_falls, followed_all}
 use Rattle.snow_topo.proofs.ladder.follow.Goals as goal
 

@@ -1,14 +1,12 @@
-use Rattle.std.proofs.Common.{◌≡◌, ◌<◌, ◌+◌, ◌*◌, ◌≤◌, ℕ, nat_le, [], Bool, List, Some, All, IsPermutation, length, slice_get, rules, sym, ap, subst, ◌∙◌, arith, if◌then◌else◌}
+use Rattle.std.proofs.Common.{◌≡◌, ◌<◌, ◌+◌, ◌*◌, ◌≤◌, ℕ, nat_le, [], Bool, List, IsPermutation, length, slice_get, rules, sym, ap, subst, ◌∙◌, arith, if◌then◌else◌}
 use Rattle.std.proofs.lemmas.List.{length-map}
 use Rattle.std.proofs.lemmas.Option.{slice_get_within}
-use Rattle.snow_base.specs.declared.header.Header.{Header}
 use Rattle.snow_plain.specs.Cursors.{votes_at}
 use Rattle.snow_tree.specs.Held.{blocks_in}
-use Rattle.snow_topo.specs.declared.climber.Climber.{Climber}
 use Rattle.snow_topo.specs.Kept.{ids_in}
 use Rattle.snow_topo.specs.Half.{HasTaken}
 use Rattle.snow_topo.specs.Climbing.{climber_total, cursor_of, cursors_of, parent_in, reach}
-use Rattle.snow_topo.specs.Ladder.{Rungs, under, up_from}
+use Rattle.snow_topo.specs.Ladder.{Rungs}
 use Rattle.snow_topo.proofs.Climbers.{all_back, same_total, highest_place, of_group, group_total, group_few, votes_of_group, passed_on, merged_on, placed_on}
 use Rattle.snow_topo.proofs.Climbs.{block_at, entry_at, blocks_after, parent_reach, group_come, group_others, some_of}
 use Rattle.snow_topo.proofs.Merged.{all_came}

@@ -1,6 +1,5 @@
 use Rattle.std.proofs.Common.{◌≡◌, ◌<◌, ◌≤◌, ℕ, List, length, get_or, All, IsPermutation, vec_capacity, sym, ap, subst, ◌∙◌, arith}
 use Rattle.std.proofs.lemmas.Grind.{get_or_default_zero}
-use Rattle.snow_topo.specs.declared.climber.Climber.{Climber}
 use Rattle.snow_topo.specs.declared.ladder.Link.{Link}
 use Rattle.snow_topo.specs.Ladder.{Rungs, climbers_of, under, up_from, latest, group, IsHung}
 use Rattle.snow_topo.proofs.Hung.{under_twice, taken_off, few_taken, rung_empty, written}

@@ -1,0 +1,40 @@
+-- The votes of a poll before they climb: some stand past their own blocks already, others wait.
+use Rattle.std.specs.Prelude.{◌≡◌, ℕ, ◌+◌, ◌<◌, ◌≤◌, Bool, List, length, sum_by, filter_map, All, IsPermutation, if◌then◌else◌}
+use Rattle.snow_base.specs.declared.vote.Vote.{Vote}
+use Rattle.snow_flake.specs.Parameters.{Parameters}
+use Rattle.snow_tree.specs.Held.{Entry, blocks_in}
+use Rattle.snow_topo.specs.declared.climber.Climber.{Climber}
+use Rattle.snow_topo.specs.Kept.{Kept}
+use Rattle.snow_topo.specs.Climbing.{begun, cursors_of, ArePlaced}
+use Rattle.snow_topo.specs.Half.{AreClimbing}
+use Rattle.snow_topo.specs.Ladder.{Rungs}
+
+-- votes for an identifier that passes a test
+abbrev pub share : (List ℕ → Bool) → Vote → ℕ
+share test v = if test v.id then v.count else 0
+
+-- how many of these votes are for such identifiers
+abbrev pub votes_by : (List ℕ → Bool) → List Vote → ℕ
+votes_by test votes = sum_by (share test) votes
+
+-- how many of these identifiers pass
+abbrev pub ids_by : (List ℕ → Bool) → List (List ℕ) → ℕ
+ids_by test ids = sum_by (λ id. if test id then 1 else 0) ids
+
+-- votes stand past their own blocks; by each test of identifiers they are, with those that wait, as many as were counted
+pub record HaveStarted (pending : List (Entry Kept)) (waiting counted : (List ℕ → Bool) → ℕ) (climbers : List Climber) : Type 0 where
+  pub votes : List Vote
+  pub placed : IsPermutation (filter_map (begun pending) votes) climbers
+  pub some : All (λ v. 0 < v.count) votes
+  pub same : (test : List ℕ → Bool) → votes_by test votes + waiting test ≡ counted test
+
+-- the votes of a poll stand on a ladder past their own blocks
+abbrev pub HaveBegun : Parameters → List Vote → List (Entry Kept) → Rungs → Type 0
+HaveBegun p votes pending ladder = AreClimbing p votes (blocks_in pending) (length pending) (cursors_of (blocks_in pending) ladder.climbers)
+
+-- and it has room for their climb
+pub record IsLoaded (pending : List (Entry Kept)) (ladder : Rungs) : Type 0 where
+  pub placed : ArePlaced (blocks_in pending) ladder.climbers
+  pub put : ladder.put + length pending ≤ ladder.most
+  pub wide : length ladder.climbers ≤ ladder.wide
+  pub low : length pending < ladder.low
