@@ -1,6 +1,7 @@
 //! What every node does with its board and its chain: a block is admitted, a poll applied.
 
-ghost use Rattle.std.specs.Prelude.{◌≡◌, ◌+◌, ◌≤◌, ◌==◌, None, IfOk, OnErr};
+ghost use Rattle.std.specs.Prelude.{◌≡◌, ◌+◌, ◌≤◌, ◌==◌, None, length, IfOk, OnOk, OnErr};
+ghost use Rattle.snow_base.specs.Gathered.{one_each};
 ghost use Rattle.snow_base.specs.Votes.{total_count};
 ghost use Rattle.snow_plain.specs.Board.{height_of};
 ghost use Rattle.snow_plain.specs.Poll.{poll};
@@ -11,7 +12,7 @@ ghost use Rattle.snow_node.specs.Placing.{opposed};
 ghost use Rattle.snow_node.specs.Telling.{with_decisions};
 
 use crate::telling;
-use snow_base::{Bag, Header};
+use snow_base::{Bag, Header, Id};
 use snow_chain::Chain;
 use snow_lines::DropWhy;
 use snow_plain::Board;
@@ -87,4 +88,26 @@ pub fn apply<C: Chain, B: Board>(board: &mut B, chain: &mut C, votes: &Bag)
 {
     board.apply_poll(votes);
     telling::tell(chain, board.decisions());
+}
+
+/// The same of a poll with one vote for each of these identifiers. After want of memory all is as before.
+#[tactic(auto, using(crate::proofs::Offers::poll_keeps))]
+pub fn apply_votes<C: Chain, B: Board>(
+    board: &mut B,
+    chain: &mut C,
+    ids: &[Id],
+) -> Result<(), AllocError>
+    requires steady { IsSteady (B.board board.old) (C.held chain.old) }
+    requires few { length ids.now ≤ (B.board board.old).parameters.k }
+    ensures board { OnOk result (B.board board.new ≡ (poll (B.board board.old) (one_each ids.now)).0) }
+    ensures decided { OnOk result (B.decided board.new ≡ (poll (B.board board.old) (one_each ids.now)).1) }
+    ensures held { OnOk result (C.held chain.new ≡ with_decisions (C.held chain.old) (poll (B.board board.old) (one_each ids.now)).1) }
+    ensures board_stays { OnErr result (B.board board.new ≡ B.board board.old) }
+    ensures held_stays { OnErr result (C.held chain.new ≡ C.held chain.old) }
+    ensures steady { IsSteady (B.board board.new) (C.held chain.new) }
+    ensures parameters { (B.board board.new).parameters ≡ (B.board board.old).parameters }
+{
+    board.apply_votes(ids)?;
+    telling::tell(chain, board.decisions());
+    Ok(())
 }

@@ -8,7 +8,7 @@ mod running;
 mod stop;
 mod telling;
 
-pub use admitting::{admit, apply, opposition};
+pub use admitting::{admit, apply, apply_votes, opposition};
 pub use laws::completion_law;
 pub use reporting::{tell, write};
 pub use running::{Running, roster_of};
