@@ -1,6 +1,7 @@
 -- Lemmas on bytes that wait in a buffer, one piece after another.
-use Rattle.std.proofs.Common.{◌≡◌, ℕ, ◌+◌, ◌<◌, List, [], ◌++◌, take, drop, length, get_or, flat_map, Option, Some, None, sym, ap, ◌∙◌, append_assoc, append-nil}
+use Rattle.std.proofs.Common.{◌≡◌, ℕ, ◌+◌, ◌<◌, List, [], ◌++◌, take, drop, length, get_or, flat_map, Option, Some, None, Result, Ok, Err, refl, sym, ap, ◌∙◌, append_assoc, append-nil}
 use Rattle.std.specs.Io.KnownBytes.{Appends}
+use Rattle.std.specs.Result.{OnOk, OnErr}
 use Rattle.snow_base.proofs.Known.{front_of_more, flat_map_more, flat_map_split}
 use Rattle.snow_base.specs.Outside.{AppendsFront}
 use Rattle.snow_lines.specs.Gathered.{Gathers}
@@ -81,6 +82,21 @@ pub gathers_next : {A : Type 0} (f : A → List ℕ) (xs : List A) (i : ℕ) (d 
     → Gathers a t b u (flat_map f (take i xs)) → Gathers b u c v piece → piece ≡ f (get_or xs i d) → Gathers a t c v (flat_map f (take (i + 1) xs))
 gathers_next f xs i d a b c t u v piece h p q e =
     gathers_then a b c t u v (flat_map f (take i xs)) piece _ p q (ap (λ l. flat_map f (take i xs) ++ l) e ∙ sym (flat_map_more f xs i d h))
+
+-- the call for the first of two pieces failed
+pub err_first : {T E : Type 0} (r : Result T E) (a b : Option (List ℕ)) (t first second : List ℕ) → AppendsFront a b (t ++ first) → OnErr r (AppendsFront a b (t ++ (first ++ second)))
+err_first (Ok x) a b t first second p = tt
+err_first (Err e) a b t first second p = fails_first a b t first second p
+
+-- a piece came, and then the next, unless its call failed
+pub ok_then : {T E : Type 0} (r : Result T E) (a b c : Option (List ℕ)) (t u v first second : List ℕ) → Gathers a t b u first → OnOk r (Gathers b u c v second) → OnOk r (Gathers a t c v (first ++ second))
+ok_then (Ok x) a b c t u v first second p q = gathers_then a b c t u v first second (first ++ second) p q refl
+ok_then (Err e) a b c t u v first second p q = tt
+
+-- a piece came, and where the call for the next failed, a front of what waits and both
+pub err_then : {T E : Type 0} (r : Result T E) (a b c : Option (List ℕ)) (t u first second : List ℕ) → Gathers a t b u first → OnErr r (AppendsFront b c (u ++ second)) → OnErr r (AppendsFront a c (t ++ (first ++ second)))
+err_then (Ok x) a b c t u first second p q = tt
+err_then (Err e) a b c t u first second p q = gathers_then_front a b c t u first second (t ++ (first ++ second)) p q refl
 
 -- what lemmas on gathered pieces a caller wants
 pub ruleset gathering = (gathers_none, gathers_waiting, gathers_written, gathers_then, gathers_then_front, gathers_then_written, fails_first)

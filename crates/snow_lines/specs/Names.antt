@@ -54,3 +54,19 @@ kind_of word = find (λ x. bytes_eq word (kind_word x)) (kind.Tag ∷ kind.Short
 -- the first with this word
 abbrev pub line_kind_of : List ℕ → Option Kind
 line_kind_of word = find (λ x. bytes_eq word (line_name x)) (line.Query ∷ line.Get ∷ line.Frontier ∷ line.Accepted ∷ line.Ancestors ∷ line.Accept ∷ line.Reject ∷ line.Prefer ∷ line.Drop ∷ line.DropQuery ∷ line.Skip ∷ line.Restart ∷ line.Bootstrapped ∷ line.ToChits ∷ line.ToFrontier ∷ line.ToAccepted ∷ line.ToAncestors ∷ line.ToBlock ∷ [])
+
+-- the kinds of the lines that ask nodes
+abbrev pub asking : List Kind
+asking = line.Query ∷ line.Get ∷ line.Frontier ∷ line.Accepted ∷ line.Ancestors ∷ []
+
+-- the kinds of the lines that tell what was done
+abbrev pub telling : List Kind
+telling = line.Accept ∷ line.Reject ∷ line.Prefer ∷ line.Drop ∷ line.DropQuery ∷ line.Skip ∷ line.Restart ∷ line.Bootstrapped ∷ []
+
+-- the kinds of the lines that answer peers
+abbrev pub answering : List Kind
+answering = line.ToChits ∷ line.ToFrontier ∷ line.ToAccepted ∷ line.ToAncestors ∷ line.ToBlock ∷ []
+
+-- the first of these with this word
+abbrev pub kind_in : List Kind → List ℕ → Option Kind
+kind_in kinds word = find (λ x. bytes_eq word (line_name x)) kinds

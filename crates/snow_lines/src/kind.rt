@@ -1,3 +1,7 @@
+ghost use Rattle.std.specs.Prelude.{◌≡◌, ◌++◌};
+ghost use Rattle.std.specs.Str.{bytes_eq};
+ghost use Rattle.snow_lines.specs.Names.{answering, asking, kind_in, telling};
+
 /// The kinds of lines.
 #[derive(Clone, Copy, Debug, PartialEq, Eq)]
 pub enum Kind {
@@ -56,44 +60,89 @@ impl Kind {
     pub fn of(word: &[u8]) -> Option<Self>
         ensures { result ≡ line_kind_of word.now }
     {
-        if word == b"query".as_slice() {
-            Some(Kind::Query)
-        } else if word == b"get".as_slice() {
-            Some(Kind::Get)
-        } else if word == b"frontier".as_slice() {
-            Some(Kind::Frontier)
-        } else if word == b"accepted".as_slice() {
-            Some(Kind::Accepted)
-        } else if word == b"ancestors".as_slice() {
-            Some(Kind::Ancestors)
-        } else if word == b"accept".as_slice() {
-            Some(Kind::Accept)
-        } else if word == b"reject".as_slice() {
-            Some(Kind::Reject)
-        } else if word == b"prefer".as_slice() {
-            Some(Kind::Prefer)
-        } else if word == b"drop".as_slice() {
-            Some(Kind::Drop)
-        } else if word == b"drop-query".as_slice() {
-            Some(Kind::DropQuery)
-        } else if word == b"skip".as_slice() {
-            Some(Kind::Skip)
-        } else if word == b"restart".as_slice() {
-            Some(Kind::Restart)
-        } else if word == b"bootstrapped".as_slice() {
-            Some(Kind::Bootstrapped)
-        } else if word == b"to-chits".as_slice() {
-            Some(Kind::ToChits)
-        } else if word == b"to-frontier".as_slice() {
-            Some(Kind::ToFrontier)
-        } else if word == b"to-accepted".as_slice() {
-            Some(Kind::ToAccepted)
-        } else if word == b"to-ancestors".as_slice() {
-            Some(Kind::ToAncestors)
-        } else if word == b"to-block".as_slice() {
-            Some(Kind::ToBlock)
-        } else {
-            None
+        match asking(word) {
+            Some(kind) => Some(kind),
+            None => not_asking(word),
         }
     }
+}
+
+// The same among the kinds that don't ask.
+fn not_asking(word: &[u8]) -> Option<Kind>
+    ensures { result ≡ kind_in (telling ++ answering) word.now }
+{
+    match telling(word) {
+        Some(kind) => Some(kind),
+        None => answering(word),
+    }
+}
+
+// The same among the kinds that ask nodes.
+fn asking(word: &[u8]) -> Option<Kind>
+    ensures { result ≡ kind_in asking word.now }
+{
+    if is(word, b"query") {
+        Some(Kind::Query)
+    } else if is(word, b"get") {
+        Some(Kind::Get)
+    } else if is(word, b"frontier") {
+        Some(Kind::Frontier)
+    } else if is(word, b"accepted") {
+        Some(Kind::Accepted)
+    } else if is(word, b"ancestors") {
+        Some(Kind::Ancestors)
+    } else {
+        None
+    }
+}
+
+// The same among the kinds that tell what was done.
+fn telling(word: &[u8]) -> Option<Kind>
+    ensures { result ≡ kind_in telling word.now }
+{
+    if is(word, b"accept") {
+        Some(Kind::Accept)
+    } else if is(word, b"reject") {
+        Some(Kind::Reject)
+    } else if is(word, b"prefer") {
+        Some(Kind::Prefer)
+    } else if is(word, b"drop") {
+        Some(Kind::Drop)
+    } else if is(word, b"drop-query") {
+        Some(Kind::DropQuery)
+    } else if is(word, b"skip") {
+        Some(Kind::Skip)
+    } else if is(word, b"restart") {
+        Some(Kind::Restart)
+    } else if is(word, b"bootstrapped") {
+        Some(Kind::Bootstrapped)
+    } else {
+        None
+    }
+}
+
+// The same among the kinds that answer peers.
+fn answering(word: &[u8]) -> Option<Kind>
+    ensures { result ≡ kind_in answering word.now }
+{
+    if is(word, b"to-chits") {
+        Some(Kind::ToChits)
+    } else if is(word, b"to-frontier") {
+        Some(Kind::ToFrontier)
+    } else if is(word, b"to-accepted") {
+        Some(Kind::ToAccepted)
+    } else if is(word, b"to-ancestors") {
+        Some(Kind::ToAncestors)
+    } else if is(word, b"to-block") {
+        Some(Kind::ToBlock)
+    } else {
+        None
+    }
+}
+
+/// Whether a word is this name.
+pub(crate) fn is(word: &[u8], name: &[u8]) -> bool
+    ensures { result ≡ bytes_eq word.now name.now }
+{
+    word == name
 }

@@ -188,7 +188,6 @@ fn put_some<G: Gather, K: Sink>(
 }
 
 /// Appends one part and then another.
-#[tactic(auto, using(crate::proofs::Waiting::gathering, snow_base::proofs::Known::appending))]
 pub fn put_two<A: Part, B: Part, G: Gather, K: Sink>(
     out: &mut G,
     a: &A,
@@ -204,7 +203,6 @@ pub fn put_two<A: Part, B: Part, G: Gather, K: Sink>(
 }
 
 /// Appends one part and then two.
-#[tactic(auto, using(crate::proofs::Waiting::gathering, snow_base::proofs::Known::appending))]
 pub fn put_three<A: Part, B: Part, C: Part, G: Gather, K: Sink>(
     out: &mut G,
     a: &A,
@@ -221,7 +219,6 @@ pub fn put_three<A: Part, B: Part, C: Part, G: Gather, K: Sink>(
 }
 
 /// Appends one part and then three.
-#[tactic(auto, using(crate::proofs::Waiting::gathering, snow_base::proofs::Known::appending))]
 pub fn put_four<A: Part, B: Part, C: Part, D: Part, G: Gather, K: Sink>(
     out: &mut G,
     a: &A,
@@ -239,7 +236,6 @@ pub fn put_four<A: Part, B: Part, C: Part, D: Part, G: Gather, K: Sink>(
 }
 
 /// Appends one part and then four.
-#[tactic(auto, using(crate::proofs::Waiting::gathering, snow_base::proofs::Known::appending))]
 pub fn put_five<A: Part, B: Part, C: Part, D: Part, E: Part, G: Gather, K: Sink>(
     out: &mut G,
     a: &A,

@@ -1,3 +1,5 @@
+use crate::kind::is;
+
 /// Why a block is given up.
 #[derive(Clone, Copy, Debug, PartialEq, Eq)]
 pub enum DropWhy {
@@ -139,13 +141,13 @@ impl DropWhy {
     pub(crate) fn of(word: &[u8]) -> Option<Self>
         ensures { result ≡ why_of word.now }
     {
-        if word == b"parent".as_slice() {
+        if is(word, b"parent") {
             Some(DropWhy::Parent)
-        } else if word == b"full".as_slice() {
+        } else if is(word, b"full") {
             Some(DropWhy::Full)
-        } else if word == b"invalid".as_slice() {
+        } else if is(word, b"invalid") {
             Some(DropWhy::Invalid)
-        } else if word == b"old".as_slice() {
+        } else if is(word, b"old") {
             Some(DropWhy::Old)
         } else {
             None
@@ -161,11 +163,11 @@ impl QueryWhy {
     pub(crate) fn of(word: &[u8]) -> Option<Self>
         ensures { result ≡ query_of word.now }
     {
-        if word == b"full".as_slice() {
+        if is(word, b"full") {
             Some(QueryWhy::Full)
-        } else if word == b"units".as_slice() {
+        } else if is(word, b"units") {
             Some(QueryWhy::Units)
-        } else if word == b"words".as_slice() {
+        } else if is(word, b"words") {
             Some(QueryWhy::Words)
         } else {
             None
@@ -181,9 +183,9 @@ impl RestartWhy {
     pub(crate) fn of(word: &[u8]) -> Option<Self>
         ensures { result ≡ restart_of word.now }
     {
-        if word == b"frontier".as_slice() {
+        if is(word, b"frontier") {
             Some(RestartWhy::Frontier)
-        } else if word == b"accepted".as_slice() {
+        } else if is(word, b"accepted") {
             Some(RestartWhy::Accepted)
         } else {
             None
@@ -199,25 +201,25 @@ impl SkipKind {
     pub(crate) fn of(word: &[u8]) -> Option<Self>
         ensures { result ≡ kind_of word.now }
     {
-        if word == b"tag".as_slice() {
+        if is(word, b"tag") {
             Some(SkipKind::Tag)
-        } else if word == b"short".as_slice() {
+        } else if is(word, b"short") {
             Some(SkipKind::Short)
-        } else if word == b"extra".as_slice() {
+        } else if is(word, b"extra") {
             Some(SkipKind::Extra)
-        } else if word == b"count".as_slice() {
+        } else if is(word, b"count") {
             Some(SkipKind::Count)
-        } else if word == b"task".as_slice() {
+        } else if is(word, b"task") {
             Some(SkipKind::Task)
-        } else if word == b"stage".as_slice() {
+        } else if is(word, b"stage") {
             Some(SkipKind::Stage)
-        } else if word == b"votes".as_slice() {
+        } else if is(word, b"votes") {
             Some(SkipKind::Votes)
-        } else if word == b"full".as_slice() {
+        } else if is(word, b"full") {
             Some(SkipKind::Full)
-        } else if word == b"block".as_slice() {
+        } else if is(word, b"block") {
             Some(SkipKind::Block)
-        } else if word == b"nodes".as_slice() {
+        } else if is(word, b"nodes") {
             Some(SkipKind::Nodes)
         } else {
             None
