@@ -104,7 +104,10 @@ impl<C: Chain> Booting<C> {
         ensures lines { Logs result log.old log.new (model.boots_on C.rules self frame event.now).0 }
     {
         match event {
-            Event::Start(_) => Err(EngineStop::SecondStart),
+            Event::Start(_) => {
+                drop(self);
+                Err(EngineStop::SecondStart)
+            }
             Event::Words { words } => self.take_words(frame, words, log),
             Event::Poll { .. } | Event::Line { .. } => self.pass_over(frame, SkipKind::Task, log),
             Event::Block { .. }
@@ -134,8 +137,14 @@ impl<C: Chain> Booting<C> {
         ensures answer { Starts result (model.passed_over self frame kind).1 }
         ensures lines { Logs result log.old log.new (model.passed_over self frame kind).0 }
     {
-        log.push(Line::Skip { frame, kind })?;
-        Ok(Stage::Booting(self))
+        // (a node is let go by a call: it is many steps, which stand in one place then)
+        match log.push(Line::Skip { frame, kind }) {
+            Ok(()) => Ok(Stage::Booting(self)),
+            Err(_) => {
+                drop(self);
+                Err(EngineStop::Memory)
+            }
+        }
     }
 
     /// Words came.
@@ -152,8 +161,13 @@ impl<C: Chain> Booting<C> {
         if words.list().len() > MOST_WORDS - self.words.len() {
             return self.pass_over(frame, SkipKind::Full, log);
         }
-        self.words.push_all(words.list())?;
-        Ok(Stage::Booting(self))
+        match self.words.push_all(words.list()) {
+            Ok(()) => Ok(Stage::Booting(self)),
+            Err(_) => {
+                drop(self);
+                Err(EngineStop::Memory)
+            }
+        }
     }
 
     /// An answer came, or none will, or a block that was stored; the node runs once it has caught up.
@@ -167,16 +181,24 @@ impl<C: Chain> Booting<C> {
         ensures answer { Starts result (model.came_to self (model.heard C.rules self.state self.boot self.last frame event.now)).1 }
         ensures lines { Logs result log.old log.new (model.came_to self (model.heard C.rules self.state self.boot self.last frame event.now)).0 }
     {
-        match hear(
+        let came = match hear(
             &mut self.boot,
             &mut self.chain,
             &mut self.numbers,
             frame,
             event,
             log,
-        )? {
+        ) {
+            Ok(came) => came,
+            Err(stop) => {
+                drop(self.boot);
+                return Err(EngineStop::from(stop));
+            }
+        };
+        match came {
             BootStage::Going => Ok(Stage::Booting(self)),
             BootStage::Done { last, height } => {
+                drop(self.boot);
                 let node = Running::above(
                     self.alloc,
                     self.params,

@@ -14,14 +14,14 @@ invariant_of-self g c =
     let now = g.C.Chain.held c.hear.new.chain in
     record {
       good = c.self.invariant.good;
-      may = subst (λ (s : Stage). OnGoing (Ok s) (MayGoOn c.hear.new.boot now c.hear.new.numbers)) c.in-Going.is c.in_ok-hear.ensures.goes_on;
+      may = subst (λ (s : Stage). OnGoing (Ok s) (MayGoOn c.hear.new.boot now c.hear.new.numbers)) c.in-Going.is c.in-Ok.ensures.goes_on;
       small = still_fits g.C.Chain.rules (last_state held) c.self.inside.boot.boot c.hear.new.boot.boot c.self.inside.numbers c.hear.new.numbers c.args.frame c.args.event.now
           (subst (λ (s : Stage). Brings (Ok s) c.hear.new.boot.boot c.hear.new.numbers now
-          (heard g.C.Chain.rules (last_state held) c.self.inside.boot.boot c.self.inside.numbers c.args.frame c.args.event.now).1) c.in-Going.is c.in_ok-hear.ensures.answer)
+          (heard g.C.Chain.rules (last_state held) c.self.inside.boot.boot c.self.inside.numbers c.args.frame c.args.event.now).1) c.in-Going.is c.in-Ok.ensures.answer)
           c.self.invariant.small;
     }
 
 pub returns-in_ok-node-in-Done-clause-lines : goal.returns-in_ok-node-in-Done-clause-lines
 returns-in_ok-node-in-Done-clause-lines g c =
-    c.in_ok-hear.ensures.lines
+    c.in-Ok.ensures.lines
     ∙ ap (λ (n : Booting). c.args.log.now ++ (heard g.C.Chain.rules n.state n.boot n.last c.args.frame c.args.event.now).0) c.self.view_is
