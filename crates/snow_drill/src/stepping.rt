@@ -11,15 +11,15 @@ use std::alloc::AllocError;
 impl<E: Driven> Player<E> {
     // The next event. Its lines go to a log that is empty before. A stop, which none comes to, and a
     // count past 64 bits are told as want of memory.
-    fn event(&mut self, event: Event, log: &mut Lines) -> Result<(), AllocError>
+    fn event(&mut self, event: &Event, log: &mut Lines) -> Result<(), AllocError>
         requires { log.old ≡ [] }
-        ensures follows { OnOk result (Follows self.old self.new (λ d. model.with_event E.step d event)) }
-        ensures lines { OnOk result ((d : model.Drill E) → Plays self.old d → log.new ≡ (model.comes E.step d event).0) }
+        ensures follows { OnOk result (Follows self.old self.new (λ d. model.with_event E.step d event.now)) }
+        ensures lines { OnOk result ((d : model.Drill E) → Plays self.old d → log.new ≡ (model.comes E.step d event.now).0) }
     {
         let Some(frame) = self.frame.checked_add(1) else {
             return Err(AllocError);
         };
-        self.node.drive(frame, &event, log)?;
+        self.node.drive(frame, event, log)?;
         self.frame = frame;
         self.account.keep(log.list())
     }
@@ -31,23 +31,39 @@ impl<E: Driven> Player<E> {
         let Line::Get { number, node, .. } = line else {
             return Ok(());
         };
+        let mut log = Lines::new(self.alloc);
         let event = Event::Timeout {
             node: *node,
             request: *number,
         };
-        self.event(event, &mut Lines::new(self.alloc))
+        let came = self.event(&event, &mut log);
+        drop(event);
+        drop(log);
+        came
     }
 
-    /// The next event, and a Timeout for each block that it asks for.
+    // The same with the Timeouts that follow. The log is empty before.
     #[tactic(auto, unfolding(crate::specs::Drill::with_timeouts))]
-    pub fn make(&mut self, event: Event) -> Result<(), AllocError>
-        ensures { OnOk result (Follows self.old self.new (λ d. model.with_timeouts E.step d event)) }
+    fn event_on(&mut self, event: &Event, log: &mut Lines) -> Result<(), AllocError>
+        requires { log.old ≡ [] }
+        ensures { OnOk result (Follows self.old self.new (λ d. model.with_timeouts E.step d event.now)) }
     {
-        let mut log = Lines::new(self.alloc);
-        self.event(event, &mut log)?;
+        self.event(event, log)?;
         for line in log.list() {
             self.time_out(line)?;
         }
         Ok(())
+    }
+
+    /// The next event, and a Timeout for each block that it asks for.
+    pub fn make(&mut self, event: Event) -> Result<(), AllocError>
+        ensures { OnOk result (Follows self.old self.new (λ d. model.with_timeouts E.step d event)) }
+    {
+        let mut log = Lines::new(self.alloc);
+        let came = self.event_on(&event, &mut log);
+        // (by calls, and once: what lets go of an event is many steps)
+        drop(event);
+        drop(log);
+        came
     }
 }

@@ -6,6 +6,7 @@ ghost use Rattle.snow_drill.specs.Following.{Digests};
 ghost use Rattle.snow_drill.specs.Summary.{number_line, digits_line, summary_of};
 
 use crate::account::Account;
+use crate::tally::Tally;
 use sha2::Digest;
 use snow_base::Bytes;
 use snow_lines::Text;
@@ -17,13 +18,28 @@ pub fn summary(alloc: Global, blocks: u32, account: Account) -> Result<Bytes, Al
         → IfOk result (λ text. text ≡ summary_of blocks account.tally (sha256 (texts lines))) }
 {
     let Account { tally, hasher, .. } = account;
+    let text = six_lines(alloc, blocks, &tally, &hasher.finalize());
+    // (by a call, and once: what lets go of a tally is many steps)
+    drop(tally);
+    text
+}
+
+// The six lines, of which the last has this digest.
+fn six_lines(
+    alloc: Global,
+    blocks: u32,
+    tally: &Tally,
+    digest: &[u8; 32],
+) -> Result<Bytes, AllocError>
+    ensures { IfOk result (λ text. text ≡ summary_of blocks tally.now digest.now) }
+{
     let mut text = Bytes::new(alloc);
     put_number(&mut text, b"blocks", u64::from(blocks))?;
     put_number(&mut text, b"accepted", tally.accepted())?;
     put_number(&mut text, b"rejected", tally.rejected())?;
     put_number(&mut text, b"polls", tally.answered())?;
     put_digits(&mut text, b"last", tally.last().as_bytes())?;
-    put_digits(&mut text, b"sha256", &hasher.finalize())?;
+    put_digits(&mut text, b"sha256", digest)?;
     Ok(text)
 }
 
