@@ -1,4 +1,4 @@
-ghost use Rattle.std.specs.Prelude.{◌≡◌, ◌<◌, ◌≤◌, [], ◌∷◌, ◌++◌, drop, length, map, option_and_then, option_map, string_bytes, IfOk, IfSome, MatchOption, OnOk};
+ghost use Rattle.std.specs.Prelude.{◌≡◌, ◌<◌, ◌≤◌, [], ◌∷◌, ◌++◌, bytes_eq, drop, length, map, option_and_then, option_map, string_bytes, IfOk, IfSome, MatchOption, OnOk};
 ghost use Rattle.snow_cli.specs.Request.{Advances, Comes, Puts, behind_dash, blank, form_seen, texts, with_items};
 ghost use Rattle.snow_cli.specs.Parsing.{is_word, is_word_or_none, option_word, ordered};
 ghost use Rattle.snow_cli.specs.Words.{Plain, first_items, form_of, has_dash, items, named_items, option_form};
@@ -76,16 +76,16 @@ impl<'a> Asked<'a> {
     fn set_value(&mut self, name: &str, value: &'a str) -> bool
         ensures { Comes result self.new (with_value self.old name.now value.entry.now) }
     {
-        if name == "chain" {
+        if is(name, "chain") {
             return put(&mut self.chain, value);
         }
-        if name == "rule" {
+        if is(name, "rule") {
             return put(&mut self.rule, value);
         }
-        if name == "seed" {
+        if is(name, "seed") {
             return put(&mut self.seed, value);
         }
-        if name == "blocks" {
+        if is(name, "blocks") {
             return put(&mut self.blocks, value);
         }
         false
@@ -142,6 +142,13 @@ impl<'a> Asked<'a> {
         put_option(alloc, &mut list, "blocks", self.blocks)?;
         Ok(list)
     }
+}
+
+/// Whether a name is this one.
+fn is(name: &str, other: &str) -> bool
+    ensures { result ≡ bytes_eq name.now other.now }
+{
+    name == other
 }
 
 /// Puts the first of some words into its place. It answers whether it is the first.
