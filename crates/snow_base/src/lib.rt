@@ -29,6 +29,3 @@ pub use pure::{PureSink, PureSource};
 pub use sides::split;
 pub use steps::Steps;
 pub use vote::Vote;
-
-#[cfg(test)]
-mod tests;

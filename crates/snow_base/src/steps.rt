@@ -40,24 +40,3 @@ impl<L: Ledger> Steps<L> {
         self.book.add(&mut self.share, 1);
     }
 }
-
-#[cfg(test)]
-mod tests {
-    use super::*;
-    use std::marker::Brand;
-
-    fn two_steps<L: Ledger>(blank: Blank)
-        requires name { blank.name ≡ L.name }
-        requires parts { blank.parts ≡ L.parts }
-        requires some { 0 < L.parts }
-    {
-        let mut steps = Steps::<L>::new(blank);
-        steps.tick();
-        steps.tick();
-    }
-
-    #[test]
-    fn counts(_rt: HostRuntime) {
-        two_steps::<Brand>(Blank::new(1));
-    }
-}

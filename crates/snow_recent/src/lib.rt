@@ -9,6 +9,3 @@ mod table;
 
 pub use named::Named;
 pub use recent::Recent;
-
-#[cfg(test)]
-mod tests;

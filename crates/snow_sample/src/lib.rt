@@ -19,6 +19,3 @@ pub use laws::{distinct_units_law, whole_list_law};
 pub use roster::{Node, Roster, RosterFault};
 pub use sampling::SampleFault;
 pub use words::Words;
-
-#[cfg(test)]
-mod tests;

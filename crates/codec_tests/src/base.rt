@@ -1,8 +1,12 @@
-use crate::{
-    Bag, Bytes, Failed, Id, Items, MemSink, MemSource, Numbers, Nums, PureSink, PureSource,
-    ReadSource, Sink, Source, Vote, WriteSink, write_whole,
+ghost use Rattle.std.specs.Prelude.{◌≡◌, ◌<◌};
+
+use snow_base::{
+    Bag, Bytes, Failed, Id, MemSink, MemSource, Numbers, Nums, PureSink, PureSource, ReadSource,
+    Sink, Source, Steps, Vote, WriteSink, write_whole,
 };
 use std::io::{self, ErrorKind, Read, Write};
+use std::marker::Brand;
+use std::sync::ledger::{Blank, Ledger};
 use std::test::Fail;
 
 // The identifier with this first byte and 31 zero bytes.
@@ -160,4 +164,19 @@ fn numbers_come_in_order(rt: HostRuntime) {
         let drawn = numbers.draw();
         assert_eq!(rt; drawn, Some(expected));
     }
+}
+
+fn two_steps<L: Ledger>(blank: Blank)
+    requires name { blank.name ≡ L.name }
+    requires parts { blank.parts ≡ L.parts }
+    requires some { 0 < L.parts }
+{
+    let mut steps = Steps::<L>::new(blank);
+    steps.tick();
+    steps.tick();
+}
+
+#[test]
+fn steps_are_counted(_rt: HostRuntime) {
+    two_steps::<Brand>(Blank::new(1));
 }

@@ -1,7 +1,7 @@
 ghost use Rattle.std.specs.Prelude.{◌≤◌, length};
 
-use crate::{Draw, Draws, Node, Roster, RosterFault, SampleFault, Words};
 use snow_base::NodeId;
+use snow_sample::{Draw, Draws, Node, Roster, RosterFault, SampleFault, Words};
 use std::test::Fail;
 
 // The node with this number in each of its bytes, and this weight.

@@ -1,4 +1,4 @@
-use Rattle.snow_base.proofs.steps.tests.counts.Given as goal
+use Rattle.codec_tests.proofs.base.steps_are_counted.Given as goal
 
 -- the counter of the blank page
 abbrev pub ghosts-two_steps : goal.ghosts-two_steps

@@ -1,5 +1,5 @@
-use crate::{Named, Recent};
 use snow_base::Id;
+use snow_recent::{Named, Recent};
 use std::alloc::{AllocError, Global};
 use std::test::Fail;
 
