@@ -13,6 +13,3 @@ mod turns;
 
 pub use laws::early_closing_law;
 pub use polls::{Answered, Closed, PollFault, Polls};
-
-#[cfg(test)]
-mod tests;

@@ -1,9 +1,9 @@
 ghost use Rattle.std.specs.Prelude.{◌≡◌, ◌≤◌, [], length, IfOk};
 ghost use Rattle.snow_sample.specs.Sampling.{draw_count, AreOfDistinctNodes};
 
-use crate::{Answered, PollFault, Polls};
 use snow_base::{Id, NodeId, Vote};
 use snow_flake::Params;
+use snow_poll::{Answered, PollFault, Polls};
 use snow_sample::{Draws, Node, Roster, Words};
 use std::test::Fail;
 

@@ -2,7 +2,7 @@
 use Rattle.std.proofs.Common.{ap, arith, ◌∙◌}
 use Rattle.snow_poll.specs.Table.{Table}
 use Rattle.snow_poll.proofs.Placed.{none_from_more}
-use Rattle.snow_poll.proofs.tests.fill.Goals as goal
+use Rattle.issue_tests.proofs.polls.fill.Goals as goal
 
 pub begin-requires-clause-number : goal.begin-requires-clause-number
 begin-requires-clause-number c = c.loop-number.invariant.0 c.loop-number.number (omega arith)
