@@ -1,7 +1,6 @@
 //! A node that decides: it takes blocks and whole polls, and asks nobody.
 
-ghost use Rattle.std.specs.Prelude.{◌≡◌, ◌≤◌, None, length, IfOk};
-ghost use Rattle.snow_base.specs.Votes.{total_count};
+ghost use Rattle.std.specs.Prelude.{◌≡◌, None};
 ghost use Rattle.snow_flake.specs.Parameters.{AreGood};
 ghost use Rattle.snow_plain.specs.Board.{height_of};
 ghost use Rattle.snow_plain.specs.Reached.{MayIssue};
@@ -11,14 +10,14 @@ ghost use Rattle.snow_engine.specs.Node.{decides_with};
 ghost use Rattle.snow_node.specs.Placing.{opposed};
 ghost use Rattle.snow_node.specs.Stepping.{Tells, Starts, Turns};
 
-use snow_base::{Bag, Header, Ids};
+use snow_base::{Header, Ids};
 use snow_chain::Chain;
 use snow_flake::Params;
 use snow_lines::{DropWhy, Line, Lines, SkipKind};
-use snow_node::{EngineStop, Halt, admit, apply, opposition, tell, write};
+use snow_node::{EngineStop, Halt, admit, apply_votes, opposition, tell, write};
 use snow_plain::Board;
 use snow_wire::{Event, Start};
-use std::alloc::{AllocError, Global};
+use std::alloc::Global;
 use std::marker::Model;
 
 /// A node that decides, over any chain and any board. Contracts see the node of the definitions.
@@ -27,7 +26,6 @@ pub struct Deciding<C: Chain, B: Board> {
     params: Params,
     board: B,
     chain: C,
-    alloc: Global,
 }
 
 impl<C: Chain, B: Board> Model for Deciding<C, B> {
@@ -57,7 +55,6 @@ impl<C: Chain, B: Board> Deciding<C, B> {
             params,
             board,
             chain,
-            alloc,
         })
     }
 
@@ -149,7 +146,9 @@ impl<C: Chain, B: Board> Deciding<C, B> {
         Ok(())
     }
 
-    /// A poll with one vote for each of these identifiers came.
+    /// A poll with one vote for each of these identifiers came. It stands apart, so that the step of every
+    /// other frame keeps no room for it.
+    #[inline(never)]
     fn record(&mut self, frame: u64, ids: &Ids, log: &mut Lines) -> Result<(), Halt>
         ensures answer { Turns result self.new (model.recorded B.answer self.old frame ids.now).1 }
         ensures lines { Tells result log.old log.new (model.recorded B.answer self.old frame ids.now).0 }
@@ -163,19 +162,9 @@ impl<C: Chain, B: Board> Deciding<C, B> {
                 log,
             );
         }
-        let votes = votes_for(self.alloc, ids)?;
         let before = self.board.preference();
-        apply(&mut self.board, &mut self.chain, &votes);
+        apply_votes(&mut self.board, &mut self.chain, ids.list())?;
         tell(&self.board, &before, log)?;
         Ok(())
     }
-}
-
-/// One vote for each of these identifiers.
-fn votes_for(alloc: Global, ids: &Ids) -> Result<Bag, AllocError>
-    requires { length ids.now ≤ 1024 }
-    ensures votes { IfOk result (λ votes. votes.list ≡ model.votes_for ids.now) }
-    ensures total { IfOk result (λ votes. total_count votes.list ≡ length ids.now) }
-{
-    Bag::of(alloc, ids.list())
 }
