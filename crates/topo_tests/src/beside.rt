@@ -1,6 +1,6 @@
 ghost use Rattle.std.specs.Prelude.{◌≡◌};
 
-use crate::tools::{Draws, add, holds, named, offer, offer_all, record, votes_for};
+use crate::tools::{Draws, add, holds, named, offer, offer_all, record, record_each, votes_for};
 use snow_base::{Bag, Id};
 use snow_flake::{Params, Snowball, Snowflake};
 use snow_plain::{Board, PlainBoard};
@@ -44,6 +44,15 @@ impl<A: Board, B: Board> Pair<A, B> {
             record(&mut self.first, votes);
             record(&mut self.second, votes);
         }
+    }
+
+    // The same with one vote for each identifier.
+    fn record_each(&mut self, ids: &[Id]) -> Result<(), AllocError> {
+        if ids.len() <= self.params.k() as usize {
+            record_each(&mut self.first, ids)?;
+            record_each(&mut self.second, ids)?;
+        }
+        Ok(())
     }
 
     fn vote(&mut self, alloc: Global, number: u16) -> Result<(), AllocError> {
@@ -135,11 +144,31 @@ fn some_votes(alloc: Global, draws: &mut Draws) -> Result<Bag, AllocError> {
     Ok(votes)
 }
 
+// Some of four identifiers again and again, in any order; those of the blocks from 40 on aren't known.
+fn some_ids(alloc: Global, draws: &mut Draws) -> Result<Vec<Id>, AllocError> {
+    let some = [
+        draws.next(40),
+        draws.next(40),
+        draws.next(44),
+        40 + draws.next(4),
+    ];
+    let mut ids = Vec::new(alloc);
+    for _ in 0..draws.next(9) {
+        let number = some[draws.next(4) as usize];
+        ids.push(named(number as u16))?;
+    }
+    Ok(ids)
+}
+
 impl<A: Board, B: Board> Pair<A, B> {
     // A random issue or poll.
     fn step(&mut self, alloc: Global, draws: &mut Draws) -> Result<(), AllocError> {
         if draws.next(5) < 3 {
             return self.offer(draws.next(40) as u16, draws.next(40) as u16);
+        }
+        if draws.next(2) == 0 {
+            let ids = some_ids(alloc, draws)?;
+            return self.record_each(&ids);
         }
         let votes = some_votes(alloc, draws)?;
         self.record(&votes);

@@ -1,4 +1,4 @@
-ghost use Rattle.std.specs.Prelude.{◌≡◌, ◌<◌, ◌≤◌};
+ghost use Rattle.std.specs.Prelude.{◌≡◌, ◌<◌, ◌≤◌, length};
 ghost use Rattle.snow_base.specs.Votes.{total_count};
 
 use snow_base::{Bag, Id};
@@ -91,6 +91,14 @@ pub(crate) fn record<B: Board>(board: &mut B, votes: &Bag)
     ensures { (B.board board.new).parameters ≡ (B.board board.old).parameters }
 {
     board.apply_poll(votes);
+}
+
+// Records a poll with one vote for each of these identifiers.
+pub(crate) fn record_each<B: Board>(board: &mut B, ids: &[Id]) -> Result<(), AllocError>
+    requires { length ids.now ≤ (B.board board.old).parameters.k }
+    ensures { (B.board board.new).parameters ≡ (B.board board.old).parameters }
+{
+    board.apply_votes(ids)
 }
 
 // Adds votes for the block of a number, where there may be so many.
