@@ -120,9 +120,8 @@ fn count_each<R: Rule>(tree: &Tree<Load<R>>, ladder: &mut Ladder, waiting: &mut 
     }
 }
 
-/// The votes of a poll, one for each of these identifiers, past its own block, where this is pending.
-/// Most of those for one block go on as one: a few wait for others. It takes no memory.
-pub(crate) fn start_each<R: Rule>(tree: &Tree<Load<R>>, ladder: &mut Ladder, ids: &[Id])
+// The same where most of the votes for one block go on as one: a few wait for others.
+fn seat_each<R: Rule>(tree: &Tree<Load<R>>, ladder: &mut Ladder, ids: &[Id])
     requires ready { IsReady (length (tree.now).pending) ladder.old }
     requires few { length ids.now ≤ (ladder.old).wide }
     requires small { length ids.now < 2 ^ 32 }
@@ -141,4 +140,22 @@ pub(crate) fn start_each<R: Rule>(tree: &Tree<Load<R>>, ladder: &mut Ladder, ids
     let mut waiting = [nobody; 8];
     count_each(tree, ladder, &mut waiting, ids);
     let_all_go(tree, ladder, &waiting);
+}
+
+/// The votes of a poll, one for each of these identifiers, past its own block, where this is pending. It
+/// takes no memory. Where there is none, no seats are made ready.
+pub(crate) fn start_each<R: Rule>(tree: &Tree<Load<R>>, ladder: &mut Ladder, ids: &[Id])
+    requires ready { IsReady (length (tree.now).pending) ladder.old }
+    requires few { length ids.now ≤ (ladder.old).wide }
+    requires small { length ids.now < 2 ^ 32 }
+    ensures begun { (p : Parameters) → length ids.now ≤ p.k → HaveBegun p (one_each ids.now) (tree.now).pending ladder.new }
+    ensures loaded { IsLoaded (tree.now).pending ladder.new }
+    ensures few { length (ladder.new).climbers ≤ length ids.now }
+    ensures room { KeepsRoom ladder.old ladder.new }
+{
+    if ids.is_empty() {
+        start_votes(tree, ladder, &[]);
+    } else {
+        seat_each(tree, ladder, ids);
+    }
 }

@@ -4,9 +4,9 @@ use Rattle.snow_plain.proofs.OneEach.{total_each}
 use Rattle.snow_topo.specs.Ladder.{Rungs}
 use Rattle.snow_topo.specs.Starting.{votes_by, ids_by, HaveStarted}
 use Rattle.snow_topo.proofs.Started.{none_started, same_started, nobody_waits, no_votes_wait, each_passes, begun_from, begun_fewer, begun_places}
-use Rattle.snow_topo.proofs.starting.start_each.Given as given
-use Rattle.snow_topo.proofs.starting.start_each.Goals as goal
-use Rattle.snow_topo.proofs.starting.start_each.Goals.{After-let_all_go}
+use Rattle.snow_topo.proofs.starting.seat_each.Given as given
+use Rattle.snow_topo.proofs.starting.seat_each.Goals as goal
+use Rattle.snow_topo.proofs.starting.seat_each.Goals.{After-let_all_go}
 
 started : (g : given.Over) (c : After-let_all_go g) → HaveStarted c.args.tree.now.pending (λ test. 0) (λ test. votes_by test (one_each c.args.ids.now)) c.let_all_go.new.ladder.climbers
 started g c =
