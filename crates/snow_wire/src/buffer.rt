@@ -9,7 +9,7 @@ use std::marker::Model;
 
 /// Bytes, and room behind them into which a source can read. The room is filled once, when it is
 /// made, and never cleared. Contracts see the bytes, and how many more find room.
-#[derive(Debug, Drop)]
+#[derive(Drop)]
 pub(crate) struct Buffer {
     bytes: Vec<u8>,
     len: usize,

@@ -28,7 +28,7 @@ pub enum ReadFault {
 
 /// Gives the frames of a stream that comes in pieces. Contracts see how many frames were given, and
 /// the bytes behind them.
-#[derive(Debug, Drop)]
+#[derive(Drop)]
 pub struct Decoder {
     bytes: Buffer,
     start: usize,

@@ -1,7 +1,7 @@
 use snow_base::{Blocks, Bytes, Id, Ids, NodeId, Nodes, Nums};
 
 /// How a run begins: the parameters of the polls, the last accepted block, and who is asked.
-#[derive(Debug, Drop)]
+#[derive(Drop)]
 pub struct Start {
     /// How many units are sampled for a poll.
     pub k: u32,
@@ -27,7 +27,7 @@ pub struct Start {
 
 /// One thing that happens to a node. In a message `node` is the peer that sent it and `request` the
 /// number of the request that it belongs to.
-#[derive(Debug, Drop)]
+#[derive(Drop)]
 pub enum Event {
     /// The run begins.
     Start(Start),
