@@ -97,6 +97,3 @@ ok_then (Err e) a b c t u v first second p q = tt
 pub err_then : {T E : Type 0} (r : Result T E) (a b c : Option (List ℕ)) (t u first second : List ℕ) → Gathers a t b u first → OnErr r (AppendsFront b c (u ++ second)) → OnErr r (AppendsFront a c (t ++ (first ++ second)))
 err_then (Ok x) a b c t u first second p q = tt
 err_then (Err e) a b c t u first second p q = gathers_then_front a b c t u first second (t ++ (first ++ second)) p q refl
-
--- what lemmas on gathered pieces a caller wants
-pub ruleset gathering = (gathers_none, gathers_waiting, gathers_written, gathers_then, gathers_then_front, gathers_then_written, fails_first)

@@ -1,4 +1,4 @@
-ghost use Rattle.std.specs.Prelude.{◌≡◌, ◌≤◌, ◌^◌, IfSome, nat_lt, length, take, drop, if◌then◌else◌, Some, None, IfOk};
+ghost use Rattle.std.specs.Prelude.{◌≡◌, ◌≤◌, ◌^◌, ℕ, List, Option, IfSome, nat_lt, length, take, drop, if◌then◌else◌, Some, None, IfOk};
 ghost use Rattle.hex.specs.Hex.{decode_of};
 ghost use Rattle.snow_lines.specs.Reading.{number_of, bytes_of, block_of, draw_of, if_digits, if_draw, value_after};
 
@@ -9,26 +9,39 @@ use snow_base::{Bytes, Id, NodeId};
 use snow_sample::Draw;
 use std::alloc::{AllocError, Global};
 
-/// The number of 64 bits whose text the word is.
-#[tactic(auto, unfolding(crate::specs::Reading::number_of))]
-pub fn long(word: &[u8]) -> Option<u64>
-    ensures { result ≡ number_of (2 ^ 64) word.now }
-{
-    let number = value(word)?;
-    let mut buffer = itoa::Buffer::new();
-    if buffer.format(number).as_bytes() == word {
-        Some(number)
-    } else {
-        None
+/// What a word of a line can stand for.
+pub trait Field: Sized {
+    /// What a word stands for.
+    ghost read: { List ℕ → Option Self };
+
+    /// What this word stands for.
+    fn of(word: &[u8]) -> Option<Self>
+        ensures { result ≡ read word.now };
+}
+
+// The number whose text the word is.
+impl Field for u64 {
+    ghost read = { number_of (2 ^ 64) };
+
+    #[tactic(auto, unfolding(crate::specs::Reading::number_of))]
+    fn of(word: &[u8]) -> Option<u64> {
+        let number = value(word)?;
+        let mut buffer = itoa::Buffer::new();
+        if buffer.format(number).as_bytes() == word {
+            Some(number)
+        } else {
+            None
+        }
     }
 }
 
-/// The number of 32 bits whose text the word is.
-#[tactic(auto, unfolding(crate::specs::Reading::number_of))]
-pub fn number(word: &[u8]) -> Option<u32>
-    ensures { result ≡ number_of (2 ^ 32) word.now }
-{
-    u32::try_from(long(word)?).ok()
+impl Field for u32 {
+    ghost read = { number_of (2 ^ 32) };
+
+    #[tactic(auto, unfolding(crate::specs::Reading::number_of))]
+    fn of(word: &[u8]) -> Option<u32> {
+        u32::try_from(u64::of(word)?).ok()
+    }
 }
 
 // The number that the bytes write as if each was a digit, where it has 64 bits.
@@ -43,33 +56,36 @@ fn value(word: &[u8]) -> Option<u64>
     Some(value)
 }
 
-/// The identifier whose digits the word is.
-#[tactic(auto, unfolding(crate::specs::Reading::bytes_of))]
-pub fn id(word: &[u8]) -> Option<Id>
-    ensures { result ≡ bytes_of 32 word.now }
-{
-    let mut bytes = [0; 32];
-    let decoded = hex::decode_to_slice(word, &mut bytes);
-    let id = Id::from_bytes(bytes);
-    if decoded.is_ok() && id_digits(&id).as_slice() == word {
-        Some(id)
-    } else {
-        None
+// The identifier whose digits the word is.
+impl Field for Id {
+    ghost read = { bytes_of 32 };
+
+    #[tactic(auto, unfolding(crate::specs::Reading::bytes_of))]
+    fn of(word: &[u8]) -> Option<Id> {
+        let mut bytes = [0; 32];
+        let decoded = hex::decode_to_slice(word, &mut bytes);
+        let id = Id::from_bytes(bytes);
+        if decoded.is_ok() && id_digits(&id).as_slice() == word {
+            Some(id)
+        } else {
+            None
+        }
     }
 }
 
-/// The node whose digits the word is.
-#[tactic(auto, unfolding(crate::specs::Reading::bytes_of))]
-pub fn node(word: &[u8]) -> Option<NodeId>
-    ensures { result ≡ bytes_of 20 word.now }
-{
-    let mut bytes = [0; 20];
-    let decoded = hex::decode_to_slice(word, &mut bytes);
-    let node = NodeId::from_bytes(bytes);
-    if decoded.is_ok() && node_digits(&node).as_slice() == word {
-        Some(node)
-    } else {
-        None
+impl Field for NodeId {
+    ghost read = { bytes_of 20 };
+
+    #[tactic(auto, unfolding(crate::specs::Reading::bytes_of))]
+    fn of(word: &[u8]) -> Option<NodeId> {
+        let mut bytes = [0; 20];
+        let decoded = hex::decode_to_slice(word, &mut bytes);
+        let node = NodeId::from_bytes(bytes);
+        if decoded.is_ok() && node_digits(&node).as_slice() == word {
+            Some(node)
+        } else {
+            None
+        }
     }
 }
 
@@ -82,8 +98,8 @@ pub fn draw(word: &[u8]) -> Option<Draw>
     if word.len() < 41 {
         return None;
     }
-    let node = node(front(word, 40))?;
-    let count = number(behind(word, 41))?;
+    let node = NodeId::of(front(word, 40))?;
+    let count = u32::of(behind(word, 41))?;
     drawn(Draw { node, count }, word)
 }
 

@@ -19,7 +19,7 @@ pub trait Gather {
 }
 
 /// Where nothing waits: each piece is written as it comes.
-#[derive(Clone, Copy, Debug)]
+#[derive(Clone, Copy)]
 pub struct AtOnce;
 
 impl Gather for AtOnce {

@@ -3,7 +3,7 @@ use snow_base::{Blocks, Bytes, Id, Ids, Items, NodeId};
 use snow_sample::Draws;
 
 /// A line of output.
-#[derive(Debug, Drop)]
+#[derive(Drop)]
 pub enum Line {
     /// Nodes are asked for their preference, each as often as it was drawn.
     Query {

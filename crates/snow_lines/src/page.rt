@@ -16,7 +16,7 @@ const ROOM: usize = 65_536;
 
 /// Text of lines that waits to be written, of at most 65,536 bytes. A new page takes the memory for
 /// all of them, and no later call takes any. Contracts see the bytes that wait.
-#[derive(Debug, Drop)]
+#[derive(Drop)]
 pub struct Page {
     bytes: Vec<u8>,
 }
@@ -52,7 +52,7 @@ impl Page {
     }
 
     /// Appends lines, one after another, as `print` does.
-    #[tactic(auto, using(crate::proofs::Waiting::gathering, snow_base::proofs::Known::appending))]
+    #[tactic(auto, using(crate::proofs::Waiting::gathers_none))]
     pub fn print_all<K: Sink>(&mut self, lines: &[Line], sink: &mut K) -> Result<(), Failed>
         ensures ok { OnOk result (Gathers (K.written sink.old) self.old (K.written sink.new) self.new (texts lines.now)) }
         ensures err { OnErr result (AppendsFront (K.written sink.old) (K.written sink.new) (self.old ++ texts lines.now)) }
@@ -86,7 +86,7 @@ impl Page {
 impl Gather for Page {
     ghost waiting = { λ page. page };
 
-    #[tactic(auto, using(crate::proofs::Waiting::gathering, snow_base::proofs::Known::appending))]
+    #[tactic(auto, using(crate::proofs::Waiting::gathers_waiting, crate::proofs::Waiting::gathers_written, snow_base::proofs::Known::front_of_more))]
     fn put<K: Sink>(&mut self, piece: &[u8], sink: &mut K) -> Result<(), Failed> {
         if piece.len() > ROOM - self.bytes.len() {
             self.flush(sink)?;

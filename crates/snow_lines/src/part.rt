@@ -140,7 +140,7 @@ fn short_word(draw: &Draw) -> [u8; 43]
 impl Part for Bytes {
     ghost text = { λ bytes. spaced (block_word bytes) };
 
-    #[tactic(auto, using(crate::proofs::Waiting::gathering, snow_base::proofs::Known::appending))]
+    #[tactic(auto, using(crate::proofs::Waiting::gathers_then, crate::proofs::Waiting::gathers_then_front))]
     fn put_into<G: Gather, K: Sink>(&self, out: &mut G, sink: &mut K) -> Result<(), Failed> {
         if self.list().is_empty() {
             return out.put(b" .", sink);
@@ -154,7 +154,6 @@ impl Part for Bytes {
 const SOME: usize = 64;
 
 /// Appends the digits of bytes.
-#[tactic(auto, using(crate::proofs::Waiting::gathering, snow_base::proofs::Known::appending))]
 fn put_digits<G: Gather, K: Sink>(out: &mut G, bytes: &[u8], sink: &mut K) -> Result<(), Failed>
     ensures ok { OnOk result (Gathers (K.written sink.old) (G.waiting out.old) (K.written sink.new) (G.waiting out.new) (encode_lower bytes.now)) }
     ensures err { OnErr result (AppendsFront (K.written sink.old) (K.written sink.new) (G.waiting out.old ++ encode_lower bytes.now)) }
@@ -254,7 +253,7 @@ pub fn put_five<A: Part, B: Part, C: Part, D: Part, E: Part, G: Gather, K: Sink>
 }
 
 /// Appends parts, one after another.
-#[tactic(auto, using(crate::proofs::Waiting::gathering, snow_base::proofs::Known::appending))]
+#[tactic(auto, using(crate::proofs::Waiting::gathers_none))]
 pub fn put_all<T: Part, G: Gather, K: Sink>(
     out: &mut G,
     parts: &[T],

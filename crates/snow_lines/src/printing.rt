@@ -22,7 +22,7 @@ pub fn print<K: Sink>(line: &Line, sink: &mut K) -> Result<(), Failed>
 }
 
 /// Writes lines, one after another. At `Failed` a front of their text was written.
-#[tactic(auto, using(snow_base::proofs::Known::appending))]
+#[tactic(auto, using(snow_base::proofs::Known::appends_none, snow_base::proofs::Known::appends_then))]
 pub fn print_all<K: Sink>(lines: &[Line], sink: &mut K) -> Result<(), Failed>
     ensures ok { OnOk result (Appends (K.written sink.old) (K.written sink.new) (texts lines.now)) }
     ensures err { OnErr result (AppendsFront (K.written sink.old) (K.written sink.new) (texts lines.now)) }
@@ -89,7 +89,7 @@ fn put_front<G: Gather, K: Sink>(out: &mut G, line: &Line, sink: &mut K) -> Resu
 }
 
 /// Appends the words of a line's list.
-#[tactic(auto, using(crate::proofs::Waiting::gathering, snow_base::proofs::Known::appending, crate::proofs::Joined::each_spaced))]
+#[tactic(auto, using(crate::proofs::Waiting::gathers_none, crate::proofs::Joined::each_spaced))]
 fn put_list<G: Gather, K: Sink>(out: &mut G, line: &Line, sink: &mut K) -> Result<(), Failed>
     ensures ok { OnOk result (Gathers (K.written sink.old) (G.waiting out.old) (K.written sink.new) (G.waiting out.new) (flat_map spaced (listed line.now))) }
     ensures err { OnErr result (AppendsFront (K.written sink.old) (K.written sink.new) (G.waiting out.old ++ flat_map spaced (listed line.now))) }

@@ -3,8 +3,8 @@ ghost use Rattle.std.specs.Option.{option_map};
 ghost use Rattle.snow_lines.specs.Range.{IsLine};
 ghost use Rattle.snow_lines.specs.Text.{text};
 ghost use Rattle.snow_lines.specs.declared.line.Line.{Line};
-ghost use Rattle.snow_lines.specs.Reading.{Reads, asked_at, both_at, bytes_of, number_of, only_at, asks, asks_accepted, before_newline, chits_at, fields_of, frontier_at, line_of, plain_at, tells_accepted, tells_ancestors, tells_block, whole_at, words_of};
-ghost use Rattle.snow_lines.specs.Names.{kind_of, query_of, restart_of, why_of};
+ghost use Rattle.snow_lines.specs.Reading.{Reads, asked_at, both_at, bytes_of, number_of, asks, asks_accepted, before_newline, chits_at, fields_of, frontier_at, line_of, plain_at, tells_accepted, tells_ancestors, tells_block, whole_at, words_of};
+ghost use Rattle.snow_lines.specs.Names.{kind_of, why_of};
 ghost use Rattle.snow_lines.specs.declared.line.Line.TheVariants as line;
 
 use crate::field;
@@ -83,10 +83,10 @@ fn whole(kind: Kind, words: &mut Words) -> Option<Line>
 fn query(alloc: Global, words: &mut Words) -> Result<Option<Line>, AllocError>
     ensures { IfOk result (λ r. r ≡ asks words.old) }
 {
-    let Some(number) = words.number() else {
+    let Some(number) = words.take() else {
         return Ok(None);
     };
-    let Some(id) = words.id() else {
+    let Some(id) = words.take() else {
         return Ok(None);
     };
     match words.draws(alloc)? {
@@ -99,7 +99,7 @@ fn query(alloc: Global, words: &mut Words) -> Result<Option<Line>, AllocError>
 fn accepted(alloc: Global, words: &mut Words) -> Result<Option<Line>, AllocError>
     ensures { IfOk result (λ r. r ≡ asks_accepted words.old) }
 {
-    let Some(number) = words.number() else {
+    let Some(number) = words.take() else {
         return Ok(None);
     };
     match words.ids(alloc)? {
@@ -159,21 +159,23 @@ fn to_block(alloc: Global, words: &mut Words) -> Result<Option<Line>, AllocError
 }
 
 // A line without a list, up to its last word.
-#[tactic(auto, unfolding(crate::specs::Reading::plain_at))]
+#[tactic(auto, unfolding(crate::specs::Reading::plain_at, crate::specs::Reading::only_at))]
 fn plain(kind: Kind, words: &mut Words) -> Option<Line>
     ensures { Reads result words.new (plain_at kind words.old) }
 {
     match kind {
         Kind::Get => get(words),
-        Kind::Frontier => frontier(words),
+        Kind::Frontier => Some(Line::Frontier {
+            number: words.take()?,
+        }),
         Kind::Ancestors => ancestors(words),
-        Kind::Accept => accept(words),
-        Kind::Reject => reject(words),
-        Kind::Prefer => prefer(words),
+        Kind::Accept => Some(Line::Accept { id: words.take()? }),
+        Kind::Reject => Some(Line::Reject { id: words.take()? }),
+        Kind::Prefer => Some(Line::Prefer { id: words.take()? }),
         Kind::Drop => drop_block(words),
-        Kind::DropQuery => drop_query(words),
+        Kind::DropQuery => Some(Line::DropQuery { why: words.take()? }),
         Kind::Skip => skip(words),
-        Kind::Restart => restart(words),
+        Kind::Restart => Some(Line::Restart { why: words.take()? }),
         Kind::Bootstrapped => bootstrapped(words),
         Kind::ToChits => to_chits(words),
         Kind::ToFrontier => to_frontier(words),
@@ -185,9 +187,9 @@ fn plain(kind: Kind, words: &mut Words) -> Option<Line>
 fn get(words: &mut Words) -> Option<Line>
     ensures { Reads result words.new (asked_at line.Get words.old) }
 {
-    let number = words.number()?;
-    let node = words.node()?;
-    let id = words.id()?;
+    let number = words.take()?;
+    let node = words.take()?;
+    let id = words.take()?;
     Some(Line::Get { number, node, id })
 }
 
@@ -195,84 +197,36 @@ fn get(words: &mut Words) -> Option<Line>
 fn ancestors(words: &mut Words) -> Option<Line>
     ensures { Reads result words.new (asked_at line.Ancestors words.old) }
 {
-    let number = words.number()?;
-    let node = words.node()?;
-    let id = words.id()?;
+    let number = words.take()?;
+    let node = words.take()?;
+    let id = words.take()?;
     Some(Line::Ancestors { number, node, id })
-}
-
-#[tactic(auto, unfolding(crate::specs::Reading::only_at))]
-fn frontier(words: &mut Words) -> Option<Line>
-    ensures { Reads result words.new (only_at (number_of (2 ^ 32)) line.Frontier words.old) }
-{
-    let number = words.number()?;
-    Some(Line::Frontier { number })
-}
-
-#[tactic(auto, unfolding(crate::specs::Reading::only_at))]
-fn accept(words: &mut Words) -> Option<Line>
-    ensures { Reads result words.new (only_at (bytes_of 32) line.Accept words.old) }
-{
-    let id = words.id()?;
-    Some(Line::Accept { id })
-}
-
-#[tactic(auto, unfolding(crate::specs::Reading::only_at))]
-fn reject(words: &mut Words) -> Option<Line>
-    ensures { Reads result words.new (only_at (bytes_of 32) line.Reject words.old) }
-{
-    let id = words.id()?;
-    Some(Line::Reject { id })
-}
-
-#[tactic(auto, unfolding(crate::specs::Reading::only_at))]
-fn prefer(words: &mut Words) -> Option<Line>
-    ensures { Reads result words.new (only_at (bytes_of 32) line.Prefer words.old) }
-{
-    let id = words.id()?;
-    Some(Line::Prefer { id })
 }
 
 #[tactic(auto, unfolding(crate::specs::Reading::both_at))]
 fn drop_block(words: &mut Words) -> Option<Line>
     ensures { Reads result words.new (both_at (bytes_of 32) why_of line.Drop words.old) }
 {
-    let id = words.id()?;
-    let why = words.drop_why()?;
+    let id = words.take()?;
+    let why = words.take()?;
     Some(Line::Drop { id, why })
-}
-
-#[tactic(auto, unfolding(crate::specs::Reading::only_at))]
-fn drop_query(words: &mut Words) -> Option<Line>
-    ensures { Reads result words.new (only_at query_of line.DropQuery words.old) }
-{
-    let why = words.query_why()?;
-    Some(Line::DropQuery { why })
 }
 
 #[tactic(auto, unfolding(crate::specs::Reading::both_at))]
 fn skip(words: &mut Words) -> Option<Line>
     ensures { Reads result words.new (both_at (number_of (2 ^ 64)) kind_of line.Skip words.old) }
 {
-    let frame = words.long()?;
-    let kind = words.skip_kind()?;
+    let frame = words.take()?;
+    let kind = words.take()?;
     Some(Line::Skip { frame, kind })
-}
-
-#[tactic(auto, unfolding(crate::specs::Reading::only_at))]
-fn restart(words: &mut Words) -> Option<Line>
-    ensures { Reads result words.new (only_at restart_of line.Restart words.old) }
-{
-    let why = words.restart_why()?;
-    Some(Line::Restart { why })
 }
 
 #[tactic(auto, unfolding(crate::specs::Reading::both_at))]
 fn bootstrapped(words: &mut Words) -> Option<Line>
     ensures { Reads result words.new (both_at (bytes_of 32) (number_of (2 ^ 64)) line.Bootstrapped words.old) }
 {
-    let id = words.id()?;
-    let height = words.long()?;
+    let id = words.take()?;
+    let height = words.take()?;
     Some(Line::Bootstrapped { id, height })
 }
 
@@ -281,8 +235,8 @@ fn to_chits(words: &mut Words) -> Option<Line>
     ensures { Reads result words.new (chits_at words.old) }
 {
     let (node, number) = words.told()?;
-    let preference = words.id()?;
-    let last = words.id()?;
+    let preference = words.take()?;
+    let last = words.take()?;
     Some(Line::ToChits {
         node,
         number,
@@ -296,6 +250,6 @@ fn to_frontier(words: &mut Words) -> Option<Line>
     ensures { Reads result words.new (frontier_at words.old) }
 {
     let (node, number) = words.told()?;
-    let id = words.id()?;
+    let id = words.take()?;
     Some(Line::ToFrontier { node, number, id })
 }

@@ -7,7 +7,7 @@ use std::marker::Model;
 
 /// A short text that is built in place, of at most `ROOM` bytes. It takes no memory. Contracts see its
 /// bytes.
-#[derive(Debug, Drop)]
+#[derive(Drop)]
 pub struct Text<const ROOM: usize> {
     bytes: [u8; ROOM],
     len: usize,

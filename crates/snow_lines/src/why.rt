@@ -1,7 +1,8 @@
+use crate::field::Field;
 use crate::kind::is;
 
 /// Why a block is given up.
-#[derive(Clone, Copy, Debug, PartialEq, Eq)]
+#[derive(Clone, Copy, PartialEq, Eq)]
 pub enum DropWhy {
     /// Its parent isn't on the board.
     Parent,
@@ -14,7 +15,7 @@ pub enum DropWhy {
 }
 
 /// Why a query isn't sent.
-#[derive(Clone, Copy, Debug, PartialEq, Eq)]
+#[derive(Clone, Copy, PartialEq, Eq)]
 pub enum QueryWhy {
     /// There is no room for another poll.
     Full,
@@ -25,7 +26,7 @@ pub enum QueryWhy {
 }
 
 /// Why bootstrapping begins again.
-#[derive(Clone, Copy, Debug, PartialEq, Eq)]
+#[derive(Clone, Copy, PartialEq, Eq)]
 pub enum RestartWhy {
     /// Too little came back of the accepted frontier.
     Frontier,
@@ -34,7 +35,7 @@ pub enum RestartWhy {
 }
 
 /// Why a frame is passed over.
-#[derive(Clone, Copy, Debug, PartialEq, Eq)]
+#[derive(Clone, Copy, PartialEq, Eq)]
 pub enum SkipKind {
     /// Its first byte is no tag.
     Tag,
@@ -133,14 +134,12 @@ impl SkipKind {
     }
 }
 
-impl DropWhy {
-    ghost use Rattle.std.specs.Prelude.{◌≡◌};
+impl Field for DropWhy {
     ghost use Rattle.snow_lines.specs.Names.{why_of};
 
-    /// The one with this word.
-    pub(crate) fn of(word: &[u8]) -> Option<Self>
-        ensures { result ≡ why_of word.now }
-    {
+    ghost read = { why_of };
+
+    fn of(word: &[u8]) -> Option<Self> {
         if is(word, b"parent") {
             Some(DropWhy::Parent)
         } else if is(word, b"full") {
@@ -155,14 +154,12 @@ impl DropWhy {
     }
 }
 
-impl QueryWhy {
-    ghost use Rattle.std.specs.Prelude.{◌≡◌};
+impl Field for QueryWhy {
     ghost use Rattle.snow_lines.specs.Names.{query_of};
 
-    /// The one with this word.
-    pub(crate) fn of(word: &[u8]) -> Option<Self>
-        ensures { result ≡ query_of word.now }
-    {
+    ghost read = { query_of };
+
+    fn of(word: &[u8]) -> Option<Self> {
         if is(word, b"full") {
             Some(QueryWhy::Full)
         } else if is(word, b"units") {
@@ -175,14 +172,12 @@ impl QueryWhy {
     }
 }
 
-impl RestartWhy {
-    ghost use Rattle.std.specs.Prelude.{◌≡◌};
+impl Field for RestartWhy {
     ghost use Rattle.snow_lines.specs.Names.{restart_of};
 
-    /// The one with this word.
-    pub(crate) fn of(word: &[u8]) -> Option<Self>
-        ensures { result ≡ restart_of word.now }
-    {
+    ghost read = { restart_of };
+
+    fn of(word: &[u8]) -> Option<Self> {
         if is(word, b"frontier") {
             Some(RestartWhy::Frontier)
         } else if is(word, b"accepted") {
@@ -193,14 +188,12 @@ impl RestartWhy {
     }
 }
 
-impl SkipKind {
-    ghost use Rattle.std.specs.Prelude.{◌≡◌};
+impl Field for SkipKind {
     ghost use Rattle.snow_lines.specs.Names.{kind_of};
 
-    /// The one with this word.
-    pub(crate) fn of(word: &[u8]) -> Option<Self>
-        ensures { result ≡ kind_of word.now }
-    {
+    ghost read = { kind_of };
+
+    fn of(word: &[u8]) -> Option<Self> {
         if is(word, b"tag") {
             Some(SkipKind::Tag)
         } else if is(word, b"short") {

@@ -1,18 +1,16 @@
 ghost use Rattle.std.specs.Prelude.{◌≡◌, ◌==◌, ◌^◌, [], drop, is_none, IfOk};
 ghost use Rattle.std.specs.List.{slice_split};
 ghost use Rattle.std.specs.Option.{option_map};
-ghost use Rattle.snow_lines.specs.Names.{kind_of, query_of, restart_of, why_of};
-ghost use Rattle.snow_lines.specs.Reading.{IsCut, Reads, block_of, bytes_of, draw_of, field, first, id_at, items, long_at, node_at, number_at, told_at};
+ghost use Rattle.snow_lines.specs.Reading.{IsCut, Reads, block_of, bytes_of, draw_of, field, first, items, told_at};
 
-use crate::field;
-use crate::why::{DropWhy, QueryWhy, RestartWhy, SkipKind};
+use crate::field::{self, Field};
 use snow_base::{Blocks, Id, Ids, NodeId};
 use snow_sample::Draws;
 use std::alloc::{AllocError, Global};
 use std::marker::Model;
 
 /// The words of some bytes, of which each is taken once. Contracts see those that are left.
-#[derive(Debug, Drop)]
+#[derive(Drop)]
 pub struct Words<'a> {
     rest: Option<&'a [u8]>,
 }
@@ -60,68 +58,12 @@ impl<'a> Words<'a> {
         self.next().is_none()
     }
 
-    /// Takes a number of 32 bits.
+    /// Takes the next word for what it stands for.
     #[tactic(auto, unfolding(crate::specs::Reading::field))]
-    pub fn number(&mut self) -> Option<u32>
-        ensures { Reads result self.new (number_at self.old) }
+    pub fn take<T: Field>(&mut self) -> Option<T>
+        ensures { Reads result self.new (field T.read self.old) }
     {
-        field::number(self.next()?)
-    }
-
-    /// Takes a number of 64 bits.
-    #[tactic(auto, unfolding(crate::specs::Reading::field))]
-    pub fn long(&mut self) -> Option<u64>
-        ensures { Reads result self.new (long_at self.old) }
-    {
-        field::long(self.next()?)
-    }
-
-    /// Takes an identifier.
-    #[tactic(auto, unfolding(crate::specs::Reading::field))]
-    pub fn id(&mut self) -> Option<Id>
-        ensures { Reads result self.new (id_at self.old) }
-    {
-        field::id(self.next()?)
-    }
-
-    /// Takes a node.
-    #[tactic(auto, unfolding(crate::specs::Reading::field))]
-    pub fn node(&mut self) -> Option<NodeId>
-        ensures { Reads result self.new (node_at self.old) }
-    {
-        field::node(self.next()?)
-    }
-
-    /// Takes why a block is given up.
-    #[tactic(auto, unfolding(crate::specs::Reading::field))]
-    pub fn drop_why(&mut self) -> Option<DropWhy>
-        ensures { Reads result self.new (field why_of self.old) }
-    {
-        DropWhy::of(self.next()?)
-    }
-
-    /// Takes why a query isn't sent.
-    #[tactic(auto, unfolding(crate::specs::Reading::field))]
-    pub fn query_why(&mut self) -> Option<QueryWhy>
-        ensures { Reads result self.new (field query_of self.old) }
-    {
-        QueryWhy::of(self.next()?)
-    }
-
-    /// Takes why bootstrapping begins again.
-    #[tactic(auto, unfolding(crate::specs::Reading::field))]
-    pub fn restart_why(&mut self) -> Option<RestartWhy>
-        ensures { Reads result self.new (field restart_of self.old) }
-    {
-        RestartWhy::of(self.next()?)
-    }
-
-    /// Takes why a frame is passed over.
-    #[tactic(auto, unfolding(crate::specs::Reading::field))]
-    pub fn skip_kind(&mut self) -> Option<SkipKind>
-        ensures { Reads result self.new (field kind_of self.old) }
-    {
-        SkipKind::of(self.next()?)
+        T::of(self.next()?)
     }
 
     /// Takes a node and a number.
@@ -129,8 +71,8 @@ impl<'a> Words<'a> {
     pub fn told(&mut self) -> Option<(NodeId, u32)>
         ensures { Reads result self.new (told_at self.old) }
     {
-        let node = self.node()?;
-        let number = self.number()?;
+        let node = self.take()?;
+        let number = self.take()?;
         Some((node, number))
     }
 
@@ -141,7 +83,7 @@ impl<'a> Words<'a> {
     {
         let mut ids = Ids::new(alloc);
         while let Some(word) = self.next() {
-            match field::id(word) {
+            match Id::of(word) {
                 None => return Ok(None),
                 Some(id) => ids.push(id)?,
             }
