@@ -7,7 +7,7 @@ use std::alloc::{AllocError, Global};
 use std::marker::Model;
 
 /// The counters of one block's children, one for each bit list with which the bits of a child begin.
-#[derive(Debug, Drop)]
+#[derive(Drop)]
 pub struct Conflict {
     tree: Tree,
     alloc: Global,

@@ -4,7 +4,7 @@ use snow_base::{Bag, Header, Id, Vote};
 
 /// Votes for a block on their way up its line: they look for their own block first, then for its
 /// parent, and so on, past the latest pending block first.
-#[derive(Clone, Copy, Debug)]
+#[derive(Clone, Copy)]
 pub struct Cursor {
     /// The next block on the line.
     pub sought: Id,

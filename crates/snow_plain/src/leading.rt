@@ -6,7 +6,7 @@ use snow_base::{Header, Id};
 use snow_flake::Rule;
 
 /// The preference of a board, and whether it is known that no block stands above it.
-#[derive(Clone, Copy, Debug)]
+#[derive(Clone, Copy)]
 pub struct Leading {
     pub block: Id,
     pub is_top: bool,

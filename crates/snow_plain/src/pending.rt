@@ -2,7 +2,7 @@ use crate::conflict::Conflict;
 use snow_base::Header;
 
 /// A pending block, with the counters of its children.
-#[derive(Debug, Drop)]
+#[derive(Drop)]
 pub struct Pending {
     pub block: Header,
     pub counters: Conflict,

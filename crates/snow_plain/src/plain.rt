@@ -12,7 +12,7 @@ use std::marker::{Model, PhantomData};
 /// rule says how they answer. A poll goes once over all counters, and for each pending block once
 /// over the votes; then once over the pending blocks for each decision. An issue goes once over the
 /// pending blocks, and walks the answers only for the first block on the preference after a poll.
-#[derive(Debug, Drop)]
+#[derive(Drop)]
 pub struct PlainBoard<R: Rule> {
     state: State,
     // The preference of this state, which an issue seldom has to find anew.

@@ -12,7 +12,7 @@ use std::marker::Model;
 
 /// The last accepted block and the pending ones in order of issue, with the counters of their
 /// children, and the parameters of the polls.
-#[derive(Debug, Drop)]
+#[derive(Drop)]
 pub struct State {
     params: Params,
     last: Id,

@@ -16,7 +16,7 @@ use snow_flake::{Binary, Params, Rule, Snowflake, Unary};
 use std::alloc::{AllocError, Global};
 
 /// A tree of instances: one for the next bit, and what is below each of its sides.
-#[derive(Debug, Drop)]
+#[derive(Drop)]
 pub enum Tree {
     Leaf,
     Fork(Binary, Box<Tree>, Box<Tree>),
