@@ -10,7 +10,7 @@ use std::marker::Model;
 
 /// Heights as spans that rise and never touch: adding and finding a height look at about the logarithm
 /// of the number of spans.
-#[derive(Debug, Drop)]
+#[derive(Drop)]
 pub struct Intervals {
     last: u64,
     spans: Vec<Span>,

@@ -8,7 +8,7 @@ use std::marker::Model;
 
 /// Heights in the order in which they were added. Each height that is looked for is looked for among
 /// them all.
-#[derive(Debug, Drop)]
+#[derive(Drop)]
 pub struct KeptList {
     last: u64,
     heights: Vec<u64>,

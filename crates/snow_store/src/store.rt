@@ -261,11 +261,11 @@ impl<H: Kept> Store<H> {
         ensures { OnOk result (self.new ≡ record { whole = true; store = keeping self.old.store record { header = header.now; bytes = bytes.now } }) }
     {
         self.whole = false;
-        let bytes = Bytes::from_slice(self.alloc, bytes)?;
         index::note_place(&mut self.places, header.height, self.kept.len())?;
         index::note_top(&mut self.tops, header.id, header.height)?;
         index::note_child(&mut self.children, header.parent, header.height)?;
         let _ = self.heights.add(header.height)?;
+        let bytes = Bytes::from_slice(self.alloc, bytes)?;
         self.kept.push(KeptBlock {
             header: *header,
             bytes,
