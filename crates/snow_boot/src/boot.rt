@@ -69,15 +69,13 @@ impl<C: Chain, H: Kept> Boot<C, H> {
         ensures goes_on { IfOk result (λ made. (held : Held) → held.last ≡ last → IsAlone held → MayGoOn made held numbers.new) }
     {
         let mut survey = Survey::begin(alloc, roster)?;
-        let fetching = Fetching::begin(alloc, last, height);
-        let requests = Gets::new(alloc);
         match inquiring::ask_frontier(&mut survey, numbers, log) {
             Ok(_) => Ok(Boot {
                 going: true,
                 parts: Parts {
                     survey,
-                    fetching,
-                    requests,
+                    fetching: Fetching::begin(alloc, last, height),
+                    requests: Gets::new(alloc),
                 },
                 chain: PhantomData,
             }),
