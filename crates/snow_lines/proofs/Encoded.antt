@@ -12,7 +12,7 @@ unfolding encode_with
 digits_none = refl
 
 -- the digits of bytes and of others behind them
-digits_append : (xs ys : List ℕ) → encode_lower (xs ++ ys) ≡ encode_lower xs ++ encode_lower ys
+pub digits_append : (xs ys : List ℕ) → encode_lower (xs ++ ys) ≡ encode_lower xs ++ encode_lower ys
 unfolding encode_with
 digits_append [] ys = refl
 digits_append (b ∷ xs) ys = ap (λ l. encode_lower (b ∷ []) ++ l) (digits_append xs ys)

@@ -28,6 +28,20 @@ fn digit(value: u8) -> u8
     }
 }
 
+/// Writes the digits of a node over a slice of just their length. The digits of sixteen bytes are made
+/// at a time, where one loop over all twenty would make those of four.
+#[tactic(auto, using(crate::proofs::Encoded::digits_append))]
+#[inline(always)]
+pub fn write_node(node: &NodeId, digits: &mut [u8])
+    requires { length digits.old ≡ 40 }
+    ensures { digits.new ≡ encode_lower node.now }
+{
+    let (front, back) = node.as_bytes().split_at(16);
+    let (front_digits, back_digits) = digits.split_at_mut(32);
+    write_hex(front, front_digits);
+    write_hex(back, back_digits);
+}
+
 /// The digits of an identifier.
 pub fn id_digits(id: &Id) -> [u8; 64]
     ensures { result ≡ encode_lower id.now }
@@ -42,7 +56,7 @@ pub fn node_digits(node: &NodeId) -> [u8; 40]
     ensures { result ≡ encode_lower node.now }
 {
     let mut digits = [0; 40];
-    write_hex(node.as_bytes(), &mut digits);
+    write_node(node, &mut digits);
     digits
 }
 

@@ -5,7 +5,7 @@ ghost use Rattle.snow_lines.specs.Gathered.{Gathers};
 ghost use Rattle.snow_lines.specs.Names.{line_name};
 ghost use Rattle.snow_lines.specs.Text.{spaced, draw_word, block_word, kind_word, query_word, restart_word, why_word};
 
-use crate::digits::{marked, write_hex};
+use crate::digits::{marked, write_hex, write_node};
 use crate::gathering::Gather;
 use crate::kind::Kind;
 use crate::why::{DropWhy, QueryWhy, RestartWhy, SkipKind};
@@ -109,7 +109,7 @@ impl Part for NodeId {
 
     fn put_into<G: Gather, K: Sink>(&self, out: &mut G, sink: &mut K) -> Result<(), Failed> {
         let mut word = [b' '; 41];
-        write_hex(self.as_bytes(), &mut word[1..]);
+        write_node(self, &mut word[1..]);
         out.put(&word, sink)
     }
 }
@@ -133,7 +133,7 @@ fn short_word(draw: &Draw) -> [u8; 43]
 {
     let mut word = *b" 0000000000000000000000000000000000000000*0";
     word[42] = b'0' + draw.count as u8;
-    write_hex(draw.node.as_bytes(), &mut word[1..41]);
+    write_node(&draw.node, &mut word[1..41]);
     word
 }
 

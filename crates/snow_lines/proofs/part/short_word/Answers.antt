@@ -9,6 +9,6 @@ returns c =
     let d = c.args.draw.now in
     let digit : List ℕ = (48 + d.count) ∷ [] in
     ap (λ (word : List ℕ). 32 ∷ word)
-    (ap (λ (node : List ℕ). node ++ 42 ∷ digit) (c.write_hex.ensures ∙ ap encode_lower c.as_bytes.ensures.bytes)
+    (ap (λ (node : List ℕ). node ++ 42 ∷ digit) (c.write_node.ensures)
     ∙ sym (append_assoc (encode_lower d.node) (codes "*") digit)
     ∙ ap (λ (count : List ℕ). (encode_lower d.node ++ codes "*") ++ count) (sym (decimal_digit d.count c.requires)))
