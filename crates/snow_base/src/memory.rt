@@ -9,7 +9,7 @@ use std::alloc::{AllocError, Global};
 use std::marker::Model;
 
 /// A source of bytes in memory, which fails at calls that are chosen beforehand.
-#[derive(Debug, Drop)]
+#[derive(Drop)]
 pub struct MemSource {
     bytes: Bytes,
     at: usize,
@@ -81,7 +81,7 @@ impl Source for MemSource {
 }
 
 /// A sink that keeps its bytes in memory, and fails at calls that are chosen beforehand.
-#[derive(Debug, Drop)]
+#[derive(Drop)]
 pub struct MemSink {
     written: Vec<u8>,
     room: usize,

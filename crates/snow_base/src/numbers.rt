@@ -4,7 +4,7 @@ use std::marker::Model;
 
 /// Numbers that are drawn one after the other, each once. Contracts see the last one drawn, 0 at
 /// first.
-#[derive(Debug, Drop)]
+#[derive(Drop)]
 pub struct Numbers {
     last: u32,
 }

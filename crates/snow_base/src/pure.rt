@@ -9,7 +9,7 @@ use crate::outside::{Failed, Sink, Source};
 use std::marker::Model;
 
 /// A source of bytes in memory that never fails.
-#[derive(Debug, Drop)]
+#[derive(Drop)]
 pub struct PureSource {
     bytes: Bytes,
     at: usize,
@@ -63,7 +63,7 @@ impl Source for PureSource {
 }
 
 /// A sink that takes every piece whole, keeps none of it, and never fails.
-#[derive(Debug, Drop)]
+#[derive(Drop)]
 pub struct PureSink {
     taken: u64,
 }
