@@ -89,10 +89,13 @@ fn query(alloc: Global, words: &mut Words) -> Result<Option<Line>, AllocError>
     let Some(id) = words.take() else {
         return Ok(None);
     };
-    match words.draws(alloc)? {
-        Some(draws) if !draws.list().is_empty() => Ok(Some(Line::Query { number, id, draws })),
-        _ => Ok(None),
+    let Some(draws) = words.draws(alloc)? else {
+        return Ok(None);
+    };
+    if draws.list().is_empty() {
+        return Ok(None);
     }
+    Ok(Some(Line::Query { number, id, draws }))
 }
 
 #[tactic(auto, unfolding(crate::specs::Reading::asks_accepted))]
@@ -102,10 +105,13 @@ fn accepted(alloc: Global, words: &mut Words) -> Result<Option<Line>, AllocError
     let Some(number) = words.take() else {
         return Ok(None);
     };
-    match words.ids(alloc)? {
-        Some(ids) if !ids.list().is_empty() => Ok(Some(Line::Accepted { number, ids })),
-        _ => Ok(None),
+    let Some(ids) = words.ids(alloc)? else {
+        return Ok(None);
+    };
+    if ids.list().is_empty() {
+        return Ok(None);
     }
+    Ok(Some(Line::Accepted { number, ids }))
 }
 
 #[tactic(auto, unfolding(crate::specs::Reading::tells_accepted))]
@@ -128,14 +134,17 @@ fn to_ancestors(alloc: Global, words: &mut Words) -> Result<Option<Line>, AllocE
     let Some((node, number)) = words.told() else {
         return Ok(None);
     };
-    match words.blocks(alloc)? {
-        Some(blocks) if !blocks.list().is_empty() => Ok(Some(Line::ToAncestors {
-            node,
-            number,
-            blocks,
-        })),
-        _ => Ok(None),
+    let Some(blocks) = words.blocks(alloc)? else {
+        return Ok(None);
+    };
+    if blocks.list().is_empty() {
+        return Ok(None);
     }
+    Ok(Some(Line::ToAncestors {
+        node,
+        number,
+        blocks,
+    }))
 }
 
 #[tactic(auto, unfolding(crate::specs::Reading::tells_block, crate::specs::Reading::field))]
@@ -148,14 +157,17 @@ fn to_block(alloc: Global, words: &mut Words) -> Result<Option<Line>, AllocError
     let Some(word) = words.next() else {
         return Ok(None);
     };
-    match field::block(alloc, word)? {
-        Some(bytes) if words.is_at_end() => Ok(Some(Line::ToBlock {
-            node,
-            number,
-            bytes,
-        })),
-        _ => Ok(None),
+    let Some(bytes) = field::block(alloc, word)? else {
+        return Ok(None);
+    };
+    if !words.is_at_end() {
+        return Ok(None);
     }
+    Ok(Some(Line::ToBlock {
+        node,
+        number,
+        bytes,
+    }))
 }
 
 // A line without a list, up to its last word.
