@@ -1,6 +1,9 @@
 -- The words of a line in a row, and those of its list behind the others.
-use Rattle.std.proofs.Common.{◌≡◌, ℕ, List, [], ◌∷◌, ◌++◌, flat_map, map, refl, sym, ap, ◌∙◌, append_assoc, append-nil}
+use Rattle.std.proofs.Common.{◌≡◌, ℕ, List, [], ◌∷◌, ◌++◌, flat_map, map, Option, Result, refl, sym, ap, subst, ◌∙◌, append_assoc, append-nil}
 use Rattle.std.specs.List.{join_with_byte}
+use Rattle.std.specs.Result.{OnOk, OnErr}
+use Rattle.snow_base.specs.Outside.{AppendsFront}
+use Rattle.snow_lines.specs.Gathered.{Gathers}
 use Rattle.snow_lines.specs.Text.{spaced}
 
 -- a word and further words
@@ -19,3 +22,15 @@ joined_both word (next ∷ some) more =
 pub each_spaced : {A : Type 0} (word : A → List ℕ) (items : List A) → flat_map spaced (map word items) ≡ flat_map (λ x. spaced (word x)) items
 each_spaced word [] = refl
 each_spaced word (x ∷ items) = ap (λ l. spaced (word x) ++ l) (each_spaced word items)
+
+-- the words of a list came
+pub list_came : {A T E : Type 0} (word : A → List ℕ) (items seen : List A) (r : Result T E) (a b : Option (List ℕ)) (w u : List ℕ) → seen ≡ items
+    → OnOk r (Gathers a w b u (flat_map (λ x. spaced (word x)) seen)) → OnOk r (Gathers a w b u (flat_map spaced (map word items)))
+list_came word items seen r a b w u e p =
+    subst (λ (t : List ℕ). OnOk r (Gathers a w b u t)) (ap (flat_map (λ x. spaced (word x))) e ∙ sym (each_spaced word items)) p
+
+-- the call for them failed
+pub list_failed : {A T E : Type 0} (word : A → List ℕ) (items seen : List A) (r : Result T E) (a b : Option (List ℕ)) (w : List ℕ) → seen ≡ items
+    → OnErr r (AppendsFront a b (w ++ flat_map (λ x. spaced (word x)) seen)) → OnErr r (AppendsFront a b (w ++ flat_map spaced (map word items)))
+list_failed word items seen r a b w e p =
+    subst (λ (t : List ℕ). OnErr r (AppendsFront a b (w ++ t))) (ap (flat_map (λ x. spaced (word x))) e ∙ sym (each_spaced word items)) p

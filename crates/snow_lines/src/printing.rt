@@ -89,7 +89,7 @@ fn put_front<G: Gather, K: Sink>(out: &mut G, line: &Line, sink: &mut K) -> Resu
 }
 
 /// Appends the words of a line's list.
-#[tactic(auto, using(crate::proofs::Waiting::gathers_none, crate::proofs::Joined::each_spaced))]
+#[tactic(auto, using(crate::proofs::Waiting::gathers_none))]
 fn put_list<G: Gather, K: Sink>(out: &mut G, line: &Line, sink: &mut K) -> Result<(), Failed>
     ensures ok { OnOk result (Gathers (K.written sink.old) (G.waiting out.old) (K.written sink.new) (G.waiting out.new) (flat_map spaced (listed line.now))) }
     ensures err { OnErr result (AppendsFront (K.written sink.old) (K.written sink.new) (G.waiting out.old ++ flat_map spaced (listed line.now))) }
