@@ -1,7 +1,7 @@
 -- Lemmas on what is seen of the nodes.
 use Rattle.std.proofs.Common.{◌≡◌, ℕ, zero, suc, ◌+◌, ◌-◌, Bool, true, false, not, cond, nat_lt, nat_eq, ◌||◌, List, [], ◌∷◌, ◌++◌, length, get_or, reverse, map, find, bytes_eq, All, Option, Some, None, IfSome, is_some, slice_get, Result, Ok, Err, is_err, OnOk, refl, sym, ap, subst, ◌∙◌, arith, length-append}
 use Rattle.std.specs.List.{list_any, position, prefix_len}
-use Rattle.std.specs.Map.{keys_of, lookup}
+use Rattle.std.specs.Map.{lookup}
 use Rattle.std.specs.Option.{option_map}
 use Rattle.std.proofs.lemmas.Bool.{or_parts, or_left, or_right}
 use Rattle.std.proofs.lemmas.List.{length-map}
@@ -18,7 +18,7 @@ use Rattle.snow_plain.proofs.Grown.{grown_parent, grown_rest, no_line, has_block
 use Rattle.snow_tree.specs.declared.node.Node.{Node}
 use Rattle.snow_tree.specs.Held.{children_of, set_load}
 use Rattle.snow_tree.specs.Nodes.{block_of, blocks_of, entry_of, with_children, IsKept}
-use Rattle.snow_tree.proofs.Placed.{position_cons, place_same}
+use Rattle.snow_tree.proofs.Placed.{position_cons}
 use Rattle.snow_tree.proofs.Listed.{no_children}
 use Rattle.snow_tree.proofs.Linked.{no_block}
 use Rattle.snow_tree.proofs.Numbered.{length-set_value_at}
@@ -218,19 +218,16 @@ module _ {T : Type 0} where
   one_seen : (x e : List ℕ × Node T) (o : Option (List ℕ × Node T)) → o ≡ Some x → o ≡ Some e → x ≡ e
   one_seen x e o h at = let both : Some x ≡ Some e = sym h ∙ at in cc
 
-  -- the parent is the last accepted block
-  pub parent_off : (nodes : List (List ℕ × Node T)) (last : List ℕ) (place : ℕ) (x : List ℕ × Node T) → has_block (blocks_of nodes) last ≡ false → slice_get nodes place ≡ Some x → last ≡ x.1.parent
-      → (e : List ℕ × Node T) → slice_get nodes place ≡ Some e → None ≡ position (λ y. bytes_eq y.0 e.1.parent) nodes
-  parent_off nodes last place x off there is e at =
-      let same = one_seen x e (slice_get nodes place) there at in
-      sym (off_place nodes e.1.parent (ap (has_block (blocks_of nodes)) (sym (is ∙ ap (λ (y : List ℕ × Node T). y.1.parent) same)) ∙ off))
+  -- a parent that is the last accepted block has none
+  pub parent_off : (nodes : List (List ℕ × Node T)) (last parent : List ℕ) → has_block (blocks_of nodes) last ≡ false → last ≡ parent → None ≡ position (λ e. bytes_eq e.0 parent) nodes
+  parent_off nodes last parent off is = sym (off_place nodes parent (ap (has_block (blocks_of nodes)) (sym is) ∙ off))
 
-  -- or it was looked for
-  pub parent_found : (nodes : List (List ℕ × Node T)) (place : ℕ) (x : List ℕ × Node T) (r : Option ℕ) → slice_get nodes place ≡ Some x → r ≡ position (bytes_eq x.1.parent) (keys_of nodes)
+  -- the parent was looked for
+  pub parent_found : (nodes : List (List ℕ × Node T)) (place : ℕ) (x : List ℕ × Node T) (r : Option ℕ) → slice_get nodes place ≡ Some x → r ≡ position (λ y. bytes_eq y.0 x.1.parent) nodes
       → (e : List ℕ × Node T) → slice_get nodes place ≡ Some e → r ≡ position (λ y. bytes_eq y.0 e.1.parent) nodes
   parent_found nodes place x r there is e at =
       let same = one_seen x e (slice_get nodes place) there at in
-      is ∙ place_same nodes x.1.parent ∙ ap (λ (y : List ℕ × Node T). position (λ z. bytes_eq z.0 y.1.parent) nodes) same
+      is ∙ ap (λ (y : List ℕ × Node T). position (λ z. bytes_eq z.0 y.1.parent) nodes) same
 
   -- as it is seen
   pub parent_seen : (nodes : List (List ℕ × Node T)) (place : ℕ) (r : Option ℕ) → ((e : List ℕ × Node T) → slice_get nodes place ≡ Some e → r ≡ position (λ y. bytes_eq y.0 e.1.parent) nodes)

@@ -23,14 +23,14 @@ fn link_at<T>(nodes: &mut Nodes<T>, at: usize, id: Id) -> Result<(), AllocError>
     }
 }
 
-// A block was issued: it is the last child of its parent, for whose place there is a guess. After want of
-// memory all is as before.
+// A block was issued: it is the last child of its parent, of which there is a guess how far back it stands.
+// After want of memory all is as before.
 fn link<T>(
     first: &mut Children,
     nodes: &mut Nodes<T>,
     last: &Id,
     block: &Header,
-    guess: usize,
+    back: usize,
 ) -> Result<(), AllocError>
     requires { has_block (blocks_of nodes.old.entries) last.now ≡ false }
     ensures first { OnOk result (first.new ≡ linked block.now last.now first.old) }
@@ -42,6 +42,7 @@ fn link<T>(
     if *last == block.parent {
         return first.push(block.id);
     }
+    let guess = nodes.len().wrapping_sub(back);
     match nodes.find(guess, &block.parent) {
         Some(at) => link_at(nodes, at, block.id),
         None => Ok(()),
@@ -83,7 +84,7 @@ pub(crate) fn make_room<T>(
     rejected: &mut Vec<Id>,
     last: &Id,
     block: &Header,
-    guess: usize,
+    back: usize,
 ) -> Result<(), AllocError>
     requires { has_block (blocks_of nodes.old.entries) last.now ≡ false }
     ensures first { OnOk result (first.new ≡ linked block.now last.now first.old) }
@@ -96,5 +97,5 @@ pub(crate) fn make_room<T>(
 {
     rejected.reserve(nodes.len() + 1)?;
     nodes.reserve_one()?;
-    link(first, nodes, last, block, guess)
+    link(first, nodes, last, block, back)
 }

@@ -16,26 +16,47 @@ pub(crate) fn place_of<T>(nodes: &Nodes<T>, id: &Id) -> Option<usize>
     nodes.get_index_of(id)
 }
 
-/// A guess where the parent of a block stands that is issued now; 0 where it isn't pending.
-pub(crate) fn guess_of<T>(nodes: &Nodes<T>, last: &Id, parent: &Id) -> usize {
+/// How far before the next block to be issued its parent stands; 0 where that isn't pending. It is a guess
+/// where the parent stands later on.
+pub(crate) fn back_to<T>(nodes: &Nodes<T>, last: &Id, parent: &Id) -> usize {
     if *last == *parent {
         return 0;
     }
-    place_of(nodes, parent).unwrap_or(0)
+    match place_of(nodes, parent) {
+        Some(at) => nodes.len().wrapping_sub(at),
+        None => 0,
+    }
 }
 
-/// Where the parent of the block at a place stands. The map isn't asked where the guess is right.
+// Where a parent stands, by a guess how far before a place. Where that is right neither the map is asked
+// nor whether the parent is the last accepted block.
+fn place_before<T>(
+    nodes: &Nodes<T>,
+    last: &Id,
+    place: usize,
+    back: usize,
+    parent: &Id,
+) -> Option<usize>
+    requires { has_block (blocks_of nodes.now.entries) last.now ≡ false }
+    ensures { result ≡ position (λ e. bytes_eq e.0 parent.now) nodes.now.entries }
+{
+    let guess = place.wrapping_sub(back);
+    if back > 0 && nodes.is_at(guess, parent) {
+        return Some(guess);
+    }
+    if *last == *parent {
+        return None;
+    }
+    place_of(nodes, parent)
+}
+
+/// Where the parent of the block at a place stands.
 pub(crate) fn parent_of<T>(nodes: &Nodes<T>, last: &Id, place: usize) -> Option<usize>
     requires { has_block (blocks_of nodes.now.entries) last.now ≡ false }
     ensures { (e : List ℕ × Node T) → slice_get nodes.now.entries place ≡ Some e → result ≡ position (λ x. bytes_eq x.0 e.1.parent) nodes.now.entries }
 {
     match nodes.get_index(place) {
-        Some((_, node)) => {
-            if *last == node.parent {
-                return None;
-            }
-            nodes.find(place.wrapping_sub(node.back), &node.parent)
-        }
+        Some((_, node)) => place_before(nodes, last, place, node.back, &node.parent),
         None => None,
     }
 }

@@ -7,7 +7,8 @@ use snow_base::Id;
 pub(crate) struct Node<T> {
     pub(crate) parent: Id,
     pub(crate) height: u64,
-    // How far before it its parent stood when it was issued: a guess where that stands, which is tried first.
+    // How far before it its parent stood when it was issued, a guess where that stands; 0 where it wasn't
+    // pending.
     pub(crate) back: usize,
     pub(crate) children: Children,
     // What an acceptance notes of it while it goes on. Nothing reads it else.

@@ -69,8 +69,8 @@ impl<V> Row<V> {
         }
     }
 
-    // Whether an identifier stands at a place.
-    fn is_at(&self, place: usize, id: &Id) -> bool
+    /// Whether an identifier stands at a place.
+    pub(crate) fn is_at(&self, place: usize, id: &Id) -> bool
         ensures { result ≡ true → position (bytes_eq id.now) (keys_of self.now.entries) ≡ Some place }
     {
         let _len = self.len();

@@ -6,7 +6,7 @@ ghost use Rattle.snow_tree.specs.Held.{blocks_in, begun, inserted, taken_back, p
 use crate::children::Children;
 use crate::leaving::take_accepted;
 use crate::linking::{make_room, unlink};
-use crate::looking::{ancestor, block_at, guess_of, parent_of, place_of};
+use crate::looking::{ancestor, back_to, block_at, parent_of, place_of};
 use crate::node::{Node, Nodes};
 use crate::row::Row;
 use snow_base::{Header, Id};
@@ -82,19 +82,18 @@ impl<T: Drop> Tree<T> {
         ensures load { IfErr result (λ full. full.load ≡ load) }
     {
         let block = Header { id, parent, height };
-        let guess = guess_of(&self.nodes, &self.last, &parent);
+        let back = back_to(&self.nodes, &self.last, &parent);
         let room = make_room(
             &mut self.children,
             &mut self.nodes,
             &mut self.rejected,
             &self.last,
             &block,
-            guess,
+            back,
         );
         if room.is_err() {
             return Err(TreeFull { load });
         }
-        let back = self.nodes.len().wrapping_sub(guess);
         let node = Node {
             parent,
             height,
