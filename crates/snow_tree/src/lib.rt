@@ -2,6 +2,7 @@
 #![tactic(auto)]
 
 mod children;
+mod hints;
 mod leaving;
 mod linking;
 mod looking;

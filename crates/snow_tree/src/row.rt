@@ -3,6 +3,7 @@ ghost use Rattle.std.specs.List.{IsDistinct, position};
 ghost use Rattle.std.specs.Map.{keys_of, values_of, lookup};
 ghost use Rattle.std.specs.Option.{option_map, option_copied, option_copied_mut};
 
+use crate::hints::Hints;
 use snow_base::Id;
 use std::alloc::{AllocError, Global};
 use std::collections::{HashMap, VecDeque};
@@ -10,12 +11,13 @@ use std::marker::Model;
 
 /// Values in a row, each found by its identifier. As an `IndexMap`, but the first one leaves without
 /// moving the others: an identifier has a number and no place, and the place is how far that lies above
-/// the first's.
+/// the first's. Most are found by a hint, without the map.
 #[derive(Debug, Drop)]
 pub(crate) struct Row<V> {
     entries: VecDeque<(Id, V)>,
     numbers: HashMap<Id, usize>,
     first: usize,
+    hints: Hints,
 }
 
 impl<V> Model for Row<V> {
@@ -46,6 +48,7 @@ impl<V> Row<V> {
             entries: VecDeque::new(alloc),
             numbers: HashMap::new(alloc),
             first: 0,
+            hints: Hints::new(alloc),
         }
     }
 
@@ -58,8 +61,8 @@ impl<V> Row<V> {
         self.entries.len()
     }
 
-    /// The place of an identifier.
-    pub(crate) fn get_index_of(&self, id: &Id) -> Option<usize>
+    // The place of an identifier, by the map.
+    fn look_up(&self, id: &Id) -> Option<usize>
         ensures index { result ≡ position (bytes_eq id.now) (keys_of self.now.entries) }
         ensures unique { IsDistinct bytes_eq (keys_of self.now.entries) }
     {
@@ -89,7 +92,15 @@ impl<V> Row<V> {
         if self.is_at(guess, id) {
             return Some(guess);
         }
-        self.get_index_of(id)
+        self.look_up(id)
+    }
+
+    /// The place of an identifier.
+    pub(crate) fn get_index_of(&self, id: &Id) -> Option<usize>
+        ensures index { result ≡ position (bytes_eq id.now) (keys_of self.now.entries) }
+        ensures unique { IsDistinct bytes_eq (keys_of self.now.entries) }
+    {
+        self.find(self.hints.place_of(id, self.first), id)
     }
 
     /// The identifier and the value at a place.
@@ -129,6 +140,7 @@ impl<V> Row<V> {
         ensures entries { self.new.entries ≡ self.old.entries }
         ensures room { OnOk result (0 < self.new.spare) }
     {
+        self.hints.make_room(self.entries.len())?;
         self.entries.reserve(1)?;
         self.numbers.reserve(1)
     }
@@ -140,6 +152,7 @@ impl<V> Row<V> {
         ensures { self.new.entries ≡ self.old.entries ++ (id, value) ∷ [] }
     {
         let number = self.first.wrapping_add(self.entries.len());
+        self.hints.note(&id, number);
         let added: Result<_, _> = self.numbers.insert(id, number);
         let _ = added.unwrap();
         self.entries.push_back_reserved((id, value));
@@ -175,6 +188,7 @@ impl<V> Row<V> {
             None => return,
         };
         let number = self.first.wrapping_add(self.entries.len());
+        self.hints.note(&key, number);
         let moved: Result<_, _> = self.numbers.insert(key, number);
         let _ = moved.unwrap();
         self.entries.rotate_left(1);

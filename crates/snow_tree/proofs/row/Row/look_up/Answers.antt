@@ -2,7 +2,7 @@ use Rattle.std.proofs.Common.{◌<◌, ◌^◌, length, bytes_eq, sym, ap, ◌�
 use Rattle.std.specs.HashMap.{get}
 use Rattle.std.specs.Option.{option_copied}
 use Rattle.snow_tree.proofs.Numbered.{place_read, place_unread}
-use Rattle.snow_tree.proofs.row.Row.get_index_of.Goals as goal
+use Rattle.snow_tree.proofs.row.Row.look_up.Goals as goal
 
 pub returns-in-Some-clause-index : goal.returns-in-Some-clause-index
 returns-in-Some-clause-index g c =
