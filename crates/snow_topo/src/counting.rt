@@ -15,7 +15,7 @@ ghost use Rattle.snow_topo.specs.Recording.{recording};
 
 use crate::climber::Climber;
 use crate::climbing::{climb, either};
-use crate::gathering::gather;
+use crate::gathering::{gather, total};
 use crate::ladder::Ladder;
 use crate::load::Load;
 use crate::visiting::has_quorum;
@@ -49,7 +49,7 @@ fn record_root<R: Rule, L: Ledger>(
     ensures places { children.old.room + length children.old.list ≤ children.new.room + length children.new.list }
 {
     let _k = params.k();
-    if has_quorum(params, came) {
+    if has_quorum(params, total(came)) {
         gather(tree, came, children);
         root.record(polls, children.entries(), steps)
     } else {

@@ -41,28 +41,29 @@ fn record_at<R: Rule, L: Ledger>(
     }
 }
 
-/// Whether these votes are AlphaPreference.
-pub(crate) fn has_quorum(params: &Params, came: &[Climber]) -> bool
-    requires { climber_total came.now < 2 ^ 32 }
-    ensures value { result ≡ nat_le params.now.alpha_preference (climber_total came.now) }
+/// Whether so many votes are AlphaPreference.
+pub(crate) fn has_quorum(params: &Params, count: u32) -> bool
+    ensures value { result ≡ nat_le params.now.alpha_preference count }
     ensures good { AreGood params.now }
 {
-    total(came) >= params.alpha_preference()
+    count >= params.alpha_preference()
 }
 
-// What is kept at a place takes the next poll with the votes that came to its block, where they are
-// AlphaPreference; else it is left alone, and has failed by its number. The answer is whether it leads
-// elsewhere then.
+// What is kept at a place takes the next poll with the votes that came to its block, so many in all, where
+// they are AlphaPreference; else it is left alone, and has failed by its number. The answer is whether it
+// leads elsewhere then.
 fn record_quorum<R: Rule, L: Ledger>(
     params: &Params,
     tree: &mut Tree<Load<R>>,
     at: usize,
     polls: u64,
     came: &[Climber],
+    count: u32,
     children: &mut Bag,
     steps: &mut Steps<L>,
 ) -> bool
     requires room { polls + 1 < 2 ^ 64 }
+    requires count { count ≡ climber_total came.now }
     requires places { length came.now ≤ children.old.room + length children.old.list }
     requires placed { All (λ c. c.passed < length (tree.old).pending) came.now }
     requires counts { All (λ c. 0 < c.count) came.now }
@@ -74,7 +75,7 @@ fn record_quorum<R: Rule, L: Ledger>(
     ensures places { children.old.room + length children.old.list ≤ children.new.room + length children.new.list }
 {
     let _k = params.k();
-    if has_quorum(params, came) {
+    if has_quorum(params, count) {
         gather(tree, came, children);
         record_at(tree, at, polls, children.entries(), steps)
     } else {
@@ -82,19 +83,16 @@ fn record_quorum<R: Rule, L: Ledger>(
     }
 }
 
-// The votes that came to the block at a place go on to its parent together.
-fn pass<R: Rule>(tree: &Tree<Load<R>>, at: usize, ladder: &mut Ladder)
+// So many votes that came to the block at a place go on to its parent together.
+fn pass<R: Rule>(tree: &Tree<Load<R>>, at: usize, count: u32, ladder: &mut Ladder)
     requires room { (ladder.old).put < (ladder.old).most }
     requires within { at < length (tree.now).pending }
     requires below { reach (blocks_in (tree.now).pending) (parent_in (slice_get (blocks_in (tree.now).pending) at)) < (ladder.old).low }
-    requires total { climber_total (ladder.old).came < 2 ^ 32 }
-    ensures same { let n = climber_total (ladder.old).came in
-        IsPermutation (if nat_lt 0 n then passing (blocks_in (tree.now).pending) at n ∷ (ladder.old).climbers else (ladder.old).climbers) (ladder.new).climbers }
+    ensures same { IsPermutation (if nat_lt 0 count then passing (blocks_in (tree.now).pending) at count ∷ (ladder.old).climbers else (ladder.old).climbers) (ladder.new).climbers }
     ensures put { (ladder.new).put ≤ (ladder.old).put + 1 }
     ensures low { (ladder.new).low ≡ (ladder.old).low }
     ensures room { KeepsRoom ladder.old ladder.new }
 {
-    let count = total(ladder.came());
     if count > 0 {
         go_on(tree, ladder, at, count);
     }
@@ -136,7 +134,9 @@ pub(crate) fn visit<R: Rule, L: Ledger>(
         return false;
     }
     ladder.take(at + 1);
-    let moved = record_quorum(params, tree, at, polls, ladder.came(), children, steps);
-    pass(tree, at, ladder);
+    let came = ladder.came();
+    let count = total(came);
+    let moved = record_quorum(params, tree, at, polls, came, count, children, steps);
+    pass(tree, at, count, ladder);
     moved
 }

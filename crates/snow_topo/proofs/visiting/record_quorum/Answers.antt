@@ -45,6 +45,7 @@ returns-else-has_quorum-clause-taken g c =
       λ children fits. left_alone c.args.params.now c.args.polls children e.load (votes_at cursors e.block.id) c.has_quorum.ensures.good fits
           (λ front. omega (
             arith,
+            c.requires.count,
             few_came e.block.id cursors front,
             same_total (blocks_in c.args.tree.now.pending) c.args.came.now,
             no_quorum _ _ (sym c.has_quorum.ensures.value ∙ c.if-has_quorum.false),

@@ -1,17 +1,23 @@
-use Rattle.std.proofs.Common.{◌≡◌, ◌<◌, ◌+◌, ◌*◌, ◌≤◌, ℕ, nat_le, [], Bool, List, IsPermutation, length, slice_get, rules, sym, ap, subst, ◌∙◌, arith, if◌then◌else◌}
+use Rattle.std.proofs.Common.{◌≡◌, ◌<◌, ◌+◌, ◌*◌, ◌≤◌, ℕ, nat_le, nat_lt, [], ◌∷◌, Bool, List, IsPermutation, length, slice_get, rules, sym, ap, subst, ◌∙◌, arith, if◌then◌else◌}
 use Rattle.std.proofs.lemmas.List.{length-map}
 use Rattle.std.proofs.lemmas.Option.{slice_get_within}
 use Rattle.snow_plain.specs.Cursors.{votes_at}
-use Rattle.snow_tree.specs.Held.{blocks_in}
-use Rattle.snow_topo.specs.Kept.{ids_in}
+use Rattle.snow_tree.specs.Held.{Held, blocks_in}
+use Rattle.snow_topo.specs.declared.climber.Climber.{Climber}
+use Rattle.snow_topo.specs.Kept.{Kept, ids_in}
 use Rattle.snow_topo.specs.Half.{HasTaken}
-use Rattle.snow_topo.specs.Climbing.{climber_total, cursor_of, cursors_of, parent_in, reach}
+use Rattle.snow_topo.specs.Climbing.{climber_total, cursor_of, cursors_of, parent_in, passing, reach}
 use Rattle.snow_topo.specs.Ladder.{Rungs}
 use Rattle.snow_topo.proofs.Climbers.{all_back, same_total, highest_place, of_group, group_total, group_few, votes_of_group, passed_on, merged_on, placed_on}
 use Rattle.snow_topo.proofs.Climbs.{block_at, entry_at, blocks_after, parent_reach, group_come, group_others, some_of}
 use Rattle.snow_topo.proofs.Merged.{all_came}
 use Rattle.snow_topo.proofs.Taken.{if_some}
 use Rattle.snow_topo.proofs.visiting.visit.Goals as goal
+
+-- as many votes as came went on
+passed_of : (held : Held Kept) (at n : ℕ) (rest came new : List Climber) → n ≡ climber_total came
+    → IsPermutation (if nat_lt 0 n then passing (blocks_in held.pending) at n ∷ rest else rest) new → IsPermutation (passed_on (blocks_in held.pending) at rest came) new
+passed_of held at n rest came new is same = subst (λ m. IsPermutation (if nat_lt 0 m then passing (blocks_in held.pending) at m ∷ rest else rest) new) is same
 
 pub overflow_add-at : goal.overflow_add-at
 overflow_add-at g c = let below = c.requires.below in let low = c.low-low.ensures in search rules
@@ -22,32 +28,32 @@ take-requires-clause-highest g c =
 
 pub record_quorum-moved-requires-clause-places : goal.record_quorum-moved-requires-clause-places
 record_quorum-moved-requires-clause-places g c =
-    omega (arith, c.requires.places, ap length c.came.ensures, group_few (c.args.at + 1) c.args.ladder.now.climbers c.take.new.self.came c.take.ensures.came)
+    omega (arith, c.requires.places, ap length c.came-came.ensures, group_few (c.args.at + 1) c.args.ladder.now.climbers c.take.new.self.came c.take.ensures.came)
 
 pub record_quorum-moved-requires-clause-placed : goal.record_quorum-moved-requires-clause-placed
 record_quorum-moved-requires-clause-placed g c =
     let first = c.args.tree.now.pending in
     let bs = blocks_in first in
     let all = of_group (λ x. (x.passed < length bs) × (x.place ≡ reach bs (parent_in (slice_get bs x.passed)))) (c.args.at + 1) c.args.ladder.now.climbers c.take.new.self.came c.take.ensures.came c.requires.placed in
-    rw c.came.ensures (λ k d h. omega (arith, (all k d h).0, length-map first (λ e. e.block)))
+    rw c.came-came.ensures (λ k d h. omega (arith, (all k d h).0, length-map first (λ e. e.block)))
 
 pub record_quorum-moved-requires-clause-counts : goal.record_quorum-moved-requires-clause-counts
 record_quorum-moved-requires-clause-counts g c =
     let bs = blocks_in c.args.tree.now.pending in
     let cs = c.args.ladder.now.climbers in
-    rw c.came.ensures (of_group (λ x. 0 < x.count) (c.args.at + 1) cs c.take.new.self.came c.take.ensures.came (all_back (λ x. 0 < x.count) (cursor_of bs) cs c.requires.climbing.1.counts))
+    rw c.came-came.ensures (of_group (λ x. 0 < x.count) (c.args.at + 1) cs c.take.new.self.came c.take.ensures.came (all_back (λ x. 0 < x.count) (cursor_of bs) cs c.requires.climbing.1.counts))
 
 pub record_quorum-moved-requires-clause-total : goal.record_quorum-moved-requires-clause-total
 record_quorum-moved-requires-clause-total g c =
     let bs = blocks_in c.args.tree.now.pending in
     let cs = c.args.ladder.now.climbers in
-    omega (arith, ap climber_total c.came.ensures, group_total (c.args.at + 1) cs c.take.new.self.came c.take.ensures.came, same_total bs cs, c.requires.climbing.1.total)
+    omega (arith, ap climber_total c.came-came.ensures, group_total (c.args.at + 1) cs c.take.new.self.came c.take.ensures.came, same_total bs cs, c.requires.climbing.1.total)
 
 pub record_quorum-moved-requires-clause-came : goal.record_quorum-moved-requires-clause-came
 record_quorum-moved-requires-clause-came g c =
     let first = c.args.tree.now.pending in
     let cs = c.args.ladder.now.climbers in
-    rw c.came.ensures
+    rw c.came-came.ensures
     (if_some (slice_get first c.args.at) _ _
     (λ e fit. group_come c.args.params.now c.requires.climbing.0 c.args.tree.now.last first c.args.at e cs c.take.new.self.came c.last-last.ensures.grown fit.0 c.requires.climbing.1 c.requires.placed c.take.ensures.came)
     c.requires.fit)
@@ -83,11 +89,18 @@ pass-requires-clause-below g c =
       ap (λ (s : Rungs). s.low) c.take.ensures.rest,
     )
 
-pub pass-requires-clause-total : goal.pass-requires-clause-total
-pass-requires-clause-total g c =
+pub total-count-requires : goal.total-count-requires
+total-count-requires g c =
     let bs = blocks_in c.args.tree.now.pending in
     let cs = c.args.ladder.now.climbers in
-    omega (arith, group_total (c.args.at + 1) cs c.take.new.self.came c.take.ensures.came, same_total bs cs, c.requires.climbing.1.total, c.k-k.ensures.value)
+    omega (
+      arith,
+      ap climber_total c.came-came.ensures,
+      group_total (c.args.at + 1) cs c.take.new.self.came c.take.ensures.came,
+      same_total bs cs,
+      c.requires.climbing.1.total,
+      c.k-k.ensures.value,
+    )
 
 pub returns-clause-taken : goal.returns-clause-taken
 returns-clause-taken g c =
@@ -101,7 +114,7 @@ returns-clause-taken g c =
       took.1.0,
       took.1.1,
       subst (λ (f : List Bool → ℕ). HasTaken c.args.params.now c.args.polls f e.load took.1.0)
-          (ap (λ l. votes_at (cursors_of bs l) e.block.id) c.came.ensures ∙ sym (votes_of_group bs e.block (c.args.at + 1) cs c.take.new.self.came c.take.ensures.came others)) took.1.2,
+          (ap (λ l. votes_at (cursors_of bs l) e.block.id) c.came-came.ensures ∙ sym (votes_of_group bs e.block (c.args.at + 1) cs c.take.new.self.came c.take.ensures.came others)) took.1.2,
       took.1.3,
     ))
     c.record_quorum-moved.ensures.taken
@@ -117,8 +130,8 @@ returns-clause-steps g c =
     (λ e given.
     let come = group_come c.args.params.now c.requires.climbing.0 held.last first c.args.at e cs came c.last-last.ensures.grown given.0 c.requires.climbing.1 c.requires.placed c.take.ensures.came in
     let others = group_others held.last first c.args.at e cs c.last-last.ensures.grown given.0 c.requires.placed in
-    let total : climber_total c.came.result.now ≡ votes_at (cursors_of bs cs) e.block.id [] =
-    ap climber_total c.came.ensures ∙ sym (same_total bs came) ∙ sym (all_came bs e.block.id (cursors_of bs came) come)
+    let total : climber_total c.came-came.result.now ≡ votes_at (cursors_of bs cs) e.block.id [] =
+    ap climber_total c.came-came.ensures ∙ sym (same_total bs came) ∙ sym (all_came bs e.block.id (cursors_of bs came) come)
     ∙ sym (ap (λ f. f []) (votes_of_group bs e.block (c.args.at + 1) cs came c.take.ensures.came others))
     in
     subst (λ n. c.record_quorum-moved.new.steps ≤ c.args.steps.now + 5 * (if nat_le c.args.params.now.alpha_preference n then length (ids_in e.load.contest) else 0)) total given.1)
@@ -138,7 +151,8 @@ returns-clause-merged g c =
     let blocks = blocks_after c.record_quorum-moved.new.tree held c.args.at took.1.0 took.1.1 in
     merged_on bs e.block c.args.at cs came c.pass.new.ladder.climbers (block_at first c.args.at e took.0) others come c.take.ensures.came
     (subst (λ l. IsPermutation (passed_on bs c.args.at l came) c.pass.new.ladder.climbers) c.take.ensures.climbers
-    (subst (λ l. IsPermutation (passed_on l c.args.at c.take.new.self.climbers came) c.pass.new.ladder.climbers) blocks c.pass.ensures.same)))
+    (subst (λ l. IsPermutation (passed_on l c.args.at c.take.new.self.climbers came) c.pass.new.ladder.climbers) blocks
+    (passed_of c.record_quorum-moved.new.tree c.args.at _ c.take.new.self.climbers came c.pass.new.ladder.climbers (c.total-count.ensures ∙ ap climber_total c.came-came.ensures) c.pass.ensures.same))))
     c.record_quorum-moved.ensures.taken
 
 pub returns-clause-placed : goal.returns-clause-placed
@@ -152,4 +166,5 @@ returns-clause-placed g c =
     let blocks = blocks_after c.record_quorum-moved.new.tree held c.args.at took.0 took.1 in
     placed_on bs c.args.at cs came c.pass.new.ladder.climbers (slice_get_within bs c.args.at found.0.block (block_at held.pending c.args.at found.0 found.1)) c.requires.placed
     (subst (λ l. IsPermutation (passed_on bs c.args.at l came) c.pass.new.ladder.climbers) c.take.ensures.climbers
-    (subst (λ l. IsPermutation (passed_on l c.args.at c.take.new.self.climbers came) c.pass.new.ladder.climbers) blocks c.pass.ensures.same))
+    (subst (λ l. IsPermutation (passed_on l c.args.at c.take.new.self.climbers came) c.pass.new.ladder.climbers) blocks
+    (passed_of c.record_quorum-moved.new.tree c.args.at _ c.take.new.self.climbers came c.pass.new.ladder.climbers (c.total-count.ensures ∙ ap climber_total c.came-came.ensures) c.pass.ensures.same)))
