@@ -95,16 +95,18 @@ fn count_one<R: Rule>(tree: &Tree<Load<R>>, ladder: &mut Ladder, waiting: &mut V
     }
 }
 
-// Where votes for a block wait: those for different blocks are to wait at different places.
-fn seat_of(id: &Id) -> usize
-    ensures { result < 8 }
+// Where of so many seats votes for a block wait: those for different blocks are to wait at different ones.
+// The seats are as many as a power of two.
+fn seat_of(id: &Id, seats: usize) -> usize
+    requires { 0 < seats }
+    ensures { result < seats }
 {
-    usize::from(id.as_bytes()[0] % 8)
+    usize::from(id.as_bytes()[0]) & (seats - 1)
 }
 
 // One vote more for each of these identifiers.
 fn count_each<R: Rule>(tree: &Tree<Load<R>>, ladder: &mut Ladder, waiting: &mut [Vote], ids: &[Id])
-    requires seats { length waiting.old ≡ 8 }
+    requires seats { 0 < length waiting.old }
     requires room { (ladder.old).put + total_count waiting.old + length ids.now ≤ (ladder.old).most }
     requires few { total_count waiting.old + length ids.now < 2 ^ 32 }
     requires low { length (tree.now).pending < (ladder.old).low }
@@ -114,14 +116,57 @@ fn count_each<R: Rule>(tree: &Tree<Load<R>>, ladder: &mut Ladder, waiting: &mut 
     ensures low { (ladder.new).low ≡ (ladder.old).low }
     ensures room { KeepsRoom ladder.old ladder.new }
 {
+    let seats = waiting.len();
     for id in ids {
-        let seat = &mut waiting[seat_of(id)];
+        let seat = &mut waiting[seat_of(id, seats)];
         count_one(tree, ladder, seat, id);
     }
 }
 
-// The same where most of the votes for one block go on as one: a few wait for others.
-fn seat_each<R: Rule>(tree: &Tree<Load<R>>, ladder: &mut Ladder, ids: &[Id])
+// The same where nobody waits before or afterwards.
+fn seat_each<R: Rule>(tree: &Tree<Load<R>>, ladder: &mut Ladder, waiting: &mut [Vote], ids: &[Id])
+    requires seats { 0 < length waiting.old }
+    requires empty { (test : List ℕ → Bool) → votes_by test waiting.old ≡ 0 }
+    requires nobody { total_count waiting.old ≡ 0 }
+    requires room { (ladder.old).put + length ids.now ≤ (ladder.old).most }
+    requires few { length ids.now < 2 ^ 32 }
+    requires low { length (tree.now).pending < (ladder.old).low }
+    ensures started { (counted : (List ℕ → Bool) → ℕ) → HaveStarted (tree.now).pending (λ test. 0) counted (ladder.old).climbers
+        → HaveStarted (tree.now).pending (λ test. 0) (λ test. ids_by test ids.now + counted test) (ladder.new).climbers }
+    ensures put { (ladder.new).put ≤ (ladder.old).put + length ids.now }
+    ensures low { (ladder.new).low ≡ (ladder.old).low }
+    ensures room { KeepsRoom ladder.old ladder.new }
+{
+    count_each(tree, ladder, waiting, ids);
+    let_all_go(tree, ladder, waiting);
+}
+
+// The same, where most of the votes for one block go on as one. Many votes have more seats, and where
+// there is none no seat is made ready.
+fn let_each_go<R: Rule>(tree: &Tree<Load<R>>, ladder: &mut Ladder, ids: &[Id])
+    requires room { (ladder.old).put + length ids.now ≤ (ladder.old).most }
+    requires few { length ids.now < 2 ^ 32 }
+    requires low { length (tree.now).pending < (ladder.old).low }
+    ensures started { (counted : (List ℕ → Bool) → ℕ) → HaveStarted (tree.now).pending (λ test. 0) counted (ladder.old).climbers
+        → HaveStarted (tree.now).pending (λ test. 0) (λ test. ids_by test ids.now + counted test) (ladder.new).climbers }
+    ensures put { (ladder.new).put ≤ (ladder.old).put + length ids.now }
+    ensures low { (ladder.new).low ≡ (ladder.old).low }
+    ensures room { KeepsRoom ladder.old ladder.new }
+{
+    let nobody = Vote {
+        id: Id::from_bytes([0; 32]),
+        count: 0,
+    };
+    if ids.len() > 64 {
+        seat_each(tree, ladder, &mut [nobody; 32], ids);
+    } else if !ids.is_empty() {
+        seat_each(tree, ladder, &mut [nobody; 8], ids);
+    }
+}
+
+/// The votes of a poll, one for each of these identifiers, past its own block, where this is pending. It
+/// takes no memory.
+pub(crate) fn start_each<R: Rule>(tree: &Tree<Load<R>>, ladder: &mut Ladder, ids: &[Id])
     requires ready { IsReady (length (tree.now).pending) ladder.old }
     requires few { length ids.now ≤ (ladder.old).wide }
     requires small { length ids.now < 2 ^ 32 }
@@ -133,29 +178,5 @@ fn seat_each<R: Rule>(tree: &Tree<Load<R>>, ladder: &mut Ladder, ids: &[Id])
     let _last = tree.last();
     all_named(ids);
     ladder.begin();
-    let nobody = Vote {
-        id: Id::from_bytes([0; 32]),
-        count: 0,
-    };
-    let mut waiting = [nobody; 8];
-    count_each(tree, ladder, &mut waiting, ids);
-    let_all_go(tree, ladder, &waiting);
-}
-
-/// The votes of a poll, one for each of these identifiers, past its own block, where this is pending. It
-/// takes no memory. Where there is none, no seats are made ready.
-pub(crate) fn start_each<R: Rule>(tree: &Tree<Load<R>>, ladder: &mut Ladder, ids: &[Id])
-    requires ready { IsReady (length (tree.now).pending) ladder.old }
-    requires few { length ids.now ≤ (ladder.old).wide }
-    requires small { length ids.now < 2 ^ 32 }
-    ensures begun { (p : Parameters) → length ids.now ≤ p.k → HaveBegun p (one_each ids.now) (tree.now).pending ladder.new }
-    ensures loaded { IsLoaded (tree.now).pending ladder.new }
-    ensures few { length (ladder.new).climbers ≤ length ids.now }
-    ensures room { KeepsRoom ladder.old ladder.new }
-{
-    if ids.is_empty() {
-        start_votes(tree, ladder, &[]);
-    } else {
-        seat_each(tree, ladder, ids);
-    }
+    let_each_go(tree, ladder, ids);
 }

@@ -45,6 +45,7 @@ loop-id-preserved g c =
     let id = c.id-item.result in
     let within : at < length waiting = omega (arith, c.seat_of.ensures, inv.seats) in
     record {
+      some = inv.some;
       seats = length-set waiting at w ∙ inv.seats;
       started = λ counted h.
           seat_back pending waiting at v w ids i id counted c.count_one.new.ladder.climbers within is c.loop-id-test.true c.id-item.is

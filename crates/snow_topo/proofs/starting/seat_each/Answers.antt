@@ -1,62 +1,12 @@
-use Rattle.std.proofs.Common.{◌≡◌, ◌+◌, ◌≤◌, [], length, replicate, refl, sym, ap, subst, arith}
-use Rattle.snow_base.specs.Gathered.{one_each}
-use Rattle.snow_plain.proofs.OneEach.{total_each}
-use Rattle.snow_topo.specs.Ladder.{Rungs}
-use Rattle.snow_topo.specs.Starting.{votes_by, ids_by, HaveStarted}
-use Rattle.snow_topo.proofs.Started.{none_started, same_started, nobody_waits, no_votes_wait, each_passes, begun_from, begun_fewer, begun_places}
-use Rattle.snow_topo.proofs.starting.seat_each.Given as given
+use Rattle.std.proofs.Common.{◌+◌, sym, refl}
+use Rattle.snow_topo.specs.Starting.{votes_by, ids_by}
+use Rattle.snow_topo.proofs.Started.{same_started}
 use Rattle.snow_topo.proofs.starting.seat_each.Goals as goal
-use Rattle.snow_topo.proofs.starting.seat_each.Goals.{After-let_all_go}
 
-started : (g : given.Over) (c : After-let_all_go g) → HaveStarted c.args.tree.now.pending (λ test. 0) (λ test. votes_by test (one_each c.args.ids.now)) c.let_all_go.new.ladder.climbers
-started g c =
-    let pending = c.args.tree.now.pending in
-    let ids = c.args.ids.now in
-    let empty : c.begin.new.self.climbers ≡ [] = ap (λ (s : Rungs). s.climbers) c.begin.ensures in
-    let first : HaveStarted pending (λ test. 0) (λ test. 0) c.begin.new.self.climbers = subst (λ l. HaveStarted pending (λ test. 0) (λ test. 0) l) (sym empty) (none_started pending (λ test. 0)) in
-    let seated : HaveStarted pending (λ test. votes_by test (replicate 8 (record { id = c.from_bytes.result; count = 0 }))) (λ test. 0) c.begin.new.self.climbers =
-    same_started pending (λ test. 0) (λ test. votes_by test (replicate 8 (record { id = c.from_bytes.result; count = 0 }))) (λ test. 0) (λ test. 0) c.begin.new.self.climbers
-    (λ test. sym (nobody_waits test 8 c.from_bytes.result)) (λ test. refl) first
-    in
-    same_started pending (λ test. 0) (λ test. 0) (λ test. ids_by test ids + 0) (λ test. votes_by test (one_each ids)) c.let_all_go.new.ladder.climbers (λ test. refl)
-    (λ test. omega (arith, each_passes ids c.all_named.ensures test))
-    (c.let_all_go.ensures.started (λ test. ids_by test ids + 0) (c.count_each.ensures.started (λ test. 0) seated))
-
-pub returns-clause-begun : goal.returns-clause-begun
-returns-clause-begun g c =
-    λ p few.
-    let ids = c.args.ids.now in
-    begun_from p (one_each ids) c.args.tree.now.last c.args.tree.now.pending c.let_all_go.new.ladder c.last-last.ensures.grown (started g (goal.at.returns-clause-begun g c).After-let_all_go)
-    (omega (arith, few, total_each ids))
-
--- there are no more than identifiers
-fewer : (g : given.Over) (c : After-let_all_go g) → length c.let_all_go.new.ladder.climbers ≤ length c.args.ids.now
-fewer g c = omega (arith, begun_fewer (one_each c.args.ids.now) c.args.tree.now.pending c.let_all_go.new.ladder.climbers (started g c), total_each c.args.ids.now)
-
-pub returns-clause-few : goal.returns-clause-few
-returns-clause-few g c = fewer g (goal.at.returns-clause-few g c).After-let_all_go
-
-pub returns-clause-loaded : goal.returns-clause-loaded
-returns-clause-loaded g c =
-    let at = (goal.at.returns-clause-loaded g c).After-let_all_go in
-    let ids = c.args.ids.now in
-    let room = c.let_all_go.ensures.room in
-    let before = c.count_each.ensures.room in
-    record {
-      placed = begun_places c.args.tree.now.pending (λ test. 0) (λ test. votes_by test (one_each ids)) c.let_all_go.new.ladder.climbers (started g at);
-      put =
-          omega (
-            arith,
-            c.requires.few,
-            c.requires.ready.most,
-            c.let_all_go.ensures.put,
-            c.count_each.ensures.put,
-            no_votes_wait 8 c.from_bytes.result,
-            room.most,
-            before.most,
-            ap (λ (s : Rungs). s.put) c.begin.ensures,
-            ap (λ (s : Rungs). s.most) c.begin.ensures,
-          );
-      wide = omega (arith, c.requires.few, fewer g at, room.wide, before.wide, ap (λ (s : Rungs). s.wide) c.begin.ensures);
-      low = omega (arith, c.requires.ready.rungs, c.let_all_go.ensures.low, c.count_each.ensures.low, ap (λ (s : Rungs). s.low) c.begin.ensures);
-    }
+pub returns-clause-started : goal.returns-clause-started
+returns-clause-started g c =
+    λ counted h.
+    c.let_all_go.ensures.started (λ test. ids_by test c.args.ids.now + counted test)
+    (c.count_each.ensures.started counted
+    (same_started c.args.tree.now.pending (λ test. 0) (λ test. votes_by test c.args.waiting.now) counted counted c.args.ladder.now.climbers
+    (λ test. sym (c.requires.empty test)) (λ test. refl) h))
