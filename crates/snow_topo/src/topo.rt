@@ -74,7 +74,7 @@ fn apply_alone<R: Rule, L: Ledger>(board: &mut Topo<R>, votes: &Bag, blank: Blan
 }
 
 // The same with one vote for each of these identifiers.
-fn apply_each_alone<R: Rule, L: Ledger>(board: &mut Topo<R>, ids: &[Id], blank: Blank)
+fn apply_votes_alone<R: Rule, L: Ledger>(board: &mut Topo<R>, ids: &[Id], blank: Blank)
     requires name { blank.name ≡ L.name }
     requires parts { blank.parts ≡ L.parts }
     requires some { 0 < L.parts }
@@ -83,7 +83,7 @@ fn apply_each_alone<R: Rule, L: Ledger>(board: &mut Topo<R>, ids: &[Id], blank: 
     ensures decided { (board.new).decided ≡ (poll (board.old).board (one_each ids.now)).1 }
 {
     let mut steps = Steps::<L>::new(blank);
-    board.apply_each_counted(ids, &mut steps);
+    board.apply_votes_counted(ids, &mut steps);
 }
 
 impl<R: Rule> Topo<R> {
@@ -112,7 +112,7 @@ impl<R: Rule> Topo<R> {
     }
 
     /// `apply_votes` with its steps counted. It takes no memory.
-    pub fn apply_each_counted<L: Ledger>(&mut self, ids: &[Id], steps: &mut Steps<L>)
+    pub fn apply_votes_counted<L: Ledger>(&mut self, ids: &[Id], steps: &mut Steps<L>)
         requires { length ids.now ≤ (self.old).board.parameters.k }
         ensures board { (self.new).board ≡ (poll (self.old).board (one_each ids.now)).0 }
         ensures decided { (self.new).decided ≡ (poll (self.old).board (one_each ids.now)).1 }
@@ -212,7 +212,7 @@ impl<R: Rule> Board for Topo<R> {
     }
 
     fn apply_votes(&mut self, ids: &[Id]) -> Result<(), AllocError> {
-        apply_each_alone::<R, Brand>(self, ids, Blank::new(1));
+        apply_votes_alone::<R, Brand>(self, ids, Blank::new(1));
         Ok(())
     }
 

@@ -4,9 +4,9 @@ use Rattle.snow_plain.specs.Poll.{poll}
 use Rattle.snow_plain.specs.Shown.{Shown}
 use Rattle.snow_topo.specs.Costs.{most_steps}
 use Rattle.snow_topo.specs.Starting.{HaveBegun}
-use Rattle.snow_topo.proofs.topo.Topo.apply_each_counted.Given as given
-use Rattle.snow_topo.proofs.topo.Topo.apply_each_counted.Goals as goal
-use Rattle.snow_topo.proofs.topo.Topo.apply_each_counted.Goals.{After-start_each}
+use Rattle.snow_topo.proofs.topo.Topo.apply_votes_counted.Given as given
+use Rattle.snow_topo.proofs.topo.Topo.apply_votes_counted.Goals as goal
+use Rattle.snow_topo.proofs.topo.Topo.apply_votes_counted.Goals.{After-start_each}
 
 -- the votes have begun to climb
 begun : (g : given.Over) (c : After-start_each g) → HaveBegun c.self.inside.params (one_each c.args.ids.now) c.self.inside.tree.pending c.start_each.new.ladder
