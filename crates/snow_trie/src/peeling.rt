@@ -1,4 +1,4 @@
-ghost use Rattle.std.specs.Prelude.{◌≡◌, ◌+◌, ◌<◌};
+ghost use Rattle.std.specs.Prelude.{◌≡◌, ℕ, ◌+◌, ◌<◌, false};
 ghost use Rattle.snow_trie.specs.Tree.{tree_of};
 ghost use Rattle.snow_trie.specs.Shape.{IsPlaced};
 ghost use Rattle.snow_trie.specs.Peeling.{peeled};
@@ -7,16 +7,17 @@ ghost use Rattle.snow_trie.specs.Whole.{next_leader};
 use crate::node::{Node, first_leaf};
 use snow_base::Id;
 use snow_flake::Snowflake;
+use std::mem;
 
-/// A tree with the bit at which it begins.
+// A tree with the bit at which it begins.
 #[derive(Drop)]
-pub struct Rest {
-    pub from: u16,
-    pub root: Node,
+struct Rest {
+    from: u16,
+    root: Node,
 }
 
-/// What is left of a tree whose decided first nodes are taken off.
-pub fn peeled(node: Node, from: u16) -> Rest
+// What is left of a tree whose decided first nodes are taken off.
+fn peeled(node: Node, from: u16) -> Rest
     requires { IsPlaced from (tree_of node) }
     ensures from { result.from ≡ (peeled from (tree_of node)).0 }
     ensures root { tree_of result.root ≡ (peeled from (tree_of node)).1 }
@@ -51,9 +52,9 @@ pub fn peeled(node: Node, from: u16) -> Rest
     }
 }
 
-/// The leader of the prefix before what is left: as before where nothing was taken off, else an
-/// identifier that stands there.
-pub fn leader_of(rest: &Rest, leader: &Id, decided: u16) -> Id
+// The leader of the prefix before what is left: as before where nothing was taken off, else an
+// identifier that stands there.
+fn leader_of(rest: &Rest, leader: &Id, decided: u16) -> Id
     ensures { result ≡ next_leader leader.now decided (rest.now).from (tree_of (rest.now).root) }
 {
     if rest.from == decided {
@@ -61,4 +62,35 @@ pub fn leader_of(rest: &Rest, leader: &Id, decided: u16) -> Id
     } else {
         *first_leaf(&rest.root)
     }
+}
+
+// Whether the first node of a tree is decided.
+fn is_decided(node: &Node) -> bool
+    ensures { result ≡ false → (from : ℕ) → peeled from (tree_of node.now) ≡ (from, tree_of node.now) }
+{
+    match node {
+        Node::End(_) => false,
+        Node::Along(run, _) => run.counter.is_final(),
+        Node::Apart(fork, _, _) => fork.counter.is_final(),
+    }
+}
+
+/// Takes the decided first nodes off a tree that begins at a bit behind a leader's first ones. The answer
+/// is the bit at which what is left begins, behind those of the leader then. Mostly nothing is taken off,
+/// and no node is moved.
+pub fn peel(root: &mut Node, leader: &mut Id, decided: u16) -> u16
+    requires { IsPlaced decided (tree_of root.old) }
+    ensures from { result ≡ (peeled decided (tree_of root.old)).0 }
+    ensures root { tree_of root.new ≡ (peeled decided (tree_of root.old)).1 }
+    ensures leader { leader.new ≡ next_leader leader.old decided result (tree_of root.new) }
+{
+    if !is_decided(root) {
+        return decided;
+    }
+    let whole = mem::replace(root, Node::End(*leader));
+    let rest = peeled(whole, decided);
+    *leader = leader_of(&rest, leader, decided);
+    let Rest { from, root: left } = rest;
+    *root = left;
+    from
 }

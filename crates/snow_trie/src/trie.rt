@@ -3,13 +3,12 @@ ghost use Rattle.std.specs.Prelude.{◌≡◌, ◌+◌, ◌<◌, ◌≤◌, is_s
 use crate::growing;
 use crate::narrowing::narrowed;
 use crate::node::{self, Node};
-use crate::peeling::{Rest, leader_of, peeled};
+use crate::peeling::peel;
 use crate::polling::{poll, ready};
 use snow_base::{Id, Steps, Vote};
 use snow_flake::{Params, Rule};
 use std::alloc::{AllocError, Global};
 use std::marker::{Model, PhantomData};
-use std::mem;
 use std::sync::ledger::Ledger;
 
 // More identifiers than any memory holds.
@@ -124,12 +123,8 @@ impl<R: Rule> Trie<R> {
             steps,
         );
         self.polls = before + 1;
-        let root = mem::replace(&mut self.root, Node::End(self.leader));
-        let rest = peeled(root, self.decided);
-        self.leader = leader_of(&rest, &self.leader, self.decided);
-        let Rest { from, root } = rest;
+        let from = peel(&mut self.root, &mut self.leader, self.decided);
         self.decided = from;
-        self.root = root;
     }
 
     /// A poll without votes: one step, which touches no node. It takes no memory.

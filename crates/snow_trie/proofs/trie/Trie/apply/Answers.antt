@@ -23,7 +23,7 @@ pub invariant_of-self : goal.invariant_of-self
 invariant_of-self g c =
     let inside = c.self.inside in
     let most = subst (λ (t : Compressed). total_count c.args.votes.now ≤ t.parameters.k) (sym c.self.view_is) c.requires.most in
-    rw (c.leader_of-self-inside.ensures, c.peeled-rest.ensures.from, c.peeled-rest.ensures.root, c.replace-root.ensures.value)
+    rw (c.peel-from.ensures.leader, c.peel-from.ensures.from, c.peel-from.ensures.root)
     (whole_polled inside.ids.items inside.params inside.polls c.ready-before.result inside.decided inside.leader c.args.votes.now c.narrowed-votes.result.now
     (tree_of inside.root) (tree_of c.ready-before.new.root) (tree_of c.poll.new.root)
     (record { good = c.k-k.ensures.good; was = c.self.invariant; restamped = c.ready-before.ensures.tree; narrowed = c.narrowed-votes.ensures; polled = c.poll.ensures.tree; most = most }))
@@ -32,7 +32,7 @@ pub returns-clause-counters : goal.returns-clause-counters
 returns-clause-counters g c =
     let inside = c.self.inside in
     let most = subst (λ (t : Compressed). total_count c.args.votes.now ≤ t.parameters.k) (sym c.self.view_is) c.requires.most in
-    rw (← c.self.view_is, c.leader_of-self-inside.ensures, c.peeled-rest.ensures.from, c.peeled-rest.ensures.root, c.replace-root.ensures.value)
+    rw (← c.self.view_is, c.peel-from.ensures.leader, c.peel-from.ensures.from, c.peel-from.ensures.root)
     (polled_counters inside.ids.items inside.params inside.polls c.ready-before.result inside.decided inside.leader c.args.votes.now c.narrowed-votes.result.now
     (tree_of inside.root) (tree_of c.ready-before.new.root) (tree_of c.poll.new.root)
     (record { good = c.k-k.ensures.good; was = c.self.invariant; restamped = c.ready-before.ensures.tree; narrowed = c.narrowed-votes.ensures; polled = c.poll.ensures.tree; most = most }))
@@ -41,7 +41,7 @@ pub returns-clause-nodes : goal.returns-clause-nodes
 returns-clause-nodes g c =
     let inside = c.self.inside in
     let most = subst (λ (t : Compressed). total_count c.args.votes.now ≤ t.parameters.k) (sym c.self.view_is) c.requires.most in
-    rw (← c.self.view_is, c.peeled-rest.ensures.root, c.replace-root.ensures.value)
+    rw (← c.self.view_is, c.peel-from.ensures.root)
     (fewer_nodes inside.ids.items inside.params inside.polls c.ready-before.result inside.decided inside.leader c.args.votes.now c.narrowed-votes.result.now
     (tree_of inside.root) (tree_of c.ready-before.new.root) (tree_of c.poll.new.root)
     (record { good = c.k-k.ensures.good; was = c.self.invariant; restamped = c.ready-before.ensures.tree; narrowed = c.narrowed-votes.ensures; polled = c.poll.ensures.tree; most = most }))
@@ -50,7 +50,7 @@ pub returns-clause-few : goal.returns-clause-few
 returns-clause-few g c =
     let inside = c.self.inside in
     let most = subst (λ (t : Compressed). total_count c.args.votes.now ≤ t.parameters.k) (sym c.self.view_is) c.requires.most in
-    rw (c.peeled-rest.ensures.root, c.replace-root.ensures.value)
+    rw (c.peel-from.ensures.root)
     (few_nodes inside.ids.items (c.ready-before.result + 1) _ _ _ _
     (whole_polled inside.ids.items inside.params inside.polls c.ready-before.result inside.decided inside.leader c.args.votes.now c.narrowed-votes.result.now
     (tree_of inside.root) (tree_of c.ready-before.new.root) (tree_of c.poll.new.root)
