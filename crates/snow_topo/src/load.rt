@@ -1,4 +1,5 @@
-ghost use Rattle.std.specs.Prelude.{◌≡◌, ◌+◌, ◌≤◌, All, Contains, false, if◌then◌else◌};
+ghost use Rattle.std.specs.Prelude.{◌≡◌, ◌+◌, ◌≤◌, All, Contains, None, IfSome, false, length, if◌then◌else◌};
+ghost use Rattle.snow_base.specs.Identifier.{bits};
 ghost use Rattle.snow_base.specs.Votes.{IsInBitOrder, total_count};
 ghost use Rattle.snow_plain.specs.Conflict.{all_polled, votes_on, chosen};
 ghost use Rattle.snow_plain.specs.FailingLaw.{failed};
@@ -37,6 +38,17 @@ impl<R: Rule> Model for Load<R> {
     ghost invariant = { λ a. IfSome a.trie HasFewNodes };
 }
 
+// Where a tree leads; nothing where one child stands alone, to which it leads whatever comes.
+fn lead_of<R: Rule>(trie: &Trie<R>) -> Option<Id>
+    ensures some { IfSome result (λ id. chosen R.answer (trie.now).counters ≡ bits id) }
+    ensures none { result ≡ None → (length (trie.now).ids ≡ 1) × All (λ id. chosen R.answer (trie.now).counters ≡ bits id) (trie.now).ids }
+{
+    if trie.choices() == 1 {
+        return None;
+    }
+    Some(trie.preference())
+}
+
 // A tree takes a poll with these votes, after it has failed where it didn't record the last poll. The
 // answer is whether it leads elsewhere then.
 fn catch_up<R: Rule, L: Ledger>(
@@ -55,12 +67,16 @@ fn catch_up<R: Rule, L: Ledger>(
     ensures steps { steps.new ≤ steps.old + 1 + (trie.old).nodes }
     ensures steady { result ≡ false → chosen R.answer (trie.new).counters ≡ chosen R.answer (trie.old).counters }
 {
-    let before = trie.preference();
+    let before = lead_of(trie);
     if is_behind {
         trie.fail(steps);
     }
     trie.apply(votes, steps);
-    before != trie.preference()
+    let _choices = trie.choices();
+    match before {
+        Some(id) => id != trie.preference(),
+        None => false,
+    }
 }
 
 // The identifier to which decided counters alone lead.

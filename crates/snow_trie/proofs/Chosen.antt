@@ -1,7 +1,8 @@
 -- Lemmas on what a tree answers: whether it is final, and which identifier it prefers.
-use Rattle.std.proofs.Common.{◌≡◌, inl, inr, ℕ, ◌+◌, ◌-◌, ◌<◌, ◌==◌, Bool, true, false, List, [], ◌∷◌, ◌++◌, drop, Contains, Option, Some, None, is_some, if◌then◌else◌, refl, sym, ap, ◌∙◌, subst, arith}
+use Rattle.std.proofs.Common.{◌≡◌, inl, inr, ℕ, zero, suc, ◌+◌, ◌-◌, ◌<◌, ◌==◌, Bool, true, false, List, [], ◌∷◌, ◌++◌, length, drop, slice_index_or, All, Contains, Option, Some, None, is_some, if◌then◌else◌, refl, sym, ap, ◌∙◌, subst, arith}
 use Rattle.std.specs.Option.{option_map}
 use Rattle.std.proofs.lemmas.Bool.{eq-eqb, ne_eqb, true≢false}
+use Rattle.std.proofs.lemmas.List.Elements.{All-cons, All-nil}
 use Rattle.snow_base.specs.Identifier.{bit, bits}
 use Rattle.snow_base.proofs.Bits.{drop-bits}
 use Rattle.snow_flake.specs.Counter.{Counter, Decided, Undecided, admits, is_decided}
@@ -157,3 +158,20 @@ chosen_whole answer ids polls decided leader t law h =
 pub chosen_given : (answer : Answer) (ids : List (List ℕ)) (polls decided : ℕ) (leader : List ℕ) (t : Tree) → ((b : Bool) → answer b b ≡ b)
     → IsWhole ids polls decided leader t → Contains ids (preferred answer t)
 chosen_given answer ids polls decided leader t law h = h.given (preferred answer t) (chosen_tree answer polls decided t law h.placed h.sorted.1).leaf
+
+-- a list of one that has an element is that one's
+only_one : (P : List ℕ → Type 0) (ids : List (List ℕ)) (x : List ℕ) → Contains ids x → length ids ≡ 1 → P x → All P ids
+only_one P [] x given one p = absurd (omega (arith, one))
+only_one P (y ∷ []) x given one p = All-cons P y [] (subst P (sym (first given.0 given.1 given.2)) p) (All-nil P)
+  where
+    first : (k : ℕ) → k < 1 → slice_index_or (y ∷ []) k x ≡ x → y ≡ x
+    first zero less is = is
+    first (suc k) less is = absurd (omega (arith, less))
+only_one P (y ∷ z ∷ ids) x given one p = absurd (omega (arith, one))
+
+-- the counters lead to an identifier that was given alone
+pub chosen_alone : (answer : Answer) (ids : List (List ℕ)) (polls decided : ℕ) (leader : List ℕ) (t : Tree) → ((b : Bool) → answer b b ≡ b)
+    → IsWhole ids polls decided leader t → length ids ≡ 1 → All (λ id. chosen answer (whole polls decided leader t) ≡ bits id) ids
+chosen_alone answer ids polls decided leader t law h one =
+    only_one (λ id. chosen answer (whole polls decided leader t) ≡ bits id) ids (preferred answer t) (chosen_given answer ids polls decided leader t law h) one
+    (chosen_whole answer ids polls decided leader t law h)

@@ -163,9 +163,10 @@ impl<R: Rule> Trie<R> {
         node::count(&self.root).max(1)
     }
 
-    /// How many identifiers were given.
+    /// How many identifiers were given. The counters lead to one that stands alone, whatever they are.
     pub fn choices(&self) -> usize
-        ensures { result ≡ length (self.now).ids }
+        ensures count { result ≡ length (self.now).ids }
+        ensures alone { length (self.now).ids ≡ 1 → All (λ id. chosen R.answer (self.now).counters ≡ bits id) (self.now).ids }
     {
         self.ids.len()
     }
