@@ -331,21 +331,22 @@ mark_none words count at none zeros rung within marked =
 -- ---- what is kept true
 
 -- nothing was put on
-pub none_hung : (heads words : List ℕ) (low : ℕ) → ((rung : ℕ) → get_or heads rung 0 ≡ 0) → low ≤ length heads → length heads < 64 * length words → IsHung [] heads words low
-none_hung heads words low clear within covered = record {
+pub none_hung : (heads words : List ℕ) (low high : ℕ) → ((rung : ℕ) → get_or heads rung 0 ≡ 0) → low ≤ length heads → length heads < 64 * length words → IsHung [] heads words low high
+none_hung heads words low high clear within covered = record {
   linked = λ i h. absurd (omega (arith, h));
   last = λ rung h. clear rung;
   clear = λ rung h. clear rung;
   marked = λ i h lower. absurd (omega (arith, h));
+  highest = λ i h. absurd (omega (arith, h));
   within = within;
   covered = covered;
 }
 
 -- one more
-pub one_hung : (links : List Link) (heads words after : List ℕ) (low number : ℕ) (l : Link) → IsHung links heads words low → l.climber.place < low → l.next ≡ get_or heads l.climber.place 0
+pub one_hung : (links : List Link) (heads words after : List ℕ) (low high most number : ℕ) (l : Link) → IsHung links heads words low high → high ≤ most → l.climber.place ≤ most → l.climber.place < low → l.next ≡ get_or heads l.climber.place 0
     → number ≡ suc (length links) → mark_at after l.climber.place ≡ 1 → ((other : ℕ) → other ≢ l.climber.place → mark_at after other ≡ mark_at words other) → length after ≡ length words
-    → IsHung (links ++ l ∷ []) (set heads l.climber.place number) after low
-one_hung links heads words after low number l hung lower next is here others long =
+    → IsHung (links ++ l ∷ []) (set heads l.climber.place number) after low most
+one_hung links heads words after low high most number l hung raised own_place lower next is here others long =
     let place = l.climber.place in
     let size : length (links ++ l ∷ []) ≡ suc (length links) = omega (arith, length-append links (l ∷ [])) in
     let before : (i : ℕ) → i < length links → get_or (links ++ l ∷ []) i no_link ≡ get_or links i no_link = λ i h. get_or_append_left links (l ∷ []) no_link i h in
@@ -377,6 +378,12 @@ one_hung links heads words after low number l hung lower next is here others lon
           (λ t. let same : length links ≡ i = omega (arith, t, h, size) in
           subst (λ j. mark_at after (get_or (links ++ l ∷ []) j no_link).climber.place ≡ 1) same
           (subst (λ (x : Link). mark_at after x.climber.place ≡ 1) (sym own) here));
+      highest = λ i h.
+          halves i (length links)
+          (λ t. subst (λ (x : Link). x.climber.place ≤ most) (sym (before i t)) (omega (arith, hung.highest i t, raised)))
+          (λ t. let same : length links ≡ i = omega (arith, t, h, size) in
+          subst (λ j. (get_or (links ++ l ∷ []) j no_link).climber.place ≤ most) same
+          (subst (λ (x : Link). x.climber.place ≤ most) (sym own) own_place));
       within = omega (arith, hung.within, length-set heads place number);
       covered = omega (arith, hung.covered, length-set heads place number, long);
     }
@@ -397,9 +404,9 @@ one_hung links heads words after low number l hung lower next is here others lon
         (λ t. others q (other_nat q l.climber.place t) ∙ was)
 
 -- the highest rung empty
-pub rung_empty : (links : List Link) (heads words after : List ℕ) (low rung : ℕ) → IsHung links heads words low → rung < low → All (λ c. c.place ≤ rung) (under low (climbers_of links))
-    → ((other : ℕ) → other ≢ rung → mark_at after other ≡ mark_at words other) → length after ≡ length words → IsHung links (set heads rung 0) after rung
-rung_empty links heads words after low rung hung lower all others long =
+pub rung_empty : (links : List Link) (heads words after : List ℕ) (low high rung : ℕ) → IsHung links heads words low high → rung < low → All (λ c. c.place ≤ rung) (under low (climbers_of links))
+    → ((other : ℕ) → other ≢ rung → mark_at after other ≡ mark_at words other) → length after ≡ length words → IsHung links (set heads rung 0) after rung high
+rung_empty links heads words after low high rung hung lower all others long =
     let each = seen_each (λ c. c.place ≤ rung) low links all in
     record {
       linked = hung.linked;
@@ -414,6 +421,7 @@ rung_empty links heads words after low rung hung lower all others long =
           (λ u. hung.last r u ∙ latest_none links (length links) r (λ i inside same. omega (arith, same, each i inside (omega (arith, same, u)), h, other)))
           (λ u. hung.clear r u));
       marked = λ i h low_enough. others (get_or links i no_link).climber.place (omega (arith, low_enough)) ∙ hung.marked i h (omega (arith, low_enough, lower));
+      highest = hung.highest;
       within = omega (arith, lower, hung.within, length-set heads rung 0);
       covered = omega (arith, hung.covered, length-set heads rung 0, long);
     }

@@ -67,11 +67,12 @@ mark_at words rung = bit_at (get_or words (rung / 64) 0) (rung % 64)
 abbrev pub AreLinked : List Link → Type 0
 AreLinked links = (i : ℕ) → i < length links → (get_or links i no_link).next ≡ latest links i (get_or links i no_link).climber.place
 
--- each rung below this one tells who was put on it last, and is marked if there is one
-pub record IsHung (links : List Link) (heads words : List ℕ) (low : ℕ) : Type 0 where
+-- each rung below this one tells who was put on it last, and is marked if there is one; nobody was put on a higher one than the last of these
+pub record IsHung (links : List Link) (heads words : List ℕ) (low high : ℕ) : Type 0 where
   pub linked : AreLinked links
   pub last : (rung : ℕ) → rung < low → get_or heads rung 0 ≡ latest links (length links) rung
   pub clear : (rung : ℕ) → low ≤ rung → get_or heads rung 0 ≡ 0
   pub marked : (i : ℕ) → i < length links → (get_or links i no_link).climber.place < low → mark_at words (get_or links i no_link).climber.place ≡ 1
+  pub highest : (i : ℕ) → i < length links → (get_or links i no_link).climber.place ≤ high
   pub within : low ≤ length heads
   pub covered : length heads < 64 * length words

@@ -25,6 +25,8 @@ pub(crate) struct Ladder {
     words: Vec<u64>,
     // Nobody stands on this rung or a higher one.
     low: usize,
+    // Nobody was put on a higher rung.
+    high: usize,
     came: Vec<Climber>,
 }
 
@@ -44,7 +46,7 @@ impl Model for Ladder {
       rungs = length a.heads.items;
     } };
 
-    ghost invariant = { λ a. IsHung a.links.items a.heads.items a.words.items a.low };
+    ghost invariant = { λ a. IsHung a.links.items a.heads.items a.words.items a.low a.high };
 }
 
 // The bit of a rung is set.
@@ -144,6 +146,7 @@ impl Ladder {
             heads,
             words,
             low: 0,
+            high: 0,
             came,
         })
     }
@@ -173,6 +176,7 @@ impl Ladder {
     {
         self.links.clear();
         self.low = self.heads.len();
+        self.high = 0;
     }
 
     /// Puts one on its rung. It takes no memory.
@@ -185,6 +189,7 @@ impl Ladder {
         self.links.push_reserved(Link { climber, next });
         self.heads[climber.place] = self.links.len();
         mark(&mut self.words, climber.place);
+        self.high = self.high.max(climber.place);
     }
 
     /// Nobody stands on this rung or a higher one.
@@ -198,7 +203,8 @@ impl Ladder {
     pub(crate) fn top(&self) -> usize
         ensures { All (λ c. c.place ≤ result) (self.now).climbers }
     {
-        highest(&self.words, self.low / 64 + 1)
+        let bound = self.high.min(self.low);
+        highest(&self.words, bound / 64 + 1)
     }
 
     /// Takes all off the highest rung on which somebody stands, or one above it. It takes no memory.

@@ -15,6 +15,6 @@ invariant_of-self c =
     let next : c.index-next.result.now ≡ get_or a.heads.items place 0 = c.index-next.ensures ∙ get_or_default_zero a.heads.items place c.index-next.result.now inside in
     let number : c.len.result ≡ suc (length a.links.items) = omega (arith, c.len.ensures, c.push_reserved.ensures.len, a.links.ok.0) in
     let long : length c.mark.new.words ≡ length a.words.items = c.mark.ensures.len ∙ ap length c.deref_mut.ensures.value in
-    let hung = subst (λ w. IsHung a.links.items a.heads.items w a.low) (sym c.deref_mut.ensures.value) c.self.invariant in
+    let hung = subst (λ w. IsHung a.links.items a.heads.items w a.low a.high) (sym c.deref_mut.ensures.value) c.self.invariant in
     rw (c.push_reserved.ensures.items, written a.words.len c.mark.new.words _ (omega (arith, a.words.ok.0, long)))
-    (one_hung a.links.items a.heads.items c.deref_mut.result.now c.mark.new.words a.low c.len.result link hung lower next number c.mark.ensures.here c.mark.ensures.others c.mark.ensures.len)
+    (one_hung a.links.items a.heads.items c.deref_mut.result.now c.mark.new.words a.low a.high c.max-self-inside.result c.len.result link hung (omega (arith, c.max-self-inside.ensures)) (omega (arith, c.max-self-inside.ensures)) lower next number c.mark.ensures.here c.mark.ensures.others c.mark.ensures.len)

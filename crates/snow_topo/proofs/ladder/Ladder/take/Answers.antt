@@ -23,9 +23,9 @@ invariant_of-self c =
     let lower : rung < a.low = rw (← c.self.view_is) at c.requires.below in
     let all : All (λ x. x.place ≤ rung) (under a.low (climbers_of a.links.items)) = subst (λ (s : Rungs). All (λ x. x.place ≤ rung) s.climbers) (sym c.self.view_is) c.requires.highest in
     let long : length c.unmark.new.words ≡ length a.words.items = c.unmark.ensures.len ∙ ap length c.deref_mut.ensures.value in
-    let hung = subst (λ w. IsHung a.links.items a.heads.items w a.low) (sym c.deref_mut.ensures.value) c.self.invariant in
+    let hung = subst (λ w. IsHung a.links.items a.heads.items w a.low a.high) (sym c.deref_mut.ensures.value) c.self.invariant in
     rw (written a.words.len c.unmark.new.words _ (omega (arith, a.words.ok.0, long)))
-    (rung_empty a.links.items a.heads.items c.deref_mut.result.now c.unmark.new.words a.low rung hung lower all c.unmark.ensures.others c.unmark.ensures.len)
+    (rung_empty a.links.items a.heads.items c.deref_mut.result.now c.unmark.new.words a.low a.high rung hung lower all c.unmark.ensures.others c.unmark.ensures.len)
 
 pub returns-clause-climbers : goal.returns-clause-climbers
 returns-clause-climbers c =
