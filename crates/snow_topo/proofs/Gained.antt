@@ -228,3 +228,8 @@ not_own last bs child new parent =
 pub err_after : {A E P : Type 0} (r : Result A E) → is_err r ≡ true → OnErr r P → P
 err_after (Ok x) h p = absurd cc
 err_after (Err e) h p = p
+
+-- what holds holds where a call failed
+pub on_err : {A E P : Type 0} (r : Result A E) → P → OnErr r P
+on_err (Ok x) p = tt
+on_err (Err e) p = p

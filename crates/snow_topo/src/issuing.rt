@@ -1,8 +1,8 @@
 ghost use Rattle.std.specs.Prelude.{◌≡◌, ℕ, true, false, IfSome, OnOk, OnErr, slice_get};
 ghost use Rattle.snow_plain.specs.Board.{issued};
 ghost use Rattle.snow_plain.specs.Grown.{is_on};
-ghost use Rattle.snow_tree.specs.Held.{blocks_in, with_load};
-ghost use Rattle.snow_topo.specs.Kept.{gained};
+ghost use Rattle.snow_tree.specs.Held.{blocks_in, inserted, taken_back, with_load};
+ghost use Rattle.snow_topo.specs.Kept.{bare, gained};
 ghost use Rattle.snow_topo.specs.View.{view, AreFit};
 ghost use Rattle.snow_topo.specs.Gaining.{gained_by, all_gained};
 
@@ -51,6 +51,26 @@ fn add_below<R: Rule>(
     }
 }
 
+// A block becomes the last pending one, without children. After want of memory all is as before.
+fn insert<R: Rule>(tree: &mut Tree<Load<R>>, child: &Header) -> Result<(), AllocError>
+    requires unknown { is_on (tree.old).last (blocks_in (tree.old).pending) (child.now).id ≡ false }
+    requires follows { is_on (tree.old).last (blocks_in (tree.old).pending) (child.now).parent ≡ true }
+    ensures ok { OnOk result (tree.new ≡ inserted tree.old child.now bare) }
+    ensures err { OnErr result (tree.new ≡ tree.old) }
+{
+    match tree.insert(child.id, child.parent, child.height, Load::new()) {
+        Ok(()) => Ok(()),
+        Err(_) => Err(AllocError),
+    }
+}
+
+// The block that was issued last is taken back.
+fn take_back<R: Rule>(tree: &mut Tree<Load<R>>)
+    ensures { tree.new ≡ taken_back tree.old }
+{
+    let _ = tree.take_back();
+}
+
 /// A block is issued: it is the last pending one, without children, and its parent has one child more.
 /// It costs what its parent's tree costs, however many blocks are pending. After want of memory all is
 /// as before, but that no block is told as rejected any more.
@@ -70,14 +90,11 @@ pub(crate) fn issue<R: Rule>(
 {
     let _k = params.k();
     let _last = tree.last();
-    let inserted = tree.insert(child.id, child.parent, child.height, Load::new());
-    if inserted.is_err() {
-        return Err(AllocError);
-    }
+    insert(tree, child)?;
     let added = add_below(alloc, params, root, tree, child);
     if added.is_err() {
-        let _ = tree.take_back();
-        return Err(AllocError);
+        take_back(tree);
+        return added;
     }
     Ok(())
 }

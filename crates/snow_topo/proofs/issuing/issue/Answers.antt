@@ -2,23 +2,23 @@ use Rattle.std.proofs.Common.{◌≡◌, sym, ap, subst, ◌∙◌}
 use Rattle.snow_tree.specs.Held.{Held, blocks_in, inserted, taken_back}
 use Rattle.snow_tree.proofs.Linked.{all_but_last}
 use Rattle.snow_tree.proofs.Seen.{ok_after}
-use Rattle.snow_topo.specs.Kept.{Kept}
+use Rattle.snow_topo.specs.Kept.{Kept, bare}
 use Rattle.snow_topo.specs.View.{view, AreFit}
 use Rattle.snow_topo.specs.Gaining.{gained_by, all_gained}
-use Rattle.snow_topo.proofs.Gained.{err_after, not_own, issued_view, all_fit_gained}
+use Rattle.snow_topo.proofs.Gained.{err_after, on_err, not_own, issued_view, all_fit_gained}
 use Rattle.snow_topo.proofs.issuing.issue.Goals as goal
 
-pub returns-then-is_err-2-clause-tree_stays : goal.returns-then-is_err-2-clause-tree_stays
-returns-then-is_err-2-clause-tree_stays g c =
+pub returns-then-is_err-clause-tree_stays : goal.returns-then-is_err-clause-tree_stays
+returns-then-is_err-clause-tree_stays g c =
     let old = c.args.tree.now in
     let child = c.args.child.now in
-    let in' = ok_after c.insert-inserted.result (sym c.is_err.ensures.value ∙ c.if-is_err.false) c.insert-inserted.ensures.ok in
-    let same = err_after c.add_below-added.result (sym c.is_err-2.ensures.value ∙ c.if-is_err-2.true) c.add_below-added.ensures.tree_stays in
-    let back : c.take_back.new.self ≡ taken_back (inserted old child c.new.result) = c.take_back.ensures.tree ∙ ap taken_back (same ∙ in') in
-    let pending : c.take_back.new.self.pending ≡ old.pending =
-    ap (λ (h : Held Kept). h.pending) back ∙ all_but_last old.pending (record { block = child; load = c.new.result })
+    let in' = c.in_ok-insert.ensures.ok in
+    let same = err_after c.add_below-added.result (sym c.is_err.ensures.value ∙ c.if-is_err.true) c.add_below-added.ensures.tree_stays in
+    let back : c.take_back.new.tree ≡ taken_back (inserted old child bare) = c.take_back.ensures ∙ ap taken_back (same ∙ in') in
+    let pending : c.take_back.new.tree.pending ≡ old.pending =
+    ap (λ (h : Held Kept). h.pending) back ∙ all_but_last old.pending (record { block = child; load = bare })
     in
-    λ i. record { last = (back i).last; height = (back i).height; pending = pending i; rejected = c.take_back.new.self.rejected }
+    on_err c.add_below-added.result (λ i. record { last = (back i).last; height = (back i).height; pending = pending i; rejected = c.take_back.new.tree.rejected })
 
 pub returns-clause-board : goal.returns-clause-board
 returns-clause-board g c =
@@ -26,8 +26,8 @@ returns-clause-board g c =
     let p = c.args.params.now in
     let old = c.args.tree.now in
     let child = c.args.child.now in
-    let went = sym c.is_err-2.ensures.value ∙ c.if-is_err-2.false in
-    let in' = ok_after c.insert-inserted.result (sym c.is_err.ensures.value ∙ c.if-is_err.false) c.insert-inserted.ensures.ok ∙ ap (inserted old child) c.new.ensures in
+    let went = sym c.is_err.ensures.value ∙ c.if-is_err.false in
+    let in' = c.in_ok-insert.ensures.ok in
     let tree = ok_after c.add_below-added.result went c.add_below-added.ensures.tree ∙ ap (all_gained p child) in' in
     let root = ok_after c.add_below-added.result went c.add_below-added.ensures.root ∙ ap (λ (h : Held Kept). gained_by p child h.last c.args.root.now) in' in
     (λ i. view p polls (root i) (tree i))
@@ -39,8 +39,8 @@ returns-clause-fit g c =
     let p = c.args.params.now in
     let old = c.args.tree.now in
     let child = c.args.child.now in
-    let went = sym c.is_err-2.ensures.value ∙ c.if-is_err-2.false in
-    let in' = ok_after c.insert-inserted.result (sym c.is_err.ensures.value ∙ c.if-is_err.false) c.insert-inserted.ensures.ok ∙ ap (inserted old child) c.new.ensures in
+    let went = sym c.is_err.ensures.value ∙ c.if-is_err.false in
+    let in' = c.in_ok-insert.ensures.ok in
     let tree = ok_after c.add_below-added.result went c.add_below-added.ensures.tree ∙ ap (all_gained p child) in' in
     let root = ok_after c.add_below-added.result went c.add_below-added.ensures.root ∙ ap (λ (h : Held Kept). gained_by p child h.last c.args.root.now) in' in
     let both : Kept × Held Kept → Type 0 = λ s. AreFit p polls s.0 s.1 in
