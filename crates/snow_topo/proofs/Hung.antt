@@ -5,12 +5,14 @@ use Rattle.std.proofs.Math.Nat.{pow-suc}
 use Rattle.std.proofs.Math.Seq.{get_or-append_seam, take-append_seam}
 use Rattle.std.proofs.lemmas.Grind.{common_steps}
 use Rattle.std.proofs.lemmas.List.{get_or_append_left, get_or-set_same, get_or-set_other, length-set, map-append, take_more, take_all}
+use Rattle.std.proofs.lemmas.List.Sums.{sum_by-append}
 use Rattle.std.proofs.lemmas.List.Elements.{All-cons, All-nil, All-head, All-tail, filter-append}
 use Rattle.std.proofs.lemmas.List.Sorted.{IsPermutation-refl, IsPermutation-cons, IsPermutation-trans, IsPermutation-to_front, length_permutation}
 use Rattle.std.proofs.lemmas.Nat.Bits.{bit_at-zero, bit_at_above}
 use Rattle.snow_plain.proofs.Cases.{split_on}
 use Rattle.snow_topo.specs.declared.climber.Climber.{Climber}
 use Rattle.snow_topo.specs.declared.ladder.Link.{Link}
+use Rattle.snow_topo.specs.Climbing.{climber_total}
 use Rattle.snow_topo.specs.Ladder.{under, up_from, no_link, climbers_of, latest, group, mark_at, AreLinked, IsHung}
 use Rattle.snow_topo.proofs.Halfway.{halves}
 
@@ -276,6 +278,10 @@ few_taken rung low links h all =
     few : (cs : List Climber) → length (up_from rung cs) ≤ length cs
     few [] = omega arith
     few (c ∷ cs) = let rest = few cs in split_on (nat_lt c.place rung) (λ t. rw t (omega (arith, rest))) (λ t. rw t (omega (arith, rest)))
+
+-- how many votes they are, with one more, as 32 bits hold it
+pub total_more : (cs : List Climber) (c : Climber) (n : ℕ) → n ≡ climber_total cs % 2 ^ 32 → (n + c.count) % 2 ^ 32 ≡ climber_total (cs ++ c ∷ []) % 2 ^ 32
+total_more cs c n is = omega (arith, is, sum_by-append (λ (x : Climber). x.count) cs (c ∷ []))
 
 -- ---- marks
 

@@ -15,7 +15,7 @@ ghost use Rattle.snow_topo.specs.Recording.{recording};
 
 use crate::climber::Climber;
 use crate::climbing::{climb, either};
-use crate::gathering::{gather, total};
+use crate::gathering::gather;
 use crate::ladder::Ladder;
 use crate::load::Load;
 use crate::visiting::has_quorum;
@@ -24,8 +24,8 @@ use snow_flake::{Params, Rule};
 use snow_tree::Tree;
 use std::sync::ledger::Ledger;
 
-// What is kept of the last accepted block takes the next poll with the votes that came to it, where they
-// are AlphaPreference; else it is left alone, and has failed by its number. The answer is whether it leads
+// What is kept of the last accepted block takes the next poll with the votes that came to it, so many in
+// all, where they are AlphaPreference; else it is left alone, and has failed by its number. The answer is whether it leads
 // elsewhere then.
 fn record_root<R: Rule, L: Ledger>(
     params: &Params,
@@ -33,10 +33,12 @@ fn record_root<R: Rule, L: Ledger>(
     tree: &Tree<Load<R>>,
     polls: u64,
     came: &[Climber],
+    count: u32,
     children: &mut Bag,
     steps: &mut Steps<L>,
 ) -> bool
     requires room { polls + 1 < 2 ^ 64 }
+    requires count { count ≡ climber_total came.now }
     requires places { length came.now ≤ children.old.room + length children.old.list }
     requires placed { All (λ c. c.passed < length (tree.now).pending) came.now }
     requires counts { All (λ c. 0 < c.count) came.now }
@@ -49,7 +51,7 @@ fn record_root<R: Rule, L: Ledger>(
     ensures places { children.old.room + length children.old.list ≤ children.new.room + length children.new.list }
 {
     let _k = params.k();
-    if has_quorum(params, total(came)) {
+    if has_quorum(params, count) {
         gather(tree, came, children);
         root.record(polls, children.entries(), steps)
     } else {
@@ -89,7 +91,8 @@ pub(crate) fn count<R: Rule, L: Ledger>(
     let _k = params.k();
     let _last = tree.last();
     let moved = climb(params, tree, polls, ladder, children, steps);
-    ladder.take(0);
-    let first = record_root(params, root, tree, polls, ladder.came(), children, steps);
+    let votes = ladder.take(0);
+    let came = ladder.came();
+    let first = record_root(params, root, tree, polls, came, votes, children, steps);
     either(first, moved)
 }

@@ -11,14 +11,6 @@ use snow_base::Bag;
 use snow_flake::Rule;
 use snow_tree::Tree;
 
-/// How many votes there are in all.
-pub(crate) fn total(climbers: &[Climber]) -> u32
-    requires { climber_total climbers.now < 2 ^ 32 }
-    ensures { result ≡ climber_total climbers.now }
-{
-    climbers.iter().map(|climber| climber.count).sum()
-}
-
 /// Votes that came to a parent, by its children. It takes no memory where the bag has places.
 pub(crate) fn gather<R: Rule>(tree: &Tree<Load<R>>, came: &[Climber], children: &mut Bag)
     requires places { length came.now ≤ children.old.room + length children.old.list }

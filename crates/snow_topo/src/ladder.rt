@@ -1,4 +1,5 @@
 ghost use Rattle.std.specs.Prelude.{◌≡◌, ◌≢◌, ℕ, ◌+◌, ◌*◌, ◌/◌, ◌%◌, ◌^◌, ◌<◌, ◌≤◌, All, length, get_or, vec_len, vec_capacity, OnOk};
+ghost use Rattle.snow_topo.specs.Climbing.{climber_total};
 ghost use Rattle.snow_topo.specs.Ladder.{latest, group, mark_at, AreLinked};
 
 use crate::climber::Climber;
@@ -85,20 +86,24 @@ fn highest(words: &[u64], count: usize) -> usize
     0
 }
 
-// Those of a rung, whose last one this is, the latest first.
-fn follow(links: &[Link], head: usize, came: &mut Vec<Climber>)
+// Those of a rung, whose last one this is, the latest first. The answer is how many votes they are.
+fn follow(links: &[Link], head: usize, came: &mut Vec<Climber>) -> u32
     requires linked { AreLinked links.now }
     requires head { (place : ℕ) × (head ≡ latest links.now (length links.now) place) × (length (group links.now (length links.now) place) ≤ vec_capacity came.old) }
     ensures came { (place : ℕ) → head ≡ latest links.now (length links.now) place → came.new.items ≡ group links.now (length links.now) place }
+    ensures total { result ≡ climber_total came.new.items % 2 ^ 32 }
     ensures room { vec_capacity came.new ≡ vec_capacity came.old }
 {
     came.clear();
+    let mut count: u32 = 0;
     let mut number = head;
     while number > 0 {
         let link = links[number - 1];
         came.push_reserved(link.climber);
+        count = count.wrapping_add(link.climber.count);
         number = link.next;
     }
+    count
 }
 
 // There is a bit for one rung more.
@@ -207,20 +212,22 @@ impl Ladder {
         highest(&self.words, bound / 64 + 1)
     }
 
-    /// Takes all off the highest rung on which somebody stands, or one above it. It takes no memory.
-    pub(crate) fn take(&mut self, rung: usize)
+    /// Takes all off the highest rung on which somebody stands, or one above it. The answer is how many
+    /// votes they are. It takes no memory.
+    pub(crate) fn take(&mut self, rung: usize) -> u32
         requires below { rung < (self.old).low }
         requires highest { All (λ c. c.place ≤ rung) (self.old).climbers }
         requires wide { length (self.old).climbers ≤ (self.old).wide }
         ensures climbers { (self.new).climbers ≡ under rung (self.old).climbers }
         ensures came { IsPermutation (up_from rung (self.old).climbers) (self.new).came }
+        ensures total { result ≡ climber_total (self.new).came % 2 ^ 32 }
         ensures rest { self.new ≡ record (self.old) { climbers = (self.new).climbers; came = (self.new).came; low = rung } }
     {
         let head = self.heads[rung];
         self.heads[rung] = 0;
         unmark(&mut self.words, rung);
         self.low = rung;
-        follow(&self.links, head, &mut self.came);
+        follow(&self.links, head, &mut self.came)
     }
 
     /// Those that were taken off last.

@@ -11,7 +11,7 @@ ghost use Rattle.snow_topo.specs.Ladder.{KeepsRoom};
 ghost use Rattle.snow_topo.specs.Leading.{IsSteady};
 
 use crate::climber::{Climber, go_on};
-use crate::gathering::{gather, total};
+use crate::gathering::gather;
 use crate::ladder::Ladder;
 use crate::load::Load;
 use snow_base::{Bag, Steps, Vote};
@@ -133,9 +133,8 @@ pub(crate) fn visit<R: Rule, L: Ledger>(
     if at >= tree.len() {
         return false;
     }
-    ladder.take(at + 1);
+    let count = ladder.take(at + 1);
     let came = ladder.came();
-    let count = total(came);
     let moved = record_quorum(params, tree, at, polls, came, count, children, steps);
     pass(tree, at, count, ladder);
     moved

@@ -27,4 +27,4 @@ returns-else-has_quorum-clause-taken g c =
     let cursors = cursors_of bs c.args.came.now in
     λ children fit.
     left_alone c.args.params.now c.args.polls children c.args.root.now (votes_at cursors c.args.tree.now.last) c.has_quorum.ensures.good fit
-    (λ front. omega (arith, c.total.ensures, few_came c.args.tree.now.last cursors front, same_total bs c.args.came.now, no_quorum _ _ (sym c.has_quorum.ensures.value ∙ c.if-has_quorum.false)))
+    (λ front. omega (arith, c.requires.count, few_came c.args.tree.now.last cursors front, same_total bs c.args.came.now, no_quorum _ _ (sym c.has_quorum.ensures.value ∙ c.if-has_quorum.false)))

@@ -1,6 +1,6 @@
 use Rattle.std.proofs.Common.{◌-◌, ◌<◌, length, get_or, rules, subst, sym, ◌∙◌, arith}
 use Rattle.snow_topo.specs.Ladder.{no_link}
-use Rattle.snow_topo.proofs.Hung.{IsFollowed, followed_within, followed_room, followed_more, followed_falls, followed_all}
+use Rattle.snow_topo.proofs.Hung.{IsFollowed, followed_within, followed_room, followed_more, followed_falls, followed_all, total_more}
 use Rattle.snow_topo.proofs.ladder.follow.Goals as goal
 
 pub offset_bounds-links-number : goal.offset_bounds-links-number
@@ -37,6 +37,7 @@ loop-number-preserved c =
       each = λ place is.
           subst (IsFollowed c.args.links.now place (get_or c.args.links.now (c.loop-number.number - 1) no_link).next) (sym c.push_reserved.ensures.items)
           (followed_more c.args.links.now place c.loop-number.number c.loop-number.came.items c.requires.linked c.loop-number-test.true (c.loop-number.invariant.each place is));
+      total = rw c.push_reserved.ensures.items (total_more c.loop-number.came.items _ c.loop-number.count c.loop-number.invariant.total);
       room = c.push_reserved.ensures.capacity ∙ c.loop-number.invariant.room;
     }
 
