@@ -37,6 +37,7 @@ fn parent_reach<R: Rule>(tree: &Tree<Load<R>>, at: usize) -> usize
 }
 
 /// Votes that passed the block at a place go on to its parent. It takes no memory.
+#[inline(always)]
 pub(crate) fn go_on<R: Rule>(tree: &Tree<Load<R>>, ladder: &mut Ladder, at: usize, count: u32)
     requires room { (ladder.old).put < (ladder.old).most }
     requires within { at < length (tree.now).pending }
