@@ -1,11 +1,11 @@
 use snow_base::Id;
 use std::alloc::{AllocError, Global};
 
-// More slots have no use: two bytes of an identifier tell one.
+// More slots have no use: 16 bits tell one.
 const MOST_SLOTS: usize = 1 << 16;
 
-/// Guesses where entries of a row stand. Of the identifiers that share their first bits it tells the
-/// number of the entry that was put last. Whoever asks confirms the guess.
+/// Guesses where entries of a row stand. Of the identifiers that share a slot it tells the number of the
+/// entry that was put last. Whoever asks confirms the guess.
 #[derive(Debug, Drop)]
 pub(crate) struct Hints {
     // As many as a power of two, or none.
@@ -53,10 +53,12 @@ impl Hints {
         hint.wrapping_sub(low_bits(first)) as usize
     }
 
-    // The slot of an identifier; one past the last where there is none.
+    // The slot of an identifier, by its ends, so that numbers in place of hashes don't share one; past the
+    // last where there is none.
     fn slot_of(&self, id: &Id) -> usize {
         let bytes = id.as_bytes();
-        let bits = usize::from(u16::from_le_bytes([bytes[0], bytes[1]]));
-        bits & self.numbers.len().wrapping_sub(1)
+        let first = u16::from_le_bytes([bytes[0], bytes[1]]);
+        let last = u16::from_be_bytes([bytes[30], bytes[31]]);
+        usize::from(first.wrapping_add(last)) & self.numbers.len().wrapping_sub(1)
     }
 }
