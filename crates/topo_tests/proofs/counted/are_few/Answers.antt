@@ -1,4 +1,4 @@
-use Rattle.std.proofs.Common.{◌≤◌, take_all, All, sym, ap, subst, ◌∙◌, arith}
+use Rattle.std.proofs.Common.{◌≤◌, subst, arith}
 use Rattle.std.proofs.lemmas.List.Elements.{All-more}
 use Rattle.snow_base.specs.Votes.{Votes, total_count}
 use Rattle.topo_tests.proofs.counted.are_few.Goals as goal
