@@ -8,7 +8,7 @@ use Rattle.std.specs.Option.{is_some, option_map}
 use Rattle.std.specs.Ordering.{nat_cmp, is_eq, match_ordering}
 use Rattle.std.specs.Str.{bytes_eq}
 use Rattle.std.proofs.lemmas.Bool.{or_parts, both_ways, eqb-true, lt-ltb, le-ltb, ne_eqb, eq-eqb, cases_order}
-use Rattle.snow_issue.specs.declared.gets.Asked.{Asked}
+use Rattle.snow_issue.specs.declared.get_map.Asked.{Asked}
 use Rattle.snow_issue.specs.declared.work.Get.{Get}
 use Rattle.snow_issue.specs.Lists.{asked_in, has_number, is_get, with_get, without}
 use Rattle.snow_issue.specs.Index.{AreNamedApart, HasAsked, get_of}

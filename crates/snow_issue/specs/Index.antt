@@ -1,5 +1,5 @@
 -- The indexes of a lineup: at which places the items of a key stand, and between which places a mark may stand.
-use Rattle.std.specs.Prelude.{◌≡◌, ℕ, ◌<◌, ◌≤◌, Bool, true, false, ◌==◌, List, [], ◌∷◌, filter, find, not, All, Option, unwrap_or, bytes_eq, if◌then◌else◌}
+use Rattle.std.specs.Prelude.{◌≡◌, ℕ, ◌<◌, ◌≤◌, Bool, true, false, ◌==◌, List, [], ◌∷◌, filter, find, not, All, Option, Some, None, unwrap_or, bytes_eq, if◌then◌else◌}
 use Rattle.std.specs.List.{list_any, AllPairs}
 use Rattle.std.specs.BTreeMap.{BTreeMap, get}
 use Rattle.std.specs.BTreeSet.{BTreeSet, contains}
@@ -11,7 +11,7 @@ use Rattle.std.specs.declared.hash.FoldHasher.{FoldHasher}
 use Rattle.std.specs.Cmp.Lexicographic.{slice_cmp}
 use Rattle.std.specs.Ordering.{nat_cmp}
 use Rattle.snow_issue.specs.declared.lineup.Slot.{Slot}
-use Rattle.snow_issue.specs.declared.gets.Asked.{Asked}
+use Rattle.snow_issue.specs.declared.get_map.Asked.{Asked}
 use Rattle.snow_issue.specs.declared.work.Waiting.{Waiting}
 use Rattle.snow_issue.specs.declared.work.Get.{Get}
 use Rattle.snow_issue.specs.declared.work.Held.{Held}
@@ -87,6 +87,11 @@ get_of e = record { number = e.0; node = e.1.node; id = e.1.id }
 pub record HasAsked (has : List ℕ → Bool) (gets : List Get) : Type 0 where
   pub known : (id : List ℕ) → has id ≡ asked_in gets id
   pub apart : AreNamedApart (λ g. g.id) gets
+
+-- where a get stands apart there is no other
+abbrev pub StandsAlone : Option Get → List Get → Type 0
+StandsAlone None others = Unit {0}
+StandsAlone (Some get) others = others ≡ []
 
 -- whether the map has a node's reply to a poll
 abbrev pub has_reply : BTreeMap ℕ (BTreeSet (List ℕ)) → ℕ → List ℕ → Bool

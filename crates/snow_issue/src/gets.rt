@@ -1,38 +1,35 @@
-ghost use Rattle.std.specs.Prelude.{◌≡◌, ◌<◌, false, [], length, find, OnOk, OnErr};
-ghost use Rattle.std.specs.Option.{option_map};
+ghost use Rattle.std.specs.Prelude.{◌≡◌, ◌++◌, false, [], None, length, find, OnOk, OnErr};
+ghost use Rattle.std.specs.Option.{option_map, option_to_list};
+ghost use Rattle.snow_issue.specs.Index.{StandsAlone};
 ghost use Rattle.snow_issue.specs.Lists.{asked_in, has_number, is_get, with_get, without};
 
+use crate::get_map::GetMap;
 use crate::work::Get;
 use snow_base::{Id, NodeId};
 use std::alloc::{AllocError, Global};
-use std::collections::{BTreeMap, HashSet};
 use std::marker::Model;
 
-/// The node that a block was asked of, and the block.
-#[derive(Clone, Copy)]
-pub(crate) struct Asked {
-    pub(crate) node: NodeId,
-    pub(crate) id: Id,
-}
-
-/// The open gets in order of their numbers, with an index by identifier.
+/// The open gets in order of their numbers.
+///
+/// One that is open alone stands apart, so that it takes no memory and no index is asked; where more
+/// are open, all are in a map.
 #[derive(Drop)]
 pub struct Gets {
-    open: BTreeMap<u32, Asked>,
-    ids: HashSet<Id>,
+    alone: Option<Get>,
+    others: GetMap,
 }
 
 impl Model for Gets {
-    ghost use Rattle.std.specs.Prelude.{List, map, bytes_eq};
-    ghost use Rattle.std.specs.HashSet.{contains};
+    ghost use Rattle.std.specs.Prelude.{List, ◌++◌};
+    ghost use Rattle.std.specs.Option.{option_to_list};
     ghost use Rattle.snow_issue.specs.declared.work.Get.{Get};
-    ghost use Rattle.snow_issue.specs.Index.{get_of, HasAsked};
+    ghost use Rattle.snow_issue.specs.Index.{StandsAlone};
 
     ghost Value = { List Get };
 
-    ghost view = { λ a. map get_of a.open.entries };
+    ghost view = { λ a. option_to_list a.alone ++ a.others };
 
-    ghost invariant = { λ a. HasAsked (contains bytes_eq a.ids) (map get_of a.open.entries) };
+    ghost invariant = { λ a. StandsAlone a.alone a.others };
 }
 
 impl Gets {
@@ -41,8 +38,8 @@ impl Gets {
         ensures { result ≡ [] }
     {
         Gets {
-            open: BTreeMap::new(alloc),
-            ids: HashSet::new(alloc),
+            alone: None,
+            others: GetMap::new(alloc),
         }
     }
 
@@ -50,24 +47,30 @@ impl Gets {
     pub fn len(&self) -> usize
         ensures { result ≡ length self.now }
     {
-        self.open.len()
+        if self.alone.is_some() {
+            return 1;
+        }
+        self.others.len()
     }
 
     /// Whether a block is asked for.
     pub fn asks_for(&self, id: &Id) -> bool
         ensures { result ≡ asked_in self.now id.now }
     {
-        if self.open.len() == 0 {
-            return false;
+        match &self.alone {
+            Some(get) => get.id == *id,
+            None => self.others.asks_for(id),
         }
-        self.ids.contains(id)
     }
 
     /// Whether a get with this number is open.
     pub fn has_number(&self, number: u32) -> bool
         ensures { result ≡ has_number self.now number }
     {
-        self.open.contains_key(&number)
+        match &self.alone {
+            Some(get) => get.number == number,
+            None => self.others.has_number(number),
+        }
     }
 
     /// Opens a get. After want of memory all is as before.
@@ -77,13 +80,12 @@ impl Gets {
         ensures ok { OnOk result (self.new ≡ with_get self.old get) }
         ensures err { OnErr result (self.new ≡ self.old) }
     {
-        let Get { number, node, id } = get;
-        self.ids.insert(id)?;
-        if let Err(failed) = self.open.insert(number, Asked { node, id }) {
-            let _ = self.ids.remove(&id);
-            return Err(failed.into());
+        if self.len() == 0 {
+            self.alone = Some(get);
+            return Ok(());
         }
-        Ok(())
+        join(&mut self.alone, &mut self.others)?;
+        self.others.open(get)
     }
 
     /// Closes the get of a number and node, and gives the block that was asked for.
@@ -91,17 +93,29 @@ impl Gets {
         ensures answer { result ≡ option_map (λ g. g.id) (find (is_get number node.now) self.old) }
         ensures left { self.new ≡ without (is_get number node.now) self.old }
     {
-        // Its numbers rise, so no other get has this one.
-        let _rising = self.open.len();
-        let Some(found) = self.open.get(&number) else {
-            return None;
+        let Some(get) = self.alone else {
+            return self.others.close(number, node);
         };
-        if found.node != *node {
+        if get.number != number || get.node != *node {
             return None;
         }
-        let id = found.id;
-        let _ = self.open.remove(&number);
-        let _ = self.ids.remove(&id);
-        Some(id)
+        self.alone = None;
+        Some(get.id)
     }
+}
+
+// A get that stood alone goes to the others. After want of memory all is as before.
+fn join(alone: &mut Option<Get>, others: &mut GetMap) -> Result<(), AllocError>
+    requires { StandsAlone alone.old others.old }
+    ensures none { OnOk result (alone.new ≡ None) }
+    ensures ok { OnOk result (others.new ≡ option_to_list alone.old ++ others.old) }
+    ensures err_alone { OnErr result (alone.new ≡ alone.old) }
+    ensures err { OnErr result (others.new ≡ others.old) }
+{
+    let Some(get) = *alone else {
+        return Ok(());
+    };
+    others.open(get)?;
+    *alone = None;
+    Ok(())
 }

@@ -3,6 +3,7 @@
 #![tactic(auto)]
 
 mod bubbling;
+mod get_map;
 mod gets;
 mod gone;
 mod laws;

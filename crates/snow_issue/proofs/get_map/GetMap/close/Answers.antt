@@ -8,7 +8,7 @@ use Rattle.snow_issue.specs.declared.work.Get.{Get}
 use Rattle.snow_issue.specs.Lists.{is_get, without}
 use Rattle.snow_issue.specs.Index.{HasAsked, get_of}
 use Rattle.snow_issue.proofs.Asking.{id_of_get, closed_missing, found_number, left_number, none_without, asked_closed}
-use Rattle.snow_issue.proofs.gets.Gets.close.Goals as goal
+use Rattle.snow_issue.proofs.get_map.GetMap.close.Goals as goal
 
 pub returns-in_default-clause-answer : goal.returns-in_default-clause-answer
 returns-in_default-clause-answer c =

@@ -1,0 +1,107 @@
+ghost use Rattle.std.specs.Prelude.{◌≡◌, ◌<◌, false, [], length, find, OnOk, OnErr};
+ghost use Rattle.std.specs.Option.{option_map};
+ghost use Rattle.snow_issue.specs.Lists.{asked_in, has_number, is_get, with_get, without};
+
+use crate::work::Get;
+use snow_base::{Id, NodeId};
+use std::alloc::{AllocError, Global};
+use std::collections::{BTreeMap, HashSet};
+use std::marker::Model;
+
+/// The node that a block was asked of, and the block.
+#[derive(Clone, Copy)]
+pub(crate) struct Asked {
+    pub(crate) node: NodeId,
+    pub(crate) id: Id,
+}
+
+/// Open gets in order of their numbers, with an index by identifier.
+#[derive(Drop)]
+pub(crate) struct GetMap {
+    open: BTreeMap<u32, Asked>,
+    ids: HashSet<Id>,
+}
+
+impl Model for GetMap {
+    ghost use Rattle.std.specs.Prelude.{List, map, bytes_eq};
+    ghost use Rattle.std.specs.HashSet.{contains};
+    ghost use Rattle.snow_issue.specs.declared.work.Get.{Get};
+    ghost use Rattle.snow_issue.specs.Index.{get_of, HasAsked};
+
+    ghost Value = { List Get };
+
+    ghost view = { λ a. map get_of a.open.entries };
+
+    ghost invariant = { λ a. HasAsked (contains bytes_eq a.ids) (map get_of a.open.entries) };
+}
+
+impl GetMap {
+    /// No get is open. It takes no memory.
+    pub(crate) fn new(alloc: Global) -> Self
+        ensures { result ≡ [] }
+    {
+        GetMap {
+            open: BTreeMap::new(alloc),
+            ids: HashSet::new(alloc),
+        }
+    }
+
+    /// How many gets are open.
+    pub(crate) fn len(&self) -> usize
+        ensures { result ≡ length self.now }
+    {
+        self.open.len()
+    }
+
+    /// Whether a block is asked for.
+    pub(crate) fn asks_for(&self, id: &Id) -> bool
+        ensures { result ≡ asked_in self.now id.now }
+    {
+        if self.open.len() == 0 {
+            return false;
+        }
+        self.ids.contains(id)
+    }
+
+    /// Whether a get with this number is open.
+    pub(crate) fn has_number(&self, number: u32) -> bool
+        ensures { result ≡ has_number self.now number }
+    {
+        self.open.contains_key(&number)
+    }
+
+    /// Opens a get. After want of memory all is as before.
+    pub(crate) fn open(&mut self, get: Get) -> Result<(), AllocError>
+        requires number { has_number self.old get.number ≡ false }
+        requires id { asked_in self.old get.id ≡ false }
+        ensures ok { OnOk result (self.new ≡ with_get self.old get) }
+        ensures err { OnErr result (self.new ≡ self.old) }
+    {
+        let Get { number, node, id } = get;
+        self.ids.insert(id)?;
+        if let Err(failed) = self.open.insert(number, Asked { node, id }) {
+            let _ = self.ids.remove(&id);
+            return Err(failed.into());
+        }
+        Ok(())
+    }
+
+    /// Closes the get of a number and node, and gives the block that was asked for.
+    pub(crate) fn close(&mut self, number: u32, node: &NodeId) -> Option<Id>
+        ensures answer { result ≡ option_map (λ g. g.id) (find (is_get number node.now) self.old) }
+        ensures left { self.new ≡ without (is_get number node.now) self.old }
+    {
+        // Its numbers rise, so no other get has this one.
+        let _rising = self.open.len();
+        let Some(found) = self.open.get(&number) else {
+            return None;
+        };
+        if found.node != *node {
+            return None;
+        }
+        let id = found.id;
+        let _ = self.open.remove(&number);
+        let _ = self.ids.remove(&id);
+        Some(id)
+    }
+}
