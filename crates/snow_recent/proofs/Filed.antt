@@ -152,16 +152,16 @@ rising_filed id [] number rising = AllPairs-cons (IsBefore id) number [] (λ k d
 rising_filed id (n ∷ numbers) number rising =
     rising_step (byte_cmp (id n) (id number)) id n numbers number refl rising (rising_filed id numbers number (rising_tail id n numbers rising))
 
-latest_step : (o : Ordering) (id : ℕ → List ℕ) (p : ℕ) (places : List ℕ) (new place : ℕ) → byte_cmp (id p) (id new) ≡ o → place ≤ new
+latest_step : (o : Ordering) (id : ℕ → List ℕ) (p : ℕ) (places : List ℕ) (new place : ℕ) → byte_cmp (id p) (id new) ≡ o → (id new ≡ id place → place ≤ new)
     → HasLatest id (p ∷ places) place → (HasLatest id places place → HasLatest id (filed id places new) place)
     → HasLatest id (step o id p places new) place
 latest_step Less id p places new place is later has rest = elim has [ inl here ↦ inl here | inr there ↦ inr (rest there) ]
 latest_step Equal id p places new place is later has rest =
-    elim has [ inl here ↦ inl (sym (exact_bytes _ _ is) ∙ here.0, later) | inr there ↦ inr there ]
+    elim has [ inl here ↦ let same : id new ≡ id place = sym (exact_bytes _ _ is) ∙ here.0 in inl (same, later same) | inr there ↦ inr there ]
 latest_step Greater id p places new place is later has rest = inr has
 
--- each identifier still has its latest place, where the new place is no earlier
-pub latest_filed : (id : ℕ → List ℕ) (places : List ℕ) (new place : ℕ) → place ≤ new → HasLatest id places place → HasLatest id (filed id places new) place
+-- each identifier still has its latest place, where the new place is no earlier than those of its own
+pub latest_filed : (id : ℕ → List ℕ) (places : List ℕ) (new place : ℕ) → (id new ≡ id place → place ≤ new) → HasLatest id places place → HasLatest id (filed id places new) place
 unfolding filed
 latest_filed id [] new place later has = absurd has
 latest_filed id (p ∷ places) new place later has =

@@ -1,11 +1,11 @@
 -- What forgetting the oldest entry does to the index.
-use Rattle.std.proofs.Common.{◌≡◌, ℕ, zero, suc, ◌+◌, ◌%◌, ◌^◌, ◌<◌, ◌≤◌, not, List, [], ◌∷◌, length, map, get_or, remove, All, Ok, Err, refl, sym, ap, ◌∙◌, arith, Less, inl, inr, drop, subst}
+use Rattle.std.proofs.Common.{◌≡◌, ℕ, zero, suc, ◌+◌, ◌-◌, ◌%◌, ◌^◌, ◌<◌, ◌≤◌, not, List, [], ◌∷◌, length, map, get_or, remove, All, Ok, Err, refl, sym, ap, ◌∙◌, arith, Less, inl, inr, drop, subst}
 use Rattle.std.proofs.lemmas.Bool.{cond-true, cond-false, eq-eqb, ne_eqb}
-use Rattle.std.proofs.lemmas.List.{get_or_default}
+use Rattle.std.proofs.lemmas.List.{get_or_default, get_or-map, length-map}
 use Rattle.std.proofs.lemmas.List.Elements.{All-cons, All-head, All-tail}
 use Rattle.std.proofs.lemmas.List.Kept.{AllPairs-cons}
 use Rattle.std.proofs.lemmas.Map.Lookups.{exact_bytes}
-use Rattle.snow_recent.specs.Index.{id_at, place_of, byte_cmp, IsRising, IsPlaceOf, HasLatest, IsIndex, without_oldest}
+use Rattle.snow_recent.specs.Index.{id_at, id_of, place_of, head_of, seat_of, byte_cmp, IsRising, IsPlaceOf, HasLatest, HasNoSeated, IsIndex, without_oldest}
 use Rattle.snow_recent.proofs.Filed.{rising_head, rising_tail, not_itself, one_place, nowhere}
 
 -- ---- the number that is taken out
@@ -80,13 +80,36 @@ latest_lowered name e entries (suc p ∷ places) place has =
       | inr there ↦ inr (latest_lowered name e entries places place there)
     ]
 
+-- the heads of the rest: each that has a place there is one place nearer to the front
+abbrev AreNearer : (ℕ → ℕ) → (ℕ → ℕ) → Type 0
+AreNearer head next = (seat p : ℕ) → head seat ≡ suc p → next seat ≡ p
+
+nearer_head : (head next : ℕ → ℕ) (seat : ℕ) → AreNearer head next → 0 < head seat → head seat ≡ suc (next seat)
+nearer_head head next seat near some =
+    let is : head seat ≡ suc (head seat - 1) = omega arith in
+    is ∙ ap suc (sym (near seat (head seat - 1) is))
+
 -- so the index of a list gives that of its rest
-index_lowered : {T : Type 0} (name : T → List ℕ) (e : T) (entries : List T) (places : List ℕ) → IsIndex name (e ∷ entries) places → IsIndex name entries (lowered places)
-index_lowered name e entries places index =
+index_lowered : {T : Type 0} (name : T → List ℕ) (e : T) (entries : List T) (head next : ℕ → ℕ) (places : List ℕ) → AreNearer head next
+    → IsIndex name (e ∷ entries) head places → IsIndex name entries next (lowered places)
+index_lowered name e entries head next places near index =
+    let seat : ℕ → ℕ = λ p. seat_of (id_at name entries p) in
     record {
       within = all_lowered (λ p. p < suc (length entries)) (λ p. p < length entries) (λ p h. omega arith) places index.within;
       rising = rising_lowered name e entries places index.rising;
-      latest = λ place h. latest_lowered name e entries places place (index.latest (suc place) (omega arith));
+      behind = all_lowered (λ p. p < head (seat_of (id_at name (e ∷ entries) p))) (λ p. p < next (seat p))
+          (λ p h. let is = nearer_head head next (seat p) near (omega (arith, h)) in omega (arith, is, h)) places index.behind;
+      headed = λ place h.
+          let headed = index.headed (suc place) (omega (arith, h)) in
+          let is = nearer_head head next (seat place) near (omega (arith, headed.later)) in
+          record { there = omega (arith, is, headed.there); later = omega (arith, is, headed.later) };
+      latest = λ place h.
+          let headed = index.headed (suc place) (omega (arith, h)) in
+          let is = nearer_head head next (seat place) near (omega (arith, headed.later)) in
+          elim (index.latest (suc place) (omega (arith, h))) [
+            | inl own ↦ inl (ap (id_at name (e ∷ entries)) (sym is) ∙ own)
+            | inr has ↦ inr (latest_lowered name e entries places place has)
+          ];
     }
 
 -- ---- their numbers
@@ -119,9 +142,25 @@ map_lowered first (n ∷ numbers) small within =
           ∙ ap (λ l. p ∷ l) rest
     ] refl
 
+-- where the oldest entry's number stands at its seat, the table hasn't it
+pub no_oldest : {T : Type 0} (name : T → List ℕ) (entries : List T) (first : ℕ) (heads numbers : List ℕ) → first < 2 ^ 32
+    → IsIndex name entries (head_of first heads) (map (place_of first) numbers) → HasNoSeated (id_of name entries first) heads first numbers
+no_oldest name entries first heads numbers small index seated = λ k d h same.
+    let place : ℕ → ℕ = place_of first in
+    let zero_place : place first ≡ 0 = at_first first small in
+    let long : k < length (map place numbers) = omega (arith, length-map numbers place, h) in
+    let at : get_or (map place numbers) k 0 ≡ place first = get_or-map place numbers k d 0 h ∙ ap place same in
+    let before = subst (λ p. p < head_of first heads (seat_of (id_at name entries p))) at (index.behind k 0 long) in
+    let head : head_of first heads (seat_of (id_at name entries (place first))) ≡ place first = ap place seated in
+    omega (arith, before, head)
+
 -- the index of the list that forgot its oldest entry
-pub forgotten : {T : Type 0} (name : T → List ℕ) (entries : List T) (first : ℕ) (numbers : List ℕ) → 0 < length entries → first < 2 ^ 32 → All (λ n. n < 2 ^ 32) numbers
-    → IsIndex name entries (map (place_of first) numbers) → IsIndex name (drop 1 entries) (map (place_of ((first + 1) % 2 ^ 32)) (without_oldest first numbers))
-forgotten name [] first numbers some small within index = absurd (omega arith)
-forgotten name (e ∷ entries) first numbers some small within index =
-    subst (IsIndex name entries) (sym (map_lowered first numbers small within)) (index_lowered name e entries (map (place_of first) numbers) index)
+pub forgotten : {T : Type 0} (name : T → List ℕ) (entries : List T) (first : ℕ) (heads numbers : List ℕ) → 0 < length entries → first < 2 ^ 32 → All (λ n. n < 2 ^ 32) numbers
+    → IsIndex name entries (head_of first heads) (map (place_of first) numbers)
+    → IsIndex name (drop 1 entries) (head_of ((first + 1) % 2 ^ 32) heads) (map (place_of ((first + 1) % 2 ^ 32)) (without_oldest first numbers))
+forgotten name [] first heads numbers some small within index = absurd (omega arith)
+forgotten name (e ∷ entries) first heads numbers some small within index =
+    let next : ℕ = (first + 1) % 2 ^ 32 in
+    subst (IsIndex name entries (head_of next heads)) (sym (map_lowered first numbers small within))
+    (index_lowered name e entries (head_of first heads) (head_of next heads) (map (place_of first) numbers)
+    (λ seat p is. nearer first (get_or heads seat 0) p small is) index)

@@ -1,15 +1,15 @@
 -- What the index finds is the latest entry.
-use Rattle.std.proofs.Common.{◌≡◌, ℕ, zero, suc, ◌<◌, ◌≤◌, Bool, List, [], ◌∷◌, length, map, get_or, reverse, Some, None, find, refl, sym, ap, ◌∙◌, arith, inl, inr, subst}
+use Rattle.std.proofs.Common.{◌≡◌, ℕ, zero, suc, ◌<◌, ◌≤◌, Bool, List, [], ◌∷◌, length, map, get_or, replicate, reverse, Some, None, find, refl, sym, ap, ◌∙◌, arith, inl, inr, subst}
 use Rattle.std.specs.List.{slice_get}
-use Rattle.std.specs.Option.{option_or}
+use Rattle.std.specs.Option.{option_or, option_map_or}
 use Rattle.std.specs.Str.{bytes_eq}
 use Rattle.std.proofs.lemmas.Bool.{cond-true, cond-false, false_from_ne_true}
 use Rattle.std.proofs.lemmas.List.{reverse-append, get_or-map, length-map}
 use Rattle.std.proofs.lemmas.List.Folds.{find-append}
-use Rattle.std.proofs.lemmas.Option.{slice_get-get_or}
+use Rattle.std.proofs.lemmas.Option.{slice_get-get_or, slice_get_cases, slice_get_within}
 use Rattle.std.proofs.lemmas.Slice.Eq.{bytes_eq-Decides}
 use Rattle.snow_recent.specs.Recent.{latest}
-use Rattle.snow_recent.specs.Index.{id_at, id_of, place_of, HasLatest, IsIndex}
+use Rattle.snow_recent.specs.Index.{id_at, id_of, place_of, seat_of, HasLatest, IsIndex}
 use Rattle.snow_recent.specs.Table.{IsLatest}
 use Rattle.snow_recent.proofs.Filed.{one_place}
 
@@ -62,42 +62,92 @@ place_there id (p ∷ places) place has =
       | inr there ↦ let rest = place_there id places place there in (suc rest.0, omega arith, rest.2, rest.3)
     ]
 
+-- the head of a seat is the latest entry of its identifier
+head_latest : {T : Type 0} (name : T → List ℕ) (entries : List T) (head : ℕ → ℕ) (places : List ℕ) (key : List ℕ) → IsIndex name entries head places
+    → head (seat_of key) < length entries → id_at name entries (head (seat_of key)) ≡ key → latest name entries key ≡ slice_get entries (head (seat_of key))
+head_latest name entries head places key index there is =
+    last_latest name key entries (head (seat_of key)) there is
+    (λ j after within same.
+    let early : j ≤ head (seat_of key) = subst (λ (i : List ℕ). j ≤ head (seat_of i)) same (index.headed j within).later in
+    omega arith)
+
+pub head_found : {T : Type 0} (name : T → List ℕ) (entries : List T) (head : ℕ → ℕ) (places : List ℕ) (key : List ℕ) (e : T) → IsIndex name entries head places
+    → Some e ≡ slice_get entries (head (seat_of key)) → name e ≡ key → Some e ≡ latest name entries key
+head_found name entries head places key e index is own =
+    is
+    ∙ sym (head_latest name entries head places key index (slice_get_within entries (head (seat_of key)) e (sym is))
+    (ap (λ o. option_map_or name o (replicate 32 0)) (sym is) ∙ own))
+
+pub head_other : {T : Type 0} (name : T → List ℕ) (entries : List T) (head : ℕ → ℕ) (key : List ℕ) (e : T)
+    → Some e ≡ slice_get entries (head (seat_of key)) → (name e ≡ key → ⊥) → id_at name entries (head (seat_of key)) ≡ key → ⊥
+head_other name entries head key e is other same = other (ap (λ o. option_map_or name o (replicate 32 0)) is ∙ same)
+
+nothing : {T : Type 0} (e : T) → None ≡ Some e → ⊥
+nothing e is = absurd cc
+
+-- and where a seat has no head, none of its identifiers has an entry
+pub headless : {T : Type 0} (name : T → List ℕ) (entries : List T) (head : ℕ → ℕ) (places : List ℕ) (key : List ℕ) → IsIndex name entries head places
+    → None ≡ slice_get entries (head (seat_of key)) → None ≡ latest name entries key
+headless {T} name entries head places key index none =
+    sym (none_latest name key entries
+    (λ k within same.
+    let there : head (seat_of key) < length entries = subst (λ (i : List ℕ). head (seat_of i) < length entries) same (index.headed k within).there in
+    elim (slice_get_cases entries (head (seat_of key))).1 [
+      | inl found ↦ absurd (nothing found.0 (none ∙ found.2))
+      | inr past ↦ omega (arith, there, past.0)
+    ]))
+
+-- where the head has another identifier, the places tell
+tabled : {T : Type 0} (name : T → List ℕ) (entries : List T) (head : ℕ → ℕ) (places : List ℕ) (key : List ℕ) (j : ℕ) → IsIndex name entries head places
+    → (id_at name entries (head (seat_of key)) ≡ key → ⊥) → j < length entries → id_at name entries j ≡ key → HasLatest (id_at name entries) places j
+tabled name entries head places key j index other within same =
+    elim (index.latest j within) [
+      | inl own ↦ absurd (other (ap (λ (i : List ℕ). id_at name entries (head (seat_of i))) (sym same) ∙ own ∙ same))
+      | inr has ↦ has
+    ]
+
 -- a place of the index that has the identifier has its latest entry
-pub found_latest : {T : Type 0} (name : T → List ℕ) (entries : List T) (places : List ℕ) (key : List ℕ) (at : ℕ) → IsIndex name entries places → at < length places
+pub found_latest : {T : Type 0} (name : T → List ℕ) (entries : List T) (head : ℕ → ℕ) (places : List ℕ) (key : List ℕ) (at : ℕ) → IsIndex name entries head places
+    → (id_at name entries (head (seat_of key)) ≡ key → ⊥) → at < length places
     → id_at name entries (get_or places at 0) ≡ key → latest name entries key ≡ slice_get entries (get_or places at 0)
-found_latest name entries places key at index h is =
+found_latest name entries head places key at index other h is =
     last_latest name key entries (get_or places at 0) (index.within at 0 h) is
     (λ j after within same.
-    let there = place_there (id_at name entries) places j (index.latest j within) in
+    let there = place_there (id_at name entries) places j (tabled name entries head places key j index other within same) in
     let one : there.0 ≡ at = one_place (id_at name entries) places there.0 at 0 index.rising there.1 h (there.2 ∙ same ∙ sym is) in
     let early : j ≤ get_or places at 0 = subst (λ i. j ≤ get_or places i 0) one there.3 in
     omega arith)
 
 -- and where none has it, there is none
-pub missing_latest : {T : Type 0} (name : T → List ℕ) (entries : List T) (places : List ℕ) (key : List ℕ) → IsIndex name entries places
+pub missing_latest : {T : Type 0} (name : T → List ℕ) (entries : List T) (head : ℕ → ℕ) (places : List ℕ) (key : List ℕ) → IsIndex name entries head places
+    → (id_at name entries (head (seat_of key)) ≡ key → ⊥)
     → ((i : ℕ) → i < length places → id_at name entries (get_or places i 0) ≡ key → ⊥) → latest name entries key ≡ None
-missing_latest name entries places key index none =
+missing_latest name entries head places key index other none =
     none_latest name key entries
-    (λ k within same. let there = place_there (id_at name entries) places k (index.latest k within) in none there.0 there.1 (there.2 ∙ same))
+    (λ k within same.
+    let there = place_there (id_at name entries) places k (tabled name entries head places key k index other within same) in
+    none there.0 there.1 (there.2 ∙ same))
 
 -- ---- by the numbers
 
 -- the number of an identifier is that of its latest entry
-pub found_number : {T : Type 0} (name : T → List ℕ) (entries : List T) (first : ℕ) (numbers : List ℕ) (key : List ℕ) (n : ℕ) → IsIndex name entries (map (place_of first) numbers)
+pub found_number : {T : Type 0} (name : T → List ℕ) (entries : List T) (first : ℕ) (head : ℕ → ℕ) (numbers : List ℕ) (key : List ℕ) (n : ℕ)
+    → IsIndex name entries head (map (place_of first) numbers) → (id_at name entries (head (seat_of key)) ≡ key → ⊥)
     → IsLatest (id_of name entries first) numbers key (Some n) → latest name entries key ≡ slice_get entries (place_of first n)
-found_number name entries first numbers key n index found =
+found_number name entries first head numbers key n index other found =
     let at = found.0.0 in
     let there : get_or (map (place_of first) numbers) at 0 ≡ place_of first n =
     get_or-map (place_of first) numbers at n 0 found.0.1 ∙ ap (place_of first) found.0.2 in
-    found_latest name entries (map (place_of first) numbers) key at index (omega (arith, length-map numbers (place_of first), found.0.1))
+    found_latest name entries head (map (place_of first) numbers) key at index other (omega (arith, length-map numbers (place_of first), found.0.1))
     (ap (id_at name entries) there ∙ found.1)
     ∙ ap (slice_get entries) there
 
 -- where no number has the identifier, there is no entry
-pub missing_number : {T : Type 0} (name : T → List ℕ) (entries : List T) (first : ℕ) (numbers : List ℕ) (key : List ℕ) → IsIndex name entries (map (place_of first) numbers)
+pub missing_number : {T : Type 0} (name : T → List ℕ) (entries : List T) (first : ℕ) (head : ℕ → ℕ) (numbers : List ℕ) (key : List ℕ)
+    → IsIndex name entries head (map (place_of first) numbers) → (id_at name entries (head (seat_of key)) ≡ key → ⊥)
     → IsLatest (id_of name entries first) numbers key None → latest name entries key ≡ None
-missing_number name entries first numbers key index none =
-    missing_latest name entries (map (place_of first) numbers) key index
+missing_number name entries first head numbers key index other none =
+    missing_latest name entries head (map (place_of first) numbers) key index other
     (λ i h same.
     let within : i < length numbers = omega (arith, length-map numbers (place_of first)) in
     none i 0 within (ap (id_at name entries) (sym (get_or-map (place_of first) numbers i 0 0 within)) ∙ same))

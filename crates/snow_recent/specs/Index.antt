@@ -1,5 +1,5 @@
--- The index of the entries: for each identifier the number of its latest entry, identifiers rising.
-use Rattle.std.specs.Prelude.{◌≡◌, ℕ, ◌+◌, ◌-◌, ◌%◌, ◌^◌, ◌<◌, ◌≤◌, ◌⊎◌, not, List, [], ◌∷◌, length, map, replicate, ◌==◌, All, HoldsAt, Result, Ok, Err}
+-- The index of the entries: for each seat the number of its latest entry, and a table of those that left their seats to others, identifiers rising.
+use Rattle.std.specs.Prelude.{◌≡◌, ℕ, ◌+◌, ◌-◌, ◌*◌, ◌%◌, ◌^◌, ◌<◌, ◌≤◌, ◌⊎◌, Bool, false, not, ◌&&◌, get_or, bytes_eq, if◌then◌else◌, List, [], ◌∷◌, length, map, replicate, ◌==◌, All, HoldsAt, Result, Ok, Err}
 use Rattle.std.specs.Cmp.Lexicographic.{slice_cmp}
 use Rattle.std.specs.List.{AllPairs, filter, slice_get}
 use Rattle.std.specs.List.Sorted.{IsPartitionPoint}
@@ -48,23 +48,53 @@ filed id [] number = number ∷ []
 filed id (n ∷ numbers) number =
     match_ordering (byte_cmp (id n) (id number)) (n ∷ filed id numbers number) (number ∷ numbers) (number ∷ n ∷ numbers)
 
+-- the seat of an identifier: its first two bytes
+abbrev pub seat_of : List ℕ → ℕ
+seat_of id = get_or id 0 0 * 256 + get_or id 1 0
+
+-- the place of the entry whose number stands at a seat
+abbrev pub head_of : ℕ → List ℕ → ℕ → ℕ
+head_of first heads seat = place_of first (get_or heads seat 0)
+
+-- the head of a seat is one of so many entries, and no earlier than this one
+pub record IsHeaded (count head place : ℕ) : Type 0 where
+  pub there : head < count
+  pub later : place ≤ head
+
+-- whether the entry of a number has another identifier of the same seat
+abbrev pub gives_way : {T : Type 0} → (T → List ℕ) → List T → ℕ → ℕ → List ℕ → Bool
+gives_way name entries first number id =
+    option_map_or (λ e. not (bytes_eq (name e) id) && (seat_of (name e) == seat_of id)) (slice_get entries (place_of first number)) false
+
+-- the numbers in the table once an entry of this identifier takes its seat: the one that stood there is filed, if it gives way
+abbrev pub seated : {T : Type 0} → (T → List ℕ) → List T → ℕ → List ℕ → ℕ → List ℕ → List ℕ
+seated name entries first numbers number id =
+    if gives_way name entries first number id then filed (id_of name entries first) numbers number else numbers
+
+-- where a number stands at its seat, the table hasn't it
+abbrev pub HasNoSeated : (ℕ → List ℕ) → List ℕ → ℕ → List ℕ → Type 0
+HasNoSeated id heads number numbers = get_or heads (seat_of (id number)) 0 ≡ number → All (λ n. n ≡ number → ⊥) numbers
+
 -- one of the places has the identifier of this one, and is no earlier
 abbrev pub HasLatest : (ℕ → List ℕ) → List ℕ → ℕ → Type 0
 HasLatest id [] place = ⊥
 HasLatest id (p ∷ places) place = ((id p ≡ id place) × (place ≤ p)) ⊎ HasLatest id places place
 
--- the places of the latest entries of all identifiers, identifiers rising
-pub record IsIndex {T : Type 0} (name : T → List ℕ) (entries : List T) (places : List ℕ) : Type 0 where
+-- the place of each seat's head, and the places of entries that stand behind, identifiers rising: the latest entry of an identifier is the head of its seat or one of these
+pub record IsIndex {T : Type 0} (name : T → List ℕ) (entries : List T) (head : ℕ → ℕ) (places : List ℕ) : Type 0 where
   pub within : All (λ p. p < length entries) places
   pub rising : IsRising (id_at name entries) places
-  pub latest : (place : ℕ) → place < length entries → HasLatest (id_at name entries) places place
+  pub behind : All (λ p. p < head (seat_of (id_at name entries p))) places
+  pub headed : (place : ℕ) → place < length entries → IsHeaded (length entries) (head (seat_of (id_at name entries place))) place
+  pub latest : (place : ℕ) → place < length entries
+      → (id_at name entries (head (seat_of (id_at name entries place))) ≡ id_at name entries place) ⊎ HasLatest (id_at name entries) places place
 
 -- at most so many entries with their index, and with room for as many entries and numbers
-pub record IsRecent {T : Type 0} (name : T → List ℕ) (most : ℕ) (entries : List T) (first : ℕ) (numbers : List ℕ) (for_entries for_numbers : ℕ) : Type 0 where
+pub record IsRecent {T : Type 0} (name : T → List ℕ) (most : ℕ) (entries : List T) (first : ℕ) (heads numbers : List ℕ) (for_entries for_numbers : ℕ) : Type 0 where
   pub some : 0 < most
   pub fits : most < 2 ^ 32
   pub few : length entries ≤ most
   pub room : most ≤ for_entries
   pub places : most ≤ for_numbers
   pub small : All (λ n. n < 2 ^ 32) numbers
-  pub index : IsIndex name entries (map (place_of first) numbers)
+  pub index : IsIndex name entries (head_of first heads) (map (place_of first) numbers)

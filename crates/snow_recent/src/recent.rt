@@ -4,9 +4,10 @@ ghost use Rattle.std.specs.Option.{option_copied, is_some};
 ghost use Rattle.std.specs.VecDeque.{deque_len, deque_capacity};
 ghost use Rattle.snow_recent.specs.Recent.{with_latest, latest};
 
-use crate::index;
+use crate::heads::Heads;
 use crate::named::Named;
 use crate::table::Table;
+use crate::{index, seats};
 use snow_base::Id;
 use std::alloc::{AllocError, Global};
 use std::collections::VecDeque;
@@ -14,12 +15,14 @@ use std::marker::Model;
 
 /// The last `MOST` entries that came. Contracts see the list of them, the latest last.
 ///
-/// An index by identifier finds the latest entry of one; identifiers of senders' choice cost no more
-/// than any others. All room is made with the list, so that no other call takes memory.
+/// The latest entry of an identifier mostly stands at the head of its seat, and else in a table, so
+/// that identifiers of senders' choice cost little more than any others. All room is made with the
+/// list, so that no other call takes memory.
 #[derive(Drop)]
 pub struct Recent<T: Named, const MOST: usize> {
     entries: VecDeque<T>,
     first: u32,
+    heads: Heads,
     table: Table,
 }
 
@@ -33,7 +36,7 @@ impl<T: Named, const MOST: usize> Model for Recent<T, MOST> {
 
     ghost view = { λ a. a.entries.items };
 
-    ghost invariant = { λ a. IsRecent T.id MOST a.entries.items a.first (concat a.table.rows) (deque_capacity a.entries) a.table.most };
+    ghost invariant = { λ a. IsRecent T.id MOST a.entries.items a.first a.heads (concat a.table.rows) (deque_capacity a.entries) a.table.most };
 }
 
 impl<T: Named, const MOST: usize> Recent<T, MOST> {
@@ -44,10 +47,12 @@ impl<T: Named, const MOST: usize> Recent<T, MOST> {
         ensures { IfOk result (λ made. made ≡ []) }
     {
         let entries = VecDeque::with_capacity(alloc, MOST)?;
+        let heads = Heads::new(alloc)?;
         let table = Table::new(alloc, MOST)?;
         Ok(Recent {
             entries,
             first: 0,
+            heads,
             table,
         })
     }
@@ -77,6 +82,14 @@ impl<T: Named, const MOST: usize> Recent<T, MOST> {
     pub fn latest(&self, id: &Id) -> Option<&T>
         ensures { option_copied result ≡ latest T.id self.now id.now }
     {
+        // Where a seat has no head, no entry has the seat.
+        let number = self.heads.number(id);
+        let Some(head) = index::entry_of(&self.entries, self.first, number) else {
+            return None;
+        };
+        if head.id() == *id {
+            return Some(head);
+        }
         match self.table.latest(&self.entries, self.first, id) {
             Some(number) => index::entry_of(&self.entries, self.first, number),
             None => None,
@@ -102,7 +115,7 @@ impl<T: Named, const MOST: usize> Recent<T, MOST> {
         requires { 0 < length self.old }
         ensures { self.new ≡ drop 1 self.old }
     {
-        self.table.take_oldest(&self.entries, self.first);
+        seats::forget_oldest(&mut self.table, &self.heads, &self.entries, self.first);
         let _oldest = self.entries.pop_front();
         self.first = self.first.wrapping_add(1);
     }
@@ -112,8 +125,11 @@ impl<T: Named, const MOST: usize> Recent<T, MOST> {
         requires { length self.old < MOST }
         ensures { self.new ≡ self.old ++ entry ∷ [] }
     {
+        let id = entry.id();
+        let head = self.heads.number(&id);
+        seats::take_seat(&mut self.table, &self.entries, self.first, head, &id);
         let number = self.first.wrapping_add(self.entries.len() as u32);
         self.entries.push_back_reserved(entry);
-        self.table.file(&self.entries, self.first, number);
+        self.heads.set(&id, number);
     }
 }

@@ -2,14 +2,20 @@ use Rattle.std.proofs.Common.{◌<◌, ◌^◌, ap, arith, length, not, ◌==◌
 use Rattle.std.specs.List.{concat}
 use Rattle.std.proofs.lemmas.List.{length-drop}
 use Rattle.std.proofs.lemmas.List.Elements.{All-filter}
-use Rattle.snow_recent.specs.Index.{id_at, place_of}
-use Rattle.snow_recent.proofs.Filed.{rising_numbers}
-use Rattle.snow_recent.proofs.Forgotten.{forgotten}
+use Rattle.snow_recent.specs.Index.{head_of}
+use Rattle.snow_recent.proofs.Appended.{rising_before}
+use Rattle.snow_recent.proofs.Forgotten.{forgotten, no_oldest}
 use Rattle.snow_recent.proofs.recent.Recent.forget_oldest.Goals as goal
 
-pub take_oldest-requires : goal.take_oldest-requires
-take_oldest-requires g c =
-    rising_numbers (id_at g.T.Named.id c.self.inside.entries.items) (place_of c.self.inside.first) (concat c.self.inside.table.rows) c.self.invariant.index.rising
+pub forget_oldest-requires-clause-order : goal.forget_oldest-requires-clause-order
+forget_oldest-requires-clause-order g c =
+    let inside = c.self.inside in
+    rising_before g.T.Named.id inside.entries.items inside.first (head_of inside.first inside.heads) (concat inside.table.rows) c.self.invariant.index
+
+pub forget_oldest-requires-clause-seat : goal.forget_oldest-requires-clause-seat
+forget_oldest-requires-clause-seat g c =
+    let inside = c.self.inside in
+    no_oldest g.T.Named.id inside.entries.items inside.first inside.heads (concat inside.table.rows) (omega arith) c.self.invariant.index
 
 pub invariant_of-self : goal.invariant_of-self
 invariant_of-self g c =
@@ -22,8 +28,8 @@ invariant_of-self g c =
       fits = c.self.invariant.fits;
       few = omega (arith, ap length c.pop_front-oldest.ensures.rest, length-drop 1 entries, c.self.invariant.few);
       room = omega (arith, c.pop_front-oldest.ensures.capacity, c.self.invariant.room);
-      places = omega (arith, c.take_oldest.ensures.most, c.self.invariant.places);
-      small = rw c.take_oldest.ensures.numbers (All-filter (λ n. not (n == first)) (λ n. n < 2 ^ 32) numbers c.self.invariant.small);
-      index = rw (c.pop_front-oldest.ensures.rest, c.take_oldest.ensures.numbers)
-          (forgotten g.T.Named.id entries first numbers some (omega arith) c.self.invariant.small c.self.invariant.index);
+      places = omega (arith, c.forget_oldest.ensures.most, c.self.invariant.places);
+      small = rw c.forget_oldest.ensures.numbers (All-filter (λ n. not (n == first)) (λ n. n < 2 ^ 32) numbers c.self.invariant.small);
+      index = rw (c.pop_front-oldest.ensures.rest, c.forget_oldest.ensures.numbers)
+          (forgotten g.T.Named.id entries first c.self.inside.heads numbers some (omega arith) c.self.invariant.small c.self.invariant.index);
     }

@@ -1,24 +1,58 @@
-use Rattle.std.proofs.Common.{sym, ap, ◌∙◌}
-use Rattle.std.specs.List.{concat}
+use Rattle.std.proofs.Common.{◌≡◌, true, false, sym, ap, ◌∙◌}
+use Rattle.std.specs.List.{concat, slice_get}
+use Rattle.std.specs.Option.{option_copied}
+use Rattle.std.proofs.lemmas.Slice.Eq.{bytes_eq-Decides}
 use Rattle.snow_recent.specs.Recent.{latest}
-use Rattle.snow_recent.specs.Index.{id_at, place_of}
-use Rattle.snow_recent.proofs.Filed.{rising_numbers}
-use Rattle.snow_recent.proofs.Latest.{found_number, missing_number}
+use Rattle.snow_recent.specs.Index.{head_of, place_of}
+use Rattle.snow_recent.proofs.Appended.{rising_before}
+use Rattle.snow_recent.proofs.Latest.{head_found, head_other, headless, found_number, missing_number}
 use Rattle.snow_recent.proofs.recent.Recent.latest.Goals as goal
+
+pub returns-in_default : goal.returns-in_default
+returns-in_default g c =
+    let inside = c.self.inside in
+    let entries = inside.entries.items in
+    let first = inside.first in
+    let none = ap option_copied (sym c.in_default.is) ∙ c.entry_of.ensures ∙ ap (λ n. slice_get entries (place_of first n)) c.number-number.ensures in
+    headless g.T.Named.id entries (head_of first inside.heads) _ c.args.id.now c.self.invariant.index none
+    ∙ ap (λ entries. latest g.T.Named.id entries c.args.id.now) c.self.view_is
+
+pub returns-then-eq : goal.returns-then-eq
+returns-then-eq g c =
+    let inside = c.self.inside in
+    let entries = inside.entries.items in
+    let first = inside.first in
+    let is = ap option_copied (sym c.in-Some.is) ∙ c.entry_of.ensures ∙ ap (λ n. slice_get entries (place_of first n)) c.number-number.ensures in
+    let own = sym c.id.ensures ∙ (bytes_eq-Decides c.id.result c.args.id.now).0 (sym c.eq.ensures ∙ c.if-eq.true) in
+    head_found g.T.Named.id entries (head_of first inside.heads) _ c.args.id.now c.in-Some.head.now c.self.invariant.index is own
+    ∙ ap (λ entries. latest g.T.Named.id entries c.args.id.now) c.self.view_is
 
 pub latest-requires : goal.latest-requires
 latest-requires g c =
-    rising_numbers (id_at g.T.Named.id c.self.inside.entries.items) (place_of c.self.inside.first) (concat c.self.inside.table.rows) c.self.invariant.index.rising
-
-pub returns-in-Some : goal.returns-in-Some
-returns-in-Some g c =
     let inside = c.self.inside in
-    c.entry_of.ensures
-    ∙ sym (found_number g.T.Named.id inside.entries.items inside.first (concat inside.table.rows) c.args.id.now c.in-Some.number c.self.invariant.index c.in-Some.ensures)
+    rising_before g.T.Named.id inside.entries.items inside.first (head_of inside.first inside.heads) (concat inside.table.rows) c.self.invariant.index
+
+pub returns-in-Some-latest : goal.returns-in-Some-latest
+returns-in-Some-latest g c =
+    let inside = c.self.inside in
+    let entries = inside.entries.items in
+    let first = inside.first in
+    let head = head_of first inside.heads in
+    let is = ap option_copied (sym c.in-Some.is) ∙ c.entry_of.ensures ∙ ap (λ n. slice_get entries (place_of first n)) c.number-number.ensures in
+    let other = head_other g.T.Named.id entries head c.args.id.now c.in-Some.head.now is
+    (λ same. let yes : true ≡ false = sym ((bytes_eq-Decides c.id.result c.args.id.now).1 (c.id.ensures ∙ same)) ∙ sym c.eq.ensures ∙ c.if-eq.false in absurd cc) in
+    c.entry_of-in-Some-latest.ensures
+    ∙ sym (found_number g.T.Named.id entries first head (concat inside.table.rows) c.args.id.now c.in-Some-latest.number c.self.invariant.index other c.in-Some-latest.ensures)
     ∙ ap (λ entries. latest g.T.Named.id entries c.args.id.now) c.self.view_is
 
 pub returns-in-None : goal.returns-in-None
 returns-in-None g c =
     let inside = c.self.inside in
-    sym (missing_number g.T.Named.id inside.entries.items inside.first (concat inside.table.rows) c.args.id.now c.self.invariant.index c.in-None.ensures)
+    let entries = inside.entries.items in
+    let first = inside.first in
+    let head = head_of first inside.heads in
+    let is = ap option_copied (sym c.in-Some.is) ∙ c.entry_of.ensures ∙ ap (λ n. slice_get entries (place_of first n)) c.number-number.ensures in
+    let other = head_other g.T.Named.id entries head c.args.id.now c.in-Some.head.now is
+    (λ same. let yes : true ≡ false = sym ((bytes_eq-Decides c.id.result c.args.id.now).1 (c.id.ensures ∙ same)) ∙ sym c.eq.ensures ∙ c.if-eq.false in absurd cc) in
+    sym (missing_number g.T.Named.id entries first head (concat inside.table.rows) c.args.id.now c.self.invariant.index other c.in-None.ensures)
     ∙ ap (λ entries. latest g.T.Named.id entries c.args.id.now) c.self.view_is

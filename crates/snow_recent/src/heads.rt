@@ -1,0 +1,66 @@
+//! Which entry came last of those whose identifiers share a seat.
+ghost use Rattle.std.specs.Prelude.{◌≡◌, ◌<◌, get_or, length, slice_set, IfOk};
+ghost use Rattle.snow_recent.specs.Index.{seat_of};
+
+use snow_base::Id;
+use std::alloc::{AllocError, Global};
+use std::marker::Model;
+
+// How many seats there are.
+const SEATS: usize = 65_536;
+
+/// For each seat a number: where there is an entry of the seat, that of the one which came last.
+/// Contracts see the numbers.
+#[derive(Drop)]
+pub(crate) struct Heads {
+    numbers: Vec<u32>,
+}
+
+impl Model for Heads {
+    ghost use Rattle.std.specs.Prelude.{◌≡◌, ℕ, List, length};
+
+    ghost Value = { List ℕ };
+
+    ghost view = { λ a. a.numbers.items };
+
+    ghost invariant = { λ a. length a.numbers.items ≡ 65536 };
+}
+
+impl Heads {
+    /// A number for each seat, which is that of no entry for a long time.
+    pub(crate) fn new(alloc: Global) -> Result<Heads, AllocError> {
+        let numbers = filled(alloc, SEATS)?;
+        Ok(Heads { numbers })
+    }
+
+    /// The number at an identifier's seat.
+    pub(crate) fn number(&self, id: &Id) -> u32
+        ensures { result ≡ get_or self.now (seat_of id.now) 0 }
+    {
+        self.numbers[seat_of(id)]
+    }
+
+    /// Puts another number at an identifier's seat.
+    pub(crate) fn set(&mut self, id: &Id, number: u32)
+        ensures there { seat_of id.now < length self.old }
+        ensures set { self.new ≡ slice_set self.old (seat_of id.now) number }
+    {
+        self.numbers[seat_of(id)] = number;
+    }
+}
+
+// So many times the highest number.
+fn filled(alloc: Global, count: usize) -> Result<Vec<u32>, AllocError>
+    ensures { IfOk result (λ list. length list.items ≡ count) }
+{
+    vec![in alloc; u32::MAX; count]
+}
+
+/// The seat of an identifier: its first two bytes.
+pub(crate) fn seat_of(id: &Id) -> usize
+    ensures seat { result ≡ seat_of id.now }
+    ensures small { result < 65536 }
+{
+    let bytes = id.as_bytes();
+    usize::from(bytes[0]) * 256 + usize::from(bytes[1])
+}

@@ -1,0 +1,65 @@
+//! How entries take seats, and what the table has of those that gave way.
+ghost use Rattle.std.specs.Prelude.{◌≡◌, ◌==◌, ◌<◌, ◌&&◌, not, bytes_eq, length};
+ghost use Rattle.std.specs.List.{concat};
+ghost use Rattle.snow_recent.specs.Index.{id_of, IsRising, gives_way, seated, seat_of, HasNoSeated, without_oldest};
+
+use crate::heads::{Heads, seat_of};
+use crate::index;
+use crate::named::Named;
+use crate::table::Table;
+use snow_base::Id;
+use std::collections::VecDeque;
+
+// Whether the entry of a number has another identifier of the same seat.
+fn gives_way<T: Named>(entries: &VecDeque<T>, first: u32, number: u32, id: &Id) -> bool
+    ensures { result ≡ gives_way T.id entries.now.items first number id.now }
+{
+    match index::entry_of(entries, first, number) {
+        Some(entry) => is_other(&entry.id(), id),
+        None => false,
+    }
+}
+
+// Whether these are two identifiers of one seat.
+fn is_other(head: &Id, id: &Id) -> bool
+    ensures { result ≡ (not (bytes_eq head.now id.now) && (seat_of head.now == seat_of id.now)) }
+{
+    head != id && seat_of(head) == seat_of(id)
+}
+
+/// An identifier takes its seat, at which this number stands: it is filed, if its entry gives way.
+pub(crate) fn take_seat<T: Named>(
+    table: &mut Table,
+    entries: &VecDeque<T>,
+    first: u32,
+    number: u32,
+    id: &Id,
+)
+    requires order { IsRising (id_of T.id entries.now.items first) (concat table.old.rows) }
+    requires room { length (concat table.old.rows) < table.old.most }
+    ensures numbers { concat table.new.rows ≡ seated T.id entries.now.items first (concat table.old.rows) number id.now }
+    ensures most { table.new.most ≡ table.old.most }
+{
+    if gives_way(entries, first, number, id) {
+        table.file(entries, first, number);
+    }
+}
+
+/// Takes the number of the oldest entry out of the table, if it is there. It isn't where it still has
+/// its seat.
+pub(crate) fn forget_oldest<T: Named>(
+    table: &mut Table,
+    heads: &Heads,
+    entries: &VecDeque<T>,
+    first: u32,
+)
+    requires order { IsRising (id_of T.id entries.now.items first) (concat table.old.rows) }
+    requires seat { HasNoSeated (id_of T.id entries.now.items first) heads.now first (concat table.old.rows) }
+    ensures numbers { concat table.new.rows ≡ without_oldest first (concat table.old.rows) }
+    ensures most { table.new.most ≡ table.old.most }
+{
+    let oldest = index::id_of(entries, first, first);
+    if heads.number(&oldest) != first {
+        table.take_oldest(entries, first);
+    }
+}
