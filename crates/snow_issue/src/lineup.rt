@@ -187,8 +187,31 @@ fn forget_all<T>(slots: &mut [Slot<T>])
     }
 }
 
-// The slot with this place, or how many slots there are.
+// The slot with this place, or how many slots there are. It is looked for first where it stands if
+// no place before it is missing.
 fn find_place<T>(slots: &[Slot<T>], place: u64) -> usize
+    requires { AllPairs (λ s t. s.place < t.place) slots.now }
+    ensures { result ≡ position_or_len (λ s. s.place == place) slots.now }
+{
+    let likely = likely_place(slots, place);
+    if let Some(slot) = slots.get(likely) {
+        if slot.place == place {
+            return likely;
+        }
+    }
+    search_place(slots, place)
+}
+
+// How far a place is behind that of the first slot.
+fn likely_place<T>(slots: &[Slot<T>], place: u64) -> usize {
+    match slots.first() {
+        Some(slot) => place.wrapping_sub(slot.place) as usize,
+        None => 0,
+    }
+}
+
+// The same, wherever it stands.
+fn search_place<T>(slots: &[Slot<T>], place: u64) -> usize
     requires { AllPairs (λ s t. s.place < t.place) slots.now }
     ensures { result ≡ position_or_len (λ s. s.place == place) slots.now }
 {

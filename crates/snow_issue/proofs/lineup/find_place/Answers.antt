@@ -1,27 +1,16 @@
--- The first slot that isn't below the place has it, or none has.
-use Rattle.std.proofs.Common.{ltb, rules, ap, ◌∙◌, arith}
-use Rattle.std.proofs.lemmas.List.{get_or_default}
-use Rattle.std.proofs.lemmas.List.Sorted.{IsPartitionPoint-from_clause}
+-- A slot at the likely place is the one, if it has the place.
+use Rattle.std.proofs.Common.{◌≡◌, get_or, ap, ◌∙◌, sym, subst}
+use Rattle.std.specs.Option.{is_some, IfSome}
+use Rattle.std.proofs.lemmas.Bool.{ltb-true}
 use Rattle.snow_issue.specs.declared.lineup.Slot.{Slot}
-use Rattle.snow_issue.proofs.Placed.{partitioned, found_place, missing_behind}
+use Rattle.snow_issue.proofs.Placed.{found_place}
 use Rattle.snow_issue.proofs.lineup.find_place.Goals as goal
 
-pub returns-then-at-slots : goal.returns-then-at-slots
-returns-then-at-slots g c =
-    let point = IsPartitionPoint-from_clause (λ s. ltb s.place c.args.place) c.args.slots.now c.partition_point-at.result c.partition_point-at.ensures.partitioned
-    (partitioned c.args.slots.now c.args.place c.requires) (λ a r h called. search rules) in
-    missing_behind c.args.slots.now c.args.place c.partition_point-at.result c.requires point (λ d within. absurd (omega (arith, within, c.if-at-slots.true)))
-
-pub returns-then-slots-at : goal.returns-then-slots-at
-returns-then-slots-at g c =
-    let s = c.index-slots-at.result in
-    found_place c.args.slots.now c.args.place c.partition_point-at.result s c.requires (omega (arith, c.if-at-slots.false))
-    c.if-slots-at.true
-
-pub returns : goal.returns
-returns g c =
-    let s = c.index-slots-at.result in
-    let point = IsPartitionPoint-from_clause (λ s. ltb s.place c.args.place) c.args.slots.now c.partition_point-at.result c.partition_point-at.ensures.partitioned
-    (partitioned c.args.slots.now c.args.place c.requires) (λ a r h called. search rules) in
-    missing_behind c.args.slots.now c.args.place c.partition_point-at.result c.requires point
-    (λ d within same. c.if-slots-at.false (ap (λ (x : Slot _). x.place) (get_or_default c.args.slots.now c.partition_point-at.result s d within) ∙ same))
+pub returns-then-slot-place : goal.returns-then-slot-place
+returns-then-slot-place g c =
+    let slots = c.args.slots.now in
+    let at = c.likely_place-likely.result in
+    let slot = c.in-Some.slot.now in
+    let within = ltb-true at _ (sym c.get.ensures.lookup.0 ∙ ap is_some c.in-Some.is) in
+    let read = subst (λ o. IfSome o (λ x. x.now ≡ get_or slots at x.now)) c.in-Some.is c.get.ensures.lookup.1 in
+    found_place slots c.args.place at slot c.requires within (ap (λ (s : Slot _). s.place) (sym read) ∙ c.if-slot-place.true)
