@@ -291,10 +291,7 @@ impl Queue {
         if let Some(block) = self.take_ready(board) {
             return Some(Work::Ready(block));
         }
-        match self.take_vote() {
-            Some(reply) => Some(Work::Vote(reply)),
-            None => None,
-        }
+        self.next_vote()
     }
 
     // The same where something is remembered of each waiting block, and none is ready.
@@ -305,6 +302,9 @@ impl Queue {
         ensures rests { NoneRipe self.old.seats → RestsAfter result self.new.seats }
         ensures limits { AreWithinLimits (lists_of self.new) }
     {
+        if self.replies.len() == 0 {
+            return None;
+        }
         match self.take_vote() {
             Some(reply) => Some(Work::Vote(reply)),
             None => None,
