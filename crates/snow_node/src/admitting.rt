@@ -62,6 +62,7 @@ pub fn admit<C: Chain, B: Board>(
     ensures admits { IfOk result (λ valid. Admits valid (B.board board.old) (C.held chain.old) (B.board board.new) (C.held chain.new)
         (B.decided board.new) block.now (next_on C.rules (C.held chain.old) block.now.parent bytes.now)) }
     ensures board { OnErr result (B.board board.new ≡ B.board board.old) }
+    ensures decided { OnErr result (B.decided board.new ≡ B.decided board.old) }
     ensures held { OnErr result (C.held chain.new ≡ C.held chain.old) }
     ensures steady { IsSteady (B.board board.new) (C.held chain.new) }
 {
@@ -103,6 +104,7 @@ pub fn apply_votes<C: Chain, B: Board>(
     ensures decided { OnOk result (B.decided board.new ≡ (poll (B.board board.old) (one_each ids.now)).1) }
     ensures held { OnOk result (C.held chain.new ≡ with_decisions (C.held chain.old) (poll (B.board board.old) (one_each ids.now)).1) }
     ensures board_stays { OnErr result (B.board board.new ≡ B.board board.old) }
+    ensures decided_stays { OnErr result (B.decided board.new ≡ B.decided board.old) }
     ensures held_stays { OnErr result (C.held chain.new ≡ C.held chain.old) }
     ensures steady { IsSteady (B.board board.new) (C.held chain.new) }
     ensures parameters { (B.board board.new).parameters ≡ (B.board board.old).parameters }
