@@ -88,10 +88,10 @@ impl<C: Chain, B: Board> Running<C, B> {
             Tells result log.old log.new (model.block_brings C.rules B.answer self.old block).0 }
     {
         if self.is_next(&header) {
-            self.place_at_once(&header, bytes, log)
-        } else {
-            self.line_up(peer, header, bytes, log)
+            return self.place_at_once(&header, bytes, log);
         }
+        self.offer(peer, header, bytes, log)?;
+        self.settle(log)
     }
 
     /// Whether a block is ready as it comes, and would be the first thing to do: then it needn't wait.
@@ -122,23 +122,6 @@ impl<C: Chain, B: Board> Running<C, B> {
     {
         self.remembered = self.remembered.next(id);
         self.queue.forget_children(id);
-    }
-
-    /// A block is offered to the queue, and all that it brings is done.
-    fn line_up(
-        &mut self,
-        peer: NodeId,
-        header: Header,
-        bytes: &[u8],
-        log: &mut Lines,
-    ) -> Result<(), Halt>
-        ensures answer { let block : Block = record { node = peer; header = header; bytes = bytes.now } in
-            Turns result self.new (model.block_brings C.rules B.answer self.old block).1 }
-        ensures lines { let block : Block = record { node = peer; header = header; bytes = bytes.now } in
-            Tells result log.old log.new (model.block_brings C.rules B.answer self.old block).0 }
-    {
-        self.offer(peer, header, bytes, log)?;
-        self.settle(log)
     }
 
     #[tactic(auto, using(crate::proofs::Logs::logs_nothing))]
@@ -224,10 +207,11 @@ impl<C: Chain, B: Board> Running<C, B> {
         ensures answer { Turns result self.new (model.vote_counts C.rules B.answer self.old number peer.now id).1 }
         ensures lines { Tells result log.old log.new (model.vote_counts C.rules B.answer self.old number peer.now id).0 }
     {
-        match self.vote_at_once(&id) {
-            Some(vote) => self.count(number, peer, vote, log),
-            None => self.hold_back(number, peer, id, log),
+        if let Some(vote) = self.vote_at_once(&id) {
+            return self.count(number, peer, vote, log);
         }
+        self.hold(number, peer, id, log)?;
+        self.settle(log)
     }
 
     /// The vote of a reply, where it would be the first thing to do: then it needn't be held.
@@ -252,16 +236,6 @@ impl<C: Chain, B: Board> Running<C, B> {
         ensures lines { Tells result log.old log.new (then_comes (tallied B.answer self.old number peer.now vote) (settled C.rules B.answer)).0 }
     {
         self.tally(number, peer, vote, log)?;
-        self.settle(log)
-    }
-
-    /// A reply is held, and all that it brings is done.
-    fn hold_back(&mut self, number: u32, peer: &NodeId, id: Id, log: &mut Lines) -> Result<(), Halt>
-        requires { model.waits_for self.old number peer.now ≡ true }
-        ensures answer { Turns result self.new (model.vote_counts C.rules B.answer self.old number peer.now id).1 }
-        ensures lines { Tells result log.old log.new (model.vote_counts C.rules B.answer self.old number peer.now id).0 }
-    {
-        self.hold(number, peer, id, log)?;
         self.settle(log)
     }
 
