@@ -1,5 +1,5 @@
 -- Lemmas on a block that is offered.
-use Rattle.std.proofs.Common.{◌≡◌, ℕ, zero, suc, refl, ◌+◌, ◌<◌, true, List, [], length, Option, Some, None, is_some, sym, ◌∙◌, ap, subst}
+use Rattle.std.proofs.Common.{◌≡◌, ℕ, zero, suc, refl, ◌+◌, ◌<◌, true, List, length, Option, Some, None, is_some, sym, ◌∙◌, ap, subst}
 use Rattle.snow_base.specs.declared.header.Header.{Header}
 use Rattle.snow_base.specs.declared.vote.Vote.{Vote}
 use Rattle.snow_node.specs.Matching.{IsSteady}

@@ -1,5 +1,5 @@
 -- The chain can be told the decisions, and then belongs to the board.
-use Rattle.std.proofs.Common.{◌≡◌, ◌≤◌, List, ap, ◌∙◌, arith}
+use Rattle.std.proofs.Common.{◌≤◌, ◌∙◌, arith}
 use Rattle.snow_base.specs.Gathered.{one_each}
 use Rattle.snow_base.specs.Votes.{total_count}
 use Rattle.snow_plain.proofs.OneEach.{total_each}
