@@ -11,7 +11,7 @@ use crate::tally;
 use snow_base::{Bag, Id, NodeId};
 use snow_flake::Params;
 use snow_sample::{Draw, Draws};
-use std::alloc::{AllocError, Global};
+use std::alloc::AllocError;
 use std::marker::Model;
 
 /// A poll under way. Contracts see its number, its draws, and the replies in order of arrival.
@@ -46,11 +46,11 @@ impl Poll {
     ghost use Rattle.snow_poll.specs.Closing.{is_closed};
     ghost use Rattle.snow_poll.specs.Table.{new_poll};
 
-    /// A poll over these draws, without replies, in the room of one that left. What it will need
-    /// beyond that is made here.
+    /// A poll over these draws, without replies, in the room of one that left and of its votes. What
+    /// it will need beyond that is made here.
     pub(crate) fn begin(
-        alloc: Global,
         room: Room,
+        mut votes: Bag,
         number: u32,
         draws: &Draws,
         outstanding: u32,
@@ -67,7 +67,7 @@ impl Poll {
         } = room;
         replies.clear();
         replies.reserve(drawn.len())?;
-        let mut votes = Bag::new(alloc);
+        votes.clear();
         votes.reserve(drawn.len())?;
         Ok(Poll {
             number,

@@ -74,6 +74,8 @@ pub struct Polls {
     polls: VecDeque<Poll>,
     turns: Turns,
     room: Room,
+    /// Votes that came back. Only their room counts.
+    spare: Bag,
 }
 
 impl Model for Polls {
@@ -100,6 +102,7 @@ impl Polls {
             polls: VecDeque::new(alloc),
             turns: Turns::new(alloc),
             room: Room::new(alloc),
+            spare: Bag::new(alloc),
         }
     }
 
@@ -118,7 +121,8 @@ impl Polls {
             return Err(PollFault::Full);
         }
         let room = mem::replace(&mut self.room, Room::new(self.alloc));
-        let poll = Poll::begin(self.alloc, room, number, draws, self.params.k())?;
+        let votes = mem::replace(&mut self.spare, Bag::new(self.alloc));
+        let poll = Poll::begin(room, votes, number, draws, self.params.k())?;
         self.polls.reserve(1)?;
         self.turns.enter(number, self.polls.len())?;
         self.polls.push_back_reserved(poll);
@@ -172,6 +176,13 @@ impl Polls {
         let (votes, room) = poll.into_votes();
         self.room = room;
         Some(Closed { number, votes })
+    }
+
+    /// Takes the votes of a poll that left back: their room is used by the next one that is begun.
+    pub fn take_back(&mut self, votes: Bag)
+        ensures { self.new ≡ self.old }
+    {
+        self.spare = votes;
     }
 
     /// How many polls there are.

@@ -51,7 +51,9 @@ impl<C: Chain, B: Board> Running<C, B> {
             return Ok(false);
         };
         self.queue.forget(closed.number);
-        self.record(&closed.votes, log)
+        let recorded = self.record(&closed.votes, log);
+        self.polls.take_back(closed.votes);
+        recorded
     }
 
     /// Votes are recorded, and chain and queue told what they decided, which peers are served then.

@@ -17,6 +17,6 @@ invariant_of-result c =
     let many = ap (λ (l : List Draw). length l) drawn in
     rw (c.in_ok-awaited_of.ensures.drawn, c.in_ok-reserve.ensures.items, c.clear.ensures.items, drawn)
     (kept_new c.args.number c.args.draws.now (counts_at c.in_ok-awaited_of.field-0.waits.items) c.reserve-2.new.self c.args.outstanding (vec_capacity c.reserve.new.self)
-    (rw drawn at c.in_ok-awaited_of.ensures.times) (c.reserve-2.ensures.list ∙ c.new-votes.ensures) c.requires.count c.ranges.outstanding.fits (rw drawn at c.list-drawn.ensures.counts)
+    (rw drawn at c.in_ok-awaited_of.ensures.times) (c.reserve-2.ensures.list ∙ c.clear-2.ensures.list) c.requires.count c.ranges.outstanding.fits (rw drawn at c.list-drawn.ensures.counts)
     (omega (arith, c.in_ok-reserve-2.ensures.ok, many))
     (omega (arith, c.in_ok-reserve.ensures.ok, many)))
