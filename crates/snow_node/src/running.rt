@@ -4,7 +4,11 @@ ghost use Rattle.std.specs.Prelude.{◌≡◌, ◌+◌, ◌-◌, ◌^◌, ◌≤
 ghost use Rattle.snow_flake.specs.Parameters.{AreGood};
 ghost use Rattle.snow_sample.specs.Roster.{first_fault, IsRosterOf};
 ghost use Rattle.snow_wire.specs.Sent.{as_event};
+ghost use Rattle.snow_plain.specs.Board.{begin};
 ghost use Rattle.snow_chain.specs.Alone.{IsAlone, last_state};
+ghost use Rattle.snow_getter.specs.Serving.{serving_from};
+ghost use Rattle.snow_issue.specs.Known.{lists_of};
+ghost use Rattle.snow_issue.specs.Lists.{begun};
 ghost use Rattle.snow_node.specs.Hearing as hearing;
 ghost use Rattle.snow_node.specs.Outcome.{then_comes};
 ghost use Rattle.snow_node.specs.Running.{begun_above};
@@ -33,6 +37,7 @@ use snow_sample::{Node, Roster, RosterFault, Words};
 use snow_wire::{Event, SentBlock};
 use std::alloc::{AllocError, Global};
 use std::marker::Model;
+use std::mem;
 
 /// The most random words that wait.
 const MOST_WORDS: usize = 65_536;
@@ -105,21 +110,29 @@ impl<C: Chain, B: Board> Running<C, B> {
         requires small { numbers ≤ 2 ^ 32 - 1 }
         ensures { IfOk result (λ node. node ≡ begun_above params roster words numbers last height (last_state (C.held chain))) }
     {
-        let board = B::begin(alloc, params, last, height)?;
-        Ok(Running {
-            params,
-            board,
-            chain,
-            served: Getter::begin(alloc, last)?,
-            roster,
-            polls: Polls::new(alloc, params),
-            queue: Queue::new(alloc, last)?,
-            words,
-            numbers,
-            recorded: false,
-            remembered: Remembered::Nothing,
-            alloc,
-        })
+        // (large values are let go by a call: each is many steps, which stand in one place then)
+        match fresh(alloc, params, last, height) {
+            Ok((board, served, queue)) => Ok(Running {
+                params,
+                board,
+                chain,
+                served,
+                roster,
+                polls: Polls::new(alloc, params),
+                queue,
+                words,
+                numbers,
+                recorded: false,
+                remembered: Remembered::Nothing,
+                alloc,
+            }),
+            Err(error) => {
+                drop(chain);
+                drop(roster);
+                drop(words);
+                Err(error)
+            }
+        }
     }
 
     /// One event, which came in this frame.
@@ -237,7 +250,7 @@ impl<C: Chain, B: Board> Running<C, B> {
     {
         match roster_of(self.alloc, nodes) {
             Ok(roster) => {
-                self.roster = roster;
+                drop(mem::replace(&mut self.roster, roster));
                 Ok(())
             }
             Err(RosterFault::Memory) => Err(Halt::Memory),
@@ -245,6 +258,43 @@ impl<C: Chain, B: Board> Running<C, B> {
             Err(RosterFault::Duplicate { .. }) => skip(frame, SkipKind::Nodes, log),
             Err(RosterFault::ZeroWeight { .. }) => skip(frame, SkipKind::Nodes, log),
             Err(RosterFault::TooHeavy) => skip(frame, SkipKind::Nodes, log),
+        }
+    }
+}
+
+/// The board above a block, what peers are served then, and a queue in which nothing waits.
+fn fresh<B: Board>(
+    alloc: Global,
+    params: Params,
+    last: Id,
+    height: u64,
+) -> Result<(B, Getter, Queue), AllocError>
+    requires { AreGood params }
+    ensures board { IfOk result (λ made. B.board made.0 ≡ begin params last height) }
+    ensures served { IfOk result (λ made. made.1 ≡ serving_from last) }
+    ensures lists { IfOk result (λ made. lists_of made.2 ≡ begun last) }
+{
+    let board = B::begin(alloc, params, last, height)?;
+    match lists(alloc, last) {
+        Ok((served, queue)) => Ok((board, served, queue)),
+        Err(error) => {
+            drop(board);
+            Err(error)
+        }
+    }
+}
+
+/// What peers are served above this block, and a queue in which nothing waits.
+fn lists(alloc: Global, last: Id) -> Result<(Getter, Queue), AllocError>
+    ensures served { IfOk result (λ made. made.0 ≡ serving_from last) }
+    ensures lists { IfOk result (λ made. lists_of made.1 ≡ begun last) }
+{
+    let served = Getter::begin(alloc, last)?;
+    match Queue::new(alloc, last) {
+        Ok(queue) => Ok((served, queue)),
+        Err(error) => {
+            drop(served);
+            Err(error)
         }
     }
 }

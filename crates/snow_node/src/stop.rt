@@ -7,7 +7,7 @@ use snow_store::BootStop;
 use std::alloc::AllocError;
 
 /// Why an engine doesn't start, or goes no further.
-#[derive(Clone, Copy, Debug, PartialEq, Eq)]
+#[derive(Clone, Copy, Debug)]
 pub enum EngineStop {
     /// The parameters of the Start are refused.
     Params(ParamFault),
@@ -27,7 +27,7 @@ pub enum EngineStop {
 
 /// Why a node goes no further, in a word. A stop that has more to tell is kept aside where it comes to
 /// be, so that no answer has room for it where all goes well.
-#[derive(Clone, Copy, Debug, PartialEq, Eq)]
+#[derive(Clone, Copy, Debug)]
 pub enum Halt {
     /// A Start came though the run has begun.
     SecondStart,

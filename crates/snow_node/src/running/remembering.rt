@@ -8,7 +8,7 @@ use snow_issue::Work;
 
 /// What is known of that which the queue remembers of its waiting blocks, so that they needn't all be
 /// looked at anew.
-#[derive(Clone, Copy, Debug, PartialEq, Eq)]
+#[derive(Clone, Copy)]
 pub enum Remembered {
     /// Nothing: it may be wrong.
     Nothing,

@@ -7,11 +7,11 @@ use Rattle.snow_node.proofs.Keeping.{kept_new}
 use Rattle.snow_node.proofs.Supplying.{serves_new}
 use Rattle.snow_node.proofs.running.Running.above.Goals as goal
 
-pub invariant_of-result-2 : goal.invariant_of-result-2
-invariant_of-result-2 g c = (
-  kept_new c.args.params c.args.last c.args.height (last_state (g.C.Chain.held c.args.chain)) (g.B.Board.board c.in_ok-board.board) (g.C.Chain.held c.args.chain)
-      c.new.result (lists_of c.in_ok-new.field-0) c.args.numbers c.requires.good
-      c.in_ok-board.ensures.board (c.requires.alone ∙ ap (λ id. begun id (last_state (g.C.Chain.held c.args.chain))) c.requires.last) c.new.ensures c.in_ok-new.ensures.lists c.requires.small,
+pub invariant_of-result : goal.invariant_of-result
+invariant_of-result g c = (
+  kept_new c.args.params c.args.last c.args.height (last_state (g.C.Chain.held c.args.chain)) (g.B.Board.board c.in-Ok.board) (g.C.Chain.held c.args.chain)
+      c.new.result (lists_of c.in-Ok.queue) c.args.numbers c.requires.good
+      c.in-Ok.ensures.board (c.requires.alone ∙ ap (λ id. begun id (last_state (g.C.Chain.held c.args.chain))) c.requires.last) c.new.ensures c.in-Ok.ensures.lists c.requires.small,
   tt,
-  serves_new c.args.params c.args.last c.args.height (g.B.Board.board c.in_ok-board.board) c.in_ok-begin.field-0 c.in_ok-board.ensures.board c.in_ok-begin.ensures,
+  serves_new c.args.params c.args.last c.args.height (g.B.Board.board c.in-Ok.board) c.in-Ok.served c.in-Ok.ensures.board c.in-Ok.ensures.served,
 )
