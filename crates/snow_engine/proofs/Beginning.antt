@@ -1,17 +1,16 @@
 -- How a node that runs begins: with the state of its last accepted block, at once or with bootstrapping.
-use Rattle.std.proofs.Common.{◌≡◌, ℕ, ◌-◌, ◌^◌, ◌≤◌, true, false, List, [], Option, Some, None, Ok, unwrap_or, refl, sym, ap, ◌∙◌, subst, arith}
+use Rattle.std.proofs.Common.{◌≡◌, ℕ, ◌-◌, ◌^◌, ◌≤◌, false, List, [], Option, Some, Ok, unwrap_or, refl, sym, ap, ◌∙◌, subst, arith}
 use Rattle.std.specs.FinMap.{empty}
 use Rattle.snow_flake.specs.Parameters.{Parameters}
 use Rattle.snow_sample.specs.declared.roster.Node.{Node as Member}
-use Rattle.snow_sample.specs.declared.roster.RosterFault.{RosterFault}
 use Rattle.snow_plain.proofs.Cases.{id_itself}
-use Rattle.snow_chain.specs.Chain.{Rules, Held, state_of, begun}
+use Rattle.snow_chain.specs.Chain.{Held, state_of, begun}
 use Rattle.snow_boot.specs.Booting.{Boot, Going, started}
 use Rattle.snow_chain.specs.Alone.{IsAlone, last_state}
 use Rattle.snow_wire.specs.declared.event.Start.{Start}
 use Rattle.snow_engine.specs.declared.stage.Stage.TheVariants as stage
 use Rattle.snow_engine.specs.Catching.{brings, new_booting}
-use Rattle.snow_engine.specs.Node.{runs_with}
+use Rattle.snow_engine.specs.Node.{begun_by}
 use Rattle.snow_node.specs.Running.{Running, begun_above}
 use Rattle.snow_node.specs.Turning.{members}
 use Rattle.snow_node.proofs.Following.{state_with}
@@ -53,11 +52,10 @@ boots s p roster n drawn boot held words r z h w e =
 
 -- ---- a node runs at once
 
-pub runs : (rules : Rules) (s : Start) (p : Parameters) (fault : Option RosterFault) (roster : List Member) (words : List ℕ) (drawn : ℕ) (held : Held) (state : List ℕ) (node : Running)
-    → fault ≡ None → state ≡ s.state → rules.takes state ≡ true → s.boot ≡ false → roster ≡ members s.nodes → words ≡ [] → drawn ≡ 0 → held ≡ begun s.last state
+pub runs : (s : Start) (p : Parameters) (roster : List Member) (words : List ℕ) (drawn : ℕ) (held : Held) (node : Running)
+    → s.boot ≡ false → roster ≡ members s.nodes → words ≡ [] → drawn ≡ 0 → held ≡ begun s.last s.state
     → node ≡ begun_above p roster words drawn s.last s.height (last_state held)
-    → (runs_with rules s p fault).1 ≡ Ok (stage.Running node)
-runs rules s p fault roster words drawn held state node f st takes boot r w d h n =
-    let taken : rules.takes s.state ≡ true = ap rules.takes (sym st) ∙ takes in
-    let last : last_state held ≡ s.state = state_begun held s.last state h ∙ st in
-    rw (f, taken, boot, n, r, w, d, last) refl
+    → (begun_by s p).1 ≡ Ok (stage.Running node)
+runs s p roster words drawn held node boot r w d h n =
+    let last : last_state held ≡ s.state = state_begun held s.last s.state h in
+    rw (boot, n, r, w, d, last) refl

@@ -1,7 +1,7 @@
 -- No event makes a node that bootstraps draw more numbers than there are.
-use Rattle.std.proofs.Common.{◌≡◌, ℕ, ◌+◌, ◌-◌, ◌^◌, ◌<◌, ◌≤◌, Bool, true, false, cond, nat_lt, List, [], ◌∷◌, Option, Some, None, Ok, Err, Result, if◌then◌else◌, refl, subst, arith}
+use Rattle.std.proofs.Common.{◌≡◌, ℕ, ◌+◌, ◌-◌, ◌^◌, ◌≤◌, Bool, true, false, cond, nat_lt, List, [], ◌∷◌, Option, Some, None, Ok, Err, Result, if◌then◌else◌, refl, subst, arith}
 use Rattle.std.specs.Bool.{⊤}
-use Rattle.std.proofs.lemmas.Bool.Decides.{nat_tests}
+use Rattle.std.proofs.lemmas.Bool.{ltb-true}
 use Rattle.snow_base.specs.declared.header.Header.{Header}
 use Rattle.snow_base.specs.Numbers.{next_number}
 use Rattle.snow_chain.specs.Chain.{Rules}
@@ -52,7 +52,7 @@ next_fits : (drawn : ℕ) → IsFit (next_number drawn)
 next_fits drawn = by (nat_lt drawn (2 ^ 32 - 1)) refl
   where
     by : (b : Bool) → nat_lt drawn (2 ^ 32 - 1) ≡ b → IsFit (cond b (Some (drawn + 1)) None)
-    by true t = let small : drawn < 2 ^ 32 - 1 = grind (arith, nat_tests) in omega arith
+    by true t = let small = ltb-true drawn (2 ^ 32 - 1) t in omega (arith, small)
     by false t = tt
 
 small_behind : (lines : List Line) (outcome : Outcome) → IsSmall outcome → IsSmall (behind lines outcome)

@@ -80,16 +80,22 @@ impl<C: Chain> Booting<C> {
         ensures lines { Logs result log.old log.new (model.boots_first first.now params).0 }
     {
         let mut numbers = Numbers::new();
-        let boot = Boot::start(alloc, &roster, first.last, first.height, &mut numbers, log)?;
-        Ok(Stage::Booting(Booting {
-            params,
-            roster,
-            boot,
-            chain,
-            words: Words::new(alloc),
-            numbers,
-            alloc,
-        }))
+        match Boot::start(alloc, &roster, first.last, first.height, &mut numbers, log) {
+            Ok(boot) => Ok(Stage::Booting(Booting {
+                params,
+                roster,
+                boot,
+                chain,
+                words: Words::new(alloc),
+                numbers,
+                alloc,
+            })),
+            Err(stop) => {
+                drop(roster);
+                drop(chain);
+                Err(EngineStop::from(stop))
+            }
+        }
     }
 
     /// One event, which came in this frame. The node that comes of it still bootstraps, or it runs.
@@ -192,6 +198,8 @@ impl<C: Chain> Booting<C> {
             Ok(came) => came,
             Err(stop) => {
                 drop(self.boot);
+                drop(self.roster);
+                drop(self.words);
                 return Err(EngineStop::from(stop));
             }
         };

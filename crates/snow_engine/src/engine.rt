@@ -1,6 +1,7 @@
 ghost use Rattle.std.specs.Prelude.{◌≡◌, true, IfOk};
 ghost use Rattle.snow_flake.specs.Parameters.{AreGood, checked};
 ghost use Rattle.snow_sample.specs.Roster.{first_fault};
+ghost use Rattle.snow_chain.specs.Chain.{begun};
 ghost use Rattle.snow_wire.specs.Sent.{as_event};
 ghost use Rattle.snow_engine.specs.Node as model;
 ghost use Rattle.snow_node.specs.Stepping.{Starts, Tells, Turns};
@@ -17,7 +18,7 @@ use snow_flake::{ParamFault, Params};
 use snow_lines::{Line, Lines, SkipKind};
 use snow_node::{EngineStop, Halt, Running, roster_of, write};
 use snow_plain::Board;
-use snow_sample::Words;
+use snow_sample::{Roster, Words};
 use snow_wire::{Event, SentBlock, Start};
 use std::alloc::Global;
 use std::marker::Model;
@@ -176,7 +177,30 @@ fn begin<C: Chain, B: Board>(
     ensures lines { Logs result log.old log.new (model.runs_with C.rules first.now params (first_fault (members first.now.nodes))).0 }
 {
     let roster = roster_of(alloc, &first.nodes)?;
-    let chain = C::begin(alloc, first.last, first.state.list())?;
+    match C::begin(alloc, first.last, first.state.list()) {
+        Ok(chain) => begin_on(alloc, first, params, roster, chain, log),
+        Err(fault) => {
+            drop(roster);
+            Err(EngineStop::from(fault))
+        }
+    }
+}
+
+/// The same with the roster of its nodes, on a chain that took its state.
+fn begin_on<C: Chain, B: Board>(
+    alloc: Global,
+    first: &Start,
+    params: Params,
+    roster: Roster,
+    chain: C,
+    log: &mut Lines,
+) -> Result<Node<C, B>, EngineStop>
+    requires good { AreGood params }
+    requires roster { roster ≡ members first.now.nodes }
+    requires chain { C.held chain ≡ begun first.now.last first.now.state }
+    ensures answer { Starts result (model.begun_by first.now params).1 }
+    ensures lines { Logs result log.old log.new (model.begun_by first.now params).0 }
+{
     if first.boot {
         return Booting::start(alloc, first, params, roster, chain, log);
     }

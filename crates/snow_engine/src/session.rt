@@ -67,7 +67,10 @@ impl<C: Chain, B: Board> Session<C, B> {
     fn has_sink_failed(&self, worked: &Result<(), Over>) -> bool
         ensures { result ≡ has_sink_failed (ends_by self.now.runner.end worked.now) }
     {
-        worked.is_err() && self.runner.end == End::SinkFault
+        match self.runner.end {
+            End::SinkFault => worked.is_err(),
+            _ => false,
+        }
     }
 
     /// Works the first frame that the decoder holds, and gathers its lines; false where it holds no
