@@ -9,7 +9,6 @@ use Rattle.snow_lines.specs.declared.line.Line.TheVariants as line
 use Rattle.snow_lines.specs.declared.why.SkipKind.{SkipKind}
 use Rattle.snow_lines.specs.declared.why.SkipKind.TheVariants as kind
 use Rattle.snow_store.specs.declared.stop.BootStop.{BootStop}
-use Rattle.snow_store.specs.declared.stop.BootStop.TheVariants as why
 use Rattle.snow_boot.specs.Booting.{Boot, Next, Going, Done, Outcome, begun, started as asked_first, frontier_came, accepted_came, ancestors_came, timeout_came, stored_came}
 use Rattle.snow_engine.specs.declared.stage.Stage.TheVariants as stage
 use Rattle.snow_node.specs.declared.stop.EngineStop.{EngineStop}
