@@ -1,10 +1,10 @@
-ghost use Rattle.std.specs.Prelude.{◌≡◌, IfSome};
+ghost use Rattle.std.specs.Prelude.{◌≡◌, true, IfSome};
 ghost use Rattle.snow_plain.specs.Board.{height_of};
 ghost use Rattle.snow_plain.specs.Preference.{is_preferred};
 ghost use Rattle.snow_plain.specs.Reached.{MayIssue};
 ghost use Rattle.snow_chain.specs.Chain.{next_on};
 ghost use Rattle.snow_issue.specs.Known.{Knows, RestsAfter, lists_of};
-ghost use Rattle.snow_issue.specs.Settling.{after, work_of};
+ghost use Rattle.snow_issue.specs.Settling.{after, work_of, IsIdle};
 ghost use Rattle.snow_node.specs.Remembering.{Remembers};
 ghost use Rattle.snow_node.specs.Kept.{IsApart, MayWork};
 ghost use Rattle.snow_node.specs.Outcome.{then_comes};
@@ -30,8 +30,21 @@ impl<C: Chain, B: Board> Running<C, B> {
         ensures answer { Turns result self.new (model.settled C.rules B.answer self.old).1 }
         ensures lines { Tells result log.old log.new (model.settled C.rules B.answer self.old).0 }
     {
+        if self.is_idle() {
+            return Ok(());
+        }
         while self.settle_one(log)? {}
         Ok(())
+    }
+
+    /// Whether it is known that nothing is to do.
+    fn is_idle(&self) -> bool
+        ensures { result ≡ true → IsIdle self.now.queue self.now.board }
+    {
+        match self.remembered {
+            Remembered::Idle => true,
+            _ => false,
+        }
     }
 
     /// Does the first thing that is to do; whether there was any.

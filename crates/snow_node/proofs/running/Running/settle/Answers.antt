@@ -1,11 +1,21 @@
 -- One step more, the last one, or a stop.
-use Rattle.std.proofs.Common.{ap, ◌∙◌, Ok, Bool}
+use Rattle.std.proofs.Common.{ap, sym, ◌∙◌, ◌++◌, append-nil, Ok, Bool}
 use Rattle.std.proofs.lemmas.Result.{err_from_is_err_and}
+use Rattle.snow_node.specs.Outcome.{Comes}
 use Rattle.snow_node.specs.Settling.{left_to_do, one_settled}
 use Rattle.snow_node.specs.Running.{Running}
-use Rattle.snow_node.proofs.Looping.{settling_falls}
+use Rattle.snow_node.proofs.Looping.{settling_falls, none_settled}
 use Rattle.snow_node.proofs.Made.{begins, more, done, stopped}
 use Rattle.snow_node.proofs.running.Running.settle.Goals as goal
+
+pub returns-then-is_idle-clause-answer : goal.returns-then-is_idle-clause-answer
+returns-then-is_idle-clause-answer g c =
+    ap (λ (all : Comes Running). all.1) (none_settled g.C.Chain.rules g.B.Board.answer c.args.self.now (c.is_idle.ensures c.if-is_idle.true))
+
+pub returns-then-is_idle-clause-lines : goal.returns-then-is_idle-clause-lines
+returns-then-is_idle-clause-lines g c =
+    sym (append-nil c.args.log.now)
+    ∙ ap (λ (all : Comes Running). c.args.log.now ++ all.0) (sym (none_settled g.C.Chain.rules g.B.Board.answer c.args.self.now (c.is_idle.ensures c.if-is_idle.true)))
 
 pub loop-init : goal.loop-init
 loop-init g c = begins Running left_to_do (one_settled g.C.Chain.rules g.B.Board.answer) c.args.self.now c.args.log.now
