@@ -1,18 +1,20 @@
 -- What would be the first thing to do is done as it comes: a reply needn't be held, nor need a block wait.
-use Rattle.std.proofs.Common.{◌≡◌, ℕ, Bool, true, List, append-nil, Option, Result, Ok, Err, refl, ap, ◌∙◌}
+use Rattle.std.proofs.Common.{◌≡◌, ℕ, true, List, append-nil, Option, Some, Result, Ok, Err, refl, ap, ◌∙◌}
 use Rattle.snow_flake.specs.Rule.{Answer}
 use Rattle.snow_chain.specs.Chain.{Rules}
 use Rattle.snow_lines.specs.declared.line.Line.{Line}
 use Rattle.snow_issue.specs.declared.work.Held.{Held}
 use Rattle.snow_issue.specs.declared.work.Waiting.{Waiting}
+use Rattle.snow_issue.specs.declared.work.Work.{Work}
 use Rattle.snow_issue.specs.declared.work.Work.TheVariants as work
 use Rattle.snow_issue.specs.Lists.{Lists, after_held, with_waiting}
+use Rattle.snow_issue.specs.Settling.{work_of, after}
 use Rattle.snow_issue.proofs.Idle.{first_to_do, counts, next_to_do, next_parts, next_waits}
 use Rattle.snow_node.specs.declared.stop.EngineStop.{EngineStop}
 use Rattle.snow_node.specs.Outcome.{Comes, quietly, after_lines, going_on, then_comes, where_made}
 use Rattle.snow_node.specs.Running.{Running}
 use Rattle.snow_node.specs.Closing.{tallied}
-use Rattle.snow_node.specs.Settling.{heard, placed, worked, carried_out, one_settled, left_to_do, settled}
+use Rattle.snow_node.specs.Settling.{placed, done, worked, carried_out, one_settled, left_to_do, settled}
 use Rattle.snow_node.specs.Hearing.{IsFirst, IsNext, vote_held, vote_counts, taken_in, brought, block_brings}
 use Rattle.snow_node.proofs.Looping.{settling_falls}
 use Rattle.snow_node.proofs.Made.{one_then}
@@ -26,6 +28,16 @@ made_then first next = by first.0 first.1
     by lines (Err s) = refl
     by lines (Ok x) = ap (λ (l : List Line). after_lines l (next x)) (append-nil lines)
 
+-- what is first to do is done, and then all that follows is settled
+first_done : (rules : Rules) (answer : Answer) (node : Running) (w : Work) (left : Lists) → work_of node.queue node.board ≡ Some w
+    → after node.queue node.board (Some w) ≡ left
+    → settled rules answer node ≡ then_comes (done rules answer (record node { queue = left }) w) (settled rules answer)
+first_done rules answer node w left is rest =
+    one_then Running left_to_do (one_settled rules answer) (settling_falls rules answer) node
+    ∙ ap (λ (o : Option Work). then_comes (worked rules answer node o) (where_made (settled rules answer))) is
+    ∙ ap (λ (q : Lists). then_comes (carried_out rules answer (record node { queue = q }) w) (where_made (settled rules answer))) rest
+    ∙ made_then (done rules answer (record node { queue = left }) w) (settled rules answer)
+
 -- to hold such a reply and to settle is to count it and to settle
 pub counted_at_once : (rules : Rules) (answer : Answer) (node : Running) (number : ℕ) (peer id : List ℕ) (vote : Option (List ℕ)) → IsFirst node id vote
     → vote_counts rules answer node number peer id ≡ then_comes (tallied answer node number peer vote) (settled rules answer)
@@ -35,13 +47,8 @@ counted_at_once rules answer node number peer id vote first =
     let parts = counts node.queue node.board id vote first.1 in
     let work_is = first_to_do node.queue node.board reply first.0 parts.0 in
     let known : vote_held node number peer id ≡ quietly holding = rw parts.1 refl in
-    let step : one_settled rules answer holding ≡ then_comes (heard answer node reply) (λ n. quietly (n, true)) =
-    ap (worked rules answer holding) work_is.0 ∙ ap (λ (q : Lists). carried_out rules answer (record node { queue = q }) (work.Vote reply)) work_is.1
-    in
     ap (λ (c : Comes Running). then_comes c (settled rules answer)) known
-    ∙ one_then Running left_to_do (one_settled rules answer) (settling_falls rules answer) holding
-    ∙ ap (λ (c : Comes (Running × Bool)). then_comes c (where_made (settled rules answer))) step
-    ∙ made_then (heard answer node reply) (settled rules answer)
+    ∙ first_done rules answer holding (work.Vote reply) node.queue work_is.0 work_is.1
     ∙ ap (λ (v : Option (List ℕ)). then_comes (tallied answer node number peer v) (settled rules answer)) parts.2
 
 -- to let such a block wait and to settle is to place it and to settle
@@ -52,10 +59,5 @@ placed_at_once rules answer node w next =
     let parts = next_parts node.queue node.board w.header next.1 in
     let work_is = next_to_do node.queue node.board w next.0 parts.0 in
     let known : brought node w ≡ quietly waiting = ap (taken_in node w) (next_waits node.queue node.board w next.1) in
-    let step : one_settled rules answer waiting ≡ then_comes (placed rules answer node w.header w.bytes) (λ n. quietly (n, true)) =
-    ap (worked rules answer waiting) work_is.0 ∙ ap (λ (q : Lists). carried_out rules answer (record node { queue = q }) (work.Ready w)) work_is.1
-    in
     ap (λ (c : Comes Running). then_comes c (settled rules answer)) known
-    ∙ one_then Running left_to_do (one_settled rules answer) (settling_falls rules answer) waiting
-    ∙ ap (λ (c : Comes (Running × Bool)). then_comes c (where_made (settled rules answer))) step
-    ∙ made_then (placed rules answer node w.header w.bytes) (settled rules answer)
+    ∙ first_done rules answer waiting (work.Ready w) node.queue work_is.0 work_is.1
