@@ -1,5 +1,5 @@
 -- Lemmas on the table: at which place a number's poll stands, and what a reply to it changes.
-use Rattle.std.proofs.Common.{◌≡◌, ℕ, zero, suc, ◌+◌, ◌-◌, ◌%◌, ◌^◌, ◌<◌, ◌≤◌, Bool, true, false, cond, ◌&&◌, ◌||◌, ◌==◌, List, [], ◌∷◌, ◌++◌, length, get_or, set, map, nat_lt, if◌then◌else◌, Option, None, Some, refl, sym, ap, ◌∙◌, arith}
+use Rattle.std.proofs.Common.{◌≡◌, ℕ, zero, suc, ◌+◌, ◌-◌, ◌%◌, ◌^◌, ◌<◌, ◌≤◌, Bool, true, false, cond, ◌&&◌, ◌||◌, ◌==◌, List, [], ◌∷◌, ◌++◌, length, get_or, set, map, nat_lt, if◌then◌else◌, Option, None, Some, is_some, refl, sym, ap, ◌∙◌, arith}
 use Rattle.std.specs.BTreeMap.{BTreeMap, get}
 use Rattle.std.specs.Option.{option_map}
 use Rattle.std.specs.Ordering.{nat_cmp}
@@ -7,11 +7,13 @@ use Rattle.std.proofs.lemmas.Bool.{true≢false, or_parts, eqb-true, ne_eqb, eq-
 use Rattle.std.proofs.lemmas.List.{length-map, length-append}
 use Rattle.std.proofs.lemmas.List.Elements.{All-map, All-append, All-cons}
 use Rattle.std.proofs.lemmas.List.Folds.{list_any-append}
+use Rattle.snow_base.specs.declared.vote.Vote.{Vote}
 use Rattle.snow_flake.specs.Parameters.{Parameters}
 use Rattle.snow_sample.specs.declared.draws.Draw.{Draw}
 use Rattle.snow_sample.specs.Sampling.{draw_count}
-use Rattle.snow_poll.specs.Poll.{Poll, awaits, with_reply, replied}
-use Rattle.snow_poll.specs.Table.{has_number, HasNoneFrom, new_poll, is_awaited_by, is_awaited, answered}
+use Rattle.snow_poll.specs.Poll.{Poll, awaits, with_reply, replied, votes_of}
+use Rattle.snow_poll.specs.Closing.{is_closed}
+use Rattle.snow_poll.specs.Table.{has_number, HasNoneFrom, new_poll, is_awaited_by, is_awaited, answered, finished, unfinished}
 use Rattle.snow_poll.specs.Kept.{place, turn, is_front, ArePlaced, HaveOwnNumbers, IsTable}
 
 -- ---- turns
@@ -23,6 +25,32 @@ place_back gone at kept h g is = omega (arith, is)
 -- as the front poll leaves, the turn of each other stays
 turn_stays : (gone at : ℕ) → turn gone (suc at) ≡ turn (turn gone 1) at
 turn_stays gone at = omega arith
+
+-- ---- the front poll
+
+-- what is told of a poll that leaves
+abbrev told_of : Poll → ℕ × List Vote
+told_of q = (q.number, votes_of q)
+
+-- where there is one to take, it is closed, and the others stay
+pub front_taken : (p : Parameters) (q : Poll) (polls : List Poll) → is_some (finished p (q ∷ polls)) ≡ true
+    → (is_closed p q ≡ true) × (finished p (q ∷ polls) ≡ Some (told_of q)) × (unfinished p (q ∷ polls) ≡ polls)
+front_taken p q polls some = by (is_closed p q) some
+  where
+    by : (b : Bool) → is_some {T = ℕ × List Vote} (if b then Some (told_of q) else None) ≡ true
+        → (b ≡ true) × ((if b then Some (told_of q) else None) ≡ Some (told_of q)) × ((if b then polls else q ∷ polls) ≡ polls)
+    by true s = (refl, refl, refl)
+    by false s = absurd cc
+
+-- where there is none, all stay
+pub none_taken : (p : Parameters) (polls : List Poll) → is_some (finished p polls) ≡ false → (finished p polls ≡ None) × (unfinished p polls ≡ polls)
+none_taken p [] none = (refl, refl)
+none_taken p (q ∷ polls) none = by (is_closed p q) none
+  where
+    by : (b : Bool) → is_some {T = ℕ × List Vote} (if b then Some (told_of q) else None) ≡ false
+        → ((if b then Some (told_of q) else None) ≡ None) × ((if b then polls else q ∷ polls) ≡ q ∷ polls)
+    by true n = absurd cc
+    by false n = (refl, refl)
 
 -- ---- the place of a number
 

@@ -1,6 +1,7 @@
-ghost use Rattle.std.specs.Prelude.{◌≡◌, ◌≤◌, ◌↔◌, false, length, IfSome, OnOk, OnErr, Err};
+ghost use Rattle.std.specs.Prelude.{◌≡◌, ◌≤◌, ◌↔◌, true, false, length, is_some, IfSome, OnOk, OnErr, Err};
 ghost use Rattle.std.specs.Option.{option_map};
 ghost use Rattle.snow_base.specs.Votes.{total_count};
+ghost use Rattle.snow_flake.specs.Parameters.{AreGood};
 ghost use Rattle.snow_sample.specs.Sampling.{draw_count, AreOfDistinctNodes};
 ghost use Rattle.snow_poll.specs.Kept.{place, ArePlaced};
 
@@ -167,9 +168,34 @@ impl Polls {
         ensures stands { IfSome result (λ c. StandsForFront self.old.parameters self.old.polls c.votes.list) }
         ensures few { IfSome result (λ c. total_count c.votes.list ≤ self.old.parameters.k) }
     {
-        if !self.polls.front()?.is_closed(&self.params) {
+        if !self.has_finished() {
             return None;
         }
+        self.take_front()
+    }
+
+    // Whether the front poll is closed.
+    fn has_finished(&self) -> bool
+        ensures finished { result ≡ is_some (finished self.now.parameters self.now.polls) }
+        ensures good { result ≡ true → AreGood self.now.parameters }
+    {
+        match self.polls.front() {
+            Some(front) => front.is_closed(&self.params),
+            None => false,
+        }
+    }
+
+    // Takes out the front poll, which is closed. It stands apart, so that a reply which closes no poll
+    // doesn't pay for it.
+    #[inline(never)]
+    fn take_front(&mut self) -> Option<Closed>
+        requires closed { is_some (finished self.old.parameters self.old.polls) ≡ true }
+        requires good { AreGood self.old.parameters }
+        ensures found { option_map (λ c. (c.number, c.votes.list)) result ≡ finished self.old.parameters self.old.polls }
+        ensures table { self.new ≡ shortened self.old }
+        ensures stands { IfSome result (λ c. StandsForFront self.old.parameters self.old.polls c.votes.list) }
+        ensures few { IfSome result (λ c. total_count c.votes.list ≤ self.old.parameters.k) }
+    {
         let poll = self.polls.pop_front()?;
         let number = poll.number();
         self.turns.leave(number);
