@@ -1,11 +1,12 @@
-ghost use Rattle.std.specs.Prelude.{◌≡◌, ◌<◌, [], Ok, OnOk, IfOk};
+ghost use Rattle.std.specs.Prelude.{◌≡◌, ◌<◌, [], fold, Ok, OnOk, IfOk};
 ghost use Rattle.snow_chain.specs.Tally.{tally_rules};
 ghost use Rattle.snow_engine.specs.Node.{started, step};
 ghost use Rattle.snow_engine.specs.declared.task.Task.TheVariants as task;
 ghost use Rattle.snow_drill.specs.Drill as model;
 ghost use Rattle.snow_drill.specs.First.{first, nodes};
 ghost use Rattle.snow_drill.specs.Summary.{drilled};
-ghost use Rattle.snow_drill.specs.Following.{Follows, Opens, Wrote, HasFault};
+ghost use Rattle.snow_drill.specs.Told.{untold, noted};
+ghost use Rattle.snow_drill.specs.Following.{Follows, Opens, Digests, Wrote, HasFault};
 
 use crate::account::Account;
 use crate::driven::Driven;
@@ -39,8 +40,7 @@ pub fn drill<B: Board, O: Sink>(alloc: Global, seed: u64, blocks: u32, out: &mut
     }
 }
 
-// The summary of a drill. The node is handed on at once, to calls over any kind of node: what lets go of
-// this one is many steps.
+// The summary of a drill. The node is handed on at once, to calls over any kind of node.
 fn drilled<B: Board>(alloc: Global, seed: u64, blocks: u32) -> Result<Bytes, AllocError>
     ensures { IfOk result (λ text. text
         ≡ drilled (step tally_rules B.answer) seed blocks (started tally_rules task.Run first)) }
@@ -76,24 +76,50 @@ fn played<E: Driven>(
     ensures { IfOk result (λ text. text ≡ drilled E.step seed blocks (log.now, Ok node)) }
 {
     let mut player = begin(alloc, seed, node, log)?;
-    player.play(blocks)?;
-    summary(alloc, blocks, player.account)
+    let went = player.play(blocks);
+    let account = player.into_account();
+    match went {
+        Ok(()) => summary(alloc, blocks, account),
+        Err(fault) => {
+            drop(account);
+            Err(fault)
+        }
+    }
 }
 
 // A drill behind its Start, which brought these lines.
 fn begin<E: Driven>(alloc: Global, seed: u64, node: E, log: &Lines) -> Result<Player<E>, AllocError>
     ensures { IfOk result (λ player. Opens player seed (log.now, Ok node)) }
 {
+    match opened(alloc, log) {
+        Ok(account) => Ok(Player {
+            node,
+            frame: 1,
+            generator: Generator::new(seed),
+            made: Made::new(alloc),
+            account,
+            alloc,
+        }),
+        Err(fault) => {
+            node.let_go();
+            Err(fault)
+        }
+    }
+}
+
+// What is kept of the lines of a Start.
+fn opened(alloc: Global, log: &Lines) -> Result<Account, AllocError>
+    ensures told { IfOk result (λ account. account.tally ≡ fold noted untold log.now) }
+    ensures digest { IfOk result (λ account. Digests account log.now) }
+{
     let mut account = Account::new(alloc);
-    account.keep(log.list())?;
-    Ok(Player {
-        node,
-        frame: 1,
-        generator: Generator::new(seed),
-        made: Made::new(alloc),
-        account,
-        alloc,
-    })
+    match account.keep(log.list()) {
+        Ok(()) => Ok(account),
+        Err(fault) => {
+            drop(account);
+            Err(fault)
+        }
+    }
 }
 
 // The Start of a drill.

@@ -1,16 +1,16 @@
 ghost use Rattle.std.specs.Prelude.{◌≡◌, [], Ok, OnOk};
-ghost use Rattle.snow_chain.specs.Tally.{tally_rules};
 ghost use Rattle.snow_engine.specs.Node.{step};
 
-use snow_chain::TallyChain;
+use snow_chain::Chain;
 use snow_engine::Engine;
 use snow_lines::Lines;
 use snow_plain::Board;
 use snow_wire::Event;
 use std::alloc::AllocError;
 
-/// A node that a drill drives by events. Nothing of a drill looks into it.
-pub(crate) trait Driven: Drop {
+/// A node that a drill drives by events. Nothing of a drill looks into it, and it is let go by a call
+/// alone: what lets go of a whole node is many steps, which stand with the engine.
+pub(crate) trait Driven: Sized {
     ghost use Rattle.std.specs.Prelude.{◌≡◌, [], Ok, OnOk};
     ghost use Rattle.snow_drill.specs.Drill.{Step};
 
@@ -23,15 +23,22 @@ pub(crate) trait Driven: Drop {
         requires { log.old ≡ [] }
         ensures node { OnOk result ((step self.old frame event.now).1 ≡ Ok self.new) }
         ensures lines { OnOk result (log.new ≡ (step self.old frame event.now).0) };
+
+    /// Lets it go.
+    fn let_go(self);
 }
 
-impl<B: Board> Driven for Engine<TallyChain, B> {
-    ghost step = { step tally_rules B.answer };
+impl<C: Chain, B: Board> Driven for Engine<C, B> {
+    ghost step = { step C.rules B.answer };
 
     fn drive(&mut self, frame: u64, event: &Event, log: &mut Lines) -> Result<(), AllocError> {
         match self.step(frame, event, log) {
             Ok(()) => Ok(()),
             Err(_) => Err(AllocError),
         }
+    }
+
+    fn let_go(self) {
+        self.let_go();
     }
 }

@@ -6,7 +6,7 @@ use std::alloc::{AllocError, Global};
 use std::marker::Model;
 
 /// A linear congruential generator of 64 bits. Contracts see its last value.
-#[derive(Debug, Drop)]
+#[derive(Drop)]
 pub struct Generator {
     x: u64,
 }

@@ -9,7 +9,7 @@ use std::collections::HashMap;
 use std::marker::Model;
 
 /// The blocks that a drill made, in order. One of an identifier is found without a walk over them.
-#[derive(Debug, Drop)]
+#[derive(Drop)]
 pub struct Made {
     blocks: Vec<Header>,
     // The first block of each identifier.

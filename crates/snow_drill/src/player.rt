@@ -1,11 +1,13 @@
+ghost use Rattle.std.specs.Prelude.{◌≡◌};
+
 use crate::account::Account;
+use crate::driven::Driven;
 use crate::generator::Generator;
 use crate::made::Made;
 use std::alloc::Global;
 
 /// A drill under way: its node, the number of the last frame, the blocks that it made, and what is
 /// kept of its lines.
-#[derive(Drop)]
 pub struct Player<E> {
     pub node: E,
     pub frame: u64,
@@ -13,4 +15,23 @@ pub struct Player<E> {
     pub made: Made,
     pub account: Account,
     pub alloc: Global,
+}
+
+impl<E: Driven> Player<E> {
+    /// Lets all go but what was kept of the lines.
+    pub fn into_account(self) -> Account
+        ensures { result ≡ self.account }
+    {
+        let Player {
+            node,
+            frame: _,
+            generator: _,
+            made,
+            account,
+            alloc: _,
+        } = self;
+        node.let_go();
+        drop(made);
+        account
+    }
 }

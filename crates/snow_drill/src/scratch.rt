@@ -1,7 +1,7 @@
 use snow_base::{Bytes, Failed, Sink};
 
 /// Where the text of an event's lines waits to be digested. It fails where memory runs out.
-#[derive(Debug, Drop)]
+#[derive(Drop)]
 pub struct Scratch {
     pub bytes: Bytes,
     pub faults: u64,

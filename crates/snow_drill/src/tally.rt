@@ -10,14 +10,14 @@ use std::collections::VecDeque;
 use std::marker::Model;
 
 /// A query that isn't answered, with the nodes that it asks, in order.
-#[derive(Debug, Drop)]
+#[derive(Drop)]
 pub struct Asked {
     pub number: u32,
     pub nodes: Items<NodeId>,
 }
 
 /// What is kept of the lines so far.
-#[derive(Debug, Drop)]
+#[derive(Drop)]
 pub struct Tally {
     tip: Id,
     last: Id,

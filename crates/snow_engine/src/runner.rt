@@ -107,6 +107,14 @@ impl<C: Chain, B: Board> Runner<C, B> {
     }
 }
 
+impl<C: Chain, B: Board> Engine<C, B> {
+    /// Lets the engine go. A call of it is one step, where letting go of a whole node is many, which are
+    /// proved anew in each crate that does it.
+    pub fn let_go(self) {
+        drop(self);
+    }
+}
+
 /// The engine that begins with the first frame.
 fn open<C: Chain, B: Board>(
     alloc: Global,
