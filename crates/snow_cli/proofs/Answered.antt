@@ -1,5 +1,5 @@
 -- The command that the words in order ask for, by what `clap` says of them.
-use Rattle.std.proofs.Common.{◌≡◌, ◌∙◌, not, Bool, true, false, cond, ◌&&◌, ◌||◌, ◌==◌, List, [], ◌∷◌, subst, Option, Some, None, is_some, refl, sym, ap, codes, unwrap_or}
+use Rattle.std.proofs.Common.{◌≡◌, ◌∙◌, not, Bool, true, false, cond, ◌&&◌, ◌==◌, List, [], ◌∷◌, subst, Option, Some, None, is_some, refl, sym, ap, codes, unwrap_or}
 use Rattle.clap.specs.Walk.{Row, Text, texts, first_of, rows_of}
 use Rattle.clap.specs.Simple.{matches_of}
 use Rattle.clap.specs.Kinds.{IsAmong}
@@ -8,7 +8,6 @@ use Rattle.clap.specs.Matches.{first_value}
 use Rattle.clap.specs.declared.error.kind.ErrorKind.{ErrorKind}
 use Rattle.clap.specs.declared.parser.matches.Found.{Found}
 use Rattle.clap.proofs.WalkLemmas.{both, first_value-rows}
-use Rattle.snow_cli.specs.declared.command.Command.{Command}
 use Rattle.snow_cli.specs.Words.{has_dash, is_drill}
 use Rattle.snow_cli.specs.Request.{Request, command_in}
 use Rattle.snow_cli.specs.Parsing.{AsksFor, Choice, command_read, drill_read, in_order, is_word, is_word_or_none, option_words, ordered, service_read, snowman, takes_chain, values_read}

@@ -1,5 +1,5 @@
 -- The words of the command line, by the words in order.
-use Rattle.std.proofs.Common.{◌≡◌, ◌∙◌, ℕ, ◌-◌, ◌^◌, Bool, true, false, not, cond, ◌&&◌, ◌==◌, List, [], ◌∷◌, fold, length, nat_le, subst, Option, Some, None, refl, sym, ap, codes, Result}
+use Rattle.std.proofs.Common.{◌≡◌, ◌∙◌, ℕ, ◌-◌, ◌^◌, Bool, true, false, not, cond, ◌&&◌, ◌==◌, List, [], ◌∷◌, length, nat_le, subst, Option, Some, None, refl, sym, ap, codes, Result}
 use Rattle.std.specs.Prelude.{IfOk}
 use Rattle.std.specs.Option.{option_and_then}
 use Rattle.std.proofs.lemmas.Result.{IfOk-weaker}
@@ -7,7 +7,7 @@ use Rattle.std.proofs.lemmas.Bool.{eqb-true}
 use Rattle.clap.specs.Walk.{Text}
 use Rattle.snow_cli.specs.declared.command.Command.{Command}
 use Rattle.snow_cli.specs.declared.command.RuleName.{RuleName}
-use Rattle.snow_cli.specs.Words.{blocks_named, command_of, drilling, from_least, is_drill, items, number_in, seed_named, with_digit}
+use Rattle.snow_cli.specs.Words.{blocks_named, command_of, drilling, from_least, is_drill, items, number_in, seed_named}
 use Rattle.snow_cli.specs.Request.{Request, blank, command_in, stated, with_items}
 use Rattle.snow_cli.specs.Parsing.{AsksFor, drill_read, is_word, is_word_or_none, option_words, ordered, rule_read, service_read}
 use Rattle.snow_cli.proofs.Gathered.{a_request, no_request}

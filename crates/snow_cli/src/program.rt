@@ -19,12 +19,12 @@ use snow_topo::Topo;
 use std::alloc::Global;
 
 /// The top call: all that the program does. The words, without the program's name, ask for a command,
-/// and its lines for the stream of `source` go to `out`; a drill reads nothing, and writes its summary. `Usage` where the words ask for none: then
-/// nothing is read. `BadInput` at the first frame that stops the run, with all lines before it written,
-/// and `Limit` where 2^40 bytes hold no stop. `SourceFault`, `SinkFault` and `Memory` end a run behind a
-/// front of its lines. The line on `err` tells how it ended, unless it is `Done`. The words, the
-/// formats and the statuses are this project's own; what is decided is what AvalancheGo's package `snow`
-/// decides with one-bit counters of the Snow family paper.
+/// and its lines for the stream of `source` go to `out`; a drill reads nothing, and writes its summary.
+/// `Usage` where the words ask for none: then nothing is read. `BadInput` at the first frame that stops
+/// the run, with all lines before it written, and `Limit` where 2^40 bytes hold no stop. `SourceFault`,
+/// `SinkFault` and `Memory` end a run behind a front of its lines. The line on `err` tells how it ended,
+/// unless it is `Done`. The words, the formats and the statuses are this project's own; what is decided
+/// is what AvalancheGo's package `snow` decides with one-bit counters of the Snow family paper.
 pub fn top<S: Source, O: Sink, E: Sink>(
     alloc: Global,
     words: &Vec<String>,
