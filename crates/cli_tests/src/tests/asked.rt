@@ -1,4 +1,4 @@
-use crate::tests::runs::{asking, tried, writes};
+use crate::tests::runs::{asks_nothing, writes};
 use crate::tests::streams::{ONE, ONE_LINES, stream_of};
 use snow_cli::Status;
 use std::test::Fail;
@@ -19,10 +19,7 @@ const NOTHING: &[&[&str]] = &[
 fn words_that_ask_for_nothing(rt: HostRuntime) -> Result<(), Fail> {
     let stream = stream_of(rt.alloc(), ONE)?;
     for (i, words) in NOTHING.iter().enumerate() {
-        let run = asking(words, &stream);
-        let outcome = tried(rt.alloc(), &run)?;
-        let usage = outcome.is(rt.alloc(), Status::Usage, "", "snowman: usage\n")?;
-        assert!(rt; usage && outcome.left == Ok(215), "words {i}");
+        assert!(rt; asks_nothing(rt.alloc(), words, &stream, 215)?, "words {i}");
     }
     assert_eq!(rt; Status::Usage.code(), 2);
     Ok(())

@@ -1,5 +1,5 @@
-use crate::tests::runs::{asking, tried, writes};
-use crate::tests::streams::{A, B, C, D, E, FAR, Frame, Name, ROOT, stream_of};
+use crate::tests::runs::{ends, writes};
+use crate::tests::streams::{A, B, C, D, E, FAR, Frame, Name, ROOT};
 use snow_cli::Status;
 use std::test::Fail;
 
@@ -207,10 +207,8 @@ const REFUSED: &[(&[(u8, u64)], &str)] = &[
 fn nodes_are_refused(rt: HostRuntime) -> Result<(), Fail> {
     let alloc = rt.alloc();
     for (nodes, line) in REFUSED {
-        let stream = stream_of(alloc, &[Frame::Run([1; 5], nodes)])?;
-        let outcome = tried(alloc, &asking(RUN, &stream))?;
-        assert_eq!(rt; outcome.status, Status::BadInput);
-        assert!(rt; outcome.out.is_empty() && outcome.err.as_slice() == line.as_bytes());
+        let frames = [Frame::Run([1; 5], nodes)];
+        assert!(rt; ends(alloc, RUN, &frames, Status::BadInput, "", line)?);
     }
     Ok(())
 }

@@ -1,7 +1,6 @@
-use crate::tests::runs::{asking, tried, writes};
-use crate::tests::streams::{B, C, D, E, Frame, ROOT, stream_of, text_of};
+use crate::tests::runs::{ends, writes};
+use crate::tests::streams::{B, C, D, E, Frame, ROOT};
 use snow_cli::Status;
-use std::alloc::{AllocError, Global};
 use std::test::Fail;
 
 const RUN: &[&str] = &["run"];
@@ -131,19 +130,6 @@ const MISPLACED: &[Frame] = &[
 const MISPLACED_LINES: &str = "frontier 1\naccepted 2 03~00\nancestors 3 P 03~00\n\
     ancestors 4 P 03~00\nancestors 5 P 02~00\n";
 
-/// Whether bootstrapping stops behind these lines, with this on standard error.
-fn stops(alloc: Global, frames: &[Frame], lines: &str, report: &str) -> Result<bool, AllocError> {
-    let stream = stream_of(alloc, frames)?;
-    let outcome = tried(alloc, &asking(RUN, &stream))?;
-    let text = text_of(alloc, lines)?;
-    let line = text_of(alloc, report)?;
-    Ok(
-        outcome.status == Status::BootStopped
-            && outcome.out.as_slice() == text.as_slice()
-            && outcome.err.as_slice() == line.as_slice(),
-    )
-}
-
 #[test]
 fn bootstrapping_stops(rt: HostRuntime) -> Result<(), Fail> {
     for (frames, lines, why) in [
@@ -163,7 +149,8 @@ fn bootstrapping_stops(rt: HostRuntime) -> Result<(), Fail> {
             "snowman: bootstrapping stopped: refused 03~00\n",
         ),
     ] {
-        assert!(rt; stops(rt.alloc(), frames, lines, why)?, "{why}");
+        let given = ends(rt.alloc(), RUN, frames, Status::BootStopped, lines, why)?;
+        assert!(rt; given, "{why}");
     }
     assert_eq!(rt; Status::BootStopped.code(), 8);
     Ok(())

@@ -1,4 +1,4 @@
-use crate::tests::runs::{asking, tried};
+use crate::tests::runs::{asking, asks_nothing, tried};
 use snow_cli::Status;
 use std::test::Fail;
 
@@ -34,9 +34,7 @@ fn a_drill_of_one_block(rt: HostRuntime) -> Result<(), Fail> {
 #[test]
 fn words_that_ask_for_no_drill(rt: HostRuntime) -> Result<(), Fail> {
     for (i, words) in REFUSED.iter().enumerate() {
-        let outcome = tried(rt.alloc(), &asking(words, &[7]))?;
-        let usage = outcome.is(rt.alloc(), Status::Usage, "", "snowman: usage\n")?;
-        assert!(rt; usage && outcome.left == Ok(1), "words {i}");
+        assert!(rt; asks_nothing(rt.alloc(), words, &[7], 1)?, "words {i}");
     }
     Ok(())
 }

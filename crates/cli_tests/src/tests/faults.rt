@@ -33,36 +33,34 @@ fn failing_reads(rt: HostRuntime) -> Result<(), Fail> {
     Ok(())
 }
 
+/// The most bytes of a read, the write that fails, and the status, the lines and the line on standard
+/// error.
+const FAILING_WRITES: &[(usize, u64, Status, &str, &str)] = &[
+    (65_536, 1, Status::SinkFault, "", "snowman: sink fault\n"),
+    // In pieces of one byte each line is a write of its own ..
+    (
+        1,
+        2,
+        Status::SinkFault,
+        "prefer 01~00\n",
+        "snowman: sink fault\n",
+    ),
+    // .. and the lines of one piece are one.
+    (65_536, 2, Status::Done, ONE_LINES, ""),
+];
+
 #[test]
 fn failing_writes(rt: HostRuntime) -> Result<(), Fail> {
     let stream = stream_of(rt.alloc(), ONE)?;
-    let first = Run {
-        failing_write: 1,
-        ..asking(DECIDE, &stream)
-    };
-    let report = "snowman: sink fault\n";
-    assert!(rt; gives(rt.alloc(), &first, Status::SinkFault, "", report)?);
-    // In pieces of one byte each line is a write of its own ..
-    let second = Run {
-        piece: 1,
-        failing_write: 2,
-        ..first
-    };
-    assert!(rt;
-        gives(
-            rt.alloc(),
-            &second,
-            Status::SinkFault,
-            "prefer 01~00\n",
-            report
-        )?
-    );
-    // .. and the lines of one piece are one.
-    let gathered = Run {
-        failing_write: 2,
-        ..first
-    };
-    assert!(rt; gives(rt.alloc(), &gathered, Status::Done, ONE_LINES, "")?);
+    for (piece, failing_write, status, lines, report) in FAILING_WRITES {
+        let run = Run {
+            piece: *piece,
+            failing_write: *failing_write,
+            ..asking(DECIDE, &stream)
+        };
+        let given = gives(rt.alloc(), &run, *status, lines, report)?;
+        assert!(rt; given, "write {failing_write} of {piece}");
+    }
     assert_eq!(rt; Status::SinkFault.code(), 5);
     Ok(())
 }

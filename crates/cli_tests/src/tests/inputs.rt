@@ -1,5 +1,5 @@
-use crate::tests::runs::{DECIDE, asking, gives, writes};
-use crate::tests::streams::{B, Frame, ROOT, START, stream_of};
+use crate::tests::runs::{DECIDE, ends, writes};
+use crate::tests::streams::{B, Frame, ROOT, START};
 use snow_cli::Status;
 use std::test::Fail;
 
@@ -71,9 +71,7 @@ const REFUSED: &[([u32; 5], &str)] = &[
 #[test]
 fn bad_inputs(rt: HostRuntime) -> Result<(), Fail> {
     for (i, (frames, report)) in BAD.iter().enumerate() {
-        let stream = stream_of(rt.alloc(), frames)?;
-        let run = asking(DECIDE, &stream);
-        let given = gives(rt.alloc(), &run, Status::BadInput, "", report)?;
+        let given = ends(rt.alloc(), DECIDE, frames, Status::BadInput, "", report)?;
         assert!(rt; given, "input {i}");
     }
     assert_eq!(rt; Status::BadInput.code(), 3);
@@ -83,9 +81,8 @@ fn bad_inputs(rt: HostRuntime) -> Result<(), Fail> {
 #[test]
 fn bad_parameters(rt: HostRuntime) -> Result<(), Fail> {
     for (i, (parameters, report)) in REFUSED.iter().enumerate() {
-        let stream = stream_of(rt.alloc(), &[Frame::Start(*parameters)])?;
-        let run = asking(DECIDE, &stream);
-        let given = gives(rt.alloc(), &run, Status::BadInput, "", report)?;
+        let frames = [Frame::Start(*parameters)];
+        let given = ends(rt.alloc(), DECIDE, &frames, Status::BadInput, "", report)?;
         assert!(rt; given, "parameters {i}");
     }
     Ok(())

@@ -1,5 +1,5 @@
 use crate::tests::streams::{Frame, stream_of, text_of};
-use snow_base::{Bytes, Failed, MemSink, MemSource, Nums, Source};
+use snow_base::{Bytes, Failed, MemSink, MemSource, Nums, Sink, Source};
 use snow_cli::{Status, top};
 use std::alloc::{AllocError, Global};
 
@@ -49,10 +49,10 @@ pub fn asking<'a>(words: &'a [&'a str], stream: &'a [u8]) -> Run<'a> {
 
 /// What comes of a run.
 pub fn tried(alloc: Global, run: &Run<'_>) -> Result<Outcome, AllocError> {
-    let stream = Bytes::from_slice(alloc, run.stream)?;
-    let failing = only(alloc, run.failing_read)?;
-    let mut source = MemSource::new(stream, run.piece.max(1), failing);
-    tried_on(alloc, run, &mut source)
+    let mut source = source_of(alloc, run)?;
+    let outcome = tried_on(alloc, run, &mut source);
+    drop(source);
+    outcome
 }
 
 /// What comes of a run with the bytes of this source.
@@ -62,19 +62,68 @@ pub fn tried_on<S: Source>(
     source: &mut S,
 ) -> Result<Outcome, AllocError> {
     let words = words_of(alloc, run.words)?;
+    let outcome = tried_with(alloc, run, &words, source);
+    drop(words);
+    outcome
+}
+
+/// The same with these words.
+fn tried_with<S: Source>(
+    alloc: Global,
+    run: &Run<'_>,
+    words: &Vec<String>,
+    source: &mut S,
+) -> Result<Outcome, AllocError> {
     let mut out = sink_of(alloc, run.failing_write, run.room)?;
+    let outcome = written(alloc, run, words, source, &mut out);
+    drop(out);
+    outcome
+}
+
+/// The same with this sink for the lines.
+fn written<S: Source>(
+    alloc: Global,
+    run: &Run<'_>,
+    words: &Vec<String>,
+    source: &mut S,
+    out: &mut MemSink,
+) -> Result<Outcome, AllocError> {
     let mut err = sink_of(alloc, run.failing_report, 256)?;
-    let status = top(alloc, &words, source, &mut out, &mut err);
+    let status = status_of(alloc, words, source, out, &mut err);
+    let outcome = outcome_of(alloc, status, out.bytes(), err.bytes(), source);
+    drop(err);
+    outcome
+}
+
+/// The status of the top call. It stands apart, over any source and sinks, since what the top call
+/// promises is many steps at those of the tests, which don't need it.
+fn status_of<S: Source, O: Sink, E: Sink>(
+    alloc: Global,
+    words: &Vec<String>,
+    source: &mut S,
+    out: &mut O,
+    err: &mut E,
+) -> Status {
+    top(alloc, words, source, out, err)
+}
+
+fn outcome_of<S: Source>(
+    alloc: Global,
+    status: Status,
+    out: &[u8],
+    err: &[u8],
+    source: &mut S,
+) -> Result<Outcome, AllocError> {
     Ok(Outcome {
         status,
-        out: out.bytes().to_vec(alloc)?,
-        err: err.bytes().to_vec(alloc)?,
+        out: out.to_vec(alloc)?,
+        err: err.to_vec(alloc)?,
         left: source.read(&mut [0; 256]),
     })
 }
 
 impl Outcome {
-    /// Whether it is this status, with these lines and this on standard error.
+    /// Whether it is this status, with the text of these lines and of this on standard error.
     pub fn is(
         &self,
         alloc: Global,
@@ -83,11 +132,23 @@ impl Outcome {
         report: &str,
     ) -> Result<bool, AllocError> {
         let text = text_of(alloc, lines)?;
-        Ok(
-            self.status == status
-                && self.out.as_slice() == text.as_slice()
-                && self.err.as_slice() == report.as_bytes(),
-        )
+        let is = self.has(alloc, status, &text, report);
+        drop(text);
+        is
+    }
+
+    /// The same with lines that are spelt out.
+    fn has(
+        &self,
+        alloc: Global,
+        status: Status,
+        text: &[u8],
+        report: &str,
+    ) -> Result<bool, AllocError> {
+        let line = text_of(alloc, report)?;
+        let is = self.status == status && self.out.as_slice() == text && self.err.as_slice() == line.as_slice();
+        drop(line);
+        Ok(is)
     }
 }
 
@@ -99,7 +160,26 @@ pub fn gives(
     lines: &str,
     report: &str,
 ) -> Result<bool, AllocError> {
-    tried(alloc, run)?.is(alloc, status, lines, report)
+    let outcome = tried(alloc, run)?;
+    let is = outcome.is(alloc, status, lines, report);
+    drop(outcome);
+    is
+}
+
+/// Whether a run of these words over these frames answers this status, with these lines and this on
+/// standard error.
+pub fn ends(
+    alloc: Global,
+    words: &[&str],
+    frames: &[Frame],
+    status: Status,
+    lines: &str,
+    report: &str,
+) -> Result<bool, AllocError> {
+    let stream = stream_of(alloc, frames)?;
+    let given = gives(alloc, &asking(words, &stream), status, lines, report);
+    drop(stream);
+    given
 }
 
 /// Whether a run of these words over these frames is done and writes these lines.
@@ -109,8 +189,21 @@ pub fn writes(
     frames: &[Frame],
     lines: &str,
 ) -> Result<bool, AllocError> {
-    let stream = stream_of(alloc, frames)?;
-    gives(alloc, &asking(words, &stream), Status::Done, lines, "")
+    ends(alloc, words, frames, Status::Done, lines, "")
+}
+
+/// Whether words ask for nothing: with `Usage` and its line, and so many bytes left of the stream.
+pub fn asks_nothing(
+    alloc: Global,
+    words: &[&str],
+    stream: &[u8],
+    left: usize,
+) -> Result<bool, AllocError> {
+    let outcome = tried(alloc, &asking(words, stream))?;
+    let usage = outcome.is(alloc, Status::Usage, "", "snowman: usage\n");
+    let unread = outcome.left == Ok(left);
+    drop(outcome);
+    Ok(usage? && unread)
 }
 
 /// The words as the program gets them.
@@ -127,6 +220,13 @@ fn only(alloc: Global, number: u64) -> Result<Nums, AllocError> {
     let mut list = Nums::new(alloc);
     list.push(number)?;
     Ok(list)
+}
+
+/// The bytes of a run.
+fn source_of(alloc: Global, run: &Run<'_>) -> Result<MemSource, AllocError> {
+    let stream = Bytes::from_slice(alloc, run.stream)?;
+    let failing = only(alloc, run.failing_read)?;
+    Ok(MemSource::new(stream, run.piece.max(1), failing))
 }
 
 /// A sink with room for so many bytes, whose write of this number fails.

@@ -73,19 +73,31 @@ pub const ONE_LINES: &str = "prefer 01~00\naccept 01~00\n";
 /// The bytes of a stream.
 pub fn stream_of(alloc: Global, frames: &[Frame]) -> Result<Vec<u8>, AllocError> {
     let mut bytes = Vec::new(alloc);
-    for frame in frames {
-        put_frame(alloc, &mut bytes, *frame)?;
-    }
+    put_frames(alloc, &mut bytes, frames)?;
     Ok(bytes)
+}
+
+/// Puts the bytes of frames behind those of a stream.
+pub fn put_frames(alloc: Global, out: &mut Vec<u8>, frames: &[Frame]) -> Result<(), AllocError> {
+    for frame in frames {
+        put_frame(alloc, out, *frame)?;
+    }
+    Ok(())
 }
 
 /// The text of lines, where `~` stands for 60 digits 0, and `P` to `T` for the nodes 1 to 5.
 pub fn text_of(alloc: Global, lines: &str) -> Result<Vec<u8>, AllocError> {
     let mut text = Vec::new(alloc);
-    for byte in lines.as_bytes() {
-        put_digits(&mut text, *byte)?;
-    }
+    put_text(&mut text, lines)?;
     Ok(text)
+}
+
+/// Puts the text of lines behind others.
+pub fn put_text(out: &mut Vec<u8>, lines: &str) -> Result<(), AllocError> {
+    for byte in lines.as_bytes() {
+        put_digits(out, *byte)?;
+    }
+    Ok(())
 }
 
 fn put_digits(out: &mut Vec<u8>, byte: u8) -> Result<(), AllocError> {
@@ -109,52 +121,46 @@ fn put_frame(alloc: Global, out: &mut Vec<u8>, frame: Frame) -> Result<(), Alloc
     if let Frame::Bare(bytes) = frame {
         return out.extend_from_slice(bytes);
     }
-    let payload = payload_of(alloc, frame)?;
+    let mut payload = Vec::new(alloc);
+    let framed = put_framed(out, &mut payload, frame);
+    drop(payload);
+    framed
+}
+
+/// Puts the payload of a frame into room that is empty, and then its length and it.
+fn put_framed(out: &mut Vec<u8>, payload: &mut Vec<u8>, frame: Frame) -> Result<(), AllocError> {
+    put_payload(payload, frame)?;
     out.extend_from_slice(&word(payload.len()).to_be_bytes())?;
-    out.extend_from_slice(&payload)
+    out.extend_from_slice(payload.as_slice())
 }
 
 fn word(n: usize) -> u32 {
     u32::try_from(n).unwrap_or(u32::MAX)
 }
 
-fn payload_of(alloc: Global, frame: Frame) -> Result<Vec<u8>, AllocError> {
-    let mut out = Vec::new(alloc);
+fn put_payload(out: &mut Vec<u8>, frame: Frame) -> Result<(), AllocError> {
     match frame {
-        Frame::Start(parameters) => put_start(&mut out, parameters, ROOT, &[], &[])?,
-        Frame::StartOn(last, state) => put_start(&mut out, [1; 5], last, state, &[])?,
-        Frame::Run(parameters, nodes) => put_start(&mut out, parameters, ROOT, &[], nodes)?,
-        Frame::Boot(height, nodes) => put_boot(&mut out, height, nodes)?,
-        Frame::Block(id, parent, height, flag) => put_block(&mut out, 0, id, parent, height, flag)?,
+        Frame::Start(parameters) => put_start(out, parameters, ROOT, &[], &[]),
+        Frame::StartOn(last, state) => put_start(out, [1; 5], last, state, &[]),
+        Frame::Run(parameters, nodes) => put_start(out, parameters, ROOT, &[], nodes),
+        Frame::Boot(height, nodes) => put_boot(out, height, nodes),
+        Frame::Block(id, parent, height, flag) => put_block(out, 0, id, parent, height, flag),
         Frame::Brought(number, id, parent, height, flag) => {
-            put_block(&mut out, number, id, parent, height, flag)?;
+            put_block(out, number, id, parent, height, flag)
         }
-        Frame::Words(count, word) => put_words(&mut out, count, word)?,
-        Frame::Chits(node, number, id) => put_vote(&mut out, node, number, id)?,
-        Frame::Timeout(node, number) => put_message(&mut out, 6, node, number)?,
-        Frame::Ask(tag, node, number, blocks) => {
-            put_message(&mut out, tag, node, number)?;
-            put_asked(&mut out, tag, blocks)?;
-        }
-        Frame::Ancestors(node, number, blocks) => {
-            put_message(&mut out, 9, node, number)?;
-            put_blocks(&mut out, blocks)?;
-        }
-        Frame::Stored(id, parent, height, flag) => {
-            out.push(10)?;
-            put_plain(&mut out, id, parent, height, flag)?;
-        }
-        Frame::Validators(nodes) => {
-            out.push(11)?;
-            put_nodes(&mut out, nodes)?;
-        }
-        Frame::Whole(bytes) => put_whole(&mut out, bytes)?,
-        Frame::Poll(votes) => put_poll(&mut out, votes)?,
-        Frame::Same(count, byte) => out.resize(count, byte)?,
-        Frame::Zeros(tag, count) => put_zeros(&mut out, tag, count)?,
-        Frame::Bare(bytes) => out.extend_from_slice(bytes)?,
+        Frame::Words(count, word) => put_words(out, count, word),
+        Frame::Chits(node, number, id) => put_vote(out, node, number, id),
+        Frame::Timeout(node, number) => put_message(out, 6, node, number),
+        Frame::Ask(tag, node, number, blocks) => put_asked(out, tag, node, number, blocks),
+        Frame::Ancestors(node, number, blocks) => put_ancestors(out, node, number, blocks),
+        Frame::Stored(id, parent, height, flag) => put_stored(out, id, parent, height, flag),
+        Frame::Validators(nodes) => put_validators(out, nodes),
+        Frame::Whole(bytes) => put_whole(out, bytes),
+        Frame::Poll(votes) => put_poll(out, votes),
+        Frame::Same(count, byte) => out.resize(count, byte),
+        Frame::Zeros(tag, count) => put_zeros(out, tag, count),
+        Frame::Bare(bytes) => out.extend_from_slice(bytes),
     }
-    Ok(out)
 }
 
 fn put_name(out: &mut Vec<u8>, name: Name) -> Result<(), AllocError> {
@@ -234,8 +240,20 @@ fn put_vote(out: &mut Vec<u8>, node: u8, number: u32, id: Name) -> Result<(), Al
     put_name(out, id)
 }
 
+/// A question or an answer of a node, with the blocks that it names.
+fn put_asked(
+    out: &mut Vec<u8>,
+    tag: u8,
+    node: u8,
+    number: u32,
+    blocks: &[Name],
+) -> Result<(), AllocError> {
+    put_message(out, tag, node, number)?;
+    put_named(out, tag, blocks)
+}
+
 /// The blocks that a question or an answer names; those of the tags 8 and 14 are counted.
-fn put_asked(out: &mut Vec<u8>, tag: u8, blocks: &[Name]) -> Result<(), AllocError> {
+fn put_named(out: &mut Vec<u8>, tag: u8, blocks: &[Name]) -> Result<(), AllocError> {
     if tag == 8 || tag == 14 {
         put_count(out, blocks.len())?;
     }
@@ -265,7 +283,29 @@ fn put_block(
     put_plain(out, id, parent, height, flag)
 }
 
-fn put_blocks(out: &mut Vec<u8>, blocks: &[(Name, Name, u8, u8)]) -> Result<(), AllocError> {
+fn put_stored(
+    out: &mut Vec<u8>,
+    id: Name,
+    parent: Name,
+    height: u8,
+    flag: u8,
+) -> Result<(), AllocError> {
+    out.push(10)?;
+    put_plain(out, id, parent, height, flag)
+}
+
+fn put_validators(out: &mut Vec<u8>, nodes: &[(u8, u64)]) -> Result<(), AllocError> {
+    out.push(11)?;
+    put_nodes(out, nodes)
+}
+
+fn put_ancestors(
+    out: &mut Vec<u8>,
+    node: u8,
+    number: u32,
+    blocks: &[(Name, Name, u8, u8)],
+) -> Result<(), AllocError> {
+    put_message(out, 9, node, number)?;
     put_count(out, blocks.len())?;
     for (id, parent, height, flag) in blocks {
         put_plain(out, *id, *parent, *height, *flag)?;

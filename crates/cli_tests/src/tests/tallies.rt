@@ -1,5 +1,5 @@
-use crate::tests::runs::{asking, gives, writes};
-use crate::tests::streams::{A, Frame, stream_of};
+use crate::tests::runs::{ends, writes};
+use crate::tests::streams::{A, Frame};
 use snow_cli::Status;
 use std::test::Fail;
 
@@ -50,9 +50,8 @@ fn a_tally_has_a_cap(rt: HostRuntime) -> Result<(), Fail> {
     for (i, (frames, lines)) in EXAMPLES.iter().enumerate() {
         assert!(rt; writes(rt.alloc(), WORDS, frames, lines)?, "example {i}");
     }
-    let stream = stream_of(rt.alloc(), &[Frame::StartOn(A, &[11, 10])])?;
-    let run = asking(WORDS, &stream);
+    let frames = [Frame::StartOn(A, &[11, 10])];
     let report = "snowman: bad input at frame 1: state\n";
-    assert!(rt; gives(rt.alloc(), &run, Status::BadInput, "", report)?);
+    assert!(rt; ends(rt.alloc(), WORDS, &frames, Status::BadInput, "", report)?);
     Ok(())
 }
