@@ -13,8 +13,8 @@ const VOTES: u32 = 65_535;
 // What stands before the identifier of a block: the length of its frame, its tag, who sent it and why, and
 // its length.
 const HEAD: [u8; 33] = [
-    0, 0, 0, 102, 2, 0, 0, 0, 0, 0, 0, 0, 0, 0, 0, 0, 0, 0, 0, 0, 0, 0, 0, 0, 0, 0, 0, 0, 0, 0, 0, 0,
-    73,
+    0, 0, 0, 102, 2, 0, 0, 0, 0, 0, 0, 0, 0, 0, 0, 0, 0, 0, 0, 0, 0, 0, 0, 0, 0, 0, 0, 0, 0, 0, 0,
+    0, 73,
 ];
 
 // What stands before the number of a reply: the length of its frame, its tag, and the node.

@@ -146,7 +146,9 @@ impl Outcome {
         report: &str,
     ) -> Result<bool, AllocError> {
         let line = text_of(alloc, report)?;
-        let is = self.status == status && self.out.as_slice() == text && self.err.as_slice() == line.as_slice();
+        let is = self.status == status
+            && self.out.as_slice() == text
+            && self.err.as_slice() == line.as_slice();
         drop(line);
         Ok(is)
     }

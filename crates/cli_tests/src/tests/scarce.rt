@@ -17,8 +17,7 @@ fn is_told(alloc: Global, text: &[u8]) -> Result<bool, AllocError> {
     let told = match outcome.status {
         Status::Done => outcome.out.as_slice() == text && outcome.err.is_empty(),
         Status::Memory => {
-            text.starts_with(&outcome.out)
-                && b"snowman: out of memory\n".starts_with(&outcome.err)
+            text.starts_with(&outcome.out) && b"snowman: out of memory\n".starts_with(&outcome.err)
         }
         _ => false,
     };
