@@ -13,57 +13,89 @@ const FAULTS: &[([u32; 5], ParamFault)] = &[
     ([1024, 513, 1024, 65536, 1], ParamFault::BetaLarge),
 ];
 
+/// Whether parameters are refused for this.
+fn refuses(parameters: &[u32; 5], fault: ParamFault) -> bool {
+    let [k, preference, confidence, beta, repolls] = *parameters;
+    Params::check(k, preference, confidence, beta, repolls) == Err(fault)
+}
+
 #[test]
 fn parameters_are_refused_in_order(rt: HostRuntime) {
-    for ([k, preference, confidence, beta, repolls], fault) in FAULTS {
-        let checked = Params::check(*k, *preference, *confidence, *beta, *repolls);
-        assert!(rt; checked == Err(*fault), "{fault}");
+    for (parameters, fault) in FAULTS {
+        assert!(rt; refuses(parameters, *fault), "{fault}");
     }
 }
 
-/// The answer of an instance by both rules, and whether it is final.
-fn shown(instance: &Binary) -> (bool, bool, bool) {
+/// The answer of an instance by both rules, whether it is final, and its confidence.
+fn shown(instance: &Binary) -> (bool, bool, bool, u32) {
     (
         instance.preference::<Snowball>(),
         instance.preference::<Snowflake>(),
         instance.is_final(),
+        instance.confidence(),
     )
+}
+
+/// Applies polls of one vote each, one after another.
+fn apply(instance: &mut Binary, params: &Params, choices: &[bool]) {
+    for choice in choices {
+        instance.apply(params, 1, *choice);
+    }
+}
+
+fn fail(instance: &mut Binary) {
+    instance.fail();
+}
+
+/// Whether the rules part after two votes for one bit and one for the other, until two more.
+fn rules_part(instance: &mut Binary, params: &Params) -> bool {
+    apply(instance, params, &[false, false, true]);
+    let parted = shown(instance) == (false, true, false, 1);
+    apply(instance, params, &[true, true]);
+    let joined = shown(instance) == (true, true, true, 3);
+    fail(instance);
+    parted && joined && shown(instance) == (true, true, true, 3)
 }
 
 #[test]
 fn the_rules_part_until_the_instance_is_final(rt: HostRuntime) -> Result<(), Fail> {
-    let params = Params::check(1, 1, 1, 3, 1).ok().ok_or("good parameters")?;
+    let params = Params::check(1, 1, 1, 3, 1)?;
     let mut instance = Unary::new().extend(false);
-    instance.apply(&params, 1, false);
-    instance.apply(&params, 1, false);
-    instance.apply(&params, 1, true);
-    assert_eq!(rt; shown(&instance), (false, true, false));
-    assert_eq!(rt; instance.confidence(), 1);
-    instance.apply(&params, 1, true);
-    instance.apply(&params, 1, true);
-    assert_eq!(rt; shown(&instance), (true, true, true));
-    assert_eq!(rt; instance.confidence(), 3);
-    instance.fail();
-    assert_eq!(rt; instance.confidence(), 3);
+    assert!(rt; rules_part(&mut instance, &params));
     assert!(rt; Snowball::answer(true, false) && !Snowflake::answer(true, false));
     Ok(())
 }
 
+/// The confidence behind so many votes.
+fn confidence_after(instance: &mut Unary, params: &Params, votes: u32) -> u32 {
+    instance.apply(params, votes);
+    instance.confidence()
+}
+
+fn fail_shared(instance: &mut Unary) {
+    instance.fail();
+}
+
+/// Whether it is final, and the instance of two bits that it becomes.
+fn are_final(instance: &Unary) -> bool {
+    instance.is_final() && instance.extend(true).is_final()
+}
+
+/// Whether the confidence rises with votes, and falls to 0 without a quorum and without votes.
+fn is_confident(instance: &mut Unary, params: &Params) -> bool {
+    let before = confidence_after(instance, params, 18) == 1
+        && confidence_after(instance, params, 15) == 0
+        && confidence_after(instance, params, 20) == 1;
+    fail_shared(instance);
+    before
+        && confidence_after(instance, params, 18) == 1
+        && confidence_after(instance, params, 18) == 2
+}
+
 #[test]
 fn one_bit_that_all_share(rt: HostRuntime) -> Result<(), Fail> {
-    let params = Params::check(20, 15, 18, 2, 1)
-        .ok()
-        .ok_or("good parameters")?;
+    let params = Params::check(20, 15, 18, 2, 1)?;
     let mut instance = Unary::new();
-    instance.apply(&params, 18);
-    assert_eq!(rt; instance.confidence(), 1);
-    instance.apply(&params, 15);
-    assert_eq!(rt; instance.confidence(), 0);
-    instance.apply(&params, 20);
-    instance.fail();
-    assert_eq!(rt; instance.confidence(), 0);
-    instance.apply(&params, 18);
-    instance.apply(&params, 18);
-    assert!(rt; instance.is_final() && instance.extend(true).is_final());
+    assert!(rt; is_confident(&mut instance, &params) && are_final(&instance));
     Ok(())
 }

@@ -1,16 +1,8 @@
+use crate::tools::named;
 use snow_base::Id;
 use snow_tree::Tree;
 use std::alloc::{AllocError, Global};
 use std::test::Fail;
-
-// The identifier that begins with the bytes of a number.
-fn named(number: u16) -> Id {
-    let mut bytes = [0; 32];
-    let [a, b] = number.to_be_bytes();
-    bytes[0] = a;
-    bytes[1] = b;
-    Id::from_bytes(bytes)
-}
 
 // Issues the block of a number, with the number as its load, where that may be.
 fn offer(tree: &mut Tree<u16>, number: u16, parent: u16) -> Result<(), AllocError> {
@@ -49,75 +41,141 @@ fn grown(alloc: Global, blocks: &[(u16, u16)]) -> Result<Tree<u16>, AllocError> 
 // Two children of the last accepted block, 1 and 2, that have descendants each.
 const BRANCHES: [(u16, u16); 6] = [(1, 0), (2, 0), (3, 1), (4, 2), (5, 3), (6, 1)];
 
+// Whether these are the blocks of these numbers, in order.
+fn are(ids: &[Id], numbers: &[u16]) -> bool {
+    for (id, number) in ids.iter().zip(numbers) {
+        if *id != named(*number) {
+            return false;
+        }
+    }
+    ids.len() == numbers.len()
+}
+
+fn has_children(tree: &Tree<u16>, number: u16, children: &[u16]) -> bool {
+    are(tree.child_ids(&named(number)), children)
+}
+
+// Whether a child of the last accepted block stands below another.
+fn is_below(tree: &Tree<u16>, child: u16, number: u16) -> bool {
+    tree.ancestor(&named(number)) == Some(named(child))
+}
+
+// Whether the block of a number stands at a place.
+fn is_at(tree: &Tree<u16>, place: usize, number: u16) -> bool {
+    tree.at(place) == Some(named(number)) && tree.place_of(&named(number)) == Some(place)
+}
+
+fn parent_place(tree: &Tree<u16>, place: usize) -> Option<usize> {
+    tree.parent_place(place)
+}
+
+fn load(tree: &Tree<u16>, place: usize) -> Option<u16> {
+    tree.load(place).copied()
+}
+
+fn set_load(tree: &mut Tree<u16>, place: usize, to: u16) {
+    if let Some(load) = tree.load_mut(place) {
+        *load = to;
+    }
+}
+
+fn take_back(tree: &mut Tree<u16>) -> Option<u16> {
+    tree.take_back()
+}
+
+// Whether the branches are found so.
+fn are_found(tree: &Tree<u16>) -> bool {
+    tree.len() == 6
+        && tree.at(6).is_none()
+        && is_at(tree, 3, 4)
+        && load(tree, 4) == Some(5)
+        && has_children(tree, 0, &[1, 2])
+        && has_children(tree, 1, &[3, 6])
+        && has_children(tree, 7, &[])
+}
+
+// Whether what stands above them is.
+fn are_placed(tree: &Tree<u16>) -> bool {
+    is_below(tree, 1, 5) && parent_place(tree, 2) == Some(0) && parent_place(tree, 0).is_none()
+}
+
 #[test]
 fn looks_up(rt: HostRuntime) -> Result<(), Fail> {
     let tree = grown(rt.alloc(), &BRANCHES)?;
-    assert_eq!(rt;
-        (tree.len(), tree.at(3), tree.at(6)),
-        (6, Some(named(4)), None)
-    );
-    assert_eq!(rt; tree.child_ids(&named(0)), [named(1), named(2)].as_slice());
-    assert_eq!(rt; tree.child_ids(&named(1)), [named(3), named(6)].as_slice());
-    assert_eq!(rt; tree.child_ids(&named(7)).len(), 0);
-    assert_eq!(rt; tree.ancestor(&named(5)), Some(named(1)));
-    assert_eq!(rt; tree.load(4).copied(), Some(5));
-    assert_eq!(rt;
-        (tree.parent_place(2), tree.parent_place(0)),
-        (Some(0), None)
-    );
+    assert!(rt; are_found(&tree) && are_placed(&tree));
+    drop(tree);
     Ok(())
+}
+
+// Whether block 1 is the last accepted one, of height 1, and these were rejected with it.
+fn is_promoted(tree: &Tree<u16>, rejected: &[u16]) -> bool {
+    tree.last() == named(1) && tree.last_height() == 1 && are(tree.rejected(), rejected)
+}
+
+// Whether the first branch is accepted, and the second rejected.
+fn promotes_first(tree: &mut Tree<u16>) -> bool {
+    accept(tree, 3).is_none()
+        && accept(tree, 1) == Some(1)
+        && is_promoted(tree, &[2, 4])
+        && tree.len() == 3
+        && is_at(tree, 2, 6)
+        && parent_place(tree, 1) == Some(0)
+}
+
+// Whether nothing is rejected any more once a block more came.
+fn goes_on(tree: &mut Tree<u16>) -> bool {
+    offer(tree, 7, 6).is_ok() && is_promoted(tree, &[]) && is_below(tree, 6, 7)
 }
 
 #[test]
 fn promotes(rt: HostRuntime) -> Result<(), Fail> {
     let mut tree = grown(rt.alloc(), &BRANCHES)?;
-    assert_eq!(rt; accept(&mut tree, 3), None);
-    assert_eq!(rt; accept(&mut tree, 1), Some(1));
-    assert_eq!(rt;
-        (tree.last(), tree.last_height(), tree.len()),
-        (named(1), 1, 3)
-    );
-    assert_eq!(rt; tree.rejected(), [named(2), named(4)].as_slice());
-    assert_eq!(rt; tree.place_of(&named(6)), Some(2));
-    assert_eq!(rt; tree.parent_place(1), Some(0));
-    offer(&mut tree, 7, 6)?;
-    assert_eq!(rt; tree.rejected().len(), 0);
-    assert_eq!(rt; tree.ancestor(&named(7)), Some(named(6)));
+    assert!(rt; promotes_first(&mut tree) && goes_on(&mut tree));
+    drop(tree);
     Ok(())
+}
+
+// Whether the latest block is taken back, and then, between blocks that are accepted, the one before it.
+fn takes_two_back(tree: &mut Tree<u16>) -> bool {
+    let latest = take_back(tree) == Some(6) && has_children(tree, 1, &[3]);
+    set_load(tree, 0, 9);
+    latest
+        && accept(tree, 1) == Some(9)
+        && accept(tree, 3) == Some(3)
+        && take_back(tree) == Some(5)
+        && take_back(tree).is_none()
 }
 
 #[test]
 fn takes_back(rt: HostRuntime) -> Result<(), Fail> {
     let mut tree = grown(rt.alloc(), &BRANCHES)?;
-    assert_eq!(rt; tree.take_back(), Some(6));
-    assert_eq!(rt; tree.child_ids(&named(1)), [named(3)].as_slice());
-    if let Some(load) = tree.load_mut(0) {
-        *load = 9;
-    }
-    assert_eq!(rt; accept(&mut tree, 1), Some(9));
-    assert_eq!(rt; accept(&mut tree, 3), Some(3));
-    assert_eq!(rt; tree.take_back(), Some(5));
-    assert_eq!(rt; tree.take_back(), None);
+    assert!(rt; takes_two_back(&mut tree));
+    drop(tree);
     Ok(())
 }
 
-// How many blocks of a chain of this length are accepted, one after the other.
-fn accepted_of(alloc: Global, len: u16) -> Result<u16, AllocError> {
-    let mut tree = Tree::new(alloc, named(0), 0);
+// Issues a chain of so many blocks, each with the next number.
+fn chain(tree: &mut Tree<u16>, len: u16) -> Result<(), AllocError> {
     for number in 0..len {
-        offer(&mut tree, number + 1, number)?;
+        offer(tree, number + 1, number)?;
     }
+    Ok(())
+}
+
+// How many of them are accepted, one after the other.
+fn accepted(tree: &mut Tree<u16>, len: u16) -> u16 {
     let mut count = 0u16;
     for number in 0..len {
-        if accept(&mut tree, number + 1).is_some() {
+        if accept(tree, number + 1).is_some() {
             count = count.saturating_add(1);
         }
     }
-    Ok(count)
+    count
 }
 
 #[test]
-fn a_long_chain(rt: HostRuntime) -> Result<(), Fail> {
-    assert_eq!(rt; accepted_of(rt.alloc(), 4096)?, 4096);
-    Ok(())
+fn a_long_chain(rt: HostRuntime) {
+    let mut tree = Tree::new(rt.alloc(), named(0), 0);
+    assert!(rt; chain(&mut tree, 4096).is_ok() && accepted(&mut tree, 4096) == 4096);
+    drop(tree);
 }

@@ -2,4 +2,4 @@ use Rattle.board_tests.proofs.trie.random_calls_beside_plain_counters.Given as g
 
 -- the counter of the blank page
 abbrev pub ghosts-compared : goal.ghosts-compared
-ghosts-compared a = record { name = a.blank.name; parts = a.blank.parts }
+ghosts-compared g a = record { name = a.blank.name; parts = a.blank.parts }
