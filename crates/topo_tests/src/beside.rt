@@ -109,8 +109,8 @@ fn branch<A: Board, B: Board>(alloc: Global) -> Result<[(Id, usize); 2], Fail> {
 
 #[test]
 fn a_branch_is_rejected(rt: HostRuntime) -> Result<(), Fail> {
-    let told = branch::<Topo<Snowball>, PlainBoard<Snowball>>(rt.alloc())?;
-    assert_eq!(rt; told, [(named(2), 4), (named(5), 0)]);
+    let [voted, grown] = branch::<Topo<Snowball>, PlainBoard<Snowball>>(rt.alloc())?;
+    assert!(rt; voted == (named(2), 4) && grown == (named(5), 0));
     Ok(())
 }
 
@@ -130,7 +130,7 @@ fn contested<A: Board, B: Board>(alloc: Global) -> Result<Id, Fail> {
 fn rules_part(rt: HostRuntime) -> Result<(), Fail> {
     let balls = contested::<Topo<Snowball>, PlainBoard<Snowball>>(rt.alloc())?;
     let flakes = contested::<Topo<Snowflake>, PlainBoard<Snowflake>>(rt.alloc())?;
-    assert_eq!(rt; (balls, flakes), (named(6), named(5)));
+    assert!(rt; balls == named(6) && flakes == named(5));
     Ok(())
 }
 

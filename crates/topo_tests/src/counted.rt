@@ -1,8 +1,8 @@
 ghost use Rattle.std.specs.Prelude.{◌≡◌, ◌<◌, ◌≤◌, true, All, IfOk};
 ghost use Rattle.snow_base.specs.Votes.{total_count};
 
-use crate::tools::{chain, holds, named, offer_all, record, votes_for};
-use snow_base::{Bag, Id, Steps};
+use crate::tools::{chain, named, offer_all, record, votes_for};
+use snow_base::{Bag, Steps};
 use snow_flake::{Params, Rule, Snowball};
 use snow_plain::Board;
 use snow_topo::{Topo, replay_counted};
@@ -11,30 +11,46 @@ use std::marker::Brand;
 use std::sync::ledger::{Blank, Ledger};
 use std::test::Fail;
 
-// How many blocks a chain has pending, with its preference, and how many decisions a vote for the end of
-// it makes, with the height that is accepted then.
-fn long_chain<B: Board>(alloc: Global) -> Result<(usize, Id, usize, u64), Fail> {
+// Records a poll with one vote for the block of a number.
+fn vote<B: Board>(alloc: Global, board: &mut B, number: u16) -> Result<(), AllocError>
+    requires { 1 ≤ (B.board board.old).parameters.k }
+{
+    let votes = votes_for(alloc, number, 1)?;
+    if votes.total() <= 1 {
+        record(board, &votes);
+    }
+    drop(votes);
+    Ok(())
+}
+
+// How many blocks a chain has pending, where the end of it is preferred, and no block behind it is known.
+fn chain_len<B: Board>(board: &B) -> Option<usize> {
+    let preferred = board.preference() == named(4096) && board.is_preferred(&named(2000));
+    if !preferred || board.is_pending(&named(4097)) {
+        return None;
+    }
+    Some(board.pending_len())
+}
+
+// How many decisions the last poll made, and the height that is accepted.
+fn decided<B: Board>(board: &B) -> (usize, u64) {
+    (board.decisions().len(), board.last_height())
+}
+
+// The same of a long chain, before and after a vote for the end of it.
+fn long_chain<B: Board>(alloc: Global) -> Result<(Option<usize>, (usize, u64)), Fail> {
     let params = Params::check(1, 1, 1, 1, 1)?;
     let mut board = B::begin(alloc, params, named(0), 0)?;
     chain(&mut board, 4097, false)?;
-    let (len, preference) = (board.pending_len(), board.preference());
-    holds(board.is_preferred(&named(2000)) && !board.is_pending(&named(4097)))?;
-    let votes = votes_for(alloc, 4096, 1)?;
-    if votes.total() <= params.k() {
-        record(&mut board, &votes);
-    }
-    Ok((
-        len,
-        preference,
-        board.decisions().len(),
-        board.last_height(),
-    ))
+    let len = chain_len(&board);
+    vote(alloc, &mut board, 4096)?;
+    Ok((len, decided(&board)))
 }
 
 #[test]
 fn a_chain_of_4096_blocks(rt: HostRuntime) -> Result<(), Fail> {
     let told = long_chain::<Topo<Snowball>>(rt.alloc())?;
-    assert_eq!(rt; told, (4096, named(4096), 4096, 4096));
+    assert_eq!(rt; told, (Some(4096), (4096, 4096)));
     Ok(())
 }
 
@@ -45,17 +61,21 @@ fn choices_of<R: Rule>(board: &Topo<R>, number: u16) -> Option<usize> {
     }
 }
 
+// A board above the block 0 with these blocks, each beside its parent.
+fn grown<B: Board>(alloc: Global, blocks: &[(u16, u16)]) -> Result<B, Fail> {
+    let params = Params::check(1, 1, 1, 2, 1)?;
+    let mut board = B::begin(alloc, params, named(0), 0)?;
+    offer_all(&mut board, blocks)?;
+    Ok(board)
+}
+
 #[test]
 fn trees_are_shown(rt: HostRuntime) -> Result<(), Fail> {
-    let params = Params::check(1, 1, 1, 2, 1)?;
-    let mut board = Topo::<Snowball>::begin(rt.alloc(), params, named(0), 0)?;
-    offer_all(&mut board, &[(1, 0), (2, 1), (3, 0)])?;
-    let told = (
-        choices_of(&board, 0),
-        choices_of(&board, 2),
-        choices_of(&board, 9),
-    );
-    assert_eq!(rt; told, (Some(2), None, None));
+    let board = grown::<Topo<Snowball>>(rt.alloc(), &[(1, 0), (2, 1), (3, 0)])?;
+    assert!(rt; choices_of(&board, 0) == Some(2));
+    assert!(rt; choices_of(&board, 2).is_none());
+    assert!(rt; choices_of(&board, 9).is_none());
+    drop(board);
     Ok(())
 }
 
@@ -71,11 +91,18 @@ fn are_few(polls: &[Bag], most: u32) -> bool
     true
 }
 
-// Fifty polls, each of twenty votes for the end of a chain of fifty blocks.
+// Adds a poll of twenty votes for the end of a chain of fifty blocks.
+fn add_poll(alloc: Global, polls: &mut Vec<Bag>) -> Result<(), AllocError> {
+    let votes = votes_for(alloc, 50, 20)?;
+    polls.push(votes)?;
+    Ok(())
+}
+
+// Fifty such polls.
 fn fifty_polls(alloc: Global) -> Result<Vec<Bag>, AllocError> {
-    let mut polls = Vec::with_capacity(alloc, 50)?;
+    let mut polls = Vec::new(alloc);
     for _ in 0..50 {
-        polls.push(votes_for(alloc, 50, 20)?)?;
+        add_poll(alloc, &mut polls)?;
     }
     Ok(polls)
 }
@@ -117,23 +144,61 @@ fn replay<R: Rule, L: Ledger>(board: &mut Topo<R>, polls: &[Bag], most: u32, ste
     }
 }
 
-// The same polls replayed with their steps counted, and recorded one by one.
-fn replayed<R: Rule, L: Ledger>(alloc: Global, blank: Blank) -> Result<(), Fail>
+// Whether a board on which the polls are replayed with their steps counted ends as another on which they
+// are recorded one by one.
+fn end_alike<R: Rule, L: Ledger>(
+    board: &mut Topo<R>,
+    other: &mut Topo<R>,
+    polls: &[Bag],
+    steps: &mut Steps<L>,
+) -> bool
+    requires first { 20 ≤ (board.old).board.parameters.k }
+    requires second { 20 ≤ (other.old).board.parameters.k }
+{
+    replay(board, polls, 20, steps);
+    one_by_one(other, polls, 20);
+    same_ends(board, other)
+}
+
+// Two boards that have grown alike.
+fn two_of<B: Board>(alloc: Global, params: Params) -> Result<(B, B), AllocError>
+    requires { 20 ≤ params.k }
+    ensures first { IfOk result (λ made. 20 ≤ (B.board made.0).parameters.k) }
+    ensures second { IfOk result (λ made. 20 ≤ (B.board made.1).parameters.k) }
+{
+    let board = fifty(alloc, params)?;
+    Ok((board, fifty(alloc, params)?))
+}
+
+// The same, with new boards.
+fn replayed<R: Rule, L: Ledger>(
+    alloc: Global,
+    polls: &[Bag],
+    steps: &mut Steps<L>,
+) -> Result<bool, Fail> {
+    let params = Params::check(20, 15, 15, 20, 4)?;
+    let (mut board, mut other) = two_of::<Topo<R>>(alloc, params)?;
+    let alike = end_alike(&mut board, &mut other, polls, steps);
+    drop(board);
+    drop(other);
+    Ok(alike)
+}
+
+// The same, with fifty polls and a counter on a blank page.
+fn fifty_replayed<R: Rule, L: Ledger>(alloc: Global, blank: Blank) -> Result<bool, Fail>
     requires name { blank.name ≡ L.name }
     requires parts { blank.parts ≡ L.parts }
     requires some { 0 < L.parts }
 {
     let mut steps = Steps::<L>::new(blank);
-    let params = Params::check(20, 15, 15, 20, 4)?;
     let polls = fifty_polls(alloc)?;
-    let mut board = fifty::<Topo<R>>(alloc, params)?;
-    let mut other = fifty::<Topo<R>>(alloc, params)?;
-    replay(&mut board, &polls, params.k(), &mut steps);
-    one_by_one(&mut other, &polls, params.k());
-    holds(same_ends(&board, &other))
+    let alike = replayed::<R, L>(alloc, &polls, &mut steps);
+    drop(polls);
+    alike
 }
 
 #[test]
 fn fifty_polls_are_replayed(rt: HostRuntime) -> Result<(), Fail> {
-    replayed::<Snowball, Brand>(rt.alloc(), Blank::new(1))
+    assert!(rt; fifty_replayed::<Snowball, Brand>(rt.alloc(), Blank::new(1))?);
+    Ok(())
 }

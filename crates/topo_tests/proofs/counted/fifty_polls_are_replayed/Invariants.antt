@@ -1,5 +1,5 @@
 use Rattle.topo_tests.proofs.counted.fifty_polls_are_replayed.Given as goal
 
 -- the counter of the blank page
-abbrev pub ghosts-replayed : goal.ghosts-replayed
-ghosts-replayed a = record { name = a.blank.name; parts = a.blank.parts }
+abbrev pub ghosts-fifty_replayed : goal.ghosts-fifty_replayed
+ghosts-fifty_replayed g a = record { name = a.blank.name; parts = a.blank.parts }
