@@ -1,21 +1,28 @@
-use snow_base::{Id, Ids, MemSink, Nums};
-use snow_lines::{
-    DropWhy, Line, Page, QueryWhy, RestartWhy, SkipKind, Text, print, print_all, read,
-};
+use crate::tools::{id, is};
+use snow_base::{MemSink, Nums, Sink};
+use snow_lines::{DropWhy, Line, SkipKind, Text, print, print_all, read};
 use std::alloc::{AllocError, Global};
 use std::test::Fail;
 
-/// An identifier with these first two bytes and zeros behind.
-fn id(first: u8, second: u8) -> Id {
-    let mut bytes = [0; 32];
-    bytes[0] = first;
-    bytes[1] = second;
-    Id::from_bytes(bytes)
+/// A sink with room for so many bytes, which fails at this call.
+pub(crate) fn failing_at(alloc: Global, call: u64, room: usize) -> Result<MemSink, AllocError> {
+    let mut failing = Nums::new(alloc);
+    failing.push(call)?;
+    let mut sink = MemSink::new(alloc, failing);
+    sink.reserve(room)?;
+    Ok(sink)
 }
 
-#[test]
-fn each_line_has_its_text(rt: HostRuntime) -> Result<(), Fail> {
-    let lines = [
+/// What stands behind the start, 60 zeros and the end of a line.
+pub(crate) fn behind<'a>(text: &'a [u8], start: &str, end: &str) -> Option<&'a [u8]> {
+    text.strip_prefix(start.as_bytes())?
+        .strip_prefix(&[b'0'; 60])?
+        .strip_prefix(end.as_bytes())
+}
+
+/// Four lines with identifiers.
+fn four() -> [Line; 4] {
+    [
         Line::Accept { id: id(0x0a, 0xff) },
         Line::Reject { id: id(0xb9, 0x01) },
         Line::Prefer { id: id(0, 0) },
@@ -23,22 +30,45 @@ fn each_line_has_its_text(rt: HostRuntime) -> Result<(), Fail> {
             id: id(0x10, 0),
             why: DropWhy::Invalid,
         },
-    ];
-    let mut sink = MemSink::new(rt.alloc(), Nums::new(rt.alloc()));
-    sink.reserve(1000)?;
-    assert!(rt; print_all(&lines, &mut sink).is_ok());
-    let mut wanted = Vec::new(rt.alloc());
+    ]
+}
+
+/// Whether lines are printed.
+fn prints_all<K: Sink>(sink: &mut K, lines: &[Line]) -> bool {
+    print_all(lines, sink).is_ok()
+}
+
+/// Whether the four are printed.
+fn prints_four<K: Sink>(sink: &mut K) -> bool {
+    let lines = four();
+    let printed = prints_all(sink, &lines);
+    drop(lines);
+    printed
+}
+
+/// Whether a text is theirs.
+fn is_four(text: &[u8]) -> bool {
+    let mut rest = text;
     for (start, end) in [
         ("accept 0aff", "\n"),
         ("reject b901", "\n"),
         ("prefer 0000", "\n"),
         ("drop 1000", " invalid\n"),
     ] {
-        wanted.extend_from_slice(start.as_bytes())?;
-        wanted.extend_from_slice(&[b'0'; 60])?;
-        wanted.extend_from_slice(end.as_bytes())?;
+        match behind(rest, start, end) {
+            Some(next) => rest = next,
+            None => return false,
+        }
     }
-    assert!(rt; sink.bytes() == wanted.as_slice());
+    rest.is_empty()
+}
+
+#[test]
+fn each_line_has_its_text(rt: HostRuntime) -> Result<(), Fail> {
+    let mut sink = failing_at(rt.alloc(), 0, 1000)?;
+    assert!(rt; prints_four(&mut sink));
+    assert!(rt; is_four(sink.bytes()));
+    drop(sink);
     Ok(())
 }
 
@@ -56,29 +86,48 @@ const SKIPS: &[(SkipKind, &str)] = &[
     (SkipKind::Nodes, "skip 18446744073709551615 nodes\n"),
 ];
 
+/// Whether a line is printed.
+fn prints<K: Sink>(sink: &mut K, line: Line) -> bool {
+    let printed = print(&line, sink).is_ok();
+    drop(line);
+    printed
+}
+
+/// Whether a skip is printed.
+fn prints_skip<K: Sink>(sink: &mut K, frame: u64, kind: SkipKind) -> bool {
+    prints(sink, Line::Skip { frame, kind })
+}
+
+/// Whether all skips are printed.
+fn prints_skips<K: Sink>(sink: &mut K) -> bool {
+    for (kind, _) in SKIPS {
+        if !prints_skip(sink, u64::MAX, *kind) {
+            return false;
+        }
+    }
+    true
+}
+
+/// Whether a text is that of all skips, and of a front of one more.
+fn is_skips(text: &[u8]) -> bool {
+    let mut rest = text;
+    for (_, line) in SKIPS {
+        match rest.strip_prefix(line.as_bytes()) {
+            Some(next) => rest = next,
+            None => return false,
+        }
+    }
+    is(rest, b"skip 1")
+}
+
 #[test]
 fn a_failing_sink_takes_a_front(rt: HostRuntime) -> Result<(), Fail> {
     // A skip comes in four writes: its name, its number, its kind and the newline.
-    let mut failing = Nums::new(rt.alloc());
-    failing.push(43)?;
-    let mut sink = MemSink::new(rt.alloc(), failing);
-    sink.reserve(1000)?;
-    let mut wanted = Vec::new(rt.alloc());
-    for (kind, text) in SKIPS {
-        let line = Line::Skip {
-            frame: u64::MAX,
-            kind: *kind,
-        };
-        assert!(rt; print(&line, &mut sink).is_ok());
-        wanted.extend_from_slice(text.as_bytes())?;
-    }
-    let last = Line::Skip {
-        frame: 1,
-        kind: SkipKind::Tag,
-    };
-    assert!(rt; print(&last, &mut sink).is_err());
-    wanted.extend_from_slice(b"skip 1")?;
-    assert!(rt; sink.bytes() == wanted.as_slice());
+    let mut sink = failing_at(rt.alloc(), 43, 1000)?;
+    assert!(rt; prints_skips(&mut sink));
+    assert!(rt; !prints_skip(&mut sink, 1, SkipKind::Tag));
+    assert!(rt; is_skips(sink.bytes()));
+    drop(sink);
     Ok(())
 }
 
@@ -105,20 +154,34 @@ const LINES: &[&str] = &[
     "to-block 1f1f1f1f1f1f1f1f1f1f1f1f1f1f1f1f1f1f1f1f 11 00ff\n",
 ];
 
+/// Whether a text is a line, and is printed again.
+fn reprints<K: Sink>(alloc: Global, sink: &mut K, text: &str) -> Result<bool, AllocError> {
+    match read(alloc, text.as_bytes())? {
+        Some(line) => Ok(prints(sink, line)),
+        None => Ok(false),
+    }
+}
+
+/// Whether a text is that of all lines.
+fn is_lines(text: &[u8]) -> bool {
+    let mut rest = text;
+    for line in LINES {
+        match rest.strip_prefix(line.as_bytes()) {
+            Some(next) => rest = next,
+            None => return false,
+        }
+    }
+    rest.is_empty()
+}
+
 #[test]
 fn each_kind_is_read_and_printed(rt: HostRuntime) -> Result<(), Fail> {
-    let mut sink = MemSink::new(rt.alloc(), Nums::new(rt.alloc()));
-    sink.reserve(10000)?;
-    let mut wanted = Vec::new(rt.alloc());
+    let mut sink = failing_at(rt.alloc(), 0, 10_000)?;
     for text in LINES {
-        let line = read(rt.alloc(), text.as_bytes())?;
-        assert!(rt; line.is_some());
-        if let Some(line) = line {
-            assert!(rt; print(&line, &mut sink).is_ok());
-        }
-        wanted.extend_from_slice(text.as_bytes())?;
+        assert!(rt; reprints(rt.alloc(), &mut sink, text) == Ok(true), "{text}");
     }
-    assert!(rt; sink.bytes() == wanted.as_slice());
+    assert!(rt; is_lines(sink.bytes()));
+    drop(sink);
     Ok(())
 }
 
@@ -143,125 +206,27 @@ const MISSES: &[&str] = &[
     "",
 ];
 
+/// Whether a text is a line.
+fn is_line(alloc: Global, text: &str) -> Result<bool, AllocError> {
+    let line = read(alloc, text.as_bytes())?;
+    let is_line = line.is_some();
+    drop(line);
+    Ok(is_line)
+}
+
 #[test]
 fn near_misses_are_no_lines(rt: HostRuntime) -> Result<(), Fail> {
     for text in MISSES {
-        let line = read(rt.alloc(), text.as_bytes())?;
-        assert!(rt; line.is_none());
+        assert!(rt; !is_line(rt.alloc(), text)?, "{text}");
     }
     Ok(())
 }
 
-/// A sink with room for so many bytes, which fails at this call.
-fn failing_at(alloc: Global, call: u64, room: usize) -> Result<MemSink, AllocError> {
-    let mut failing = Nums::new(alloc);
-    failing.push(call)?;
-    let mut sink = MemSink::new(alloc, failing);
-    sink.reserve(room)?;
-    Ok(sink)
-}
-
-/// Lines of three kinds.
-fn three() -> [Line; 3] {
-    [
-        Line::Frontier { number: u32::MAX },
-        Line::DropQuery {
-            why: QueryWhy::Units,
-        },
-        Line::Restart {
-            why: RestartWhy::Frontier,
-        },
-    ]
-}
-
-/// Their text.
-const THREE_TEXT: &[u8] = b"frontier 4294967295\ndrop-query units\nrestart frontier\n";
-
 #[test]
-fn lines_on_a_page_come_in_one_write(rt: HostRuntime) -> Result<(), Fail> {
-    let mut sink = failing_at(rt.alloc(), 2, 1000)?;
-    let mut page = Page::new(rt.alloc())?;
-    assert!(rt; page.print_all(&three(), &mut sink).is_ok());
-    assert!(rt; sink.bytes().is_empty());
-    assert!(rt; page.flush(&mut sink).is_ok());
-    assert!(rt; sink.bytes() == THREE_TEXT);
-    // Nothing waits: the sink, which would fail now, isn't called.
-    assert!(rt; page.flush(&mut sink).is_ok());
-    assert!(rt; page.print_all(&three(), &mut sink).is_ok());
-    assert!(rt; page.flush(&mut sink).is_err());
-    assert!(rt; sink.bytes() == THREE_TEXT);
-    Ok(())
-}
-
-/// So many lines of 72 bytes are a page, but for 16 bytes.
-const PAGE_LINES: u32 = 910;
-
-#[test]
-fn a_thousand_lines_come_in_two_writes(rt: HostRuntime) -> Result<(), Fail> {
-    let line = Line::Prefer { id: id(0x0a, 0xff) };
-    let mut sink = failing_at(rt.alloc(), 3, 72_000)?;
-    let mut page = Page::new(rt.alloc())?;
-    for _ in 0..PAGE_LINES {
-        assert!(rt; page.print(&line, &mut sink).is_ok());
-    }
-    assert!(rt; sink.bytes().is_empty());
-    for _ in PAGE_LINES..1000 {
-        assert!(rt; page.print(&line, &mut sink).is_ok());
-        assert!(rt; sink.bytes().len() == 65_526);
-    }
-    assert!(rt; page.flush(&mut sink).is_ok());
-    let mut wanted = Vec::new(rt.alloc());
-    for _ in 0..1000 {
-        wanted.extend_from_slice(b"prefer 0aff")?;
-        wanted.extend_from_slice(&[b'0'; 60])?;
-        wanted.extend_from_slice(b"\n")?;
-    }
-    assert!(rt; sink.bytes() == wanted.as_slice());
-    Ok(())
-}
-
-#[test]
-fn a_full_page_fails_with_its_sink(rt: HostRuntime) -> Result<(), Fail> {
-    let line = Line::Prefer { id: id(0x0a, 0xff) };
-    let mut sink = failing_at(rt.alloc(), 1, 72_000)?;
-    let mut page = Page::new(rt.alloc())?;
-    for _ in 0..PAGE_LINES {
-        assert!(rt; page.print(&line, &mut sink).is_ok());
-    }
-    assert!(rt; page.print(&line, &mut sink).is_err());
-    assert!(rt; sink.bytes().is_empty());
-    Ok(())
-}
-
-#[test]
-fn a_line_longer_than_a_page_goes_through(rt: HostRuntime) -> Result<(), Fail> {
-    let mut ids = Ids::new(rt.alloc());
-    let mut wanted = Vec::new(rt.alloc());
-    wanted.extend_from_slice(b"accepted 7")?;
-    for _ in 0..1000 {
-        ids.push(id(0x0a, 0xff))?;
-        ids.push(id(0xb9, 0x01))?;
-        wanted.extend_from_slice(b" 0aff")?;
-        wanted.extend_from_slice(&[b'0'; 60])?;
-        wanted.extend_from_slice(b" b901")?;
-        wanted.extend_from_slice(&[b'0'; 60])?;
-    }
-    wanted.extend_from_slice(b"\n")?;
-    let line = Line::Accepted { number: 7, ids };
-    let mut sink = failing_at(rt.alloc(), 3, 131_000)?;
-    let mut page = Page::new(rt.alloc())?;
-    assert!(rt; page.print(&line, &mut sink).is_ok());
-    assert!(rt; page.flush(&mut sink).is_ok());
-    assert!(rt; sink.bytes() == wanted.as_slice());
-    Ok(())
-}
-
-#[test]
-fn a_short_text_is_built_of_words(rt: HostRuntime) -> Result<(), Fail> {
+fn a_short_text_is_built_of_words(rt: HostRuntime) {
     let mut text: Text<64> = Text::new();
     text.push(b"input");
     text.push_number(b' ', u64::MAX);
     text.push(b"\n");
-    assert!(rt; text.as_slice() == b"input 18446744073709551615\n".as_slice());
-    Ok(())
+    assert!(rt; is(text.as_slice(), b"input 18446744073709551615\n"));
 }

@@ -46,27 +46,34 @@ fn newest(recent: &Recent<Marked, 3>) -> u8 {
     }
 }
 
-fn told(alloc: Global) -> Result<[u8; 6], AllocError> {
-    let mut recent = Recent::new(alloc)?;
-    enter(&mut recent, 5, 1);
-    enter(&mut recent, 4, 2);
-    enter(&mut recent, 5, 3);
-    let of_three = [latest(&recent, 5), latest(&recent, 4)];
-    enter(&mut recent, 6, 4);
-    enter(&mut recent, 7, 5);
-    let of_five = [latest(&recent, 5), latest(&recent, 4), newest(&recent)];
-    Ok([
-        of_three[0],
-        of_three[1],
-        of_five[0],
-        of_five[1],
-        of_five[2],
+// What is told of the last three entries, before there are more and then.
+fn told(recent: &mut Recent<Marked, 3>) -> [u8; 6] {
+    enter(recent, 5, 1);
+    enter(recent, 4, 2);
+    enter(recent, 5, 3);
+    let of_three = (latest(recent, 5), latest(recent, 4));
+    enter(recent, 6, 4);
+    enter(recent, 7, 5);
+    [
+        of_three.0,
+        of_three.1,
+        latest(recent, 5),
+        latest(recent, 4),
+        newest(recent),
         recent.len() as u8,
-    ])
+    ]
+}
+
+// The list is let go by a call: that is many steps, which are proved once then.
+fn told_from_new(alloc: Global) -> Result<[u8; 6], AllocError> {
+    let mut recent = Recent::new(alloc)?;
+    let told = told(&mut recent);
+    drop(recent);
+    Ok(told)
 }
 
 #[test]
 fn the_latest_entry_of_an_identifier_counts(rt: HostRuntime) -> Result<(), Fail> {
-    assert_eq!(rt; told(rt.alloc())?, [3, 2, 3, 0, 5, 3]);
+    assert_eq!(rt; told_from_new(rt.alloc())?, [3, 2, 3, 0, 5, 3]);
     Ok(())
 }

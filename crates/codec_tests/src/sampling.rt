@@ -2,6 +2,7 @@ ghost use Rattle.std.specs.Prelude.{◌≤◌, length};
 
 use snow_base::NodeId;
 use snow_sample::{Draw, Draws, Node, Roster, RosterFault, SampleFault, Words};
+use std::alloc::{AllocError, Global};
 use std::test::Fail;
 
 // The node with this number in each of its bytes, and this weight.
@@ -13,72 +14,123 @@ fn node(number: u8, weight: u64) -> Node {
 }
 
 // Why there is no roster of these nodes.
-fn refusal(rt: &HostRuntime, nodes: &[Node]) -> Option<RosterFault> {
-    Roster::new(rt.alloc(), nodes).err()
+fn refusal(alloc: Global, nodes: &[Node]) -> Option<RosterFault> {
+    Roster::new(alloc, nodes).err()
 }
 
-// These words alone.
-fn queue(rt: &HostRuntime, words: &[u64]) -> Result<Words, Fail>
-    requires { length words.now ≤ 65536 }
-{
-    let mut queue = Words::new(rt.alloc());
-    queue.push_all(words)?;
-    Ok(queue)
+// Whether there is none for this reason.
+fn refuses(alloc: Global, nodes: &[Node], fault: RosterFault) -> bool {
+    refusal(alloc, nodes) == Some(fault)
 }
 
 #[test]
 fn the_first_fault_refuses_a_roster(rt: HostRuntime) {
-    let first = node(1, 1).id;
-    let second = node(2, 0).id;
-    assert_eq!(rt; refusal(&rt, &[]), Some(RosterFault::Empty));
-    assert_eq!(rt;
-        refusal(&rt, &[node(1, 1), node(2, 0), node(1, 1)]),
-        Some(RosterFault::Duplicate { node: first })
-    );
-    assert_eq!(rt;
-        refusal(&rt, &[node(1, 1), node(2, 0)]),
-        Some(RosterFault::ZeroWeight { node: second })
-    );
+    let repeated = RosterFault::Duplicate {
+        node: node(1, 1).id,
+    };
+    let weightless = RosterFault::ZeroWeight {
+        node: node(2, 0).id,
+    };
+    let nodes = [node(1, 1), node(2, 0), node(1, 1)];
+    assert!(rt; refuses(rt.alloc(), &nodes[..0], RosterFault::Empty));
+    assert!(rt; refuses(rt.alloc(), &nodes, repeated));
+    assert!(rt; refuses(rt.alloc(), &nodes[..2], weightless));
     let heavy = [node(1, 0x7fff_ffff_ffff_ffff), node(2, 1)];
-    assert_eq!(rt; refusal(&rt, &heavy), Some(RosterFault::TooHeavy));
-    assert_eq!(rt; refusal(&rt, &heavy[..1]), None);
+    assert!(rt; refuses(rt.alloc(), &heavy, RosterFault::TooHeavy));
+    assert!(rt; refusal(rt.alloc(), &heavy[..1]).is_none());
+}
+
+// How many units of weight a roster has, where it shows the nodes of which it was made.
+fn total_of(alloc: Global, nodes: &[Node]) -> Result<Option<u64>, RosterFault> {
+    let roster = Roster::new(alloc, nodes)?;
+    let total = (roster.nodes() == nodes).then_some(roster.total());
+    drop(roster);
+    Ok(total)
+}
+
+// These words alone.
+fn queue(alloc: Global, words: &[u64]) -> Result<Words, AllocError>
+    requires { length words.now ≤ 65536 }
+{
+    let mut queue = Words::new(alloc);
+    queue.push_all(words)?;
+    Ok(queue)
+}
+
+// The one node that is drawn, how often, and how many words are left; none where others are drawn too.
+type Told = Option<(NodeId, u32, usize)>;
+
+fn told(
+    roster: &Roster,
+    k: u32,
+    words: &mut Words,
+    draws: &mut Draws,
+) -> Result<Told, SampleFault> {
+    roster.sample(k, words, draws)?;
+    match draws.list() {
+        [draw] => Ok(Some((draw.node, draw.count, words.len()))),
+        _ => Ok(None),
+    }
+}
+
+// What is told of a sample of these nodes by these words.
+fn sampled(alloc: Global, nodes: &[Node], k: u32, words: &[u64]) -> Result<Told, Fail>
+    requires { length words.now ≤ 65536 }
+{
+    let mut words = queue(alloc, words)?;
+    let roster = Roster::new(alloc, nodes)?;
+    let mut draws = Draws::new(alloc);
+    let told = told(&roster, k, &mut words, &mut draws);
+    drop(draws);
+    drop(roster);
+    drop(words);
+    Ok(told?)
 }
 
 #[test]
 fn both_draws_are_of_the_first_node(rt: HostRuntime) -> Result<(), Fail> {
     let nodes = [node(1, 3), node(2, 1)];
-    let roster = Roster::new(rt.alloc(), &nodes)?;
-    assert_eq!(rt; (roster.total(), roster.nodes()), (4, nodes.as_slice()));
-    let mut words = queue(&rt, &[5, 7])?;
-    let mut draws = Draws::new(rt.alloc());
-    roster.sample(2, &mut words, &mut draws)?;
-    let twice = Draw {
-        node: nodes[0].id,
-        count: 2,
-    };
-    assert_eq!(rt; draws.list(), [twice].as_slice());
-    assert_eq!(rt; words.len(), 0);
+    assert!(rt; total_of(rt.alloc(), &nodes)? == Some(4));
+    let told = sampled(rt.alloc(), &nodes, 2, &[5, 7])?;
+    assert!(rt; told == Some((nodes[0].id, 2, 0)));
     Ok(())
+}
+
+// The fault of a sample, how many words are left, and how many draws.
+type Fault = (Option<SampleFault>, usize, usize);
+
+fn fault_of(roster: &Roster, k: u32, words: &mut Words, draws: &mut Draws) -> Fault {
+    let fault = roster.sample(k, words, draws).err();
+    (fault, words.len(), draws.list().len())
+}
+
+// One draw.
+fn drawn(alloc: Global) -> Result<Draws, AllocError> {
+    let node = node(3, 0).id;
+    let mut draws = Draws::new(alloc);
+    draws.push(Draw { node, count: 1 })?;
+    Ok(draws)
+}
+
+// The faults of samples of five and of two of these nodes by one word, behind a sample of another.
+fn faults_of(alloc: Global, nodes: &[Node]) -> Result<[Fault; 2], Fail> {
+    let mut words = queue(alloc, &[5])?;
+    let mut draws = drawn(alloc)?;
+    let roster = Roster::new(alloc, nodes)?;
+    let five = fault_of(&roster, 5, &mut words, &mut draws);
+    let two = fault_of(&roster, 2, &mut words, &mut draws);
+    draws.clear();
+    drop(draws);
+    drop(roster);
+    drop(words);
+    Ok([five, two])
 }
 
 #[test]
 fn a_fault_leaves_no_draws(rt: HostRuntime) -> Result<(), Fail> {
-    let roster = Roster::new(rt.alloc(), &[node(1, 3), node(2, 1)])?;
-    let mut words = queue(&rt, &[5])?;
-    let mut draws = Draws::new(rt.alloc());
-    draws.push(Draw {
-        node: node(3, 0).id,
-        count: 1,
-    })?;
-    let few = Err(SampleFault::TooFewUnits { total: 4 });
-    assert_eq!(rt; roster.sample(5, &mut words, &mut draws), few);
-    assert_eq!(rt; (words.len(), draws.list().len()), (1, 0));
-    assert_eq!(rt;
-        roster.sample(2, &mut words, &mut draws),
-        Err(SampleFault::WordsOut)
-    );
-    assert_eq!(rt; (words.len(), draws.list().len()), (0, 0));
-    draws.clear();
+    let [five, two] = faults_of(rt.alloc(), &[node(1, 3), node(2, 1)])?;
+    assert!(rt; five == (Some(SampleFault::TooFewUnits { total: 4 }), 1, 0));
+    assert!(rt; two == (Some(SampleFault::WordsOut), 0, 0));
     Ok(())
 }
 
@@ -86,31 +138,15 @@ fn a_fault_leaves_no_draws(rt: HostRuntime) -> Result<(), Fail> {
 fn a_word_is_passed_over(rt: HostRuntime) -> Result<(), Fail> {
     let half = 0x4000_0000_0000_0000;
     let nodes = [node(1, half), node(2, half - 1)];
-    let roster = Roster::new(rt.alloc(), &nodes)?;
-    let mut words = queue(&rt, &[u64::MAX, half])?;
-    let mut draws = Draws::new(rt.alloc());
-    roster.sample(1, &mut words, &mut draws)?;
-    let once = Draw {
-        node: nodes[1].id,
-        count: 1,
-    };
-    assert_eq!(rt; draws.list(), [once].as_slice());
-    assert_eq!(rt; words.len(), 0);
+    let told = sampled(rt.alloc(), &nodes, 1, &[u64::MAX, half])?;
+    assert!(rt; told == Some((nodes[1].id, 1, 0)));
     Ok(())
 }
 
 #[test]
 fn all_draws_are_of_one_node(rt: HostRuntime) -> Result<(), Fail> {
     let nodes = [node(1, 4096)];
-    let roster = Roster::new(rt.alloc(), &nodes)?;
-    let mut words = queue(&rt, &[0; 1024])?;
-    let mut draws = Draws::new(rt.alloc());
-    roster.sample(1024, &mut words, &mut draws)?;
-    let all = Draw {
-        node: nodes[0].id,
-        count: 1024,
-    };
-    assert_eq!(rt; draws.list(), [all].as_slice());
-    assert_eq!(rt; words.len(), 0);
+    let told = sampled(rt.alloc(), &nodes, 1024, &[0; 1024])?;
+    assert!(rt; told == Some((nodes[0].id, 1024, 0)));
     Ok(())
 }

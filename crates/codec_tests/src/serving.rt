@@ -24,16 +24,23 @@ enum Case {
     Again,
 }
 
-// What is told in a case, above block 0. All cases share it, since only here what is served is dropped.
+// What is told in a case, above block 0. What is served is let go by a call: that is many
+// steps, which are proved once then.
 fn told_in(alloc: Global, case: Case) -> Result<Tale, AllocError> {
     let mut getter = Getter::begin(alloc, named(0))?;
+    let told = play(alloc, &mut getter, case);
+    drop(getter);
+    told
+}
+
+fn play(alloc: Global, getter: &mut Getter, case: Case) -> Result<Tale, AllocError> {
     match case {
-        Case::Peers => peers(alloc, &mut getter),
-        Case::Rejected => rejected(alloc, &mut getter),
-        Case::ManyBlocks => many_blocks(alloc, &mut getter),
-        Case::ManyBytes => many_bytes(alloc, &mut getter),
-        Case::ManyAccepted => many_accepted(alloc, &mut getter),
-        Case::Again => again(alloc, &mut getter),
+        Case::Peers => peers(alloc, getter),
+        Case::Rejected => rejected(alloc, getter),
+        Case::ManyBlocks => many_blocks(alloc, getter),
+        Case::ManyBytes => many_bytes(alloc, getter),
+        Case::ManyAccepted => many_accepted(alloc, getter),
+        Case::Again => again(alloc, getter),
     }
 }
 
@@ -76,11 +83,18 @@ fn ask(alloc: Global, getter: &Getter, question: Event) -> Result<Told, AllocErr
 
 fn told_to(alloc: Global, getter: &Getter, question: &Event) -> Result<Told, AllocError> {
     let mut log = Lines::new(alloc);
-    getter.answer(named(1), question, &mut log)?;
+    let answered = getter.answer(named(1), question, &mut log);
+    let told = told_in_log(&log);
+    drop(log);
+    answered?;
+    Ok(told)
+}
+
+fn told_in_log(log: &Lines) -> Told {
     match log.list() {
-        [] => Ok(NOTHING),
-        [line] => Ok(told_of(line)),
-        _ => Ok(('?', 1, 1)),
+        [] => NOTHING,
+        [line] => told_of(line),
+        _ => ('?', 1, 1),
     }
 }
 

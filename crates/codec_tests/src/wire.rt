@@ -1,5 +1,7 @@
-use snow_base::{Id, NodeId};
-use snow_wire::{Decoder, Event, SentBlock, Skip, TooLong, block_in, decode, encode};
+use crate::tools::is;
+use snow_base::NodeId;
+use snow_wire::{Decoder, Event, Skip, Start, TooLong, block_in, decode, encode};
+use std::alloc::{AllocError, Global};
 use std::test::Fail;
 
 /// A Start, a block and a poll, as they come in a stream.
@@ -91,143 +93,227 @@ const ASK_BLOCK: [u8; 57] = [
 
 const LINE: [u8; 14] = [17, 0, 0, 0, 9, 112, 114, 101, 102, 101, 114, 32, 48, 49];
 
-#[test]
-fn frames_come_as_soon_as_they_are_whole(rt: HostRuntime) -> Result<(), Fail> {
-    let mut decoder = Decoder::new(rt.alloc());
-    for (i, byte) in STREAM.iter().enumerate() {
-        decoder.feed(&[*byte])?;
-        assert!(rt; decoder.given() < 4);
-        let number = match decoder.next() {
-            Ok(Some(frame)) => frame.number,
-            Ok(None) => 0,
-            Err(_) => 9,
-        };
-        let expected = match i {
-            69 => 1,
-            175 => 2,
-            214 => 3,
-            _ => 0,
-        };
-        assert_eq!(rt; number, expected, "behind byte {i}");
+/// All of them.
+const PAYLOADS: [&[u8]; 17] = [
+    &START,
+    &BLOCK,
+    &POLL,
+    &WORDS,
+    &CHITS,
+    &TIMEOUT,
+    &FRONTIER,
+    &ACCEPTED,
+    &ANCESTORS,
+    &STORED,
+    &VALIDATORS,
+    &ASK_QUERY,
+    &ASK_FRONTIER,
+    &ASK_ACCEPTED,
+    &ASK_ANCESTORS,
+    &ASK_BLOCK,
+    &LINE,
+];
+
+/// The number of the frame that is whole with this byte; 0 where none is.
+fn frame_with(decoder: &mut Decoder, byte: u8) -> Result<u64, AllocError> {
+    decoder.feed(&[byte])?;
+    if decoder.given() == u64::MAX {
+        return Ok(0);
     }
-    assert_eq!(rt; decoder.rest_len(), 0);
-    Ok(())
+    match decoder.next() {
+        Ok(Some(frame)) => Ok(frame.number),
+        _ => Ok(0),
+    }
+}
+
+/// The number of the frame in the stream that ends here; 0 where none does.
+fn frame_at(place: usize) -> u64 {
+    match place {
+        69 => 1,
+        175 => 2,
+        214 => 3,
+        _ => 0,
+    }
+}
+
+/// Whether each frame of the stream comes with its last byte.
+fn come_whole(decoder: &mut Decoder) -> Result<bool, AllocError> {
+    for (place, byte) in STREAM.iter().enumerate() {
+        if frame_with(decoder, *byte)? != frame_at(place) {
+            return Ok(false);
+        }
+    }
+    Ok(decoder.rest_len() == 0)
 }
 
 #[test]
-fn a_length_above_the_limit_is_refused_again(rt: HostRuntime) -> Result<(), Fail> {
+fn frames_come_as_soon_as_they_are_whole(rt: HostRuntime) {
     let mut decoder = Decoder::new(rt.alloc());
-    decoder.feed(&[0, 0, 0, 1, 7, 0, 0x20, 0, 1])?;
+    assert!(rt; come_whole(&mut decoder) == Ok(true));
+    drop(decoder);
+}
+
+/// Whether a frame comes next.
+fn comes(decoder: &mut Decoder) -> Result<bool, TooLong> {
+    if decoder.given() == u64::MAX {
+        return Ok(false);
+    }
+    let frame = decoder.next()?;
+    Ok(frame.is_some())
+}
+
+/// Whether the next frame is refused, as the second one and by its length.
+fn is_refused(decoder: &mut Decoder) -> bool {
     let long = TooLong {
         number: 2,
         length: 2_097_153,
     };
-    assert!(rt; matches!(decoder.next(), Ok(Some(_))));
-    assert!(rt; decoder.given() < 4);
-    assert_eq!(rt; decoder.next().err(), Some(long));
-    decoder.feed(&[0])?;
-    assert!(rt; decoder.given() < 4);
-    assert_eq!(rt; decoder.next().err(), Some(long));
-    Ok(())
+    comes(decoder) == Err(long)
+}
+
+#[test]
+fn a_length_above_the_limit_is_refused_again(rt: HostRuntime) {
+    let mut decoder = Decoder::new(rt.alloc());
+    assert!(rt; decoder.feed(&[0, 0, 0, 1, 7, 0, 0x20, 0, 1]).is_ok());
+    assert!(rt; comes(&mut decoder) == Ok(true));
+    assert!(rt; is_refused(&mut decoder));
+    assert!(rt; decoder.feed(&[0]).is_ok());
+    assert!(rt; is_refused(&mut decoder));
+    drop(decoder);
+}
+
+/// Whether a payload is an event that is spelled so again.
+fn respells(alloc: Global, payload: &[u8]) -> Result<bool, AllocError> {
+    let Ok(event) = decode(alloc, payload) else {
+        return Ok(false);
+    };
+    let spelled = encode(alloc, &event);
+    drop(event);
+    let bytes = spelled?;
+    Ok(is(bytes.list(), payload))
 }
 
 #[test]
 fn each_kind_is_spelled_as_it_was_read(rt: HostRuntime) -> Result<(), Fail> {
-    let payloads: [&[u8]; 17] = [
-        &START,
-        &BLOCK,
-        &POLL,
-        &WORDS,
-        &CHITS,
-        &TIMEOUT,
-        &FRONTIER,
-        &ACCEPTED,
-        &ANCESTORS,
-        &STORED,
-        &VALIDATORS,
-        &ASK_QUERY,
-        &ASK_FRONTIER,
-        &ASK_ACCEPTED,
-        &ASK_ANCESTORS,
-        &ASK_BLOCK,
-        &LINE,
-    ];
-    for payload in payloads {
-        let event = decode(rt.alloc(), payload)
-            .ok()
-            .ok_or("the payload is an event")?;
-        let bytes = encode(rt.alloc(), &event)?;
-        assert_eq!(rt; bytes.list(), payload);
+    for payload in PAYLOADS {
+        assert!(rt; respells(rt.alloc(), payload)?);
     }
     Ok(())
 }
 
-#[test]
-fn a_start_has_its_fields_in_order(rt: HostRuntime) -> Result<(), Fail> {
-    let event = decode(rt.alloc(), &START)
-        .ok()
-        .ok_or("the payload is an event")?;
-    let Event::Start(start) = event else {
-        return Err("the event is a start".into());
-    };
-    assert_eq!(rt; start.k, 20);
-    assert_eq!(rt; start.alpha_preference, 15);
-    assert_eq!(rt; start.alpha_confidence, 16);
-    assert_eq!(rt; start.beta, 21);
-    assert_eq!(rt; start.repolls, 4);
-    assert!(rt; start.boot);
-    assert_eq!(rt; start.height, 5);
-    assert_eq!(rt; start.state.list(), [7, 1 << 63].as_slice());
+/// Whether a start has these numbers, in order.
+fn has_numbers(start: &Start) -> bool {
+    start.k == 20
+        && start.alpha_preference == 15
+        && start.alpha_confidence == 16
+        && start.beta == 21
+        && start.repolls == 4
+        && start.boot
+        && start.height == 5
+}
+
+/// Whether it has these lists.
+fn has_lists(start: &Start) -> bool {
     let nodes = [
         (NodeId::from_bytes([1; 20]), 3),
         (NodeId::from_bytes([2; 20]), 1),
     ];
-    assert_eq!(rt; start.nodes.list(), nodes.as_slice());
-    Ok(())
+    start.state.list() == [7, 1 << 63].as_slice() && start.nodes.list() == nodes.as_slice()
+}
+
+/// Whether an event is the start.
+fn is_start(event: &Event) -> bool {
+    match event {
+        Event::Start(start) => has_numbers(start) && has_lists(start),
+        _ => false,
+    }
+}
+
+/// Whether a payload is the start.
+fn spells_start(alloc: Global, payload: &[u8]) -> bool {
+    let Ok(event) = decode(alloc, payload) else {
+        return false;
+    };
+    let is_start = is_start(&event);
+    drop(event);
+    is_start
 }
 
 #[test]
+fn a_start_has_its_fields_in_order(rt: HostRuntime) {
+    assert!(rt; spells_start(rt.alloc(), &START));
+}
+
+/// Why a payload is no event.
+fn fault_of(alloc: Global, payload: &[u8]) -> Option<Skip> {
+    decode(alloc, payload).err()
+}
+
+/// Payloads, and the first fault of each.
+const FAULTS: &[(&[u8], Skip)] = &[
+    (&[], Skip::Short),
+    (&[0], Skip::Tag),
+    (&[18, 1], Skip::Tag),
+    (&[255], Skip::Tag),
+    (&[3, 0], Skip::Short),
+    (&[3, 4, 0], Skip::Short),
+    (&[3, 4, 1], Skip::Count),
+    (&[4, 0x10, 1], Skip::Count),
+    (&[11, 0x10, 1], Skip::Count),
+    (&[17, 0, 0x10, 0xc8, 0xe0], Skip::Short),
+    (&[17, 0, 0x10, 0xc8, 0xe1], Skip::Count),
+    (&[3, 0, 0, 9], Skip::Extra),
+];
+
+#[test]
 fn the_first_fault_is_named(rt: HostRuntime) {
-    let mut boot = START;
-    boot[21] = 2;
-    let mut wide = BLOCK;
-    wide[26] = 1;
-    wide[28] = 1;
-    let mut blocks = ANCESTORS;
-    blocks[25] = 8;
-    let table: [(&[u8], Skip); 16] = [
-        (&[], Skip::Short),
-        (&[0], Skip::Tag),
-        (&[18, 1], Skip::Tag),
-        (&[255], Skip::Tag),
-        (&START[..21], Skip::Short),
-        (&boot[..22], Skip::Count),
-        (&wide[..29], Skip::Count),
-        (&blocks[..27], Skip::Count),
-        (&[3, 0], Skip::Short),
-        (&[3, 4, 0], Skip::Short),
-        (&[3, 4, 1], Skip::Count),
-        (&[4, 0x10, 1], Skip::Count),
-        (&[11, 0x10, 1], Skip::Count),
-        (&[17, 0, 0x10, 0xc8, 0xe0], Skip::Short),
-        (&[17, 0, 0x10, 0xc8, 0xe1], Skip::Count),
-        (&[3, 0, 0, 9], Skip::Extra),
-    ];
-    for (payload, skip) in table {
-        assert_eq!(rt; decode(rt.alloc(), payload).err(), Some(skip));
+    for (payload, fault) in FAULTS {
+        assert!(rt; fault_of(rt.alloc(), payload) == Some(*fault), "{fault:?}");
     }
+}
+
+/// A start with a flag that is none, a block that is too long, and too many blocks, up to there.
+const OUT_OF_RANGE: &[&[u8]] = &[
+    &[
+        1, 0, 0, 0, 20, 0, 0, 0, 15, 0, 0, 0, 16, 0, 0, 0, 21, 0, 0, 0, 4, 2,
+    ],
+    &[
+        2, 1, 1, 1, 1, 1, 1, 1, 1, 1, 1, 1, 1, 1, 1, 1, 1, 1, 1, 1, 1, 0, 0, 0, 2, 0, 1, 0, 1,
+    ],
+    &[
+        9, 1, 1, 1, 1, 1, 1, 1, 1, 1, 1, 1, 1, 1, 1, 1, 1, 1, 1, 1, 1, 0, 0, 0, 3, 8, 2,
+    ],
+];
+
+#[test]
+fn fields_out_of_range_are_named(rt: HostRuntime) {
+    for payload in OUT_OF_RANGE {
+        assert!(rt; fault_of(rt.alloc(), payload) == Some(Skip::Count));
+    }
+    assert!(rt; fault_of(rt.alloc(), &START[..21]) == Some(Skip::Short));
+}
+
+/// Whether a payload has a block with these bytes, which answers request 2.
+fn has_block(payload: &[u8], bytes: &[u8]) -> bool {
+    match block_in(payload) {
+        Some(block) => {
+            block.node == NodeId::from_bytes([1; 20])
+                && block.request == 2
+                && is(block.bytes, bytes)
+        }
+        None => false,
+    }
+}
+
+/// Whether a payload has none.
+fn has_none(payload: &[u8]) -> bool {
+    block_in(payload).is_none()
 }
 
 #[test]
 fn a_block_is_found_where_it_stands(rt: HostRuntime) {
-    let block = SentBlock {
-        node: NodeId::from_bytes([1; 20]),
-        request: 2,
-        bytes: &[1, 2, 3],
-    };
-    assert_eq!(rt; block_in(&BLOCK), Some(block));
-    let table: [&[u8]; 4] = [&[], &BLOCK[..31], &STORED, &CHITS];
-    for payload in table {
-        assert!(rt; block_in(payload).is_none());
+    assert!(rt; has_block(&BLOCK, &[1, 2, 3]));
+    for payload in [&[], &BLOCK[..31], &STORED, &CHITS] {
+        assert!(rt; has_none(payload));
     }
 }
