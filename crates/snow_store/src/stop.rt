@@ -1,45 +1,29 @@
 use snow_base::Id;
 use std::alloc::AllocError;
-use std::error::Error;
-use std::fmt;
+use thiserror::Error;
 
 /// Why bootstrapping stops.
-#[derive(Clone, Copy, Debug, PartialEq, Eq)]
+#[derive(Clone, Copy, Debug, PartialEq, Eq, Error)]
 pub enum BootStop {
     /// At a height stands one block, and another belongs there.
+    #[error("two blocks at height {height}")]
     Conflict { height: u64, first: Id, second: Id },
     /// A block right above the last accepted one has another parent.
+    #[error("a block right above the last accepted one has another parent")]
     Fork { id: Id, parent: Id },
     /// A block isn't valid where it stands.
+    #[error("a block is refused")]
     Refused { id: Id },
     /// 32,768 blocks are kept.
+    #[error("32768 blocks are kept")]
     Full,
     /// No number is left to ask with.
+    #[error("no number is left")]
     Requests,
     /// There is no memory.
+    #[error("no memory")]
     Memory,
 }
-
-impl BootStop {
-    fn message(&self) -> &'static str {
-        match self {
-            BootStop::Conflict { .. } => "two blocks belong at one height",
-            BootStop::Fork { .. } => "a block right above the last accepted one has another parent",
-            BootStop::Refused { .. } => "a block is refused",
-            BootStop::Full => "32768 blocks are kept",
-            BootStop::Requests => "no number is left",
-            BootStop::Memory => "no memory",
-        }
-    }
-}
-
-impl fmt::Display for BootStop {
-    fn fmt<W: fmt::Write>(&self, f: &mut fmt::Formatter<W>) -> fmt::Result {
-        f.write_str(self.message())
-    }
-}
-
-impl Error for BootStop {}
 
 impl From<AllocError> for BootStop {
     ghost use Rattle.std.specs.Prelude.{◌≡◌};
