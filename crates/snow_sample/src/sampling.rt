@@ -9,7 +9,7 @@ use crate::room::Room;
 use crate::roster::Roster;
 use crate::shuffle::Shuffle;
 use crate::words::Words;
-use std::alloc::{AllocError, Global};
+use std::alloc::AllocError;
 use thiserror::Error;
 
 /// Why there is no sample.
