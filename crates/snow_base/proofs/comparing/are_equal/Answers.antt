@@ -1,12 +1,13 @@
-use Rattle.std.proofs.Common.{◌&&◌, ◌<◌, length, get_or, nat_eq, sym, ap, ◌∙◌, arith}
-use Rattle.snow_base.proofs.Equal.{equal_more}
+use Rattle.std.proofs.Common.{◌+◌, ◌*◌, arith}
+use Rattle.snow_base.proofs.Equal.{equal_more, all_equal}
 use Rattle.snow_base.proofs.comparing.are_equal.Goals as goal
 
 pub loop-at-preserved : goal.loop-at-preserved
 loop-at-preserved c =
-    let a = c.args.a.now in
-    let b = c.args.b.now in
-    let at = c.loop-at.at in
-    let in_a : at < length a = omega arith in
-    let in_b : at < length b = omega (arith, c.requires) in
-    ap (λ t. t && nat_eq (get_or a at 0) (get_or b at 0)) c.loop-at.invariant ∙ sym (equal_more a b at in_a in_b)
+    let from = c.min-from.ensures in
+    equal_more c.args.a.now c.args.b.now (8 * c.loop-at.at) (8 * (c.loop-at.at + 1)) c.min-from.result _ _ c.loop-at.same c.requires.same
+    (omega (arith, from, c.requires)) (omega (arith, from)) (omega arith) (omega (arith, from)) (λ k below inside. omega (arith, from))
+    (λ k. (c.type_inv.a k).fits) (λ k. (c.type_inv.b k).fits) c.high_word.ensures c.high_word-in-loop-at.ensures c.loop-at.invariant
+
+pub returns : goal.returns
+returns c = all_equal c.args.a.now c.args.b.now (8 * c.loop-at.at) c.loop-at.same c.requires.same (omega (arith, c.loop-at-test.false, c.div_ceil-at-end.ensures)) c.loop-at.invariant

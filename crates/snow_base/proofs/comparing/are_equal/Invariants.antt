@@ -1,6 +1,7 @@
-use Rattle.std.proofs.Common.{◌≡◌, take, bytes_eq}
+use Rattle.std.proofs.Common.{◌≡◌, ℕ, ◌*◌, ◌<◌, length, get_or}
+use Rattle.std.specs.Bool.{Decides}
 use Rattle.snow_base.proofs.comparing.are_equal.Given as goal
 
--- whether the bytes so far are equal
+-- whether the bytes so far agree
 abbrev pub invariant-loop-at : goal.invariant-loop-at
-invariant-loop-at l = l.same ≡ bytes_eq (take l.at l.a) (take l.at l.b)
+invariant-loop-at l = Decides l.same ((k : ℕ) → k < 8 * l.at → k < length l.a → get_or l.a k 0 ≡ get_or l.b k 0)
