@@ -254,3 +254,30 @@ unfolding high_first
 high_is s i n is =
     let here : get_or s (i + 0) 0 ≡ get_or s i 0 = ap (λ j. get_or s j 0) (omega arith) in
     is ∙ omega (arith, here)
+
+-- and the first the lowest
+pub low_is : (s : List ℕ) (i n : ℕ)
+    → n ≡ from_le_bytes w64 (get_or s i 0 ∷ get_or s (i + 1) 0 ∷ get_or s (i + 2) 0 ∷ get_or s (i + 3) 0
+    ∷ get_or s (i + 4) 0 ∷ get_or s (i + 5) 0 ∷ get_or s (i + 6) 0 ∷ get_or s (i + 7) 0 ∷ [])
+    → n ≡ high_first (λ k. get_or s (i + (7 - k)) 0) 8
+unfolding high_first
+low_is s i n is =
+    let here : get_or s (i + 0) 0 ≡ get_or s i 0 = ap (λ j. get_or s j 0) (omega arith) in
+    is ∙ omega (arith, here)
+
+-- numbers of the same digits are equal
+pub high_same : (f g : ℕ → ℕ) (n : ℕ) → Agree f g n → high_first f n ≡ high_first g n
+unfolding high_first
+high_same f g zero same = refl
+high_same f g (suc n) same = rw (high_same f g n (λ k h. same k (omega arith)), same n (omega arith)) refl
+
+-- and equal numbers have the same digits
+pub same_high : (f g : ℕ → ℕ) (n : ℕ) → ((k : ℕ) → f k < 256) → ((k : ℕ) → g k < 256) → high_first f n ≡ high_first g n → Agree f g n
+same_high f g n p q e =
+    elim (settled f g n p q) [
+      | inl same ↦ same.0
+      | inr apart ↦ elim apart [
+        | inl low ↦ absurd (omega (arith, low.4, e))
+        | inr low ↦ absurd (omega (arith, low.4, e))
+      ]
+    ]

@@ -1,5 +1,5 @@
 //! Bytes that are compared many at a time.
-ghost use Rattle.std.specs.Prelude.{◌≡◌, ◌≢◌, ℕ, ◌+◌, ◌<◌, ◌≤◌, length, bytes_eq, slice_index};
+ghost use Rattle.std.specs.Prelude.{◌≡◌, ◌≢◌, ℕ, ◌+◌, ◌-◌, ◌<◌, ◌≤◌, length, bytes_eq, slice_index};
 ghost use Rattle.std.specs.Cmp.Lexicographic.{slice_cmp};
 ghost use Rattle.std.specs.Ordering.{nat_cmp};
 ghost use Rattle.snow_base.specs.Words.{high_first};
@@ -17,7 +17,7 @@ pub(crate) fn are_equal(a: &[u8], b: &[u8]) -> bool
     let mut same = true;
     for at in 0..a.len().div_ceil(8) {
         let from = (a.len() - 8).min(8 * at);
-        same = same & (high_word(a, from) == high_word(b, from));
+        same = same & (low_word(a, from) == low_word(b, from));
     }
     same
 }
@@ -62,6 +62,24 @@ fn high_word(bytes: &[u8], from: usize) -> u64
     ensures { result ≡ high_first (λ k. slice_index bytes.now (from + k)) 8 }
 {
     u64::from_be_bytes([
+        bytes[from],
+        bytes[from + 1],
+        bytes[from + 2],
+        bytes[from + 3],
+        bytes[from + 4],
+        bytes[from + 5],
+        bytes[from + 6],
+        bytes[from + 7],
+    ])
+}
+
+// Eight bytes as a number, the first one the lowest, as the machine reads them.
+#[inline]
+fn low_word(bytes: &[u8], from: usize) -> u64
+    requires { from + 8 ≤ length bytes.now }
+    ensures { result ≡ high_first (λ k. slice_index bytes.now (from + (7 - k))) 8 }
+{
+    u64::from_le_bytes([
         bytes[from],
         bytes[from + 1],
         bytes[from + 2],

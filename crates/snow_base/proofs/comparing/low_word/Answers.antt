@@ -1,0 +1,5 @@
+use Rattle.snow_base.proofs.Words.{low_is}
+use Rattle.snow_base.proofs.comparing.low_word.Goals as goal
+
+pub returns : goal.returns
+returns c = low_is c.args.bytes.now c.args.from c.from_le_bytes.result c.from_le_bytes.ensures
