@@ -3,8 +3,10 @@ pub mod Listed
 pub mod Noted
 pub mod Placed
 pub mod Numbered
+pub mod Edges
 pub mod Sifted
 pub mod Linked
 pub mod Left
 pub mod Climbed
+pub mod Anew
 pub mod Seen

@@ -1,6 +1,6 @@
 -- Lemmas on the nodes when a block is issued or taken back: its parent's children change.
 use Rattle.std.proofs.Common.{◌≡◌, ℕ, zero, suc, ◌+◌, ◌-◌, ◌≤◌, true, false, ◌||◌, List, [], ◌∷◌, ◌++◌, length, get_or, take, reverse, map, bytes_eq, All, Some, None, slice_get, Result, Ok, Err, OnOk, OnErr, IsOk, refl, sym, ap, subst, ◌∙◌, length-append, append-nil, if◌then◌else◌, arith}
-use Rattle.std.specs.List.{AllByRecursion, IsDistinct, position}
+use Rattle.std.specs.List.{IsDistinct, position}
 use Rattle.std.specs.Option.{option_map}
 use Rattle.std.proofs.lemmas.Result.{on_ok_weaker, on_err_weaker}
 use Rattle.std.specs.Map.{lookup, keys_of, values_of}
@@ -15,10 +15,11 @@ use Rattle.snow_plain.proofs.Cases.{split_on, clash, same_id, differs_back}
 use Rattle.snow_plain.proofs.Grown.{grown_rest, has_block-reverse}
 use Rattle.snow_tree.specs.declared.node.Node.{Node}
 use Rattle.snow_tree.specs.Held.{children_of}
-use Rattle.snow_tree.specs.Nodes.{block_of, blocks_of, linked, unlinked, with_children, IsKept}
-use Rattle.snow_tree.proofs.Placed.{either_way, found_at}
+use Rattle.snow_tree.specs.Nodes.{block_of, blocks_of, place_before, ArePlaced, edge_of, edges_of, linked, unlinked, with_children, IsKept}
+use Rattle.snow_tree.proofs.Placed.{either_way, apart_off, found_at}
 use Rattle.snow_tree.proofs.Listed.{children_push, no_children}
 use Rattle.snow_tree.proofs.Numbered.{of_key}
+use Rattle.snow_tree.proofs.Edges.{edge_place, no_parent, placed_more, placed_less, read_through}
 
 -- a change of the parent's children alone
 abbrev pub ChangesOnly : (List ℕ → List (List ℕ) → List (List ℕ)) → List ℕ → Type 0
@@ -45,11 +46,6 @@ module _ {T : Type 0} where
   same_written [] i n h = refl
   same_written (e ∷ nodes) zero n h = let same : e.1 ≡ n = cc in ap (λ m. (e.0, m) ∷ nodes) (sym same)
   same_written (e ∷ nodes) (suc i) n h = ap (λ l. e ∷ l) (same_written nodes i n h)
-
-  -- keys that all differ from one have no block of its identifier
-  pub apart_off : (nodes : List (List ℕ × Node T)) (k : List ℕ) → AllByRecursion (λ y. bytes_eq k y ≡ false) (keys_of nodes) → has_block (blocks_of nodes) k ≡ false
-  apart_off [] k h = refl
-  apart_off (e ∷ nodes) k h = rw (differs_back e.0 k h.0) (apart_off nodes k h.1)
 
   -- where the parent isn't among the nodes nothing changes
   pub none_changed : (change : List ℕ → List (List ℕ) → List (List ℕ)) (parent : List ℕ) → ChangesOnly change parent → (nodes : List (List ℕ × Node T))
@@ -130,8 +126,9 @@ module _ {T : Type 0} where
   pub kept_issued : (last : List ℕ) (children : List (List ℕ)) (nodes : List (List ℕ × Node T)) (old room : ℕ) (k : List ℕ) (n : Node T)
       → IsKept last children nodes old → n.children ≡ [] → n.is_rejected ≡ false
       → is_on last (blocks_of nodes) k ≡ false → is_on last (blocks_of nodes) n.parent ≡ true → length nodes + 1 ≤ room
+      → position (λ e. bytes_eq e.0 n.parent) nodes ≡ place_before (length nodes) n.back
       → IsKept last (linked (block_of (k, n)) last children) (map (with_children (linked (block_of (k, n)))) nodes ++ (k, n) ∷ []) room
-  kept_issued last children nodes old room k n kept bare clear new parent fits =
+  kept_issued last children nodes old room k n kept bare clear new parent fits place =
       let b = block_of (k, n) in
       let bs = blocks_of nodes in
       let change = with_children (linked b) in
@@ -143,11 +140,19 @@ module _ {T : Type 0} where
       split_on (bytes_eq b.parent b.id) (λ t. clash (is_on last bs b.parent) parent (ap (is_on last bs) (same_id b.parent b.id t) ∙ new)) (λ t. t)
       in
       let grown : IsGrown last (b ∷ reverse bs) = Grew b (reverse bs) (on b.id ∙ new) (on b.parent ∙ parent) kept.grown in
+      let edges : edges_of (map change nodes ++ (k, n) ∷ []) ≡ edges_of nodes ++ edge_of (k, n) ∷ [] =
+      map-append edge_of (map change nodes) ((k, n) ∷ []) ∙ ap (λ l. l ++ edge_of (k, n) ∷ []) (read_through edge_of change (λ e. refl) nodes)
+      in
+      let at : position (λ x. bytes_eq x.id n.parent) (edges_of nodes) ≡ place_before (length (edges_of nodes)) n.back =
+      edge_place nodes n.parent ∙ place ∙ ap (λ m. place_before m n.back) (sym (length-map nodes edge_of))
+      in
+      let childless : children_of bs k ≡ [] = no_children last bs k kept.grown (on k ∙ new) in
       let Below : List ℕ × Node T → Type 0 = λ e. e.1.children ≡ children_of (blocks_of (map change nodes ++ (k, n) ∷ [])) e.0 in
       let Clear : List ℕ × Node T → Type 0 = λ e. e.1.is_rejected ≡ false in
-      let none : children_of (bs ++ b ∷ []) b.id ≡ [] = children_push bs b b.id ∙ rw (no_children last bs b.id kept.grown (on b.id ∙ new), other) refl in
+      let none : children_of (bs ++ b ∷ []) b.id ≡ [] = children_push bs b b.id ∙ rw (childless, other) refl in
       record {
         grown = subst (λ l. IsGrown last (reverse l)) (sym all) (subst (IsGrown last) (sym (reverse-append bs (b ∷ []))) grown);
+        placed = subst ArePlaced (sym edges) (placed_more (edges_of nodes) (edge_of (k, n)) kept.placed (no_parent nodes k childless) (differs_back k n.parent other) at);
         children = linked_is bs b last children kept.children ∙ ap (λ l. children_of l last) (sym all);
         below = All-append Below (map change nodes) ((k, n) ∷ [])
             (All-map Below change nodes (λ i d h. linked_is bs b (get_or nodes i d).0 (get_or nodes i d).1.children (kept.below i d h) ∙ ap (λ l. children_of l (get_or nodes i d).0) (sym all)))
@@ -209,11 +214,13 @@ module _ {T : Type 0} where
       let of : (q : List ℕ) (c : List (List ℕ)) → c ≡ children_of (blocks_of (nodes ++ e ∷ [])) q → unlinked b.parent q c ≡ children_of (blocks_of (map change nodes)) q =
       λ q c is. unlinked_is bs b q c (is ∙ ap (λ l. children_of l q) all) ∙ ap (λ l. children_of l q) (sym same)
       in
+      let edges : edges_of (nodes ++ e ∷ []) ≡ edges_of nodes ++ edge_of e ∷ [] = map-append edge_of nodes (e ∷ []) in
       let Was : List ℕ × Node T → Type 0 = λ x. x.1.children ≡ children_of (blocks_of (nodes ++ e ∷ [])) x.0 in
       let Below : List ℕ × Node T → Type 0 = λ x. x.1.children ≡ children_of (blocks_of (map change nodes)) x.0 in
       let Clear : List ℕ × Node T → Type 0 = λ x. x.1.is_rejected ≡ false in
       record {
         grown = subst (λ l. IsGrown last (reverse l)) (sym same) (grown_rest grown);
+        placed = subst ArePlaced (sym (read_through edge_of change (λ x. refl) nodes)) (placed_less (edges_of nodes) (edge_of e) (subst ArePlaced edges kept.placed));
         children = of last children kept.children;
         below = All-map Below change nodes (λ i d h. of (get_or nodes i d).0 (get_or nodes i d).1.children (front Was nodes e kept.below i d h));
         clear = All-map Clear change nodes (front Clear nodes e kept.clear);

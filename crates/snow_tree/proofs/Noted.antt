@@ -1,7 +1,8 @@
 -- Lemmas on what is noted of the nodes while a child is accepted.
 use Rattle.std.proofs.Common.{◌≡◌, ℕ, zero, suc, ◌+◌, ◌<◌, ◌≤◌, Bool, true, false, not, ◌||◌, List, [], ◌∷◌, ◌++◌, length, get_or, take, drop, reverse, map, filter, cond, bytes_eq, Option, Some, None, slice_get, refl, sym, ap, subst, ◌∙◌, arith, if◌then◌else◌}
+use Rattle.std.specs.List.{position}
 use Rattle.std.specs.Map.{values_of}
-use Rattle.std.specs.Option.{option_map}
+use Rattle.std.specs.Option.{option_map, option_map_or}
 use Rattle.std.proofs.lemmas.List.{get_or-map, length-map, length-take, map-append}
 use Rattle.std.proofs.lemmas.List.Sums.{length-filter, count_by-le-length}
 use Rattle.std.proofs.lemmas.Option.{none-some, slice_get-map, get_or_from_slice_get}
@@ -13,6 +14,8 @@ use Rattle.snow_plain.specs.Grown.{has_block, IsGrown}
 use Rattle.snow_plain.proofs.Cases.{split_on, same_id, differs_back}
 use Rattle.snow_tree.specs.declared.node.Node.{Node}
 use Rattle.snow_tree.specs.Nodes.{block_of, blocks_of, is_noted, is_out, judged}
+use Rattle.snow_tree.proofs.Placed.{place_same}
+use Rattle.snow_tree.proofs.Numbered.{value_at, value_found}
 use Rattle.snow_tree.proofs.Descending.{descends_at, last_descends, parent_before}
 
 -- what a look at a place shows was there
@@ -21,6 +24,31 @@ read_back None f y h = absurd (none-some y h)
 read_back (Some x) f y h = (x, refl, cc)
 
 module _ {T : Type 0} where
+  -- where the parent of a block that is seen stands
+  pub parent_told : (nodes : List (List ℕ × Node T)) (place : ℕ) (block : Header) (r : Option ℕ) → option_map block_of (slice_get nodes place) ≡ Some block
+      → ((e : List ℕ × Node T) → slice_get nodes place ≡ Some e → r ≡ position (λ x. bytes_eq x.0 e.1.parent) nodes) → r ≡ position (λ x. bytes_eq x.0 block.parent) nodes
+  parent_told nodes place block r seen told =
+      let found = read_back (slice_get nodes place) block_of block seen in
+      told found.0 found.1 ∙ ap (λ (b : Header). position (λ x. bytes_eq x.0 b.parent) nodes) found.2
+
+  -- what is noted of the node of an identifier is noted at its place
+  pub noted_at : (nodes : List (List ℕ × Node T)) (id : List ℕ) (at : ℕ) → Some at ≡ position (λ x. bytes_eq x.0 id) nodes → is_noted nodes id ≡ option_map_or (λ e. e.1.is_rejected) (slice_get nodes at) false
+  noted_at nodes id at there =
+      ap (λ o. option_map_or (λ (n : Node T). n.is_rejected) o false) (sym (value_found (bytes_eq id) nodes) ∙ ap (value_at nodes) (place_same nodes id ∙ sym there)) ∙ through (slice_get nodes at)
+    where
+      through : (o : Option (List ℕ × Node T)) → option_map_or (λ (n : Node T). n.is_rejected) (option_map (λ e. e.1) o) false ≡ option_map_or (λ e. e.1.is_rejected) o false
+      through None = refl
+      through (Some e) = refl
+
+  -- and nothing is noted where it has none
+  pub noted_nowhere : (nodes : List (List ℕ × Node T)) (id : List ℕ) → None ≡ position (λ x. bytes_eq x.0 id) nodes → is_noted nodes id ≡ false
+  noted_nowhere nodes id none =
+      ap (λ o. option_map_or (λ (n : Node T). n.is_rejected) o false) (sym (value_found (bytes_eq id) nodes) ∙ ap (value_at nodes) (place_same nodes id ∙ sym none))
+
+  -- what is noted of the parent decides, unless that is the last accepted block, or the block is the child
+  pub out_by_note : (nodes : List (List ℕ × Node T)) (last child : List ℕ) (block : Header) → bytes_eq block.id child ≡ false → bytes_eq last block.parent ≡ false → is_out nodes last child block ≡ is_noted nodes block.parent
+  out_by_note nodes last child block other below = rw (other, below) refl
+
   -- a node among those that are judged is noted as the rule says
   flagged : (blocks : List Header) (child id : List ℕ) (front back : List (List ℕ × Node T)) → has_block (blocks_of front) id ≡ true
       → is_noted (map (judged blocks child) front ++ back) id ≡ not (descends blocks child id)

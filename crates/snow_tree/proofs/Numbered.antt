@@ -42,7 +42,7 @@ place_more p (y ∷ ks) k none =
     later false = refl
 
 -- and one that fails changes none
-place_kept : (p : List ℕ → Bool) (ks : List (List ℕ)) (k : List ℕ) → p k ≡ false → position p (ks ++ k ∷ []) ≡ position p ks
+pub place_kept : {X : Type 0} (p : X → Bool) (ks : List X) (k : X) → p k ≡ false → position p (ks ++ k ∷ []) ≡ position p ks
 place_kept p [] k fails = position_cons p k [] ∙ rw fails refl
 place_kept p (y ∷ ks) k fails =
     position_cons p y (ks ++ k ∷ [])

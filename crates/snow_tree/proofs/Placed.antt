@@ -1,6 +1,6 @@
 -- Lemmas on the places of nodes.
-use Rattle.std.proofs.Common.{◌≡◌, ◌⊎◌, ℕ, suc, ◌+◌, ◌<◌, ◌≤◌, Bool, true, false, not, cond, nat_lt, List, [], ◌∷◌, length, get_or, bytes_eq, Option, Some, None, slice_get, inl, inr, refl, sym, ap, ◌∙◌, arith, if◌then◌else◌}
-use Rattle.std.specs.List.{position, prefix_len}
+use Rattle.std.proofs.Common.{◌≡◌, ◌⊎◌, ℕ, suc, ◌+◌, ◌<◌, ◌≤◌, Bool, true, false, not, cond, nat_lt, List, [], ◌∷◌, length, get_or, bytes_eq, Option, Some, None, is_some, slice_get, inl, inr, refl, sym, ap, ◌∙◌, arith, if◌then◌else◌}
+use Rattle.std.specs.List.{AllByRecursion, position, prefix_len}
 use Rattle.std.specs.Map.{keys_of}
 use Rattle.std.specs.Option.{option_map}
 use Rattle.std.proofs.lemmas.Grind.{common_steps}
@@ -71,3 +71,35 @@ module _ {T : Type 0} where
       missing : (o : Option ℕ) → option_map suc o ≡ None → o ≡ None
       missing None e = refl
       missing (Some i) e = absurd (none-some (suc i) (sym e))
+
+  -- a place is one of a node
+  pub place_within : (nodes : List (List ℕ × Node T)) (id : List ℕ) (at : ℕ) → position (λ e. bytes_eq e.0 id) nodes ≡ Some at → at < length nodes
+  place_within nodes id at h =
+      let within : at < length (keys_of nodes) = (position-Some (bytes_eq id) (keys_of nodes) at [] (place_same nodes id ∙ h)).0 in
+      omega (arith, within, length-keys_of nodes)
+
+  -- keys that all differ from one have no block of its identifier
+  pub apart_off : (nodes : List (List ℕ × Node T)) (k : List ℕ) → AllByRecursion (λ y. bytes_eq k y ≡ false) (keys_of nodes) → has_block (blocks_of nodes) k ≡ false
+  apart_off [] k h = refl
+  apart_off (e ∷ nodes) k h = rw (differs_back e.0 k h.0) (apart_off nodes k h.1)
+
+  -- a block has a place exactly where it is there
+  pub place_there : (nodes : List (List ℕ × Node T)) (id : List ℕ) → is_some (position (λ e. bytes_eq e.0 id) nodes) ≡ has_block (blocks_of nodes) id
+  place_there [] id = refl
+  place_there (e ∷ nodes) id =
+      ap is_some (position_cons (λ e. bytes_eq e.0 id) e nodes)
+      ∙ split_on (bytes_eq e.0 id)
+      (λ t. rw t refl)
+      (λ t. rw t (mapped (position (λ e. bytes_eq e.0 id) nodes) ∙ place_there nodes id))
+    where
+      mapped : (o : Option ℕ) → is_some (option_map suc o) ≡ is_some o
+      mapped None = refl
+      mapped (Some i) = refl
+
+  -- what isn't there has no place
+  pub off_place : (nodes : List (List ℕ × Node T)) (id : List ℕ) → has_block (blocks_of nodes) id ≡ false → position (λ e. bytes_eq e.0 id) nodes ≡ None
+  off_place nodes id off = none (position (λ e. bytes_eq e.0 id) nodes) (place_there nodes id ∙ off)
+    where
+      none : (o : Option ℕ) → is_some o ≡ false → o ≡ None
+      none None h = refl
+      none (Some i) h = absurd cc

@@ -17,11 +17,12 @@ use Rattle.snow_plain.proofs.Cases.{split_on, same_id, id_same, differs_back}
 use Rattle.snow_plain.proofs.Grown.{grown_parent, grown_rest, no_line, has_block-reverse}
 use Rattle.snow_tree.specs.declared.node.Node.{Node}
 use Rattle.snow_tree.specs.Held.{children_of, set_load}
-use Rattle.snow_tree.specs.Nodes.{block_of, blocks_of, entry_of, with_children, IsKept}
-use Rattle.snow_tree.proofs.Placed.{position_cons}
+use Rattle.snow_tree.specs.Nodes.{block_of, blocks_of, ArePlaced, edge_of, entry_of, with_children, IsKept}
+use Rattle.snow_tree.proofs.Placed.{off_place}
 use Rattle.snow_tree.proofs.Listed.{no_children}
 use Rattle.snow_tree.proofs.Linked.{no_block}
 use Rattle.snow_tree.proofs.Numbered.{length-set_value_at}
+use Rattle.snow_tree.proofs.Edges.{read_kept}
 
 -- what holds where a call succeeded, after one that did
 pub ok_after : {A E P : Type 0} (r : Result A E) → is_err r ≡ false → OnOk r P → P
@@ -60,19 +61,6 @@ line_there last bs id g =
     (λ t. rw t (ap (λ l. is_some (find (λ b. bytes_eq b.parent last) l)) (no_line (reverse bs) id (has_block-reverse bs id ∙ t))))
 
 module _ {T : Type 0} where
-  -- a block has a place exactly where it is there
-  pub place_there : (nodes : List (List ℕ × Node T)) (id : List ℕ) → is_some (position (λ e. bytes_eq e.0 id) nodes) ≡ has_block (blocks_of nodes) id
-  place_there [] id = refl
-  place_there (e ∷ nodes) id =
-      ap is_some (position_cons (λ e. bytes_eq e.0 id) e nodes)
-      ∙ split_on (bytes_eq e.0 id)
-      (λ t. rw t refl)
-      (λ t. rw t (mapped (position (λ e. bytes_eq e.0 id) nodes) ∙ place_there nodes id))
-    where
-      mapped : (o : Option ℕ) → is_some (option_map suc o) ≡ is_some o
-      mapped None = refl
-      mapped (Some i) = refl
-
   -- its place among what is seen
   pub place_seen : (nodes : List (List ℕ × Node T)) (id : List ℕ) → position (λ e. bytes_eq e.0 id) nodes ≡ position (λ e. bytes_eq e.block.id id) (map entry_of nodes)
   place_seen nodes id = λ j. cond (nat_lt (lens nodes j) (sym (length-map nodes entry_of) j)) (Some (lens nodes j)) None
@@ -185,20 +173,16 @@ module _ {T : Type 0} where
       → IsKept last first nodes most → IsKept last first (set_value_at nodes i (record n { load = w })) most
   kept_loaded last first nodes most i n w h kept =
       let m : Node T = record n { load = w } in
-      let same : blocks_of (set_value_at nodes i m) ≡ blocks_of nodes = blocks nodes i h in
+      let same : blocks_of (set_value_at nodes i m) ≡ blocks_of nodes = read_kept block_of nodes i n m h (λ k. refl) in
       let Below : List ℕ × Node T → Type 0 = λ e. e.1.children ≡ children_of (blocks_of (set_value_at nodes i m)) e.0 in
       record {
         grown = subst (λ l. IsGrown last (reverse l)) (sym same) kept.grown;
+        placed = subst ArePlaced (sym (read_kept edge_of nodes i n m h (λ k. refl))) kept.placed;
         children = kept.children ∙ ap (λ l. children_of l last) (sym same);
         below = all_written Below nodes i n m h (λ k p. p) (λ k d l. kept.below k d l ∙ ap (λ x. children_of x (get_or nodes k d).0) (sym same));
         clear = all_written (λ e. e.1.is_rejected ≡ false) nodes i n m h (λ k p. p) kept.clear;
         room = omega (arith, length-set_value_at nodes i m, kept.room);
       }
-    where
-      blocks : (xs : List (List ℕ × Node T)) (k : ℕ) → slice_get (map (λ e. e.1) xs) k ≡ Some n → blocks_of (set_value_at xs k (record n { load = w })) ≡ blocks_of xs
-      blocks [] k at = refl
-      blocks (x ∷ xs) zero at = let is : x.1 ≡ n = cc in ap (λ (y : Node T). block_of (x.0, y) ∷ blocks_of xs) (sym is)
-      blocks (x ∷ xs) (suc k) at = ap (λ l. block_of x ∷ l) (blocks xs k at)
 
 -- a number that is found to be one
 pub one_is : (n : ℕ) → nat_eq n 1 ≡ true → n ≡ 1
@@ -207,14 +191,6 @@ one_is n h = grind (arith, common_steps)
 -- ---- where the parent of a block stands
 
 module _ {T : Type 0} where
-  -- what isn't there has no place
-  off_place : (nodes : List (List ℕ × Node T)) (id : List ℕ) → has_block (blocks_of nodes) id ≡ false → position (λ e. bytes_eq e.0 id) nodes ≡ None
-  off_place nodes id off = none (position (λ e. bytes_eq e.0 id) nodes) (place_there nodes id ∙ off)
-    where
-      none : (o : Option ℕ) → is_some o ≡ false → o ≡ None
-      none None h = refl
-      none (Some i) h = absurd cc
-
   one_seen : (x e : List ℕ × Node T) (o : Option (List ℕ × Node T)) → o ≡ Some x → o ≡ Some e → x ≡ e
   one_seen x e o h at = let both : Some x ≡ Some e = sym h ∙ at in cc
 

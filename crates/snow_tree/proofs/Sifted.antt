@@ -8,7 +8,7 @@ use Rattle.snow_plain.proofs.Cases.{split_on, same_id}
 use Rattle.snow_tree.proofs.Numbered.{of_key}
 
 -- the element at a place
-at_place : {X : Type 0} (xs : List X) (i : ℕ) → i < length xs → (x : X) × (get_or xs i x ≡ x) × (slice_get xs i ≡ Some x)
+pub at_place : {X : Type 0} (xs : List X) (i : ℕ) → i < length xs → (x : X) × (get_or xs i x ≡ x) × (slice_get xs i ≡ Some x)
 at_place [] i h = absurd (omega arith)
 at_place (x ∷ xs) zero h = (x, refl, refl)
 at_place (x ∷ xs) (suc i) h = at_place xs i (omega arith)

@@ -1,19 +1,32 @@
 ghost use Rattle.std.specs.Prelude.{◌≡◌, ℕ, ◌+◌, ◌<◌, ◌≤◌, List, ◌∷◌, ◌++◌, [], true, false, All, drop, filter, length, map, reverse, slice_get, bytes_eq, Some, vec_len, vec_capacity, if◌then◌else◌};
+ghost use Rattle.std.specs.List.{position};
 ghost use Rattle.std.specs.Map.{lookup, values_of};
-ghost use Rattle.std.specs.Option.{option_map};
+ghost use Rattle.std.specs.Option.{option_map, option_map_or};
 ghost use Rattle.snow_plain.specs.Grown.{IsGrown};
 ghost use Rattle.snow_tree.specs.declared.node.Node.{Node};
 ghost use Rattle.snow_tree.specs.Held.{children_of};
-ghost use Rattle.snow_tree.specs.Nodes.{blocks_of, is_out, judged, stays_by_note, left, outsiders};
+ghost use Rattle.snow_tree.specs.Nodes.{block_of, blocks_of, edges_of, place_before, ArePlaced, unplaced, is_out, judged, stays_by_note, left, outsiders};
 ghost use Rattle.snow_tree.specs.Row.{set_value_at};
 
-use crate::looking::block_at;
+use crate::looking::{back_to, block_at, parent_of};
 use crate::node::{Node, Nodes};
 use snow_base::{Header, Id};
 
-// Whether a block is rejected when a child is accepted, where that is noted of those issued before it:
-// its parent is the last accepted block or is rejected, and it isn't the child.
-fn is_out<T>(nodes: &Nodes<T>, last: &Id, child: &Id, block: &Header) -> bool
+// Whether it is noted of the node at a place that it is rejected.
+fn is_noted<T>(nodes: &Nodes<T>, place: usize) -> bool
+    ensures { result ≡ option_map_or (λ e. e.1.is_rejected) (slice_get nodes.now.entries place) false }
+{
+    match nodes.get_index(place) {
+        Some((_, node)) => node.is_rejected,
+        None => false,
+    }
+}
+
+// Whether the block at a place is rejected when a child is accepted, where that is noted of those issued
+// before it: its parent is the last accepted block or is rejected, and it isn't the child.
+fn is_out<T>(nodes: &Nodes<T>, last: &Id, child: &Id, place: usize, block: &Header) -> bool
+    requires placed { ArePlaced (edges_of nodes.now.entries) }
+    requires there { option_map block_of (slice_get nodes.now.entries place) ≡ Some block.now }
     ensures { result ≡ is_out nodes.now.entries last.now child.now block.now }
 {
     if block.id == *child {
@@ -22,8 +35,8 @@ fn is_out<T>(nodes: &Nodes<T>, last: &Id, child: &Id, block: &Header) -> bool
     if *last == block.parent {
         return true;
     }
-    match nodes.get(&block.parent) {
-        Some(parent) => parent.is_rejected,
+    match parent_of(nodes, place) {
+        Some(at) => is_noted(nodes, at),
         None => false,
     }
 }
@@ -54,6 +67,7 @@ fn tell(rejected: &mut Vec<Id>, is_rejected: bool, id: &Id)
 // are, in order of issue.
 fn judge_all<T>(nodes: &mut Nodes<T>, last: &Id, child: &Id, rejected: &mut Vec<Id>)
     requires grown { IsGrown last.now (reverse (blocks_of nodes.old.entries)) }
+    requires placed { ArePlaced (edges_of nodes.old.entries) }
     requires room { vec_len rejected.old + length nodes.old.entries ≤ vec_capacity rejected.old }
     ensures nodes { nodes.new.entries ≡ map (judged (blocks_of nodes.old.entries) child.now) nodes.old.entries }
     ensures told { rejected.new.items ≡ rejected.old.items ++ outsiders nodes.old.entries child.now }
@@ -62,7 +76,7 @@ fn judge_all<T>(nodes: &mut Nodes<T>, last: &Id, child: &Id, rejected: &mut Vec<
     for place in 0..nodes.len() {
         match block_at(nodes, place) {
             Some(block) => {
-                let is_rejected = is_out(nodes, last, child, &block);
+                let is_rejected = is_out(nodes, last, child, place, &block);
                 note(nodes, place, is_rejected);
                 tell(rejected, is_rejected, &block.id);
             }
@@ -116,6 +130,40 @@ fn sweep<T: Drop>(nodes: &mut Nodes<T>, child: &Id) -> Option<Node<T>>
     taken
 }
 
+// How far before the node at a place its parent stands; 0 where that isn't pending.
+fn back_of<T>(nodes: &Nodes<T>, last: &Id, place: usize) -> usize
+    requires { IsGrown last.now (reverse (blocks_of nodes.now.entries)) }
+    ensures { (e : List ℕ × Node T) → slice_get nodes.now.entries place ≡ Some e → position (λ x. bytes_eq x.0 e.1.parent) nodes.now.entries ≡ place_before place result }
+{
+    match nodes.get_index(place) {
+        Some((_, node)) => back_to(nodes, last, place, &node.parent),
+        None => 0,
+    }
+}
+
+// Notes how far before the node at a place its parent stands.
+fn set_back<T>(nodes: &mut Nodes<T>, place: usize, back: usize)
+    requires { place < length nodes.old.entries }
+    ensures { (n : Node T) → slice_get (values_of nodes.old.entries) place ≡ Some n → nodes.new.entries ≡ set_value_at nodes.old.entries place (record n { back = back }) }
+{
+    match nodes.get_index_mut(place) {
+        Some(node) => node.back = back,
+        None => (),
+    }
+}
+
+// Notes anew how far before each node its parent stands, since blocks between the two may have left.
+fn place_all<T>(nodes: &mut Nodes<T>, last: &Id)
+    requires { IsGrown last.now (reverse (blocks_of nodes.old.entries)) }
+    ensures same { map unplaced nodes.new.entries ≡ map unplaced nodes.old.entries }
+    ensures placed { ArePlaced (edges_of nodes.new.entries) }
+{
+    for place in 0..nodes.len() {
+        let back = back_of(nodes, last, place);
+        set_back(nodes, place, back);
+    }
+}
+
 // Takes the first node out.
 fn first_node<T>(nodes: &mut Nodes<T>) -> Option<Node<T>>
     ensures node { result ≡ option_map (λ e. e.1) (slice_get nodes.old.entries 0) }
@@ -128,8 +176,8 @@ fn first_node<T>(nodes: &mut Nodes<T>) -> Option<Node<T>>
 }
 
 /// Takes the child out that is accepted, and all that don't descend from it. These are told in order
-/// of issue. Where it is the only child it was issued first, and no other block is touched. It takes no
-/// memory.
+/// of issue. Where it is the only child it was issued first, and no other block is touched: a child of it
+/// stood so far back that this leads beyond the first place now. It takes no memory.
 pub(crate) fn take_accepted<T: Drop>(
     nodes: &mut Nodes<T>,
     last: &Id,
@@ -138,11 +186,13 @@ pub(crate) fn take_accepted<T: Drop>(
     rejected: &mut Vec<Id>,
 ) -> Option<Node<T>>
     requires grown { IsGrown last.now (reverse (blocks_of nodes.old.entries)) }
+    requires placed { ArePlaced (edges_of nodes.old.entries) }
     requires clear { All (λ e. e.1.is_rejected ≡ false) nodes.old.entries }
     requires alone { is_alone ≡ true → children_of (blocks_of nodes.old.entries) last.now ≡ child.now ∷ [] }
     requires room { vec_len rejected.old + length nodes.old.entries ≤ vec_capacity rejected.old }
     ensures node { result ≡ lookup (bytes_eq child.now) nodes.old.entries }
-    ensures left { nodes.new.entries ≡ left nodes.old.entries child.now }
+    ensures left { map unplaced nodes.new.entries ≡ map unplaced (left nodes.old.entries child.now) }
+    ensures placed { ArePlaced (edges_of nodes.new.entries) }
     ensures told { rejected.new.items ≡ rejected.old.items ++ outsiders nodes.old.entries child.now }
     ensures room { vec_capacity rejected.new ≡ vec_capacity rejected.old }
 {
@@ -151,5 +201,7 @@ pub(crate) fn take_accepted<T: Drop>(
         return first_node(nodes);
     }
     judge_all(nodes, last, child, rejected);
-    sweep(nodes, child)
+    let node = sweep(nodes, child);
+    place_all(nodes, child);
+    node
 }

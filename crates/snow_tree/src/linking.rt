@@ -1,11 +1,13 @@
-ghost use Rattle.std.specs.Prelude.{◌≡◌, ◌+◌, ◌-◌, ◌<◌, ◌≤◌, ◌∷◌, ◌++◌, [], false, None, bytes_eq, vec_capacity, length, take, map, slice_get, Some, OnOk, OnErr};
+ghost use Rattle.std.specs.Prelude.{◌≡◌, ◌+◌, ◌-◌, ◌<◌, ◌≤◌, ◌∷◌, ◌++◌, [], false, bytes_eq, vec_capacity, length, take, map, slice_get, Some, OnOk, OnErr};
+ghost use Rattle.std.specs.List.{position};
 ghost use Rattle.std.specs.Map.{values_of};
 ghost use Rattle.snow_plain.specs.Grown.{has_block};
 ghost use Rattle.snow_tree.specs.declared.node.Node.{Node};
-ghost use Rattle.snow_tree.specs.Nodes.{blocks_of, linked, unlinked, with_children};
+ghost use Rattle.snow_tree.specs.Nodes.{blocks_of, linked, unlinked, with_children, place_before};
 ghost use Rattle.snow_tree.specs.Row.{set_value_at};
 
 use crate::children::Children;
+use crate::looking::place_before;
 use crate::node::Nodes;
 use snow_base::{Header, Id};
 use std::alloc::AllocError;
@@ -23,8 +25,8 @@ fn link_at<T>(nodes: &mut Nodes<T>, at: usize, id: Id) -> Result<(), AllocError>
     }
 }
 
-// A block was issued: it is the last child of its parent, of which there is a guess how far back it stands.
-// After want of memory all is as before.
+// A block was issued: it is the last child of its parent, which stands so far back. After want of memory
+// all is as before.
 fn link<T>(
     first: &mut Children,
     nodes: &mut Nodes<T>,
@@ -32,7 +34,8 @@ fn link<T>(
     block: &Header,
     back: usize,
 ) -> Result<(), AllocError>
-    requires { has_block (blocks_of nodes.old.entries) last.now ≡ false }
+    requires off { has_block (blocks_of nodes.old.entries) last.now ≡ false }
+    requires exact { position (λ e. bytes_eq e.0 (block.now).parent) nodes.old.entries ≡ place_before (length nodes.old.entries) back }
     ensures first { OnOk result (first.new ≡ linked block.now last.now first.old) }
     ensures nodes { OnOk result (nodes.new.entries ≡ map (with_children (linked block.now)) nodes.old.entries) }
     ensures first_stay { OnErr result (first.new ≡ first.old) }
@@ -42,8 +45,7 @@ fn link<T>(
     if *last == block.parent {
         return first.push(block.id);
     }
-    let guess = nodes.len().wrapping_sub(back);
-    match nodes.find(guess, &block.parent) {
+    match place_before(nodes.len(), back) {
         Some(at) => link_at(nodes, at, block.id),
         None => Ok(()),
     }
@@ -76,8 +78,8 @@ pub(crate) fn unlink<T>(first: &mut Children, nodes: &mut Nodes<T>, last: &Id, p
     }
 }
 
-/// Room for one more block, with the block among its parent's children. After want of memory all is as
-/// before.
+/// Room for one more block, with the block among the children of its parent, which stands so far back.
+/// After want of memory all is as before.
 pub(crate) fn make_room<T>(
     first: &mut Children,
     nodes: &mut Nodes<T>,
@@ -86,7 +88,8 @@ pub(crate) fn make_room<T>(
     block: &Header,
     back: usize,
 ) -> Result<(), AllocError>
-    requires { has_block (blocks_of nodes.old.entries) last.now ≡ false }
+    requires off { has_block (blocks_of nodes.old.entries) last.now ≡ false }
+    requires exact { position (λ e. bytes_eq e.0 (block.now).parent) nodes.old.entries ≡ place_before (length nodes.old.entries) back }
     ensures first { OnOk result (first.new ≡ linked block.now last.now first.old) }
     ensures nodes { OnOk result (nodes.new.entries ≡ map (with_children (linked block.now)) nodes.old.entries) }
     ensures room { OnOk result ((0 < nodes.new.spare) × (length nodes.old.entries + 1 ≤ vec_capacity rejected.new)) }

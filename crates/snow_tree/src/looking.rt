@@ -1,10 +1,10 @@
-ghost use Rattle.std.specs.Prelude.{◌≡◌, ◌<◌, ℕ, List, false, Some, reverse, length, slice_get, bytes_eq};
+ghost use Rattle.std.specs.Prelude.{◌≡◌, ◌<◌, ℕ, List, false, Some, reverse, slice_get, bytes_eq};
 ghost use Rattle.std.specs.List.{position};
 ghost use Rattle.std.specs.Option.{option_map};
 ghost use Rattle.snow_base.specs.Ancestry.{child_on};
 ghost use Rattle.snow_plain.specs.Grown.{IsGrown, has_block};
 ghost use Rattle.snow_tree.specs.declared.node.Node.{Node};
-ghost use Rattle.snow_tree.specs.Nodes.{block_of, blocks_of};
+ghost use Rattle.snow_tree.specs.Nodes.{block_of, blocks_of, edges_of, place_before, ArePlaced};
 
 use crate::node::Nodes;
 use snow_base::{Header, Id};
@@ -16,47 +16,38 @@ pub(crate) fn place_of<T>(nodes: &Nodes<T>, id: &Id) -> Option<usize>
     nodes.get_index_of(id)
 }
 
-/// How far before the next block to be issued its parent stands; 0 where that isn't pending. It is a guess
-/// where the parent stands later on.
-pub(crate) fn back_to<T>(nodes: &Nodes<T>, last: &Id, parent: &Id) -> usize {
+/// How far before a place a parent stands; 0 where it isn't pending.
+pub(crate) fn back_to<T>(nodes: &Nodes<T>, last: &Id, place: usize, parent: &Id) -> usize
+    requires off { has_block (blocks_of nodes.now.entries) last.now ≡ false }
+    requires earlier { (at : ℕ) → position (λ e. bytes_eq e.0 parent.now) nodes.now.entries ≡ Some at → at < place }
+    ensures { position (λ e. bytes_eq e.0 parent.now) nodes.now.entries ≡ place_before place result }
+{
     if *last == *parent {
         return 0;
     }
     match place_of(nodes, parent) {
-        Some(at) => nodes.len().wrapping_sub(at),
+        Some(at) => place - at,
         None => 0,
     }
 }
 
-// Where a parent stands, by a guess how far before a place. Where that is right neither the map is asked
-// nor whether the parent is the last accepted block.
-fn place_before<T>(
-    nodes: &Nodes<T>,
-    last: &Id,
-    place: usize,
-    back: usize,
-    parent: &Id,
-) -> Option<usize>
-    requires { has_block (blocks_of nodes.now.entries) last.now ≡ false }
-    ensures { result ≡ position (λ e. bytes_eq e.0 parent.now) nodes.now.entries }
+/// The place so far before another; none at no distance, nor beyond the first.
+pub(crate) fn place_before(place: usize, back: usize) -> Option<usize>
+    ensures { result ≡ place_before place back }
 {
-    let guess = place.wrapping_sub(back);
-    if back > 0 && nodes.is_at(guess, parent) {
-        return Some(guess);
-    }
-    if *last == *parent {
+    if back == 0 || place < back {
         return None;
     }
-    place_of(nodes, parent)
+    Some(place - back)
 }
 
 /// Where the parent of the block at a place stands.
-pub(crate) fn parent_of<T>(nodes: &Nodes<T>, last: &Id, place: usize) -> Option<usize>
-    requires { has_block (blocks_of nodes.now.entries) last.now ≡ false }
+pub(crate) fn parent_of<T>(nodes: &Nodes<T>, place: usize) -> Option<usize>
+    requires { ArePlaced (edges_of nodes.now.entries) }
     ensures { (e : List ℕ × Node T) → slice_get nodes.now.entries place ≡ Some e → result ≡ position (λ x. bytes_eq x.0 e.1.parent) nodes.now.entries }
 {
     match nodes.get_index(place) {
-        Some((_, node)) => place_before(nodes, last, place, node.back, &node.parent),
+        Some((_, node)) => place_before(place, node.back),
         None => None,
     }
 }
@@ -77,7 +68,8 @@ pub(crate) fn block_at<T>(nodes: &Nodes<T>, place: usize) -> Option<Header>
 
 /// The child of the last accepted block on the line of a block.
 pub(crate) fn ancestor<T>(nodes: &Nodes<T>, last: &Id, id: &Id) -> Option<Id>
-    requires { IsGrown last.now (reverse (blocks_of nodes.now.entries)) }
+    requires grown { IsGrown last.now (reverse (blocks_of nodes.now.entries)) }
+    requires placed { ArePlaced (edges_of nodes.now.entries) }
     ensures { result ≡ option_map (λ b. b.id) (child_on (blocks_of nodes.now.entries) last.now id.now) }
 {
     let mut place = place_of(nodes, id);
@@ -86,7 +78,7 @@ pub(crate) fn ancestor<T>(nodes: &Nodes<T>, last: &Id, id: &Id) -> Option<Id>
         if block.parent == *last {
             return Some(block.id);
         }
-        place = place_of(nodes, &block.parent);
+        place = parent_of(nodes, at);
     }
     None
 }

@@ -7,8 +7,7 @@ use snow_base::Id;
 pub(crate) struct Node<T> {
     pub(crate) parent: Id,
     pub(crate) height: u64,
-    // How far before it its parent stood when it was issued, a guess where that stands; 0 where it wasn't
-    // pending.
+    // How far before it its parent stands. Where that isn't pending it is 0, or leads beyond the first place.
     pub(crate) back: usize,
     pub(crate) children: Children,
     // What an acceptance notes of it while it goes on. Nothing reads it else.

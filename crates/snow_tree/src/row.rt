@@ -72,8 +72,8 @@ impl<V> Row<V> {
         }
     }
 
-    /// Whether an identifier stands at a place.
-    pub(crate) fn is_at(&self, place: usize, id: &Id) -> bool
+    // Whether an identifier stands at a place.
+    fn is_at(&self, place: usize, id: &Id) -> bool
         ensures { result ≡ true → position (bytes_eq id.now) (keys_of self.now.entries) ≡ Some place }
     {
         let _len = self.len();
@@ -83,8 +83,8 @@ impl<V> Row<V> {
         }
     }
 
-    /// The place of an identifier. The map isn't asked where the guess is right.
-    pub(crate) fn find(&self, guess: usize, id: &Id) -> Option<usize>
+    // The place of an identifier. The map isn't asked where the guess is right.
+    fn find(&self, guess: usize, id: &Id) -> Option<usize>
         ensures index { result ≡ position (bytes_eq id.now) (keys_of self.now.entries) }
         ensures unique { IsDistinct bytes_eq (keys_of self.now.entries) }
     {

@@ -82,7 +82,7 @@ impl<T: Drop> Tree<T> {
         ensures load { IfErr result (λ full. full.load ≡ load) }
     {
         let block = Header { id, parent, height };
-        let back = back_to(&self.nodes, &self.last, &parent);
+        let back = back_to(&self.nodes, &self.last, self.nodes.len(), &parent);
         let room = make_room(
             &mut self.children,
             &mut self.nodes,
@@ -184,12 +184,12 @@ impl<T: Drop> Tree<T> {
         place_of(&self.nodes, id)
     }
 
-    /// Where the parent of the block at a place stands, and nothing where that isn't pending. It asks the
-    /// map of identifiers only where blocks between the two have gone.
+    /// Where the parent of the block at a place stands, and nothing where that isn't pending. It compares
+    /// no identifiers: each block notes how far before it its parent stands.
     pub fn parent_place(&self, place: usize) -> Option<usize>
         ensures { IfSome (slice_get (self.now).pending place) (λ e. result ≡ place_in (self.now).pending e.block.parent) }
     {
-        parent_of(&self.nodes, &self.last, place)
+        parent_of(&self.nodes, place)
     }
 
     /// The children of a block in order of issue; none where it isn't on the board or has none.
@@ -237,8 +237,8 @@ impl<T: Drop> Tree<T> {
 
     /// A child of the last accepted block becomes the last accepted one, and its load is the answer.
     /// All that don't descend from it go, with their loads. It takes no memory. Where the child is the
-    /// only one it is one look-up, whatever is pending; where others leave, a pass over the pending
-    /// blocks, with look-ups for each.
+    /// only one it is one look-up, whatever is pending; where others leave, two passes over the pending
+    /// blocks and one over those that stay, with look-ups for each.
     pub fn promote(&mut self, child: &Id) -> T
         requires child { option_map (λ e. e.block.parent) (entry_in (self.old).pending child.now) ≡ Some (self.old).last }
         ensures load { IfSome (entry_in (self.old).pending child.now) (λ e. result ≡ e.load) }

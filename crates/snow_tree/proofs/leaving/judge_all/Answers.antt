@@ -1,9 +1,18 @@
-use Rattle.std.proofs.Common.{◌<◌, ◌++◌, ◌∷◌, [], if◌then◌else◌, length, map, filter, not, take, vec_capacity, sym, ap, ◌∙◌, arith, append_assoc, length-append, take_all}
+use Rattle.std.proofs.Common.{◌<◌, ◌++◌, ◌∷◌, [], if◌then◌else◌, length, map, filter, not, take, vec_capacity, refl, sym, ap, subst, ◌∙◌, arith, append_assoc, length-append, take_all}
 use Rattle.snow_base.specs.Ancestry.{descends}
-use Rattle.snow_tree.specs.Nodes.{blocks_of, judged}
+use Rattle.snow_tree.specs.Nodes.{blocks_of, ArePlaced, edge_of, edges_of, judged}
+use Rattle.snow_tree.proofs.Edges.{read_front}
 use Rattle.snow_tree.proofs.Noted.{judge_step, block_there, few_told}
 use Rattle.snow_tree.proofs.leaving.judge_all.Goals as goal
 use Rattle.snow_tree.proofs.leaving.judge_all.Goals.{in-Some, in-None}
+
+pub is_out-is_rejected-requires-clause-placed : goal.is_out-is_rejected-requires-clause-placed
+is_out-is_rejected-requires-clause-placed g c =
+    let all = c.args.nodes.now.entries in
+    subst ArePlaced (sym (ap edges_of c.loop-place.invariant.nodes ∙ read_front edge_of (judged (blocks_of all) c.args.child.now) (λ e. refl) all c.loop-place.place)) c.requires.placed
+
+pub is_out-is_rejected-requires-clause-there : goal.is_out-is_rejected-requires-clause-there
+is_out-is_rejected-requires-clause-there g c = sym c.block_at.ensures ∙ c.in-Some.is
 
 pub tell-requires : goal.tell-requires
 tell-requires g c =

@@ -1,7 +1,8 @@
 use Rattle.std.proofs.Common.{is_some, sym, ap, ◌∙◌}
 use Rattle.snow_plain.specs.Grown.{has_block}
 use Rattle.snow_tree.proofs.Left.{same_blocks}
-use Rattle.snow_tree.proofs.Seen.{place_seen, place_there}
+use Rattle.snow_tree.proofs.Placed.{place_there}
+use Rattle.snow_tree.proofs.Seen.{place_seen}
 use Rattle.snow_tree.proofs.tree.Tree.place_of.Goals as goal
 
 pub returns : goal.returns

@@ -1,6 +1,7 @@
 use Rattle.std.proofs.Common.{◌≡◌, ◌++◌, Some, IfSome, length, map, refl, sym, ap, subst, ◌∙◌}
 use Rattle.snow_tree.specs.Held.{Held, promoted}
-use Rattle.snow_tree.specs.Nodes.{entry_of, outsiders}
+use Rattle.snow_tree.specs.Nodes.{entry_of, left, outsiders}
+use Rattle.snow_tree.proofs.Anew.{same_read}
 use Rattle.snow_tree.proofs.Left.{kept_accepted, left_seen, outsiders_seen, found_seen}
 use Rattle.snow_tree.proofs.Seen.{found_back, only_child, one_is}
 use Rattle.snow_tree.proofs.tree.Tree.promote.Goals as goal
@@ -27,8 +28,9 @@ invariant_of-self g c =
     let n = c.unwrap-node.result in
     let same : Some n ≡ Some found.0 = sym c.unwrap-node.ensures ∙ c.take_accepted-node.ensures.node ∙ found.1 in
     let is : found.0 ≡ n = cc in
-    rw (c.take_accepted-node.ensures.left, c.take_accepted-node.ensures.room, c.clear.ensures.capacity)
-    (kept_accepted c.self.inside.last child c.self.inside.children nodes _ n c.self.invariant (found.1 ∙ ap Some is) (ap (λ m. m.parent) (sym is) ∙ found.2))
+    rw (c.take_accepted-node.ensures.room, c.clear.ensures.capacity)
+    (kept_accepted c.self.inside.last child c.self.inside.children nodes c.take_accepted-node.new.nodes.entries _ n c.self.invariant (found.1 ∙ ap Some is)
+    (ap (λ m. m.parent) (sym is) ∙ found.2) c.take_accepted-node.ensures.left c.take_accepted-node.ensures.placed)
 
 pub returns-clause-load : goal.returns-clause-load
 returns-clause-load g c =
@@ -43,7 +45,7 @@ returns-clause-tree g c =
     let child = c.args.child.now in
     let n = c.unwrap-node.result in
     let found = found_seen nodes child n (sym c.take_accepted-node.ensures.node ∙ c.unwrap-node.ensures) in
-    let stay = ap (map entry_of) c.take_accepted-node.ensures.left ∙ left_seen nodes child in
+    let stay = same_read entry_of (λ e. refl) c.take_accepted-node.new.nodes.entries (left nodes child) c.take_accepted-node.ensures.left ∙ left_seen nodes child in
     let gone = c.take_accepted-node.ensures.told ∙ ap (λ l. l ++ outsiders nodes child) c.clear.ensures.items ∙ outsiders_seen nodes child in
     let before : Held g.row.T.Denot = record {
       last = c.self.inside.last;
