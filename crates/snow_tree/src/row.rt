@@ -100,6 +100,10 @@ impl<V> Row<V> {
         ensures index { result ≡ position (bytes_eq id.now) (keys_of self.now.entries) }
         ensures unique { IsDistinct bytes_eq (keys_of self.now.entries) }
     {
+        // Often nothing stands in the row.
+        if self.entries.is_empty() {
+            return None;
+        }
         self.find(self.hints.place_of(id, self.first), id)
     }
 
