@@ -5,7 +5,7 @@ ghost use Rattle.snow_base.specs.Votes.{total_count};
 ghost use Rattle.snow_flake.specs.Parameters.{Parameters};
 ghost use Rattle.snow_topo.specs.Climbing.{begun};
 ghost use Rattle.snow_topo.specs.Ladder.{KeepsRoom, IsReady};
-ghost use Rattle.snow_topo.specs.Starting.{share, votes_by, ids_by, HaveStarted, HaveBegun, IsLoaded};
+ghost use Rattle.snow_topo.specs.Starting.{share, votes_by, ids_by, HaveStarted, HaveGone, HaveBegun, IsLoaded, TakesMore};
 
 use crate::climber::go_on;
 use crate::ladder::Ladder;
@@ -128,39 +128,49 @@ fn seat_each<R: Rule>(tree: &Tree<Load<R>>, ladder: &mut Ladder, waiting: &mut [
     requires seats { 0 < length waiting.old }
     requires empty { (test : List ℕ → Bool) → votes_by test waiting.old ≡ 0 }
     requires nobody { total_count waiting.old ≡ 0 }
-    requires room { (ladder.old).put + length ids.now ≤ (ladder.old).most }
-    requires few { length ids.now < 2 ^ 32 }
-    requires low { length (tree.now).pending < (ladder.old).low }
-    ensures started { (counted : (List ℕ → Bool) → ℕ) → HaveStarted (tree.now).pending (λ test. 0) counted (ladder.old).climbers
-        → HaveStarted (tree.now).pending (λ test. 0) (λ test. ids_by test ids.now + counted test) (ladder.new).climbers }
-    ensures put { (ladder.new).put ≤ (ladder.old).put + length ids.now }
-    ensures low { (ladder.new).low ≡ (ladder.old).low }
-    ensures room { KeepsRoom ladder.old ladder.new }
+    requires more { TakesMore (length (tree.now).pending) (length ids.now) ladder.old }
+    ensures { HaveGone (tree.now).pending ids.now ladder.old ladder.new }
 {
     count_each(tree, ladder, waiting, ids);
     let_all_go(tree, ladder, waiting);
 }
 
-// The same, where most of the votes for one block go on as one. Many votes have more seats, and where
-// there is none no seat is made ready.
-fn let_each_go<R: Rule>(tree: &Tree<Load<R>>, ladder: &mut Ladder, ids: &[Id])
-    requires room { (ladder.old).put + length ids.now ≤ (ladder.old).most }
-    requires few { length ids.now < 2 ^ 32 }
-    requires low { length (tree.now).pending < (ladder.old).low }
-    ensures started { (counted : (List ℕ → Bool) → ℕ) → HaveStarted (tree.now).pending (λ test. 0) counted (ladder.old).climbers
-        → HaveStarted (tree.now).pending (λ test. 0) (λ test. ids_by test ids.now + counted test) (ladder.new).climbers }
-    ensures put { (ladder.new).put ≤ (ladder.old).put + length ids.now }
-    ensures low { (ladder.new).low ≡ (ladder.old).low }
-    ensures room { KeepsRoom ladder.old ladder.new }
+// The same at a few seats. These are made ready on a frame of their own, which other polls don't pay for.
+#[inline(never)]
+fn seat_few<R: Rule>(tree: &Tree<Load<R>>, ladder: &mut Ladder, ids: &[Id])
+    requires { TakesMore (length (tree.now).pending) (length ids.now) ladder.old }
+    ensures { HaveGone (tree.now).pending ids.now ladder.old ladder.new }
 {
     let nobody = Vote {
         id: Id::from_bytes([0; 32]),
         count: 0,
     };
+    seat_each(tree, ladder, &mut [nobody; 8], ids);
+}
+
+// The same at many.
+#[inline(never)]
+fn seat_many<R: Rule>(tree: &Tree<Load<R>>, ladder: &mut Ladder, ids: &[Id])
+    requires { TakesMore (length (tree.now).pending) (length ids.now) ladder.old }
+    ensures { HaveGone (tree.now).pending ids.now ladder.old ladder.new }
+{
+    let nobody = Vote {
+        id: Id::from_bytes([0; 32]),
+        count: 0,
+    };
+    seat_each(tree, ladder, &mut [nobody; 32], ids);
+}
+
+// The same, where most of the votes for one block go on as one. Many votes have more seats, and where
+// there is none no seat is made ready.
+fn let_each_go<R: Rule>(tree: &Tree<Load<R>>, ladder: &mut Ladder, ids: &[Id])
+    requires { TakesMore (length (tree.now).pending) (length ids.now) ladder.old }
+    ensures { HaveGone (tree.now).pending ids.now ladder.old ladder.new }
+{
     if ids.len() > 64 {
-        seat_each(tree, ladder, &mut [nobody; 32], ids);
+        seat_many(tree, ladder, ids);
     } else if !ids.is_empty() {
-        seat_each(tree, ladder, &mut [nobody; 8], ids);
+        seat_few(tree, ladder, ids);
     }
 }
 

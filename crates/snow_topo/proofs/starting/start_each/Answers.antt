@@ -8,6 +8,13 @@ use Rattle.snow_topo.proofs.starting.start_each.Given as given
 use Rattle.snow_topo.proofs.starting.start_each.Goals as goal
 use Rattle.snow_topo.proofs.starting.start_each.Goals.{After-let_each_go}
 
+pub let_each_go-requires : goal.let_each_go-requires
+let_each_go-requires g c = record {
+  put = omega (arith, c.requires.few, c.requires.ready.most, ap (λ (s : Rungs). s.put) c.begin.ensures, ap (λ (s : Rungs). s.most) c.begin.ensures);
+  small = c.requires.small;
+  low = omega (arith, c.requires.ready.rungs, ap (λ (s : Rungs). s.low) c.begin.ensures);
+}
+
 started : (g : given.Over) (c : After-let_each_go g) → HaveStarted c.args.tree.now.pending (λ test. 0) (λ test. votes_by test (one_each c.args.ids.now)) c.let_each_go.new.ladder.climbers
 started g c =
     let pending = c.args.tree.now.pending in
