@@ -1,31 +1,21 @@
 -- Lemmas on how a ladder is kept.
-use Rattle.std.proofs.Common.{◌≡◌, ℕ, zero, suc, ◌+◌, ◌-◌, ◌*◌, ◌/◌, ◌%◌, ◌^◌, ◌<◌, ◌≤◌, ◌==◌, ◌≢◌, true, false, nat_lt, List, [], ◌∷◌, ◌++◌, length, get_or, set, take, filter, All, IsPermutation, refl, sym, ap, subst, ◌∙◌, arith, append_assoc, length-append, if◌then◌else◌}
+use Rattle.std.proofs.Common.{◌≡◌, ℕ, zero, suc, ◌+◌, ◌-◌, ◌*◌, ◌/◌, ◌%◌, ◌^◌, ◌<◌, ◌≤◌, ◌==◌, ◌≢◌, true, false, nat_lt, List, [], ◌∷◌, ◌++◌, length, get_or, set, take, filter, All, IsPermutation, refl, sym, ap, subst, ◌∙◌, arith, length-append}
 use Rattle.std.specs.Int.{bit_at}
 use Rattle.std.proofs.Math.Nat.{pow-suc}
 use Rattle.std.proofs.Math.Seq.{get_or-append_seam, take-append_seam}
 use Rattle.std.proofs.lemmas.Grind.{common_steps}
 use Rattle.std.proofs.lemmas.List.{get_or_append_left, get_or-set_same, get_or-set_other, length-set, map-append, take_more, take_all}
-use Rattle.std.proofs.lemmas.List.Sums.{sum_by-append}
 use Rattle.std.proofs.lemmas.List.Elements.{All-cons, All-nil, All-head, All-tail, filter-append}
 use Rattle.std.proofs.lemmas.List.Sorted.{IsPermutation-refl, IsPermutation-cons, IsPermutation-trans, IsPermutation-to_front, length_permutation}
 use Rattle.std.proofs.lemmas.Nat.Bits.{bit_at-zero, bit_at_above}
 use Rattle.snow_plain.proofs.Cases.{split_on}
 use Rattle.snow_topo.specs.declared.climber.Climber.{Climber}
 use Rattle.snow_topo.specs.declared.ladder.Link.{Link}
-use Rattle.snow_topo.specs.Climbing.{climber_total}
-use Rattle.snow_topo.specs.Ladder.{under, up_from, no_link, climbers_of, latest, group, mark_at, AreLinked, IsHung}
+use Rattle.snow_topo.specs.Ladder.{under, up_from, no_link, climbers_of, latest, group, mark_at, IsHung}
+use Rattle.snow_topo.proofs.Chains.{same_nat, nat_same, nat_other, latest_none, latest_before, latest_more}
 use Rattle.snow_topo.proofs.Halfway.{halves}
 
--- numbers that are found equal, and those that aren't
-same_nat : (a b : ℕ) → (a == b) ≡ true → a ≡ b
-same_nat a b h = grind (arith, common_steps)
-
-nat_same : (a b : ℕ) → a ≡ b → (a == b) ≡ true
-nat_same a b h = grind (arith, common_steps)
-
-nat_other : (a b : ℕ) → (a ≡ b → ⊥) → (a == b) ≡ false
-nat_other a b h = grind (arith, common_steps)
-
+-- numbers one of which is found less
 is_less : (a b : ℕ) → nat_lt a b ≡ true → a < b
 is_less a b h = grind (arith, common_steps)
 
@@ -37,133 +27,6 @@ less_is a b h = grind (arith, common_steps)
 
 less_not : (a b : ℕ) → b ≤ a → nat_lt a b ≡ false
 less_not a b h = grind (arith, common_steps)
-
--- ---- who was put on a rung last
-
--- stands among those that are asked
-pub latest_within : (links : List Link) (n place : ℕ) → latest links n place ≤ n
-latest_within links zero place = omega arith
-latest_within links (suc n) place =
-    split_on ((get_or links n no_link).climber.place == place)
-    (λ t. rw t (omega arith))
-    (λ t. rw t (omega (arith, latest_within links n place)))
-
--- and looks for the place
-pub latest_looks : (links : List Link) (n place i : ℕ) → latest links n place ≡ suc i → ((get_or links i no_link).climber.place ≡ place) × (i < n)
-latest_looks links zero place i h = absurd (omega (arith, h))
-latest_looks links (suc n) place i h =
-    split_on ((get_or links n no_link).climber.place == place)
-    (λ t.
-    let m = rw t at h in
-    let same : n ≡ i = omega (arith, m) in
-    (subst (λ j. (get_or links j no_link).climber.place ≡ place) same (same_nat (get_or links n no_link).climber.place place t), omega (arith, same)))
-    (λ t.
-    let m = rw t at h in
-    let rest = latest_looks links n place i m in
-    (rest.0, omega (arith, rest.1)))
-
--- where none looks for the place there is none
-pub latest_none : (links : List Link) (n place : ℕ) → ((i : ℕ) → i < n → (get_or links i no_link).climber.place ≡ place → ⊥) → latest links n place ≡ 0
-latest_none links zero place none = refl
-latest_none links (suc n) place none =
-    rw (nat_other (get_or links n no_link).climber.place place (none n (omega arith))) (latest_none links n place (λ i h. none i (omega (arith, h))))
-
--- those that are put on later change nothing
-pub latest_before : (links : List Link) (l : Link) (n place : ℕ) → n ≤ length links → latest (links ++ l ∷ []) n place ≡ latest links n place
-latest_before links l zero place h = refl
-latest_before links l (suc n) place h =
-    let here = get_or_append_left links (l ∷ []) no_link n (omega (arith, h)) in
-    (λ j. if (here j).climber.place == place then suc n else latest (links ++ l ∷ []) n place)
-    ∙ ap (λ m. if (get_or links n no_link).climber.place == place then suc n else m) (latest_before links l n place (omega (arith, h)))
-
--- one more
-pub latest_more : (links : List Link) (l : Link) (place : ℕ) → latest (links ++ l ∷ []) (length (links ++ l ∷ [])) place ≡ (if l.climber.place == place then suc (length links) else latest links (length links) place)
-latest_more links l place =
-    let long : length (links ++ l ∷ []) ≡ suc (length links) = omega (arith, length-append links (l ∷ [])) in
-    ap (λ n. latest (links ++ l ∷ []) n place) long
-    ∙ (λ j. if (get_or-append_seam links l [] no_link j).climber.place == place then suc (length links) else latest (links ++ l ∷ []) (length links) place)
-    ∙ ap (λ m. if l.climber.place == place then suc (length links) else m) (latest_before links l (length links) place (omega arith))
-
--- ---- all that were put on a rung
-
--- are those up to the last one
-group_latest : (links : List Link) (n place : ℕ) → group links n place ≡ group links (latest links n place) place
-group_latest links zero place = refl
-group_latest links (suc n) place =
-    split_on ((get_or links n no_link).climber.place == place)
-    (λ t.
-    let own : group links (suc n) place ≡ (get_or links n no_link).climber ∷ group links n place = rw t refl in
-    let last : latest links (suc n) place ≡ suc n = rw t refl in
-    sym (ap (λ m. group links m place) last))
-    (λ t.
-    let own : group links (suc n) place ≡ group links n place = rw t refl in
-    let last : latest links (suc n) place ≡ latest links n place = rw t refl in
-    own ∙ group_latest links n place ∙ sym (ap (λ m. group links m place) last))
-
--- the last one, and then those before it
-group_next : (links : List Link) (n place i : ℕ) → latest links n place ≡ suc i → group links n place ≡ (get_or links i no_link).climber ∷ group links i place
-group_next links n place i h =
-    let looks = latest_looks links n place i h in
-    let own : group links (suc i) place ≡ (get_or links i no_link).climber ∷ group links i place = rw (nat_same (get_or links i no_link).climber.place place looks.0) refl in
-    group_latest links n place ∙ ap (λ m. group links m place) h ∙ own
-
--- those that were met on the way along a rung, with the number of the next
-pub record IsFollowed (links : List Link) (place number : ℕ) (came : List Climber) : Type 0 where
-  pub upto : ℕ
-  pub within : upto ≤ length links
-  pub next : number ≡ latest links upto place
-  pub all : came ++ group links upto place ≡ group links (length links) place
-
-pub followed_first : (links : List Link) (place head : ℕ) (came : List Climber) → came ≡ [] → head ≡ latest links (length links) place → IsFollowed links place head came
-followed_first links place head came none is = record {
-  upto = length links;
-  within = omega arith;
-  next = is;
-  all = ap (λ l. l ++ group links (length links) place) none;
-}
-
-pub followed_within : (links : List Link) (place number : ℕ) (came : List Climber) → IsFollowed links place number came → number ≤ length links
-followed_within links place number came so_far = omega (arith, so_far.next, so_far.within, latest_within links so_far.upto place)
-
--- the one of a number, and those before it
-here : (links : List Link) (place number : ℕ) (came : List Climber) → 0 < number → (so_far : IsFollowed links place number came)
-    → ((get_or links (number - 1) no_link).climber.place ≡ place) × (number - 1 < so_far.upto) × (group links so_far.upto place ≡ (get_or links (number - 1) no_link).climber ∷ group links (number - 1) place)
-here links place number came some so_far =
-    let is : latest links so_far.upto place ≡ suc (number - 1) = omega (arith, so_far.next, some) in
-    let looks = latest_looks links so_far.upto place (number - 1) is in
-    (looks.0, looks.1, group_next links so_far.upto place (number - 1) is)
-
-pub followed_room : (links : List Link) (place number : ℕ) (came : List Climber) → 0 < number → IsFollowed links place number came → length came < length (group links (length links) place)
-followed_room links place number came some so_far =
-    let at = here links place number came some so_far in
-    omega (arith, ap length so_far.all, length-append came (group links so_far.upto place), ap length at.2)
-
-pub followed_more : (links : List Link) (place number : ℕ) (came : List Climber) → AreLinked links → 0 < number → IsFollowed links place number came
-    → IsFollowed links place (get_or links (number - 1) no_link).next (came ++ (get_or links (number - 1) no_link).climber ∷ [])
-followed_more links place number came linked some so_far =
-    let at = here links place number came some so_far in
-    let inside : number - 1 < length links = omega (arith, at.1, so_far.within) in
-    let x = (get_or links (number - 1) no_link).climber in
-    record {
-      upto = number - 1;
-      within = omega (arith, inside);
-      next = linked (number - 1) inside ∙ ap (latest links (number - 1)) at.0;
-      all = append_assoc came (x ∷ []) (group links (number - 1) place) ∙ ap (λ l. came ++ l) (sym at.2) ∙ so_far.all;
-    }
-
-pub followed_falls : (links : List Link) (number : ℕ) → AreLinked links → 0 < number → number ≤ length links → (get_or links (number - 1) no_link).next < number
-followed_falls links number linked some within =
-    omega (arith, some, linked (number - 1) (omega (arith, some, within)), latest_within links (number - 1) (get_or links (number - 1) no_link).climber.place)
-
-pub followed_all : (links : List Link) (place number : ℕ) (came : List Climber) → number ≤ 0 → IsFollowed links place number came → came ≡ group links (length links) place
-followed_all links place number came none so_far =
-    let no_more : latest links so_far.upto place ≡ 0 = omega (arith, so_far.next, none) in
-    let empty : group links so_far.upto place ≡ [] = group_latest links so_far.upto place ∙ ap (λ m. group links m place) no_more in
-    sym (append_nil came) ∙ ap (λ l. came ++ l) (sym empty) ∙ so_far.all
-  where
-    append_nil : (xs : List Climber) → xs ++ [] ≡ xs
-    append_nil [] = refl
-    append_nil (x ∷ xs) = ap (λ l. x ∷ l) (append_nil xs)
 
 -- ---- what is seen of those that were put on
 
@@ -279,10 +142,6 @@ few_taken rung low links h all =
     few [] = omega arith
     few (c ∷ cs) = let rest = few cs in split_on (nat_lt c.place rung) (λ t. rw t (omega (arith, rest))) (λ t. rw t (omega (arith, rest)))
 
--- how many votes they are, with one more, as 32 bits hold it
-pub total_more : (cs : List Climber) (c : Climber) (n : ℕ) → n ≡ climber_total cs % 2 ^ 32 → (n + c.count) % 2 ^ 32 ≡ climber_total (cs ++ c ∷ []) % 2 ^ 32
-total_more cs c n is = omega (arith, is, sum_by-append (λ (x : Climber). x.count) cs (c ∷ []))
-
 -- ---- marks
 
 pub mark_here : (words : List ℕ) (rung word : ℕ) → rung / 64 < length words → bit_at word (rung % 64) ≡ 1 → mark_at (set words (rung / 64) word) rung ≡ 1
@@ -337,22 +196,23 @@ mark_none words count at none zeros rung within marked =
 -- ---- what is kept true
 
 -- nothing was put on
-pub none_hung : (heads words : List ℕ) (low high : ℕ) → ((rung : ℕ) → get_or heads rung 0 ≡ 0) → low ≤ length heads → length heads < 64 * length words → IsHung [] heads words low high
+pub none_hung : (heads words : List ℕ) (low high : ℕ) → ((rung : ℕ) → get_or heads rung 0 ≡ 0) → low ≤ length heads → length heads < 64 * length words → IsHung [] heads words low high 0
 none_hung heads words low high clear within covered = record {
   linked = λ i h. absurd (omega (arith, h));
   last = λ rung h. clear rung;
   clear = λ rung h. clear rung;
   marked = λ i h lower. absurd (omega (arith, h));
   highest = λ i h. absurd (omega (arith, h));
+  took = omega arith;
   within = within;
   covered = covered;
 }
 
 -- one more
-pub one_hung : (links : List Link) (heads words after : List ℕ) (low high most number : ℕ) (l : Link) → IsHung links heads words low high → high ≤ most → l.climber.place ≤ most → l.climber.place < low → l.next ≡ get_or heads l.climber.place 0
+pub one_hung : (links : List Link) (heads words after : List ℕ) (low high taken most number : ℕ) (l : Link) → IsHung links heads words low high taken → high ≤ most → l.climber.place ≤ most → l.climber.place < low → l.next ≡ get_or heads l.climber.place 0
     → number ≡ suc (length links) → mark_at after l.climber.place ≡ 1 → ((other : ℕ) → other ≢ l.climber.place → mark_at after other ≡ mark_at words other) → length after ≡ length words
-    → IsHung (links ++ l ∷ []) (set heads l.climber.place number) after low most
-one_hung links heads words after low high most number l hung raised own_place lower next is here others long =
+    → IsHung (links ++ l ∷ []) (set heads l.climber.place number) after low most taken
+one_hung links heads words after low high taken most number l hung raised own_place lower next is here others long =
     let place = l.climber.place in
     let size : length (links ++ l ∷ []) ≡ suc (length links) = omega (arith, length-append links (l ∷ [])) in
     let before : (i : ℕ) → i < length links → get_or (links ++ l ∷ []) i no_link ≡ get_or links i no_link = λ i h. get_or_append_left links (l ∷ []) no_link i h in
@@ -390,6 +250,7 @@ one_hung links heads words after low high most number l hung raised own_place lo
           (λ t. let same : length links ≡ i = omega (arith, t, h, size) in
           subst (λ j. (get_or (links ++ l ∷ []) j no_link).climber.place ≤ most) same
           (subst (λ (x : Link). x.climber.place ≤ most) (sym own) own_place));
+      took = omega (arith, hung.took, size);
       within = omega (arith, hung.within, length-set heads place number);
       covered = omega (arith, hung.covered, length-set heads place number, long);
     }
@@ -410,9 +271,9 @@ one_hung links heads words after low high most number l hung raised own_place lo
         (λ t. others q (other_nat q l.climber.place t) ∙ was)
 
 -- the highest rung empty
-pub rung_empty : (links : List Link) (heads words after : List ℕ) (low high rung : ℕ) → IsHung links heads words low high → rung < low → All (λ c. c.place ≤ rung) (under low (climbers_of links))
-    → ((other : ℕ) → other ≢ rung → mark_at after other ≡ mark_at words other) → length after ≡ length words → IsHung links (set heads rung 0) after rung high
-rung_empty links heads words after low high rung hung lower all others long =
+pub rung_empty : (links : List Link) (heads words after : List ℕ) (low high rung taken next : ℕ) → IsHung links heads words low high taken → rung < low → next ≤ length links → All (λ c. c.place ≤ rung) (under low (climbers_of links))
+    → ((other : ℕ) → other ≢ rung → mark_at after other ≡ mark_at words other) → length after ≡ length words → IsHung links (set heads rung 0) after rung high next
+rung_empty links heads words after low high rung taken next hung lower there all others long =
     let each = seen_each (λ c. c.place ≤ rung) low links all in
     record {
       linked = hung.linked;
@@ -428,6 +289,7 @@ rung_empty links heads words after low high rung hung lower all others long =
           (λ u. hung.clear r u));
       marked = λ i h low_enough. others (get_or links i no_link).climber.place (omega (arith, low_enough)) ∙ hung.marked i h (omega (arith, low_enough, lower));
       highest = hung.highest;
+      took = there;
       within = omega (arith, lower, hung.within, length-set heads rung 0);
       covered = omega (arith, hung.covered, length-set heads rung 0, long);
     }

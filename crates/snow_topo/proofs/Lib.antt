@@ -19,4 +19,5 @@ pub mod Advancing
 pub mod Climbers
 pub mod Begun
 pub mod Started
+pub mod Chains
 pub mod Hung

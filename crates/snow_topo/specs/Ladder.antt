@@ -10,12 +10,14 @@ pub record Rungs : Type 0 where
   pub climbers : List Climber
   -- those that were taken off last
   pub came : List Climber
+  -- those that were listed last
+  pub listed : List Climber
   -- nobody stands on this rung or a higher one
   pub low : ℕ
   -- how many were put on, and how many may be
   pub put : ℕ
   pub most : ℕ
-  -- how many may be taken off at once
+  -- how many may be listed
   pub wide : ℕ
   -- how many rungs there are
   pub rungs : ℕ
@@ -59,6 +61,11 @@ abbrev pub group : List Link → ℕ → ℕ → List Climber
 group links zero place = []
 group links (suc n) place = if (get_or links n no_link).climber.place == place then (get_or links n no_link).climber ∷ group links n place else group links n place
 
+-- all who were put on one rung up to one of them, the latest first; its number is one more than where it stands, and 0 for none
+abbrev pub chain : List Link → ℕ → List Climber
+chain links zero = []
+chain links (suc i) = group links (suc i) (get_or links i no_link).climber.place
+
 -- whether a rung is marked, by one bit for each: 1 or 0
 abbrev pub mark_at : List ℕ → ℕ → ℕ
 mark_at words rung = bit_at (get_or words (rung / 64) 0) (rung % 64)
@@ -67,12 +74,13 @@ mark_at words rung = bit_at (get_or words (rung / 64) 0) (rung % 64)
 abbrev pub AreLinked : List Link → Type 0
 AreLinked links = (i : ℕ) → i < length links → (get_or links i no_link).next ≡ latest links i (get_or links i no_link).climber.place
 
--- each rung below this one tells who was put on it last, and is marked if there is one; nobody was put on a higher one than the last of these
-pub record IsHung (links : List Link) (heads words : List ℕ) (low high : ℕ) : Type 0 where
+-- each rung below `low` tells who was put on it last, and is marked if there is one; nobody was put on a higher one than `high`
+pub record IsHung (links : List Link) (heads words : List ℕ) (low high taken : ℕ) : Type 0 where
   pub linked : AreLinked links
   pub last : (rung : ℕ) → rung < low → get_or heads rung 0 ≡ latest links (length links) rung
   pub clear : (rung : ℕ) → low ≤ rung → get_or heads rung 0 ≡ 0
   pub marked : (i : ℕ) → i < length links → (get_or links i no_link).climber.place < low → mark_at words (get_or links i no_link).climber.place ≡ 1
   pub highest : (i : ℕ) → i < length links → (get_or links i no_link).climber.place ≤ high
+  pub took : taken ≤ length links
   pub within : low ≤ length heads
   pub covered : length heads < 64 * length words

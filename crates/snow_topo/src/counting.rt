@@ -13,7 +13,6 @@ ghost use Rattle.snow_topo.specs.Ladder.{KeepsRoom};
 ghost use Rattle.snow_topo.specs.Leading.{IsSteady};
 ghost use Rattle.snow_topo.specs.Recording.{recording};
 
-use crate::climber::Climber;
 use crate::climbing::{climb, either};
 use crate::gathering::gather;
 use crate::ladder::Ladder;
@@ -24,35 +23,37 @@ use snow_flake::{Params, Rule};
 use snow_tree::Tree;
 use std::sync::ledger::Ledger;
 
-// What is kept of the last accepted block takes the next poll with the votes that came to it, so many in
-// all, where they are AlphaPreference; else it is left alone, and has failed by its number. The answer is whether it leads
-// elsewhere then.
+// What is kept of the last accepted block takes the next poll with the votes that were taken off the ladder
+// last, so many in all, where they are AlphaPreference; else it is left alone, and has failed by its number.
+// The answer is whether it leads elsewhere then.
 fn record_root<R: Rule, L: Ledger>(
     params: &Params,
     root: &mut Load<R>,
     tree: &Tree<Load<R>>,
     polls: u64,
-    came: &[Climber],
+    ladder: &mut Ladder,
     count: u32,
     children: &mut Bag,
     steps: &mut Steps<L>,
 ) -> bool
     requires room { polls + 1 < 2 ^ 64 }
-    requires count { count ≡ climber_total came.now }
-    requires places { length came.now ≤ children.old.room + length children.old.list }
-    requires placed { All (λ c. c.passed < length (tree.now).pending) came.now }
-    requires counts { All (λ c. 0 < c.count) came.now }
-    requires total { climber_total came.now ≤ params.now.k }
-    requires came { All (HasCome (blocks_in (tree.now).pending) (tree.now).last) (cursors_of (blocks_in (tree.now).pending) came.now) }
+    requires count { count ≡ climber_total (ladder.old).came }
+    requires wide { length (ladder.old).came ≤ (ladder.old).wide }
+    requires places { length (ladder.old).came ≤ children.old.room + length children.old.list }
+    requires placed { All (λ c. c.passed < length (tree.now).pending) (ladder.old).came }
+    requires counts { All (λ c. 0 < c.count) (ladder.old).came }
+    requires total { climber_total (ladder.old).came ≤ params.now.k }
+    requires came { All (HasCome (blocks_in (tree.now).pending) (tree.now).last) (cursors_of (blocks_in (tree.now).pending) (ladder.old).came) }
     requires fit { IsFit params.now polls (children_of (blocks_in (tree.now).pending) (tree.now).last) root.old }
-    ensures taken { HasTaken params.now polls (votes_at (cursors_of (blocks_in (tree.now).pending) came.now) (tree.now).last) root.old root.new }
+    ensures taken { HasTaken params.now polls (votes_at (cursors_of (blocks_in (tree.now).pending) (ladder.old).came) (tree.now).last) root.old root.new }
     ensures steady { IsSteady R.answer result root.old root.new }
-    ensures steps { steps.new ≤ steps.old + 5 * (if nat_le params.now.alpha_preference (climber_total came.now) then length (ids_in (root.old).contest) else 0) }
+    ensures steps { steps.new ≤ steps.old + 5 * (if nat_le params.now.alpha_preference (climber_total (ladder.old).came) then length (ids_in (root.old).contest) else 0) }
     ensures places { children.old.room + length children.old.list ≤ children.new.room + length children.new.list }
+    ensures ladder { ladder.new ≡ record (ladder.old) { listed = (ladder.new).listed } }
 {
     let _k = params.k();
     if has_quorum(params, count) {
-        gather(tree, came, children);
+        gather(tree, ladder, children);
         root.record(polls, children.entries(), steps)
     } else {
         false
@@ -92,7 +93,6 @@ pub(crate) fn count<R: Rule, L: Ledger>(
     let _last = tree.last();
     let moved = climb(params, tree, polls, ladder, children, steps);
     let votes = ladder.take(0);
-    let came = ladder.came();
-    let first = record_root(params, root, tree, polls, came, votes, children, steps);
+    let first = record_root(params, root, tree, polls, ladder, votes, children, steps);
     either(first, moved)
 }

@@ -6,13 +6,14 @@ ghost use Rattle.snow_tree.specs.Held.{blocks_in, children_of};
 ghost use Rattle.snow_topo.specs.Climbing.{climber_total, cursors_of, HasCome};
 
 use crate::climber::Climber;
+use crate::ladder::Ladder;
 use crate::load::Load;
 use snow_base::Bag;
 use snow_flake::Rule;
 use snow_tree::Tree;
 
-/// Votes that came to a parent, by its children. It takes no memory where the bag has places.
-pub(crate) fn gather<R: Rule>(tree: &Tree<Load<R>>, came: &[Climber], children: &mut Bag)
+// Votes that came to a parent, by its children.
+fn gather_all<R: Rule>(tree: &Tree<Load<R>>, came: &[Climber], children: &mut Bag)
     requires places { length came.now ≤ children.old.room + length children.old.list }
     requires placed { All (λ c. c.passed < length (tree.now).pending) came.now }
     requires counts { All (λ c. 0 < c.count) came.now }
@@ -28,4 +29,22 @@ pub(crate) fn gather<R: Rule>(tree: &Tree<Load<R>>, came: &[Climber], children: 
             let _ = children.add(child, climber.count);
         }
     }
+}
+
+/// The votes that were taken off a ladder last, and came to a parent, by its children. They are listed
+/// first. It takes no memory where the bag has places.
+pub(crate) fn gather<R: Rule>(tree: &Tree<Load<R>>, ladder: &mut Ladder, children: &mut Bag)
+    requires wide { length (ladder.old).came ≤ (ladder.old).wide }
+    requires places { length (ladder.old).came ≤ children.old.room + length children.old.list }
+    requires placed { All (λ c. c.passed < length (tree.now).pending) (ladder.old).came }
+    requires counts { All (λ c. 0 < c.count) (ladder.old).came }
+    requires total { climber_total (ladder.old).came < 2 ^ 32 }
+    ensures votes { (parent : List ℕ) → All (HasCome (blocks_in (tree.now).pending) parent) (cursors_of (blocks_in (tree.now).pending) (ladder.old).came) → votes_on children.new.list ≡ votes_at (cursors_of (blocks_in (tree.now).pending) (ladder.old).came) parent }
+    ensures among { (parent : List ℕ) → All (HasCome (blocks_in (tree.now).pending) parent) (cursors_of (blocks_in (tree.now).pending) (ladder.old).came) → All (λ v. Contains (children_of (blocks_in (tree.now).pending) parent) v.id) children.new.list }
+    ensures total { total_count children.new.list ≤ climber_total (ladder.old).came }
+    ensures places { children.old.room + length children.old.list ≤ children.new.room + length children.new.list }
+    ensures ladder { ladder.new ≡ record (ladder.old) { listed = (ladder.old).came } }
+{
+    ladder.list_came();
+    gather_all(tree, ladder.listed(), children);
 }

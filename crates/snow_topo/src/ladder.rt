@@ -1,6 +1,6 @@
 ghost use Rattle.std.specs.Prelude.{◌≡◌, ◌≢◌, ℕ, ◌+◌, ◌*◌, ◌/◌, ◌%◌, ◌^◌, ◌<◌, ◌≤◌, All, length, get_or, vec_len, vec_capacity, OnOk};
 ghost use Rattle.snow_topo.specs.Climbing.{climber_total};
-ghost use Rattle.snow_topo.specs.Ladder.{latest, group, mark_at, AreLinked};
+ghost use Rattle.snow_topo.specs.Ladder.{chain, mark_at, AreLinked};
 
 use crate::climber::Climber;
 use std::alloc::{AllocError, Global};
@@ -28,26 +28,30 @@ pub(crate) struct Ladder {
     low: usize,
     // Nobody was put on a higher rung.
     high: usize,
-    came: Vec<Climber>,
+    // Who was put last on the rung that was taken off last, as `next` of a link tells it.
+    taken: usize,
+    // Room to list those that were taken off.
+    listed: Vec<Climber>,
 }
 
 impl Model for Ladder {
     ghost use Rattle.std.specs.Prelude.{length, vec_capacity};
-    ghost use Rattle.snow_topo.specs.Ladder.{Rungs, climbers_of, under, IsHung};
+    ghost use Rattle.snow_topo.specs.Ladder.{Rungs, climbers_of, under, chain, IsHung};
 
     ghost Value = { Rungs };
 
     ghost view = { λ a. record {
       climbers = under a.low (climbers_of a.links.items);
-      came = a.came.items;
+      came = chain a.links.items a.taken;
+      listed = a.listed.items;
       low = a.low;
       put = length a.links.items;
       most = vec_capacity a.links;
-      wide = vec_capacity a.came;
+      wide = vec_capacity a.listed;
       rungs = length a.heads.items;
     } };
 
-    ghost invariant = { λ a. IsHung a.links.items a.heads.items a.words.items a.low a.high };
+    ghost invariant = { λ a. IsHung a.links.items a.heads.items a.words.items a.low a.high a.taken };
 }
 
 // The bit of a rung is set.
@@ -86,24 +90,37 @@ fn highest(words: &[u64], count: usize) -> usize
     0
 }
 
-// Those of a rung, whose last one this is, the latest first. The answer is how many votes they are.
-fn follow(links: &[Link], head: usize, came: &mut Vec<Climber>) -> u32
+// How many votes those are that were put on one rung, up to one of them.
+fn votes_from(links: &[Link], head: usize) -> u32
     requires linked { AreLinked links.now }
-    requires head { (place : ℕ) × (head ≡ latest links.now (length links.now) place) × (length (group links.now (length links.now) place) ≤ vec_capacity came.old) }
-    ensures came { (place : ℕ) → head ≡ latest links.now (length links.now) place → came.new.items ≡ group links.now (length links.now) place }
-    ensures total { result ≡ climber_total came.new.items % 2 ^ 32 }
-    ensures room { vec_capacity came.new ≡ vec_capacity came.old }
+    requires within { head ≤ length links.now }
+    ensures { result ≡ climber_total (chain links.now head) % 2 ^ 32 }
 {
-    came.clear();
     let mut count: u32 = 0;
     let mut number = head;
     while number > 0 {
         let link = links[number - 1];
-        came.push_reserved(link.climber);
         count = count.wrapping_add(link.climber.count);
         number = link.next;
     }
     count
+}
+
+// Lists them, the latest first.
+fn list_from(links: &[Link], head: usize, listed: &mut Vec<Climber>)
+    requires linked { AreLinked links.now }
+    requires within { head ≤ length links.now }
+    requires wide { length (chain links.now head) ≤ vec_capacity listed.old }
+    ensures all { listed.new.items ≡ chain links.now head }
+    ensures room { vec_capacity listed.new ≡ vec_capacity listed.old }
+{
+    listed.clear();
+    let mut number = head;
+    while number > 0 {
+        let link = links[number - 1];
+        listed.push_reserved(link.climber);
+        number = link.next;
+    }
 }
 
 // There is a bit for one rung more.
@@ -143,7 +160,7 @@ impl Ladder {
         ensures wide { IfOk result (λ r. votes ≤ r.wide) }
     {
         let links = Vec::with_capacity(alloc, votes)?;
-        let came = Vec::with_capacity(alloc, votes)?;
+        let listed = Vec::with_capacity(alloc, votes)?;
         let heads = vec![in alloc; 0]?;
         let words = vec![in alloc; 0]?;
         Ok(Ladder {
@@ -152,7 +169,8 @@ impl Ladder {
             words,
             low: 0,
             high: 0,
-            came,
+            taken: 0,
+            listed,
         })
     }
 
@@ -167,7 +185,8 @@ impl Ladder {
         ensures rungs { (self.old).rungs ≤ (self.new).rungs }
     {
         self.links.clear();
-        self.links.reserve(self.came.capacity() + pending)?;
+        self.taken = 0;
+        self.links.reserve(self.listed.capacity() + pending)?;
         if pending < self.heads.len() {
             return Ok(());
         }
@@ -177,11 +196,12 @@ impl Ladder {
     /// Begins anew, where nobody stands on it. It takes no memory.
     pub(crate) fn begin(&mut self)
         requires { (self.old).low ≡ 0 }
-        ensures { self.new ≡ record (self.old) { climbers = []; low = (self.old).rungs; put = 0 } }
+        ensures { self.new ≡ record (self.old) { climbers = []; came = []; low = (self.old).rungs; put = 0 } }
     {
         self.links.clear();
         self.low = self.heads.len();
         self.high = 0;
+        self.taken = 0;
     }
 
     /// Puts one on its rung. It takes no memory.
@@ -213,11 +233,10 @@ impl Ladder {
     }
 
     /// Takes all off the highest rung on which somebody stands, or one above it. The answer is how many
-    /// votes they are. It takes no memory.
+    /// votes they are. It takes no memory, and copies none.
     pub(crate) fn take(&mut self, rung: usize) -> u32
         requires below { rung < (self.old).low }
         requires highest { All (λ c. c.place ≤ rung) (self.old).climbers }
-        requires wide { length (self.old).climbers ≤ (self.old).wide }
         ensures climbers { (self.new).climbers ≡ under rung (self.old).climbers }
         ensures came { IsPermutation (up_from rung (self.old).climbers) (self.new).came }
         ensures total { result ≡ climber_total (self.new).came % 2 ^ 32 }
@@ -227,13 +246,22 @@ impl Ladder {
         self.heads[rung] = 0;
         unmark(&mut self.words, rung);
         self.low = rung;
-        follow(&self.links, head, &mut self.came)
+        self.taken = head;
+        votes_from(&self.links, head)
     }
 
-    /// Those that were taken off last.
-    pub(crate) fn came(&self) -> &[Climber]
-        ensures { result.now ≡ (self.now).came }
+    /// Lists those that were taken off last. It takes no memory.
+    pub(crate) fn list_came(&mut self)
+        requires { length (self.old).came ≤ (self.old).wide }
+        ensures { self.new ≡ record (self.old) { listed = (self.old).came } }
     {
-        self.came.as_slice()
+        list_from(&self.links, self.taken, &mut self.listed);
+    }
+
+    /// Those that were listed last.
+    pub(crate) fn listed(&self) -> &[Climber]
+        ensures { result.now ≡ (self.now).listed }
+    {
+        self.listed.as_slice()
     }
 }

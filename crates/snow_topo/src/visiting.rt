@@ -10,7 +10,7 @@ ghost use Rattle.snow_topo.specs.Half.{AreClimbing, IsRecorded, HasTaken};
 ghost use Rattle.snow_topo.specs.Ladder.{KeepsRoom};
 ghost use Rattle.snow_topo.specs.Leading.{IsSteady};
 
-use crate::climber::{Climber, go_on};
+use crate::climber::go_on;
 use crate::gathering::gather;
 use crate::ladder::Ladder;
 use crate::load::Load;
@@ -49,34 +49,36 @@ pub(crate) fn has_quorum(params: &Params, count: u32) -> bool
     count >= params.alpha_preference()
 }
 
-// What is kept at a place takes the next poll with the votes that came to its block, so many in all, where
-// they are AlphaPreference; else it is left alone, and has failed by its number. The answer is whether it
-// leads elsewhere then.
+// What is kept at a place takes the next poll with the votes that were taken off the ladder last, so many in
+// all, where they are AlphaPreference; else it is left alone, and has failed by its number. The answer is
+// whether it leads elsewhere then.
 fn record_quorum<R: Rule, L: Ledger>(
     params: &Params,
     tree: &mut Tree<Load<R>>,
     at: usize,
     polls: u64,
-    came: &[Climber],
+    ladder: &mut Ladder,
     count: u32,
     children: &mut Bag,
     steps: &mut Steps<L>,
 ) -> bool
     requires room { polls + 1 < 2 ^ 64 }
-    requires count { count ≡ climber_total came.now }
-    requires places { length came.now ≤ children.old.room + length children.old.list }
-    requires placed { All (λ c. c.passed < length (tree.old).pending) came.now }
-    requires counts { All (λ c. 0 < c.count) came.now }
-    requires total { climber_total came.now ≤ params.now.k }
-    requires came { IfSome (slice_get (tree.old).pending at) (λ e. All (HasCome (blocks_in (tree.old).pending) e.block.id) (cursors_of (blocks_in (tree.old).pending) came.now)) }
+    requires count { count ≡ climber_total (ladder.old).came }
+    requires wide { length (ladder.old).came ≤ (ladder.old).wide }
+    requires places { length (ladder.old).came ≤ children.old.room + length children.old.list }
+    requires placed { All (λ c. c.passed < length (tree.old).pending) (ladder.old).came }
+    requires counts { All (λ c. 0 < c.count) (ladder.old).came }
+    requires total { climber_total (ladder.old).came ≤ params.now.k }
+    requires came { IfSome (slice_get (tree.old).pending at) (λ e. All (HasCome (blocks_in (tree.old).pending) e.block.id) (cursors_of (blocks_in (tree.old).pending) (ladder.old).came)) }
     requires fit { IfSome (slice_get (tree.old).pending at) (λ e. IsFit params.now polls (children_of (blocks_in (tree.old).pending) e.block.id) e.load) }
-    ensures taken { IfSome (slice_get (tree.old).pending at) (λ e. (load : Kept) × (tree.new ≡ with_load tree.old at load) × HasTaken params.now polls (votes_at (cursors_of (blocks_in (tree.old).pending) came.now) e.block.id) e.load load × IsSteady R.answer result e.load load) }
-    ensures steps { IfSome (slice_get (tree.old).pending at) (λ e. steps.new ≤ steps.old + 5 * (if nat_le params.now.alpha_preference (climber_total came.now) then length (ids_in e.load.contest) else 0)) }
+    ensures taken { IfSome (slice_get (tree.old).pending at) (λ e. (load : Kept) × (tree.new ≡ with_load tree.old at load) × HasTaken params.now polls (votes_at (cursors_of (blocks_in (tree.old).pending) (ladder.old).came) e.block.id) e.load load × IsSteady R.answer result e.load load) }
+    ensures steps { IfSome (slice_get (tree.old).pending at) (λ e. steps.new ≤ steps.old + 5 * (if nat_le params.now.alpha_preference (climber_total (ladder.old).came) then length (ids_in e.load.contest) else 0)) }
     ensures places { children.old.room + length children.old.list ≤ children.new.room + length children.new.list }
+    ensures ladder { ladder.new ≡ record (ladder.old) { listed = (ladder.new).listed } }
 {
     let _k = params.k();
     if has_quorum(params, count) {
-        gather(tree, came, children);
+        gather(tree, ladder, children);
         record_at(tree, at, polls, children.entries(), steps)
     } else {
         false
@@ -134,8 +136,7 @@ pub(crate) fn visit<R: Rule, L: Ledger>(
         return false;
     }
     let count = ladder.take(at + 1);
-    let came = ladder.came();
-    let moved = record_quorum(params, tree, at, polls, came, count, children, steps);
+    let moved = record_quorum(params, tree, at, polls, ladder, count, children, steps);
     pass(tree, at, count, ladder);
     moved
 }

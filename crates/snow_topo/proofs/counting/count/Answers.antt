@@ -6,6 +6,7 @@ use Rattle.snow_plain.specs.Conflict.{all_polled}
 use Rattle.snow_plain.specs.Cursors.{votes_at}
 use Rattle.snow_tree.specs.Held.{Held, blocks_in, children_of}
 use Rattle.snow_topo.specs.Kept.{ids_in, shown, IsFit}
+use Rattle.snow_topo.specs.Ladder.{Rungs}
 use Rattle.snow_topo.specs.Recording.{recording_at}
 use Rattle.snow_topo.specs.Climbing.{climber_total, cursors_of, cursor_of, parent_in, reach, HasCome}
 use Rattle.snow_topo.proofs.Begun.{no_block}
@@ -20,8 +21,16 @@ take-votes-requires-clause-highest g c =
     let held = c.args.tree.now in
     highest_place (blocks_in held.pending) 0 c.climb-moved.new.ladder.climbers c.climb-moved.ensures.placed (c.climb-moved.ensures.climbing c.requires.begun.0 c.requires.begun.1).below
 
-pub take-votes-requires-clause-wide : goal.take-votes-requires-clause-wide
-take-votes-requires-clause-wide g c = omega (arith, c.requires.loaded.wide, c.climb-moved.ensures.room.wide, c.climb-moved.ensures.short)
+pub record_root-first-requires-clause-wide : goal.record_root-first-requires-clause-wide
+record_root-first-requires-clause-wide g c =
+    omega (
+      arith,
+      c.requires.loaded.wide,
+      c.climb-moved.ensures.room.wide,
+      c.climb-moved.ensures.short,
+      group_few 0 c.climb-moved.new.ladder.climbers c.take-votes.new.self.came c.take-votes.ensures.came,
+      ap (λ (s : Rungs). s.wide) c.take-votes.ensures.rest,
+    )
 
 pub record_root-first-requires-clause-places : goal.record_root-first-requires-clause-places
 record_root-first-requires-clause-places g c =
@@ -30,7 +39,6 @@ record_root-first-requires-clause-places g c =
       c.requires.places,
       c.climb-moved.ensures.short,
       c.climb-moved.ensures.places,
-      ap length c.came-came.ensures,
       group_few 0 c.climb-moved.new.ladder.climbers c.take-votes.new.self.came c.take-votes.ensures.came,
     )
 
@@ -39,15 +47,13 @@ record_root-first-requires-clause-placed g c =
     let long = ap length c.climb-moved.ensures.blocks in
     let bs = blocks_in c.args.tree.now.pending in
     let all = of_group (λ x. (x.passed < length bs) × (x.place ≡ reach bs (parent_in (slice_get bs x.passed)))) 0 c.climb-moved.new.ladder.climbers c.take-votes.new.self.came c.take-votes.ensures.came c.climb-moved.ensures.placed in
-    rw c.came-came.ensures
-    (λ k d h. omega (arith, (all k d h).0, long, length-map c.climb-moved.new.tree.pending (λ e. e.block)))
+    λ k d h. omega (arith, (all k d h).0, long, length-map c.climb-moved.new.tree.pending (λ e. e.block))
 
 pub record_root-first-requires-clause-counts : goal.record_root-first-requires-clause-counts
 record_root-first-requires-clause-counts g c =
     let bs = blocks_in c.args.tree.now.pending in
-    rw c.came-came.ensures
-    (of_group (λ x. 0 < x.count) 0 c.climb-moved.new.ladder.climbers c.take-votes.new.self.came c.take-votes.ensures.came
-    (all_back (λ x. 0 < x.count) (cursor_of bs) c.climb-moved.new.ladder.climbers (c.climb-moved.ensures.climbing c.requires.begun.0 c.requires.begun.1).counts))
+    of_group (λ x. 0 < x.count) 0 c.climb-moved.new.ladder.climbers c.take-votes.new.self.came c.take-votes.ensures.came
+    (all_back (λ x. 0 < x.count) (cursor_of bs) c.climb-moved.new.ladder.climbers (c.climb-moved.ensures.climbing c.requires.begun.0 c.requires.begun.1).counts)
 
 pub record_root-first-requires-clause-total : goal.record_root-first-requires-clause-total
 record_root-first-requires-clause-total g c =
@@ -56,7 +62,6 @@ record_root-first-requires-clause-total g c =
       arith,
       (c.climb-moved.ensures.climbing c.requires.begun.0 c.requires.begun.1).total,
       same_total bs c.climb-moved.new.ladder.climbers,
-      ap climber_total c.came-came.ensures,
       group_total 0 c.climb-moved.new.ladder.climbers c.take-votes.new.self.came c.take-votes.ensures.came,
     )
 
@@ -68,7 +73,6 @@ record_root-first-requires-clause-count g c =
       c.take-votes.ensures.total,
       (c.climb-moved.ensures.climbing c.requires.begun.0 c.requires.begun.1).total,
       same_total bs c.climb-moved.new.ladder.climbers,
-      ap climber_total c.came-came.ensures,
       group_total 0 c.climb-moved.new.ladder.climbers c.take-votes.new.self.came c.take-votes.ensures.came,
       c.k-k.ensures.value,
     )
@@ -81,9 +85,8 @@ record_root-first-requires-clause-came g c =
     let climbing = c.climb-moved.ensures.climbing c.requires.begun.0 c.requires.begun.1 in
     let came = c.take-votes.new.self.came in
     let come = group_come_last held.last (blocks_in held.pending) no_block cs came c.last-last.ensures.grown climbing.below climbing.came c.climb-moved.ensures.placed c.take-votes.ensures.came in
-    rw c.came-came.ensures
-    (subst (λ bs. All (HasCome bs next.last) (cursors_of bs came)) (sym c.climb-moved.ensures.blocks)
-    (subst (λ id. All (HasCome (blocks_in held.pending) id) (cursors_of (blocks_in held.pending) came)) (sym (ap (λ (t : Held _). t.last) c.climb-moved.ensures.rest)) come))
+    subst (λ bs. All (HasCome bs next.last) (cursors_of bs came)) (sym c.climb-moved.ensures.blocks)
+    (subst (λ id. All (HasCome (blocks_in held.pending) id) (cursors_of (blocks_in held.pending) came)) (sym (ap (λ (t : Held _). t.last) c.climb-moved.ensures.rest)) come)
 
 pub record_root-first-requires-clause-fit : goal.record_root-first-requires-clause-fit
 record_root-first-requires-clause-fit g c =
@@ -101,8 +104,8 @@ returns-clause-board g c =
     let bs = blocks_in held.pending in
     let climbers = c.climb-moved.new.ladder.climbers in
     let took = c.record_root-first.ensures.taken (children_of bs held.last) c.requires.fit.root in
-    let here : votes_at (cursors_of (blocks_in next.pending) c.came-came.result.now) next.last ≡ votes_at (cursors_of bs c.take-votes.new.self.came) held.last =
-    λ i. votes_at (cursors_of (c.climb-moved.ensures.blocks i) (c.came-came.ensures i)) (c.climb-moved.ensures.rest i).last
+    let here : votes_at (cursors_of (blocks_in next.pending) c.take-votes.new.self.came) next.last ≡ votes_at (cursors_of bs c.take-votes.new.self.came) held.last =
+    λ i. votes_at (cursors_of (c.climb-moved.ensures.blocks i) c.take-votes.new.self.came) (c.climb-moved.ensures.rest i).last
     in
     let all : votes_at (cursors_of bs climbers) held.last ≡ votes_at (cursors_of bs c.take-votes.new.self.came) held.last = λ i front. votes_of_all bs held.last climbers c.take-votes.new.self.came front c.take-votes.ensures.came i in
     let came = here ∙ sym all ∙ came_last p votes held.last bs (cursors_of bs climbers) c.last-last.ensures.grown (c.climb-moved.ensures.climbing votes begun) in
@@ -142,10 +145,10 @@ returns-clause-steps g c =
     let climbing = c.climb-moved.ensures.climbing votes begun in
     let come = have_come_last held.last bs no_block climbers c.last-last.ensures.grown climbing.below climbing.came c.climb-moved.ensures.placed in
     let came = came_last p votes held.last bs cs c.last-last.ensures.grown climbing in
-    let all : climber_total c.came-came.result.now ≡ climber_total climbers =
-    omega (arith, ap climber_total c.came-came.ensures, group_total 0 climbers c.take-votes.new.self.came c.take-votes.ensures.came, ap climber_total (none_under climbers))
+    let all : climber_total c.take-votes.new.self.came ≡ climber_total climbers =
+    omega (arith, group_total 0 climbers c.take-votes.new.self.came c.take-votes.ensures.came, ap climber_total (none_under climbers))
     in
-    let total : climber_total c.came-came.result.now ≡ votes_below bs votes held.last [] =
+    let total : climber_total c.take-votes.new.self.came ≡ votes_below bs votes held.last [] =
     all ∙ sym (same_total bs climbers) ∙ sym (all_came bs held.last cs come) ∙ ap (λ f. f []) came
     in
     let own : c.record_root-first.new.steps ≤ c.climb-moved.new.steps + 5 * recording_at p bs votes held.last =
@@ -153,3 +156,16 @@ returns-clause-steps g c =
     (subst (λ n. c.record_root-first.new.steps ≤ c.climb-moved.new.steps + 5 * (if nat_le p.alpha_preference n then length (ids_in c.args.root.now.contest) else 0)) total c.record_root-first.ensures.steps)
     in
     omega (arith, own, c.climb-moved.ensures.steps votes begun)
+
+pub returns-clause-low : goal.returns-clause-low
+returns-clause-low g c = ap (λ (s : Rungs). s.low) c.record_root-first.ensures.ladder ∙ ap (λ (s : Rungs). s.low) c.take-votes.ensures.rest
+
+pub returns-clause-room : goal.returns-clause-room
+returns-clause-room g c =
+    let took = c.take-votes.ensures.rest in
+    let recorded = c.record_root-first.ensures.ladder in
+    record {
+      most = ap (λ (s : Rungs). s.most) recorded ∙ ap (λ (s : Rungs). s.most) took ∙ c.climb-moved.ensures.room.most;
+      wide = ap (λ (s : Rungs). s.wide) recorded ∙ ap (λ (s : Rungs). s.wide) took ∙ c.climb-moved.ensures.room.wide;
+      rungs = ap (λ (s : Rungs). s.rungs) recorded ∙ ap (λ (s : Rungs). s.rungs) took ∙ c.climb-moved.ensures.room.rungs;
+    }

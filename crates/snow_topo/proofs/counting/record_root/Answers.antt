@@ -2,6 +2,7 @@ use Rattle.std.proofs.Common.{ℕ, Bool, List, ◌∙◌, All, Contains, sym, ap
 use Rattle.snow_plain.specs.Conflict.{votes_on}
 use Rattle.snow_plain.specs.Cursors.{votes_at}
 use Rattle.snow_tree.specs.Held.{blocks_in}
+use Rattle.snow_topo.specs.Ladder.{Rungs}
 use Rattle.snow_topo.specs.Climbing.{cursors_of}
 use Rattle.snow_topo.specs.Half.{HasTaken}
 use Rattle.snow_topo.proofs.Climbers.{same_total}
@@ -24,7 +25,12 @@ returns-then-has_quorum-clause-taken g c =
 pub returns-else-has_quorum-clause-taken : goal.returns-else-has_quorum-clause-taken
 returns-else-has_quorum-clause-taken g c =
     let bs = blocks_in c.args.tree.now.pending in
-    let cursors = cursors_of bs c.args.came.now in
+    let cursors = cursors_of bs c.args.ladder.now.came in
     λ children fit.
     left_alone c.args.params.now c.args.polls children c.args.root.now (votes_at cursors c.args.tree.now.last) c.has_quorum.ensures.good fit
-    (λ front. omega (arith, c.requires.count, few_came c.args.tree.now.last cursors front, same_total bs c.args.came.now, no_quorum _ _ (sym c.has_quorum.ensures.value ∙ c.if-has_quorum.false)))
+    (λ front. omega (arith, c.requires.count, few_came c.args.tree.now.last cursors front, same_total bs c.args.ladder.now.came, no_quorum _ _ (sym c.has_quorum.ensures.value ∙ c.if-has_quorum.false)))
+
+pub returns-then-has_quorum-clause-ladder : goal.returns-then-has_quorum-clause-ladder
+returns-then-has_quorum-clause-ladder g c =
+    let listed = c.gather.ensures.ladder in
+    listed ∙ ap (λ l. record c.args.ladder.now { listed = l }) (sym (ap (λ (s : Rungs). s.listed) listed))

@@ -3,6 +3,7 @@ use Rattle.snow_plain.specs.Conflict.{votes_on}
 use Rattle.snow_plain.specs.Cursors.{votes_at}
 use Rattle.snow_tree.specs.Held.{blocks_in, children_of}
 use Rattle.snow_topo.specs.Kept.{IsFit}
+use Rattle.snow_topo.specs.Ladder.{Rungs}
 use Rattle.snow_topo.specs.Climbing.{cursors_of, HasCome}
 use Rattle.snow_topo.specs.Half.{HasTaken}
 use Rattle.snow_topo.proofs.Climbers.{same_total}
@@ -26,7 +27,7 @@ returns-then-has_quorum-clause-taken g c =
     let blocks = blocks_in c.args.tree.now.pending in
     if_some (slice_get c.args.tree.now.pending c.args.at) _ _
     (λ e took.
-    let come = subst (λ o. IfSome o (λ e. All (HasCome blocks e.block.id) (cursors_of blocks c.args.came.now))) took.0 c.requires.came in (
+    let come = subst (λ o. IfSome o (λ e. All (HasCome blocks e.block.id) (cursors_of blocks c.args.ladder.now.came))) took.0 c.requires.came in (
       took.1.0,
       took.1.1,
       subst (λ (f : List Bool → ℕ). HasTaken c.args.params.now c.args.polls f e.load took.1.0) (ap votes_on c.entries.ensures.list ∙ c.gather.ensures.votes e.block.id come)
@@ -37,7 +38,7 @@ returns-then-has_quorum-clause-taken g c =
 
 pub returns-else-has_quorum-clause-taken : goal.returns-else-has_quorum-clause-taken
 returns-else-has_quorum-clause-taken g c =
-    let cursors = cursors_of (blocks_in c.args.tree.now.pending) c.args.came.now in
+    let cursors = cursors_of (blocks_in c.args.tree.now.pending) c.args.ladder.now.came in
     if_some (slice_get c.args.tree.now.pending c.args.at) _ _
     (λ e fit. (
       e.load,
@@ -47,9 +48,14 @@ returns-else-has_quorum-clause-taken g c =
             arith,
             c.requires.count,
             few_came e.block.id cursors front,
-            same_total (blocks_in c.args.tree.now.pending) c.args.came.now,
+            same_total (blocks_in c.args.tree.now.pending) c.args.ladder.now.came,
             no_quorum _ _ (sym c.has_quorum.ensures.value ∙ c.if-has_quorum.false),
           )),
       λ s. refl,
     ))
     c.requires.fit
+
+pub returns-then-has_quorum-clause-ladder : goal.returns-then-has_quorum-clause-ladder
+returns-then-has_quorum-clause-ladder g c =
+    let listed = c.gather.ensures.ladder in
+    listed ∙ ap (λ l. record c.args.ladder.now { listed = l }) (sym (ap (λ (s : Rungs). s.listed) listed))

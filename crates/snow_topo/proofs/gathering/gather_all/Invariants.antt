@@ -4,7 +4,7 @@ use Rattle.snow_plain.specs.Conflict.{votes_on}
 use Rattle.snow_plain.specs.Cursors.{votes_at}
 use Rattle.snow_tree.specs.Held.{blocks_in, children_of}
 use Rattle.snow_topo.specs.Climbing.{climber_total, cursors_of, HasCome}
-use Rattle.snow_topo.proofs.gathering.gather.Given as goal
+use Rattle.snow_topo.proofs.gathering.gather_all.Given as goal
 
 abbrev pub invariant-loop-climber : goal.invariant-loop-climber
 invariant-loop-climber g l = record {
