@@ -161,16 +161,31 @@ fn seat_many<R: Rule>(tree: &Tree<Load<R>>, ladder: &mut Ladder, ids: &[Id])
     seat_each(tree, ladder, &mut [nobody; 32], ids);
 }
 
+// The same of a single vote, which needs no seat.
+fn let_one_go<R: Rule>(tree: &Tree<Load<R>>, ladder: &mut Ladder, ids: &[Id])
+    requires one { length ids.now ≡ 1 }
+    requires more { TakesMore (length (tree.now).pending) (length ids.now) ladder.old }
+    ensures { HaveGone (tree.now).pending ids.now ladder.old ladder.new }
+{
+    let vote = Vote {
+        id: ids[0],
+        count: 1,
+    };
+    start(tree, ladder, &vote);
+}
+
 // The same, where most of the votes for one block go on as one. Many votes have more seats, and where
-// there is none no seat is made ready.
+// there are less than two no seat is made ready.
 fn let_each_go<R: Rule>(tree: &Tree<Load<R>>, ladder: &mut Ladder, ids: &[Id])
     requires { TakesMore (length (tree.now).pending) (length ids.now) ladder.old }
     ensures { HaveGone (tree.now).pending ids.now ladder.old ladder.new }
 {
     if ids.len() > 64 {
         seat_many(tree, ladder, ids);
-    } else if !ids.is_empty() {
+    } else if ids.len() > 1 {
         seat_few(tree, ladder, ids);
+    } else if !ids.is_empty() {
+        let_one_go(tree, ladder, ids);
     }
 }
 
