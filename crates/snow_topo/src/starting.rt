@@ -16,6 +16,7 @@ use snow_flake::Rule;
 use snow_tree::Tree;
 
 // A vote begins past its own block; one for a block that isn't pending counts nowhere.
+#[inline(never)]
 fn start<R: Rule>(tree: &Tree<Load<R>>, ladder: &mut Ladder, vote: &Vote)
     requires room { (ladder.old).put < (ladder.old).most }
     requires low { length (tree.now).pending < (ladder.old).low }
@@ -30,7 +31,8 @@ fn start<R: Rule>(tree: &Tree<Load<R>>, ladder: &mut Ladder, vote: &Vote)
     }
 }
 
-// Votes that waited begin, if there are some.
+// Votes that waited begin, if there are some. A seat where nobody waits costs one comparison.
+#[inline(always)]
 fn let_go<R: Rule>(tree: &Tree<Load<R>>, ladder: &mut Ladder, vote: &Vote)
     requires room { (ladder.old).put + vote.now.count ≤ (ladder.old).most }
     requires low { length (tree.now).pending < (ladder.old).low }
