@@ -25,6 +25,7 @@ fn above(place: usize, len: usize) -> usize
 }
 
 // One more than the place of the parent of the block at a place; 0 where that isn't pending.
+#[inline(always)]
 fn parent_reach<R: Rule>(tree: &Tree<Load<R>>, at: usize) -> usize
     requires { at < length (tree.now).pending }
     ensures { result ≡ reach (blocks_in (tree.now).pending) (parent_in (slice_get (blocks_in (tree.now).pending) at)) }
