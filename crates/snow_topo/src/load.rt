@@ -135,6 +135,16 @@ impl<R: Rule> Load<R> {
         }
     }
 
+    /// Whether decided counters alone lead anywhere.
+    pub(crate) fn is_decided(&self) -> bool
+        ensures { result ≡ false → HasDecided (counters_in (self.now).contest) None }
+    {
+        match &self.trie {
+            Some(trie) => trie.is_final(),
+            None => false,
+        }
+    }
+
     /// The child to which decided counters alone lead.
     pub(crate) fn decided(&self) -> Option<Id>
         ensures { HasDecided (counters_in (self.now).contest) result }

@@ -27,7 +27,9 @@ pub(crate) fn settle<R: Rule>(
     ensures room { vec_capacity decisions.new ≡ vec_capacity decisions.old }
     ensures fewer { length decisions.new.items + length (tree.new).pending ≤ length decisions.old.items + length (tree.old).pending }
 {
-    let mut more = true;
+    // Mostly nothing is decided, and nothing is made ready for acceptance.
+    let _k = params.k();
+    let mut more = root.is_decided();
     while more {
         more = accept_next(params, polls, root, tree, decisions);
     }
