@@ -16,3 +16,4 @@ mod Tagged
 mod Taken
 mod Windowed
 mod Resting
+mod Stepped

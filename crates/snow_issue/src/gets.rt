@@ -93,14 +93,15 @@ impl Gets {
         ensures answer { result ≡ option_map (λ g. g.id) (find (is_get number node.now) self.old) }
         ensures left { self.new ≡ without (is_get number node.now) self.old }
     {
-        let Some(get) = self.alone else {
+        let Some(get) = &self.alone else {
             return self.others.close(number, node);
         };
         if get.number != number || get.node != *node {
             return None;
         }
+        let id = get.id;
         self.alone = None;
-        Some(get.id)
+        Some(id)
     }
 }
 

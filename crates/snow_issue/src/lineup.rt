@@ -138,9 +138,10 @@ impl<T: Keyed> Lineup<T> {
         ensures taken { HoldsAt (λ s. result ≡ s.0) self.old at }
         ensures rest { self.new ≡ remove self.old at }
     {
-        let Slot { place, item, .. } = self.slots.remove(at);
-        self.rows.leave(&item.key(), place);
+        let slot = &self.slots[at];
+        self.rows.leave(&slot.item.key(), slot.place);
         self.windows = self.windows.without(at);
+        let Slot { item, .. } = self.slots.remove(at);
         item
     }
 

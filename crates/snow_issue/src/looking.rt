@@ -41,8 +41,7 @@ pub(crate) fn first_hopeless<B: Board>(waiting: &mut WaitingList, gets: &Gets, b
         if at >= waiting.len() {
             return at;
         }
-        let header = waiting.header(at);
-        match look(waiting, gets, board, &header) {
+        match look(waiting, gets, board, waiting.header(at)) {
             Some(mark) => waiting.set(at, mark),
             None => return at,
         }

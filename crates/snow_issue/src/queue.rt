@@ -285,11 +285,13 @@ impl Queue {
         ensures rests { RestsAfter result self.new.seats }
         ensures limits { AreWithinLimits (lists_of self.new) }
     {
-        if let Some(block) = self.take_hopeless(board) {
-            return Some(Work::Hopeless(block));
+        let lost = self.first_hopeless(board);
+        if lost < self.blocks() {
+            return self.take_hopeless(lost, board);
         }
-        if let Some(block) = self.take_ready(board) {
-            return Some(Work::Ready(block));
+        let ready = self.first_ready(board);
+        if ready < self.blocks() {
+            return self.take_ready(ready, board);
         }
         self.next_vote()
     }
@@ -305,6 +307,18 @@ impl Queue {
         if self.replies.len() == 0 {
             return None;
         }
+        self.held_vote()
+    }
+
+    // The same where a reply is held.
+    #[inline(never)]
+    fn held_vote(&mut self) -> Option<Work>
+        ensures work { result ≡ option_map work.Vote (find (is_free (lists_of self.old)) self.old.held) }
+        ensures lists { (b : model.Board) → lists_of self.new ≡ after (lists_of self.old) b result }
+        ensures knows { (b : model.Board) → Knows self.old b → Knows self.new b }
+        ensures rests { NoneRipe self.old.seats → RestsAfter result self.new.seats }
+        ensures limits { AreWithinLimits (lists_of self.new) }
+    {
         match self.take_vote() {
             Some(reply) => Some(Work::Vote(reply)),
             None => None,

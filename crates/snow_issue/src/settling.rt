@@ -1,21 +1,85 @@
-ghost use Rattle.std.specs.Prelude.{◌≡◌, ◌<◌, None, IfSome, find, is_some, map, length, HoldsAt, if◌then◌else◌};
+ghost use Rattle.std.specs.Prelude.{◌≡◌, ◌<◌, ◌≤◌, None, find, is_some, map, length, HoldsAt, if◌then◌else◌};
 ghost use Rattle.std.specs.List.{position_or_len, remove};
-ghost use Rattle.std.specs.Option.{option_map};
 ghost use Rattle.snow_issue.specs.declared.marks.Mark.TheVariants.{New};
-ghost use Rattle.snow_issue.specs.declared.work.Work.TheVariants as work;
-ghost use Rattle.snow_issue.specs.Settling.{is_hopeless, is_ready, is_free, gone_with, after};
+ghost use Rattle.snow_issue.specs.Settling.{is_hopeless, is_ready, is_free, gone_with, work_of, after};
 ghost use Rattle.snow_issue.specs.Lists.{without, AreWithinLimits};
-ghost use Rattle.snow_issue.specs.Known.{lists_of, has, Knows, ForgetsChildren, NoneRipe};
+ghost use Rattle.snow_issue.specs.Known.{lists_of, has, Knows, NoneRipe, RestsAfter};
 ghost use Rattle.snow_issue.specs.Index.{woken};
 
 use crate::gone::Gone;
 use crate::looking;
 use crate::marks::Mark;
 use crate::queue::Queue;
-use crate::work::{Held, Waiting};
+use crate::work::{Held, Waiting, Work};
 use snow_plain::Board;
 
 impl Queue {
+    /// How many blocks wait.
+    pub(crate) fn blocks(&self) -> usize
+        ensures { result ≡ length self.now.seats }
+    {
+        self.waiting.len()
+    }
+
+    /// Where the earliest hopeless block stands, or how many blocks wait: then each was looked at.
+    pub(crate) fn first_hopeless<B: Board>(&mut self, board: &B) -> usize
+        requires { Knows self.old (B.board board.now) }
+        ensures first { result ≡ position_or_len (is_hopeless (lists_of self.new) (B.board board.now)) (lists_of self.new).waiting }
+        ensures lists { lists_of self.new ≡ lists_of self.old }
+        ensures knows { Knows self.new (B.board board.now) }
+        ensures seen { length self.new.seats ≡ result → length self.new.seats ≡ position_or_len (has New) self.new.seats }
+        ensures limits { AreWithinLimits (lists_of self.new) }
+    {
+        looking::first_hopeless(&mut self.waiting, &self.gets, board)
+    }
+
+    /// Where the earliest ready block stands, or how many blocks wait. Each was looked at before.
+    pub(crate) fn first_ready<B: Board>(&mut self, board: &B) -> usize
+        requires knows { Knows self.old (B.board board.now) }
+        requires seen { length self.old.seats ≡ position_or_len (has New) self.old.seats }
+        ensures first { result ≡ position_or_len (is_ready (B.board board.now)) (lists_of self.new).waiting }
+        ensures same { self.new ≡ self.old }
+        ensures none { length self.new.seats ≤ result → NoneRipe self.new.seats }
+        ensures limits { AreWithinLimits (lists_of self.new) }
+    {
+        self.waiting.first(Mark::Ripe)
+    }
+
+    /// Takes the earliest hopeless block out, which stands at this place.
+    // A call, so that no room is made ready for a block where none is taken.
+    #[inline(never)]
+    pub(crate) fn take_hopeless<B: Board>(&mut self, at: usize, board: &B) -> Option<Work>
+        requires there { at < length self.old.seats }
+        requires first { at ≡ position_or_len (is_hopeless (lists_of self.old) (B.board board.now)) (lists_of self.old).waiting }
+        requires knows { Knows self.old (B.board board.now) }
+        ensures work { result ≡ work_of (lists_of self.old) (B.board board.now) }
+        ensures lists { lists_of self.new ≡ after (lists_of self.old) (B.board board.now) result }
+        ensures knows { Knows self.new (B.board board.now) }
+        ensures rests { RestsAfter result self.new.seats }
+        ensures limits { AreWithinLimits (lists_of self.new) }
+    {
+        let block = self.take_block(at);
+        self.follow(&block);
+        Some(Work::Hopeless(block))
+    }
+
+    /// Takes the earliest ready block out, which stands at this place, where none is hopeless.
+    // A call, as above.
+    #[inline(never)]
+    pub(crate) fn take_ready<B: Board>(&mut self, at: usize, board: &B) -> Option<Work>
+        requires there { at < length self.old.seats }
+        requires none { find (is_hopeless (lists_of self.old) (B.board board.now)) (lists_of self.old).waiting ≡ None }
+        requires first { at ≡ position_or_len (is_ready (B.board board.now)) (lists_of self.old).waiting }
+        requires knows { Knows self.old (B.board board.now) }
+        ensures work { result ≡ work_of (lists_of self.old) (B.board board.now) }
+        ensures lists { lists_of self.new ≡ after (lists_of self.old) (B.board board.now) result }
+        ensures knows { Knows self.new (B.board board.now) }
+        ensures rests { RestsAfter result self.new.seats }
+        ensures limits { AreWithinLimits (lists_of self.new) }
+    {
+        Some(Work::Ready(self.take_block(at)))
+    }
+
     // Takes the block at a place out. Its children and the replies that name it are to be looked at.
     fn take_block(&mut self, at: usize) -> Waiting
         requires { at < length self.old.seats }
@@ -26,10 +90,10 @@ impl Queue {
         ensures gone { self.new.gone ≡ self.old.gone }
         ensures limits { AreWithinLimits (lists_of self.new) }
     {
-        let block = self.waiting.take(at);
-        self.waiting.wake(&block.header.id);
-        self.replies.wake(&block.header.id);
-        block
+        let id = self.waiting.header(at).id;
+        self.waiting.wake(&id);
+        self.replies.wake(&id);
+        self.waiting.take(at)
     }
 
     // Enters a hopeless block in the gone list, where its parent was found invalid.
@@ -47,42 +111,6 @@ impl Queue {
                 parent: Some(header.parent),
             });
         }
-    }
-
-    /// Takes the earliest hopeless block out, if there is one. Else each waiting block was looked at.
-    pub(crate) fn take_hopeless<B: Board>(&mut self, board: &B) -> Option<Waiting>
-        requires { Knows self.old (B.board board.now) }
-        ensures found { result ≡ find (is_hopeless (lists_of self.old) (B.board board.now)) (lists_of self.old).waiting }
-        ensures lists { lists_of self.new ≡ after (lists_of self.old) (B.board board.now) (option_map work.Hopeless result) }
-        ensures knows { Knows self.new (B.board board.now) }
-        ensures seen { result ≡ None → length self.new.seats ≡ position_or_len (has New) self.new.seats }
-        ensures limits { AreWithinLimits (lists_of self.new) }
-    {
-        let at = looking::first_hopeless(&mut self.waiting, &self.gets, board);
-        if at >= self.waiting.len() {
-            return None;
-        }
-        let block = self.take_block(at);
-        self.follow(&block);
-        Some(block)
-    }
-
-    /// Takes the earliest ready block out, if there is one. Each waiting block was looked at before.
-    pub(crate) fn take_ready<B: Board>(&mut self, board: &B) -> Option<Waiting>
-        requires knows { Knows self.old (B.board board.now) }
-        requires seen { length self.old.seats ≡ position_or_len (has New) self.old.seats }
-        ensures found { result ≡ find (is_ready (B.board board.now)) (lists_of self.old).waiting }
-        ensures lists { lists_of self.new ≡ after (lists_of self.old) (B.board board.now) (option_map work.Ready result) }
-        ensures knows { Knows self.new (B.board board.now) }
-        ensures forgets { IfSome result (λ block. ForgetsChildren block.header.id self.new.seats) }
-        ensures none { result ≡ None → NoneRipe self.new.seats }
-        ensures limits { AreWithinLimits (lists_of self.new) }
-    {
-        let at = self.waiting.first(Mark::Ripe);
-        if at >= self.waiting.len() {
-            return None;
-        }
-        Some(self.take_block(at))
     }
 
     /// Takes the earliest free reply out, if there is one.

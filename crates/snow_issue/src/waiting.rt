@@ -117,11 +117,11 @@ impl WaitingList {
     }
 
     /// What the block at a place says of itself.
-    pub(crate) fn header(&self, at: usize) -> Header
+    pub(crate) fn header(&self, at: usize) -> &Header
         requires { at < length self.now }
-        ensures { HoldsAt (λ s. result ≡ s.0.header) self.now at }
+        ensures { HoldsAt (λ s. result.now ≡ s.0.header) self.now at }
     {
-        self.lineup.item(at).header
+        &self.lineup.item(at).header
     }
 
     /// Remembers something of the block at a place.
@@ -138,9 +138,8 @@ impl WaitingList {
         ensures taken { HoldsAt (λ s. result ≡ s.0) self.old at }
         ensures rest { self.new ≡ remove self.old at }
     {
-        let block = self.lineup.take(at);
-        let _ = self.heights.remove(&block.header.id);
-        block
+        let _ = self.heights.remove(&self.lineup.item(at).header.id);
+        self.lineup.take(at)
     }
 
     /// Forgets what is remembered of a block's children.

@@ -27,8 +27,8 @@ returns-in-None-clause-first g c =
     let seats = c.loop-at.waiting in
     let at = c.first-at.result in
     let sees : (d : Waiting × Mark) → sight (items_of seats) gets board (get_or seats at d).0.header ≡ c.look.result =
-    λ d. ap (λ h. sight (items_of seats) gets board h) (sym (c.header-header.ensures d ∙ ap (λ l. (get_or l at d).0.header) c.first-at.ensures.same))
-    ∙ ap (λ l. sight (items_of l) gets board c.header-header.result) (sym c.first-at.ensures.same) ∙ sym c.look.ensures in
+    λ d. ap (λ h. sight (items_of seats) gets board h) (sym (c.header.ensures d ∙ ap (λ l. (get_or l at d).0.header) c.first-at.ensures.same))
+    ∙ ap (λ l. sight (items_of l) gets board c.header.result.now) (sym c.first-at.ensures.same) ∙ sym c.look.ensures in
     first_passing_at (is_hopeless_by (items_of seats) gets board) seats at (known_not_hopeless (items_of seats) gets board seats c.loop-at.invariant.tells) c.first-at.ensures.at
     (omega (arith, c.if-at-len.false, c.len.ensures, ap (λ l. length l) c.first-at.ensures.same))
     (λ d. is_lost (items_of seats) gets board (get_or seats at d).0 (sees d ∙ c.in-None.is))
@@ -40,7 +40,7 @@ loop-at-smaller g c =
     let gets = c.args.gets.now in
     let seats = c.loop-at.waiting in
     let at = c.first-at.result in
-    let head = c.header-header.result in
+    let head = c.header.result.now in
     let seen : sight (items_of seats) gets board head ≡ Some c.in-Some.mark = ap (λ l. sight (items_of l) gets board head) (sym c.first-at.ensures.same) ∙ sym c.look.ensures ∙ c.in-Some.is in
     smaller_after seats c.set.new.self at c.in-Some.mark
     (never_new (is_on board head.parent) (asked_in gets head.parent || waits_below (items_of seats) head) c.in-Some.mark seen) c.first-at.ensures.at
@@ -58,8 +58,8 @@ loop-at-preserved g c =
     let after : (d : Waiting × Mark) → c.set.new.self ≡ set seats at ((get_or seats at d).0, mark) =
     λ d. c.set.ensures d ∙ ap (λ l. set l at ((get_or l at d).0, mark)) c.first-at.ensures.same in
     let sees : (d : Waiting × Mark) → sight (items_of seats) gets board (get_or seats at d).0.header ≡ Some mark =
-    λ d. ap (λ h. sight (items_of seats) gets board h) (sym (c.header-header.ensures d ∙ ap (λ l. (get_or l at d).0.header) c.first-at.ensures.same))
-    ∙ ap (λ l. sight (items_of l) gets board c.header-header.result) (sym c.first-at.ensures.same) ∙ sym c.look.ensures ∙ c.in-Some.is in
+    λ d. ap (λ h. sight (items_of seats) gets board h) (sym (c.header.ensures d ∙ ap (λ l. (get_or l at d).0.header) c.first-at.ensures.same))
+    ∙ ap (λ l. sight (items_of l) gets board c.header.result.now) (sym c.first-at.ensures.same) ∙ sym c.look.ensures ∙ c.in-Some.is in
     record {
       same = items_after_set seats c.set.new.self at mark there after ∙ c.loop-at.invariant.same;
       tells = tells_after gets board seats c.set.new.self at mark there after sees c.loop-at.invariant.tells;

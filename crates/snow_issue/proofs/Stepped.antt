@@ -1,0 +1,120 @@
+-- Lemmas on one step: a block is taken out at a place, and which step applies.
+use Rattle.std.proofs.Common.{◌≡◌, ℕ, ◌<◌, ◌≤◌, Bool, List, map, length, get_or, find, Some, None, refl, sym, ap, ◌∙◌, arith}
+use Rattle.std.specs.List.{remove, position_or_len}
+use Rattle.std.specs.Option.{option_map, option_or}
+use Rattle.std.proofs.lemmas.List.{get_or-map, length-map}
+use Rattle.snow_base.specs.declared.header.Header.{Header}
+use Rattle.snow_plain.specs.Board.{Board}
+use Rattle.snow_issue.specs.declared.work.Waiting.{Waiting}
+use Rattle.snow_issue.specs.declared.work.Work.TheVariants as work
+use Rattle.snow_issue.specs.declared.marks.Mark.{Mark}
+use Rattle.snow_issue.specs.declared.marks.Mark.TheVariants.{New}
+use Rattle.snow_issue.specs.Lists.{Lists, without}
+use Rattle.snow_issue.specs.Settling.{work_of, after, is_hopeless, is_ready, is_free, gone_with}
+use Rattle.snow_issue.specs.Known.{Seen, Knows, items_of, lists_of}
+use Rattle.snow_issue.specs.Index.{woken}
+use Rattle.snow_issue.proofs.Looked.{found_first, found_none, within_length}
+use Rattle.snow_issue.proofs.Settled.{lists_by, knows_from, items_left}
+use Rattle.snow_issue.proofs.Tagged.{map_remove}
+use Rattle.snow_issue.proofs.Taken.{item_is, tells_left}
+
+abbrev pub parent_of_block : Waiting → List ℕ
+parent_of_block w = w.header.parent
+
+-- ---- a block is taken out
+
+-- the block stood at the place, and the others are left, its children woken
+pub record IsLeft (before now : List (Waiting × Mark)) (at : ℕ) (w : Waiting) : Type 0 where
+  pub taken : (d : Waiting × Mark) → w ≡ (get_or before at d).0
+  pub left : now ≡ map (woken parent_of_block w.header.id) (remove before at)
+
+-- the children may be woken before
+pub woken_left : (before mid now : List (Waiting × Mark)) (at : ℕ) (head : Header) (w : Waiting) → at < length before
+    → ((d : Waiting × Mark) → head ≡ (get_or before at d).0.header)
+    → mid ≡ map (woken parent_of_block head.id) before
+    → ((d : Waiting × Mark) → w ≡ (get_or mid at d).0) → now ≡ remove mid at
+    → (head ≡ w.header) × IsLeft before now at w
+woken_left before mid now at head w there is_head is_mid is_w is_now =
+    let taken : (d : Waiting × Mark) → w ≡ (get_or before at d).0 =
+    λ d. is_w d ∙ ap (λ (l : List (Waiting × Mark)). (get_or l at d).0) is_mid ∙ ap (λ (s : Waiting × Mark). s.0) (get_or-map (woken parent_of_block head.id) before at d d there) in
+    let d : Waiting × Mark = (w, New) in
+    let same : head ≡ w.header = is_head d ∙ ap (λ (w : Waiting). w.header) (sym (taken d)) in (
+      same,
+      record {
+        taken = taken;
+        left = is_now ∙ ap (λ (l : List (Waiting × Mark)). remove l at) is_mid ∙ sym (map_remove (woken parent_of_block head.id) before at)
+            ∙ ap (λ (h : Header). map (woken parent_of_block h.id) (remove before at)) same;
+      },
+    )
+
+-- the same of a queue
+pub record IsTaken (before now : Seen) (at : ℕ) (w : Waiting) : Type 0 where
+  pub within : at < length before.seats
+  pub seats : IsLeft before.seats now.seats at w
+  pub gets : now.gets ≡ before.gets
+  pub held : now.held ≡ before.held
+
+pub taken_knows : (board : Board) (before now : Seen) (at : ℕ) (w : Waiting) → IsTaken before now at w → Knows before board → Knows now board
+taken_knows board before now at w is knows =
+    knows_from now board (map (woken parent_of_block w.header.id) (remove before.seats at)) before.gets is.seats.left is.gets
+    (tells_left before.gets board before.seats at w is.within is.seats.taken knows)
+
+taken_items : (before now : Seen) (at : ℕ) (w : Waiting) → IsTaken before now at w → items_of now.seats ≡ remove (items_of before.seats) at
+taken_items before now at w is =
+    ap items_of is.seats.left ∙ items_left parent_of_block w.header.id before.seats before.seats at refl
+
+-- where it stood first of those that pass, it is found
+pub first_taken : (test : Waiting → Bool) (before now : Seen) (at : ℕ) (w : Waiting) → IsTaken before now at w → at ≡ position_or_len test (items_of before.seats)
+    → Some w ≡ find test (items_of before.seats)
+first_taken test before now at w is first =
+    found_first test (items_of before.seats) at w first
+    (omega (arith, is.within, length-map before.seats (λ (s : Waiting × Mark). s.0)))
+    (item_is before.seats at w is.within is.seats.taken)
+
+-- and where the first is the end, none is
+pub none_first : (test : Waiting → Bool) (s : Seen) (at : ℕ) → at ≡ position_or_len test (items_of s.seats) → length s.seats ≤ at
+    → None ≡ find test (items_of s.seats)
+none_first test s at first past =
+    found_none test (items_of s.seats) (omega (arith, first, past, length-map s.seats (λ (s : Waiting × Mark). s.0)))
+
+pub at_end : (test : Waiting → Bool) (s : Seen) (at : ℕ) → at ≡ position_or_len test (items_of s.seats) → length s.seats ≤ at → length s.seats ≡ at
+at_end test s at first past =
+    omega (arith, first, past, within_length test (items_of s.seats), length-map s.seats (λ (s : Waiting × Mark). s.0))
+
+-- ---- which step applies
+
+pub hopeless_step : (q : Lists) (board : Board) (w : Waiting) → Some w ≡ find (is_hopeless q board) q.waiting → Some (work.Hopeless w) ≡ work_of q board
+hopeless_step q board w found =
+    ap (λ o. option_or (option_map work.Hopeless o) (option_or (option_map work.Ready (find (is_ready board) q.waiting)) (option_map work.Vote (find (is_free q) q.held)))) found
+
+pub ready_step : (q : Lists) (board : Board) (w : Waiting) → None ≡ find (is_hopeless q board) q.waiting → Some w ≡ find (is_ready board) q.waiting
+    → Some (work.Ready w) ≡ work_of q board
+ready_step q board w none found =
+    let vote = option_map work.Vote (find (is_free q) q.held) in
+    ap (λ o. option_or (option_map work.Ready o) vote) found
+    ∙ ap (λ o. option_or (option_map work.Hopeless o) (option_or (option_map work.Ready (find (is_ready board) q.waiting)) vote)) none
+
+pub vote_step : (q : Lists) (board : Board) → None ≡ find (is_hopeless q board) q.waiting → None ≡ find (is_ready board) q.waiting
+    → option_map work.Vote (find (is_free q) q.held) ≡ work_of q board
+vote_step q board none nor =
+    let vote = option_map work.Vote (find (is_free q) q.held) in
+    ap (λ o. option_or (option_map work.Ready o) vote) nor
+    ∙ ap (λ o. option_or (option_map work.Hopeless o) (option_or (option_map work.Ready (find (is_ready board) q.waiting)) vote)) none
+
+-- ---- the lists after it
+
+pub after_hopeless : (board : Board) (before now : Seen) (at : ℕ) (w : Waiting) → IsTaken before now at w
+    → at ≡ position_or_len (is_hopeless (lists_of before) board) (items_of before.seats) → now.gone ≡ gone_with before.gone w.header
+    → lists_of now ≡ after (lists_of before) board (Some (work.Hopeless w))
+after_hopeless board before now at w is first gone =
+    let items = items_of before.seats in
+    lists_by now (without (is_hopeless (lists_of before) board) items) before.gets before.held (gone_with before.gone w.header)
+    (taken_items before now at w is ∙ ap (remove items) first) is.gets is.held gone
+
+pub after_ready : (board : Board) (before now : Seen) (at : ℕ) (w : Waiting) → IsTaken before now at w
+    → at ≡ position_or_len (is_ready board) (items_of before.seats) → now.gone ≡ before.gone
+    → lists_of now ≡ after (lists_of before) board (Some (work.Ready w))
+after_ready board before now at w is first gone =
+    let items = items_of before.seats in
+    lists_by now (without (is_ready board) items) before.gets before.held before.gone
+    (taken_items before now at w is ∙ ap (remove items) first) is.gets is.held gone
