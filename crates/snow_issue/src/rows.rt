@@ -6,6 +6,7 @@ ghost use Rattle.snow_issue.specs.Index.{row_of, left_by};
 use snow_base::Id;
 use std::alloc::{AllocError, Global};
 use std::collections::HashMap;
+use std::collections::hash_map::Entry;
 use std::marker::Model;
 
 /// Places, in the order in which they came. The last one stands apart, so that a row of one place
@@ -26,13 +27,13 @@ impl Model for Row {
 }
 
 impl Row {
-    // No place.
-    fn new(alloc: Global) -> Row
-        ensures { result ≡ [] }
+    // One place.
+    fn of(alloc: Global, place: u64) -> Row
+        ensures { result ≡ place ∷ [] }
     {
         Row {
             before: Vec::new(alloc),
-            last: None,
+            last: Some(place),
         }
     }
 
@@ -47,10 +48,16 @@ impl Row {
         Ok(())
     }
 
-    // A place goes, and the answer is whether none is left.
-    fn leave(&mut self, place: u64) -> bool
-        ensures left { self.new ≡ left_by place self.old }
-        ensures empty { OnTrue result (self.new ≡ []) }
+    // Whether none is left where this place goes.
+    fn is_left_empty(&self, place: u64) -> bool
+        ensures { OnTrue result (left_by place self.now ≡ []) }
+    {
+        self.before.is_empty() && other_than(self.last, place).is_none()
+    }
+
+    // A place goes.
+    fn leave(&mut self, place: u64)
+        ensures { self.new ≡ left_by place self.old }
     {
         self.before.retain(
             |other: &u64| -> bool
@@ -58,7 +65,6 @@ impl Row {
             { *other != place },
         );
         self.last = other_than(self.last, place);
-        self.before.is_empty() && self.last.is_none()
     }
 
     // All but the last place, and the last one.
@@ -105,19 +111,31 @@ impl Rows {
         ensures ok { OnOk result ((q : List ℕ) → row_of self.new.rows q ≡ (if bytes_eq key q then row_of self.old.rows q ++ place ∷ [] else row_of self.old.rows q)) }
         ensures err { OnErr result ((q : List ℕ) → row_of self.new.rows q ≡ row_of self.old.rows q) }
     {
-        let row = self.rows.entry(key)?.or_insert(Row::new(alloc));
-        row.push(place)
+        match self.rows.entry(key)? {
+            Entry::Occupied(entry) => entry.into_mut().push(place),
+            Entry::Vacant(entry) => {
+                let _ = entry.insert(Row::of(alloc, place));
+                Ok(())
+            }
+        }
     }
 
-    /// A place of a key goes. It takes no memory.
+    /// A place of a key goes. It takes no memory where the key has one, and one look-up.
     pub(crate) fn leave(&mut self, key: &Id, place: u64)
         ensures { (q : List ℕ) → row_of self.new.rows q ≡ (if bytes_eq key.now q then left_by place (row_of self.old.rows q) else row_of self.old.rows q) }
     {
-        let Some(row) = self.rows.get_mut(key) else {
-            return;
-        };
-        if row.leave(place) {
-            let _ = self.rows.remove(key);
+        match self.rows.entry(*key) {
+            Ok(Entry::Occupied(entry)) => {
+                if entry.get().is_left_empty(place) {
+                    let _ = entry.remove();
+                } else {
+                    entry.into_mut().leave(place);
+                }
+            }
+            Ok(Entry::Vacant(entry)) => {
+                let _ = entry.into_key();
+            }
+            Err(_) => (),
         }
     }
 

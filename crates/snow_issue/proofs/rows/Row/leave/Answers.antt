@@ -5,8 +5,8 @@ use Rattle.std.proofs.lemmas.List.Elements.{filter-append}
 use Rattle.snow_issue.specs.Index.{left_by}
 use Rattle.snow_issue.proofs.rows.Row.leave.Goals as goal
 
-pub returns-clause-left : goal.returns-clause-left
-returns-clause-left c =
+pub returns : goal.returns
+returns c =
     let test : ℕ → _ = λ p. not (p == c.args.place) in
     let kept = filter_same _ test _ (λ x b f k. search rules) _ _ c.retain.ensures.filtered in
     ap (λ (l : List ℕ). l ++ option_to_list c.other_than-self-inside.result) kept
