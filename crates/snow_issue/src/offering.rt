@@ -15,6 +15,10 @@ use snow_plain::Board;
 pub(crate) fn is_on<B: Board>(board: &B, id: &Id) -> bool
     ensures { result ≡ is_on (B.board board.now) id.now }
 {
+    // Where nothing is pending, only the last accepted block is there.
+    if board.pending_len() == 0 {
+        return board.last() == *id;
+    }
     board.height_of(id).is_some()
 }
 
