@@ -91,10 +91,11 @@ impl WaitingList {
         ensures ok { OnOk result (self.new ≡ self.old ++ (block, New) ∷ []) }
         ensures err { OnErr result (self.new ≡ self.old) }
     {
-        let header = block.header;
-        self.heights.insert(header.id, header.height)?;
+        let header = &block.header;
+        let (id, height) = (header.id, header.height);
+        self.heights.insert(id, height)?;
         if let Err(error) = self.lineup.push(block) {
-            let _ = self.heights.remove(&header.id);
+            let _ = self.heights.remove(&id);
             return Err(error);
         }
         Ok(())
