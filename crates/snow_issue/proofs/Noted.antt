@@ -1,11 +1,10 @@
 -- Lemmas on rows: the places of each key.
-use Rattle.std.proofs.Common.{◌≡◌, ℕ, ◌==◌, Bool, true, false, not, ◌||◌, cond, List, [], ◌∷◌, ◌++◌, Option, Some, unwrap_or, refl, sym, ap, ◌∙◌}
-use Rattle.std.specs.HashMap.{get}
+use Rattle.std.proofs.Common.{◌≡◌, ℕ, ◌==◌, Bool, true, false, not, ◌||◌, cond, List, [], ◌∷◌, ◌++◌, refl, sym, ap, ◌∙◌}
 use Rattle.std.specs.Str.{bytes_eq}
 use Rattle.std.proofs.lemmas.Bool.{ne_eqb, eqb-true, false_from_ne_true}
 use Rattle.std.proofs.lemmas.List.Folds.{list_any-append}
 use Rattle.std.proofs.lemmas.Slice.Eq.{bytes_eq-Decides}
-use Rattle.snow_issue.specs.Index.{RowMap, row_of, has_place, left_by}
+use Rattle.snow_issue.specs.Index.{has_place, left_by}
 use Rattle.snow_issue.proofs.Booleans.{or_false}
 
 pub same_id : (a b : List ℕ) → bytes_eq a b ≡ true → a ≡ b
@@ -21,30 +20,6 @@ id_turned a b =
       | true ↦ λ e. sym ((bytes_eq-Decides b a).1 (sym (same_id a b e)))
       | false ↦ λ e. sym (false_from_ne_true (bytes_eq b a) (λ t. let k = (bytes_eq-Decides a b).1 (sym (same_id b a t)) in let z : true ≡ false = sym k ∙ e in absurd cc))
     ] refl
-
--- where a key's row is exchanged, or goes, and is then what `change` makes of it
-pub changed : (before now : RowMap) (key : List ℕ) (w : Option (List ℕ)) (change : List ℕ → List ℕ)
-    → unwrap_or w [] ≡ change (row_of before key)
-    → ((q : List ℕ) → get bytes_eq now q ≡ cond (bytes_eq key q) w (get bytes_eq before q))
-    → (q : List ℕ) → row_of now q ≡ cond (bytes_eq key q) (change (row_of before q)) (row_of before q)
-changed before now key w change is h q =
-    let found = get bytes_eq before q in
-    let Goal : Bool → Type 0 = λ b. bytes_eq key q ≡ b → unwrap_or (cond b w found) [] ≡ cond b (change (row_of before q)) (row_of before q) in
-    ap (λ o. unwrap_or o []) (h q)
-    ∙ (elim (bytes_eq key q) as Goal [
-      | true ↦ λ e. is ∙ ap (λ k. change (row_of before k)) (same_id key q e)
-      | false ↦ λ e. refl
-    ] refl)
-
--- the row of a key that the map has
-pub row_is : (m : RowMap) (key row : List ℕ) → Some row ≡ get bytes_eq m key → row ≡ row_of m key
-row_is m key row h = ap (λ o. unwrap_or o []) h
-
--- two changes of one row, the second of which leaves nothing
-pub changed_twice : (b : Bool) (change : List ℕ → List ℕ) (row other : List ℕ) → other ≡ cond b (change row) row → (b ≡ true → change row ≡ [])
-    → cond b [] other ≡ cond b (change row) row
-changed_twice true change row other h empty = sym (empty refl)
-changed_twice false change row other h empty = h
 
 -- ---- what a row has
 

@@ -5,8 +5,19 @@ use crate::gone::GoneList;
 use snow_base::Id;
 use snow_plain::Board;
 
-/// The vote that a reply gives. The gone list can hold a circle, so the bound on the steps binds.
+/// The vote that a reply gives. Mostly its block is pending, and so is itself the vote.
 pub(crate) fn bubble<B: Board>(gone: &GoneList, board: &B, id: &Id) -> Option<Id>
+    ensures { result ≡ bubbled_in 8192 gone.now (B.board board.now) id.now }
+{
+    if board.is_pending(id) {
+        return Some(*id);
+    }
+    climb(gone, board, id)
+}
+
+// The same step by step. The gone list can hold a circle, so the bound on the steps binds.
+#[inline(never)]
+fn climb<B: Board>(gone: &GoneList, board: &B, id: &Id) -> Option<Id>
     ensures { result ≡ bubbled_in 8192 gone.now (B.board board.now) id.now }
 {
     let mut at = *id;

@@ -60,6 +60,14 @@ impl GetMap {
         if self.open.len() == 0 {
             return false;
         }
+        self.has_id(id)
+    }
+
+    // The same by the index.
+    #[inline(never)]
+    fn has_id(&self, id: &Id) -> bool
+        ensures { result ≡ asked_in self.now id.now }
+    {
         self.ids.contains(id)
     }
 

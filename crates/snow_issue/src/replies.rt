@@ -71,6 +71,14 @@ impl Replies {
         if self.lineup.len() == 0 {
             return false;
         }
+        self.has_node(number, node)
+    }
+
+    // The same by the index.
+    #[inline(never)]
+    fn has_node(&self, number: u32, node: &NodeId) -> bool
+        ensures { result ≡ holds_in (items_of self.now) number node.now }
+    {
         match self.polls.get(&number) {
             Some(nodes) => nodes.contains(node),
             None => false,

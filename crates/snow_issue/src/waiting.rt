@@ -69,6 +69,14 @@ impl WaitingList {
         if self.lineup.len() == 0 {
             return false;
         }
+        self.has_height(id)
+    }
+
+    // The same by the index.
+    #[inline(never)]
+    fn has_height(&self, id: &Id) -> bool
+        ensures { result ≡ waits_among (items_of self.now) id.now }
+    {
         self.heights.contains_key(id)
     }
 

@@ -4,7 +4,7 @@ use Rattle.std.specs.Str.{bytes_eq}
 use Rattle.snow_issue.specs.Lists.{waits_among}
 use Rattle.snow_issue.specs.Known.{items_of}
 use Rattle.snow_issue.proofs.Heights.{waits_known}
-use Rattle.snow_issue.proofs.waiting.WaitingList.waits.Goals as goal
+use Rattle.snow_issue.proofs.waiting.WaitingList.has_height.Goals as goal
 
 pub returns : goal.returns
 returns c =
