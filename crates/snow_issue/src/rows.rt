@@ -107,6 +107,7 @@ impl Rows {
     }
 
     /// One place more of a key. After want of memory the rows are as before.
+    #[inline(never)]
     pub(crate) fn note(&mut self, alloc: Global, key: Id, place: u64) -> Result<(), AllocError>
         ensures ok { OnOk result ((q : List ℕ) → row_of self.new.rows q ≡ (if bytes_eq key q then row_of self.old.rows q ++ place ∷ [] else row_of self.old.rows q)) }
         ensures err { OnErr result ((q : List ℕ) → row_of self.new.rows q ≡ row_of self.old.rows q) }
@@ -121,6 +122,7 @@ impl Rows {
     }
 
     /// A place of a key goes. It takes no memory where the key has one, and one look-up.
+    #[inline(never)]
     pub(crate) fn leave(&mut self, key: &Id, place: u64)
         ensures { (q : List ℕ) → row_of self.new.rows q ≡ (if bytes_eq key.now q then left_by place (row_of self.old.rows q) else row_of self.old.rows q) }
     {

@@ -94,6 +94,7 @@ impl WaitingList {
     }
 
     /// Appends a block that doesn't wait yet. After want of memory all is as before.
+    #[inline(never)]
     pub(crate) fn push(&mut self, block: Waiting) -> Result<(), AllocError>
         requires { waits_among (items_of self.old) block.header.id ≡ false }
         ensures ok { OnOk result (self.new ≡ self.old ++ (block, New) ∷ []) }
