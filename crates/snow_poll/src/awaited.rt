@@ -47,15 +47,15 @@ impl Awaited {
     }
 
     // Awaits a node, drawn so often.
-    pub(crate) fn insert(&mut self, node: NodeId, count: u32) -> Result<(), AllocError>
+    pub(crate) fn insert(&mut self, node: &NodeId, count: u32) -> Result<(), AllocError>
         requires { length self.old.waits.items + 1 < 2 ^ 32 }
-        ensures counts { OnOk result ((other : List ℕ) → counts_at self.new.waits.items other ≡ (if bytes_eq node other then Some count else counts_at self.old.waits.items other)) }
-        ensures drawn { OnOk result (map draw_of self.new.waits.items ≡ map draw_of self.old.waits.items ++ record { node = node; count = count } ∷ []) }
+        ensures counts { OnOk result ((other : List ℕ) → counts_at self.new.waits.items other ≡ (if bytes_eq node.now other then Some count else counts_at self.old.waits.items other)) }
+        ensures drawn { OnOk result (map draw_of self.new.waits.items ≡ map draw_of self.old.waits.items ++ record { node = node.now; count = count } ∷ []) }
     {
-        let class = class(&node, self.mask);
+        let class = class(node, self.mask);
         let before = self.lasts[class];
         self.waits.push(Wait {
-            node,
+            node: *node,
             count,
             before,
             replied: false,
@@ -92,6 +92,7 @@ impl Awaited {
     }
 
     // The number of a node, and 0 where it isn't there.
+    #[inline(always)]
     fn find(&self, node: &NodeId) -> usize
         ensures { IsNumberOf self.now.waits.items node.now result }
     {

@@ -102,10 +102,9 @@ impl Poll {
         let Some(times) = self.awaited.remove(node) else {
             return false;
         };
-        let reply = Reply { node: *node, id };
         self.outstanding -= times;
-        self.most = tally::give(&mut self.votes, self.most, &reply, times);
-        self.replies.push_reserved(reply);
+        self.most = tally::give(&mut self.votes, self.most, &id, times);
+        self.replies.push_reserved(Reply { node: *node, id });
         true
     }
 
@@ -148,7 +147,7 @@ fn awaited_of(waits: Vec<Wait>, lasts: Vec<u32>, draws: &[Draw]) -> Result<Await
 {
     let mut awaited = Awaited::begin(waits, lasts, draws.len())?;
     for draw in draws {
-        awaited.insert(draw.node, draw.count)?;
+        awaited.insert(&draw.node, draw.count)?;
     }
     Ok(awaited)
 }

@@ -3,7 +3,6 @@ ghost use Rattle.snow_base.specs.Votes.{total_count, most_count, IsInBitOrder, I
 ghost use Rattle.snow_poll.specs.Poll.{given};
 ghost use Rattle.snow_poll.specs.Kept.{count_of};
 
-use crate::reply::Reply;
 use snow_base::{Bag, Id, Vote};
 
 // So few identifiers have their counts looked at sooner than one of them is found.
@@ -12,16 +11,16 @@ const FEW: usize = 8;
 // Gives votes, for which there is room, to what a reply names, and answers the most that one
 // identifier has then. Before, one has `most`.
 #[tactic(auto, using(crate::proofs::Counting::most_added))]
-pub(crate) fn give(votes: &mut Bag, most: u32, reply: &Reply, times: u32) -> u32
+pub(crate) fn give(votes: &mut Bag, most: u32, id: &Option<Id>, times: u32) -> u32
     requires some { 1 ≤ times }
     requires total { total_count votes.old.list + times < 2 ^ 32 }
     requires room { 1 ≤ votes.old.room }
     requires most { most ≡ most_count votes.old.list }
-    ensures list { votes.new.list ≡ given votes.old.list reply.now.id times }
+    ensures list { votes.new.list ≡ given votes.old.list id.now times }
     ensures most { result ≡ most_count votes.new.list }
     ensures places { votes.old.room ≤ votes.new.room + 1 }
 {
-    let Some(id) = &reply.id else {
+    let Some(id) = id else {
         return most;
     };
     let added: Result<_, _> = votes.add(*id, times);
