@@ -1,5 +1,5 @@
 -- What would be the first thing to do is done as it comes: a reply needn't be held, nor need a block wait.
-use Rattle.std.proofs.Common.{◌≡◌, ℕ, true, List, append-nil, Option, Some, Result, Ok, Err, refl, ap, ◌∙◌}
+use Rattle.std.proofs.Common.{◌≡◌, ℕ, Bool, true, false, cond, not, ◌&&◌, List, append-nil, Option, Some, Result, Ok, Err, refl, ap, ◌∙◌}
 use Rattle.snow_flake.specs.Rule.{Answer}
 use Rattle.snow_chain.specs.Chain.{Rules}
 use Rattle.snow_lines.specs.declared.line.Line.{Line}
@@ -7,7 +7,9 @@ use Rattle.snow_issue.specs.declared.work.Held.{Held}
 use Rattle.snow_issue.specs.declared.work.Waiting.{Waiting}
 use Rattle.snow_issue.specs.declared.work.Work.{Work}
 use Rattle.snow_issue.specs.declared.work.Work.TheVariants as work
-use Rattle.snow_issue.specs.Lists.{Lists, after_held, with_waiting}
+use Rattle.snow_poll.specs.declared.polls.Answered.TheVariants.{Counted, NotAwaited}
+use Rattle.snow_poll.specs.Table.{is_awaited, answer as answer_of}
+use Rattle.snow_issue.specs.Lists.{Lists, after_held, with_waiting, holds_in}
 use Rattle.snow_issue.specs.Settling.{work_of, after}
 use Rattle.snow_issue.proofs.Idle.{first_to_do, counts, next_to_do, next_parts, next_waits}
 use Rattle.snow_node.specs.declared.stop.EngineStop.{EngineStop}
@@ -15,7 +17,7 @@ use Rattle.snow_node.specs.Outcome.{Comes, quietly, after_lines, going_on, then_
 use Rattle.snow_node.specs.Running.{Running}
 use Rattle.snow_node.specs.Closing.{tallied}
 use Rattle.snow_node.specs.Settling.{placed, done, worked, carried_out, one_settled, left_to_do, settled}
-use Rattle.snow_node.specs.Hearing.{IsFirst, IsNext, vote_held, vote_counts, taken_in, brought, block_brings}
+use Rattle.snow_node.specs.Hearing.{IsFirst, IsNext, vote_held, vote_counts, vote_came, counted_if_awaited, taken_in, brought, block_brings}
 use Rattle.snow_node.proofs.Looping.{settling_falls}
 use Rattle.snow_node.proofs.Made.{one_then}
 
@@ -50,6 +52,40 @@ counted_at_once rules answer node number peer id vote first =
     ap (λ (c : Comes Running). then_comes c (settled rules answer)) known
     ∙ first_done rules answer holding (work.Vote reply) node.queue work_is.0 work_is.1
     ∙ ap (λ (v : Option (List ℕ)). then_comes (tallied answer node number peer v) (settled rules answer)) parts.2
+
+-- so it may be counted before it is asked whether it is awaited, unless a reply of the peer is held
+pub came_at_once : (rules : Rules) (answer : Answer) (node : Running) (number : ℕ) (peer id : List ℕ) (vote : Option (List ℕ)) → IsFirst node id vote
+    → holds_in node.queue.held number peer ≡ false
+    → vote_came rules answer node number peer id ≡ counted_if_awaited rules answer node number peer vote
+came_at_once rules answer node number peer id vote first free =
+    ap (λ (h : Bool). cond (is_awaited node.polls.polls number peer && not h) (vote_counts rules answer node number peer id) (quietly node)) free
+    ∙ by (is_awaited node.polls.polls number peer)
+  where
+    by : (b : Bool) → cond (b && not false) (vote_counts rules answer node number peer id) (quietly node)
+        ≡ cond b (then_comes (tallied answer node number peer vote) (settled rules answer)) (quietly node)
+    by true = counted_at_once rules answer node number peer id vote first
+    by false = refl
+
+-- a vote that was counted was awaited
+pub was_counted : (rules : Rules) (answer : Answer) (node : Running) (number : ℕ) (peer : List ℕ) (vote : Option (List ℕ))
+    → Counted ≡ answer_of node.polls.polls number peer
+    → counted_if_awaited rules answer node number peer vote ≡ then_comes (tallied answer node number peer vote) (settled rules answer)
+was_counted rules answer node number peer vote e = by (is_awaited node.polls.polls number peer) e
+  where
+    by : (b : Bool) → Counted ≡ cond b Counted NotAwaited
+        → cond b (then_comes (tallied answer node number peer vote) (settled rules answer)) (quietly node) ≡ then_comes (tallied answer node number peer vote) (settled rules answer)
+    by true e = refl
+    by false e = absurd cc
+
+-- any other was not
+pub not_counted : (rules : Rules) (answer : Answer) (node : Running) (number : ℕ) (peer : List ℕ) (vote : Option (List ℕ))
+    → NotAwaited ≡ answer_of node.polls.polls number peer → counted_if_awaited rules answer node number peer vote ≡ quietly node
+not_counted rules answer node number peer vote e = by (is_awaited node.polls.polls number peer) e
+  where
+    by : (b : Bool) → NotAwaited ≡ cond b Counted NotAwaited
+        → cond b (then_comes (tallied answer node number peer vote) (settled rules answer)) (quietly node) ≡ quietly node
+    by true e = absurd cc
+    by false e = refl
 
 -- to let such a block wait and to settle is to place it and to settle
 pub placed_at_once : (rules : Rules) (answer : Answer) (node : Running) (w : Waiting) → IsNext node w.header

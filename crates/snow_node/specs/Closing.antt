@@ -51,6 +51,10 @@ running_polls node = length node.polls.polls
 abbrev pub closed_out : Answer → Running → Comes Running
 closed_out answer node = all_made running_polls (one_closed answer) node
 
--- a peer's vote is counted, or that it gives none, and closed polls leave
+-- a peer's vote is counted, or that it gives none
+abbrev pub with_vote : Running → ℕ → List ℕ → Option (List ℕ) → Running
+with_vote node number peer vote = record node { polls = voted node.polls number peer vote }
+
+-- and closed polls leave
 abbrev pub tallied : Answer → Running → ℕ → List ℕ → Option (List ℕ) → Comes Running
-tallied answer node number peer vote = closed_out answer (record node { polls = voted node.polls number peer vote })
+tallied answer node number peer vote = closed_out answer (with_vote node number peer vote)

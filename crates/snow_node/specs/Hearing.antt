@@ -112,6 +112,11 @@ vote_came rules answer node number peer id = if waits_for node number peer then 
 abbrev pub IsFirst : Running → List ℕ → Option (List ℕ) → Type 0
 IsFirst node id vote = IsIdle node.queue node.board × (vote_at_once node.queue node.board id ≡ Some vote)
 
+-- a vote is counted where it is awaited, and all that it brings is done
+abbrev pub counted_if_awaited : Rules → Answer → Running → ℕ → List ℕ → Option (List ℕ) → Comes Running
+counted_if_awaited rules answer node number peer vote =
+    if is_awaited node.polls.polls number peer then then_comes (tallied answer node number peer vote) (settled rules answer) else quietly node
+
 -- a peer gives no vote, and closed polls leave
 abbrev pub vote_lost : Answer → Running → ℕ → List ℕ → Comes Running
 vote_lost answer node number peer =

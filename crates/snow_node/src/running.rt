@@ -149,7 +149,7 @@ impl<C: Chain, B: Board> Running<C, B> {
                 request,
                 bytes,
             } => self.take_block(frame, *node, *request, bytes.list(), log),
-            Event::Chits { node, request, id } => self.take_vote(*request, node, *id, log),
+            Event::Chits { node, request, id } => self.take_vote(*request, node, id, log),
             Event::Timeout { node, request } => self.lapse(*request, node, log),
             Event::Words { words } => self.take_words(frame, words, log),
             Event::Validators { nodes } => self.take_nodes(frame, nodes, log),
@@ -190,9 +190,15 @@ impl<C: Chain, B: Board> Running<C, B> {
     }
 
     /// A vote came, and the event ends.
-    fn take_vote(&mut self, number: u32, peer: &NodeId, id: Id, log: &mut Lines) -> Result<(), Halt>
-        ensures answer { Turns result self.new (then_comes (hearing.vote_came C.rules B.answer self.old number peer.now id) (model.rounded B.answer)).1 }
-        ensures lines { Tells result log.old log.new (then_comes (hearing.vote_came C.rules B.answer self.old number peer.now id) (model.rounded B.answer)).0 }
+    fn take_vote(
+        &mut self,
+        number: u32,
+        peer: &NodeId,
+        id: &Id,
+        log: &mut Lines,
+    ) -> Result<(), Halt>
+        ensures answer { Turns result self.new (then_comes (hearing.vote_came C.rules B.answer self.old number peer.now id.now) (model.rounded B.answer)).1 }
+        ensures lines { Tells result log.old log.new (then_comes (hearing.vote_came C.rules B.answer self.old number peer.now id.now) (model.rounded B.answer)).0 }
     {
         self.receive_vote(number, peer, id, log)?;
         self.round(log)

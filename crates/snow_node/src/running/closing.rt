@@ -2,6 +2,7 @@ ghost use Rattle.std.specs.Prelude.{◌≡◌, ◌≤◌};
 ghost use Rattle.snow_base.specs.Votes.{total_count};
 ghost use Rattle.snow_plain.specs.Poll.{poll};
 ghost use Rattle.snow_plain.specs.Board.{Board};
+ghost use Rattle.snow_poll.specs.Table.{answer};
 ghost use Rattle.snow_issue.specs.Known.{Knows, lists_of};
 ghost use Rattle.snow_node.specs.Closing as model;
 ghost use Rattle.snow_node.specs.Stepping.{Answers, Tells, Turns};
@@ -16,6 +17,7 @@ use snow_chain::Chain;
 use snow_issue::Queue;
 use snow_lines::Lines;
 use snow_plain::{Board, Decision};
+use snow_poll::Answered;
 
 impl<C: Chain, B: Board> Running<C, B> {
     /// A peer's vote is counted, or that it gives none, and closed polls leave.
@@ -29,12 +31,23 @@ impl<C: Chain, B: Board> Running<C, B> {
         ensures answer { Turns result self.new (model.tallied B.answer self.old number peer.now vote).1 }
         ensures lines { Tells result log.old log.new (model.tallied B.answer self.old number peer.now vote).0 }
     {
-        self.polls.vote(number, peer, vote);
+        self.enter(number, peer, vote);
         self.close_polls(log)
     }
 
-    /// Polls leave while the front one is closed, and their votes are recorded.
-    fn close_polls(&mut self, log: &mut Lines) -> Result<(), Halt>
+    /// A peer's vote is counted where it is awaited, or that it gives none; whether it was.
+    pub(super) fn enter(&mut self, number: u32, peer: &NodeId, vote: Option<Id>) -> Answered
+        ensures answer { result ≡ answer self.old.polls.polls number peer.now }
+        ensures node { self.new ≡ model.with_vote self.old number peer.now vote }
+        ensures unchanged { result ≡ Answered.NotAwaited → self.new ≡ self.old }
+    {
+        self.polls.vote(number, peer, vote)
+    }
+
+    /// Polls leave while the front one is closed, and their votes are recorded. It is put in place, since
+    /// most replies close no poll.
+    #[inline(always)]
+    pub(super) fn close_polls(&mut self, log: &mut Lines) -> Result<(), Halt>
         ensures answer { Turns result self.new (model.closed_out B.answer self.old).1 }
         ensures lines { Tells result log.old log.new (model.closed_out B.answer self.old).0 }
     {
@@ -43,6 +56,7 @@ impl<C: Chain, B: Board> Running<C, B> {
     }
 
     /// The front poll leaves if it is closed, and its held replies with it; whether it did.
+    #[inline(always)]
     fn close_one(&mut self, log: &mut Lines) -> Result<bool, Halt>
         ensures answer { Answers result self.new (model.one_closed B.answer self.old).1 }
         ensures lines { Tells result log.old log.new (model.one_closed B.answer self.old).0 }
@@ -56,7 +70,9 @@ impl<C: Chain, B: Board> Running<C, B> {
         recorded
     }
 
-    /// Votes are recorded, and chain and queue told what they decided, which peers are served then.
+    /// Votes are recorded, and chain and queue told what they decided, which peers are served then. It
+    /// stands apart, so that a reply that closes no poll doesn't pay for it.
+    #[inline(never)]
     fn record(&mut self, votes: &Bag, log: &mut Lines) -> Result<bool, Halt>
         requires { total_count votes.now.list ≤ self.old.board.parameters.k }
         ensures answer { Answers result self.new (model.moved_on B.answer self.old (poll self.old.board votes.now.list)).1 }

@@ -1,11 +1,12 @@
-ghost use Rattle.std.specs.Prelude.{◌≡◌, None, true, IfSome};
+ghost use Rattle.std.specs.Prelude.{◌≡◌, None, true, false, IfSome};
 ghost use Rattle.snow_lines.specs.declared.line.Line.TheVariants as line;
 ghost use Rattle.snow_lines.specs.declared.why.SkipKind.TheVariants as kind;
 ghost use Rattle.snow_issue.specs.declared.work.Waiting.{Waiting as Block};
+ghost use Rattle.snow_issue.specs.Lists.{holds_in};
 ghost use Rattle.snow_node.specs.Kept.{MayFetch};
 ghost use Rattle.snow_node.specs.Running.{numbered};
 ghost use Rattle.snow_node.specs.Hearing as model;
-ghost use Rattle.snow_node.specs.Closing.{tallied};
+ghost use Rattle.snow_node.specs.Closing.{closed_out};
 ghost use Rattle.snow_node.specs.Outcome.{then_comes, with_line};
 ghost use Rattle.snow_node.specs.Settling.{placed, settled};
 ghost use Rattle.snow_node.specs.Stepping.{Tells, Turns};
@@ -19,6 +20,7 @@ use snow_chain::Chain;
 use snow_issue::{Held, Offered};
 use snow_lines::{DropWhy, Line, Lines, SkipKind};
 use snow_plain::Board;
+use snow_poll::Answered;
 
 impl<C: Chain, B: Board> Running<C, B> {
     /// A block of no request came, or the answer to a get; one that no get awaits is passed over.
@@ -188,43 +190,35 @@ impl<C: Chain, B: Board> Running<C, B> {
         &mut self,
         number: u32,
         peer: &NodeId,
-        id: Id,
+        id: &Id,
         log: &mut Lines,
     ) -> Result<(), Halt>
-        ensures answer { Turns result self.new (model.vote_came C.rules B.answer self.old number peer.now id).1 }
-        ensures lines { Tells result log.old log.new (model.vote_came C.rules B.answer self.old number peer.now id).0 }
+        ensures answer { Turns result self.new (model.vote_came C.rules B.answer self.old number peer.now id.now).1 }
+        ensures lines { Tells result log.old log.new (model.vote_came C.rules B.answer self.old number peer.now id.now).0 }
     {
-        if self.awaits(number, peer) {
-            self.take_in(number, peer, id, log)
-        } else {
-            Ok(())
+        match self.vote_at_once(number, peer, id) {
+            Some(vote) => self.count(number, peer, vote, log),
+            None => self.take_in(number, peer, id, log),
         }
     }
 
-    /// A reply that is awaited is counted as it comes, or else held, and all that it brings is done.
-    fn take_in(&mut self, number: u32, peer: &NodeId, id: Id, log: &mut Lines) -> Result<(), Halt>
-        requires { model.waits_for self.old number peer.now ≡ true }
-        ensures answer { Turns result self.new (model.vote_counts C.rules B.answer self.old number peer.now id).1 }
-        ensures lines { Tells result log.old log.new (model.vote_counts C.rules B.answer self.old number peer.now id).0 }
+    /// The vote of a reply that isn't held, where it would be the first thing to do if it is awaited:
+    /// then it needn't be held.
+    fn vote_at_once(&self, number: u32, peer: &NodeId, id: &Id) -> Option<Option<Id>>
+        ensures first { IfSome result (λ vote. model.IsFirst self.now id.now vote) }
+        ensures free { IfSome result (λ _. holds_in self.now.queue.held number peer.now ≡ false) }
     {
-        if let Some(vote) = self.vote_at_once(&id) {
-            return self.count(number, peer, vote, log);
+        if self.queue.holds(number, peer) {
+            return None;
         }
-        self.hold(number, peer, id, log)?;
-        self.settle(log)
-    }
-
-    /// The vote of a reply, where it would be the first thing to do: then it needn't be held.
-    fn vote_at_once(&self, id: &Id) -> Option<Option<Id>>
-        ensures { IfSome result (λ vote. model.IsFirst self.now id.now vote) }
-    {
         match self.remembered {
             Remembered::Idle => self.queue.vote_at_once(id, &self.board),
             _ => None,
         }
     }
 
-    /// A vote is counted, and all that it brings is done.
+    /// A vote is counted where it is awaited, and all that it brings is done. So its poll and its node
+    /// are found once.
     fn count(
         &mut self,
         number: u32,
@@ -232,10 +226,49 @@ impl<C: Chain, B: Board> Running<C, B> {
         vote: Option<Id>,
         log: &mut Lines,
     ) -> Result<(), Halt>
-        ensures answer { Turns result self.new (then_comes (tallied B.answer self.old number peer.now vote) (settled C.rules B.answer)).1 }
-        ensures lines { Tells result log.old log.new (then_comes (tallied B.answer self.old number peer.now vote) (settled C.rules B.answer)).0 }
+        ensures answer { Turns result self.new (model.counted_if_awaited C.rules B.answer self.old number peer.now vote).1 }
+        ensures lines { Tells result log.old log.new (model.counted_if_awaited C.rules B.answer self.old number peer.now vote).0 }
     {
-        self.tally(number, peer, vote, log)?;
+        match self.enter(number, peer, vote) {
+            Answered::Counted => self.close_and_settle(log),
+            Answered::NotAwaited => Ok(()),
+        }
+    }
+
+    /// Closed polls leave, and all that this brings is done.
+    fn close_and_settle(&mut self, log: &mut Lines) -> Result<(), Halt>
+        ensures answer { Turns result self.new (then_comes (closed_out B.answer self.old) (settled C.rules B.answer)).1 }
+        ensures lines { Tells result log.old log.new (then_comes (closed_out B.answer self.old) (settled C.rules B.answer)).0 }
+    {
+        self.close_polls(log)?;
+        self.settle(log)
+    }
+
+    /// A reply is held if it is awaited, and all that it brings is done.
+    fn take_in(&mut self, number: u32, peer: &NodeId, id: &Id, log: &mut Lines) -> Result<(), Halt>
+        ensures answer { Turns result self.new (model.vote_came C.rules B.answer self.old number peer.now id.now).1 }
+        ensures lines { Tells result log.old log.new (model.vote_came C.rules B.answer self.old number peer.now id.now).0 }
+    {
+        if self.awaits(number, peer) {
+            self.hold_and_settle(number, peer, id, log)
+        } else {
+            Ok(())
+        }
+    }
+
+    /// A reply that is awaited is held, and all that it brings is done.
+    fn hold_and_settle(
+        &mut self,
+        number: u32,
+        peer: &NodeId,
+        id: &Id,
+        log: &mut Lines,
+    ) -> Result<(), Halt>
+        requires { model.waits_for self.old number peer.now ≡ true }
+        ensures answer { Turns result self.new (model.vote_counts C.rules B.answer self.old number peer.now id.now).1 }
+        ensures lines { Tells result log.old log.new (model.vote_counts C.rules B.answer self.old number peer.now id.now).0 }
+    {
+        self.hold(number, peer, *id, log)?;
         self.settle(log)
     }
 

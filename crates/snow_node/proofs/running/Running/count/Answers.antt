@@ -1,18 +1,35 @@
--- A vote is counted, and then all is settled.
-use Rattle.std.proofs.lemmas.Result.{err_from_is_err_and}
+-- What was counted was awaited, and where nothing was counted nothing changed.
+use Rattle.std.proofs.Common.{◌++◌, append-nil, Ok, refl, sym, ap, ◌∙◌, subst}
+use Rattle.snow_node.specs.Outcome.{Comes, then_comes}
 use Rattle.snow_node.specs.Running.{Running}
-use Rattle.snow_node.specs.Closing.{tallied}
+use Rattle.snow_node.specs.Closing.{closed_out}
 use Rattle.snow_node.specs.Settling.{settled}
-use Rattle.snow_node.proofs.Sequel.{lines_first, lines_then}
+use Rattle.snow_node.specs.Stepping.{Tells, Turns}
+use Rattle.snow_node.proofs.AtOnce.{was_counted, not_counted}
 use Rattle.snow_node.proofs.running.Running.count.Goals as goal
 
-pub returns-in_err-tally-clause-lines : goal.returns-in_err-tally-clause-lines
-returns-in_err-tally-clause-lines g c =
-    let p = err_from_is_err_and c.from_residual.result c.from_residual.ensures.1 in
-    rw (p.1, p.2) (lines_first Running Running (tallied g.B.Board.answer c.args.self.now c.args.number c.args.peer.now c.args.vote) (settled g.C.Chain.rules g.B.Board.answer) (Unit {0}) (Unit {0})
-    c.in_err-tally.field-0.0 c.args.log.now c.tally.new.log c.in_err-tally.ensures.answer c.in_err-tally.ensures.lines)
+pub returns-in-Counted-clause-answer : goal.returns-in-Counted-clause-answer
+returns-in-Counted-clause-answer g c =
+    subst (λ (all : Comes Running). Turns c.close_and_settle.result c.close_and_settle.new.self all.1)
+    (ap (λ (node : Running). then_comes (closed_out g.B.Board.answer node) (settled g.C.Chain.rules g.B.Board.answer)) c.in-Counted.ensures.node
+    ∙ sym (was_counted g.C.Chain.rules g.B.Board.answer c.args.self.now c.args.number c.args.peer.now c.args.vote c.in-Counted.ensures.answer))
+    c.close_and_settle.ensures.answer
 
-pub returns-clause-lines : goal.returns-clause-lines
-returns-clause-lines g c =
-    lines_then Running Running (tallied g.B.Board.answer c.args.self.now c.args.number c.args.peer.now c.args.vote) (settled g.C.Chain.rules g.B.Board.answer) (Unit {0}) c.settle.result c.tally.new.self
-    c.args.log.now c.tally.new.log c.settle.new.log c.in_ok-tally.ensures.answer c.in_ok-tally.ensures.lines c.settle.ensures.lines
+pub returns-in-Counted-clause-lines : goal.returns-in-Counted-clause-lines
+returns-in-Counted-clause-lines g c =
+    subst (λ (all : Comes Running). Tells c.close_and_settle.result c.args.log.now c.close_and_settle.new.log all.0)
+    (ap (λ (node : Running). then_comes (closed_out g.B.Board.answer node) (settled g.C.Chain.rules g.B.Board.answer)) c.in-Counted.ensures.node
+    ∙ sym (was_counted g.C.Chain.rules g.B.Board.answer c.args.self.now c.args.number c.args.peer.now c.args.vote c.in-Counted.ensures.answer))
+    c.close_and_settle.ensures.lines
+
+pub returns-in-NotAwaited-clause-answer : goal.returns-in-NotAwaited-clause-answer
+returns-in-NotAwaited-clause-answer g c =
+    ap (λ (all : Comes Running). all.1)
+    (not_counted g.C.Chain.rules g.B.Board.answer c.args.self.now c.args.number c.args.peer.now c.args.vote c.in-NotAwaited.ensures.answer)
+    ∙ ap (λ (node : Running). Ok node) (sym (c.in-NotAwaited.ensures.unchanged refl))
+
+pub returns-in-NotAwaited-clause-lines : goal.returns-in-NotAwaited-clause-lines
+returns-in-NotAwaited-clause-lines g c =
+    sym (append-nil c.args.log.now)
+    ∙ ap (λ (all : Comes Running). c.args.log.now ++ all.0)
+    (sym (not_counted g.C.Chain.rules g.B.Board.answer c.args.self.now c.args.number c.args.peer.now c.args.vote c.in-NotAwaited.ensures.answer))
