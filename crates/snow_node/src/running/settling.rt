@@ -26,6 +26,7 @@ use snow_plain::Board;
 
 impl<C: Chain, B: Board> Running<C, B> {
     /// Does all that is to do with the blocks and replies that wait.
+    #[inline(always)]
     pub(super) fn settle(&mut self, log: &mut Lines) -> Result<(), Halt>
         ensures answer { Turns result self.new (model.settled C.rules B.answer self.old).1 }
         ensures lines { Tells result log.old log.new (model.settled C.rules B.answer self.old).0 }
@@ -33,6 +34,16 @@ impl<C: Chain, B: Board> Running<C, B> {
         if self.is_idle() {
             return Ok(());
         }
+        self.settle_all(log)
+    }
+
+    /// The same where it isn't known whether anything is to do. It stands apart, so that an event that
+    /// leaves nothing to do doesn't pay for it.
+    #[inline(never)]
+    fn settle_all(&mut self, log: &mut Lines) -> Result<(), Halt>
+        ensures answer { Turns result self.new (model.settled C.rules B.answer self.old).1 }
+        ensures lines { Tells result log.old log.new (model.settled C.rules B.answer self.old).0 }
+    {
         while self.settle_one(log)? {}
         Ok(())
     }

@@ -2,7 +2,7 @@
 use Rattle.snow_node.specs.Settling.{left_to_do, one_settled}
 use Rattle.snow_node.specs.Running.{Running}
 use Rattle.snow_node.proofs.Made.{Along}
-use Rattle.snow_node.proofs.running.Running.settle.Given as goal
+use Rattle.snow_node.proofs.running.Running.settle_all.Given as goal
 
 abbrev pub invariant-loop : goal.invariant-loop
 invariant-loop g l = Along Running left_to_do (one_settled g.C.Chain.rules g.B.Board.answer) l.initial.self l.initial.log l.self l.log
