@@ -117,9 +117,9 @@ impl Poll {
         closes(params, reach, self.outstanding, self.most)
     }
 
-    /// Its votes, and its room for one that is begun later.
-    pub(crate) fn into_votes(self) -> (Bag, Room)
-        ensures votes { result.0.list ≡ votes_of self }
+    /// Its votes. Its room is left for one that is begun later.
+    pub(crate) fn into_votes(self, room: &mut Room) -> Bag
+        ensures votes { result.list ≡ votes_of self }
         ensures within { received self + outstanding self ≤ draw_count self.draws }
     {
         let Poll {
@@ -129,12 +129,12 @@ impl Poll {
             ..
         } = self;
         let Awaited { waits, lasts, .. } = awaited;
-        let room = Room {
+        *room = Room {
             replies,
             waits,
             lasts,
         };
-        (votes, room)
+        votes
     }
 }
 

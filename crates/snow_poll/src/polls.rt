@@ -199,8 +199,7 @@ impl Polls {
         let poll = self.polls.pop_front()?;
         let number = poll.number();
         self.turns.leave(number);
-        let (votes, room) = poll.into_votes();
-        self.room = room;
+        let votes = poll.into_votes(&mut self.room);
         Some(Closed { number, votes })
     }
 

@@ -44,7 +44,7 @@ returns-clause-stands c =
     ∙ ap (λ (t : Table). is_some (finished t.parameters t.polls)) c.self.view_is ∙ c.requires.closed) in
     let good = subst (λ (t : Table). AreGood t.parameters) (sym c.self.view_is) c.requires.good in
     let few : received q + outstanding q ≤ c.self.inside.params.k = omega (arith, c.into_votes-votes.ensures.within, whole 0 q (omega arith)) in
-    subst (λ (t : Table). StandsForFront t.parameters t.polls c.into_votes-votes.result.0.list) c.self.view_is
+    subst (λ (t : Table). StandsForFront t.parameters t.polls c.into_votes-votes.result.list) c.self.view_is
     (rw (c.in_ok-poll.ensures.items, c.into_votes-votes.ensures.votes) (closed_stands c.self.inside.params q good few front.0))
 
 pub returns-clause-few : goal.returns-clause-few
