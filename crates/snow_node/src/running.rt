@@ -148,7 +148,7 @@ impl<C: Chain, B: Board> Running<C, B> {
                 node,
                 request,
                 bytes,
-            } => self.take_block(frame, *node, *request, bytes.list(), log),
+            } => self.take_block(frame, node, *request, bytes.list(), log),
             Event::Chits { node, request, id } => self.take_vote(*request, node, id, log),
             Event::Timeout { node, request } => self.lapse(*request, node, log),
             Event::Words { words } => self.take_words(frame, words, log),
@@ -170,20 +170,20 @@ impl<C: Chain, B: Board> Running<C, B> {
         ensures answer { Turns result self.new (model.runs_on C.rules B.answer self.old frame (as_event block.now)).1 }
         ensures lines { Tells result log.old log.new (model.runs_on C.rules B.answer self.old frame (as_event block.now)).0 }
     {
-        self.take_block(frame, block.node, block.request, block.bytes, log)
+        self.take_block(frame, &block.node, block.request, block.bytes, log)
     }
 
     /// A block came, and the event ends.
     fn take_block(
         &mut self,
         frame: u64,
-        peer: NodeId,
+        peer: &NodeId,
         number: u32,
         bytes: &[u8],
         log: &mut Lines,
     ) -> Result<(), Halt>
-        ensures answer { Turns result self.new (then_comes (hearing.block_came C.rules B.answer self.old frame peer number bytes.now) (model.rounded B.answer)).1 }
-        ensures lines { Tells result log.old log.new (then_comes (hearing.block_came C.rules B.answer self.old frame peer number bytes.now) (model.rounded B.answer)).0 }
+        ensures answer { Turns result self.new (then_comes (hearing.block_came C.rules B.answer self.old frame peer.now number bytes.now) (model.rounded B.answer)).1 }
+        ensures lines { Tells result log.old log.new (then_comes (hearing.block_came C.rules B.answer self.old frame peer.now number bytes.now) (model.rounded B.answer)).0 }
     {
         self.receive_block(frame, peer, number, bytes, log)?;
         self.round(log)

@@ -27,18 +27,18 @@ impl<C: Chain, B: Board> Running<C, B> {
     pub(super) fn receive_block(
         &mut self,
         frame: u64,
-        peer: NodeId,
+        peer: &NodeId,
         number: u32,
         bytes: &[u8],
         log: &mut Lines,
     ) -> Result<(), Halt>
-        ensures answer { Turns result self.new (model.block_came C.rules B.answer self.old frame peer number bytes.now).1 }
-        ensures lines { Tells result log.old log.new (model.block_came C.rules B.answer self.old frame peer number bytes.now).0 }
+        ensures answer { Turns result self.new (model.block_came C.rules B.answer self.old frame peer.now number bytes.now).1 }
+        ensures lines { Tells result log.old log.new (model.block_came C.rules B.answer self.old frame peer.now number bytes.now).0 }
     {
         if number == 0 {
             return self.read_block(frame, peer, bytes, None, log);
         }
-        match self.close_get(number, &peer) {
+        match self.close_get(number, peer) {
             None => Ok(()),
             asked => self.read_block(frame, peer, bytes, asked, log),
         }
@@ -48,13 +48,13 @@ impl<C: Chain, B: Board> Running<C, B> {
     fn read_block(
         &mut self,
         frame: u64,
-        peer: NodeId,
+        peer: &NodeId,
         bytes: &[u8],
         asked: Option<Id>,
         log: &mut Lines,
     ) -> Result<(), Halt>
-        ensures answer { Turns result self.new (model.block_read C.rules B.answer self.old frame peer bytes.now asked).1 }
-        ensures lines { Tells result log.old log.new (model.block_read C.rules B.answer self.old frame peer bytes.now asked).0 }
+        ensures answer { Turns result self.new (model.block_read C.rules B.answer self.old frame peer.now bytes.now asked).1 }
+        ensures lines { Tells result log.old log.new (model.block_read C.rules B.answer self.old frame peer.now bytes.now asked).0 }
     {
         let Some(header) = self.chain.parse(bytes) else {
             return self.skip_block(frame, log);
@@ -79,14 +79,14 @@ impl<C: Chain, B: Board> Running<C, B> {
     /// queue, and all that it brings is done.
     fn bring(
         &mut self,
-        peer: NodeId,
+        peer: &NodeId,
         header: Header,
         bytes: &[u8],
         log: &mut Lines,
     ) -> Result<(), Halt>
-        ensures answer { let block : Block = record { node = peer; header = header; bytes = bytes.now } in
+        ensures answer { let block : Block = record { node = peer.now; header = header; bytes = bytes.now } in
             Turns result self.new (model.block_brings C.rules B.answer self.old block).1 }
-        ensures lines { let block : Block = record { node = peer; header = header; bytes = bytes.now } in
+        ensures lines { let block : Block = record { node = peer.now; header = header; bytes = bytes.now } in
             Tells result log.old log.new (model.block_brings C.rules B.answer self.old block).0 }
     {
         if self.is_next(&header) {
@@ -130,27 +130,27 @@ impl<C: Chain, B: Board> Running<C, B> {
     /// A block is offered to the queue, and its parent asked for where that is unknown.
     fn offer(
         &mut self,
-        peer: NodeId,
+        peer: &NodeId,
         header: Header,
         bytes: &[u8],
         log: &mut Lines,
     ) -> Result<(), Halt>
-        ensures answer { let block : Block = record { node = peer; header = header; bytes = bytes.now } in
+        ensures answer { let block : Block = record { node = peer.now; header = header; bytes = bytes.now } in
             Turns result self.new (model.brought self.old block).1 }
-        ensures lines { let block : Block = record { node = peer; header = header; bytes = bytes.now } in
+        ensures lines { let block : Block = record { node = peer.now; header = header; bytes = bytes.now } in
             Tells result log.old log.new (model.brought self.old block).0 }
     {
         let id = header.id;
         self.remembered = self.remembered.woken();
         match self
             .queue
-            .bring(self.alloc, peer, header, bytes, &self.board)?
+            .bring(self.alloc, *peer, header, bytes, &self.board)?
         {
             Offered::Known => Ok(()),
             Offered::Invalid => drop_block(id, DropWhy::Invalid, log),
             Offered::Old => drop_block(id, DropWhy::Old, log),
             Offered::Full => drop_block(id, DropWhy::Full, log),
-            Offered::Waits { ask } => self.fetch_if(&peer, ask, log),
+            Offered::Waits { ask } => self.fetch_if(peer, ask, log),
         }
     }
 
