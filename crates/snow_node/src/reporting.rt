@@ -27,7 +27,9 @@ pub fn drop_block(id: Id, why: DropWhy, log: &mut Lines) -> Result<(), Halt>
     write(Line::Drop { id, why }, log)
 }
 
-/// The lines of the last poll's decisions, and that of the preference where it changed.
+/// The lines of the last poll's decisions, and that of the preference where it changed. Each line
+/// stands apart, since most polls bring none.
+#[inline]
 #[tactic(auto, using(crate::proofs::Logs::logging))]
 pub fn tell<B: Board>(board: &B, before: &Id, log: &mut Lines) -> Result<(), AllocError>
     ensures ok { OnOk result (log.new ≡ log.old ++ (map model.decision_line (B.decided board.now)
@@ -46,9 +48,18 @@ fn tell_decisions(decisions: &[Decision], log: &mut Lines) -> Result<(), AllocEr
     ensures err { OnErr result (LogsFront log.old log.new (map model.decision_line decisions.now)) }
 {
     for decision in decisions {
-        log.push(line_of(decision))?;
+        tell_decision(decision, log)?;
     }
     Ok(())
+}
+
+/// The line of a decision is appended.
+#[inline(never)]
+fn tell_decision(decision: &Decision, log: &mut Lines) -> Result<(), AllocError>
+    ensures ok { OnOk result (log.new ≡ log.old ++ model.decision_line decision.now ∷ []) }
+    ensures err { OnErr result (log.new ≡ log.old) }
+{
+    log.push(line_of(decision))
 }
 
 /// A line where the preference changed.
@@ -60,7 +71,16 @@ fn tell_preference(before: &Id, after: &Id, log: &mut Lines) -> Result<(), Alloc
     if before == after {
         return Ok(());
     }
-    log.push(Line::Prefer { id: *after })
+    tell_preferred(after, log)
+}
+
+/// The line of a new preference is appended.
+#[inline(never)]
+fn tell_preferred(id: &Id, log: &mut Lines) -> Result<(), AllocError>
+    ensures ok { OnOk result (log.new ≡ log.old ++ Line.Prefer id.now ∷ []) }
+    ensures err { OnErr result (log.new ≡ log.old) }
+{
+    log.push(Line::Prefer { id: *id })
 }
 
 /// The line of a decision.
