@@ -8,3 +8,4 @@ pub mod Pieces
 pub mod Starting
 pub mod Streams
 pub mod Tagged
+pub mod Together

@@ -4,7 +4,7 @@ ghost use Rattle.snow_wire.specs.Reading.{Fault, Reads, bytes_at, number_at, siz
 
 use crate::reader::Reader;
 use crate::skip::Skip;
-use snow_base::{Bytes, Id, Items, NodeId};
+use snow_base::{Bytes, Id, Ids, Items, NodeId};
 use std::alloc::{AllocError, Global};
 
 /// The greatest length of a block.
@@ -108,6 +108,15 @@ pub(crate) fn read_counted<T: Field>(
 {
     let count = reader.count(limit)?;
     read_items(alloc, reader, count)
+}
+
+/// The same of identifiers, whose bytes are taken at once.
+#[tactic(auto, unfolding(crate::specs::Reading::counted_at))]
+pub(crate) fn read_ids(alloc: Global, reader: &mut Reader, limit: u16) -> Result<Ids, Skip>
+    ensures { Reads result reader.new (counted_at (bytes_at 32) limit reader.old) }
+{
+    let count = reader.count(limit)?;
+    reader.ids(alloc, count)
 }
 
 fn read_items<T: Field>(alloc: Global, reader: &mut Reader, count: u16) -> Result<Items<T>, Skip>

@@ -4,7 +4,7 @@ ghost use Rattle.snow_wire.specs.Reading.{Reads, counted_at, id_at, block_at, se
 ghost use Rattle.snow_wire.specs.declared.event.Event.TheVariants as event;
 
 use crate::event::Event;
-use crate::field::read_counted;
+use crate::field::{read_counted, read_ids};
 use crate::reader::Reader;
 use crate::sent::read_block;
 use crate::skip::Skip;
@@ -64,7 +64,7 @@ pub(crate) fn accepted(alloc: Global, reader: &mut Reader) -> Result<Event, Skip
 {
     let node = reader.node()?;
     let request = reader.u32()?;
-    let ids = read_counted(alloc, reader, 4096)?;
+    let ids = read_ids(alloc, reader, 4096)?;
     Ok(Event::Accepted { node, request, ids })
 }
 

@@ -4,7 +4,7 @@ ghost use Rattle.snow_wire.specs.Reading.{Reads, counted_at, id_at, sender_at, m
 ghost use Rattle.snow_wire.specs.declared.event.Event.TheVariants as event;
 
 use crate::event::Event;
-use crate::field::read_counted;
+use crate::field::read_ids;
 use crate::reader::Reader;
 use crate::skip::Skip;
 use std::alloc::Global;
@@ -36,7 +36,7 @@ pub(crate) fn ask_accepted(alloc: Global, reader: &mut Reader) -> Result<Event, 
 {
     let node = reader.node()?;
     let request = reader.u32()?;
-    let ids = read_counted(alloc, reader, 4096)?;
+    let ids = read_ids(alloc, reader, 4096)?;
     Ok(Event::AskAccepted { node, request, ids })
 }
 

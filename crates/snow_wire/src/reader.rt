@@ -1,10 +1,11 @@
-ghost use Rattle.std.specs.Prelude.{◌≡◌, ◌<◌, ℕ, List, length, IfOk};
-ghost use Rattle.snow_wire.specs.Reading.{Reads, ReadsAs, TakesNoMemory, bytes_at, number_at, limited_at, flag_at, sized_at};
+ghost use Rattle.std.specs.Prelude.{◌≡◌, ◌<◌, ◌/◌, ℕ, List, length, IfOk};
+ghost use Rattle.std.specs.Simd.{first_chunks};
+ghost use Rattle.snow_wire.specs.Reading.{Reads, ReadsAs, TakesNoMemory, bytes_at, number_at, limited_at, flag_at, items_at, sized_at};
 
 use crate::skip::Skip;
 use byteorder::{BigEndian, ByteOrder};
-use snow_base::{Bytes, Id, NodeId};
-use std::alloc::Global;
+use snow_base::{Bytes, Id, Ids, NodeId};
+use std::alloc::{AllocError, Global};
 use std::marker::Model;
 
 /// Reads fields from the front of bytes. Contracts see the bytes that are left.
@@ -131,6 +132,14 @@ impl<'a> Reader<'a> {
         Ok(Id::from_bytes(bytes))
     }
 
+    /// So many identifiers, whose bytes are taken at once.
+    pub(crate) fn ids(&mut self, alloc: Global, count: u16) -> Result<Ids, Skip>
+        ensures { Reads result self.new (items_at (bytes_at 32) count self.old) }
+    {
+        let bytes = self.take(32 * usize::from(count))?;
+        Ok(ids_in(alloc, bytes)?)
+    }
+
     pub(crate) fn node(&mut self) -> Result<NodeId, Skip>
         ensures read { Reads result self.new (bytes_at 20 self.old) }
         ensures memory { TakesNoMemory result }
@@ -160,4 +169,16 @@ impl<'a> Reader<'a> {
         let bytes = self.slice(limit)?;
         Ok(Bytes::from_slice(alloc, bytes)?)
     }
+}
+
+/// The identifiers whose bytes stand one behind another.
+fn ids_in(alloc: Global, bytes: &[u8]) -> Result<Ids, AllocError>
+    ensures { IfOk result (λ ids. ids ≡ first_chunks 32 (length bytes.now / 32) bytes.now) }
+{
+    let (chunks, _) = bytes.as_chunks::<32>();
+    let mut ids = Ids::with_capacity(alloc, chunks.len())?;
+    for chunk in chunks {
+        ids.push(Id::from_bytes(*chunk))?;
+    }
+    Ok(ids)
 }

@@ -4,7 +4,7 @@ ghost use Rattle.snow_wire.specs.Reading.{Reads, counted_at, number_at, id_at, b
 ghost use Rattle.snow_wire.specs.declared.event.Event.TheVariants as event;
 
 use crate::event::{Event, Start};
-use crate::field::{MAX_BLOCK, read_counted};
+use crate::field::{MAX_BLOCK, read_counted, read_ids};
 use crate::reader::Reader;
 use crate::skip::Skip;
 use std::alloc::Global;
@@ -46,7 +46,7 @@ pub(crate) fn start(alloc: Global, reader: &mut Reader) -> Result<Event, Skip>
 pub(crate) fn poll(alloc: Global, reader: &mut Reader) -> Result<Event, Skip>
     ensures { Reads result reader.new (single_at (counted_at id_at 1024) event.Poll reader.old) }
 {
-    let ids = read_counted(alloc, reader, 1024)?;
+    let ids = read_ids(alloc, reader, 1024)?;
     Ok(Event::Poll { ids })
 }
 
