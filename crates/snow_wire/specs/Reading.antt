@@ -1,5 +1,5 @@
 -- Events read from the front of bytes, with the first fault that is met.
-use Rattle.std.specs.Prelude.{◌≡◌, ℕ, zero, suc, ◌<◌, Bool, List, [], ◌∷◌, length, take, drop, get_or, slice_index, Result, Ok, Err, nat_le, nat_lt, ◌==◌, if◌then◌else◌}
+use Rattle.std.specs.Prelude.{◌≡◌, ℕ, zero, suc, ◌<◌, Bool, true, false, List, [], ◌∷◌, length, take, drop, get_or, slice_index, Result, Ok, Err, nat_le, nat_lt, ◌==◌, if◌then◌else◌}
 use Rattle.byteorder.specs.Endian.{big_number}
 use Rattle.snow_wire.specs.declared.event.Event.{Event}
 use Rattle.snow_wire.specs.declared.event.Event.TheVariants as event
@@ -41,6 +41,12 @@ abbrev pub TakesNoMemory : {A : Type 0} → Result A Skip → Type 0
 TakesNoMemory (Ok x) = Unit {0}
 TakesNoMemory (Err skip.Memory) = ⊥
 TakesNoMemory (Err e) = Unit {0}
+
+-- a function that wants no bytes left refuses where some are, and for nothing else
+abbrev pub IsEnd : {A : Type 0} → Result A Skip → List ℕ → Type 0
+IsEnd (Ok x) rest = (length rest == 0) ≡ true
+IsEnd (Err skip.Extra) rest = (length rest == 0) ≡ false
+IsEnd (Err e) rest = ⊥
 
 -- each number is a byte's
 abbrev pub IsBytes : List ℕ → Type 0
@@ -200,9 +206,12 @@ tags =
 unfoldable pub fields_at : ℕ → List ℕ → Read Event
 fields_at tag = get_or tags tag unknown_at
 
+-- what was read, where no bytes are left behind it
+abbrev pub to_end : {A : Type 0} → Read A → Result A Fault
+to_end read = read >>= λ x. if length x.1 == 0 then Ok x.0 else Err Extra
+
 -- the event that all of the bytes spell, or the first fault
 unfoldable pub event_of : List ℕ → Result Event Fault
 event_of bytes = do
   tag ← number_at 1 bytes
-  event ← fields_at tag.0 tag.1
-  if length event.1 == 0 then Ok event.0 else Err Extra
+  to_end (fields_at tag.0 tag.1)

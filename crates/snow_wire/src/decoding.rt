@@ -1,7 +1,7 @@
 ghost use Rattle.std.specs.Prelude.{◌≡◌, Ok, IfOk};
 ghost use Rattle.snow_wire.specs.declared.event.Event.{Event};
 ghost use Rattle.snow_wire.specs.Spelling.{IsInRange, spelling};
-ghost use Rattle.snow_wire.specs.Reading.{Gives, Reads, event_of, fields_at};
+ghost use Rattle.snow_wire.specs.Reading.{Gives, event_of, fields_at, to_end};
 
 use crate::event::Event;
 use crate::reader::Reader;
@@ -28,37 +28,34 @@ fn whole(alloc: Global, payload: &[u8]) -> Result<Event, Skip>
 {
     let mut reader = Reader::new(payload);
     let tag = reader.u8()?;
-    let event = fields(alloc, tag, &mut reader);
-    if event.is_ok() && reader.rest_len() > 0 {
-        return Err(Skip::Extra);
-    }
-    event
+    fields(alloc, tag, reader.rest())
 }
 
-/// The fields of the event with this tag. The functions for the tags aren't put into one another, so
-/// that the room of one kind of event costs no other kind anything.
+/// The event whose fields are all that stands behind this tag. The functions for the tags aren't put into
+/// one another, so that the room of one kind of event costs no other kind anything; and each looks
+/// itself whether bytes are left, so that its event is where it belongs as soon as it is made.
 #[tactic(auto, unfolding(crate::specs::Reading::fields_at))]
-fn fields(alloc: Global, tag: u8, reader: &mut Reader) -> Result<Event, Skip>
-    ensures { Reads result reader.new (fields_at tag reader.old) }
+fn fields(alloc: Global, tag: u8, behind: &[u8]) -> Result<Event, Skip>
+    ensures { Gives result (to_end (fields_at tag behind.now)) }
 {
     match tag {
-        1 => setup::start(alloc, reader),
-        2 => messages::block(alloc, reader),
-        3 => setup::poll(alloc, reader),
-        4 => setup::words(alloc, reader),
-        5 => messages::chits(reader),
-        6 => messages::timeout(reader),
-        7 => messages::frontier(reader),
-        8 => messages::accepted(alloc, reader),
-        9 => messages::ancestors(alloc, reader),
-        10 => setup::stored(alloc, reader),
-        11 => setup::validators(alloc, reader),
-        12 => questions::ask_query(reader),
-        13 => questions::ask_frontier(reader),
-        14 => questions::ask_accepted(alloc, reader),
-        15 => questions::ask_ancestors(reader),
-        16 => questions::ask_block(reader),
-        17 => setup::line(alloc, reader),
+        1 => setup::start(alloc, behind),
+        2 => messages::block(alloc, behind),
+        3 => setup::poll(alloc, behind),
+        4 => setup::words(alloc, behind),
+        5 => messages::chits(behind),
+        6 => messages::timeout(behind),
+        7 => messages::frontier(behind),
+        8 => messages::accepted(alloc, behind),
+        9 => messages::ancestors(alloc, behind),
+        10 => setup::stored(alloc, behind),
+        11 => setup::validators(alloc, behind),
+        12 => questions::ask_query(behind),
+        13 => questions::ask_frontier(behind),
+        14 => questions::ask_accepted(alloc, behind),
+        15 => questions::ask_ancestors(behind),
+        16 => questions::ask_block(behind),
+        17 => setup::line(alloc, behind),
         _ => Err(Skip::Tag),
     }
 }

@@ -1,6 +1,6 @@
 //! Messages of peers, read behind their tag.
 
-ghost use Rattle.snow_wire.specs.Reading.{Reads, counted_at, id_at, block_at, sender_at, message_at};
+ghost use Rattle.snow_wire.specs.Reading.{Gives, to_end, counted_at, id_at, block_at, sender_at, message_at};
 ghost use Rattle.snow_wire.specs.declared.event.Event.TheVariants as event;
 
 use crate::event::Event;
@@ -12,70 +12,84 @@ use snow_base::Bytes;
 use std::alloc::Global;
 
 #[inline(never)]
-pub(crate) fn block(alloc: Global, reader: &mut Reader) -> Result<Event, Skip>
-    ensures { Reads result reader.new (message_at block_at event.Block reader.old) }
+pub(crate) fn block(alloc: Global, behind: &[u8]) -> Result<Event, Skip>
+    ensures { Gives result (to_end (message_at block_at event.Block behind.now)) }
 {
-    match read_block(reader) {
-        Ok(block) => Ok(Event::Block {
-            node: block.node,
-            request: block.request,
-            bytes: Bytes::from_slice(alloc, block.bytes)?,
-        }),
+    let mut reader = Reader::new(behind);
+    match read_block(&mut reader) {
+        Ok(block) => {
+            reader.end()?;
+            Ok(Event::Block {
+                node: block.node,
+                request: block.request,
+                bytes: Bytes::from_slice(alloc, block.bytes)?,
+            })
+        }
         Err(skip) => Err(skip),
     }
 }
 
 #[inline(never)]
 #[tactic(auto, unfolding(crate::specs::Reading::message_at))]
-pub(crate) fn chits(reader: &mut Reader) -> Result<Event, Skip>
-    ensures { Reads result reader.new (message_at id_at event.Chits reader.old) }
+pub(crate) fn chits(behind: &[u8]) -> Result<Event, Skip>
+    ensures { Gives result (to_end (message_at id_at event.Chits behind.now)) }
 {
+    let mut reader = Reader::new(behind);
     let node = reader.node()?;
     let request = reader.u32()?;
     let id = reader.id()?;
+    reader.end()?;
     Ok(Event::Chits { node, request, id })
 }
 
 #[inline(never)]
 #[tactic(auto, unfolding(crate::specs::Reading::sender_at))]
-pub(crate) fn timeout(reader: &mut Reader) -> Result<Event, Skip>
-    ensures { Reads result reader.new (sender_at event.Timeout reader.old) }
+pub(crate) fn timeout(behind: &[u8]) -> Result<Event, Skip>
+    ensures { Gives result (to_end (sender_at event.Timeout behind.now)) }
 {
+    let mut reader = Reader::new(behind);
     let node = reader.node()?;
     let request = reader.u32()?;
+    reader.end()?;
     Ok(Event::Timeout { node, request })
 }
 
 #[inline(never)]
 #[tactic(auto, unfolding(crate::specs::Reading::message_at))]
-pub(crate) fn frontier(reader: &mut Reader) -> Result<Event, Skip>
-    ensures { Reads result reader.new (message_at id_at event.Frontier reader.old) }
+pub(crate) fn frontier(behind: &[u8]) -> Result<Event, Skip>
+    ensures { Gives result (to_end (message_at id_at event.Frontier behind.now)) }
 {
+    let mut reader = Reader::new(behind);
     let node = reader.node()?;
     let request = reader.u32()?;
     let id = reader.id()?;
+    reader.end()?;
     Ok(Event::Frontier { node, request, id })
 }
 
 #[inline(never)]
 #[tactic(auto, unfolding(crate::specs::Reading::message_at))]
-pub(crate) fn accepted(alloc: Global, reader: &mut Reader) -> Result<Event, Skip>
-    ensures { Reads result reader.new (message_at (counted_at id_at 4096) event.Accepted reader.old) }
+pub(crate) fn accepted(alloc: Global, behind: &[u8]) -> Result<Event, Skip>
+    ensures { Gives result (to_end (message_at (counted_at id_at 4096) event.Accepted behind.now)) }
 {
+    let mut reader = Reader::new(behind);
     let node = reader.node()?;
     let request = reader.u32()?;
-    let ids = read_ids(alloc, reader, 4096)?;
+    let ids = read_ids(alloc, &mut reader, 4096)?;
+    reader.end()?;
     Ok(Event::Accepted { node, request, ids })
 }
 
 #[inline(never)]
 #[tactic(auto, unfolding(crate::specs::Reading::message_at))]
-pub(crate) fn ancestors(alloc: Global, reader: &mut Reader) -> Result<Event, Skip>
-    ensures { Reads result reader.new (message_at (counted_at block_at 2048) event.Ancestors reader.old) }
+pub(crate) fn ancestors(alloc: Global, behind: &[u8]) -> Result<Event, Skip>
+    ensures { Gives result (to_end (message_at (counted_at block_at 2048) event.Ancestors behind.now)) }
 {
+    let mut reader = Reader::new(behind);
     let node = reader.node()?;
     let request = reader.u32()?;
-    let blocks = read_counted(alloc, reader, 2048)?;
+    let blocks = read_counted(alloc, &mut reader, 2048)?;
+    reader.end()?;
     Ok(Event::Ancestors {
         node,
         request,

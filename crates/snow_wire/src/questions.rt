@@ -1,6 +1,6 @@
 //! Questions of peers, read behind their tag.
 
-ghost use Rattle.snow_wire.specs.Reading.{Reads, counted_at, id_at, sender_at, message_at};
+ghost use Rattle.snow_wire.specs.Reading.{Gives, to_end, counted_at, id_at, sender_at, message_at};
 ghost use Rattle.snow_wire.specs.declared.event.Event.TheVariants as event;
 
 use crate::event::Event;
@@ -11,53 +11,63 @@ use std::alloc::Global;
 
 #[inline(never)]
 #[tactic(auto, unfolding(crate::specs::Reading::sender_at))]
-pub(crate) fn ask_query(reader: &mut Reader) -> Result<Event, Skip>
-    ensures { Reads result reader.new (sender_at event.AskQuery reader.old) }
+pub(crate) fn ask_query(behind: &[u8]) -> Result<Event, Skip>
+    ensures { Gives result (to_end (sender_at event.AskQuery behind.now)) }
 {
+    let mut reader = Reader::new(behind);
     let node = reader.node()?;
     let request = reader.u32()?;
+    reader.end()?;
     Ok(Event::AskQuery { node, request })
 }
 
 #[inline(never)]
 #[tactic(auto, unfolding(crate::specs::Reading::sender_at))]
-pub(crate) fn ask_frontier(reader: &mut Reader) -> Result<Event, Skip>
-    ensures { Reads result reader.new (sender_at event.AskFrontier reader.old) }
+pub(crate) fn ask_frontier(behind: &[u8]) -> Result<Event, Skip>
+    ensures { Gives result (to_end (sender_at event.AskFrontier behind.now)) }
 {
+    let mut reader = Reader::new(behind);
     let node = reader.node()?;
     let request = reader.u32()?;
+    reader.end()?;
     Ok(Event::AskFrontier { node, request })
 }
 
 #[inline(never)]
 #[tactic(auto, unfolding(crate::specs::Reading::message_at))]
-pub(crate) fn ask_accepted(alloc: Global, reader: &mut Reader) -> Result<Event, Skip>
-    ensures { Reads result reader.new (message_at (counted_at id_at 4096) event.AskAccepted reader.old) }
+pub(crate) fn ask_accepted(alloc: Global, behind: &[u8]) -> Result<Event, Skip>
+    ensures { Gives result (to_end (message_at (counted_at id_at 4096) event.AskAccepted behind.now)) }
 {
+    let mut reader = Reader::new(behind);
     let node = reader.node()?;
     let request = reader.u32()?;
-    let ids = read_ids(alloc, reader, 4096)?;
+    let ids = read_ids(alloc, &mut reader, 4096)?;
+    reader.end()?;
     Ok(Event::AskAccepted { node, request, ids })
 }
 
 #[inline(never)]
 #[tactic(auto, unfolding(crate::specs::Reading::message_at))]
-pub(crate) fn ask_ancestors(reader: &mut Reader) -> Result<Event, Skip>
-    ensures { Reads result reader.new (message_at id_at event.AskAncestors reader.old) }
+pub(crate) fn ask_ancestors(behind: &[u8]) -> Result<Event, Skip>
+    ensures { Gives result (to_end (message_at id_at event.AskAncestors behind.now)) }
 {
+    let mut reader = Reader::new(behind);
     let node = reader.node()?;
     let request = reader.u32()?;
     let id = reader.id()?;
+    reader.end()?;
     Ok(Event::AskAncestors { node, request, id })
 }
 
 #[inline(never)]
 #[tactic(auto, unfolding(crate::specs::Reading::message_at))]
-pub(crate) fn ask_block(reader: &mut Reader) -> Result<Event, Skip>
-    ensures { Reads result reader.new (message_at id_at event.AskBlock reader.old) }
+pub(crate) fn ask_block(behind: &[u8]) -> Result<Event, Skip>
+    ensures { Gives result (to_end (message_at id_at event.AskBlock behind.now)) }
 {
+    let mut reader = Reader::new(behind);
     let node = reader.node()?;
     let request = reader.u32()?;
     let id = reader.id()?;
+    reader.end()?;
     Ok(Event::AskBlock { node, request, id })
 }

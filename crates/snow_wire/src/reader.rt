@@ -1,6 +1,6 @@
 ghost use Rattle.std.specs.Prelude.{◌≡◌, ◌<◌, ◌/◌, ℕ, List, length, IfOk};
 ghost use Rattle.std.specs.Simd.{first_chunks};
-ghost use Rattle.snow_wire.specs.Reading.{Reads, ReadsAs, TakesNoMemory, bytes_at, number_at, limited_at, flag_at, items_at, sized_at};
+ghost use Rattle.snow_wire.specs.Reading.{IsEnd, Reads, ReadsAs, TakesNoMemory, bytes_at, number_at, limited_at, flag_at, items_at, sized_at};
 
 use crate::skip::Skip;
 use byteorder::{BigEndian, ByteOrder};
@@ -33,6 +33,23 @@ impl<'a> Reader<'a> {
         ensures { result ≡ length self.now }
     {
         self.rest.len()
+    }
+
+    /// The bytes that are left.
+    pub(crate) fn rest(&self) -> &'a [u8]
+        ensures { result.now ≡ self.now }
+    {
+        self.rest
+    }
+
+    /// Refuses bytes that are left.
+    pub(crate) fn end(&self) -> Result<(), Skip>
+        ensures { IsEnd result self.now }
+    {
+        if self.rest.len() > 0 {
+            return Err(Skip::Extra);
+        }
+        Ok(())
     }
 
     /// So many bytes.
