@@ -37,7 +37,7 @@ impl Field for Id {
     ghost fits = { λ id. ⊤ };
 
     fn read(_alloc: Global, reader: &mut Reader) -> Result<Id, Skip> {
-        reader.id()
+        Ok(Id::from_bytes(*reader.id()?))
     }
 
     fn write(&self, out: &mut Bytes) -> Result<(), AllocError> {
@@ -72,7 +72,7 @@ impl Field for (NodeId, u64) {
     fn read(_alloc: Global, reader: &mut Reader) -> Result<(NodeId, u64), Skip> {
         let node = reader.node()?;
         let weight = reader.u64()?;
-        Ok((node, weight))
+        Ok((NodeId::from_bytes(*node), weight))
     }
 
     fn write(&self, out: &mut Bytes) -> Result<(), AllocError> {

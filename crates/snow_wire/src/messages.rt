@@ -8,7 +8,7 @@ use crate::field::{read_counted, read_ids};
 use crate::reader::Reader;
 use crate::sent::read_block;
 use crate::skip::Skip;
-use snow_base::Bytes;
+use snow_base::{Bytes, Id, NodeId};
 use std::alloc::Global;
 
 #[inline(never)]
@@ -39,7 +39,11 @@ pub(crate) fn chits(behind: &[u8]) -> Result<Event, Skip>
     let request = reader.u32()?;
     let id = reader.id()?;
     reader.end()?;
-    Ok(Event::Chits { node, request, id })
+    Ok(Event::Chits {
+        node: NodeId::from_bytes(*node),
+        request,
+        id: Id::from_bytes(*id),
+    })
 }
 
 #[inline(never)]
@@ -51,7 +55,10 @@ pub(crate) fn timeout(behind: &[u8]) -> Result<Event, Skip>
     let node = reader.node()?;
     let request = reader.u32()?;
     reader.end()?;
-    Ok(Event::Timeout { node, request })
+    Ok(Event::Timeout {
+        node: NodeId::from_bytes(*node),
+        request,
+    })
 }
 
 #[inline(never)]
@@ -64,7 +71,11 @@ pub(crate) fn frontier(behind: &[u8]) -> Result<Event, Skip>
     let request = reader.u32()?;
     let id = reader.id()?;
     reader.end()?;
-    Ok(Event::Frontier { node, request, id })
+    Ok(Event::Frontier {
+        node: NodeId::from_bytes(*node),
+        request,
+        id: Id::from_bytes(*id),
+    })
 }
 
 #[inline(never)]
@@ -77,7 +88,11 @@ pub(crate) fn accepted(alloc: Global, behind: &[u8]) -> Result<Event, Skip>
     let request = reader.u32()?;
     let ids = read_ids(alloc, &mut reader, 4096)?;
     reader.end()?;
-    Ok(Event::Accepted { node, request, ids })
+    Ok(Event::Accepted {
+        node: NodeId::from_bytes(*node),
+        request,
+        ids,
+    })
 }
 
 #[inline(never)]
@@ -91,7 +106,7 @@ pub(crate) fn ancestors(alloc: Global, behind: &[u8]) -> Result<Event, Skip>
     let blocks = read_counted(alloc, &mut reader, 2048)?;
     reader.end()?;
     Ok(Event::Ancestors {
-        node,
+        node: NodeId::from_bytes(*node),
         request,
         blocks,
     })

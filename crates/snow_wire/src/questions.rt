@@ -7,6 +7,7 @@ use crate::event::Event;
 use crate::field::read_ids;
 use crate::reader::Reader;
 use crate::skip::Skip;
+use snow_base::{Id, NodeId};
 use std::alloc::Global;
 
 #[inline(never)]
@@ -18,7 +19,10 @@ pub(crate) fn ask_query(behind: &[u8]) -> Result<Event, Skip>
     let node = reader.node()?;
     let request = reader.u32()?;
     reader.end()?;
-    Ok(Event::AskQuery { node, request })
+    Ok(Event::AskQuery {
+        node: NodeId::from_bytes(*node),
+        request,
+    })
 }
 
 #[inline(never)]
@@ -30,7 +34,10 @@ pub(crate) fn ask_frontier(behind: &[u8]) -> Result<Event, Skip>
     let node = reader.node()?;
     let request = reader.u32()?;
     reader.end()?;
-    Ok(Event::AskFrontier { node, request })
+    Ok(Event::AskFrontier {
+        node: NodeId::from_bytes(*node),
+        request,
+    })
 }
 
 #[inline(never)]
@@ -43,7 +50,11 @@ pub(crate) fn ask_accepted(alloc: Global, behind: &[u8]) -> Result<Event, Skip>
     let request = reader.u32()?;
     let ids = read_ids(alloc, &mut reader, 4096)?;
     reader.end()?;
-    Ok(Event::AskAccepted { node, request, ids })
+    Ok(Event::AskAccepted {
+        node: NodeId::from_bytes(*node),
+        request,
+        ids,
+    })
 }
 
 #[inline(never)]
@@ -56,7 +67,11 @@ pub(crate) fn ask_ancestors(behind: &[u8]) -> Result<Event, Skip>
     let request = reader.u32()?;
     let id = reader.id()?;
     reader.end()?;
-    Ok(Event::AskAncestors { node, request, id })
+    Ok(Event::AskAncestors {
+        node: NodeId::from_bytes(*node),
+        request,
+        id: Id::from_bytes(*id),
+    })
 }
 
 #[inline(never)]
@@ -69,5 +84,9 @@ pub(crate) fn ask_block(behind: &[u8]) -> Result<Event, Skip>
     let request = reader.u32()?;
     let id = reader.id()?;
     reader.end()?;
-    Ok(Event::AskBlock { node, request, id })
+    Ok(Event::AskBlock {
+        node: NodeId::from_bytes(*node),
+        request,
+        id: Id::from_bytes(*id),
+    })
 }

@@ -4,7 +4,7 @@ ghost use Rattle.snow_wire.specs.Reading.{IsEnd, Reads, ReadsAs, TakesNoMemory, 
 
 use crate::skip::Skip;
 use byteorder::{BigEndian, ByteOrder};
-use snow_base::{Bytes, Id, Ids, NodeId};
+use snow_base::{Bytes, Id, Ids};
 use std::alloc::{AllocError, Global};
 use std::marker::Model;
 
@@ -141,12 +141,18 @@ impl<'a> Reader<'a> {
         }
     }
 
-    pub(crate) fn id(&mut self) -> Result<Id, Skip>
-        ensures { Reads result self.new (bytes_at 32 self.old) }
+    /// The bytes of an identifier, where they stand.
+    #[tactic(auto, unfolding(crate::specs::Reading::bytes_at))]
+    pub(crate) fn id(&mut self) -> Result<&'a [u8; 32], Skip>
+        ensures { ReadsAs (λ id. id.now) result self.new (bytes_at 32 self.old) }
     {
-        let mut bytes = [0; 32];
-        bytes.copy_from_slice(self.take(32)?);
-        Ok(Id::from_bytes(bytes))
+        match self.rest.split_first_chunk::<32>() {
+            Some((id, rest)) => {
+                self.rest = rest;
+                Ok(id)
+            }
+            None => Err(Skip::Short),
+        }
     }
 
     /// So many identifiers, whose bytes are taken at once.
@@ -157,13 +163,19 @@ impl<'a> Reader<'a> {
         Ok(ids_in(alloc, bytes)?)
     }
 
-    pub(crate) fn node(&mut self) -> Result<NodeId, Skip>
-        ensures read { Reads result self.new (bytes_at 20 self.old) }
+    /// The bytes of a node, where they stand.
+    #[tactic(auto, unfolding(crate::specs::Reading::bytes_at))]
+    pub(crate) fn node(&mut self) -> Result<&'a [u8; 20], Skip>
+        ensures read { ReadsAs (λ node. node.now) result self.new (bytes_at 20 self.old) }
         ensures memory { TakesNoMemory result }
     {
-        let mut bytes = [0; 20];
-        bytes.copy_from_slice(self.take(20)?);
-        Ok(NodeId::from_bytes(bytes))
+        match self.rest.split_first_chunk::<20>() {
+            Some((node, rest)) => {
+                self.rest = rest;
+                Ok(node)
+            }
+            None => Err(Skip::Short),
+        }
     }
 
     /// A length that is at most the limit, and so many bytes, where they stand.

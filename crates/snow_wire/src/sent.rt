@@ -64,7 +64,7 @@ pub(crate) fn read_block<'a>(reader: &mut Reader<'a>) -> Result<SentBlock<'a>, S
     let request = reader.u32()?;
     let bytes = reader.slice(MAX_BLOCK)?;
     Ok(SentBlock {
-        node,
+        node: NodeId::from_bytes(*node),
         request,
         bytes,
     })

@@ -7,6 +7,7 @@ use crate::event::{Event, Start};
 use crate::field::{MAX_BLOCK, read_counted, read_ids};
 use crate::reader::Reader;
 use crate::skip::Skip;
+use snow_base::Id;
 use std::alloc::Global;
 
 /// The greatest length of a line.
@@ -36,7 +37,7 @@ pub(crate) fn start(alloc: Global, behind: &[u8]) -> Result<Event, Skip>
         beta,
         repolls,
         boot,
-        last,
+        last: Id::from_bytes(*last),
         height,
         state,
         nodes,
