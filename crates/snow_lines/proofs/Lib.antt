@@ -7,6 +7,7 @@ pub mod Joined
 pub mod Named
 pub mod Printed
 pub mod Shown
+pub mod Sixteen
 pub mod Spelled
 pub mod Values
 pub mod Waiting

@@ -1,6 +1,7 @@
 ghost use Rattle.std.specs.Prelude.{◌≡◌, ◌*◌, ◌<◌, ◌≤◌, ◌∷◌, length, slice_index, decimal};
 ghost use Rattle.hex.specs.Hex.{encode_lower, lower_digits};
 
+use crate::lanes::write_sixteen;
 use snow_base::{Id, NodeId};
 
 /// Writes the lower-case hexadecimal digits of bytes over a slice of just their length.
@@ -28,6 +29,19 @@ fn digit(value: u8) -> u8
     }
 }
 
+/// Writes the digits of an identifier over a slice of just their length.
+#[tactic(auto, using(crate::proofs::Encoded::digits_append))]
+#[inline(always)]
+pub fn write_id(id: &Id, digits: &mut [u8])
+    requires { length digits.old ≡ 64 }
+    ensures { digits.new ≡ encode_lower id.now }
+{
+    let (front, back) = id.as_bytes().split_at(16);
+    let (front_digits, back_digits) = digits.split_at_mut(32);
+    write_sixteen(front, front_digits);
+    write_sixteen(back, back_digits);
+}
+
 /// Writes the digits of a node over a slice of just their length. The digits of sixteen bytes are made
 /// at a time, where one loop over all twenty would make those of four.
 #[tactic(auto, using(crate::proofs::Encoded::digits_append))]
@@ -38,7 +52,7 @@ pub fn write_node(node: &NodeId, digits: &mut [u8])
 {
     let (front, back) = node.as_bytes().split_at(16);
     let (front_digits, back_digits) = digits.split_at_mut(32);
-    write_hex(front, front_digits);
+    write_sixteen(front, front_digits);
     write_hex(back, back_digits);
 }
 
@@ -47,7 +61,7 @@ pub fn id_digits(id: &Id) -> [u8; 64]
     ensures { result ≡ encode_lower id.now }
 {
     let mut digits = [0; 64];
-    write_hex(id.as_bytes(), &mut digits);
+    write_id(id, &mut digits);
     digits
 }
 

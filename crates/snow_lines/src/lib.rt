@@ -5,6 +5,7 @@ mod digits;
 mod field;
 mod gathering;
 mod kind;
+mod lanes;
 mod line;
 mod page;
 mod part;

@@ -5,7 +5,7 @@ ghost use Rattle.snow_lines.specs.Gathered.{Gathers};
 ghost use Rattle.snow_lines.specs.Names.{line_name};
 ghost use Rattle.snow_lines.specs.Text.{spaced, draw_word, block_word, kind_word, query_word, restart_word, why_word};
 
-use crate::digits::{marked, write_hex, write_node};
+use crate::digits::{marked, write_hex, write_id, write_node};
 use crate::gathering::Gather;
 use crate::kind::Kind;
 use crate::why::{DropWhy, QueryWhy, RestartWhy, SkipKind};
@@ -99,7 +99,7 @@ impl Part for Id {
 
     fn put_into<G: Gather, K: Sink>(&self, out: &mut G, sink: &mut K) -> Result<(), Failed> {
         let mut word = [b' '; 65];
-        write_hex(self.as_bytes(), &mut word[1..]);
+        write_id(self, &mut word[1..]);
         out.put(&word, sink)
     }
 }
