@@ -10,7 +10,9 @@ use crate::{messages, questions, setup};
 use std::alloc::Global;
 
 /// The event that all bytes of a payload spell. A payload that spells none is refused with the first
-/// thing that goes wrong, reading from the front; a range is checked as soon as its field is read.
+/// thing that goes wrong, reading from the front; a range is checked as soon as its field is read. It is
+/// put where it is called, so that the event isn't moved on its way out.
+#[inline(always)]
 pub fn decode(alloc: Global, payload: &[u8]) -> Result<Event, Skip>
     // The answer is what reading gives, unless memory ran out.
     ensures exact { Gives result (event_of payload.now) }
@@ -23,6 +25,7 @@ pub fn decode(alloc: Global, payload: &[u8]) -> Result<Event, Skip>
 }
 
 #[tactic(auto, unfolding(crate::specs::Reading::event_of))]
+#[inline(always)]
 fn whole(alloc: Global, payload: &[u8]) -> Result<Event, Skip>
     ensures { Gives result (event_of payload.now) }
 {
@@ -35,6 +38,7 @@ fn whole(alloc: Global, payload: &[u8]) -> Result<Event, Skip>
 /// one another, so that the room of one kind of event costs no other kind anything; and each looks
 /// itself whether bytes are left, so that its event is where it belongs as soon as it is made.
 #[tactic(auto, unfolding(crate::specs::Reading::fields_at))]
+#[inline(always)]
 fn fields(alloc: Global, tag: u8, behind: &[u8]) -> Result<Event, Skip>
     ensures { Gives result (to_end (fields_at tag behind.now)) }
 {
