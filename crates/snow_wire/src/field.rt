@@ -123,9 +123,12 @@ fn read_items<T: Field>(alloc: Global, reader: &mut Reader, count: u16) -> Resul
     ensures { Reads result reader.new (items_at T.read_at count reader.old) }
 {
     let mut items = Items::with_capacity(alloc, usize::from(count))?;
+    // (a reader of the loop's own, so that its place needn't be kept in memory)
+    let mut own = Reader::new(reader.rest());
     for _ in 0..count {
-        items.push(T::read(alloc, reader)?)?;
+        items.push(T::read(alloc, &mut own)?)?;
     }
+    *reader = own;
     Ok(items)
 }
 

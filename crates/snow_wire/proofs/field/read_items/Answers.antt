@@ -6,11 +6,11 @@ use Rattle.snow_wire.proofs.field.read_items.Goals as goal
 pub returns-in_err-read : goal.returns-in_err-read
 returns-in_err-read g c =
     let p = err_from_is_err_and c.from_residual-in_err-read.result c.from_residual-in_err-read.ensures.1 in
-    rw (p.1, p.2) (ends g.T.Field.read_at c.in_err-read.field-0.0 c.loop.items c.args.count c.loop.counter c.loop.reader (items_at g.T.Field.read_at c.args.count c.args.reader.now) c.loop-test.true c.in_err-read.ensures c.loop.invariant)
+    rw (p.1, p.2) (ends g.T.Field.read_at c.in_err-read.field-0.0 c.loop.items c.args.count c.loop.counter c.loop.own (items_at g.T.Field.read_at c.args.count c.args.reader.now) c.loop-test.true c.in_err-read.ensures c.loop.invariant)
 
 pub loop-preserved : goal.loop-preserved
 loop-preserved g c =
-    rw c.in_ok-push.ensures.ok (goes_on g.T.Field.read_at c.loop.items c.args.count c.loop.counter c.loop.reader c.in_ok-read.field-0 c.read.new.reader (items_at g.T.Field.read_at c.args.count c.args.reader.now) c.loop-test.true c.in_ok-read.ensures c.loop.invariant)
+    rw c.in_ok-push.ensures.ok (goes_on g.T.Field.read_at c.loop.items c.args.count c.loop.counter c.loop.own c.in_ok-read.field-0 c.read.new.reader (items_at g.T.Field.read_at c.args.count c.args.reader.now) c.loop-test.true c.in_ok-read.ensures c.loop.invariant)
 
 pub returns : goal.returns
-returns g c = is_done g.T.Field.read_at c.loop.items c.args.count c.loop.counter c.loop.reader (items_at g.T.Field.read_at c.args.count c.args.reader.now) c.loop-test.false c.loop.invariant
+returns g c = is_done g.T.Field.read_at c.loop.items c.args.count c.loop.counter c.loop.own (items_at g.T.Field.read_at c.args.count c.args.reader.now) c.loop-test.false c.loop.invariant
