@@ -127,6 +127,7 @@ impl Part for Draw {
 }
 
 /// The word of a draw whose count has one digit, behind a space.
+#[inline(always)]
 fn short_word(draw: &Draw) -> [u8; 43]
     requires { draw.now.count < 10 }
     ensures { result ≡ spaced (draw_word draw.now) }
