@@ -1,8 +1,9 @@
 -- Identifiers whose bytes are taken at once are those that are read one at a time.
 use Rattle.std.proofs.Common.{◌≡◌, ℕ, zero, suc, ◌*◌, ◌/◌, ◌<◌, ◌≤◌, Bool, true, false, cond, nat_lt, List, [], ◌∷◌, ◌++◌, length, take, drop, Ok, Err, refl, sym, subst, arith}
 use Rattle.std.specs.Simd.{first_chunks}
+use Rattle.std.specs.Simd.Lanes.{chunk}
 use Rattle.std.proofs.lemmas.Bool.Decides.{nat_tests}
-use Rattle.std.proofs.lemmas.List.{take-append-le, drop-append-le, take-append-drop, length-append, length-drop}
+use Rattle.std.proofs.lemmas.List.{take_all, take-append-le, drop-append-le, take-append-drop, length-append, length-drop}
 use Rattle.snow_wire.specs.declared.skip.Skip.{Skip}
 use Rattle.snow_wire.specs.declared.skip.Skip.TheVariants as skip
 use Rattle.snow_wire.specs.Reading.{Fault, Short, Refuses, bytes_at, items_at}
@@ -23,6 +24,10 @@ no_id bytes short = rw short refl
 one_id : (bytes : List ℕ) → nat_lt (length bytes) 32 ≡ false → bytes_at 32 bytes ≡ Ok (take 32 bytes, drop 32 bytes)
 unfolding bytes_at
 one_id bytes long = rw long refl
+
+-- a vector that was taken from the bytes of an identifier
+pub whole_id : (xs : List ℕ) → length xs ≡ 32 → chunk 0 32 xs ≡ xs
+whole_id xs long = take_all 32 xs (omega arith)
 
 -- ---- all of them
 

@@ -7,6 +7,7 @@ use byteorder::{BigEndian, ByteOrder};
 use snow_base::{Bytes, Id, Ids};
 use std::alloc::{AllocError, Global};
 use std::marker::Model;
+use std::simd::prelude::*;
 
 /// Reads fields from the front of bytes. Contracts see the bytes that are left.
 #[derive(Drop)]
@@ -207,7 +208,17 @@ fn ids_in(alloc: Global, bytes: &[u8]) -> Result<Ids, AllocError>
     let (chunks, _) = bytes.as_chunks::<32>();
     let mut ids = Ids::with_capacity(alloc, chunks.len())?;
     for chunk in chunks {
-        ids.push(Id::from_bytes(*chunk))?;
+        ids.push(id_of(chunk))?;
     }
     Ok(ids)
+}
+
+/// The identifier of these bytes. They go through registers, as a vector: a plain copy would be put
+/// aside until there is known to be room for it.
+#[tactic(auto, using(crate::proofs::Together::whole_id))]
+#[inline(always)]
+fn id_of(bytes: &[u8; 32]) -> Id
+    ensures { result ≡ bytes.now }
+{
+    Id::from_bytes(u8x32::from_slice(bytes).to_array())
 }
