@@ -5,10 +5,10 @@ ghost use Rattle.snow_wire.specs.declared.event.Event.TheVariants as event;
 
 use crate::event::Event;
 use crate::field::{read_counted, read_ids};
-use crate::reader::Reader;
+use crate::reader::{Reader, id_of};
 use crate::sent::read_block;
 use crate::skip::Skip;
-use snow_base::{Bytes, Id, NodeId};
+use snow_base::{Bytes, NodeId};
 use std::alloc::Global;
 
 #[inline(never)]
@@ -42,7 +42,7 @@ pub(crate) fn chits(behind: &[u8]) -> Result<Event, Skip>
     Ok(Event::Chits {
         node: NodeId::from_bytes(*node),
         request,
-        id: Id::from_bytes(*id),
+        id: id_of(id),
     })
 }
 
@@ -74,7 +74,7 @@ pub(crate) fn frontier(behind: &[u8]) -> Result<Event, Skip>
     Ok(Event::Frontier {
         node: NodeId::from_bytes(*node),
         request,
-        id: Id::from_bytes(*id),
+        id: id_of(id),
     })
 }
 

@@ -5,9 +5,9 @@ ghost use Rattle.snow_wire.specs.declared.event.Event.TheVariants as event;
 
 use crate::event::Event;
 use crate::field::read_ids;
-use crate::reader::Reader;
+use crate::reader::{Reader, id_of};
 use crate::skip::Skip;
-use snow_base::{Id, NodeId};
+use snow_base::NodeId;
 use std::alloc::Global;
 
 #[inline(never)]
@@ -70,7 +70,7 @@ pub(crate) fn ask_ancestors(behind: &[u8]) -> Result<Event, Skip>
     Ok(Event::AskAncestors {
         node: NodeId::from_bytes(*node),
         request,
-        id: Id::from_bytes(*id),
+        id: id_of(id),
     })
 }
 
@@ -87,6 +87,6 @@ pub(crate) fn ask_block(behind: &[u8]) -> Result<Event, Skip>
     Ok(Event::AskBlock {
         node: NodeId::from_bytes(*node),
         request,
-        id: Id::from_bytes(*id),
+        id: id_of(id),
     })
 }

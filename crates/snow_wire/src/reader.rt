@@ -217,7 +217,7 @@ fn ids_in(alloc: Global, bytes: &[u8]) -> Result<Ids, AllocError>
 /// aside until there is known to be room for it.
 #[tactic(auto, using(crate::proofs::Together::whole_id))]
 #[inline(always)]
-fn id_of(bytes: &[u8; 32]) -> Id
+pub(crate) fn id_of(bytes: &[u8; 32]) -> Id
     ensures { result ≡ bytes.now }
 {
     Id::from_bytes(u8x32::from_slice(bytes).to_array())

@@ -5,9 +5,8 @@ ghost use Rattle.snow_wire.specs.declared.event.Event.TheVariants as event;
 
 use crate::event::{Event, Start};
 use crate::field::{MAX_BLOCK, read_counted, read_ids};
-use crate::reader::Reader;
+use crate::reader::{Reader, id_of};
 use crate::skip::Skip;
-use snow_base::Id;
 use std::alloc::Global;
 
 /// The greatest length of a line.
@@ -37,7 +36,7 @@ pub(crate) fn start(alloc: Global, behind: &[u8]) -> Result<Event, Skip>
         beta,
         repolls,
         boot,
-        last: Id::from_bytes(*last),
+        last: id_of(last),
         height,
         state,
         nodes,
