@@ -8,7 +8,7 @@ use std::cmp::Ordering;
 
 // Whether all bytes are equal, eight compared at a time. Nothing branches on them. An identifier that was
 // copied stands as words then, as a hash reads it too, and isn't taken to pieces.
-#[inline]
+#[inline(always)]
 pub(crate) fn are_equal(a: &[u8], b: &[u8]) -> bool
     requires same { length a.now ≡ length b.now }
     requires long { 8 ≤ length a.now }
@@ -74,7 +74,7 @@ fn high_word(bytes: &[u8], from: usize) -> u64
 }
 
 // Eight bytes as a number, the first one the lowest, as the machine reads them.
-#[inline]
+#[inline(always)]
 fn low_word(bytes: &[u8], from: usize) -> u64
     requires { from + 8 ≤ length bytes.now }
     ensures { result ≡ high_first (λ k. slice_index bytes.now (from + (7 - k))) 8 }

@@ -31,7 +31,7 @@ impl PartialEq for Id {
 
     ghost laws = { Prim.search (comparing, rules) };
 
-    #[inline]
+    #[inline(always)]
     fn eq(&self, other: &Self) -> bool {
         are_equal(&self.bytes, &other.bytes)
     }

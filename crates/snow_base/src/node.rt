@@ -29,7 +29,7 @@ impl PartialEq for NodeId {
 
     ghost laws = { Prim.search (comparing, rules) };
 
-    #[inline]
+    #[inline(always)]
     fn eq(&self, other: &Self) -> bool {
         are_equal(&self.bytes, &other.bytes)
     }
