@@ -1,6 +1,6 @@
 -- The node goes on.
 use Rattle.snow_boot.specs.Calling.{MayGoOn}
-use Rattle.boot_tests.proofs.boot.name_all.Given as goal
+use Rattle.boot_tests.proofs.boot.many.others_wait.Given as goal
 
 abbrev pub invariant-loop-number : goal.invariant-loop-number
 invariant-loop-number l = MayGoOn l.run.boot l.run.chain l.run.numbers
