@@ -1,4 +1,4 @@
-ghost use Rattle.std.specs.Prelude.{◌≡◌, [], ◌∷◌, ◌++◌, IfOk, OnOk, OnErr};
+ghost use Rattle.std.specs.Prelude.{◌≡◌, [], ◌∷◌, ◌++◌, None, IfOk, IfSome, OnOk, OnErr};
 
 use crate::identifier::Id;
 use crate::node::NodeId;
@@ -51,6 +51,15 @@ impl<T: Drop> Items<T> {
         ensures { result.now ≡ self.now }
     {
         self.items.as_slice()
+    }
+
+    /// Takes the last item out; there is none exactly where the list is empty.
+    pub fn pop(&mut self) -> Option<T>
+        ensures some { IfSome result (λ item. self.old ≡ self.new ++ item ∷ []) }
+        ensures none { result ≡ None → self.old ≡ [] }
+        ensures empty { result ≡ None → self.new ≡ [] }
+    {
+        self.items.pop()
     }
 
     /// Lets all items go. It takes no memory.
