@@ -10,8 +10,9 @@ use Rattle.snow_issue.specs.declared.work.Work.TheVariants as work
 use Rattle.snow_issue.specs.declared.gone.Gone.{Gone}
 use Rattle.snow_issue.specs.declared.marks.Mark.{Mark}
 use Rattle.snow_issue.specs.declared.marks.Mark.TheVariants.{New, Quiet, Ripe}
-use Rattle.snow_issue.specs.Lists.{Lists, waits_below, asked_in}
+use Rattle.snow_issue.specs.Lists.{Lists, waits_below, asked_in, AreWithinLimits}
 use Rattle.snow_issue.specs.Offering.{is_on}
+use Rattle.snow_issue.specs.Settling.{work_of, after}
 
 -- the lists of a queue, with what it remembers of each waiting block
 pub record Seen : Type 0 where
@@ -76,3 +77,11 @@ RestsAfter None seats = NoneRipe seats
 RestsAfter (Some (work.Hopeless w)) seats = Unit {0}
 RestsAfter (Some (work.Ready w)) seats = ForgetsChildren w.header.id seats
 RestsAfter (Some (work.Vote h)) seats = NoneRipe seats
+
+-- the step that applies is taken: its block or reply goes, and what is remembered stays true
+pub record TakesStep (before now : Seen) (board : Board) (taken : Option Work) : Type 0 where
+  pub work : taken ≡ work_of (lists_of before) board
+  pub lists : lists_of now ≡ after (lists_of before) board taken
+  pub knows : Knows now board
+  pub rests : RestsAfter taken now.seats
+  pub limits : AreWithinLimits (lists_of now)

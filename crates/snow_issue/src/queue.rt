@@ -9,7 +9,7 @@ ghost use Rattle.snow_issue.specs.Offering.{offered, after_offer, refusal, is_ne
 ghost use Rattle.snow_issue.specs.Settling.{work_of, after, is_free};
 ghost use Rattle.snow_issue.specs.declared.work.Work.TheVariants as work;
 ghost use Rattle.snow_issue.specs.Bubbling.{bubbled, vote_at_once};
-ghost use Rattle.snow_issue.specs.Known.{lists_of, Knows, ForgetsChildren, NoneRipe, RestsAfter};
+ghost use Rattle.snow_issue.specs.Known.{lists_of, Knows, ForgetsChildren, NoneRipe, RestsAfter, TakesStep};
 
 use crate::gets::Gets;
 use crate::gone::{Gone, GoneList};
@@ -279,11 +279,7 @@ impl Queue {
     // The same, whatever is remembered of the waiting blocks.
     fn next_step<B: Board>(&mut self, board: &B) -> Option<Work>
         requires { Knows self.old (B.board board.now) }
-        ensures work { result ≡ work_of (lists_of self.old) (B.board board.now) }
-        ensures lists { lists_of self.new ≡ after (lists_of self.old) (B.board board.now) result }
-        ensures knows { Knows self.new (B.board board.now) }
-        ensures rests { RestsAfter result self.new.seats }
-        ensures limits { AreWithinLimits (lists_of self.new) }
+        ensures { TakesStep self.old self.new (B.board board.now) result }
     {
         let lost = self.first_hopeless(board);
         if lost < self.blocks() {

@@ -1,9 +1,9 @@
 ghost use Rattle.std.specs.Prelude.{◌≡◌, ◌<◌, ◌≤◌, None, find, is_some, map, length, HoldsAt, if◌then◌else◌};
 ghost use Rattle.std.specs.List.{position_or_len, remove};
 ghost use Rattle.snow_issue.specs.declared.marks.Mark.TheVariants.{New};
-ghost use Rattle.snow_issue.specs.Settling.{is_hopeless, is_ready, is_free, gone_with, work_of, after};
+ghost use Rattle.snow_issue.specs.Settling.{is_hopeless, is_ready, is_free, gone_with};
 ghost use Rattle.snow_issue.specs.Lists.{without, AreWithinLimits};
-ghost use Rattle.snow_issue.specs.Known.{lists_of, has, Knows, NoneRipe, RestsAfter};
+ghost use Rattle.snow_issue.specs.Known.{lists_of, has, Knows, NoneRipe, TakesStep};
 ghost use Rattle.snow_issue.specs.Index.{woken};
 
 use crate::gone::Gone;
@@ -52,11 +52,7 @@ impl Queue {
         requires there { at < length self.old.seats }
         requires first { at ≡ position_or_len (is_hopeless (lists_of self.old) (B.board board.now)) (lists_of self.old).waiting }
         requires knows { Knows self.old (B.board board.now) }
-        ensures work { result ≡ work_of (lists_of self.old) (B.board board.now) }
-        ensures lists { lists_of self.new ≡ after (lists_of self.old) (B.board board.now) result }
-        ensures knows { Knows self.new (B.board board.now) }
-        ensures rests { RestsAfter result self.new.seats }
-        ensures limits { AreWithinLimits (lists_of self.new) }
+        ensures { TakesStep self.old self.new (B.board board.now) result }
     {
         let block = self.take_block(at);
         self.follow(&block);
@@ -71,11 +67,7 @@ impl Queue {
         requires none { find (is_hopeless (lists_of self.old) (B.board board.now)) (lists_of self.old).waiting ≡ None }
         requires first { at ≡ position_or_len (is_ready (B.board board.now)) (lists_of self.old).waiting }
         requires knows { Knows self.old (B.board board.now) }
-        ensures work { result ≡ work_of (lists_of self.old) (B.board board.now) }
-        ensures lists { lists_of self.new ≡ after (lists_of self.old) (B.board board.now) result }
-        ensures knows { Knows self.new (B.board board.now) }
-        ensures rests { RestsAfter result self.new.seats }
-        ensures limits { AreWithinLimits (lists_of self.new) }
+        ensures { TakesStep self.old self.new (B.board board.now) result }
     {
         Some(Work::Ready(self.take_block(at)))
     }

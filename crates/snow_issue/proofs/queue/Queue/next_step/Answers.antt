@@ -1,5 +1,5 @@
 -- The first places of a hopeless and of a ready block tell the step.
-use Rattle.std.proofs.Common.{◌≡◌, None, find, sym, ap, ◌∙◌, subst, arith}
+use Rattle.std.proofs.Common.{◌≡◌, ◌≤◌, None, length, find, sym, ap, ◌∙◌, subst, arith}
 use Rattle.snow_issue.specs.Lists.{Lists}
 use Rattle.snow_issue.specs.Settling.{is_hopeless, is_ready, work_of, after}
 use Rattle.snow_issue.specs.Known.{Seen, Knows, lists_of, items_of}
@@ -9,13 +9,17 @@ use Rattle.snow_issue.proofs.queue.Queue.next_step.Goals.{After-first_ready-read
 
 -- ---- a hopeless block
 
-pub returns-then-lost-blocks-clause-work : goal.returns-then-lost-blocks-clause-work
-returns-then-lost-blocks-clause-work g c =
-    c.take_hopeless.ensures.work ∙ ap (λ (q : Lists). work_of q (g.B.Board.board c.args.board.now)) c.first_hopeless-lost.ensures.lists
-
-pub returns-then-lost-blocks-clause-lists : goal.returns-then-lost-blocks-clause-lists
-returns-then-lost-blocks-clause-lists g c =
-    c.take_hopeless.ensures.lists ∙ ap (λ (q : Lists). after q (g.B.Board.board c.args.board.now) c.take_hopeless.result) c.first_hopeless-lost.ensures.lists
+pub returns-then-lost-blocks : goal.returns-then-lost-blocks
+returns-then-lost-blocks g c =
+    let board = g.B.Board.board c.args.board.now in
+    let same = c.first_hopeless-lost.ensures.lists in
+    record {
+      work = c.take_hopeless.ensures.work ∙ ap (λ (q : Lists). work_of q board) same;
+      lists = c.take_hopeless.ensures.lists ∙ ap (λ (q : Lists). after q board c.take_hopeless.result) same;
+      knows = c.take_hopeless.ensures.knows;
+      rests = c.take_hopeless.ensures.rests;
+      limits = c.take_hopeless.ensures.limits;
+    }
 
 -- ---- none is hopeless
 
@@ -49,37 +53,32 @@ take_ready-requires-clause-none g c = sym (no_lost g (goal.at.take_ready-require
 pub take_ready-requires-clause-knows : goal.take_ready-requires-clause-knows
 take_ready-requires-clause-knows g c = knows g (goal.at.take_ready-requires-clause-knows g c).After-first_ready-ready
 
-pub returns-then-ready-blocks-clause-work : goal.returns-then-ready-blocks-clause-work
-returns-then-ready-blocks-clause-work g c =
-    c.take_ready.ensures.work
-    ∙ ap (λ (q : Lists). work_of q (g.B.Board.board c.args.board.now)) (same g (goal.at.returns-then-ready-blocks-clause-work g c).After-first_ready-ready)
-
-pub returns-then-ready-blocks-clause-lists : goal.returns-then-ready-blocks-clause-lists
-returns-then-ready-blocks-clause-lists g c =
-    c.take_ready.ensures.lists
-    ∙ ap (λ (q : Lists). after q (g.B.Board.board c.args.board.now) c.take_ready.result) (same g (goal.at.returns-then-ready-blocks-clause-lists g c).After-first_ready-ready)
+pub returns-then-ready-blocks : goal.returns-then-ready-blocks
+returns-then-ready-blocks g c =
+    let board = g.B.Board.board c.args.board.now in
+    let unchanged = same g (goal.at.returns-then-ready-blocks g c).After-first_ready-ready in
+    record {
+      work = c.take_ready.ensures.work ∙ ap (λ (q : Lists). work_of q board) unchanged;
+      lists = c.take_ready.ensures.lists ∙ ap (λ (q : Lists). after q board c.take_ready.result) unchanged;
+      knows = c.take_ready.ensures.knows;
+      rests = c.take_ready.ensures.rests;
+      limits = c.take_ready.ensures.limits;
+    }
 
 -- ---- a reply
 
-pub returns-clause-work : goal.returns-clause-work
-returns-clause-work g c =
-    let at = (goal.at.returns-clause-work g c).After-first_ready-ready in
+pub returns : goal.returns
+returns g c =
+    let at = (goal.at.returns g c).After-first_ready-ready in
     let board = g.B.Board.board c.args.board.now in
     let s = c.first_ready-ready.new.self in
-    c.next_vote.ensures.work
-    ∙ vote_step (lists_of s) board (no_lost g at)
-    (none_first (is_ready board) s c.first_ready-ready.result c.first_ready-ready.ensures.first (omega (arith, c.if-ready-blocks.false, c.blocks-3.ensures)))
-    ∙ ap (λ (q : Lists). work_of q board) (same g at)
-
-pub returns-clause-lists : goal.returns-clause-lists
-returns-clause-lists g c =
-    let board = g.B.Board.board c.args.board.now in
-    c.next_vote.ensures.lists board ∙ ap (λ (q : Lists). after q board c.next_vote.result) (same g (goal.at.returns-clause-lists g c).After-first_ready-ready)
-
-pub returns-clause-knows : goal.returns-clause-knows
-returns-clause-knows g c =
-    c.next_vote.ensures.knows (g.B.Board.board c.args.board.now) (knows g (goal.at.returns-clause-knows g c).After-first_ready-ready)
-
-pub returns-clause-rests : goal.returns-clause-rests
-returns-clause-rests g c =
-    c.next_vote.ensures.rests (c.first_ready-ready.ensures.none (omega (arith, c.if-ready-blocks.false, c.blocks-3.ensures)))
+    let past : length s.seats ≤ c.first_ready-ready.result = omega (arith, c.if-ready-blocks.false, c.blocks-3.ensures) in
+    record {
+      work = c.next_vote.ensures.work
+          ∙ vote_step (lists_of s) board (no_lost g at) (none_first (is_ready board) s c.first_ready-ready.result c.first_ready-ready.ensures.first past)
+          ∙ ap (λ (q : Lists). work_of q board) (same g at);
+      lists = c.next_vote.ensures.lists board ∙ ap (λ (q : Lists). after q board c.next_vote.result) (same g at);
+      knows = c.next_vote.ensures.knows board (knows g at);
+      rests = c.next_vote.ensures.rests (c.first_ready-ready.ensures.none past);
+      limits = c.next_vote.ensures.limits;
+    }

@@ -14,19 +14,19 @@ taken g c = record {
   held = c.follow.ensures.held ∙ c.take_block-block.ensures.held;
 }
 
-pub returns-clause-work : goal.returns-clause-work
-returns-clause-work g c =
+pub returns : goal.returns
+returns g c =
     let board = g.B.Board.board c.args.board.now in
-    let q = lists_of c.args.self.now in
-    hopeless_step q board c.take_block-block.result
-    (first_taken (is_hopeless q board) c.args.self.now c.follow.new.self c.args.at c.take_block-block.result (taken g (goal.at.returns-clause-work g c).After-follow) c.requires.first)
-
-pub returns-clause-lists : goal.returns-clause-lists
-returns-clause-lists g c =
+    let before = c.args.self.now in
+    let now = c.follow.new.self in
     let block = c.take_block-block.result in
-    after_hopeless (g.B.Board.board c.args.board.now) c.args.self.now c.follow.new.self c.args.at block (taken g (goal.at.returns-clause-lists g c).After-follow) c.requires.first
-    (c.follow.ensures.gone ∙ ap (λ l. gone_with l block.header) c.take_block-block.ensures.gone)
-
-pub returns-clause-knows : goal.returns-clause-knows
-returns-clause-knows g c =
-    taken_knows (g.B.Board.board c.args.board.now) c.args.self.now c.follow.new.self c.args.at c.take_block-block.result (taken g (goal.at.returns-clause-knows g c).After-follow) c.requires.knows
+    let q = lists_of before in
+    let out = taken g (goal.at.returns g c).After-follow in
+    record {
+      work = hopeless_step q board block (first_taken (is_hopeless q board) before now c.args.at block out c.requires.first);
+      lists = after_hopeless board before now c.args.at block out c.requires.first
+          (c.follow.ensures.gone ∙ ap (λ l. gone_with l block.header) c.take_block-block.ensures.gone);
+      knows = taken_knows board before now c.args.at block out c.requires.knows;
+      rests = tt;
+      limits = c.follow.ensures.limits;
+    }

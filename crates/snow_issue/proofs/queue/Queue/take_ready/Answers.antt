@@ -16,20 +16,17 @@ taken g c = record {
   held = c.take_block.ensures.held;
 }
 
-pub returns-clause-work : goal.returns-clause-work
-returns-clause-work g c =
+pub returns : goal.returns
+returns g c =
     let board = g.B.Board.board c.args.board.now in
-    ready_step (lists_of c.args.self.now) board c.take_block.result (sym c.requires.none)
-    (first_taken (is_ready board) c.args.self.now c.take_block.new.self c.args.at c.take_block.result (taken g (goal.at.returns-clause-work g c).After-take_block) c.requires.first)
-
-pub returns-clause-lists : goal.returns-clause-lists
-returns-clause-lists g c =
-    after_ready (g.B.Board.board c.args.board.now) c.args.self.now c.take_block.new.self c.args.at c.take_block.result (taken g (goal.at.returns-clause-lists g c).After-take_block) c.requires.first c.take_block.ensures.gone
-
-pub returns-clause-knows : goal.returns-clause-knows
-returns-clause-knows g c =
-    taken_knows (g.B.Board.board c.args.board.now) c.args.self.now c.take_block.new.self c.args.at c.take_block.result (taken g (goal.at.returns-clause-knows g c).After-take_block) c.requires.knows
-
-pub returns-clause-rests : goal.returns-clause-rests
-returns-clause-rests g c =
-    woken_forgets c.take_block.result.header.id (remove c.args.self.now.seats c.args.at) c.take_block.new.self.seats c.take_block.ensures.left
+    let before = c.args.self.now in
+    let now = c.take_block.new.self in
+    let block = c.take_block.result in
+    let out = taken g (goal.at.returns g c).After-take_block in
+    record {
+      work = ready_step (lists_of before) board block (sym c.requires.none) (first_taken (is_ready board) before now c.args.at block out c.requires.first);
+      lists = after_ready board before now c.args.at block out c.requires.first c.take_block.ensures.gone;
+      knows = taken_knows board before now c.args.at block out c.requires.knows;
+      rests = woken_forgets block.header.id (remove before.seats c.args.at) now.seats c.take_block.ensures.left;
+      limits = c.take_block.ensures.limits;
+    }
