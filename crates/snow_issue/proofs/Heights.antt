@@ -8,7 +8,7 @@ use Rattle.snow_issue.specs.declared.work.Waiting.{Waiting}
 use Rattle.snow_issue.specs.Lists.{waits_among, waits_below}
 use Rattle.snow_issue.specs.Index.{HasHeights}
 use Rattle.snow_issue.proofs.Noted.{same_id}
-use Rattle.snow_issue.proofs.Named.{named, named_pushed, apart_pushed, named_removed, apart_removed, named_is_some, none_named, any_named}
+use Rattle.snow_issue.proofs.Named.{named, named_pushed, apart_pushed, named_removed, named_at, apart_removed, named_is_some, none_named, any_named}
 
 -- what finds a height by identifier
 abbrev Finder : Type 0
@@ -44,6 +44,13 @@ pub below_missing : (height : Finder) (waiting : List Waiting) (child : Header) 
 below_missing height waiting child is missing =
     sym (any_named id_of_block (λ w. w.header.height + 1 == child.height) waiting child.parent is.apart
     ∙ no_test (named id_of_block waiting child.parent) child.height (missing ∙ is.known child.parent))
+
+pub below_at : (height : Finder) (waiting : List Waiting) (child : Header) (at : ℕ) (w : Waiting) → HasHeights height waiting → at < length waiting → w ≡ get_or waiting at w
+    → bytes_eq w.header.id child.parent ≡ true → (w.header.height + 1 == child.height) ≡ waits_below waiting child
+below_at height waiting child at w is there is_w same =
+    let found = named_at id_of_block waiting at w child.parent there is_w same is.apart in
+    sym (any_named id_of_block (λ w. w.header.height + 1 == child.height) waiting child.parent is.apart
+    ∙ ap (λ o. option_map_or (λ (w : Waiting). w.header.height + 1 == child.height) o false) found)
 
 -- ---- one block more, and one less
 

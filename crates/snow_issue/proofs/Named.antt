@@ -85,6 +85,20 @@ named_removed {T} name (y ∷ items) (suc at) x id there is apart =
       | false ↦ λ e. rest
     ] refl
 
+-- the item at a place is found by its name
+pub named_at : {T : Type 0} (name : T → List ℕ) (items : List T) (at : ℕ) (x : T) (id : List ℕ) → at < length items → x ≡ get_or items at x → bytes_eq (name x) id ≡ true → AreNamedApart name items
+    → named name items id ≡ Some x
+named_at name [] at x id there is h apart = absurd (omega (arith, there))
+named_at name (y ∷ items) zero x id there is h apart =
+    ap (λ k. cond (bytes_eq (name k) id) (Some k) (named name items id)) (sym is) ∙ ap (λ b. cond b (Some x) (named name items id)) h
+named_at name (y ∷ items) (suc at) x id there is h apart =
+    let inside : at < length items = omega (arith, there) in
+    let other : bytes_eq (name y) id ≡ false = false_from_ne_true (bytes_eq (name y) id) (λ t.
+    let here : bytes_eq (name (get_or items at x)) (name y) ≡ true =
+    subst (λ k. bytes_eq (name k) (name y) ≡ true) is (subst (λ k. bytes_eq (name x) k ≡ true) (sym (same_id (name y) id t)) h) in
+    both_ways (is_named name items (name y)) apart.0 (some_named name items at x (name y) inside here)) in
+    ap (λ b. cond b (Some y) (named name items id)) other ∙ named_at name items at x id inside is h apart.1
+
 nothing_apart : {T : Type 0} (name : T → List ℕ) (at : ℕ) → AreNamedApart name (remove [] at)
 nothing_apart name zero = tt
 nothing_apart name (suc at) = tt

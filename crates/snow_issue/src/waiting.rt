@@ -80,13 +80,27 @@ impl WaitingList {
         self.heights.contains_key(id)
     }
 
-    /// Whether the parent of a block waits, at the height right below it.
+    /// Whether the parent of a block waits, at the height right below it. Where it was asked for, it
+    /// mostly came last.
     pub(crate) fn waits_below(&self, child: &Header) -> bool
         ensures { result ≡ waits_below (items_of self.now) child.now }
     {
-        if self.lineup.len() == 0 {
+        let len = self.lineup.len();
+        if len == 0 {
             return false;
         }
+        let newest = &self.lineup.item(len - 1).header;
+        if newest.id == child.parent {
+            return is_right_below(newest.height, child.height);
+        }
+        self.has_height_below(child)
+    }
+
+    // The same by the index.
+    #[inline(never)]
+    fn has_height_below(&self, child: &Header) -> bool
+        ensures { result ≡ waits_below (items_of self.now) child.now }
+    {
         match self.heights.get(&child.parent) {
             Some(height) => is_right_below(*height, child.height),
             None => false,

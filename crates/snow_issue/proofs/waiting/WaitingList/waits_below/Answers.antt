@@ -1,18 +1,23 @@
-use Rattle.std.proofs.Common.{ap, ◌∙◌}
+-- The block that came last is found by its place.
+use Rattle.std.proofs.Common.{◌<◌, ◌-◌, length, sym, ap, ◌∙◌, arith}
+use Rattle.std.proofs.lemmas.List.{length-map}
 use Rattle.std.specs.HashMap.{get}
 use Rattle.std.specs.Str.{bytes_eq}
+use Rattle.snow_issue.specs.declared.work.Waiting.{Waiting}
+use Rattle.snow_issue.specs.declared.marks.Mark.{Mark}
 use Rattle.snow_issue.specs.Lists.{waits_below}
 use Rattle.snow_issue.specs.Known.{items_of}
-use Rattle.snow_issue.proofs.Heights.{below_known, below_missing}
+use Rattle.snow_issue.proofs.Heights.{below_at}
+use Rattle.snow_issue.proofs.Taken.{item_is}
 use Rattle.snow_issue.proofs.waiting.WaitingList.waits_below.Goals as goal
 
-pub returns-in-Some : goal.returns-in-Some
-returns-in-Some c =
+pub returns-then-eq : goal.returns-then-eq
+returns-then-eq c =
+    let seats = c.self.inside.lineup in
+    let at = c.len-len.result - 1 in
+    let w = c.item.result.now in
+    let there : at < length seats = omega (arith, c.len-len.ensures, c.if-len-eq0.false) in
     c.is_right_below.ensures
-    ∙ below_known (λ q. get bytes_eq c.self.inside.heights q) (items_of c.self.inside.lineup) c.args.child.now c.in-Some.height.now c.self.invariant c.in-Some.ensures.value
-    ∙ ap (λ l. waits_below (items_of l) c.args.child.now) c.self.view_is
-
-pub returns-in-None : goal.returns-in-None
-returns-in-None c =
-    below_missing (λ q. get bytes_eq c.self.inside.heights q) (items_of c.self.inside.lineup) c.args.child.now c.self.invariant c.in-None.ensures.value
+    ∙ below_at (λ q. get bytes_eq c.self.inside.heights q) (items_of seats) c.args.child.now at w c.self.invariant
+    (omega (arith, there, length-map seats (λ (s : Waiting × Mark). s.0))) (item_is seats at w there c.item.ensures) (sym c.eq.ensures ∙ c.if-eq.true)
     ∙ ap (λ l. waits_below (items_of l) c.args.child.now) c.self.view_is
