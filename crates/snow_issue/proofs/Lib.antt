@@ -9,6 +9,7 @@ mod Looked
 mod Named
 pub mod Noted
 mod Placed
+mod Preferred
 pub mod Remembered
 mod Replied
 mod Settled

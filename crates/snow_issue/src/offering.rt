@@ -11,7 +11,9 @@ use crate::work::Offered;
 use snow_base::{Header, Id};
 use snow_plain::Board;
 
-/// Whether a block is on the board: pending, or the last accepted one.
+/// Whether a block is on the board: pending, or the last accepted one. The preference is told without
+/// looking it up.
+#[tactic(auto, using(crate::proofs::Preferred::preference_on))]
 pub(crate) fn is_on<B: Board>(board: &B, id: &Id) -> bool
     ensures { result ≡ is_on (B.board board.now) id.now }
 {
@@ -19,7 +21,7 @@ pub(crate) fn is_on<B: Board>(board: &B, id: &Id) -> bool
     if board.pending_len() == 0 {
         return board.last() == *id;
     }
-    board.height_of(id).is_some()
+    board.preference() == *id || board.height_of(id).is_some()
 }
 
 // Whether nothing is known of a block.
