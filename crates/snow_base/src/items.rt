@@ -75,7 +75,7 @@ impl Items<u8> {
     pub fn from_slice(alloc: Global, bytes: &[u8]) -> Result<Self, AllocError>
         ensures { IfOk result (λ list. list ≡ bytes.now) }
     {
-        let mut list = Items::new(alloc);
+        let mut list = Items::with_capacity(alloc, bytes.len())?;
         list.append(bytes)?;
         Ok(list)
     }
