@@ -1,13 +1,11 @@
 -- Lemmas on who was put on a rung of a ladder, one after the other.
-use Rattle.std.proofs.Common.{◌≡◌, ℕ, zero, suc, ◌+◌, ◌-◌, ◌%◌, ◌^◌, ◌<◌, ◌≤◌, ◌==◌, true, false, List, [], ◌∷◌, ◌++◌, length, get_or, refl, sym, ap, ◌∙◌, arith, append_assoc, append-nil, length-append, if◌then◌else◌}
+use Rattle.std.proofs.Common.{◌≡◌, ℕ, zero, suc, ◌+◌, ◌-◌, ◌<◌, ◌≤◌, ◌==◌, true, false, List, [], ◌∷◌, ◌++◌, length, get_or, refl, sym, ap, ◌∙◌, arith, append_assoc, append-nil, length-append, if◌then◌else◌}
 use Rattle.std.proofs.Math.Seq.{get_or-append_seam}
 use Rattle.std.proofs.lemmas.Grind.{common_steps}
 use Rattle.std.proofs.lemmas.List.{get_or_append_left}
-use Rattle.std.proofs.lemmas.List.Sums.{sum_by-cons}
 use Rattle.snow_plain.proofs.Cases.{split_on}
 use Rattle.snow_topo.specs.declared.climber.Climber.{Climber}
 use Rattle.snow_topo.specs.declared.ladder.Link.{Link}
-use Rattle.snow_topo.specs.Climbing.{climber_total}
 use Rattle.snow_topo.specs.Ladder.{no_link, latest, group, chain, AreLinked}
 
 -- numbers that are found equal, and those that aren't
@@ -54,6 +52,12 @@ latest_more links l place =
 
 -- ---- all that were put on a rung
 
+-- where none looks for the place there is none
+pub group_none : (links : List Link) (n place : ℕ) → ((i : ℕ) → i < n → (get_or links i no_link).climber.place ≡ place → ⊥) → group links n place ≡ []
+group_none links zero place none = refl
+group_none links (suc n) place none =
+    rw (nat_other (get_or links n no_link).climber.place place (none n (omega arith))) (group_none links n place (λ i h. none i (omega (arith, h))))
+
 -- those that are put on later change nothing
 group_before : (links : List Link) (l : Link) (n place : ℕ) → n ≤ length links → group (links ++ l ∷ []) n place ≡ group links n place
 group_before links l zero place h = refl
@@ -67,6 +71,15 @@ chain_before links l zero h = refl
 chain_before links l (suc i) h =
     let here = get_or_append_left links (l ∷ []) no_link i (omega (arith, h)) in
     (λ j. group (links ++ l ∷ []) (suc i) (here j).climber.place) ∙ group_before links l (suc i) (get_or links i no_link).climber.place h
+
+-- one more
+pub group_more : (links : List Link) (l : Link) (place : ℕ) → group (links ++ l ∷ []) (length (links ++ l ∷ [])) place ≡ (if l.climber.place == place then l.climber ∷ group links (length links) place else group links (length links) place)
+group_more links l place =
+    let long : length (links ++ l ∷ []) ≡ suc (length links) = omega (arith, length-append links (l ∷ [])) in
+    let own = get_or-append_seam links l [] no_link in
+    ap (λ n. group (links ++ l ∷ []) n place) long
+    ∙ (λ j. if (own j).climber.place == place then (own j).climber ∷ group (links ++ l ∷ []) (length links) place else group (links ++ l ∷ []) (length links) place)
+    ∙ ap (λ m. if l.climber.place == place then l.climber ∷ m else m) (group_before links l (length links) place (omega arith))
 
 -- the chain up to the last one has them all
 pub chain_latest : (links : List Link) (n place : ℕ) → chain links (latest links n place) ≡ group links n place
@@ -97,13 +110,6 @@ chain_next links number linked some within =
 pub next_falls : (links : List Link) (number : ℕ) → AreLinked links → 0 < number → number ≤ length links → (get_or links (number - 1) no_link).next < number
 next_falls links number linked some within =
     omega (arith, some, linked (number - 1) (omega (arith, some, within)), latest_within links (number - 1) (get_or links (number - 1) no_link).climber.place)
-
--- how many votes they are, with one more of them counted, as 32 bits hold it
-pub votes_more : (links : List Link) (number count : ℕ) → AreLinked links → 0 < number → number ≤ length links
-    → ((count + (get_or links (number - 1) no_link).climber.count) % 2 ^ 32 + climber_total (chain links (get_or links (number - 1) no_link).next)) % 2 ^ 32 ≡ (count + climber_total (chain links number)) % 2 ^ 32
-votes_more links number count linked some within =
-    let x = get_or links (number - 1) no_link in
-    omega (arith, ap climber_total (chain_next links number linked some within), sum_by-cons (λ (c : Climber). c.count) x.climber (chain links x.next))
 
 -- those that were listed, and those that are still to be
 pub listed_more : (links : List Link) (number : ℕ) (listed : List Climber) → AreLinked links → 0 < number → number ≤ length links

@@ -5,14 +5,17 @@ use Rattle.std.proofs.Math.Nat.{pow-suc}
 use Rattle.std.proofs.Math.Seq.{get_or-append_seam, take-append_seam}
 use Rattle.std.proofs.lemmas.Grind.{common_steps}
 use Rattle.std.proofs.lemmas.List.{get_or_append_left, get_or-set_same, get_or-set_other, length-set, map-append, take_more, take_all}
+use Rattle.std.proofs.lemmas.List.Sums.{sum_by-cons}
 use Rattle.std.proofs.lemmas.List.Elements.{All-cons, All-nil, All-head, All-tail, filter-append}
 use Rattle.std.proofs.lemmas.List.Sorted.{IsPermutation-refl, IsPermutation-cons, IsPermutation-trans, IsPermutation-to_front, length_permutation}
 use Rattle.std.proofs.lemmas.Nat.Bits.{bit_at-zero, bit_at_above}
 use Rattle.snow_plain.proofs.Cases.{split_on}
 use Rattle.snow_topo.specs.declared.climber.Climber.{Climber}
+use Rattle.snow_topo.specs.declared.ladder.Head.{Head}
 use Rattle.snow_topo.specs.declared.ladder.Link.{Link}
-use Rattle.snow_topo.specs.Ladder.{under, up_from, no_link, climbers_of, latest, group, mark_at, IsHung}
-use Rattle.snow_topo.proofs.Chains.{same_nat, nat_same, nat_other, latest_none, latest_before, latest_more}
+use Rattle.snow_topo.specs.Climbing.{climber_total}
+use Rattle.snow_topo.specs.Ladder.{under, up_from, no_link, no_head, climbers_of, latest, group, mark_at, IsHung}
+use Rattle.snow_topo.proofs.Chains.{same_nat, nat_same, nat_other, latest_none, latest_before, latest_more, group_none, group_more}
 use Rattle.snow_topo.proofs.Halfway.{halves}
 
 -- numbers one of which is found less
@@ -196,10 +199,11 @@ mark_none words count at none zeros rung within marked =
 -- ---- what is kept true
 
 -- nothing was put on
-pub none_hung : (heads words : List ℕ) (low high : ℕ) → ((rung : ℕ) → get_or heads rung 0 ≡ 0) → low ≤ length heads → length heads < 64 * length words → IsHung [] heads words low high 0
+pub none_hung : (heads : List Head) (words : List ℕ) (low high : ℕ) → ((rung : ℕ) → get_or heads rung no_head ≡ no_head) → low ≤ length heads → length heads < 64 * length words → IsHung [] heads words low high 0
 none_hung heads words low high clear within covered = record {
   linked = λ i h. absurd (omega (arith, h));
-  last = λ rung h. clear rung;
+  last = λ rung h. ap (λ (x : Head). x.last) (clear rung);
+  counted = λ rung h. ap (λ (x : Head). x.count) (clear rung);
   clear = λ rung h. clear rung;
   marked = λ i h lower. absurd (omega (arith, h));
   highest = λ i h. absurd (omega (arith, h));
@@ -208,15 +212,20 @@ none_hung heads words low high clear within covered = record {
   covered = covered;
 }
 
+-- one more vote of a sum, as 32 bits hold it
+more_held : (own : Climber) (rest : List Climber) (n : ℕ) → n ≡ climber_total rest % 2 ^ 32 → (n + own.count) % 2 ^ 32 ≡ climber_total (own ∷ rest) % 2 ^ 32
+more_held own rest n is = omega (arith, is, sum_by-cons (λ (c : Climber). c.count) own rest)
+
 -- one more
-pub one_hung : (links : List Link) (heads words after : List ℕ) (low high taken most number : ℕ) (l : Link) → IsHung links heads words low high taken → high ≤ most → l.climber.place ≤ most → l.climber.place < low → l.next ≡ get_or heads l.climber.place 0
-    → number ≡ suc (length links) → mark_at after l.climber.place ≡ 1 → ((other : ℕ) → other ≢ l.climber.place → mark_at after other ≡ mark_at words other) → length after ≡ length words
-    → IsHung (links ++ l ∷ []) (set heads l.climber.place number) after low most taken
-one_hung links heads words after low high taken most number l hung raised own_place lower next is here others long =
+pub one_hung : (links : List Link) (heads : List Head) (words after : List ℕ) (low high taken most : ℕ) (head : Head) (l : Link) → IsHung links heads words low high taken → high ≤ most → l.climber.place ≤ most → l.climber.place < low → l.next ≡ (get_or heads l.climber.place no_head).last
+    → head.last ≡ suc (length links) → head.count ≡ ((get_or heads l.climber.place no_head).count + l.climber.count) % 2 ^ 32 → mark_at after l.climber.place ≡ 1 → ((other : ℕ) → other ≢ l.climber.place → mark_at after other ≡ mark_at words other) → length after ≡ length words
+    → IsHung (links ++ l ∷ []) (set heads l.climber.place head) after low most taken
+one_hung links heads words after low high taken most head l hung raised own_place lower next is sums here others long =
     let place = l.climber.place in
     let size : length (links ++ l ∷ []) ≡ suc (length links) = omega (arith, length-append links (l ∷ [])) in
     let before : (i : ℕ) → i < length links → get_or (links ++ l ∷ []) i no_link ≡ get_or links i no_link = λ i h. get_or_append_left links (l ∷ []) no_link i h in
     let own : get_or (links ++ l ∷ []) (length links) no_link ≡ l = get_or-append_seam links l [] no_link in
+    let there : get_or (set heads place head) place no_head ≡ head = get_or-set_same heads place head no_head (omega (arith, lower, hung.within)) in
     record {
       linked = λ i h.
           halves i (length links)
@@ -231,11 +240,24 @@ one_hung links heads words after low high taken most number l hung raised own_pl
           (λ t.
           let same : place ≡ rung = same_nat place rung t in
           let more : latest (links ++ l ∷ []) (length (links ++ l ∷ [])) rung ≡ suc (length links) = latest_more links l rung ∙ rw t refl in
-          ap (λ r. get_or (set heads place number) r 0) (sym same) ∙ get_or-set_same heads place number 0 (omega (arith, lower, hung.within)) ∙ is ∙ sym more)
+          ap (λ r. (get_or (set heads place head) r no_head).last) (sym same) ∙ ap (λ (x : Head). x.last) there ∙ is ∙ sym more)
           (λ t.
           let more : latest (links ++ l ∷ []) (length (links ++ l ∷ [])) rung ≡ latest links (length links) rung = latest_more links l rung ∙ rw t refl in
-          get_or-set_other heads place rung number 0 (apart rung place t) ∙ hung.last rung h ∙ sym more);
-      clear = λ rung h. get_or-set_other heads place rung number 0 (higher rung place (omega (arith, h, lower))) ∙ hung.clear rung h;
+          ap (λ (x : Head). x.last) (get_or-set_other heads place rung head no_head (apart rung place t)) ∙ hung.last rung h ∙ sym more);
+      counted = λ rung h.
+          split_on (place == rung)
+          (λ t.
+          let same : place ≡ rung = same_nat place rung t in
+          let more : group (links ++ l ∷ []) (length (links ++ l ∷ [])) rung ≡ l.climber ∷ group links (length links) rung = group_more links l rung ∙ rw t refl in
+          ap (λ r. (get_or (set heads place head) r no_head).count) (sym same) ∙ ap (λ (x : Head). x.count) there
+          ∙ sums
+          ∙ ap (λ r. ((get_or heads r no_head).count + l.climber.count) % 2 ^ 32) same
+          ∙ more_held l.climber (group links (length links) rung) (get_or heads rung no_head).count (hung.counted rung h)
+          ∙ ap (λ g. climber_total g % 2 ^ 32) (sym more))
+          (λ t.
+          let more : group (links ++ l ∷ []) (length (links ++ l ∷ [])) rung ≡ group links (length links) rung = group_more links l rung ∙ rw t refl in
+          ap (λ (x : Head). x.count) (get_or-set_other heads place rung head no_head (apart rung place t)) ∙ hung.counted rung h ∙ ap (λ g. climber_total g % 2 ^ 32) (sym more));
+      clear = λ rung h. get_or-set_other heads place rung head no_head (higher rung place (omega (arith, h, lower))) ∙ hung.clear rung h;
       marked = λ i h low_enough.
           halves i (length links)
           (λ t. subst (λ (x : Link). mark_at after x.climber.place ≡ 1) (sym (before i t))
@@ -251,8 +273,8 @@ one_hung links heads words after low high taken most number l hung raised own_pl
           subst (λ j. (get_or (links ++ l ∷ []) j no_link).climber.place ≤ most) same
           (subst (λ (x : Link). x.climber.place ≤ most) (sym own) own_place));
       took = omega (arith, hung.took, size);
-      within = omega (arith, hung.within, length-set heads place number);
-      covered = omega (arith, hung.covered, length-set heads place number, long);
+      within = omega (arith, hung.within, length-set heads place head);
+      covered = omega (arith, hung.covered, length-set heads place head, long);
     }
   where
     apart : (a b : ℕ) → (b == a) ≡ false → a ≢ b
@@ -271,31 +293,39 @@ one_hung links heads words after low high taken most number l hung raised own_pl
         (λ t. others q (other_nat q l.climber.place t) ∙ was)
 
 -- the highest rung empty
-pub rung_empty : (links : List Link) (heads words after : List ℕ) (low high rung taken next : ℕ) → IsHung links heads words low high taken → rung < low → next ≤ length links → All (λ c. c.place ≤ rung) (under low (climbers_of links))
-    → ((other : ℕ) → other ≢ rung → mark_at after other ≡ mark_at words other) → length after ≡ length words → IsHung links (set heads rung 0) after rung high next
+pub rung_empty : (links : List Link) (heads : List Head) (words after : List ℕ) (low high rung taken next : ℕ) → IsHung links heads words low high taken → rung < low → next ≤ length links → All (λ c. c.place ≤ rung) (under low (climbers_of links))
+    → ((other : ℕ) → other ≢ rung → mark_at after other ≡ mark_at words other) → length after ≡ length words → IsHung links (set heads rung no_head) after rung high next
 rung_empty links heads words after low high rung taken next hung lower there all others long =
     let each = seen_each (λ c. c.place ≤ rung) low links all in
     record {
       linked = hung.linked;
-      last = λ r h. get_or-set_other heads rung r 0 0 (omega (arith, h)) ∙ hung.last r (omega (arith, h, lower));
+      last = λ r h. ap (λ (x : Head). x.last) (get_or-set_other heads rung r no_head no_head (omega (arith, h))) ∙ hung.last r (omega (arith, h, lower));
+      counted = λ r h. ap (λ (x : Head). x.count) (get_or-set_other heads rung r no_head no_head (omega (arith, h))) ∙ hung.counted r (omega (arith, h, lower));
       clear = λ r h.
           split_on (r == rung)
-          (λ t. ap (λ q. get_or (set heads rung 0) q 0) (same_nat r rung t) ∙ get_or-set_same heads rung 0 0 (omega (arith, lower, hung.within)))
+          (λ t. ap (λ q. get_or (set heads rung no_head) q no_head) (same_nat r rung t) ∙ get_or-set_same heads rung no_head no_head (omega (arith, lower, hung.within)))
           (λ t.
           let other : r ≢ rung = apart r rung t in
-          get_or-set_other heads rung r 0 0 other
+          get_or-set_other heads rung r no_head no_head other
           ∙ halves r low
-          (λ u. hung.last r u ∙ latest_none links (length links) r (λ i inside same. omega (arith, same, each i inside (omega (arith, same, u)), h, other)))
+          (λ u. blank (get_or heads r no_head) (hung.last r u ∙ latest_none links (length links) r (λ i inside same. nobody r i u h other inside same))
+          (hung.counted r u ∙ ap (λ g. climber_total g % 2 ^ 32) (group_none links (length links) r (λ i inside same. nobody r i u h other inside same))))
           (λ u. hung.clear r u));
       marked = λ i h low_enough. others (get_or links i no_link).climber.place (omega (arith, low_enough)) ∙ hung.marked i h (omega (arith, low_enough, lower));
       highest = hung.highest;
       took = there;
-      within = omega (arith, lower, hung.within, length-set heads rung 0);
-      covered = omega (arith, hung.covered, length-set heads rung 0, long);
+      within = omega (arith, lower, hung.within, length-set heads rung no_head);
+      covered = omega (arith, hung.covered, length-set heads rung no_head, long);
     }
   where
     apart : (a b : ℕ) → (a == b) ≡ false → a ≢ b
     apart a b e = grind (arith, common_steps)
+
+    nobody : (r i : ℕ) → r < low → rung ≤ r → r ≢ rung → i < length links → (get_or links i no_link).climber.place ≡ r → ⊥
+    nobody r i u h other inside same = omega (arith, same, seen_each (λ c. c.place ≤ rung) low links all i inside (omega (arith, same, u)), h, other)
+
+    blank : (x : Head) → x.last ≡ 0 → x.count ≡ 0 → x ≡ no_head
+    blank x last count = λ j. record { last = last j; count = count j }
 
 -- what a write through a slice leaves of a list is what was written
 pub written : (n : ℕ) (xs rest : List ℕ) → n ≡ length xs → take n (xs ++ rest) ≡ xs

@@ -1,8 +1,10 @@
 -- Climbers on a ladder, each on the rung of the place for which it looks. They are taken off from the highest rung on.
-use Rattle.std.specs.Prelude.{◌≡◌, ℕ, zero, suc, ◌+◌, ◌*◌, ◌/◌, ◌%◌, ◌<◌, ◌≤◌, ◌==◌, not, nat_lt, List, [], ◌∷◌, length, get_or, map, filter, if◌then◌else◌}
+use Rattle.std.specs.Prelude.{◌≡◌, ℕ, zero, suc, ◌+◌, ◌*◌, ◌/◌, ◌%◌, ◌^◌, ◌<◌, ◌≤◌, ◌==◌, not, nat_lt, List, [], ◌∷◌, length, get_or, map, filter, if◌then◌else◌}
 use Rattle.std.specs.Int.{bit_at}
 use Rattle.snow_topo.specs.declared.climber.Climber.{Climber}
+use Rattle.snow_topo.specs.declared.ladder.Head.{Head}
 use Rattle.snow_topo.specs.declared.ladder.Link.{Link}
+use Rattle.snow_topo.specs.Climbing.{climber_total}
 
 -- what is seen of a ladder
 pub record Rungs : Type 0 where
@@ -47,6 +49,9 @@ pub record IsReady (pending : ℕ) (ladder : Rungs) : Type 0 where
 abbrev pub no_link : Link
 no_link = record { climber = record { place = 0; passed = 0; count = 0 }; next = 0 }
 
+abbrev pub no_head : Head
+no_head = record { last = 0; count = 0 }
+
 -- all that were put on, in order
 abbrev pub climbers_of : List Link → List Climber
 climbers_of links = map (λ l. l.climber) links
@@ -74,11 +79,12 @@ mark_at words rung = bit_at (get_or words (rung / 64) 0) (rung % 64)
 abbrev pub AreLinked : List Link → Type 0
 AreLinked links = (i : ℕ) → i < length links → (get_or links i no_link).next ≡ latest links i (get_or links i no_link).climber.place
 
--- each rung below `low` tells who was put on it last, and is marked if there is one; nobody was put on a higher one than `high`
-pub record IsHung (links : List Link) (heads words : List ℕ) (low high taken : ℕ) : Type 0 where
+-- each rung below `low` tells who was put on it last and how many votes stand there, as 32 bits hold it, and is marked if there is one; nobody was put on a higher one than `high`
+pub record IsHung (links : List Link) (heads : List Head) (words : List ℕ) (low high taken : ℕ) : Type 0 where
   pub linked : AreLinked links
-  pub last : (rung : ℕ) → rung < low → get_or heads rung 0 ≡ latest links (length links) rung
-  pub clear : (rung : ℕ) → low ≤ rung → get_or heads rung 0 ≡ 0
+  pub last : (rung : ℕ) → rung < low → (get_or heads rung no_head).last ≡ latest links (length links) rung
+  pub counted : (rung : ℕ) → rung < low → (get_or heads rung no_head).count ≡ climber_total (group links (length links) rung) % 2 ^ 32
+  pub clear : (rung : ℕ) → low ≤ rung → get_or heads rung no_head ≡ no_head
   pub marked : (i : ℕ) → i < length links → (get_or links i no_link).climber.place < low → mark_at words (get_or links i no_link).climber.place ≡ 1
   pub highest : (i : ℕ) → i < length links → (get_or links i no_link).climber.place ≤ high
   pub took : taken ≤ length links

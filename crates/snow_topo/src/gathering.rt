@@ -32,7 +32,9 @@ fn gather_all<R: Rule>(tree: &Tree<Load<R>>, came: &[Climber], children: &mut Ba
 }
 
 /// The votes that were taken off a ladder last, and came to a parent, by its children. They are listed
-/// first. It takes no memory where the bag has places.
+/// first. It takes no memory where the bag has places. Few visits need it, and those that don't are to be
+/// short.
+#[inline(never)]
 pub(crate) fn gather<R: Rule>(tree: &Tree<Load<R>>, ladder: &mut Ladder, children: &mut Bag)
     requires wide { length (ladder.old).came ≤ (ladder.old).wide }
     requires places { length (ladder.old).came ≤ children.old.room + length children.old.list }

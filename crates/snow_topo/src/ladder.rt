@@ -1,6 +1,6 @@
 ghost use Rattle.std.specs.Prelude.{◌≡◌, ◌≢◌, ℕ, ◌+◌, ◌*◌, ◌/◌, ◌%◌, ◌^◌, ◌<◌, ◌≤◌, All, length, get_or, vec_len, vec_capacity, OnOk};
 ghost use Rattle.snow_topo.specs.Climbing.{climber_total};
-ghost use Rattle.snow_topo.specs.Ladder.{chain, mark_at, AreLinked};
+ghost use Rattle.snow_topo.specs.Ladder.{chain, mark_at, no_head, AreLinked};
 
 use crate::climber::Climber;
 use std::alloc::{AllocError, Global};
@@ -14,14 +14,20 @@ pub(crate) struct Link {
     pub(crate) next: usize,
 }
 
+/// Who was put on a rung last, as `next` of a link tells it, and how many votes all are who stand there.
+#[derive(Clone, Copy, Debug)]
+pub(crate) struct Head {
+    pub(crate) last: usize,
+    pub(crate) count: u32,
+}
+
 /// Climbers, each on the rung of the place for which it looks. To put one on, or to take those of the
 /// highest rung off, costs nothing for the others. It takes no memory, where there is room for those that
 /// are put on until the ladder is begun anew.
 #[derive(Debug, Drop)]
 pub(crate) struct Ladder {
     links: Vec<Link>,
-    // Of each rung who was put on it last, as `next` of a link tells it.
-    heads: Vec<usize>,
+    heads: Vec<Head>,
     // A bit for each rung, which is set where somebody stands.
     words: Vec<u64>,
     // Nobody stands on this rung or a higher one.
@@ -90,23 +96,7 @@ fn highest(words: &[u64], count: usize) -> usize
     0
 }
 
-// How many votes those are that were put on one rung, up to one of them.
-fn votes_from(links: &[Link], head: usize) -> u32
-    requires linked { AreLinked links.now }
-    requires within { head ≤ length links.now }
-    ensures { result ≡ climber_total (chain links.now head) % 2 ^ 32 }
-{
-    let mut count: u32 = 0;
-    let mut number = head;
-    while number > 0 {
-        let link = links[number - 1];
-        count = count.wrapping_add(link.climber.count);
-        number = link.next;
-    }
-    count
-}
-
-// Lists them, the latest first.
+// Lists those that were put on one rung up to one of them, the latest first.
 fn list_from(links: &[Link], head: usize, listed: &mut Vec<Climber>)
     requires linked { AreLinked links.now }
     requires within { head ≤ length links.now }
@@ -138,15 +128,15 @@ fn add_bit(words: &mut Vec<u64>, rungs: usize) -> Result<(), AllocError>
 }
 
 // There is one rung more.
-fn add_rung(heads: &mut Vec<usize>, words: &mut Vec<u64>) -> Result<(), AllocError>
+fn add_rung(heads: &mut Vec<Head>, words: &mut Vec<u64>) -> Result<(), AllocError>
     requires { length heads.old.items < 64 * length words.old.items }
     ensures ok { OnOk result (length heads.new.items ≡ length heads.old.items + 1) }
     ensures more { length heads.old.items ≤ length heads.new.items }
     ensures covered { length heads.new.items < 64 * length words.new.items }
-    ensures clear { (rung : ℕ) → get_or heads.new.items rung 0 ≡ get_or heads.old.items rung 0 }
+    ensures clear { (rung : ℕ) → get_or heads.new.items rung no_head ≡ get_or heads.old.items rung no_head }
 {
     add_bit(words, heads.len())?;
-    heads.push(0)?;
+    heads.push(Head { last: 0, count: 0 })?;
     Ok(())
 }
 
@@ -161,7 +151,7 @@ impl Ladder {
     {
         let links = Vec::with_capacity(alloc, votes)?;
         let listed = Vec::with_capacity(alloc, votes)?;
-        let heads = vec![in alloc; 0]?;
+        let heads = vec![in alloc; Head { last: 0, count: 0 }]?;
         let words = vec![in alloc; 0]?;
         Ok(Ladder {
             links,
@@ -205,14 +195,21 @@ impl Ladder {
     }
 
     /// Puts one on its rung. It takes no memory.
+    #[inline(always)]
     pub(crate) fn put(&mut self, climber: Climber)
         requires below { climber.place < (self.old).low }
         requires room { (self.old).put < (self.old).most }
         ensures { self.new ≡ record (self.old) { climbers = (self.old).climbers ++ climber ∷ []; put = (self.old).put + 1 } }
     {
-        let next = self.heads[climber.place];
-        self.links.push_reserved(Link { climber, next });
-        self.heads[climber.place] = self.links.len();
+        let head = self.heads[climber.place];
+        self.links.push_reserved(Link {
+            climber,
+            next: head.last,
+        });
+        self.heads[climber.place] = Head {
+            last: self.links.len(),
+            count: head.count.wrapping_add(climber.count),
+        };
         mark(&mut self.words, climber.place);
         self.high = self.high.max(climber.place);
     }
@@ -225,6 +222,7 @@ impl Ladder {
     }
 
     /// No rung is higher on which somebody stands.
+    #[inline]
     pub(crate) fn top(&self) -> usize
         ensures { All (λ c. c.place ≤ result) (self.now).climbers }
     {
@@ -233,7 +231,8 @@ impl Ladder {
     }
 
     /// Takes all off the highest rung on which somebody stands, or one above it. The answer is how many
-    /// votes they are. It takes no memory, and copies none.
+    /// votes they are, which is counted as they are put on. It takes no memory.
+    #[inline(always)]
     pub(crate) fn take(&mut self, rung: usize) -> u32
         requires below { rung < (self.old).low }
         requires highest { All (λ c. c.place ≤ rung) (self.old).climbers }
@@ -243,11 +242,11 @@ impl Ladder {
         ensures rest { self.new ≡ record (self.old) { climbers = (self.new).climbers; came = (self.new).came; low = rung } }
     {
         let head = self.heads[rung];
-        self.heads[rung] = 0;
+        self.heads[rung] = Head { last: 0, count: 0 };
         unmark(&mut self.words, rung);
         self.low = rung;
-        self.taken = head;
-        votes_from(&self.links, head)
+        self.taken = head.last;
+        head.count
     }
 
     /// Lists those that were taken off last. It takes no memory.

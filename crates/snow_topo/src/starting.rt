@@ -97,16 +97,28 @@ fn count_one<R: Rule>(tree: &Tree<Load<R>>, ladder: &mut Ladder, waiting: &mut V
     }
 }
 
+// Where of eight seats votes for a block wait, by its first three bits: the last in bit order at the first
+// seat. So those that wait begin from the last to the first, and are listed from the first to the last.
+const FALLING: [u8; 8] = [7, 3, 5, 1, 6, 2, 4, 0];
+
 // Where of so many seats votes for a block wait: those for different blocks are to wait at different ones.
 // The seats are as many as a power of two.
+#[inline(always)]
 fn seat_of(id: &Id, seats: usize) -> usize
     requires { 0 < seats }
     ensures { result < seats }
 {
-    usize::from(id.as_bytes()[0]) & (seats - 1)
+    let first = id.as_bytes()[0];
+    let seat = if seats == 8 {
+        FALLING[usize::from(first % 8)]
+    } else {
+        first
+    };
+    usize::from(seat) & (seats - 1)
 }
 
 // One vote more for each of these identifiers.
+#[inline(always)]
 fn count_each<R: Rule>(tree: &Tree<Load<R>>, ladder: &mut Ladder, waiting: &mut [Vote], ids: &[Id])
     requires seats { 0 < length waiting.old }
     requires room { (ladder.old).put + total_count waiting.old + length ids.now ≤ (ladder.old).most }
@@ -126,6 +138,7 @@ fn count_each<R: Rule>(tree: &Tree<Load<R>>, ladder: &mut Ladder, waiting: &mut 
 }
 
 // The same where nobody waits before or afterwards.
+#[inline(always)]
 fn seat_each<R: Rule>(tree: &Tree<Load<R>>, ladder: &mut Ladder, waiting: &mut [Vote], ids: &[Id])
     requires seats { 0 < length waiting.old }
     requires empty { (test : List ℕ → Bool) → votes_by test waiting.old ≡ 0 }

@@ -20,7 +20,8 @@ use snow_tree::Tree;
 use std::sync::ledger::Ledger;
 
 // What is kept at a place takes the next poll with these votes. The answer is whether it leads elsewhere
-// then.
+// then. Few visits come to it.
+#[inline(never)]
 fn record_at<R: Rule, L: Ledger>(
     tree: &mut Tree<Load<R>>,
     at: usize,
@@ -52,6 +53,7 @@ pub(crate) fn has_quorum(params: &Params, count: u32) -> bool
 // What is kept at a place takes the next poll with the votes that were taken off the ladder last, so many in
 // all, where they are AlphaPreference; else it is left alone, and has failed by its number. The answer is
 // whether it leads elsewhere then.
+#[inline(always)]
 fn record_quorum<R: Rule, L: Ledger>(
     params: &Params,
     tree: &mut Tree<Load<R>>,
@@ -86,6 +88,7 @@ fn record_quorum<R: Rule, L: Ledger>(
 }
 
 // So many votes that came to the block at a place go on to its parent together.
+#[inline(always)]
 fn pass<R: Rule>(tree: &Tree<Load<R>>, at: usize, count: u32, ladder: &mut Ladder)
     requires room { (ladder.old).put < (ladder.old).most }
     requires within { at < length (tree.now).pending }
@@ -103,6 +106,7 @@ fn pass<R: Rule>(tree: &Tree<Load<R>>, at: usize, count: u32, ladder: &mut Ladde
 /// The latest block for which votes look is visited: what is kept of its children takes the next poll
 /// with the votes that came to it, and these go on to its parent. The answer is whether it leads
 /// elsewhere then. It takes no memory where the bag has places.
+#[inline(always)]
 pub(crate) fn visit<R: Rule, L: Ledger>(
     params: &Params,
     tree: &mut Tree<Load<R>>,

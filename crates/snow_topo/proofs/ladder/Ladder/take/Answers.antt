@@ -1,18 +1,12 @@
-use Rattle.std.proofs.Common.{◌≡◌, ◌%◌, ◌^◌, ◌<◌, ◌≤◌, length, get_or, All, IsPermutation, sym, ap, subst, ◌∙◌, arith}
-use Rattle.std.proofs.lemmas.Grind.{get_or_default_zero}
+use Rattle.std.proofs.Common.{◌≡◌, ℕ, List, ◌%◌, ◌^◌, ◌<◌, ◌≤◌, length, get_or, All, IsPermutation, sym, ap, subst, ◌∙◌, arith}
+use Rattle.std.proofs.lemmas.List.{get_or_default}
+use Rattle.snow_topo.specs.declared.ladder.Head.{Head}
+use Rattle.snow_topo.specs.declared.ladder.Link.{Link}
 use Rattle.snow_topo.specs.Climbing.{climber_total}
-use Rattle.snow_topo.specs.Ladder.{Rungs, climbers_of, under, up_from, latest, group, chain, IsHung}
+use Rattle.snow_topo.specs.Ladder.{Rungs, no_head, climbers_of, under, up_from, latest, group, chain, IsHung}
 use Rattle.snow_topo.proofs.Chains.{latest_within, chain_latest}
 use Rattle.snow_topo.proofs.Hung.{under_twice, taken_off, rung_empty, written}
 use Rattle.snow_topo.proofs.ladder.Ladder.take.Goals as goal
-
-pub votes_from-requires-clause-within : goal.votes_from-requires-clause-within
-votes_from-requires-clause-within c =
-    let a = c.self.inside in
-    let rung = c.args.rung in
-    let lower : rung < a.low = rw (← c.self.view_is) at c.requires.below in
-    let head : c.index-head.result.now ≡ get_or a.heads.items rung 0 = c.index-head.ensures ∙ get_or_default_zero a.heads.items rung c.index-head.result.now (omega (arith, lower, c.self.invariant.within)) in
-    omega (arith, head, c.self.invariant.last rung lower, latest_within a.links.items (length a.links.items) rung, ap length c.deref.ensures.value)
 
 pub invariant_of-self : goal.invariant_of-self
 invariant_of-self c =
@@ -20,12 +14,12 @@ invariant_of-self c =
     let rung = c.args.rung in
     let lower : rung < a.low = rw (← c.self.view_is) at c.requires.below in
     let all : All (λ x. x.place ≤ rung) (under a.low (climbers_of a.links.items)) = subst (λ (s : Rungs). All (λ x. x.place ≤ rung) s.climbers) (sym c.self.view_is) c.requires.highest in
-    let head : c.index-head.result.now ≡ get_or a.heads.items rung 0 = c.index-head.ensures ∙ get_or_default_zero a.heads.items rung c.index-head.result.now (omega (arith, lower, c.self.invariant.within)) in
-    let there : c.index-head.result.now ≤ length a.links.items = omega (arith, head, c.self.invariant.last rung lower, latest_within a.links.items (length a.links.items) rung) in
+    let head : c.index-head.result.now ≡ get_or a.heads.items rung no_head = c.index-head.ensures ∙ get_or_default a.heads.items rung c.index-head.result.now no_head (omega (arith, lower, c.self.invariant.within)) in
+    let there : c.index-head.result.now.last ≤ length a.links.items = omega (arith, ap (λ (x : Head). x.last) head, c.self.invariant.last rung lower, latest_within a.links.items (length a.links.items) rung) in
     let long : length c.unmark.new.words ≡ length a.words.items = c.unmark.ensures.len ∙ ap length c.deref_mut.ensures.value in
     let hung = subst (λ w. IsHung a.links.items a.heads.items w a.low a.high a.taken) (sym c.deref_mut.ensures.value) c.self.invariant in
     rw (written a.words.len c.unmark.new.words _ (omega (arith, a.words.ok.0, long)))
-    (rung_empty a.links.items a.heads.items c.deref_mut.result.now c.unmark.new.words a.low a.high rung a.taken c.index-head.result.now hung lower there all c.unmark.ensures.others c.unmark.ensures.len)
+    (rung_empty a.links.items a.heads.items c.deref_mut.result.now c.unmark.new.words a.low a.high rung a.taken c.index-head.result.now.last hung lower there all c.unmark.ensures.others c.unmark.ensures.len)
 
 pub returns-clause-climbers : goal.returns-clause-climbers
 returns-clause-climbers c =
@@ -33,18 +27,26 @@ returns-clause-climbers c =
     let lower : c.args.rung < a.low = rw (← c.self.view_is) at c.requires.below in
     sym (under_twice c.args.rung a.low (climbers_of a.links.items) lower) ∙ ap (λ (s : Rungs). under c.args.rung s.climbers) c.self.view_is
 
+-- who stood on the rung
+all_of : (links : List Link) (heads : List Head) (rung : ℕ) (x : Head) → x ≡ get_or heads rung no_head → (get_or heads rung no_head).last ≡ latest links (length links) rung → chain links x.last ≡ group links (length links) rung
+all_of links heads rung x is last = ap (λ (y : Head). chain links y.last) is ∙ ap (chain links) last ∙ chain_latest links (length links) rung
+
 pub returns-clause-came : goal.returns-clause-came
 returns-clause-came c =
     let a = c.self.inside in
     let rung = c.args.rung in
     let lower : rung < a.low = rw (← c.self.view_is) at c.requires.below in
     let all : All (λ x. x.place ≤ rung) (under a.low (climbers_of a.links.items)) = subst (λ (s : Rungs). All (λ x. x.place ≤ rung) s.climbers) (sym c.self.view_is) c.requires.highest in
-    let head : c.index-head.result.now ≡ latest a.links.items (length a.links.items) rung =
-    c.index-head.ensures ∙ get_or_default_zero a.heads.items rung c.index-head.result.now (omega (arith, lower, c.self.invariant.within)) ∙ c.self.invariant.last rung lower
-    in
-    let came : chain a.links.items c.index-head.result.now ≡ group a.links.items (length a.links.items) rung = ap (chain a.links.items) head ∙ chain_latest a.links.items (length a.links.items) rung in
-    subst (λ l. IsPermutation (up_from rung l) (chain a.links.items c.index-head.result.now)) (ap (λ (s : Rungs). s.climbers) c.self.view_is)
+    let head : c.index-head.result.now ≡ get_or a.heads.items rung no_head = c.index-head.ensures ∙ get_or_default a.heads.items rung c.index-head.result.now no_head (omega (arith, lower, c.self.invariant.within)) in
+    let came = all_of a.links.items a.heads.items rung c.index-head.result.now head (c.self.invariant.last rung lower) in
+    subst (λ l. IsPermutation (up_from rung l) (chain a.links.items c.index-head.result.now.last)) (ap (λ (s : Rungs). s.climbers) c.self.view_is)
     (subst (IsPermutation (up_from rung (under a.low (climbers_of a.links.items)))) (sym came) (taken_off rung a.low a.links.items lower all))
 
 pub returns-clause-total : goal.returns-clause-total
-returns-clause-total c = c.votes_from.ensures ∙ ap (λ l. climber_total (chain l c.index-head.result.now) % 2 ^ 32) c.deref.ensures.value
+returns-clause-total c =
+    let a = c.self.inside in
+    let rung = c.args.rung in
+    let lower : rung < a.low = rw (← c.self.view_is) at c.requires.below in
+    let head : c.index-head.result.now ≡ get_or a.heads.items rung no_head = c.index-head.ensures ∙ get_or_default a.heads.items rung c.index-head.result.now no_head (omega (arith, lower, c.self.invariant.within)) in
+    ap (λ (x : Head). x.count) head ∙ c.self.invariant.counted rung lower
+    ∙ ap (λ l. climber_total l % 2 ^ 32) (sym (all_of a.links.items a.heads.items rung c.index-head.result.now head (c.self.invariant.last rung lower)))
