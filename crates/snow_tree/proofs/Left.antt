@@ -17,11 +17,10 @@ use Rattle.snow_plain.proofs.Grown.{grown_parent, grown_rest, has_block-reverse}
 use Rattle.snow_plain.proofs.Kept.{filter-reverse, grown_kept, has_own}
 use Rattle.snow_tree.specs.declared.node.Node.{Node}
 use Rattle.snow_tree.specs.Held.{children_of, stays_with, blocks_in}
-use Rattle.snow_tree.specs.Nodes.{block_of, blocks_of, ArePlaced, edges_of, unplaced, entry_of, judged, stays_by_note, left, outsiders, IsKept}
+use Rattle.snow_tree.specs.Nodes.{block_of, blocks_of, ArePlaced, edges_of, unplaced, entry_of, left, outsiders, IsKept}
 use Rattle.snow_tree.proofs.Descending.{line_at, descends_at, last_descends, parent_before}
 use Rattle.snow_tree.proofs.Listed.{filter_kept}
 use Rattle.snow_tree.proofs.Placed.{apart_off}
-use Rattle.snow_tree.proofs.Linked.{not_found}
 use Rattle.snow_tree.proofs.Anew.{same_read, all_same, same_length}
 
 -- ---- the child itself
@@ -37,35 +36,7 @@ own_line (b ∷ earlier) child h =
 pub own : (bs : List Header) (child : List ℕ) → has_block bs child ≡ true → descends bs child child ≡ true
 own bs child h = own_line (reverse bs) child (has_block-reverse bs child ∙ h)
 
--- ---- what a sweep leaves
-
 module _ {T : Type 0} where
-  -- the nodes that stay are those of which nothing was noted before
-  pub swept : (blocks : List Header) (child : List ℕ) (nodes : List (List ℕ × Node T)) → All (λ e. e.1.is_rejected ≡ false) nodes
-      → filter (stays_by_note child) (map (judged blocks child) nodes)
-      ≡ filter (λ e. descends blocks child e.0 && not (bytes_eq e.0 child)) nodes
-  swept blocks child [] clear = refl
-  swept blocks child (e ∷ nodes) clear =
-      let rest = swept blocks child nodes (All-tail (λ e. e.1.is_rejected ≡ false) e nodes clear) in
-      let was : e.1.is_rejected ≡ false = All-head (λ e. e.1.is_rejected ≡ false) e nodes clear in
-      split_on (descends blocks child e.0)
-      (λ t. rw t (split_on (bytes_eq e.0 child)
-      (λ s. rw s rest)
-      (λ s. rw s (λ i. (e.0, record e.1 { is_rejected = sym was i }) ∷ rest i))))
-      (λ t. rw t rest)
-
-  -- the child is found as it was
-  pub found_judged : (blocks : List Header) (child : List ℕ) (nodes : List (List ℕ × Node T)) → All (λ e. e.1.is_rejected ≡ false) nodes → descends blocks child child ≡ true
-      → lookup (bytes_eq child) (map (judged blocks child) nodes) ≡ lookup (bytes_eq child) nodes
-  found_judged blocks child [] clear under = refl
-  found_judged blocks child (e ∷ nodes) clear under =
-      let was : e.1.is_rejected ≡ false = All-head (λ e. e.1.is_rejected ≡ false) e nodes clear in
-      split_on (bytes_eq child e.0)
-      (λ t.
-      let stays : not (descends blocks child e.0) ≡ false = ap (λ q. not (descends blocks child q)) (sym (same_id child e.0 t)) ∙ ap not under in
-      rw t (λ i. Some (record e.1 { is_rejected = (stays ∙ sym was) i })))
-      (λ t. rw t (found_judged blocks child nodes (All-tail (λ e. e.1.is_rejected ≡ false) e nodes clear) under))
-
   -- ---- the only child
 
   -- where all have the child above them, only it leaves
@@ -167,7 +138,7 @@ children_stay last child q bs g parent under =
 
 module _ {T : Type 0} where
   -- the blocks of the nodes that stay
-  blocks-filter : (f : List ℕ → Bool) (nodes : List (List ℕ × Node T)) → blocks_of (filter (λ e. f e.0) nodes) ≡ filter (λ b. f b.id) (blocks_of nodes)
+  pub blocks-filter : (f : List ℕ → Bool) (nodes : List (List ℕ × Node T)) → blocks_of (filter (λ e. f e.0) nodes) ≡ filter (λ b. f b.id) (blocks_of nodes)
   blocks-filter f [] = refl
   blocks-filter f (e ∷ nodes) =
       split_on (f e.0)
@@ -215,11 +186,10 @@ module _ {T : Type 0} where
         placed = placed;
         children = ap (λ (e : List ℕ × Node T). e.1.children) (sym here) ∙ kept.below at.0 (at.1, n) inside ∙ ap (λ (e : List ℕ × Node T). children_of bs e.0) here
             ∙ ap (children_of bs) is ∙ sym (stay child (own bs child there)) ∙ ap (λ l. children_of l child) (sym seen);
-        below = all_same (λ id c r. c ≡ children_of (blocks_of now) id) now (left nodes child) staying
+        below = all_same (λ id c. c ≡ children_of (blocks_of now) id) now (left nodes child) staying
             (λ i d h.
             let id = (get_or (left nodes child) i d).0 in
             below i d h ∙ sym (stay id (and_parts (descends bs child id) (not (bytes_eq id child)) (passes i d h)).0) ∙ ap (λ l. children_of l id) (sym seen));
-        clear = all_same (λ id c r. r ≡ false) now (left nodes child) staying (All-filter (λ e. keep e.0) (λ e. e.1.is_rejected ≡ false) nodes kept.clear);
         room = omega (
           arith,
           same_length now (left nodes child) staying,
@@ -284,20 +254,6 @@ module _ {T : Type 0} where
       (λ t. let k = rw t at h in rw (differs_back e.0 child t) (none_seen nodes child k))
 
   -- ---- the child that leaves, and an only child
-
-  -- what is noted changes no block
-  blocks_judged : (blocks : List Header) (child : List ℕ) (nodes : List (List ℕ × Node T)) → blocks_of (map (judged blocks child) nodes) ≡ blocks_of nodes
-  blocks_judged blocks child [] = refl
-  blocks_judged blocks child (e ∷ nodes) = ap (λ l. block_of e ∷ l) (blocks_judged blocks child nodes)
-
-  -- the child is found as it was, if it is there
-  pub lookup_judged : (child : List ℕ) (nodes : List (List ℕ × Node T)) → All (λ e. e.1.is_rejected ≡ false) nodes
-      → lookup (bytes_eq child) (map (judged (blocks_of nodes) child) nodes) ≡ lookup (bytes_eq child) nodes
-  lookup_judged child nodes clear =
-      let bs = blocks_of nodes in
-      split_on (has_block bs child)
-      (λ t. found_judged bs child nodes clear (own bs child t))
-      (λ t. not_found (map (judged bs child) nodes) child (ap (λ l. has_block l child) (blocks_judged bs child nodes) ∙ t) ∙ sym (not_found nodes child t))
 
   -- where the child is the only one, all descend from it
   all_stay : (last child : List ℕ) (nodes : List (List ℕ × Node T)) → IsGrown last (reverse (blocks_of nodes)) → children_of (blocks_of nodes) last ≡ child ∷ []

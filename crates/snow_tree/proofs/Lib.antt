@@ -10,3 +10,4 @@ pub mod Left
 pub mod Climbed
 pub mod Anew
 pub mod Seen
+pub mod Swept

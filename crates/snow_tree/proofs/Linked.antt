@@ -124,11 +124,11 @@ module _ {T : Type 0} where
 
   -- what is kept stays true when a block is issued
   pub kept_issued : (last : List ℕ) (children : List (List ℕ)) (nodes : List (List ℕ × Node T)) (old room : ℕ) (k : List ℕ) (n : Node T)
-      → IsKept last children nodes old → n.children ≡ [] → n.is_rejected ≡ false
+      → IsKept last children nodes old → n.children ≡ []
       → is_on last (blocks_of nodes) k ≡ false → is_on last (blocks_of nodes) n.parent ≡ true → length nodes + 1 ≤ room
       → position (λ e. bytes_eq e.0 n.parent) nodes ≡ place_before (length nodes) n.back
       → IsKept last (linked (block_of (k, n)) last children) (map (with_children (linked (block_of (k, n)))) nodes ++ (k, n) ∷ []) room
-  kept_issued last children nodes old room k n kept bare clear new parent fits place =
+  kept_issued last children nodes old room k n kept bare new parent fits place =
       let b = block_of (k, n) in
       let bs = blocks_of nodes in
       let change = with_children (linked b) in
@@ -148,7 +148,6 @@ module _ {T : Type 0} where
       in
       let childless : children_of bs k ≡ [] = no_children last bs k kept.grown (on k ∙ new) in
       let Below : List ℕ × Node T → Type 0 = λ e. e.1.children ≡ children_of (blocks_of (map change nodes ++ (k, n) ∷ [])) e.0 in
-      let Clear : List ℕ × Node T → Type 0 = λ e. e.1.is_rejected ≡ false in
       let none : children_of (bs ++ b ∷ []) b.id ≡ [] = children_push bs b b.id ∙ rw (childless, other) refl in
       record {
         grown = subst (λ l. IsGrown last (reverse l)) (sym all) (subst (IsGrown last) (sym (reverse-append bs (b ∷ []))) grown);
@@ -157,7 +156,6 @@ module _ {T : Type 0} where
         below = All-append Below (map change nodes) ((k, n) ∷ [])
             (All-map Below change nodes (λ i d h. linked_is bs b (get_or nodes i d).0 (get_or nodes i d).1.children (kept.below i d h) ∙ ap (λ l. children_of l (get_or nodes i d).0) (sym all)))
             (All-cons Below (k, n) [] (bare ∙ sym none ∙ ap (λ l. children_of l k) (sym all)) (All-nil Below));
-        clear = All-append Clear (map change nodes) ((k, n) ∷ []) (All-map Clear change nodes kept.clear) (All-cons Clear (k, n) [] clear (All-nil Clear));
         room = omega (arith, length-append (map change nodes) ((k, n) ∷ []), length-map nodes change);
       }
 
@@ -217,13 +215,11 @@ module _ {T : Type 0} where
       let edges : edges_of (nodes ++ e ∷ []) ≡ edges_of nodes ++ edge_of e ∷ [] = map-append edge_of nodes (e ∷ []) in
       let Was : List ℕ × Node T → Type 0 = λ x. x.1.children ≡ children_of (blocks_of (nodes ++ e ∷ [])) x.0 in
       let Below : List ℕ × Node T → Type 0 = λ x. x.1.children ≡ children_of (blocks_of (map change nodes)) x.0 in
-      let Clear : List ℕ × Node T → Type 0 = λ x. x.1.is_rejected ≡ false in
       record {
         grown = subst (λ l. IsGrown last (reverse l)) (sym same) (grown_rest grown);
         placed = subst ArePlaced (sym (read_through edge_of change (λ x. refl) nodes)) (placed_less (edges_of nodes) (edge_of e) (subst ArePlaced edges kept.placed));
         children = of last children kept.children;
         below = All-map Below change nodes (λ i d h. of (get_or nodes i d).0 (get_or nodes i d).1.children (front Was nodes e kept.below i d h));
-        clear = All-map Clear change nodes (front Clear nodes e kept.clear);
         room = omega (arith, length-append nodes (e ∷ []), length-map nodes change, kept.room);
       }
     where

@@ -180,7 +180,6 @@ module _ {T : Type 0} where
         placed = subst ArePlaced (sym (read_kept edge_of nodes i n m h (λ k. refl))) kept.placed;
         children = kept.children ∙ ap (λ l. children_of l last) (sym same);
         below = all_written Below nodes i n m h (λ k p. p) (λ k d l. kept.below k d l ∙ ap (λ x. children_of x (get_or nodes k d).0) (sym same));
-        clear = all_written (λ e. e.1.is_rejected ≡ false) nodes i n m h (λ k p. p) kept.clear;
         room = omega (arith, length-set_value_at nodes i m, kept.room);
       }
 

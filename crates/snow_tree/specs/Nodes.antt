@@ -1,8 +1,7 @@
 -- The pending blocks as they are kept: a map of nodes in order of issue, by identifier.
-use Rattle.std.specs.Prelude.{◌≡◌, ℕ, ◌≤◌, ◌-◌, Bool, false, not, nat_eq, nat_lt, ◌&&◌, ◌||◌, List, ◌∷◌, ◌++◌, [], length, take, map, filter, reverse, All, bytes_eq, slice_get, Option, Some, None, if◌then◌else◌}
+use Rattle.std.specs.Prelude.{◌≡◌, ℕ, ◌≤◌, ◌-◌, not, nat_eq, nat_lt, ◌&&◌, ◌||◌, List, ◌∷◌, ◌++◌, [], length, take, map, filter, reverse, All, bytes_eq, slice_get, Option, Some, None, if◌then◌else◌}
 use Rattle.std.specs.List.{position}
-use Rattle.std.specs.Map.{lookup}
-use Rattle.std.specs.Option.{option_map_or}
+use Rattle.std.specs.Option.{option_map}
 use Rattle.snow_base.specs.declared.header.Header.{Header}
 use Rattle.snow_base.specs.Ancestry.{descends}
 use Rattle.snow_plain.specs.Grown.{IsGrown}
@@ -63,32 +62,33 @@ module _ {T : Type 0} where
     pub placed : ArePlaced (edges_of nodes)
     pub children : first ≡ children_of (blocks_of nodes) last
     pub below : All (λ e. e.1.children ≡ children_of (blocks_of nodes) e.0) nodes
-    pub clear : All (λ e. e.1.is_rejected ≡ false) nodes
     pub room : length nodes ≤ most
 
   -- a node whose children are changed by a function of its identifier
   abbrev pub with_children : (List ℕ → List (List ℕ) → List (List ℕ)) → List ℕ × Node T → List ℕ × Node T
   with_children change e = (e.0, record e.1 { children = change e.0 e.1.children })
 
-  -- a node of which it is noted whether it is rejected
-  abbrev pub noted : Bool → List ℕ × Node T → List ℕ × Node T
-  noted is_rejected e = (e.0, record e.1 { is_rejected = is_rejected })
+  -- how far behind its parent a block stands that goes from the front of the nodes to their end: 0 where the parent is the child. Nothing where the parent is the last accepted block or isn't among them
+  abbrev pub back_at_end : List (List ℕ × Node T) → List ℕ → List ℕ → List ℕ → Option ℕ
+  back_at_end nodes last child parent =
+      if bytes_eq last parent then None else
+      if bytes_eq child parent then Some 0 else
+      option_map (λ at. length nodes - at) (position (λ e. bytes_eq e.0 parent) nodes)
 
-  -- whether this is noted of the node of an identifier
-  abbrev pub is_noted : List (List ℕ × Node T) → List ℕ → Bool
-  is_noted nodes id = option_map_or (λ n. n.is_rejected) (lookup (bytes_eq id) nodes) false
+  -- what comes to the end then
+  abbrev pub turned : Option ℕ → List ℕ × Node T → List (List ℕ × Node T)
+  turned None e = []
+  turned (Some back) e = (e.0, record e.1 { back = back }) ∷ []
 
-  -- whether a block is rejected, where that is noted of those issued before it: its parent is the last accepted block or is rejected, and it isn't the child
-  abbrev pub is_out : List (List ℕ × Node T) → List ℕ → List ℕ → Header → Bool
-  is_out nodes last child block = not (bytes_eq block.id child) && (bytes_eq last block.parent || is_noted nodes block.parent)
+  -- what is told of the node
+  abbrev pub told_by : Option ℕ → List ℕ → List ℕ × Node T → List (List ℕ)
+  told_by None child e = if bytes_eq child e.0 then [] else e.0 ∷ []
+  told_by (Some back) child e = []
 
-  -- a node of which it is noted whether it neither is the child nor descends from it
-  abbrev pub judged : List Header → List ℕ → List ℕ × Node T → List ℕ × Node T
-  judged blocks child e = noted (not (descends blocks child e.0)) e
-
-  -- whether a node stays, where it is noted which are rejected: it isn't the child
-  abbrev pub stays_by_note : List ℕ → List ℕ × Node T → Bool
-  stays_by_note child e = not e.1.is_rejected && not (bytes_eq e.0 child)
+  -- and what is taken
+  abbrev pub taken_by : Option ℕ → List ℕ → List ℕ × Node T → Option (Node T) → Option (Node T)
+  taken_by None child e taken = if bytes_eq child e.0 then Some e.1 else taken
+  taken_by (Some back) child e taken = taken
 
   -- the nodes that stay when a child is accepted
   abbrev pub left : List (List ℕ × Node T) → List ℕ → List (List ℕ × Node T)

@@ -45,6 +45,17 @@ impl Children {
         self.ids.truncate(len.saturating_sub(1));
     }
 
+    /// These take the place of others. Where there are none, the room of the others is kept.
+    pub(crate) fn replace(&mut self, by: Children)
+        ensures { self.new ≡ by }
+    {
+        if by.ids.is_empty() {
+            self.ids.clear();
+        } else {
+            self.ids = by.ids;
+        }
+    }
+
     pub(crate) fn list(&self) -> &[Id]
         ensures { result.now ≡ self.now }
     {

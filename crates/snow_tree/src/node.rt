@@ -10,8 +10,6 @@ pub(crate) struct Node<T> {
     // How far before it its parent stands. Where that isn't pending it is 0, or leads beyond the first place.
     pub(crate) back: usize,
     pub(crate) children: Children,
-    // What an acceptance notes of it while it goes on. Nothing reads it else.
-    pub(crate) is_rejected: bool,
     pub(crate) load: T,
 }
 

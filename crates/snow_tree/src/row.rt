@@ -61,7 +61,9 @@ impl<V> Row<V> {
         self.entries.len()
     }
 
-    // The place of an identifier, by the map.
+    // The place of an identifier, by the map. It stands apart, so that few registers are kept for what a
+    // guess mostly spares.
+    #[inline(never)]
     fn look_up(&self, id: &Id) -> Option<usize>
         ensures index { result ≡ position (bytes_eq id.now) (keys_of self.now.entries) }
         ensures unique { IsDistinct bytes_eq (keys_of self.now.entries) }
@@ -177,10 +179,14 @@ impl<V> Row<V> {
         ensures first { result ≡ slice_get self.old.entries 0 }
         ensures rest { self.new.entries ≡ drop 1 self.old.entries }
     {
-        let entry = self.entries.pop_front()?;
-        let _number = self.numbers.remove(&entry.0);
+        let key = match self.entries.front() {
+            Some(entry) => entry.0,
+            None => return None,
+        };
+        let _number = self.numbers.remove(&key);
         self.first = self.first.wrapping_add(1);
-        Some(entry)
+        // Last, so that the entry goes where it is wanted at once.
+        self.entries.pop_front()
     }
 
     /// The first entry becomes the last.

@@ -99,7 +99,6 @@ impl<T: Drop> Tree<T> {
             height,
             back,
             children: Children::new(self.alloc),
-            is_rejected: false,
             load,
         };
         self.nodes.push(id, node);
@@ -237,8 +236,8 @@ impl<T: Drop> Tree<T> {
 
     /// A child of the last accepted block becomes the last accepted one, and its load is the answer.
     /// All that don't descend from it go, with their loads. It takes no memory. Where the child is the
-    /// only one it is one look-up, whatever is pending; where others leave, two passes over the pending
-    /// blocks and one over those that stay, with look-ups for each.
+    /// only one it is one look-up, whatever is pending; where others leave, one pass over the pending
+    /// blocks, with two look-ups for each that stays.
     pub fn promote(&mut self, child: &Id) -> T
         requires child { option_map (λ e. e.block.parent) (entry_in (self.old).pending child.now) ≡ Some (self.old).last }
         ensures load { IfSome (entry_in (self.old).pending child.now) (λ e. result ≡ e.load) }
@@ -262,7 +261,7 @@ impl<T: Drop> Tree<T> {
         } = node;
         self.last = *child;
         self.height = height;
-        self.children = children;
+        self.children.replace(children);
         load
     }
 

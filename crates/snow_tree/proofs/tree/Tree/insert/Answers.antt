@@ -1,4 +1,4 @@
-use Rattle.std.proofs.Common.{◌≡◌, ℕ, List, ◌∷◌, ◌++◌, [], true, false, map, refl, sym, ap, ◌∙◌, arith}
+use Rattle.std.proofs.Common.{◌≡◌, ℕ, List, ◌∷◌, ◌++◌, [], true, false, map, sym, ap, ◌∙◌, arith}
 use Rattle.std.proofs.lemmas.Bool.{or_parts}
 use Rattle.std.proofs.lemmas.List.{map-append}
 use Rattle.snow_base.specs.declared.header.Header.{Header}
@@ -50,7 +50,7 @@ invariant_of-self-2 g c =
     let unknown : is_on last (blocks_in (map entry_of nodes)) c.args.id ≡ false = rw (← c.self.view_is) at c.requires.unknown in
     let follows : is_on last (blocks_in (map entry_of nodes)) c.args.parent ≡ true = rw (← c.self.view_is) at c.requires.follows in
     rw (c.push.ensures, ok_after c.make_room-room.result went c.make_room-room.ensures.nodes, ok_after c.make_room-room.result went c.make_room-room.ensures.first)
-    (kept_issued last c.self.inside.children nodes _ _ c.args.id _ c.self.invariant c.new.ensures refl
+    (kept_issued last c.self.inside.children nodes _ _ c.args.id _ c.self.invariant c.new.ensures
     (ap (λ l. is_on last l c.args.id) (sym (same_blocks nodes)) ∙ unknown)
     (ap (λ l. is_on last l c.args.parent) (sym (same_blocks nodes)) ∙ follows)
     (omega (arith, (ok_after c.make_room-room.result went c.make_room-room.ensures.room).1, c.clear.ensures.capacity))
@@ -61,7 +61,7 @@ returns-clause-ok g c =
     let nodes = c.self.inside.nodes.entries in
     let block : Header = record { id = c.args.id; parent = c.args.parent; height = c.args.height } in
     let went = sym c.is_err.ensures.value ∙ c.if-is_err.false in
-    let new : List ℕ × Node g.row.T.Denot = (c.args.id, record { parent = c.args.parent; height = c.args.height; back = _; children = c.new.result; is_rejected = false; load = c.args.load }) in
+    let new : List ℕ × Node g.row.T.Denot = (c.args.id, record { parent = c.args.parent; height = c.args.height; back = _; children = c.new.result; load = c.args.load }) in
     let seen = ap (map entry_of) (c.push.ensures ∙ ap (λ l. l ++ new ∷ []) (ok_after c.make_room-room.result went c.make_room-room.ensures.nodes))
     ∙ map-append entry_of (map (with_children (linked block)) nodes) (new ∷ []) ∙ ap (λ l. l ++ record { block = block; load = c.args.load } ∷ []) (seen_changed (linked block) nodes)
     in

@@ -7,4 +7,4 @@ use Rattle.snow_tree.proofs.tree.Tree.new.Goals as goal
 pub invariant_of-result : goal.invariant_of-result
 invariant_of-result g c =
     rw (c.new.ensures, c.new-2.ensures)
-    (record { grown = Bare; placed = λ i e h. absurd (none-some e h); children = refl; below = All-nil _; clear = All-nil _; room = omega arith })
+    (record { grown = Bare; placed = λ i e h. absurd (none-some e h); children = refl; below = All-nil _; room = omega arith })

@@ -1,4 +1,5 @@
 use Rattle.std.proofs.Common.{◌≡◌, ◌++◌, Some, IfSome, length, map, refl, sym, ap, subst, ◌∙◌}
+use Rattle.std.specs.Option.{option_map}
 use Rattle.snow_tree.specs.Held.{Held, promoted}
 use Rattle.snow_tree.specs.Nodes.{entry_of, left, outsiders}
 use Rattle.snow_tree.proofs.Anew.{same_read}
@@ -15,6 +16,11 @@ take_accepted-node-requires-clause-alone g c =
     only_child nodes child c.self.inside.last found.0 found.1 found.2
     (ap length (sym c.self.invariant.children ∙ sym c.list.ensures) ∙ one_is (length c.list.result.now) one)
 
+pub take_accepted-node-requires-clause-child : goal.take_accepted-node-requires-clause-child
+take_accepted-node-requires-clause-child g c =
+    let found = found_back c.self.inside.nodes.entries c.args.child.now c.self.inside.last (rw (← c.self.view_is) at c.requires.child) in
+    ap (option_map (λ n. n.parent)) found.1 ∙ ap Some found.2
+
 pub unwrap-node-requires : goal.unwrap-node-requires
 unwrap-node-requires g c =
     let found = found_back c.self.inside.nodes.entries c.args.child.now c.self.inside.last (rw (← c.self.view_is) at c.requires.child) in
@@ -28,7 +34,7 @@ invariant_of-self g c =
     let n = c.unwrap-node.result in
     let same : Some n ≡ Some found.0 = sym c.unwrap-node.ensures ∙ c.take_accepted-node.ensures.node ∙ found.1 in
     let is : found.0 ≡ n = cc in
-    rw (c.take_accepted-node.ensures.room, c.clear.ensures.capacity)
+    rw (c.replace.ensures, c.take_accepted-node.ensures.room, c.clear.ensures.capacity)
     (kept_accepted c.self.inside.last child c.self.inside.children nodes c.take_accepted-node.new.nodes.entries _ n c.self.invariant (found.1 ∙ ap Some is)
     (ap (λ m. m.parent) (sym is) ∙ found.2) c.take_accepted-node.ensures.left c.take_accepted-node.ensures.placed)
 
