@@ -1,51 +1,14 @@
 -- Lemmas on how words choose a number: powers of two, and the words that are left.
-use Rattle.std.proofs.Common.{◌≡◌, ℕ, zero, suc, ◌+◌, ◌*◌, ◌/◌, ◌-◌, ◌%◌, ◌^◌, ◌<◌, ◌≤◌, Bool, true, false, List, [], ◌∷◌, ◌++◌, get_or, refl, sym, ap, ◌∙◌, arith, inl, inr, ◌==◌, Option, Some, None, cond, nat_le, bit_and, pow-suc, zero-add, append_assoc}
-use Rattle.std.specs.Int.{is_power_of_two}
-use Rattle.std.specs.Int.Count.{ones, ones_step}
+use Rattle.std.proofs.Common.{◌≡◌, ℕ, ◌+◌, ◌*◌, ◌/◌, ◌-◌, ◌%◌, ◌^◌, ◌<◌, ◌≤◌, Bool, true, false, List, [], ◌∷◌, ◌++◌, refl, sym, ap, ◌∙◌, arith, inl, inr, ◌==◌, Option, Some, None, cond, nat_le, bit_and, append_assoc}
 use Rattle.std.specs.List.{list_any, range_with_len}
-use Rattle.std.proofs.lemmas.Bool.{cases_eq, cases_lt, cond-true, cond-false, eqb-true, eq-eqb, le-leb, lt-leb}
-use Rattle.std.proofs.lemmas.List.Folds.{list_any_at, Any-from_list_any}
-use Rattle.std.proofs.lemmas.List.FromFn.{length-range_with_len, get_or-range_with_len}
-use Rattle.std.proofs.lemmas.Nat.{zero_from_ones, ones_cat, ones-le, pow_pos, and_le_r, div-add-mod'}
-use Rattle.std.proofs.Math.Nat.{add-mul, one-mul, mod-lt, mul-le-mul_right}
+use Rattle.std.proofs.lemmas.Bool.{cases_Bool, cases_lt, cond-true, cond-false, eqb-true, le-leb, lt-leb}
+use Rattle.std.proofs.lemmas.List.Folds.{Any-from_list_any}
+use Rattle.std.proofs.lemmas.Nat.{and_le_r, and_mask, div-add-mod', pow-add}
+use Rattle.std.proofs.Math.Nat.{add-mul, one-mul, mod-lt, mul-le-mul_right, mul-mod_left}
+use Rattle.std.proofs.Math.Pow.{mod-mod-pow, pow_mono}
 use Rattle.snow_sample.specs.Words.{is_power, masked, reduced, choice, IsRest}
 
 -- ---- powers of two
-
--- a number with one digit set is a power of two
-found : (k m : ℕ) → m < 2 ^ k → ones m ≡ 1 → (e : ℕ) × (e < k) × (m ≡ 2 ^ e)
-found zero m h one = absurd (omega (arith, ones-le 0 m h))
-found (suc k) m h one =
-    let twice : m < 2 ^ k * 2 = rw pow-suc at h in
-    let digits : ones m ≡ m % 2 + ones (m / 2) = ones_step m in
-    elim (cases_eq (m % 2) 0) [
-      | inl even ↦
-          let rest = found k (m / 2) (omega arith) (omega arith) in
-          (suc rest.0, omega arith, omega (arith, rest.2, pow-suc 2 rest.0))
-      | inr odd ↦
-          let none : m / 2 ≡ 0 = zero_from_ones (m / 2) (omega arith) in
-          (0, omega arith, omega arith)
-    ]
-
--- a power of two has one digit set
-ones_power : (e : ℕ) → ones (2 ^ e) ≡ 1
-unfolding ones
-ones_power e =
-    let whole : 2 ^ e ≡ 1 * 2 ^ e + 0 = omega arith in
-    ap ones whole ∙ ones_cat e 1 0 (omega (arith, pow_pos e))
-
--- two tests that hold together are one
-same_tests : (a b : Bool) → (a ≡ true → b ≡ true) → (b ≡ true → a ≡ true) → a ≡ b
-same_tests true b f g = sym (f refl)
-same_tests false true f g = g refl
-same_tests false false f g = refl
-
--- it is among so many powers
-among : (k e m : ℕ) → e < k → m ≡ 2 ^ e → list_any (λ e. 2 ^ e == m) (range_with_len 0 k) ≡ true
-among k e m h is =
-    let at : get_or (range_with_len 0 k) e 0 ≡ e = get_or-range_with_len 0 k e 0 h ∙ zero-add e in
-    list_any_at (λ e. 2 ^ e == m) (range_with_len 0 k) e 0 (omega (arith, length-range_with_len 0 k))
-    (ap (λ x. 2 ^ x == m) at ∙ eq-eqb (2 ^ e) m (sym is))
 
 -- what is among so many powers is one
 one_of : (k m : ℕ) → list_any (λ e. 2 ^ e == m) (range_with_len 0 k) ≡ true → (e : ℕ) × (m ≡ 2 ^ e)
@@ -53,22 +16,39 @@ one_of k m some =
     let power = Any-from_list_any (λ e. 2 ^ e == m) (range_with_len 0 k) some in
     (power.1, sym (eqb-true (2 ^ power.1) m power.4))
 
--- the one test of powers of two is the other
-pub same_power : (m : ℕ) → m < 2 ^ 64 → is_power_of_two m ≡ is_power m
+-- below 2^63 it divides that
+power_divides : (e : ℕ) → 2 ^ e < 2 ^ 63 → (j : ℕ) × (63 ≡ j + e)
+power_divides e small =
+    elim (cases_lt e 63) [
+      | inl less ↦ (63 - e, omega arith)
+      | inr more ↦ absurd (omega (arith, small, pow_mono {i = 63} {j = e} (omega arith)))
+    ]
+
+-- ---- the rule for powers of two is that for other numbers
+
+-- no word is passed over, and the remainder is the bits of n
+same_rule : (n e : ℕ) (words : List ℕ) → n + 1 ≡ 2 ^ e → n + 1 < 2 ^ 63 → masked n words ≡ reduced n words
+same_rule n e [] is small = refl
+same_rule n e (word ∷ words) is small =
+    let value = bit_and word (2 ^ 63 - 1) in
+    let divides = power_divides e (omega (arith, is, small)) in
+    let low : value ≡ word % 2 ^ 63 = and_mask word 63 in
+    let remainder : value % (n + 1) ≡ bit_and word n =
+    ap (λ m. value % m) is ∙ ap (λ v. v % 2 ^ e) low ∙ ap (λ k. word % 2 ^ k % 2 ^ e) divides.1 ∙ mod-mod-pow word divides.0 e
+    ∙ sym (and_mask word e) ∙ ap (bit_and word) (omega (arith, is)) in
+    let none : 2 ^ 63 % (n + 1) ≡ 0 =
+    ap (λ m. 2 ^ 63 % m) is ∙ ap (λ k. 2 ^ k % 2 ^ e) divides.1 ∙ ap (λ m. m % 2 ^ e) (pow-add 2 divides.0 e) ∙ mul-mod_left (2 ^ divides.0) (2 ^ e) in
+    let below : word % 2 ^ 63 < 2 ^ 63 = mod-lt word (omega arith) in
+    sym (cond-true _ (Some (value % (n + 1), words)) (reduced n words) (le-leb _ _ (omega (arith, low, none, below))) ∙ ap (λ r. Some (r, words)) remainder)
+
+-- so one rule is enough
+pub choice_reduced : (n : ℕ) (words : List ℕ) → n + 1 < 2 ^ 63 → choice n words ≡ reduced n words
 unfolding is_power
-same_power m h = same_tests (is_power_of_two m) (list_any (λ e. 2 ^ e == m) (range_with_len 0 64))
-    (λ one. let power = found 64 m h (eqb-true _ _ one) in among 64 power.0 m power.1 power.2)
-    (λ some. let power = one_of 64 m some in eq-eqb (ones m) 1 (ap ones power.1 ∙ ones_power power.0))
-
--- ---- the rule for powers of two, and for other numbers
-
--- where n + 1 is a power of two
-pub choice_masked : (n : ℕ) (words : List ℕ) → n + 1 < 2 ^ 64 → is_power_of_two (n + 1) ≡ true → choice n words ≡ masked n words
-choice_masked n words h power = cond-true _ (masked n words) (reduced n words) (sym (same_power (n + 1) h) ∙ power)
-
--- and where it is not
-pub choice_reduced : (n : ℕ) (words : List ℕ) → n + 1 < 2 ^ 64 → is_power_of_two (n + 1) ≡ false → choice n words ≡ reduced n words
-choice_reduced n words h other = cond-false _ (masked n words) (reduced n words) (sym (same_power (n + 1) h) ∙ other)
+choice_reduced n words small =
+    elim (cases_Bool (is_power (n + 1))) [
+      | inl power ↦ let e = one_of 64 (n + 1) power in cond-true _ (masked n words) (reduced n words) power ∙ same_rule n e.0 words e.1 small
+      | inr other ↦ cond-false _ (masked n words) (reduced n words) other
+    ]
 
 -- the values with the quotient of this one are below 2^63 just where it is below the last multiple of n + 1
 same_pass : (n value : ℕ) → n + 1 < 2 ^ 63 → nat_le (value - value % (n + 1)) (2 ^ 63 - 1 - n) ≡ nat_le value (2 ^ 63 - 1 - 2 ^ 63 % (n + 1))

@@ -1,10 +1,9 @@
-ghost use Rattle.std.specs.Prelude.{◌≡◌, ◌+◌, ◌^◌, ◌<◌, ◌≤◌, [], ◌++◌, length, OnOk, OnErr, IfSome, IfNone};
+ghost use Rattle.std.specs.Prelude.{◌≡◌, ◌+◌, ◌^◌, ◌<◌, ◌≤◌, [], ◌++◌, length, drop, OnOk, OnErr, IfSome, IfNone};
 ghost use Rattle.std.specs.Option.{option_map};
-ghost use Rattle.snow_sample.specs.Words.{choice, masked, reduced, IsRest};
+ghost use Rattle.snow_sample.specs.Words.{choice, reduced, IsRest};
 
 use crate::room::Room;
 use std::alloc::{AllocError, Global};
-use std::collections::VecDeque;
 use std::marker::Model;
 use std::mem;
 
@@ -16,18 +15,20 @@ const LOW_BITS: u64 = 0x7fff_ffff_ffff_ffff;
 /// The room of a sample stays with the words that it took, for the next one.
 #[derive(Debug, Drop)]
 pub struct Words {
-    words: VecDeque<u64>,
+    // So many in front were taken. They go where words are appended and fewer are left.
+    words: Vec<u64>,
+    taken: usize,
     room: Room,
 }
 
 impl Model for Words {
-    ghost use Rattle.std.specs.Prelude.{ℕ, ◌≤◌, List, length};
+    ghost use Rattle.std.specs.Prelude.{ℕ, ◌-◌, ◌≤◌, List, drop, length};
 
     ghost Value = { List ℕ };
 
-    ghost view = { λ a. a.words.items };
+    ghost view = { λ a. drop a.taken a.words.items };
 
-    ghost invariant = { λ a. length a.words.items ≤ 65536 };
+    ghost invariant = { λ a. (a.taken ≤ length a.words.items) × (length a.words.items - a.taken ≤ 65536) };
 }
 
 impl Words {
@@ -36,7 +37,8 @@ impl Words {
         ensures { result ≡ [] }
     {
         Words {
-            words: VecDeque::new(alloc),
+            words: Vec::new(alloc),
+            taken: 0,
             room: Room::new(alloc),
         }
     }
@@ -48,7 +50,18 @@ impl Words {
         ensures ok { OnOk result (self.new ≡ self.old ++ words.now) }
         ensures err { OnErr result (self.new ≡ self.old) }
     {
-        append(&mut self.words, words)
+        self.close_up();
+        self.words.extend_from_slice(words)
+    }
+
+    // Takes the words that were taken out of the room, where there are more of them than are left.
+    fn close_up(&mut self)
+        ensures { self.new ≡ self.old }
+    {
+        if self.taken > self.len() {
+            cut_front(&mut self.words, self.taken);
+            self.taken = 0;
+        }
     }
 
     /// How many words there are.
@@ -56,7 +69,7 @@ impl Words {
         ensures len { result ≡ length self.now }
         ensures small { result ≤ 65536 }
     {
-        self.words.len()
+        self.words.len() - self.taken
     }
 
     // Takes out the room that the last sample left.
@@ -74,43 +87,35 @@ impl Words {
     }
 
     // A number from 0 to `n` by the words at the front, which are taken out. There is none where a
-    // word past the last is asked for; no word is left then.
+    // word past the last is asked for; no word is left then. Where `n + 1` is a power of two no word
+    // is passed over, and the remainder is the bits that `n` has.
     pub(crate) fn choose(&mut self, n: u64) -> Option<u64>
         requires { n + 1 < 2 ^ 63 }
         ensures chosen { choice n self.old ≡ option_map (λ r. (r, self.new)) result }
         ensures out { IfNone result (self.new ≡ []) }
         ensures within { IfSome result (λ r. r ≤ n) }
         ensures rest { IsRest self.old self.new }
+        ensures fewer { IfSome result (λ r. length self.new < length self.old) }
     {
-        if (n + 1).is_power_of_two() {
-            mask(&mut self.words, n)
-        } else {
-            reduce(&mut self.words, n)
-        }
+        reduce(self.words.as_slice(), &mut self.taken, n)
     }
 }
 
-// The bits of the first word that `n` has.
-fn mask(queue: &mut VecDeque<u64>, n: u64) -> Option<u64>
-    ensures masked { masked n queue.old.items ≡ option_map (λ r. (r, queue.new.items)) result }
-    ensures out { IfNone result (queue.new.items ≡ []) }
+// The low 63 bits of the first word from a place on that isn't passed over, modulo `n + 1`. The
+// place is then behind that word, or behind all.
+fn reduce(words: &[u64], at: &mut usize, n: u64) -> Option<u64>
+    requires few { n + 1 < 2 ^ 63 }
+    requires begins { at.old ≤ length words.now }
+    ensures reduced { reduced n (drop at.old words.now) ≡ option_map (λ r. (r, drop at.new words.now)) result }
+    ensures out { IfNone result (at.new ≡ length words.now) }
     ensures within { IfSome result (λ r. r ≤ n) }
-    ensures rest { IsRest queue.old.items queue.new.items }
+    ensures ends { at.new ≤ length words.now }
+    ensures further { IfSome result (λ r. at.old < at.new) }
+    ensures rest { IsRest (drop at.old words.now) (drop at.new words.now) }
 {
-    let word = queue.pop_front()?;
-    Some(word & n)
-}
-
-// The low 63 bits of the first word that isn't passed over, modulo `n + 1`.
-fn reduce(queue: &mut VecDeque<u64>, n: u64) -> Option<u64>
-    requires { n + 1 < 2 ^ 63 }
-    ensures reduced { reduced n queue.old.items ≡ option_map (λ r. (r, queue.new.items)) result }
-    ensures out { IfNone result (queue.new.items ≡ []) }
-    ensures within { IfSome result (λ r. r ≤ n) }
-    ensures rest { IsRest queue.old.items queue.new.items }
-{
-    while let Some(word) = queue.pop_front() {
-        let value = word & LOW_BITS;
+    while *at < words.len() {
+        let value = words[*at] & LOW_BITS;
+        *at += 1;
         let r = value % (n + 1);
         // A value is good where all values with its quotient are below 2^63.
         if value - r <= LOW_BITS - n {
@@ -120,14 +125,12 @@ fn reduce(queue: &mut VecDeque<u64>, n: u64) -> Option<u64>
     None
 }
 
-// Appends all words, or none where there is no memory for them.
-fn append(queue: &mut VecDeque<u64>, words: &[u64]) -> Result<(), AllocError>
-    ensures ok { OnOk result (queue.new.items ≡ queue.old.items ++ words.now) }
-    ensures err { OnErr result (queue.new.items ≡ queue.old.items) }
+// Takes so many words off the front.
+fn cut_front(words: &mut Vec<u64>, taken: usize)
+    requires { taken ≤ length words.old.items }
+    ensures { words.new.items ≡ drop taken words.old.items }
 {
-    queue.reserve(words.len())?;
-    for word in words {
-        queue.push_back_reserved(*word);
-    }
-    Ok(())
+    let left = words.len() - taken;
+    words.copy_within(taken.., 0);
+    words.truncate(left);
 }

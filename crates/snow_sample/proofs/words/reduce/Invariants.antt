@@ -1,12 +1,12 @@
 -- The words so far were passed over.
-use Rattle.std.proofs.Common.{◌≡◌}
-use Rattle.std.specs.VecDeque.{deque_len}
+use Rattle.std.proofs.Common.{◌≡◌, ◌-◌, ◌≤◌, length, drop}
 use Rattle.snow_sample.specs.Words.{reduced, IsRest}
 use Rattle.snow_sample.proofs.words.reduce.Given as goal
 
-abbrev pub invariant-loop-word : goal.invariant-loop-word
-invariant-loop-word l =
-    (reduced l.n l.queue.items ≡ reduced l.n l.initial.queue.items) × IsRest l.initial.queue.items l.queue.items
+abbrev pub invariant-loop-at : goal.invariant-loop-at
+invariant-loop-at l =
+    (l.at ≤ length l.words) × (l.initial.at ≤ l.at) × (reduced l.n (drop l.at l.words) ≡ reduced l.n (drop l.initial.at l.words))
+    × IsRest (drop l.initial.at l.words) (drop l.at l.words)
 
-abbrev pub decreases-loop-word : goal.decreases-loop-word
-decreases-loop-word l = deque_len l.queue
+abbrev pub decreases-loop-at : goal.decreases-loop-at
+decreases-loop-at l = length l.words - l.at
