@@ -1,4 +1,4 @@
-ghost use Rattle.std.specs.Prelude.{◌≡◌, ℕ, ◌<◌, ◌≤◌, [], length, Ok, Err, IfErr, OnOk, OnErr};
+ghost use Rattle.std.specs.Prelude.{◌≡◌, ℕ, ◌<◌, ◌≤◌, [], length, vec_capacity, Ok, Err, IfErr, OnOk, OnErr};
 ghost use Rattle.snow_sample.specs.Kept.{unit_at, HasSlots};
 ghost use Rattle.snow_sample.specs.Roster.{total_weight};
 ghost use Rattle.snow_sample.specs.Sampling.{sample_of, IsFault, draw_count, AreOfDistinctNodes};
@@ -92,7 +92,8 @@ fn draw_all(roster: &Roster, k: u32, words: &mut Words, out: &mut Draws) -> Resu
     drawn
 }
 
-// Draws `k` units, where nothing was moved and no node was drawn.
+// Draws `k` units, where nothing was moved and no node was drawn. There is room for a move a word.
+#[inline(always)]
 fn draw_each(
     roster: &Roster,
     k: u32,
@@ -104,6 +105,7 @@ fn draw_each(
     requires enough { k ≤ total_weight roster.now }
     requires units { (p : ℕ) → unit_at shuffle.old.moved.items p ≡ p }
     requires none { length shuffle.old.moved.items ≡ 0 }
+    requires room { (n : ℕ) → n ≤ length words.old → n ≤ k → n ≤ vec_capacity shuffle.old.moved }
     requires slots { HasSlots roster.now places.old.slots.items [] }
     requires empty { out.old ≡ [] }
     ensures sample { OnOk result (sample_of roster.now k words.old ≡ Ok (out.new, words.new)) }
@@ -116,7 +118,7 @@ fn draw_each(
         let Some(r) = words.choose(total - 1 - j) else {
             return Err(SampleFault::WordsOut);
         };
-        let unit = shuffle.draw(j, r)?;
+        let unit = shuffle.draw(j, r);
         places.count(out, roster, unit)?;
     }
     Ok(())

@@ -1,4 +1,4 @@
-ghost use Rattle.std.specs.Prelude.{◌≡◌, ℕ, ◌==◌, ◌+◌, ◌^◌, ◌<◌, ◌≤◌, length, if◌then◌else◌, IfOk, OnOk};
+ghost use Rattle.std.specs.Prelude.{◌≡◌, ℕ, ◌==◌, ◌+◌, ◌^◌, ◌<◌, ◌≤◌, length, vec_capacity, if◌then◌else◌, IfOk};
 ghost use Rattle.snow_sample.specs.Kept.{AreMoves, unit_at};
 ghost use Rattle.snow_sample.specs.Sampling.{swapped};
 
@@ -36,6 +36,7 @@ impl Shuffle {
         requires { draws ≤ 65536 }
         ensures units { IfOk result (λ shuffle. (p : ℕ) → unit_at shuffle.moved.items p ≡ p) }
         ensures none { IfOk result (λ shuffle. length shuffle.moved.items ≡ 0) }
+        ensures room { IfOk result (λ shuffle. draws ≤ vec_capacity shuffle.moved) }
     {
         let classes = (2 * draws).next_power_of_two();
         moved.clear();
@@ -49,20 +50,24 @@ impl Shuffle {
 
     // Exchanges position `at` with the one `r` behind it, and gives the unit that then stands there.
     // What stands at `at` isn't kept, since later draws look only behind it.
-    pub(crate) fn draw(&mut self, at: u64, r: u64) -> Result<u64, AllocError>
+    #[inline(always)]
+    pub(crate) fn draw(&mut self, at: u64, r: u64) -> u64
         requires within { at + r < 2 ^ 64 }
         requires few { length self.old.moved.items + 1 < 2 ^ 32 }
-        ensures unit { IfOk result (λ unit. unit ≡ unit_at self.old.moved.items (at + r)) }
-        ensures behind { OnOk result ((p : ℕ) → at < p → unit_at self.new.moved.items p ≡ swapped (unit_at self.old.moved.items) (at + r) at p) }
-        ensures moves { OnOk result (length self.new.moved.items ≡ length self.old.moved.items + 1) }
+        requires room { length self.old.moved.items < vec_capacity self.old.moved }
+        ensures unit { result ≡ unit_at self.old.moved.items (at + r) }
+        ensures behind { (p : ℕ) → at < p → unit_at self.new.moved.items p ≡ swapped (unit_at self.old.moved.items) (at + r) at p }
+        ensures moves { length self.new.moved.items ≡ length self.old.moved.items + 1 }
+        ensures kept { vec_capacity self.new.moved ≡ vec_capacity self.old.moved }
     {
         let own = self.unit(at);
         let unit = self.unit(at + r);
-        self.keep(at + r, own)?;
-        Ok(unit)
+        self.keep(at + r, own);
+        unit
     }
 
     // The unit at a position.
+    #[inline(always)]
     fn unit(&self, place: u64) -> u64
         ensures { result ≡ unit_at self.now.moved.items place }
     {
@@ -78,19 +83,21 @@ impl Shuffle {
     }
 
     // Moves a unit to a position.
-    fn keep(&mut self, place: u64, unit: u64) -> Result<(), AllocError>
-        requires { length self.old.moved.items + 1 < 2 ^ 32 }
-        ensures units { OnOk result ((p : ℕ) → unit_at self.new.moved.items p ≡ (if p == place then unit else unit_at self.old.moved.items p)) }
-        ensures moves { OnOk result (length self.new.moved.items ≡ length self.old.moved.items + 1) }
+    #[inline(always)]
+    fn keep(&mut self, place: u64, unit: u64)
+        requires few { length self.old.moved.items + 1 < 2 ^ 32 }
+        requires room { length self.old.moved.items < vec_capacity self.old.moved }
+        ensures units { (p : ℕ) → unit_at self.new.moved.items p ≡ (if p == place then unit else unit_at self.old.moved.items p) }
+        ensures moves { length self.new.moved.items ≡ length self.old.moved.items + 1 }
+        ensures kept { vec_capacity self.new.moved ≡ vec_capacity self.old.moved }
     {
         let class = (place & self.mask) as usize;
         let before = self.lasts[class];
-        self.moved.push(Move {
+        self.moved.push_reserved(Move {
             place,
             unit,
             before,
-        })?;
+        });
         self.lasts[class] = self.moved.len() as u32;
-        Ok(())
     }
 }

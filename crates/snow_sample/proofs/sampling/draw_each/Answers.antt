@@ -1,5 +1,5 @@
 -- One more draw, the end, or a fault.
-use Rattle.std.proofs.Common.{◌≡◌, arith}
+use Rattle.std.proofs.Common.{◌≡◌, ◌+◌, ◌∙◌, arith, refl}
 use Rattle.std.proofs.lemmas.Result.{err_from_is_err_and}
 use Rattle.snow_sample.specs.Kept.{unit_at}
 use Rattle.snow_sample.proofs.Choosing.{rest_rest}
@@ -8,7 +8,7 @@ use Rattle.snow_sample.proofs.sampling.draw_each.Goals as goal
 
 pub loop-j-init : goal.loop-j-init
 loop-j-init c =
-    rw c.requires.empty (drawing_begins c.args.roster.now c.args.k c.args.words.now (unit_at c.args.shuffle.now.moved.items) c.requires.units, c.requires.slots, c.requires.none)
+    rw c.requires.empty (drawing_begins c.args.roster.now c.args.k c.args.words.now (unit_at c.args.shuffle.now.moved.items) c.requires.units, c.requires.slots, c.requires.none, omega arith, refl)
 
 pub returns-in_default-clause-fault : goal.returns-in_default-clause-fault
 returns-in_default-clause-fault c = (
@@ -17,25 +17,27 @@ returns-in_default-clause-fault c = (
   c.in_default.ensures.out,
 )
 
-pub returns-in_err-unit-clause-fault : goal.returns-in_err-unit-clause-fault
-returns-in_err-unit-clause-fault c =
-    let fault = err_from_is_err_and c.from_residual.result c.from_residual.ensures.1 in
-    rw (fault.1, fault.2) (rest_rest c.args.words.now c.loop-j.words c.choose.new.self c.loop-j.invariant.0.rest c.choose.ensures.rest)
+pub draw-unit-requires-clause-room : goal.draw-unit-requires-clause-room
+draw-unit-requires-clause-room c =
+    let room = c.requires.room (c.loop-j.j + 1) (omega (arith, c.in-Some.ensures.fewer, c.loop-j.invariant.3)) (omega arith) in
+    omega (arith, room, c.loop-j.invariant.2, c.loop-j.invariant.4)
 
 pub returns-in_err-count-clause-fault : goal.returns-in_err-count-clause-fault
 returns-in_err-count-clause-fault c =
-    let fault = err_from_is_err_and c.from_residual-in_err-count.result c.from_residual-in_err-count.ensures.1 in
+    let fault = err_from_is_err_and c.from_residual.result c.from_residual.ensures.1 in
     rw (fault.1, fault.2) (rest_rest c.args.words.now c.loop-j.words c.choose.new.self c.loop-j.invariant.0.rest c.choose.ensures.rest)
 
 pub loop-j-preserved : goal.loop-j-preserved
 loop-j-preserved c = (
-  rw (c.in_ok-count.ensures.counted, c.in_ok-unit.ensures.unit)
+  rw (c.in_ok-count.ensures.counted, c.draw-unit.ensures.unit)
       (drawing_more c.args.roster.now c.args.k c.loop-j.j c.in-Some.r c.args.words.now c.loop-j.words c.choose.new.self
-      (unit_at c.loop-j.shuffle.moved.items) (unit_at c.draw.new.self.moved.items) c.loop-j.out c.loop-j.invariant.0 (omega arith) c.requires.enough
+      (unit_at c.loop-j.shuffle.moved.items) (unit_at c.draw-unit.new.self.moved.items) c.loop-j.out c.loop-j.invariant.0 (omega arith) c.requires.enough
       (rw c.total-total.ensures.total at c.in-Some.ensures.chosen) (rw c.total-total.ensures.total at c.in-Some.ensures.within)
-      c.choose.ensures.rest c.in_ok-unit.ensures.behind),
+      c.choose.ensures.rest c.draw-unit.ensures.behind),
   c.in_ok-count.ensures.slots,
-  omega (arith, c.loop-j.invariant.2, c.in_ok-unit.ensures.moves),
+  omega (arith, c.loop-j.invariant.2, c.draw-unit.ensures.moves),
+  omega (arith, c.loop-j.invariant.3, c.in-Some.ensures.fewer),
+  c.draw-unit.ensures.kept ∙ c.loop-j.invariant.4,
 )
 
 pub returns-clause-sample : goal.returns-clause-sample
