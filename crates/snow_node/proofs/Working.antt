@@ -1,5 +1,5 @@
 -- What is taken out of a queue: it was there, and less is left.
-use Rattle.std.proofs.Common.{◌≡◌, ℕ, ◌+◌, ◌<◌, Bool, true, false, cond, List, [], ◌∷◌, length, find, Option, Some, None, bytes_eq, ◌⊎◌, inl, inr, refl, ap, ◌∙◌, subst, arith}
+use Rattle.std.proofs.Common.{◌≡◌, ℕ, ◌+◌, ◌<◌, ◌==◌, Bool, true, false, ◌&&◌, cond, List, [], ◌∷◌, length, find, Option, Some, None, bytes_eq, ◌⊎◌, inl, inr, refl, sym, ap, ◌∙◌, subst, arith}
 use Rattle.std.proofs.lemmas.Bool.{or_parts}
 use Rattle.std.specs.List.{list_any}
 use Rattle.std.specs.Option.{option_map, option_or}
@@ -10,7 +10,7 @@ use Rattle.snow_issue.specs.declared.work.Held.{Held}
 use Rattle.snow_issue.specs.declared.work.Waiting.{Waiting}
 use Rattle.snow_issue.specs.declared.work.Work.{Work}
 use Rattle.snow_issue.specs.declared.work.Work.TheVariants as work
-use Rattle.snow_issue.specs.Lists.{Lists, without, waits_among, is_get, after_closed}
+use Rattle.snow_issue.specs.Lists.{Lists, without, waits_among, has_number, is_get, after_closed}
 use Rattle.snow_issue.specs.Settling.{work_of, after, is_hopeless, is_ready, is_free}
 use Rattle.snow_issue.proofs.Idle.{without_cons}
 use Rattle.snow_node.specs.Kept.{AreAtMost, AreOff, IsApart, MayWork}
@@ -54,6 +54,14 @@ none_out {A = A} t (x ∷ xs) none = by (λ f. none_out t xs f) (t x) refl none
     by : (find t xs ≡ None → without t xs ≡ xs) → (b : Bool) → t x ≡ b → cond b (Some x) (find t xs) ≡ None → without t (x ∷ xs) ≡ x ∷ xs
     by rest true e f = absurd cc
     by rest false e f = without_cons t x xs ∙ rw e (ap (λ (l : List A). x ∷ l) (rest f))
+
+-- where no get has the number, none is found by it
+pub none_numbered : (gets : List Get) (number : ℕ) (peer : List ℕ) → has_number gets number ≡ false → None ≡ option_map (λ (get : Get). get.id) (find (is_get number peer) gets)
+none_numbered [] number peer h = refl
+none_numbered (g ∷ gets) number peer h =
+    let parts = or_parts (g.number == number) (has_number gets number) h in
+    none_numbered gets number peer parts.1
+    ∙ ap (λ b. option_map (λ (get : Get). get.id) (cond (b && bytes_eq g.node peer) (Some g) (find (is_get number peer) gets))) (sym parts.0)
 
 -- a get that isn't open can't be closed
 pub none_closed : (queue : Lists) (number : ℕ) (peer : List ℕ) → None ≡ option_map (λ (get : Get). get.id) (find (is_get number peer) queue.gets)

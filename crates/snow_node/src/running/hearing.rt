@@ -2,7 +2,7 @@ ghost use Rattle.std.specs.Prelude.{◌≡◌, None, true, false, IfSome};
 ghost use Rattle.snow_lines.specs.declared.line.Line.TheVariants as line;
 ghost use Rattle.snow_lines.specs.declared.why.SkipKind.TheVariants as kind;
 ghost use Rattle.snow_issue.specs.declared.work.Waiting.{Waiting as Block};
-ghost use Rattle.snow_issue.specs.Lists.{holds_in};
+ghost use Rattle.snow_issue.specs.Lists.{has_number, holds_in};
 ghost use Rattle.snow_node.specs.Kept.{MayFetch};
 ghost use Rattle.snow_node.specs.Running.{numbered};
 ghost use Rattle.snow_node.specs.Hearing as model;
@@ -343,8 +343,28 @@ impl<C: Chain, B: Board> Running<C, B> {
         self.tally(number, peer, None, log)
     }
 
-    /// An open get is closed; the block that it asked for.
+    /// An open get is closed; the block that it asked for. Where no get has the number, what is known
+    /// of the queue stays known, so that nothing is looked for.
     fn close_get(&mut self, number: u32, peer: &NodeId) -> Option<Id>
+        ensures found { result ≡ model.asked_by self.old.queue number peer.now }
+        ensures node { self.new ≡ model.without_get self.old number peer.now }
+        ensures none { result ≡ None → self.new ≡ self.old }
+    {
+        if self.has_get(number) {
+            return self.close_numbered(number, peer);
+        }
+        None
+    }
+
+    /// Whether a get with this number is open.
+    fn has_get(&self, number: u32) -> bool
+        ensures { result ≡ has_number self.now.queue.gets number }
+    {
+        self.queue.has_number(number)
+    }
+
+    /// The same, whatever number it has.
+    fn close_numbered(&mut self, number: u32, peer: &NodeId) -> Option<Id>
         ensures found { result ≡ model.asked_by self.old.queue number peer.now }
         ensures node { self.new ≡ model.without_get self.old number peer.now }
         ensures none { result ≡ None → self.new ≡ self.old }
