@@ -3,12 +3,16 @@ use Rattle.std.proofs.Common.{◌≡◌, inl, inr, ℕ, zero, suc, ◌+◌, ◌-
 use Rattle.std.specs.Option.{option_map}
 use Rattle.std.proofs.lemmas.Bool.{eq-eqb, ne_eqb, true≢false}
 use Rattle.std.proofs.lemmas.List.Elements.{All-cons, All-nil}
+use Rattle.snow_base.specs.declared.vote.Vote.{Vote}
 use Rattle.snow_base.specs.Identifier.{bit, bits}
 use Rattle.snow_base.proofs.Bits.{drop-bits}
 use Rattle.snow_flake.specs.Counter.{Counter, Decided, Undecided, admits, is_decided}
 use Rattle.snow_flake.specs.Rule.{Answer, answer_of}
 use Rattle.snow_flake.specs.Instance.{at_bit}
-use Rattle.snow_plain.specs.Conflict.{Counters, Blank, At, chosen, decided_path}
+use Rattle.snow_flake.specs.Parameters.{Parameters, AreGood}
+use Rattle.snow_plain.specs.Conflict.{Counters, Blank, At, all_polled, chosen, decided_path}
+use Rattle.snow_plain.specs.FailingLaw.{failed}
+use Rattle.snow_plain.proofs.Failing.{fails}
 use Rattle.snow_plain.proofs.Walking.{drop-bits_end}
 use Rattle.snow_trie.specs.declared.fork.Fork.{Fork}
 use Rattle.snow_trie.specs.Counted.{run_counter, fork_counter}
@@ -16,13 +20,13 @@ use Rattle.snow_trie.specs.Tree.{Tree, Tip, Line, Two}
 use Rattle.snow_trie.specs.Stamped.{between, linked, strand, pruned, counters, whole}
 use Rattle.snow_trie.specs.Outline.{outline, IsLeaf, IsSorted}
 use Rattle.snow_trie.specs.Shape.{IsPlaced, IsOpen}
-use Rattle.snow_trie.specs.Peeling.{preferred}
-use Rattle.snow_trie.specs.Whole.{IsWhole}
+use Rattle.snow_trie.specs.Peeling.{peeled, preferred}
+use Rattle.snow_trie.specs.Whole.{IsWhole, next_leader}
 use Rattle.snow_trie.proofs.Strands.{between_first, between_same, span_drop}
 use Rattle.snow_trie.proofs.Stamps.{own_answer, same_answer}
 use Rattle.snow_trie.proofs.Visited.{placed_within}
 use Rattle.snow_trie.proofs.Ordered.{decided_final}
-use Rattle.snow_trie.proofs.Wholes.{own_side}
+use Rattle.snow_trie.proofs.Wholes.{IsTaken, own_side, left_over, whole_polled}
 
 -- ---- whether it is final
 
@@ -158,6 +162,30 @@ chosen_whole answer ids polls decided leader t law h =
 pub chosen_given : (answer : Answer) (ids : List (List ℕ)) (polls decided : ℕ) (leader : List ℕ) (t : Tree) → ((b : Bool) → answer b b ≡ b)
     → IsWhole ids polls decided leader t → Contains ids (preferred answer t)
 chosen_given answer ids polls decided leader t law h = h.given (preferred answer t) (chosen_tree answer polls decided t law h.placed h.sorted.1).leaf
+
+-- ---- whether it moved
+
+-- failing counters lead where they led
+pub chosen_failed : (answer : Answer) (p : Parameters) (c : Counters) → AreGood p → chosen answer (failed p c) ≡ chosen answer c
+unfolding chosen all_polled
+chosen_failed answer p Blank good = refl
+chosen_failed answer p (At (Decided false) z o) good = ap (λ l. false ∷ l) (chosen_failed answer p z good)
+chosen_failed answer p (At (Decided true) z o) good = ap (λ l. true ∷ l) (chosen_failed answer p o good)
+chosen_failed answer p (At (Undecided s) z o) good =
+    let zeros = chosen_failed answer p z good in
+    let ones = chosen_failed answer p o good in
+    rw (fails p (Undecided s) good) (λ i. if answer s.preference s.flake then true ∷ ones i else false ∷ zeros i)
+
+-- a poll that restamps nothing, takes nothing off and leaves the tree leading where it led leaves the counters leading where they led
+pub still_chosen : (answer : Answer) (ids : List (List ℕ)) (p : Parameters) (polls before decided : ℕ) (leader : List ℕ) (votes rest : List Vote) (t t1 t2 : Tree) → ((b : Bool) → answer b b ≡ b)
+    → IsTaken ids p polls before decided leader votes rest t t1 t2 → (peeled decided t2).0 ≡ decided → t1 ≡ t → preferred answer t2 ≡ preferred answer t1
+    → chosen answer (whole (before + 1) (peeled decided t2).0 (next_leader leader decided (peeled decided t2).0 (peeled decided t2).1) (peeled decided t2).1) ≡ chosen answer (whole polls decided leader t)
+still_chosen answer ids p polls before decided leader votes rest t t1 t2 law h none kept steady =
+    let left = (left_over ids p polls before decided leader votes rest t t1 t2 h).same none in
+    chosen_whole answer ids (before + 1) (peeled decided t2).0 (next_leader leader decided (peeled decided t2).0 (peeled decided t2).1) (peeled decided t2).1 law
+    (whole_polled ids p polls before decided leader votes rest t t1 t2 h)
+    ∙ ap bits (ap (preferred answer) left ∙ steady ∙ ap (preferred answer) kept)
+    ∙ sym (chosen_whole answer ids polls decided leader t law h.was)
 
 -- a list of one that has an element is that one's
 only_one : (P : List ℕ → Type 0) (ids : List (List ℕ)) (x : List ℕ) → Contains ids x → length ids ≡ 1 → P x → All P ids

@@ -262,7 +262,7 @@ sorted_on ids p polls before decided leader votes rest t t1 t2 h =
     subst (λ s. ((x : List ℕ) → IsLeaf s x → AgreeFrom 0 decided leader x) × IsSorted s) (sym (h.polled.outline ∙ h.restamped.outline decided)) h.was.sorted
 
 -- what is left of the tree
-left_over : (ids : List (List ℕ)) (p : Parameters) (polls before decided : ℕ) (leader : List ℕ) (votes rest : List Vote) (t t1 t2 : Tree)
+pub left_over : (ids : List (List ℕ)) (p : Parameters) (polls before decided : ℕ) (leader : List ℕ) (votes rest : List Vote) (t t1 t2 : Tree)
     → IsTaken ids p polls before decided leader votes rest t t1 t2 → IsPeeled decided t2 (peeled decided t2).0 (peeled decided t2).1
 left_over ids p polls before decided leader votes rest t t1 t2 h =
     is_peeled decided t2 h.polled.placed (sorted_on ids p polls before decided leader votes rest t t1 t2 h).1

@@ -39,16 +39,25 @@ impl Fork {
     }
 
     /// A poll comes with votes for both bits: those that reach AlphaPreference are
-    /// followed.
-    pub fn poll(&mut self, params: &Params, for_zero: u32, for_one: u32, before: u64)
+    /// followed. The answer is whether the rule answers otherwise then.
+    pub fn poll<R: Rule>(
+        &mut self,
+        params: &Params,
+        for_zero: u32,
+        for_one: u32,
+        before: u64,
+    ) -> bool
         requires { before + 1 < 2 ^ 64 }
         ensures counter { fork_counter (before + 1) self.new ≡ stepped params.now (fork_counter before self.old) for_zero for_one }
         ensures seen { (self.new).seen ≡ before + 1 }
+        ensures steady { result ≡ false → answer_of R.answer (fork_counter 0 self.new) ≡ answer_of R.answer (fork_counter 0 self.old) }
     {
+        let answer = self.answer::<R>();
         let mut counter = self.standing(before);
         step(&mut counter, params, for_zero, for_one);
         self.counter = counter;
         self.seen = before + 1;
+        self.answer::<R>() != answer
     }
 
     /// How the rule answers, whatever the stamp.

@@ -1,26 +1,35 @@
-ghost use Rattle.std.specs.Prelude.{◌≡◌, ◌+◌, ◌^◌, ◌<◌, ◌≤◌, max, All};
+ghost use Rattle.std.specs.Prelude.{◌≡◌, ◌+◌, ◌^◌, ◌<◌, ◌≤◌, false, max, All};
 ghost use Rattle.snow_base.specs.Split.{AgreeBelow};
 ghost use Rattle.snow_base.specs.Votes.{IsInBitOrder, total_count};
 ghost use Rattle.snow_trie.specs.Tree.{tree_of};
 ghost use Rattle.snow_trie.specs.Outline.{outline, size, Leads};
 ghost use Rattle.snow_trie.specs.Shape.{IsPlaced, IsStamped};
 ghost use Rattle.snow_trie.specs.Polled.{IsPolled, IsRestamped};
+ghost use Rattle.snow_trie.specs.Peeling.{preferred};
 
 use crate::node::Node;
 use snow_base::{Steps, Vote, split};
-use snow_flake::Params;
+use snow_flake::{Params, Rule};
 use std::sync::ledger::Ledger;
 
+// One or the other.
+fn either(one: bool, other: bool) -> bool
+    ensures { result ≡ false → (one ≡ false) × (other ≡ false) }
+{
+    one || other
+}
+
 /// A poll comes to a tree with these votes, all for identifiers that go down it. Where they are
-/// fewer than AlphaPreference the tree fails, which is one step and touches no node.
-pub fn poll<L: Ledger>(
+/// fewer than AlphaPreference the tree fails, which is one step and touches no node. The answer is false
+/// only where the tree leads where it led.
+pub fn poll<R: Rule, L: Ledger>(
     root: &mut Node,
     from: u16,
     params: &Params,
     votes: &[Vote],
     before: u64,
     steps: &mut Steps<L>,
-)
+) -> bool
     requires placed { IsPlaced from (tree_of root.old) }
     requires stamped { IsStamped before (tree_of root.old) }
     requires known { All (λ v. Leads (outline from (tree_of root.old)) v.id) votes.now }
@@ -31,22 +40,23 @@ pub fn poll<L: Ledger>(
     ensures tree { IsPolled params.now votes.now before from (tree_of root.old) (tree_of root.new) }
     ensures least { steps.old < steps.new }
     ensures most { steps.new ≤ steps.old + max 1 (size (tree_of root.old)) }
+    ensures steady { result ≡ false → preferred R.answer (tree_of root.new) ≡ preferred R.answer (tree_of root.old) }
 {
     let count = total(params, votes);
     if count < params.alpha_preference() {
         steps.tick();
-        return;
+        return false;
     }
     if from == 256 {
         steps.tick();
-        return;
+        return false;
     }
-    visit(root, from, params, votes, count, before, steps);
+    visit::<R, L>(root, from, params, votes, count, before, steps)
 }
 
 // A poll comes to a node. It goes on to a side with AlphaPreference votes alone: the stamps of the
 // others say that they failed.
-fn visit<L: Ledger>(
+fn visit<R: Rule, L: Ledger>(
     node: &mut Node,
     from: u16,
     params: &Params,
@@ -54,7 +64,7 @@ fn visit<L: Ledger>(
     count: u32,
     before: u64,
     steps: &mut Steps<L>,
-)
+) -> bool
     requires placed { IsPlaced from (tree_of node.old) }
     requires stamped { IsStamped before (tree_of node.old) }
     requires known { All (λ v. Leads (outline from (tree_of node.old)) v.id) votes.now }
@@ -67,24 +77,33 @@ fn visit<L: Ledger>(
     ensures later { steps.old ≤ steps.new }
     ensures least { from < 256 → steps.old < steps.new }
     ensures most { steps.new ≤ steps.old + size (tree_of node.old) }
+    ensures steady { result ≡ false → preferred R.answer (tree_of node.new) ≡ preferred R.answer (tree_of node.old) }
 {
     match node {
-        Node::End(_) => {}
+        Node::End(_) => false,
         Node::Along(run, below) => {
             steps.tick();
             run.poll(params, count, before);
-            visit(below, run.to, params, votes, count, before, steps);
+            visit::<R, L>(below, run.to, params, votes, count, before, steps)
         }
         Node::Apart(fork, zeros, ones) => {
             steps.tick();
             let (for_zero, for_one) = votes.split_at(split(votes, from));
             let zero = total(params, for_zero);
             let one = total(params, for_one);
-            fork.poll(params, zero, one, before);
+            let moved = fork.poll::<R>(params, zero, one, before);
             if params.alpha_preference() <= zero {
-                visit(zeros, from + 1, params, for_zero, zero, before, steps);
+                either(
+                    moved,
+                    visit::<R, L>(zeros, from + 1, params, for_zero, zero, before, steps),
+                )
             } else if params.alpha_preference() <= one {
-                visit(ones, from + 1, params, for_one, one, before, steps);
+                either(
+                    moved,
+                    visit::<R, L>(ones, from + 1, params, for_one, one, before, steps),
+                )
+            } else {
+                moved
             }
         }
     }
@@ -105,6 +124,7 @@ fn total(params: &Params, votes: &[Vote]) -> u32
 pub fn ready(root: &mut Node, polls: u64) -> u64
     ensures room { result + 1 < 2 ^ 64 }
     ensures tree { IsRestamped polls result (tree_of root.old) (tree_of root.new) }
+    ensures kept { result ≡ polls → tree_of root.new ≡ tree_of root.old }
 {
     if polls < u64::MAX {
         return polls;

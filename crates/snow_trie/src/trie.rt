@@ -1,4 +1,4 @@
-ghost use Rattle.std.specs.Prelude.{◌≡◌, ◌+◌, ◌<◌, ◌≤◌, is_some, length, [], ◌∷◌, ◌++◌, All, Contains, IfOk, OnOk, OnErr};
+ghost use Rattle.std.specs.Prelude.{◌≡◌, ◌+◌, ◌<◌, ◌≤◌, false, is_some, length, [], ◌∷◌, ◌++◌, All, Contains, IfOk, OnOk, OnErr};
 
 use crate::growing;
 use crate::narrowing::narrowed;
@@ -50,6 +50,14 @@ impl<R: Rule> Model for Trie<R> {
     ghost invariant = { λ a. IsWhole a.ids.items a.polls a.decided a.leader (tree_of a.root) };
 }
 
+// Whether a poll may lead elsewhere: where it moved a counter that leads, began the stamps anew, or took
+// nodes off.
+fn has_moved(moved: bool, before: u64, polls: u64, from: u16, decided: u16) -> bool
+    ensures { result ≡ false → (moved ≡ false) × (before ≡ polls) × (from ≡ decided) }
+{
+    moved || before != polls || from != decided
+}
+
 impl<R: Rule> Trie<R> {
     ghost use Rattle.snow_base.specs.Identifier.{bits};
     ghost use Rattle.snow_base.specs.Votes.{IsInBitOrder, total_count};
@@ -98,8 +106,9 @@ impl<R: Rule> Trie<R> {
 
     /// A poll with these votes, each for an identifier that was given: every counter takes the bit
     /// step with its own votes, all at once, and those behind a decided counter of the other bit go.
-    /// A node that is visited is a step, and so is a poll that visits none. It takes no memory.
-    pub fn apply<L: Ledger>(&mut self, votes: &[Vote], steps: &mut Steps<L>)
+    /// A node that is visited is a step, and so is a poll that visits none. The answer is false only where
+    /// the counters lead where they led. It takes no memory.
+    pub fn apply<L: Ledger>(&mut self, votes: &[Vote], steps: &mut Steps<L>) -> bool
         requires order { IsInBitOrder votes.now }
         requires most { total_count votes.now ≤ (self.old).parameters.k }
         requires given { All (λ v. Contains (self.old).ids v.id) votes.now }
@@ -110,11 +119,12 @@ impl<R: Rule> Trie<R> {
         ensures few { HasFewNodes self.new }
         ensures least { steps.old < steps.new }
         ensures most { steps.new ≤ steps.old + (self.old).nodes }
+        ensures steady { result ≡ false → chosen R.answer (self.new).counters ≡ chosen R.answer (self.old).counters }
     {
         let _k = self.params.k();
         let before = ready(&mut self.root, self.polls);
         let votes = narrowed(votes, &self.leader, self.decided);
-        poll(
+        let moved = poll::<R, L>(
             &mut self.root,
             self.decided,
             &self.params,
@@ -122,9 +132,11 @@ impl<R: Rule> Trie<R> {
             before,
             steps,
         );
-        self.polls = before + 1;
         let from = peel(&mut self.root, &mut self.leader, self.decided);
+        let is_elsewhere = has_moved(moved, before, self.polls, from, self.decided);
+        self.polls = before + 1;
         self.decided = from;
+        is_elsewhere
     }
 
     /// A poll without votes: one step, which touches no node. It takes no memory.
@@ -132,6 +144,7 @@ impl<R: Rule> Trie<R> {
         ensures trie { self.new ≡ record (self.old) { counters = failed (self.old).parameters (self.old).counters } }
         ensures few { HasFewNodes self.new }
         ensures steps { steps.new ≡ steps.old + 1 }
+        ensures steady { chosen R.answer (self.new).counters ≡ chosen R.answer (self.old).counters }
     {
         let _k = self.params.k();
         steps.tick();

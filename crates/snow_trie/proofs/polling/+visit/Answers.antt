@@ -1,7 +1,8 @@
-use Rattle.std.proofs.Common.{◌+◌, take, drop, arith}
+use Rattle.std.proofs.Common.{◌+◌, take, drop, if◌then◌else◌, arith}
 use Rattle.std.proofs.lemmas.List.Elements.{All-take, All-drop}
 use Rattle.snow_trie.specs.Tree.{tree_of}
 use Rattle.snow_trie.specs.Outline.{Split, outline, Leads}
+use Rattle.snow_trie.specs.Peeling.{preferred}
 use Rattle.snow_trie.proofs.Visited.{at_end, agree_on, down_zero, down_one, polled_line, polled_two, unvisited, few_ones, few_zeros}
 use Rattle.snow_trie.proofs.polling.+visit.Goals as goal
 
@@ -16,18 +17,21 @@ visit-requires g t c κs within =
     let below = tree_of c.in-Along.below.value in (
       omega (arith, placed.0, to),
       (
-        within,
+        within.0,
         (
-          rw (here, to) placed.2,
+          within.1,
           (
-            rw here stamped.1,
+            rw (here, to) placed.2,
             (
-              rw (here, to) (λ k d h. (known k d h).1),
+              rw here stamped.1,
               (
-                c.requires.order,
+                rw (here, to) (λ k d h. (known k d h).1),
                 (
-                  rw to (agree_on c.args.from c.in-Along.run'.to c.in-Along.run'.id c.args.votes.now c.requires.agree (λ k d h. (known k d h).0)),
-                  (c.requires.count, (c.requires.most, c.requires.room)),
+                  c.requires.order,
+                  (
+                    rw to (agree_on c.args.from c.in-Along.run'.to c.in-Along.run'.id c.args.votes.now c.requires.agree (λ k d h. (known k d h).0)),
+                    (c.requires.count, (c.requires.most, c.requires.room)),
+                  ),
                 ),
               ),
             ),
@@ -47,17 +51,20 @@ visit-requires-then-alpha_preference-zero g t c κs within =
     let here = c.deref_mut-then-alpha_preference-zero.ensures.value in (
       omega (arith, placed.0),
       (
-        within,
+        within.0,
         (
-          rw here placed.1,
+          within.1,
           (
-            rw here stamped.1,
+            rw here placed.1,
             (
-              rw (here, c.split_at.ensures.front) (down_zero c.args.from zeros ones (take c.split.result c.args.votes.now)
-                  (All-take (λ v. Leads (Split c.args.from zeros ones) v.id) c.split.result c.args.votes.now known) c.split.ensures.zeros),
+              rw here stamped.1,
               (
-                rw c.split_at.ensures.front c.split.ensures.zeros_order,
-                (rw c.split_at.ensures.front c.split.ensures.zeros_agree, (c.total-zero.ensures.count, (c.total-zero.ensures.few, c.requires.room))),
+                rw (here, c.split_at.ensures.front) (down_zero c.args.from zeros ones (take c.split.result c.args.votes.now)
+                    (All-take (λ v. Leads (Split c.args.from zeros ones) v.id) c.split.result c.args.votes.now known) c.split.ensures.zeros),
+                (
+                  rw c.split_at.ensures.front c.split.ensures.zeros_order,
+                  (rw c.split_at.ensures.front c.split.ensures.zeros_agree, (c.total-zero.ensures.count, (c.total-zero.ensures.few, c.requires.room))),
+                ),
               ),
             ),
           ),
@@ -76,17 +83,20 @@ visit-requires-then-alpha_preference-one g t c κs within =
     let here = c.deref_mut-then-alpha_preference-one.ensures.value in (
       omega (arith, placed.0),
       (
-        within,
+        within.0,
         (
-          rw here placed.2,
+          within.1,
           (
-            rw here stamped.2,
+            rw here placed.2,
             (
-              rw (here, c.split_at.ensures.back) (down_one c.args.from zeros ones (drop c.split.result c.args.votes.now)
-                  (All-drop (λ v. Leads (Split c.args.from zeros ones) v.id) c.split.result c.args.votes.now known) c.split.ensures.ones),
+              rw here stamped.2,
               (
-                rw c.split_at.ensures.back c.split.ensures.ones_order,
-                (rw c.split_at.ensures.back c.split.ensures.ones_agree, (c.total-one.ensures.count, (c.total-one.ensures.few, c.requires.room))),
+                rw (here, c.split_at.ensures.back) (down_one c.args.from zeros ones (drop c.split.result c.args.votes.now)
+                    (All-drop (λ v. Leads (Split c.args.from zeros ones) v.id) c.split.result c.args.votes.now known) c.split.ensures.ones),
+                (
+                  rw c.split_at.ensures.back c.split.ensures.ones_order,
+                  (rw c.split_at.ensures.back c.split.ensures.ones_agree, (c.total-one.ensures.count, (c.total-one.ensures.few, c.requires.room))),
+                ),
               ),
             ),
           ),
@@ -115,10 +125,10 @@ returns-then-alpha_preference-zero-clause-tree g t c =
     let few = few_ones p c.args.votes.now c.split_at.result.0.now c.split_at.result.1.now c.split.result c.total-zero.result c.alpha_preference.ensures.good
     c.split_at.ensures.front c.split_at.ensures.back c.total-zero.ensures.count (omega (arith, c.requires.count, c.requires.most)) (omega (arith, c.if-alpha_preference-zero.true, c.alpha_preference.ensures.value)) in
     rw c.in-Apart.is (polled_two p c.args.votes.now c.split_at.result.0.now c.split_at.result.1.now c.split.result c.args.before c.args.from
-    c.total-zero.result c.total-one.result c.in-Apart.fork c.poll-in-Apart.new.self
+    c.total-zero.result c.total-one.result c.in-Apart.fork c.poll-moved.new.self
     (tree_of c.in-Apart.zeros.value) (tree_of c.visit-then-alpha_preference-zero.new.node) (tree_of c.in-Apart.ones.value) (tree_of c.in-Apart.ones.value)
     placed.0 c.split.ensures.zeros c.split.ensures.ones c.split_at.ensures.front c.split_at.ensures.back c.total-zero.ensures.count c.total-one.ensures.count
-    c.poll-in-Apart.ensures.counter c.poll-in-Apart.ensures.seen
+    c.poll-moved.ensures.counter c.poll-moved.ensures.seen
     (rw c.deref_mut-then-alpha_preference-zero.ensures.value at c.visit-then-alpha_preference-zero.ensures.tree)
     (unvisited p c.split_at.result.1.now c.args.before (c.args.from + 1) (tree_of c.in-Apart.ones.value) c.alpha_preference.ensures.good placed.2 stamped.2 few))
 
@@ -130,10 +140,10 @@ returns-then-alpha_preference-one-clause-tree g t c =
     let few = few_zeros p c.args.votes.now c.split_at.result.0.now c.split_at.result.1.now c.split.result c.total-one.result c.alpha_preference.ensures.good
     c.split_at.ensures.front c.split_at.ensures.back c.total-one.ensures.count (omega (arith, c.requires.count, c.requires.most)) (omega (arith, c.if-alpha_preference-one.true, c.alpha_preference-else-alpha_preference-zero.ensures.value)) in
     rw c.in-Apart.is (polled_two p c.args.votes.now c.split_at.result.0.now c.split_at.result.1.now c.split.result c.args.before c.args.from
-    c.total-zero.result c.total-one.result c.in-Apart.fork c.poll-in-Apart.new.self
+    c.total-zero.result c.total-one.result c.in-Apart.fork c.poll-moved.new.self
     (tree_of c.in-Apart.zeros.value) (tree_of c.in-Apart.zeros.value) (tree_of c.in-Apart.ones.value) (tree_of c.visit-then-alpha_preference-one.new.node)
     placed.0 c.split.ensures.zeros c.split.ensures.ones c.split_at.ensures.front c.split_at.ensures.back c.total-zero.ensures.count c.total-one.ensures.count
-    c.poll-in-Apart.ensures.counter c.poll-in-Apart.ensures.seen
+    c.poll-moved.ensures.counter c.poll-moved.ensures.seen
     (unvisited p c.split_at.result.0.now c.args.before (c.args.from + 1) (tree_of c.in-Apart.zeros.value) c.alpha_preference.ensures.good placed.1 stamped.1 few)
     (rw c.deref_mut-then-alpha_preference-one.ensures.value at c.visit-then-alpha_preference-one.ensures.tree))
 
@@ -144,11 +154,32 @@ returns-else-alpha_preference-one-clause-tree g t c =
     let p = c.args.params.now in
     let good = c.alpha_preference.ensures.good in
     rw c.in-Apart.is (polled_two p c.args.votes.now c.split_at.result.0.now c.split_at.result.1.now c.split.result c.args.before c.args.from
-    c.total-zero.result c.total-one.result c.in-Apart.fork c.poll-in-Apart.new.self
+    c.total-zero.result c.total-one.result c.in-Apart.fork c.poll-moved.new.self
     (tree_of c.in-Apart.zeros.value) (tree_of c.in-Apart.zeros.value) (tree_of c.in-Apart.ones.value) (tree_of c.in-Apart.ones.value)
     placed.0 c.split.ensures.zeros c.split.ensures.ones c.split_at.ensures.front c.split_at.ensures.back c.total-zero.ensures.count c.total-one.ensures.count
-    c.poll-in-Apart.ensures.counter c.poll-in-Apart.ensures.seen
+    c.poll-moved.ensures.counter c.poll-moved.ensures.seen
     (unvisited p c.split_at.result.0.now c.args.before (c.args.from + 1) (tree_of c.in-Apart.zeros.value) good placed.1 stamped.1
     (omega (arith, c.total-zero.ensures.count, c.if-alpha_preference-zero.false, c.alpha_preference.ensures.value)))
     (unvisited p c.split_at.result.1.now c.args.before (c.args.from + 1) (tree_of c.in-Apart.ones.value) good placed.2 stamped.2
     (omega (arith, c.total-one.ensures.count, c.if-alpha_preference-one.false, c.alpha_preference-else-alpha_preference-zero.ensures.value))))
+
+pub returns-in-Along-clause-steady : goal.returns-in-Along-clause-steady
+returns-in-Along-clause-steady g t c = λ s. rw c.in-Along.is (rw c.deref_mut.ensures.value at (c.visit.ensures.steady s))
+
+pub returns-then-alpha_preference-zero-clause-steady : goal.returns-then-alpha_preference-zero-clause-steady
+returns-then-alpha_preference-zero-clause-steady g t c =
+    λ s.
+    let stays = c.either.ensures s in
+    let zeros = rw c.deref_mut-then-alpha_preference-zero.ensures.value at (c.visit-then-alpha_preference-zero.ensures.steady stays.1) in
+    rw c.in-Apart.is (λ i. if c.poll-moved.ensures.steady stays.0 i then preferred g.R.Rule.answer (tree_of c.in-Apart.ones.value) else zeros i)
+
+pub returns-then-alpha_preference-one-clause-steady : goal.returns-then-alpha_preference-one-clause-steady
+returns-then-alpha_preference-one-clause-steady g t c =
+    λ s.
+    let stays = c.either-then-alpha_preference-one.ensures s in
+    let ones = rw c.deref_mut-then-alpha_preference-one.ensures.value at (c.visit-then-alpha_preference-one.ensures.steady stays.1) in
+    rw c.in-Apart.is (λ i. if c.poll-moved.ensures.steady stays.0 i then ones i else preferred g.R.Rule.answer (tree_of c.in-Apart.zeros.value))
+
+pub returns-else-alpha_preference-one-clause-steady : goal.returns-else-alpha_preference-one-clause-steady
+returns-else-alpha_preference-one-clause-steady g t c =
+    λ s. rw c.in-Apart.is (λ i. if c.poll-moved.ensures.steady s i then preferred g.R.Rule.answer (tree_of c.in-Apart.ones.value) else preferred g.R.Rule.answer (tree_of c.in-Apart.zeros.value))

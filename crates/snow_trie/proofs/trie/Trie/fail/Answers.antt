@@ -1,8 +1,10 @@
 use Rattle.std.proofs.Common.{max, refl, ap, ◌∙◌}
 use Rattle.snow_flake.specs.Counter.{Decided}
+use Rattle.snow_plain.specs.Conflict.{chosen}
 use Rattle.snow_plain.specs.FailingLaw.{failed}
 use Rattle.snow_trie.specs.Tree.{tree_of}
-use Rattle.snow_trie.specs.Stamped.{between, strand}
+use Rattle.snow_trie.specs.Stamped.{between, strand, whole}
+use Rattle.snow_trie.proofs.Chosen.{chosen_failed}
 use Rattle.snow_trie.proofs.Wholes.{whole_restamped, whole_failed, failed_counters, same_size, few_nodes}
 use Rattle.snow_trie.proofs.trie.Trie.fail.Goals as goal
 
@@ -31,3 +33,15 @@ returns-clause-few g c =
     let now = tree_of c.ready-before.new.root in
     few_nodes inside.ids.items c.ready-before.result inside.decided inside.leader now _
     (whole_restamped inside.ids.items inside.polls c.ready-before.result inside.decided inside.leader (tree_of inside.root) now c.self.invariant c.ready-before.ensures.tree) refl refl
+
+pub returns-clause-steady : goal.returns-clause-steady
+returns-clause-steady g c =
+    let inside = c.self.inside in
+    let now = tree_of c.ready-before.new.root in
+    let same = c.ready-before.ensures.tree in
+    let counters =
+    failed_counters inside.params c.ready-before.result inside.decided inside.leader now c.k-k.ensures.good (same.stamped c.self.invariant.stamped)
+    ∙ ap (λ rest. failed inside.params (strand (between inside.leader 0 inside.decided) Decided rest)) (same.counters inside.decided)
+    in
+    rw (← c.self.view_is)
+    (ap (chosen g.R.Rule.answer) counters ∙ chosen_failed g.R.Rule.answer inside.params (whole inside.polls inside.decided inside.leader (tree_of inside.root)) c.k-k.ensures.good)
