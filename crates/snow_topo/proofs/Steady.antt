@@ -5,28 +5,16 @@ use Rattle.std.specs.Cmp.Lexicographic.{pointwise}
 use Rattle.snow_base.specs.declared.header.Header.{Header}
 use Rattle.snow_base.specs.Identifier.{bits}
 use Rattle.snow_flake.specs.Parameters.{Parameters, AreGood}
-use Rattle.snow_flake.specs.Counter.{Decided, Undecided}
 use Rattle.snow_flake.specs.Rule.{Answer}
-use Rattle.snow_plain.specs.Conflict.{Counters, Blank, At, all_polled, chosen}
+use Rattle.snow_plain.specs.Conflict.{Counters, chosen}
 use Rattle.snow_plain.specs.FailingLaw.{failed}
 use Rattle.snow_plain.specs.Preference.{path_from, preferred, end_of}
 use Rattle.snow_plain.proofs.Cases.{split_on}
-use Rattle.snow_plain.proofs.Failing.{fails}
+use Rattle.snow_trie.proofs.Chosen.{chosen_failed}
 use Rattle.snow_tree.specs.Held.{Entry, Held, set_load}
 use Rattle.snow_topo.specs.Kept.{Kept, counters_in, shown}
 use Rattle.snow_topo.specs.View.{all_pending, view}
 use Rattle.snow_topo.specs.Leading.{leads_in, all_leads}
-
--- failing counters lead where they led
-pub chosen_failed : (answer : Answer) (p : Parameters) (c : Counters) → AreGood p → chosen answer (failed p c) ≡ chosen answer c
-unfolding chosen all_polled
-chosen_failed answer p Blank good = refl
-chosen_failed answer p (At (Decided false) z o) good = ap (λ l. false ∷ l) (chosen_failed answer p z good)
-chosen_failed answer p (At (Decided true) z o) good = ap (λ l. true ∷ l) (chosen_failed answer p o good)
-chosen_failed answer p (At (Undecided s) z o) good =
-    let zeros = chosen_failed answer p z good in
-    let ones = chosen_failed answer p o good in
-    rw (fails p (Undecided s) good) (λ i. if answer s.preference s.flake then true ∷ ones i else false ∷ zeros i)
 
 -- what is shown leads where what is kept leads
 pub chosen_shown : (answer : Answer) (p : Parameters) (polls : ℕ) (kept : Kept) → AreGood p → chosen answer (shown p polls kept) ≡ leads_in answer kept

@@ -38,19 +38,8 @@ impl<R: Rule> Model for Load<R> {
     ghost invariant = { λ a. IfSome a.trie HasFewNodes };
 }
 
-// Where a tree leads; nothing where one child stands alone, to which it leads whatever comes.
-fn lead_of<R: Rule>(trie: &Trie<R>) -> Option<Id>
-    ensures some { IfSome result (λ id. chosen R.answer (trie.now).counters ≡ bits id) }
-    ensures none { result ≡ None → (length (trie.now).ids ≡ 1) × All (λ id. chosen R.answer (trie.now).counters ≡ bits id) (trie.now).ids }
-{
-    if trie.choices() == 1 {
-        return None;
-    }
-    Some(trie.preference())
-}
-
 // A tree takes a poll with these votes, after it has failed where it didn't record the last poll. The
-// answer is whether it leads elsewhere then.
+// answer is false only where it leads where it led.
 fn catch_up<R: Rule, L: Ledger>(
     trie: &mut Trie<R>,
     is_behind: bool,
@@ -67,16 +56,10 @@ fn catch_up<R: Rule, L: Ledger>(
     ensures steps { steps.new ≤ steps.old + 1 + (trie.old).nodes }
     ensures steady { result ≡ false → chosen R.answer (trie.new).counters ≡ chosen R.answer (trie.old).counters }
 {
-    let before = lead_of(trie);
     if is_behind {
         trie.fail(steps);
     }
-    trie.apply(votes, steps);
-    let _choices = trie.choices();
-    match before {
-        Some(id) => id != trie.preference(),
-        None => false,
-    }
+    trie.apply(votes, steps)
 }
 
 // The identifier to which decided counters alone lead.
