@@ -1,5 +1,5 @@
 -- Lemmas on polls after which boards prefer what they preferred.
-use Rattle.std.proofs.Common.{◌≡◌, ℕ, zero, suc, ◌==◌, Bool, true, false, ◌&&◌, List, [], ◌∷◌, bytes_eq, Some, slice_get, refl, sym, ap, ◌∙◌, if◌then◌else◌}
+use Rattle.std.proofs.Common.{◌≡◌, ℕ, zero, suc, ◌==◌, Bool, ◌&&◌, List, [], ◌∷◌, bytes_eq, Some, slice_get, refl, sym, ap, ◌∙◌, if◌then◌else◌}
 use Rattle.std.specs.Bool.{beq}
 use Rattle.std.specs.Cmp.Lexicographic.{pointwise}
 use Rattle.snow_base.specs.declared.header.Header.{Header}
@@ -7,7 +7,6 @@ use Rattle.snow_base.specs.Identifier.{bits}
 use Rattle.snow_flake.specs.Parameters.{Parameters, AreGood}
 use Rattle.snow_flake.specs.Rule.{Answer}
 use Rattle.snow_plain.specs.Conflict.{Counters, chosen}
-use Rattle.snow_plain.specs.FailingLaw.{failed}
 use Rattle.snow_plain.specs.Preference.{path_from, preferred, end_of}
 use Rattle.snow_plain.proofs.Cases.{split_on}
 use Rattle.snow_trie.proofs.Chosen.{chosen_failed}

@@ -1,5 +1,4 @@
-ghost use Rattle.std.specs.Prelude.{◌≡◌, ◌+◌, ◌≤◌, All, Contains, None, IfSome, false, length, if◌then◌else◌};
-ghost use Rattle.snow_base.specs.Identifier.{bits};
+ghost use Rattle.std.specs.Prelude.{◌≡◌, ◌+◌, ◌≤◌, All, Contains, None, IfSome, false, if◌then◌else◌};
 ghost use Rattle.snow_base.specs.Votes.{IsInBitOrder, total_count};
 ghost use Rattle.snow_plain.specs.Conflict.{all_polled, votes_on, chosen};
 ghost use Rattle.snow_plain.specs.FailingLaw.{failed};
