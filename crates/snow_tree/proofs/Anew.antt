@@ -1,4 +1,4 @@
--- Lemmas on nodes that note anew where their parents stand.
+-- Lemmas on nodes that differ at most in where they note that their parents stand.
 use Rattle.std.proofs.Common.{◌≡◌, ℕ, ◌<◌, List, length, get_or, map, All, sym, ap, subst, ◌∙◌}
 use Rattle.std.proofs.lemmas.List.{get_or-map, length-map}
 use Rattle.snow_tree.specs.declared.node.Node.{Node}

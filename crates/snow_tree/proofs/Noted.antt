@@ -1,4 +1,4 @@
--- Lemmas on what is noted of the nodes while a child is accepted.
+-- Lemmas on the blocks of nodes at a place and before it.
 use Rattle.std.proofs.Common.{◌≡◌, ℕ, zero, suc, ◌≤◌, Bool, List, [], ◌∷◌, length, take, map, filter, bytes_eq, Option, Some, None, slice_get, refl, ap, ◌∙◌, arith}
 use Rattle.std.specs.List.{position}
 use Rattle.std.specs.Option.{option_map}

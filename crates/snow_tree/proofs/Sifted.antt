@@ -1,4 +1,4 @@
--- Lemmas on a row whose entries go past once, each to the end or out.
+-- Lemmas on the first elements of a list, and one more.
 use Rattle.std.proofs.Common.{◌≡◌, ℕ, zero, suc, ◌+◌, ◌<◌, Bool, true, false, cond, if◌then◌else◌, List, [], ◌∷◌, length, get_or, take, bytes_eq, Some, slice_get, refl, ap, ◌∙◌, arith}
 use Rattle.std.specs.List.{IsDistinct}
 use Rattle.std.specs.Map.{lookup, keys_of}

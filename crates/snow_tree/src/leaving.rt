@@ -1,4 +1,4 @@
-ghost use Rattle.std.specs.Prelude.{◌≡◌, ℕ, ◌+◌, ◌<◌, ◌≤◌, List, ◌∷◌, ◌++◌, [], true, drop, length, map, reverse, slice_get, bytes_eq, Option, Some, vec_len, vec_capacity, if◌then◌else◌};
+ghost use Rattle.std.specs.Prelude.{◌≡◌, ℕ, ◌+◌, ◌<◌, ◌≤◌, List, ◌∷◌, ◌++◌, [], true, drop, length, map, reverse, slice_get, bytes_eq, Some, vec_len, vec_capacity, if◌then◌else◌};
 ghost use Rattle.std.specs.Map.{lookup, values_of};
 ghost use Rattle.std.specs.Option.{option_map};
 ghost use Rattle.snow_plain.specs.Grown.{IsGrown};
@@ -115,19 +115,30 @@ fn sift<T: Drop>(
     }
 }
 
+// A node with its identifier.
+fn with_id<T>(id: &Id, node: Option<Node<T>>) -> Option<(Id, Node<T>)>
+    ensures { option_map (λ e. e.1) result ≡ node }
+{
+    match node {
+        Some(node) => Some((*id, node)),
+        None => None,
+    }
+}
+
 // Takes out the child, and all that don't descend from it, which are told in order of issue. Each node goes
-// past once: to the end, where it notes anew how far before it its parent stands, or out.
+// past once: to the end, where it notes anew how far before it its parent stands, or out. This stands apart
+// from the usual case, which makes no room ready for it then.
 #[inline(never)]
 fn sweep<T: Drop>(
     nodes: &mut Nodes<T>,
     last: &Id,
     child: &Id,
     rejected: &mut Vec<Id>,
-) -> Option<Node<T>>
+) -> Option<(Id, Node<T>)>
     requires grown { IsGrown last.now (reverse (blocks_of nodes.old.entries)) }
     requires child { option_map (λ n. n.parent) (lookup (bytes_eq child.now) nodes.old.entries) ≡ Some last.now }
     requires room { vec_len rejected.old + length nodes.old.entries ≤ vec_capacity rejected.old }
-    ensures node { result ≡ lookup (bytes_eq child.now) nodes.old.entries }
+    ensures node { option_map (λ e. e.1) result ≡ lookup (bytes_eq child.now) nodes.old.entries }
     ensures left { map unplaced nodes.new.entries ≡ map unplaced (left nodes.old.entries child.now) }
     ensures placed { ArePlaced (edges_of nodes.new.entries) }
     ensures told { rejected.new.items ≡ rejected.old.items ++ outsiders nodes.old.entries child.now }
@@ -137,18 +148,7 @@ fn sweep<T: Drop>(
     for place in 0..nodes.len() {
         sift(nodes, last, child, rejected, &mut taken);
     }
-    taken
-}
-
-// Takes the first node out.
-fn first_node<T>(nodes: &mut Nodes<T>) -> Option<Node<T>>
-    ensures node { result ≡ option_map (λ e. e.1) (slice_get nodes.old.entries 0) }
-    ensures left { nodes.new.entries ≡ drop 1 nodes.old.entries }
-{
-    match nodes.pop_first() {
-        Some((_, node)) => Some(node),
-        None => None,
-    }
+    with_id(child, taken)
 }
 
 /// Takes the child out that is accepted, and all that don't descend from it. These are told in order
@@ -160,13 +160,13 @@ pub(crate) fn take_accepted<T: Drop>(
     child: &Id,
     is_alone: bool,
     rejected: &mut Vec<Id>,
-) -> Option<Node<T>>
+) -> Option<(Id, Node<T>)>
     requires grown { IsGrown last.now (reverse (blocks_of nodes.old.entries)) }
     requires placed { ArePlaced (edges_of nodes.old.entries) }
     requires child { option_map (λ n. n.parent) (lookup (bytes_eq child.now) nodes.old.entries) ≡ Some last.now }
     requires alone { is_alone ≡ true → children_of (blocks_of nodes.old.entries) last.now ≡ child.now ∷ [] }
     requires room { vec_len rejected.old + length nodes.old.entries ≤ vec_capacity rejected.old }
-    ensures node { result ≡ lookup (bytes_eq child.now) nodes.old.entries }
+    ensures node { option_map (λ e. e.1) result ≡ lookup (bytes_eq child.now) nodes.old.entries }
     ensures left { map unplaced nodes.new.entries ≡ map unplaced (left nodes.old.entries child.now) }
     ensures placed { ArePlaced (edges_of nodes.new.entries) }
     ensures told { rejected.new.items ≡ rejected.old.items ++ outsiders nodes.old.entries child.now }
@@ -174,7 +174,7 @@ pub(crate) fn take_accepted<T: Drop>(
 {
     let _len = nodes.len();
     if is_alone {
-        return first_node(nodes);
+        return nodes.pop_first();
     }
     sweep(nodes, last, child, rejected)
 }

@@ -245,14 +245,14 @@ impl<T: Drop> Tree<T> {
     {
         self.rejected.clear();
         let is_alone = self.children.list().len() == 1;
-        let node = take_accepted(
+        let taken = take_accepted(
             &mut self.nodes,
             &self.last,
             child,
             is_alone,
             &mut self.rejected,
         );
-        let node = node.unwrap();
+        let (_, node) = taken.unwrap();
         let Node {
             height,
             children,

@@ -53,7 +53,7 @@ pub returns-clause-node : goal.returns-clause-node
 returns-clause-node g c =
     let all = c.args.nodes.now.entries in
     let past : length all ≤ c.loop-place.place = omega (arith, c.loop-place-test.false, c.len-place-end.ensures.len) in
-    c.loop-place.invariant.taken ∙ ap (lookup (bytes_eq c.args.child.now)) (take_all c.loop-place.place all past)
+    c.with_id.ensures ∙ c.loop-place.invariant.taken ∙ ap (lookup (bytes_eq c.args.child.now)) (take_all c.loop-place.place all past)
 
 pub returns-clause-left : goal.returns-clause-left
 returns-clause-left g c =
