@@ -2,12 +2,21 @@ ghost use Rattle.std.specs.Prelude.{◌≡◌, replicate, IfOk};
 
 use std::alloc::AllocError;
 
-/// So many zeros, written at once over whatever is in this room, as for the numbers of chains that
-/// have no item yet. It grows where it is too small.
+// So many zeros are written at a time.
+const SOME: usize = 256;
+
+/// So many zeros, written over whatever is in this room, as for the numbers of chains that have no
+/// item yet. It grows where it is too small.
 pub fn zeros(mut room: Vec<u32>, count: usize) -> Result<Vec<u32>, AllocError>
     ensures { IfOk result (λ made. made.items ≡ replicate count 0) }
 {
     room.clear();
-    room.resize(count, 0)?;
+    room.reserve(count)?;
+    let mut made = 0;
+    while made < count {
+        let more = SOME.min(count - made);
+        made += more;
+        room.resize(made, 0)?;
+    }
     Ok(room)
 }

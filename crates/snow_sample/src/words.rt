@@ -1,4 +1,4 @@
-ghost use Rattle.std.specs.Prelude.{◌≡◌, ◌+◌, ◌^◌, ◌<◌, ◌≤◌, [], ◌++◌, length, drop, OnOk, OnErr, IfSome, IfNone};
+ghost use Rattle.std.specs.Prelude.{◌≡◌, ◌+◌, ◌^◌, ◌<◌, ◌≤◌, [], ◌++◌, length, drop, vec_len, vec_capacity, OnOk, OnErr, IfSome, IfNone};
 ghost use Rattle.std.specs.Option.{option_map};
 ghost use Rattle.snow_sample.specs.Words.{choice, reduced, IsRest};
 
@@ -10,12 +10,18 @@ use std::mem;
 // The low 63 bits of a word.
 const LOW_BITS: u64 = 0x7fff_ffff_ffff_ffff;
 
+// Where more words are left, eight times so many that were taken are enough to move them.
+const FEW: usize = 8_192;
+
+// So many words are copied at a time.
+const SOME: usize = 256;
+
 /// Random words, first in first out, at most 65,536 of them. Contracts see the list of them.
 ///
 /// The room of a sample stays with the words that it took, for the next one.
 #[derive(Debug, Drop)]
 pub struct Words {
-    // So many in front were taken. They go where words are appended and fewer are left.
+    // So many in front were taken. They go where words are appended and few are left beside them.
     words: Vec<u64>,
     taken: usize,
     room: Room,
@@ -51,14 +57,15 @@ impl Words {
         ensures err { OnErr result (self.new ≡ self.old) }
     {
         self.close_up();
-        self.words.extend_from_slice(words)
+        append(&mut self.words, words)
     }
 
-    // Takes the words that were taken out of the room, where there are more of them than are left.
+    // Moves the words that are left to the front, where many times as many were taken: so hardly a
+    // word is moved for each that is taken.
     fn close_up(&mut self)
         ensures { self.new ≡ self.old }
     {
-        if self.taken > self.len() {
+        if self.taken / 8 > self.len().min(FEW) {
             cut_front(&mut self.words, self.taken);
             self.taken = 0;
         }
@@ -133,4 +140,31 @@ fn cut_front(words: &mut Vec<u64>, taken: usize)
     let left = words.len() - taken;
     words.copy_within(taken.., 0);
     words.truncate(left);
+}
+
+// Appends all words, or none where there is no memory for them.
+fn append(room: &mut Vec<u64>, words: &[u64]) -> Result<(), AllocError>
+    ensures ok { OnOk result (room.new.items ≡ room.old.items ++ words.now) }
+    ensures err { OnErr result (room.new.items ≡ room.old.items) }
+{
+    room.reserve(words.len())?;
+    let mut rest = words;
+    while !rest.is_empty() {
+        let len = rest.len().min(SOME);
+        append_some(room, &rest[..len]);
+        rest = &rest[len..];
+    }
+    Ok(())
+}
+
+// Appends a few words, for which there is room.
+fn append_some(room: &mut Vec<u64>, some: &[u64])
+    requires { vec_len room.old + length some.now ≤ vec_capacity room.old }
+    ensures items { room.new.items ≡ room.old.items ++ some.now }
+    ensures len { vec_len room.new ≡ vec_len room.old + length some.now }
+    ensures capacity { vec_capacity room.old ≤ vec_capacity room.new }
+{
+    let taken = room.extend_from_slice(some);
+    prove!(taken.is_ok());
+    let _ = taken;
 }
