@@ -3,7 +3,7 @@ ghost use Rattle.snow_sample.specs.Kept.{HasSlots};
 ghost use Rattle.snow_sample.specs.Roster.{total_weight, owner};
 ghost use Rattle.snow_sample.specs.Sampling.{counted, draw_count};
 
-use crate::draws::{Draw, Draws};
+use crate::draws::Draws;
 use crate::roster::Roster;
 use std::alloc::AllocError;
 
@@ -41,13 +41,13 @@ impl Places {
         ensures slots { OnOk result (HasSlots roster.now self.new.slots.items draws.new) }
     {
         let at = roster.place(unit);
-        let node = roster.nodes()[at].id;
+        let node = &roster.nodes()[at].id;
         let slot = self.slots[at] as usize;
-        if draws.is_at(slot, &node) {
+        if draws.is_at(slot, node) {
             draws.add_one(slot);
             return Ok(());
         }
-        draws.push(Draw { node, count: 1 })?;
+        draws.push_first(node)?;
         self.slots[at] = draws.list().len() as u32 - 1;
         Ok(())
     }

@@ -26,19 +26,19 @@ pub overflow_cast-list : goal.overflow_cast-list
 overflow_cast-list c =
     let first = drawn_first c.args.roster.now c.args.self.now.slots.items c.args.draws.now c.list.result.now c.place-at.result c.index.result.now
     c.index-nodes-at.result c.requires.slots (rw c.nodes.ensures.nodes at c.nodes.ensures.good) c.place-at.ensures.within c.index.ensures (rw c.nodes.ensures.nodes at (sym c.is_at.ensures ∙ c.if-is_at.false))
-    (c.list.ensures.list ∙ rw c.nodes.ensures.nodes at c.in_ok-push.ensures.ok) in
+    (c.list.ensures.list ∙ rw c.nodes.ensures.nodes at c.in_ok-push_first.ensures.ok) in
     omega (arith, few_drawn c.args.draws.now c.list.result.now _ first.0 c.requires.few c.list.ensures.counts)
 
 pub returns-clause-counted : goal.returns-clause-counted
 returns-clause-counted c =
-    (drawn_first c.args.roster.now c.args.self.now.slots.items c.args.draws.now c.push.new.self c.place-at.result c.index.result.now
+    (drawn_first c.args.roster.now c.args.self.now.slots.items c.args.draws.now c.push_first.new.self c.place-at.result c.index.result.now
     c.index-nodes-at.result c.requires.slots (rw c.nodes.ensures.nodes at c.nodes.ensures.good) c.place-at.ensures.within c.index.ensures (rw c.nodes.ensures.nodes at (sym c.is_at.ensures ∙ c.if-is_at.false))
-    (rw c.nodes.ensures.nodes at c.in_ok-push.ensures.ok)).0
+    (rw c.nodes.ensures.nodes at c.in_ok-push_first.ensures.ok)).0
     ∙ ap (counted c.args.draws.now) (c.place-at.ensures.owner c.index-nodes-at.result)
 
 pub returns-clause-slots : goal.returns-clause-slots
 returns-clause-slots c =
     rw c.list.ensures.list
-    (drawn_first c.args.roster.now c.args.self.now.slots.items c.args.draws.now c.push.new.self c.place-at.result c.index.result.now
+    (drawn_first c.args.roster.now c.args.self.now.slots.items c.args.draws.now c.push_first.new.self c.place-at.result c.index.result.now
     c.index-nodes-at.result c.requires.slots (rw c.nodes.ensures.nodes at c.nodes.ensures.good) c.place-at.ensures.within c.index.ensures (rw c.nodes.ensures.nodes at (sym c.is_at.ensures ∙ c.if-is_at.false))
-    (rw c.nodes.ensures.nodes at c.in_ok-push.ensures.ok)).1
+    (rw c.nodes.ensures.nodes at c.in_ok-push_first.ensures.ok)).1
