@@ -74,6 +74,11 @@ stands q polls number at is =
           ] refl now
     ] refl is
 
+-- that of the front poll is 0
+pub front_place : (polls : List Poll) (number : ℕ) → is_front polls number ≡ true → place polls number ≡ Some 0
+front_place [] number is = absurd (cc)
+front_place (q ∷ polls) number is = ap (λ same. first_place same (place polls number)) is
+
 -- a number that has no place is in no poll
 pub unplaced : (polls : List Poll) (number : ℕ) → place polls number ≡ None → has_number polls number ≡ false
 unplaced [] number none = refl

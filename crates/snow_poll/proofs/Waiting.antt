@@ -1,5 +1,5 @@
 -- Lemmas on the nodes that are awaited: which entry of a node counts, and what an entry more and a reply leave.
-use Rattle.std.proofs.Common.{◌≡◌, ℕ, zero, suc, ◌+◌, ◌-◌, ◌*◌, ◌/◌, ◌<◌, ◌≤◌, Bool, true, false, not, cond, if◌then◌else◌, List, [], ◌∷◌, ◌++◌, length, get_or, set, map, replicate, bytes_eq, is_some, Option, None, Some, refl, sym, ap, ◌∙◌, arith, inl, inr}
+use Rattle.std.proofs.Common.{◌≡◌, ℕ, zero, suc, ◌+◌, ◌-◌, ◌/◌, ◌^◌, ◌<◌, ◌≤◌, Bool, true, false, not, cond, if◌then◌else◌, List, [], ◌∷◌, ◌++◌, length, get_or, set, map, replicate, bytes_eq, is_some, Option, None, Some, refl, sym, ap, ◌∙◌, arith, inl, inr}
 use Rattle.std.proofs.lemmas.Bool.{cases_Bool, cond-true, cond-false}
 use Rattle.std.proofs.lemmas.List.{get_or_read, get_or-set_same, get_or-set_other, length-map, length-replicate, length-set, map-append}
 use Rattle.std.proofs.lemmas.List.Sums.{fold-append}
@@ -9,7 +9,7 @@ use Rattle.std.proofs.Math.Seq.{map-set_same}
 use Rattle.snow_sample.proofs.Chains.{chained_none, chained_more}
 use Rattle.snow_sample.proofs.Walks.{last_of, last_none, last_here, IsSought, sought_begins, sought_on, none_later}
 use Rattle.snow_poll.specs.declared.awaited.Wait.{Wait}
-use Rattle.snow_poll.specs.Awaited.{count_left, counts_at, class_of, AreWaits, IsNumberOf}
+use Rattle.snow_poll.specs.Awaited.{count_left, counts_at, spread_of, class_of, AreWaits, IsNumberOf}
 
 -- whether an entry is a node's
 abbrev pub is_of : List ℕ → Wait → Bool
@@ -38,8 +38,7 @@ waits_none mask lasts none =
 -- each node has a class
 pub within_classes : (mask : ℕ) (waits : List Wait) (lasts : List ℕ) (node : List ℕ) → AreWaits mask waits lasts → class_of mask node < length lasts
 within_classes mask waits lasts node are =
-    let spread : ℕ = (get_or node 0 0 + get_or node 1 0 * 256 + (get_or node 19 0 + get_or node 18 0 * 256)) * 40503 / 32 in
-    omega (arith, are.classes, and_le_r spread mask)
+    omega (arith, are.classes, and_le_r (spread_of node / 2 ^ 48) mask)
 
 -- an entry more
 pub waits_more : (mask : ℕ) (waits : List Wait) (lasts : List ℕ) (w : Wait) → AreWaits mask waits lasts → w.before ≡ get_or lasts (class_of mask w.node) 0

@@ -1,5 +1,6 @@
 -- The nodes that a poll awaits, in classes.
-use Rattle.std.specs.Prelude.{◌≡◌, ℕ, ◌+◌, ◌-◌, ◌*◌, ◌/◌, ◌<◌, ◌≤◌, true, false, List, length, map, fold, bytes_eq, bit_and, slice_index, slice_index_or, Option, Some, None, if◌then◌else◌}
+use Rattle.std.specs.Prelude.{◌≡◌, ℕ, ◌+◌, ◌-◌, ◌*◌, ◌/◌, ◌%◌, ◌^◌, ◌<◌, ◌≤◌, true, false, List, [], ◌∷◌, length, map, fold, bytes_eq, bit_and, bit_xor, slice_index, slice_index_or, Option, Some, None, if◌then◌else◌}
+use Rattle.std.specs.Int.{w64, from_le_bytes}
 use Rattle.snow_sample.specs.declared.draws.Draw.{Draw}
 use Rattle.snow_sample.specs.Chains.{AreChained}
 use Rattle.snow_poll.specs.declared.awaited.Wait.{Wait}
@@ -16,10 +17,22 @@ count_left w = if w.replied then None else Some w.count
 abbrev pub counts_at : List Wait → List ℕ → Option ℕ
 counts_at waits node = fold (λ found w. if bytes_eq w.node node then count_left w else found) None waits
 
--- the class of a node, by its first two bytes and its last two
+-- eight bytes from one on as a number, the first one the lowest
+abbrev pub word_at : ℕ → List ℕ → ℕ
+word_at from bytes =
+    from_le_bytes w64
+    (
+    slice_index bytes from ∷ slice_index bytes (from + 1) ∷ slice_index bytes (from + 2) ∷ slice_index bytes (from + 3)
+    ∷ slice_index bytes (from + 4) ∷ slice_index bytes (from + 5) ∷ slice_index bytes (from + 6) ∷ slice_index bytes (from + 7) ∷ []
+    )
+
+-- a node's first eight bytes and its last eight, spread by a product
+unfoldable pub spread_of : List ℕ → ℕ
+spread_of node = bit_xor (word_at 0 node) (word_at 12 node) * 11400714819323198485 % 2 ^ 64
+
+-- the class of a node
 abbrev pub class_of : ℕ → List ℕ → ℕ
-class_of mask node =
-    bit_and ((slice_index node 0 + slice_index node 1 * 256 + (slice_index node 19 + slice_index node 18 * 256)) * 40503 / 32) mask
+class_of mask node = bit_and (spread_of node / 2 ^ 48) mask
 
 -- the entries are chained in the classes of their nodes, of which there is one more than the mask
 pub record AreWaits (mask : ℕ) (waits : List Wait) (lasts : List ℕ) : Type 0 where

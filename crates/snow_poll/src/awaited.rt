@@ -1,10 +1,13 @@
-ghost use Rattle.std.specs.Prelude.{◌≡◌, ℕ, ◌+◌, ◌^◌, ◌<◌, List, [], ◌∷◌, ◌++◌, length, map, None, Some, bytes_eq, if◌then◌else◌, IfOk, OnOk};
+ghost use Rattle.std.specs.Prelude.{◌≡◌, ℕ, ◌+◌, ◌^◌, ◌<◌, ◌≤◌, List, [], ◌∷◌, ◌++◌, length, map, None, Some, bytes_eq, if◌then◌else◌, IfOk, OnOk};
 ghost use Rattle.std.specs.Option.{is_some};
-ghost use Rattle.snow_poll.specs.Awaited.{counts_at, draw_of, class_of, AreWaits, IsNumberOf};
+ghost use Rattle.snow_poll.specs.Awaited.{counts_at, draw_of, word_at, spread_of, class_of, AreWaits, IsNumberOf};
 
 use snow_base::NodeId;
 use snow_sample::zeros;
-use std::alloc::AllocError;
+use std::alloc::{AllocError, Global};
+
+// So many classes at most are told apart by a node's spread bytes.
+const MOST_CLASSES: usize = 65_536;
 
 // A node that was drawn: how often, and whether it has replied. Nodes of one class wait one behind
 // another; `before` is the number, from 1, of the one before it, and 0 where there is none.
@@ -27,23 +30,31 @@ pub(crate) struct Awaited {
 }
 
 impl Awaited {
-    // No node. There is room for so many: in these vectors, of which only the room is used.
-    pub(crate) fn begin(
-        mut waits: Vec<Wait>,
-        lasts: Vec<u32>,
-        nodes: usize,
-    ) -> Result<Awaited, AllocError>
-        ensures counts { IfOk result (λ made. (node : List ℕ) → counts_at made.waits.items node ≡ None) }
-        ensures none { IfOk result (λ made. made.waits.items ≡ []) }
-    {
-        let classes = nodes.min(65_536).next_power_of_two();
-        waits.clear();
+    // No node, and room for so many. Few polls need it made, so it stands apart.
+    #[inline(never)]
+    pub(crate) fn new(alloc: Global, nodes: usize) -> Result<Awaited, AllocError> {
+        let classes = nodes.min(MOST_CLASSES).next_power_of_two();
+        let mut waits = Vec::new(alloc);
         waits.reserve(nodes)?;
         Ok(Awaited {
             waits,
-            lasts: zeros(lasts, classes)?,
+            lasts: zeros(Vec::new(alloc), classes)?,
             mask: classes as u64 - 1,
         })
+    }
+
+    // Whether so many nodes have room, and classes enough.
+    pub(crate) fn fits(&self, nodes: usize) -> bool {
+        nodes <= self.waits.capacity() && nodes.min(MOST_CLASSES) <= self.lasts.len()
+    }
+
+    // Awaits no node. The room stays.
+    pub(crate) fn clear(&mut self)
+        ensures counts { (node : List ℕ) → counts_at self.new.waits.items node ≡ None }
+        ensures none { self.new.waits.items ≡ [] }
+    {
+        self.waits.clear();
+        self.lasts.fill(0);
     }
 
     // Awaits a node, drawn so often.
@@ -98,7 +109,7 @@ impl Awaited {
     {
         let mut number = self.lasts[class(node, self.mask)];
         while number > 0 {
-            let wait = self.waits[number as usize - 1];
+            let wait = &self.waits[number as usize - 1];
             if wait.node == *node {
                 return number as usize;
             }
@@ -108,15 +119,38 @@ impl Awaited {
     }
 }
 
-// The class of a node, by its first two bytes and its last two, which may count nodes: a product
-// spreads them. It stands apart, so that the bytes which it reads don't keep those of a node from
-// being compared many at a time.
-#[inline(never)]
+// The class of a node.
+#[inline(always)]
 fn class(node: &NodeId, mask: u64) -> usize
     ensures { result ≡ class_of mask node.now }
 {
+    (spread(node) >> 48 & mask) as usize
+}
+
+// A node's first eight bytes and its last eight, which may count nodes, spread by a product. They are
+// read as they are where nodes are compared, which isn't done byte by byte then.
+#[inline(always)]
+fn spread(node: &NodeId) -> u64
+    ensures { result ≡ spread_of node.now }
+{
     let bytes = node.as_bytes();
-    let first = u64::from(bytes[0]) + u64::from(bytes[1]) * 256;
-    let last = u64::from(bytes[19]) + u64::from(bytes[18]) * 256;
-    ((first + last) * 40_503 / 32 & mask) as usize
+    (word(bytes, 0) ^ word(bytes, 12)).wrapping_mul(0x9e37_79b9_7f4a_7c15)
+}
+
+// Eight bytes as a number, the first one the lowest.
+#[inline(always)]
+fn word(bytes: &[u8; 20], from: usize) -> u64
+    requires { from ≤ 12 }
+    ensures { result ≡ word_at from bytes.now }
+{
+    u64::from_le_bytes([
+        bytes[from],
+        bytes[from + 1],
+        bytes[from + 2],
+        bytes[from + 3],
+        bytes[from + 4],
+        bytes[from + 5],
+        bytes[from + 6],
+        bytes[from + 7],
+    ])
 }

@@ -1,17 +1,15 @@
-ghost use Rattle.std.specs.Prelude.{◌≡◌, ◌+◌, ◌^◌, ◌<◌, ◌≤◌, length, map, IfOk};
+ghost use Rattle.std.specs.Prelude.{◌≡◌, ◌+◌, ◌≤◌, IfOk};
 ghost use Rattle.snow_flake.specs.Parameters.{AreGood};
 ghost use Rattle.snow_sample.specs.Sampling.{draw_count, AreOfDistinctNodes};
-ghost use Rattle.snow_poll.specs.Awaited.{counts_at, draw_of};
-ghost use Rattle.snow_poll.specs.Kept.{HasTimes, closes_by};
+ghost use Rattle.snow_poll.specs.Kept.{closes_by};
 
-use crate::awaited::{Awaited, Wait};
 use crate::reply::Reply;
-use crate::room::Room;
+use crate::room::Nodes;
 use crate::tally;
 use snow_base::{Bag, Id, NodeId};
 use snow_flake::Params;
-use snow_sample::{Draw, Draws};
-use std::alloc::AllocError;
+use snow_sample::Draws;
+use std::alloc::{AllocError, Global};
 use std::marker::Model;
 
 /// A poll under way. Contracts see its number, its draws, and the replies in order of arrival.
@@ -20,8 +18,7 @@ use std::marker::Model;
 #[derive(Debug, Drop)]
 pub(crate) struct Poll {
     number: u32,
-    replies: Vec<Reply>,
-    awaited: Awaited,
+    nodes: Box<Nodes>,
     votes: Bag,
     most: u32,
     outstanding: u32,
@@ -35,10 +32,10 @@ impl Model for Poll {
 
     ghost Value = { model.Poll };
 
-    ghost view = { λ a. record { number = a.number; draws = map draw_of a.awaited.waits.items; replies = a.replies.items } };
+    ghost view = { λ a. record { number = a.number; draws = map draw_of a.nodes.value.awaited.waits.items; replies = a.nodes.value.replies.items } };
 
-    ghost invariant = { λ a. IsKept (record { number = a.number; draws = map draw_of a.awaited.waits.items; replies = a.replies.items })
-        (counts_at a.awaited.waits.items) a.votes a.most a.outstanding (vec_capacity a.replies) };
+    ghost invariant = { λ a. IsKept (record { number = a.number; draws = map draw_of a.nodes.value.awaited.waits.items; replies = a.nodes.value.replies.items })
+        (counts_at a.nodes.value.awaited.waits.items) a.votes a.most a.outstanding (vec_capacity a.nodes.value.replies) };
 }
 
 impl Poll {
@@ -49,7 +46,8 @@ impl Poll {
     /// A poll over these draws, without replies, in the room of one that left and of its votes. What
     /// it will need beyond that is made here.
     pub(crate) fn begin(
-        room: Room,
+        alloc: Global,
+        left: Option<Box<Nodes>>,
         mut votes: Bag,
         number: u32,
         draws: &Draws,
@@ -60,19 +58,11 @@ impl Poll {
         ensures { IfOk result (λ made. made ≡ new_poll number draws.now) }
     {
         let drawn = draws.list();
-        let Room {
-            mut replies,
-            waits,
-            lasts,
-        } = room;
-        replies.clear();
-        replies.reserve(drawn.len())?;
         votes.clear();
         votes.reserve(drawn.len())?;
         Ok(Poll {
             number,
-            replies,
-            awaited: awaited_of(waits, lasts, drawn)?,
+            nodes: Nodes::of(alloc, left, drawn)?,
             votes,
             most: 0,
             outstanding,
@@ -90,7 +80,7 @@ impl Poll {
     pub(crate) fn awaits(&self, node: &NodeId) -> bool
         ensures { result ≡ awaits self.now node.now }
     {
-        self.awaited.contains(node)
+        self.nodes.awaited.contains(node)
     }
 
     /// Counts the reply of a node, if it awaits one: whether it did. Else nothing changes. It takes
@@ -99,12 +89,12 @@ impl Poll {
         ensures awaited { result ≡ awaits self.old node.now }
         ensures poll { self.new ≡ replied self.old node.now id }
     {
-        let Some(times) = self.awaited.remove(node) else {
+        let Some(times) = self.nodes.awaited.remove(node) else {
             return false;
         };
         self.outstanding -= times;
         self.most = tally::give(&mut self.votes, self.most, &id, times);
-        self.replies.push_reserved(Reply { node: *node, id });
+        self.nodes.replies.push_reserved(Reply { node: *node, id });
         true
     }
 
@@ -117,39 +107,15 @@ impl Poll {
         closes(params, reach, self.outstanding, self.most)
     }
 
-    /// Its votes. Its room is left for one that is begun later.
-    pub(crate) fn into_votes(self, room: &mut Room) -> Bag
+    /// Its votes. What it kept of its nodes is left for one that is begun later.
+    pub(crate) fn into_votes(self, left: &mut Option<Box<Nodes>>) -> Bag
         ensures votes { result.list ≡ votes_of self }
         ensures within { received self + outstanding self ≤ draw_count self.draws }
     {
-        let Poll {
-            replies,
-            awaited,
-            votes,
-            ..
-        } = self;
-        let Awaited { waits, lasts, .. } = awaited;
-        *room = Room {
-            replies,
-            waits,
-            lasts,
-        };
+        let Poll { nodes, votes, .. } = self;
+        *left = Some(nodes);
         votes
     }
-}
-
-// The nodes of these draws, each with how often it was drawn.
-fn awaited_of(waits: Vec<Wait>, lasts: Vec<u32>, draws: &[Draw]) -> Result<Awaited, AllocError>
-    requires nodes { AreOfDistinctNodes draws.now }
-    requires few { length draws.now < 2 ^ 32 }
-    ensures times { IfOk result (λ awaited. HasTimes (counts_at awaited.waits.items) draws.now) }
-    ensures drawn { IfOk result (λ awaited. map draw_of awaited.waits.items ≡ draws.now) }
-{
-    let mut awaited = Awaited::begin(waits, lasts, draws.len())?;
-    for draw in draws {
-        awaited.insert(&draw.node, draw.count)?;
-    }
-    Ok(awaited)
 }
 
 // Whether a poll is closed that can reach so many votes, of which so many are outstanding, and where

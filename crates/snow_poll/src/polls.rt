@@ -3,10 +3,10 @@ ghost use Rattle.std.specs.Option.{option_map};
 ghost use Rattle.snow_base.specs.Votes.{total_count};
 ghost use Rattle.snow_flake.specs.Parameters.{AreGood};
 ghost use Rattle.snow_sample.specs.Sampling.{draw_count, AreOfDistinctNodes};
-ghost use Rattle.snow_poll.specs.Kept.{place, ArePlaced};
+ghost use Rattle.snow_poll.specs.Kept.{place, is_front, ArePlaced};
 
 use crate::poll::Poll;
-use crate::room::Room;
+use crate::room::Nodes;
 use crate::turns::Turns;
 use snow_base::{Bag, Id, NodeId};
 use snow_flake::Params;
@@ -74,7 +74,8 @@ pub struct Polls {
     params: Params,
     polls: VecDeque<Poll>,
     turns: Turns,
-    room: Room,
+    /// What the poll that left last kept of its nodes.
+    left: Option<Box<Nodes>>,
     /// Votes that came back. Only their room counts.
     spare: Bag,
 }
@@ -102,7 +103,7 @@ impl Polls {
             params,
             polls: VecDeque::new(alloc),
             turns: Turns::new(alloc),
-            room: Room::new(alloc),
+            left: None,
             spare: Bag::new(alloc),
         }
     }
@@ -121,9 +122,9 @@ impl Polls {
         if self.polls.len() >= MOST_POLLS {
             return Err(PollFault::Full);
         }
-        let room = mem::replace(&mut self.room, Room::new(self.alloc));
+        let left = self.left.take();
         let votes = mem::replace(&mut self.spare, Bag::new(self.alloc));
-        let poll = Poll::begin(room, votes, number, draws, self.params.k())?;
+        let poll = Poll::begin(self.alloc, left, votes, number, draws, self.params.k())?;
         self.polls.reserve(1)?;
         self.turns.enter(number, self.polls.len())?;
         self.polls.push_back_reserved(poll);
@@ -145,6 +146,32 @@ impl Polls {
     /// gives no vote. `NotAwaited` comes exactly where `awaits` is false, and nothing changed then.
     /// It takes no memory.
     pub fn vote(&mut self, number: u32, node: &NodeId, id: Option<Id>) -> Answered
+        ensures answer { result ≡ answer self.old.polls number node.now }
+        ensures table { self.new ≡ voted self.old number node.now id }
+        ensures unchanged { result ≡ Answered.NotAwaited → self.new ≡ self.old }
+    {
+        if !self.has_in_front(number) {
+            return self.vote_behind(number, node, id);
+        }
+        if !self.polls[0].count(node, id) {
+            return Answered::NotAwaited;
+        }
+        Answered::Counted
+    }
+
+    // Whether the front poll has this number, as that of most replies.
+    fn has_in_front(&self, number: u32) -> bool
+        ensures { result ≡ is_front self.now.polls number }
+    {
+        match self.polls.front() {
+            Some(front) => front.number() == number,
+            None => false,
+        }
+    }
+
+    // The same as `vote`, for the poll of any number.
+    #[inline(never)]
+    fn vote_behind(&mut self, number: u32, node: &NodeId, id: Option<Id>) -> Answered
         ensures answer { result ≡ answer self.old.polls number node.now }
         ensures table { self.new ≡ voted self.old number node.now id }
         ensures unchanged { result ≡ Answered.NotAwaited → self.new ≡ self.old }
@@ -199,7 +226,7 @@ impl Polls {
         let poll = self.polls.pop_front()?;
         let number = poll.number();
         self.turns.leave(number);
-        let votes = poll.into_votes(&mut self.room);
+        let votes = poll.into_votes(&mut self.left);
         Some(Closed { number, votes })
     }
 

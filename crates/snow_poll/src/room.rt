@@ -1,22 +1,82 @@
-use crate::awaited::Wait;
-use crate::reply::Reply;
-use std::alloc::Global;
+ghost use Rattle.std.specs.Prelude.{◌≡◌, ℕ, ◌^◌, ◌<◌, ◌≤◌, List, [], None, length, map, vec_capacity, OnOk, IfOk};
+ghost use Rattle.snow_sample.specs.Sampling.{AreOfDistinctNodes};
+ghost use Rattle.snow_poll.specs.Awaited.{counts_at, draw_of};
+ghost use Rattle.snow_poll.specs.Kept.{HasTimes};
 
-// What a poll is kept in. Only the room counts, and not what is left there.
+use crate::awaited::Awaited;
+use crate::reply::Reply;
+use snow_sample::Draw;
+use std::alloc::{AllocError, Global};
+
+// What a poll keeps of its nodes: those that were drawn, and the replies. That of a poll which left is
+// begun anew by a later one, in its place and in its room.
 #[derive(Debug, Drop)]
-pub(crate) struct Room {
+pub(crate) struct Nodes {
     pub(crate) replies: Vec<Reply>,
-    pub(crate) waits: Vec<Wait>,
-    pub(crate) lasts: Vec<u32>,
+    pub(crate) awaited: Awaited,
 }
 
-impl Room {
-    // None, as before the first poll leaves. It takes no memory.
-    pub(crate) fn new(alloc: Global) -> Room {
-        Room {
-            replies: Vec::new(alloc),
-            waits: Vec::new(alloc),
-            lasts: Vec::new(alloc),
-        }
+impl Nodes {
+    // Those of these draws, without replies, for each of which there is room. They are begun anew where
+    // a poll left some.
+    pub(crate) fn of(
+        alloc: Global,
+        left: Option<Box<Nodes>>,
+        draws: &[Draw],
+    ) -> Result<Box<Nodes>, AllocError>
+        requires nodes { AreOfDistinctNodes draws.now }
+        requires few { length draws.now < 2 ^ 32 }
+        ensures times { IfOk result (λ nodes. HasTimes (counts_at nodes.value.awaited.waits.items) draws.now) }
+        ensures drawn { IfOk result (λ nodes. map draw_of nodes.value.awaited.waits.items ≡ draws.now) }
+        ensures replies { IfOk result (λ nodes. nodes.value.replies.items ≡ []) }
+        ensures room { IfOk result (λ nodes. length draws.now ≤ vec_capacity nodes.value.replies) }
+    {
+        let mut nodes = match left {
+            Some(nodes) => nodes,
+            None => Nodes::new(alloc, draws.len())?,
+        };
+        nodes.begin(alloc, draws)?;
+        Ok(nodes)
     }
+
+    // None, and room for so many.
+    #[inline(never)]
+    fn new(alloc: Global, nodes: usize) -> Result<Box<Nodes>, AllocError> {
+        let replies = Vec::new(alloc);
+        let awaited = Awaited::new(alloc, nodes)?;
+        Ok(Box::new(alloc, Nodes { replies, awaited })?)
+    }
+
+    // Forgets all nodes, and takes those of these draws.
+    fn begin(&mut self, alloc: Global, draws: &[Draw]) -> Result<(), AllocError>
+        requires nodes { AreOfDistinctNodes draws.now }
+        requires few { length draws.now < 2 ^ 32 }
+        ensures times { OnOk result (HasTimes (counts_at self.new.awaited.waits.items) draws.now) }
+        ensures drawn { OnOk result (map draw_of self.new.awaited.waits.items ≡ draws.now) }
+        ensures replies { OnOk result (self.new.replies.items ≡ []) }
+        ensures room { OnOk result (length draws.now ≤ vec_capacity self.new.replies) }
+    {
+        self.replies.clear();
+        self.replies.reserve(draws.len())?;
+        if !self.awaited.fits(draws.len()) {
+            self.awaited = Awaited::new(alloc, draws.len())?;
+        }
+        self.awaited.clear();
+        await_all(&mut self.awaited, draws)
+    }
+}
+
+// Awaits the nodes of these draws, each as often as it was drawn, and no other.
+fn await_all(awaited: &mut Awaited, draws: &[Draw]) -> Result<(), AllocError>
+    requires counts { (node : List ℕ) → counts_at awaited.old.waits.items node ≡ None }
+    requires none { awaited.old.waits.items ≡ [] }
+    requires nodes { AreOfDistinctNodes draws.now }
+    requires few { length draws.now < 2 ^ 32 }
+    ensures times { OnOk result (HasTimes (counts_at awaited.new.waits.items) draws.now) }
+    ensures drawn { OnOk result (map draw_of awaited.new.waits.items ≡ draws.now) }
+{
+    for draw in draws {
+        awaited.insert(&draw.node, draw.count)?;
+    }
+    Ok(())
 }

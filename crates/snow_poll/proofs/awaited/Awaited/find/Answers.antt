@@ -19,21 +19,21 @@ returns-then-eq c =
     let node = c.args.node.now in
     walk_ends self.mask self.waits.items node c.loop-number.number c.loop-number.invariant
     (λ d some.
-    let read : c.index.result.now ≡ get_or self.waits.items (c.loop-number.number - 1) d =
-    read_at self.mask self.waits.items node c.loop-number.number c.index.result.now d c.loop-number.invariant some c.index.ensures in
+    let read : c.index-wait.result.now ≡ get_or self.waits.items (c.loop-number.number - 1) d =
+    read_at self.mask self.waits.items node c.loop-number.number c.index-wait.result.now d c.loop-number.invariant some c.index-wait.ensures in
     ap (is_of node) (sym read) ∙ sym c.eq.ensures ∙ c.if-eq.true)
 
 pub loop-number-preserved : goal.loop-number-preserved
 loop-number-preserved c =
     let self = c.args.self.now in
-    (walk_past self.mask self.waits.items self.lasts.items c.args.node.now c.loop-number.number c.index.result.now
-    self.chained c.loop-number.invariant c.loop-number-test.true c.index.ensures (sym c.eq.ensures ∙ c.if-eq.false)).0
+    (walk_past self.mask self.waits.items self.lasts.items c.args.node.now c.loop-number.number c.index-wait.result.now
+    self.chained c.loop-number.invariant c.loop-number-test.true c.index-wait.ensures (sym c.eq.ensures ∙ c.if-eq.false)).0
 
 pub loop-number-smaller : goal.loop-number-smaller
 loop-number-smaller c =
     let self = c.args.self.now in
-    (walk_past self.mask self.waits.items self.lasts.items c.args.node.now c.loop-number.number c.index.result.now
-    self.chained c.loop-number.invariant c.loop-number-test.true c.index.ensures (sym c.eq.ensures ∙ c.if-eq.false)).1
+    (walk_past self.mask self.waits.items self.lasts.items c.args.node.now c.loop-number.number c.index-wait.result.now
+    self.chained c.loop-number.invariant c.loop-number-test.true c.index-wait.ensures (sym c.eq.ensures ∙ c.if-eq.false)).1
 
 pub returns : goal.returns
 returns c =

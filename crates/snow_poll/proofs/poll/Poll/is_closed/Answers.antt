@@ -11,13 +11,13 @@ use Rattle.snow_poll.proofs.poll.Poll.is_closed.Goals as goal
 
 pub overflow_add-reach : goal.overflow_add-reach
 overflow_add-reach c =
-    let q : Poll = record { number = c.self.inside.number; draws = map draw_of c.self.inside.awaited.waits.items; replies = c.self.inside.replies.items } in
+    let q : Poll = record { number = c.self.inside.number; draws = map draw_of c.self.inside.nodes.value.awaited.waits.items; replies = c.self.inside.nodes.value.replies.items } in
     let total = c.total.ensures ∙ ap total_count c.self.invariant.votes ∙ total_received q in
     omega (arith, total, c.self.invariant.left, c.self.invariant.within, c.self.invariant.small)
 
 pub returns-clause-closed : goal.returns-clause-closed
 returns-clause-closed c =
-    let q : Poll = record { number = c.self.inside.number; draws = map draw_of c.self.inside.awaited.waits.items; replies = c.self.inside.replies.items } in
+    let q : Poll = record { number = c.self.inside.number; draws = map draw_of c.self.inside.nodes.value.awaited.waits.items; replies = c.self.inside.nodes.value.replies.items } in
     let total = c.total.ensures ∙ ap total_count c.self.invariant.votes ∙ total_received q in
     c.closes.ensures.closed
     ∙ ap (λ got. closes_by c.args.params.now (got + c.self.inside.outstanding) c.self.inside.outstanding c.self.inside.most) total

@@ -4,7 +4,7 @@ use Rattle.std.proofs.lemmas.List.{length-map, length-take-le}
 use Rattle.snow_sample.specs.declared.draws.Draw.{Draw}
 use Rattle.snow_poll.specs.Awaited.{counts_at, draw_of}
 use Rattle.snow_poll.proofs.Begun.{times_more, drawn_more}
-use Rattle.snow_poll.proofs.poll.awaited_of.Goals as goal
+use Rattle.snow_poll.proofs.room.await_all.Goals as goal
 
 pub loop-draw-preserved : goal.loop-draw-preserved
 loop-draw-preserved c = (
