@@ -48,6 +48,13 @@ impl Awaited {
         nodes <= self.waits.capacity() && nodes.min(MOST_CLASSES) <= self.lasts.len()
     }
 
+    // Makes room for so many nodes. Those that were awaited are let go.
+    #[inline(never)]
+    pub(crate) fn grow(&mut self, alloc: Global, nodes: usize) -> Result<(), AllocError> {
+        *self = Awaited::new(alloc, nodes)?;
+        Ok(())
+    }
+
     // Awaits no node. The room stays.
     pub(crate) fn clear(&mut self)
         ensures counts { (node : List ℕ) → counts_at self.new.waits.items node ≡ None }

@@ -59,7 +59,7 @@ impl Nodes {
         self.replies.clear();
         self.replies.reserve(draws.len())?;
         if !self.awaited.fits(draws.len()) {
-            self.awaited = Awaited::new(alloc, draws.len())?;
+            self.awaited.grow(alloc, draws.len())?;
         }
         self.awaited.clear();
         await_all(&mut self.awaited, draws)
