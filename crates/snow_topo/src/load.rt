@@ -58,7 +58,7 @@ fn catch_up<R: Rule, L: Ledger>(
     if is_behind {
         trie.fail(steps);
     }
-    trie.apply(votes, steps)
+    trie.record(votes, steps)
 }
 
 // The identifier to which decided counters alone lead.

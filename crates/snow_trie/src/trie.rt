@@ -106,9 +106,25 @@ impl<R: Rule> Trie<R> {
 
     /// A poll with these votes, each for an identifier that was given: every counter takes the bit
     /// step with its own votes, all at once, and those behind a decided counter of the other bit go.
-    /// A node that is visited is a step, and so is a poll that visits none. The answer is false only where
-    /// the counters lead where they led. It takes no memory.
-    pub fn apply<L: Ledger>(&mut self, votes: &[Vote], steps: &mut Steps<L>) -> bool
+    /// A node that is visited is a step, and so is a poll that visits none. It takes no memory.
+    pub fn apply<L: Ledger>(&mut self, votes: &[Vote], steps: &mut Steps<L>)
+        requires order { IsInBitOrder votes.now }
+        requires most { total_count votes.now ≤ (self.old).parameters.k }
+        requires given { All (λ v. Contains (self.old).ids v.id) votes.now }
+        ensures counters { (self.new).counters ≡ all_polled (self.old).parameters (votes_on votes.now) (self.old).counters }
+        ensures parameters { (self.new).parameters ≡ (self.old).parameters }
+        ensures ids { (self.new).ids ≡ (self.old).ids }
+        ensures nodes { (self.new).nodes ≤ (self.old).nodes }
+        ensures few { HasFewNodes self.new }
+        ensures least { steps.old < steps.new }
+        ensures most { steps.new ≤ steps.old + (self.old).nodes }
+    {
+        let _moved = self.record(votes, steps);
+    }
+
+    /// The same, and whether it may have moved where the counters lead: the answer is false only where they
+    /// lead where they led.
+    pub fn record<L: Ledger>(&mut self, votes: &[Vote], steps: &mut Steps<L>) -> bool
         requires order { IsInBitOrder votes.now }
         requires most { total_count votes.now ≤ (self.old).parameters.k }
         requires given { All (λ v. Contains (self.old).ids v.id) votes.now }

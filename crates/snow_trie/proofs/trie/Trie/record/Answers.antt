@@ -5,7 +5,7 @@ use Rattle.snow_trie.specs.Tree.{tree_of}
 use Rattle.snow_trie.specs.Whole.{Compressed}
 use Rattle.snow_trie.proofs.Chosen.{still_chosen}
 use Rattle.snow_trie.proofs.Wholes.{all_lead, fewer_votes, polled_counters, whole_polled, fewer_nodes, same_size, few_nodes}
-use Rattle.snow_trie.proofs.trie.Trie.apply.Goals as goal
+use Rattle.snow_trie.proofs.trie.Trie.record.Goals as goal
 
 pub poll-moved-requires-clause-known : goal.poll-moved-requires-clause-known
 poll-moved-requires-clause-known g c =
