@@ -98,6 +98,7 @@ fn begin<E: Driven>(alloc: Global, seed: u64, node: E, log: &Lines) -> Result<Pl
             generator: Generator::new(seed),
             made: Made::new(alloc),
             account,
+            log: Lines::new(alloc),
             alloc,
         }),
         Err(fault) => {

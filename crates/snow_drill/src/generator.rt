@@ -54,7 +54,7 @@ impl Generator {
         ensures values { IfOk result (λ list. list ≡ values n self.old) }
         ensures state { OnOk result (self.new ≡ last_of n self.old) }
     {
-        let mut list = Nums::new(alloc);
+        let mut list = Nums::with_capacity(alloc, n as usize)?;
         for _ in 0..n {
             list.push(self.next())?;
         }

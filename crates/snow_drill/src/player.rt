@@ -4,6 +4,7 @@ use crate::account::Account;
 use crate::driven::Driven;
 use crate::generator::Generator;
 use crate::made::Made;
+use snow_lines::Lines;
 use std::alloc::Global;
 
 /// A drill under way: its node, the number of the last frame, the blocks that it made, and what is
@@ -14,6 +15,8 @@ pub struct Player<E> {
     pub generator: Generator,
     pub made: Made,
     pub account: Account,
+    /// The lines of an event that was made before. Only their room counts.
+    pub log: Lines,
     pub alloc: Global,
 }
 
@@ -28,10 +31,12 @@ impl<E: Driven> Player<E> {
             generator: _,
             made,
             account,
+            log,
             alloc: _,
         } = self;
         node.let_go();
         drop(made);
+        drop(log);
         account
     }
 }

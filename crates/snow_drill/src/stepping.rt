@@ -7,6 +7,7 @@ use crate::player::Player;
 use snow_lines::{Line, Lines};
 use snow_wire::Event;
 use std::alloc::AllocError;
+use std::mem;
 
 impl<E: Driven> Player<E> {
     // The next event. Its lines go to a log that is empty before. A stop, which none comes to, and a
@@ -55,15 +56,25 @@ impl<E: Driven> Player<E> {
         Ok(())
     }
 
+    // An empty log, in the room of the last one.
+    fn take_log(&mut self) -> Lines
+        ensures log { result ≡ [] }
+        ensures same { (d : model.Drill E) → Plays self.old d → Plays self.new d }
+    {
+        let mut log = mem::replace(&mut self.log, Lines::new(self.alloc));
+        log.clear();
+        log
+    }
+
     /// The next event, and a Timeout for each block that it asks for.
     pub fn make(&mut self, event: Event) -> Result<(), AllocError>
         ensures { OnOk result (Follows self.old self.new (λ d. model.with_timeouts E.step d event)) }
     {
-        let mut log = Lines::new(self.alloc);
+        let mut log = self.take_log();
         let came = self.event_on(&event, &mut log);
-        // (by calls, and once: what lets go of an event is many steps)
+        self.log = log;
+        // (by a call: what lets go of an event is many steps)
         drop(event);
-        drop(log);
         came
     }
 }

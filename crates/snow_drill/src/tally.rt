@@ -146,8 +146,9 @@ fn count(number: &mut u64) -> Result<(), AllocError>
 fn nodes_of(alloc: Global, draws: &Draws) -> Result<Items<NodeId>, AllocError>
     ensures { IfOk result (λ nodes. nodes ≡ map (λ d. d.node) draws.now) }
 {
-    let mut nodes = Items::new(alloc);
-    for draw in draws.list() {
+    let draws = draws.list();
+    let mut nodes = Items::with_capacity(alloc, draws.len())?;
+    for draw in draws {
         nodes.push(draw.node)?;
     }
     Ok(nodes)
