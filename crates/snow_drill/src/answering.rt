@@ -16,7 +16,11 @@ impl<E: Driven> Player<E> {
         ensures { OnOk result (Follows self.old self.new (λ d. model.with_words E.step n d)) }
     {
         let words = self.generator.values(self.alloc, n)?;
-        self.make(Event::Words { words })
+        let event = Event::Words { words };
+        let came = self.make(&event);
+        // (by a call: what lets go of an event is many steps)
+        drop(event);
+        came
     }
 
     // A node's vote in the poll of a number.
@@ -25,11 +29,14 @@ impl<E: Driven> Player<E> {
     {
         let picked = self.generator.pick(16);
         let id = voted(self.made.list(), &self.account.tally.tip(), picked);
-        self.make(Event::Chits {
+        let event = Event::Chits {
             node,
             request: number,
             id,
-        })
+        };
+        let came = self.make(&event);
+        drop(event);
+        came
     }
 
     // The votes of all nodes of a query.

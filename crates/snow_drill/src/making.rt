@@ -27,11 +27,14 @@ impl<E: Driven> Player<E> {
             parent,
             height,
         })?;
-        self.make(Event::Block {
+        let event = Event::Block {
             node: NodeId::from_bytes([1; 20]),
             request: 0,
             bytes,
-        })
+        };
+        let came = self.make(&event);
+        drop(event);
+        came
     }
 
     /// A new block of this number: its parent is the tip, or one time in four the tip's parent.

@@ -66,15 +66,14 @@ impl<E: Driven> Player<E> {
         log
     }
 
-    /// The next event, and a Timeout for each block that it asks for.
-    pub fn make(&mut self, event: Event) -> Result<(), AllocError>
-        ensures { OnOk result (Follows self.old self.new (λ d. model.with_timeouts E.step d event)) }
+    /// The next event, and a Timeout for each block that it asks for. The event is only looked at, so that
+    /// it stays where it was made.
+    pub fn make(&mut self, event: &Event) -> Result<(), AllocError>
+        ensures { OnOk result (Follows self.old self.new (λ d. model.with_timeouts E.step d event.now)) }
     {
         let mut log = self.take_log();
-        let came = self.event_on(&event, &mut log);
+        let came = self.event_on(event, &mut log);
         self.log = log;
-        // (by a call: what lets go of an event is many steps)
-        drop(event);
         came
     }
 }

@@ -5,6 +5,6 @@ use Rattle.snow_drill.proofs.player.Player.words.Goals as goal
 
 pub returns : goal.returns
 returns g c =
-    on_ok_weaker c.make.result
-    (follows_words g.E.Driven.step c.args.self.now c.make.new.self c.args.n c.values.new.self c.in_ok-words.words c.in_ok-words.ensures.values c.in_ok-words.ensures.state)
-    c.make.ensures
+    on_ok_weaker c.make-came.result
+    (follows_words g.E.Driven.step c.args.self.now c.make-came.new.self c.args.n c.values.new.self c.in_ok-words.words c.in_ok-words.ensures.values c.in_ok-words.ensures.state)
+    c.make-came.ensures
