@@ -200,7 +200,9 @@ impl<C: Chain, B: Board> Running<C, B> {
     }
 }
 
-/// Takes the first thing that is to do out of a queue, of which this is known.
+/// Takes the first thing that is to do out of a queue, of which this is known. It is put in place, so
+/// that what was taken out isn't copied once more.
+#[inline(always)]
 fn take_next<B: Board>(queue: &mut Queue, board: &B, remembered: &Remembered) -> Option<Work>
     requires { Remembers (B.board board.now) queue.old remembered.now }
     ensures work { result ≡ work_of (lists_of queue.old) (B.board board.now) }
