@@ -1,7 +1,7 @@
-ghost use Rattle.std.specs.Prelude.{◌≡◌, ◌*◌, ◌<◌, ◌≤◌, ◌∷◌, ◌++◌, length, take, drop, slice_index, decimal};
+ghost use Rattle.std.specs.Prelude.{◌≡◌, ◌*◌, ◌<◌, ◌≤◌, ◌∷◌, length, slice_index, decimal};
 ghost use Rattle.hex.specs.Hex.{encode_lower, lower_digits};
 
-use crate::lanes::write_sixteen;
+use crate::lanes::{write_last_four, write_sixteen};
 use snow_base::{Id, NodeId};
 
 /// Writes the lower-case hexadecimal digits of bytes over a slice of just their length.
@@ -42,41 +42,20 @@ pub fn write_id(id: &Id, digits: &mut [u8])
     write_sixteen(back, back_digits);
 }
 
-/// Writes the digits of a node over a slice of just their length: those of its last sixteen bytes,
-/// and then those of its first, which twelve of these are too. So all are looked up in the table.
+/// Writes the digits of a node over a slice of just their length. Those of its last four bytes are
+/// looked up in the table with the twelve before them.
+#[tactic(auto, using(crate::proofs::Encoded::node_parts))]
 #[inline(always)]
 pub fn write_node(node: &NodeId, digits: &mut [u8])
     requires { length digits.old ≡ 40 }
     ensures { digits.new ≡ encode_lower node.now }
 {
-    write_last(node.as_bytes(), digits);
-    write_first(node.as_bytes(), digits);
-}
-
-// Writes the digits of the last sixteen of twenty bytes, at their place.
-#[tactic(auto, using(crate::proofs::Encoded::digits_long))]
-#[inline(always)]
-fn write_last(bytes: &[u8], digits: &mut [u8])
-    requires bytes { length bytes.now ≡ 20 }
-    requires digits { length digits.old ≡ 40 }
-    ensures digits { digits.new ≡ take 8 digits.old ++ encode_lower (drop 4 bytes.now) }
-    ensures length { length digits.new ≡ 40 }
-{
+    let bytes = node.as_bytes();
+    let (front, _) = bytes.split_at(16);
     let (_, last) = bytes.split_at(4);
-    let (_, place) = digits.split_at_mut(8);
-    write_sixteen(last, place);
-}
-
-// Writes the digits of the first sixteen of twenty bytes, at their place.
-#[inline(always)]
-fn write_first(bytes: &[u8], digits: &mut [u8])
-    requires bytes { length bytes.now ≡ 20 }
-    requires digits { length digits.old ≡ 40 }
-    ensures { digits.new ≡ encode_lower (take 16 bytes.now) ++ drop 32 digits.old }
-{
-    let (first, _) = bytes.split_at(16);
-    let (place, _) = digits.split_at_mut(32);
-    write_sixteen(first, place);
+    let (front_digits, last_digits) = digits.split_at_mut(32);
+    write_sixteen(front, front_digits);
+    write_last_four(last, last_digits);
 }
 
 /// The digits of an identifier.

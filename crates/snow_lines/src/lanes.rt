@@ -1,6 +1,6 @@
 //! Hexadecimal digits, those of sixteen bytes at a time.
 
-ghost use Rattle.std.specs.Prelude.{◌≡◌, ◌/◌, ◌%◌, ◌++◌, length, map, slice_index};
+ghost use Rattle.std.specs.Prelude.{◌≡◌, ◌/◌, ◌%◌, ◌++◌, length, drop, map, slice_index};
 ghost use Rattle.hex.specs.Hex.{encode_lower, lower_digits};
 
 use std::simd::prelude::*;
@@ -66,4 +66,24 @@ pub fn write_sixteen(bytes: &[u8], digits: &mut [u8])
     let (front_digits, back_digits) = digits.split_at_mut(16);
     put(front, front_digits);
     put(back, back_digits);
+}
+
+/// Writes the last eight lanes over a slice of just their length.
+#[inline(always)]
+fn put_last(lanes: u8x16, place: &mut [u8])
+    requires { length place.old ≡ 8 }
+    ensures { place.new ≡ drop 8 lanes }
+{
+    place.copy_from_slice(&lanes.to_array()[8..]);
+}
+
+/// Writes the digits of the last four of sixteen bytes over a slice of just their length.
+#[inline(always)]
+pub fn write_last_four(bytes: &[u8], digits: &mut [u8])
+    requires bytes { length bytes.now ≡ 16 }
+    requires digits { length digits.old ≡ 8 }
+    ensures { digits.new ≡ encode_lower (drop 12 bytes.now) }
+{
+    let (_, back) = digits_of(u8x16::from_slice(bytes));
+    put_last(back, digits);
 }
