@@ -1,6 +1,6 @@
 use crate::tools::is;
 use snow_base::NodeId;
-use snow_wire::{Decoder, Event, Skip, Start, TooLong, block_in, decode, encode};
+use snow_wire::{Decoder, Event, Skip, Start, TooLong, block_in, decode, encode, vote_in};
 use std::alloc::{AllocError, Global};
 use std::test::Fail;
 
@@ -315,5 +315,25 @@ fn a_block_is_found_where_it_stands(rt: HostRuntime) {
     assert!(rt; has_block(&BLOCK, &[1, 2, 3]));
     for payload in [&[], &BLOCK[..31], &STORED, &CHITS] {
         assert!(rt; has_none(payload));
+    }
+}
+
+/// Whether a payload has the vote of `CHITS`.
+fn has_vote(payload: &[u8]) -> bool {
+    match vote_in(payload) {
+        Some(vote) => {
+            is(vote.node, &CHITS[1..21]) && vote.request == 2 && is(vote.id, &CHITS[25..])
+        }
+        None => false,
+    }
+}
+
+/// A vote too short, one with a byte behind it, and others of its length.
+#[test]
+fn a_vote_is_found_where_it_stands(rt: HostRuntime) {
+    assert!(rt; has_vote(&CHITS));
+    assert!(rt; vote_in(&[5; 57]).is_some());
+    for payload in [&[], &CHITS[..56], &[5; 58], &FRONTIER, &ASK_BLOCK] {
+        assert!(rt; vote_in(payload).is_none());
     }
 }

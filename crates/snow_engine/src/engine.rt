@@ -2,7 +2,7 @@ ghost use Rattle.std.specs.Prelude.{◌≡◌, true, IfOk};
 ghost use Rattle.snow_flake.specs.Parameters.{AreGood, checked};
 ghost use Rattle.snow_sample.specs.Roster.{first_fault};
 ghost use Rattle.snow_chain.specs.Chain.{begun};
-ghost use Rattle.snow_wire.specs.Sent.{as_event};
+ghost use Rattle.snow_wire.specs.Sent.{as_event, as_vote};
 ghost use Rattle.snow_engine.specs.Node as model;
 ghost use Rattle.snow_node.specs.Stepping.{Starts, Tells, Turns};
 ghost use Rattle.snow_node.specs.Stopping.{Logs, Steps, stops_by};
@@ -19,7 +19,7 @@ use snow_lines::{Line, Lines, SkipKind};
 use snow_node::{EngineStop, Halt, Running, roster_of, write};
 use snow_plain::Board;
 use snow_sample::{Roster, Words};
-use snow_wire::{Event, SentBlock, Start};
+use snow_wire::{Event, SentBlock, SentVote, Start};
 use std::alloc::Global;
 use std::marker::Model;
 use std::mem;
@@ -127,6 +127,31 @@ impl<C: Chain, B: Board> Engine<C, B> {
             ),
             Stage::Running(node) => node.receive(frame, block, log),
             Stage::Ended => Ok(()),
+        }
+    }
+
+    /// The same at a Chits whose bytes stand where they came: a vote, which nobody awaits who bootstraps.
+    #[inline(always)]
+    #[tactic(auto, unfolding(crate::specs::Deciding::decides_on, crate::specs::Catching::boots_on, snow_node::specs::Turning::runs_on), using(crate::proofs::Staged::turned))]
+    pub(crate) fn hear(
+        &mut self,
+        frame: u64,
+        vote: &SentVote,
+        log: &mut Lines,
+    ) -> Result<(), Halt>
+        ensures answer { Turns result self.new (model.step C.rules B.answer self.old frame (as_vote vote.now)).1 }
+        ensures lines { Tells result log.old log.new (model.step C.rules B.answer self.old frame (as_vote vote.now)).0 }
+    {
+        match &mut self.stage {
+            Stage::Deciding(_) => write(
+                Line::Skip {
+                    frame,
+                    kind: SkipKind::Task,
+                },
+                log,
+            ),
+            Stage::Running(node) => node.hear_vote(vote.request, vote.node, vote.id, log),
+            Stage::Booting(_) | Stage::Ended => Ok(()),
         }
     }
 

@@ -13,7 +13,7 @@ use snow_chain::Chain;
 use snow_lines::{Lines, SkipKind};
 use snow_node::{EngineStop, Halt};
 use snow_plain::Board;
-use snow_wire::{Event, Skip, block_in, decode};
+use snow_wire::{Event, Skip, block_in, decode, vote_in};
 use std::alloc::{AllocError, Global};
 
 /// An engine, once a Start came, and the lines of the frame that was worked last.
@@ -156,10 +156,33 @@ fn open_with<C: Chain, B: Board>(
     }
 }
 
-/// A step of the engine; a payload that is no event is passed over. The bytes of a block are looked at
-/// where they stand. A stop that a word doesn't tell is kept aside.
+/// A step of the engine; a payload that is no event is passed over. A vote, the most frequent frame, is
+/// looked at where its bytes stand. A stop that a word doesn't tell is kept aside.
 #[tactic(auto, using(crate::proofs::Staged::stopped, crate::proofs::Staged::told, crate::proofs::Stopped::stands_in, crate::proofs::Stopped::logs_in))]
 fn follow<C: Chain, B: Board>(
+    alloc: Global,
+    engine: &mut Engine<C, B>,
+    frame: u64,
+    payload: &[u8],
+    log: &mut Lines,
+    kept: &mut EngineStop,
+) -> Result<Option<SkipKind>, Halt>
+    requires { log.old ≡ [] }
+    ensures stand { Stands (ends_in frame (stops_by kept.new result)) (Some engine.new) (model.followed C.rules B.answer engine.old frame (model.read payload.now)).1 }
+    ensures lines { LogsFrame (ends_in frame (stops_by kept.new result)) [] (told frame result log.new) (model.followed C.rules B.answer engine.old frame (model.read payload.now)).0 }
+{
+    match vote_in(payload) {
+        Some(vote) => match engine.hear(frame, &vote, log) {
+            Ok(()) => Ok(None),
+            Err(halt) => Err(halt),
+        },
+        None => follow_block(alloc, engine, frame, payload, log, kept),
+    }
+}
+
+/// The same for a payload that is no vote. The bytes of a block are looked at where they stand.
+#[tactic(auto, using(crate::proofs::Staged::stopped, crate::proofs::Staged::told, crate::proofs::Stopped::stands_in, crate::proofs::Stopped::logs_in))]
+fn follow_block<C: Chain, B: Board>(
     alloc: Global,
     engine: &mut Engine<C, B>,
     frame: u64,

@@ -149,7 +149,9 @@ impl<C: Chain, B: Board> Running<C, B> {
                 request,
                 bytes,
             } => self.take_block(frame, node, *request, bytes.list(), log),
-            Event::Chits { node, request, id } => self.take_vote(*request, node, id, log),
+            Event::Chits { node, request, id } => {
+                self.hear_vote(*request, node.as_bytes(), id.as_bytes(), log)
+            }
             Event::Timeout { node, request } => self.lapse(*request, node, log),
             Event::Words { words } => self.take_words(frame, words, log),
             Event::Validators { nodes } => self.take_nodes(frame, nodes, log),
@@ -187,6 +189,24 @@ impl<C: Chain, B: Board> Running<C, B> {
     {
         self.receive_block(frame, peer, number, bytes, log)?;
         self.round(log)
+    }
+
+    /// A vote came, whose bytes may stand where they came. It stands apart, so that it has no room for
+    /// what other events bring.
+    #[inline(never)]
+    pub fn hear_vote(
+        &mut self,
+        number: u32,
+        peer: &[u8; 20],
+        id: &[u8; 32],
+        log: &mut Lines,
+    ) -> Result<(), Halt>
+        ensures answer { Turns result self.new (then_comes (hearing.vote_came C.rules B.answer self.old number peer.now id.now) (model.rounded B.answer)).1 }
+        ensures lines { Tells result log.old log.new (then_comes (hearing.vote_came C.rules B.answer self.old number peer.now id.now) (model.rounded B.answer)).0 }
+    {
+        let peer = NodeId::from_bytes(*peer);
+        let id = Id::from_bytes(*id);
+        self.take_vote(number, &peer, &id, log)
     }
 
     /// A vote came, and the event ends.

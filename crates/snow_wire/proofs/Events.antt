@@ -2,15 +2,16 @@
 use Rattle.std.proofs.Common.{◌≡◌, ◌≢◌, ℕ, zero, suc, ◌+◌, ◌%◌, ◌^◌, ◌<◌, ◌≤◌, cond, ◌==◌, get_or, List, [], ◌∷◌, ◌++◌, length, All, Option, Some, None, Result, Ok, Err, refl, sym, ap, subst, ◌∙◌, append-nil, arith}
 use Rattle.std.specs.Prelude.{IfOk, IfSome, IfNone}
 use Rattle.std.proofs.lemmas.Bool.{eqb-true}
-use Rattle.std.proofs.lemmas.List.{nil_from_length}
+use Rattle.std.proofs.lemmas.List.{length-append, nil_from_length}
 use Rattle.snow_wire.specs.declared.event.Event.{Event}
 use Rattle.snow_wire.specs.declared.event.Event.TheVariants as event
 use Rattle.snow_wire.specs.declared.sent.SentBlock.{SentBlock}
+use Rattle.snow_wire.specs.declared.sent.SentVote.{SentVote}
 use Rattle.snow_wire.specs.declared.skip.Skip.{Skip}
 use Rattle.snow_wire.specs.declared.skip.Skip.TheVariants as skip
 use Rattle.snow_wire.specs.Spelling.{number, sender, spelling, start, sized, counted, weighed, IsId, IsWeighed, IsBlock, IsInRange}
 use Rattle.snow_wire.specs.Reading.{Extra, Fault, Gives, IsBytes, Read, Refuses, TakesNoMemory, ◌>>=◌, number_at, id_at, block_at, sized_at, counted_at, weighed_at, single_at, sender_at, message_at, unknown_at, tags, fields_at, event_of}
-use Rattle.snow_wire.specs.Sent.{as_event}
+use Rattle.snow_wire.specs.Sent.{as_event, as_vote}
 use Rattle.snow_wire.proofs.Numbers.{width1, width8}
 use Rattle.snow_wire.proofs.Fields.{IsField, by_step, again_then, bind_ok, when, bytes_field, number_field, sized_field, counted_field, weighed_field}
 use Rattle.snow_wire.proofs.Tagged.{IsTagged, single_tagged, single_again, sender_tagged, sender_again, message_tagged, message_again}
@@ -227,29 +228,26 @@ event_again (event.AskAncestors node request id) range = tag_again 15 _ (event.A
 event_again (event.AskBlock node request id) range = tag_again 16 _ (event.AskBlock node request id) (omega arith) (message_again id_field event.AskBlock node request id range.0.0 range.0.1)
 event_again (event.Line text) range = tag_again 17 _ (event.Line text) (omega arith) (single_again text_field event.Line text range.1)
 
--- ---- where a Block stands
+-- ---- an event that is read where it stands
 
--- behind the tag of a Block its fields are read, and nothing may be left
-block_read : (bytes rest : List ℕ) → number_at 1 bytes ≡ Ok (2, rest)
-    → event_of bytes ≡ (message_at block_at event.Block rest >>= (λ e. cond (length e.1 == 0) (Ok e.0) (Err Extra)))
-unfolding event_of fields_at
-block_read bytes rest r = rw r refl
+-- behind a tag its fields are read, and nothing may be left
+fields_read : (tag : ℕ) (at : List ℕ → Read Event) (bytes rest : List ℕ) → fields_at tag ≡ at → number_at 1 bytes ≡ Ok (tag, rest)
+    → event_of bytes ≡ (at rest >>= (λ e. cond (length e.1 == 0) (Ok e.0) (Err Extra)))
+unfolding event_of
+fields_read tag at bytes rest is r = rw r (rw is refl)
 
--- the Block whose fields are all that stands behind its tag
-pub block_found : (bytes rest : List ℕ) (found : Option SentBlock) → number_at 1 bytes ≡ Ok (2, rest)
-    → IfSome found (λ block. message_at block_at event.Block rest ≡ Ok (as_event block, []))
-    → IfSome found (λ block. event_of bytes ≡ Ok (as_event block))
-block_found bytes rest None r only = tt
-block_found bytes rest (Some block) r only = block_read bytes rest r ∙ rw only refl
+-- what is found behind a tag, where its fields are all that stands there
+sent_found : {S : Type 0} (view : S → Event) (tag : ℕ) (at : List ℕ → Read Event) (bytes rest : List ℕ) (found : Option S) → fields_at tag ≡ at → number_at 1 bytes ≡ Ok (tag, rest)
+    → IfSome found (λ sent. at rest ≡ Ok (view sent, []))
+    → IfSome found (λ sent. event_of bytes ≡ Ok (view sent))
+sent_found view tag at bytes rest None is r only = tt
+sent_found view tag at bytes rest (Some sent) is r only = fields_read tag at bytes rest is r ∙ rw only refl
 
--- no Block, where more stands there than its fields, or less
-pub block_lost : (bytes rest : List ℕ) (found : Option SentBlock) → number_at 1 bytes ≡ Ok (2, rest)
-    → IfNone found ((e : Event) → message_at block_at event.Block rest ≢ Ok (e, []))
-    → IfNone found ((node : List ℕ) (request : ℕ) (block : List ℕ) → event_of bytes ≢ Ok (event.Block node request block))
-block_lost bytes rest (Some block) r none = tt
-block_lost bytes rest None r none = λ node request block given.
-    let e = event.Block node request block in
-    let b = bind_ok (message_at block_at event.Block rest) (λ x. cond (length x.1 == 0) (Ok x.0) (Err Extra)) e (sym (block_read bytes rest r) ∙ given) in
+-- nothing, where more stands there than its fields, or less
+sent_lost : (tag : ℕ) (at : List ℕ → Read Event) (bytes rest : List ℕ) → fields_at tag ≡ at → number_at 1 bytes ≡ Ok (tag, rest)
+    → ((e : Event) → at rest ≢ Ok (e, [])) → (e : Event) → event_of bytes ≢ Ok e
+sent_lost tag at bytes rest is r none e given =
+    let b = bind_ok (at rest) (λ x. cond (length x.1 == 0) (Ok x.0) (Err Extra)) e (sym (fields_read tag at bytes rest is r) ∙ given) in
     let g = when (length b.0.1 == 0) Extra b.0.0 e b.2 in
     let nothing : b.0.1 ≡ [] = nil_from_length b.0.1 (eqb-true _ _ g.0) in
     none b.0.0 (b.1 ∙ ap (λ (l : List ℕ). Ok (b.0.0, l)) nothing)
@@ -266,14 +264,74 @@ refused_apart skip.Extra read x refuses fine given = cc
 refused_apart skip.Count read x refuses fine given = cc
 refused_apart skip.Memory read x refuses fine given = fine
 
--- no Block, where its tag doesn't stand in front
+-- nothing, where its tag doesn't stand in front
+sent_absent : (tag : ℕ) (behind : List ℕ) (e : Event) → spelling e ≡ tag ∷ behind → tag < 256
+    → (bytes : List ℕ) → IsBytes bytes → ((rest : List ℕ) → number_at 1 bytes ≢ Ok (tag, rest)) → event_of bytes ≢ Ok e
+sent_absent tag behind e spells small bytes fits other given =
+    let spelled : bytes ≡ tag ∷ behind = (event_taken bytes e fits given).1 ∙ spells in
+    other behind (ap (number_at 1) spelled ∙ tag_first tag behind small)
+
+-- ---- a Block
+
+block_fields : fields_at 2 ≡ message_at block_at event.Block
+unfolding fields_at
+block_fields = refl
+
+pub block_found : (bytes rest : List ℕ) (found : Option SentBlock) → number_at 1 bytes ≡ Ok (2, rest)
+    → IfSome found (λ block. message_at block_at event.Block rest ≡ Ok (as_event block, []))
+    → IfSome found (λ block. event_of bytes ≡ Ok (as_event block))
+block_found bytes rest found r only = sent_found as_event 2 (message_at block_at event.Block) bytes rest found block_fields r only
+
+pub block_lost : (bytes rest : List ℕ) (found : Option SentBlock) → number_at 1 bytes ≡ Ok (2, rest)
+    → IfNone found ((e : Event) → message_at block_at event.Block rest ≢ Ok (e, []))
+    → IfNone found ((node : List ℕ) (request : ℕ) (block : List ℕ) → event_of bytes ≢ Ok (event.Block node request block))
+block_lost bytes rest (Some block) r none = tt
+block_lost bytes rest None r none = λ node request block. sent_lost 2 (message_at block_at event.Block) bytes rest block_fields r none (event.Block node request block)
+
 pub block_absent : (bytes : List ℕ) → IsBytes bytes → ((rest : List ℕ) → number_at 1 bytes ≢ Ok (2, rest))
     → (node : List ℕ) (request : ℕ) (block : List ℕ) → event_of bytes ≢ Ok (event.Block node request block)
 unfolding spelling
-block_absent bytes fits other node request block given =
-    let behind = sender node request ++ sized block in
-    let spelled : bytes ≡ 2 ∷ behind = (event_taken bytes (event.Block node request block) fits given).1 in
-    other behind (ap (number_at 1) spelled ∙ tag_first 2 behind (omega arith))
+block_absent bytes fits other node request block = sent_absent 2 (sender node request ++ sized block) (event.Block node request block) refl (omega arith) bytes fits other
+
+-- ---- a vote
+
+vote_fields : fields_at 5 ≡ message_at id_at event.Chits
+unfolding fields_at
+vote_fields = refl
+
+pub vote_found : (bytes rest : List ℕ) (found : Option SentVote) → number_at 1 bytes ≡ Ok (5, rest)
+    → IfSome found (λ vote. message_at id_at event.Chits rest ≡ Ok (as_vote vote, []))
+    → IfSome found (λ vote. event_of bytes ≡ Ok (as_vote vote))
+vote_found bytes rest found r only = sent_found as_vote 5 (message_at id_at event.Chits) bytes rest found vote_fields r only
+
+pub vote_lost : (bytes rest : List ℕ) (found : Option SentVote) → number_at 1 bytes ≡ Ok (5, rest)
+    → IfNone found ((e : Event) → message_at id_at event.Chits rest ≢ Ok (e, []))
+    → IfNone found ((node : List ℕ) (request : ℕ) (id : List ℕ) → event_of bytes ≢ Ok (event.Chits node request id))
+vote_lost bytes rest (Some vote) r none = tt
+vote_lost bytes rest None r none = λ node request id. sent_lost 5 (message_at id_at event.Chits) bytes rest vote_fields r none (event.Chits node request id)
+
+pub vote_absent : (bytes : List ℕ) → IsBytes bytes → ((rest : List ℕ) → number_at 1 bytes ≢ Ok (5, rest))
+    → (node : List ℕ) (request : ℕ) (id : List ℕ) → event_of bytes ≢ Ok (event.Chits node request id)
+unfolding spelling
+vote_absent bytes fits other node request id = sent_absent 5 (sender node request ++ id) (event.Chits node request id) refl (omega arith) bytes fits other
+
+sender_length : (node : List ℕ) (request : ℕ) → length node ≡ 20 → length (sender node request) ≡ 24
+unfolding number
+sender_length node request whole = length-append node (number 4 request) ∙ rw whole refl
+
+vote_length : (node : List ℕ) (request : ℕ) (id : List ℕ) → length node ≡ 20 → length id ≡ 32 → length (5 ∷ sender node request ++ id) ≡ 57
+vote_length node request id whole all =
+    let sent = sender_length node request whole in
+    let both = length-append (sender node request) id in
+    omega (arith, sent, both, all)
+
+-- none, where the length is another
+pub vote_wrong : (bytes : List ℕ) → IsBytes bytes → length bytes ≢ 57
+    → (node : List ℕ) (request : ℕ) (id : List ℕ) → event_of bytes ≢ Ok (event.Chits node request id)
+unfolding spelling
+vote_wrong bytes fits other node request id given =
+    let taken = event_taken bytes (event.Chits node request id) fits given in
+    other (ap length taken.1 ∙ vote_length node request id taken.0.0.0.0 taken.0.0.1)
 
 -- ---- what a function that decodes ensures
 

@@ -6,7 +6,7 @@ ghost use Rattle.snow_wire.specs.declared.event.Event.TheVariants as event;
 use crate::event::Event;
 use crate::field::{read_counted, read_ids};
 use crate::reader::{Reader, id_of};
-use crate::sent::read_block;
+use crate::sent::{read_block, read_vote};
 use crate::skip::Skip;
 use snow_base::{Bytes, NodeId};
 use std::alloc::Global;
@@ -30,20 +30,21 @@ pub(crate) fn block(alloc: Global, behind: &[u8]) -> Result<Event, Skip>
 }
 
 #[inline(never)]
-#[tactic(auto, unfolding(crate::specs::Reading::message_at))]
 pub(crate) fn chits(behind: &[u8]) -> Result<Event, Skip>
     ensures { Gives result (to_end (message_at id_at event.Chits behind.now)) }
 {
     let mut reader = Reader::new(behind);
-    let node = reader.node()?;
-    let request = reader.u32()?;
-    let id = reader.id()?;
-    reader.end()?;
-    Ok(Event::Chits {
-        node: NodeId::from_bytes(*node),
-        request,
-        id: id_of(id),
-    })
+    match read_vote(&mut reader) {
+        Ok(vote) => {
+            reader.end()?;
+            Ok(Event::Chits {
+                node: NodeId::from_bytes(*vote.node),
+                request: vote.request,
+                id: id_of(vote.id),
+            })
+        }
+        Err(skip) => Err(skip),
+    }
 }
 
 #[inline(never)]

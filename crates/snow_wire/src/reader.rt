@@ -145,7 +145,8 @@ impl<'a> Reader<'a> {
     /// The bytes of an identifier, where they stand.
     #[tactic(auto, unfolding(crate::specs::Reading::bytes_at))]
     pub(crate) fn id(&mut self) -> Result<&'a [u8; 32], Skip>
-        ensures { ReadsAs (λ id. id.now) result self.new (bytes_at 32 self.old) }
+        ensures read { ReadsAs (λ id. id.now) result self.new (bytes_at 32 self.old) }
+        ensures memory { TakesNoMemory result }
     {
         match self.rest.split_first_chunk::<32>() {
             Some((id, rest)) => {

@@ -1,6 +1,6 @@
 ghost use Rattle.std.specs.Prelude.{◌≡◌, ◌≢◌, ℕ, List, [], Ok, IfSome, IfNone};
-ghost use Rattle.snow_wire.specs.Reading.{ReadsAs, TakesNoMemory, block_at, event_of, message_at};
-ghost use Rattle.snow_wire.specs.Sent.{as_event};
+ghost use Rattle.snow_wire.specs.Reading.{ReadsAs, TakesNoMemory, block_at, event_of, id_at, message_at};
+ghost use Rattle.snow_wire.specs.Sent.{as_event, as_vote};
 ghost use Rattle.snow_wire.specs.declared.event.Event.{Event};
 ghost use Rattle.snow_wire.specs.declared.event.Event.TheVariants as event;
 
@@ -19,6 +19,20 @@ pub struct SentBlock<'a> {
     /// Its bytes, at most 65,536.
     pub bytes: &'a [u8],
 }
+
+/// A vote that came, its bytes still where they stand in the payload of its frame.
+#[derive(Clone, Copy, Debug, PartialEq, Eq)]
+pub struct SentVote<'a> {
+    /// The peer that sent it.
+    pub node: &'a [u8; 20],
+    /// The number of the request that it belongs to.
+    pub request: u32,
+    /// The block that it is for.
+    pub id: &'a [u8; 32],
+}
+
+/// The length of each payload that spells a vote.
+const VOTE: usize = 57;
 
 /// The block that a payload brings, where it spells a Block: the event that `decode` gives, and no
 /// byte of the block is copied. It takes no memory. None for all other payloads.
@@ -68,4 +82,57 @@ pub(crate) fn read_block<'a>(reader: &mut Reader<'a>) -> Result<SentBlock<'a>, S
         request,
         bytes,
     })
+}
+
+/// The vote that a payload brings, where it spells a Chits: the event that `decode` gives, and no byte
+/// is copied. It takes no memory. None for all other payloads.
+#[inline(always)]
+pub fn vote_in(payload: &[u8]) -> Option<SentVote<'_>>
+    ensures found { IfSome result (λ vote. event_of payload.now ≡ Ok (as_vote vote)) }
+    ensures none { IfNone result ((node : List ℕ) (request : ℕ) (id : List ℕ)
+        → event_of payload.now ≢ Ok (event.Chits node request id)) }
+{
+    // (one test here makes all those of the fields needless)
+    if payload.len() != VOTE {
+        return None;
+    }
+    let mut reader = Reader::new(payload);
+    let Ok(tag) = reader.u8() else {
+        return None;
+    };
+    if tag == 5 {
+        only_vote(&mut reader)
+    } else {
+        None
+    }
+}
+
+/// The fields of a Chits behind its tag, where no bytes are behind them.
+#[inline(always)]
+fn only_vote<'a>(reader: &mut Reader<'a>) -> Option<SentVote<'a>>
+    ensures found { IfSome result (λ vote. message_at id_at event.Chits reader.old ≡ Ok (as_vote vote, [])) }
+    ensures none { IfNone result ((e : Event) → message_at id_at event.Chits reader.old ≢ Ok (e, [])) }
+{
+    match read_vote(reader) {
+        Ok(vote) => {
+            if reader.rest_len() > 0 {
+                return None;
+            }
+            Some(vote)
+        }
+        Err(_) => None,
+    }
+}
+
+/// The fields of a Chits behind its tag.
+#[tactic(auto, unfolding(crate::specs::Reading::message_at))]
+#[inline(always)]
+pub(crate) fn read_vote<'a>(reader: &mut Reader<'a>) -> Result<SentVote<'a>, Skip>
+    ensures read { ReadsAs (λ vote. as_vote vote) result reader.new (message_at id_at event.Chits reader.old) }
+    ensures memory { TakesNoMemory result }
+{
+    let node = reader.node()?;
+    let request = reader.u32()?;
+    let id = reader.id()?;
+    Ok(SentVote { node, request, id })
 }
