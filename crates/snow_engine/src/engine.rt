@@ -133,12 +133,7 @@ impl<C: Chain, B: Board> Engine<C, B> {
     /// The same at a Chits whose bytes stand where they came: a vote, which nobody awaits who bootstraps.
     #[inline(always)]
     #[tactic(auto, unfolding(crate::specs::Deciding::decides_on, crate::specs::Catching::boots_on, snow_node::specs::Turning::runs_on), using(crate::proofs::Staged::turned))]
-    pub(crate) fn hear(
-        &mut self,
-        frame: u64,
-        vote: &SentVote,
-        log: &mut Lines,
-    ) -> Result<(), Halt>
+    pub(crate) fn hear(&mut self, frame: u64, vote: &SentVote, log: &mut Lines) -> Result<(), Halt>
         ensures answer { Turns result self.new (model.step C.rules B.answer self.old frame (as_vote vote.now)).1 }
         ensures lines { Tells result log.old log.new (model.step C.rules B.answer self.old frame (as_vote vote.now)).0 }
     {

@@ -1,29 +1,44 @@
--- Identifiers whose bytes are taken at once are those that are read one at a time.
-use Rattle.std.proofs.Common.{◌≡◌, ℕ, zero, suc, ◌*◌, ◌/◌, ◌<◌, ◌≤◌, Bool, true, false, cond, nat_lt, List, [], ◌∷◌, ◌++◌, length, take, drop, Ok, Err, refl, sym, subst, arith}
+-- Items of one width whose bytes are taken at once are those that are read one at a time.
+use Rattle.std.proofs.Common.{◌≡◌, ℕ, zero, suc, ◌+◌, ◌*◌, ◌/◌, ◌<◌, ◌≤◌, Bool, true, false, cond, nat_lt, List, [], ◌∷◌, ◌++◌, length, take, drop, map, get_or, Ok, Err, refl, sym, subst, ap, ◌∙◌, arith}
 use Rattle.std.specs.Simd.{first_chunks}
 use Rattle.std.specs.Simd.Lanes.{chunk}
 use Rattle.std.proofs.lemmas.Bool.Decides.{nat_tests}
-use Rattle.std.proofs.lemmas.List.{take_all, take-append-le, drop-append-le, take-append-drop, length-append, length-drop}
+use Rattle.std.proofs.lemmas.List.{map-id, map_more, take_all, take-append-le, drop-append-le, take-append-drop, length-append, length-drop}
+use Rattle.byteorder.specs.Endian.{big_number}
+use Rattle.byteorder.specs.Numbers.{big_from-take}
 use Rattle.snow_wire.specs.declared.skip.Skip.{Skip}
 use Rattle.snow_wire.specs.declared.skip.Skip.TheVariants as skip
-use Rattle.snow_wire.specs.Reading.{Fault, Short, Refuses, bytes_at, items_at}
+use Rattle.snow_wire.specs.Reading.{Fault, Short, Read, Refuses, bytes_at, number_at, items_at}
 use Rattle.snow_wire.proofs.Fields.{unless}
 
--- ---- one identifier
+-- an item of so many bytes, which is made of them
+pub record IsWide {A : Type 0} (width : ℕ) (item : List ℕ → Read A) (made : List ℕ → A) : Type 0 where
+  pub whole : (bytes : List ℕ) → nat_lt (length bytes) width ≡ false → item bytes ≡ Ok (made (take width bytes), drop width bytes)
+  pub short : (bytes : List ℕ) → nat_lt (length bytes) width ≡ true → item bytes ≡ Err Short
 
-first_id : (front rest : List ℕ) → 32 ≤ length front → bytes_at 32 (front ++ rest) ≡ Ok (take 32 front, drop 32 front ++ rest)
+id_whole : (bytes : List ℕ) → nat_lt (length bytes) 32 ≡ false → bytes_at 32 bytes ≡ Ok (take 32 bytes, drop 32 bytes)
 unfolding bytes_at
-first_id front rest long =
-    let fine : nat_lt (length (front ++ rest)) 32 ≡ false = grind (arith, nat_tests, length-append front rest) in
-    rw (fine, take-append-le 32 front rest long, drop-append-le 32 front rest long) refl
+id_whole bytes long = rw long refl
 
-no_id : (bytes : List ℕ) → nat_lt (length bytes) 32 ≡ true → bytes_at 32 bytes ≡ Err Short
+id_short : (bytes : List ℕ) → nat_lt (length bytes) 32 ≡ true → bytes_at 32 bytes ≡ Err Short
 unfolding bytes_at
-no_id bytes short = rw short refl
+id_short bytes short = rw short refl
 
-one_id : (bytes : List ℕ) → nat_lt (length bytes) 32 ≡ false → bytes_at 32 bytes ≡ Ok (take 32 bytes, drop 32 bytes)
-unfolding bytes_at
-one_id bytes long = rw long refl
+-- an identifier
+pub id_wide : IsWide 32 (bytes_at 32) (λ (id : List ℕ). id)
+id_wide = record { whole = id_whole; short = id_short }
+
+word_whole : (bytes : List ℕ) → nat_lt (length bytes) 8 ≡ false → number_at 8 bytes ≡ Ok (big_number 8 (take 8 bytes), drop 8 bytes)
+unfolding number_at
+word_whole bytes long = rw (long, big_from-take 0 8 8 bytes (omega arith)) refl
+
+word_short : (bytes : List ℕ) → nat_lt (length bytes) 8 ≡ true → number_at 8 bytes ≡ Err Short
+unfolding number_at
+word_short bytes short = rw short refl
+
+-- a number of eight bytes
+pub word_wide : IsWide 8 (number_at 8) (big_number 8)
+word_wide = record { whole = word_whole; short = word_short }
 
 -- a vector that was taken from the bytes of an identifier
 pub whole_id : (xs : List ℕ) → length xs ≡ 32 → chunk 0 32 xs ≡ xs
@@ -31,14 +46,21 @@ whole_id xs long = take_all 32 xs (omega arith)
 
 -- ---- all of them
 
-all_ids : (count : ℕ) (front rest : List ℕ) → length front ≡ 32 * count → items_at (bytes_at 32) count (front ++ rest) ≡ Ok (first_chunks 32 count front, rest)
+first_item : {A : Type 0} (width : ℕ) (item : List ℕ → Read A) (made : List ℕ → A) → IsWide width item made → (front rest : List ℕ) → width ≤ length front
+    → item (front ++ rest) ≡ Ok (made (take width front), drop width front ++ rest)
+first_item width item made wide front rest long =
+    let fine : nat_lt (length (front ++ rest)) width ≡ false = grind (arith, nat_tests, length-append front rest) in
+    rw (wide.whole (front ++ rest) fine, take-append-le width front rest long, drop-append-le width front rest long) refl
+
+all_items : {A : Type 0} (width : ℕ) (item : List ℕ → Read A) (made : List ℕ → A) → IsWide width item made → (count : ℕ) (front rest : List ℕ) → length front ≡ count * width
+    → items_at item count (front ++ rest) ≡ Ok (map made (first_chunks width count front), rest)
 unfolding items_at
-all_ids zero [] rest len = refl
-all_ids zero (b ∷ front) rest len = absurd (omega arith)
-all_ids (suc count) front rest len =
-    let long : 32 ≤ length front = omega arith in
-    let others : length (drop 32 front) ≡ 32 * count = omega (arith, length-drop 32 front) in
-    rw (first_id front rest long, all_ids count (drop 32 front) rest others) refl
+all_items width item made wide zero [] rest len = refl
+all_items width item made wide zero (b ∷ front) rest len = absurd (omega arith)
+all_items width item made wide (suc count) front rest len =
+    let long : width ≤ length front = omega arith in
+    let others : length (drop width front) ≡ count * width = omega (arith, length-drop width front) in
+    rw (first_item width item made wide front rest long, all_items width item made wide count (drop width front) rest others) refl
 
 parted : (n : ℕ) (bytes front rest : List ℕ) → bytes_at n bytes ≡ Ok (front, rest) → bytes ≡ front ++ rest
 unfolding bytes_at
@@ -46,47 +68,59 @@ parted n bytes front rest e =
     let g = unless (nat_lt (length bytes) n) Short (take n bytes, drop n bytes) (front, rest) e in
     subst (λ (p : List ℕ × List ℕ). bytes ≡ p.0 ++ p.1) g.1 (sym (take-append-drop n bytes))
 
--- the bytes of so many identifiers were taken
-pub taken_together : (n count : ℕ) (bytes front rest : List ℕ) → n ≡ count → bytes_at (32 * n) bytes ≡ Ok (front, rest) → length front ≡ 32 * n
+-- the bytes of so many items were taken
+pub taken_together : {A : Type 0} (width : ℕ) (item : List ℕ → Read A) (made : List ℕ → A) → IsWide width item made → (size count : ℕ) (bytes front rest : List ℕ)
+    → length front ≡ count * width → length front / width ≡ count → bytes_at size bytes ≡ Ok (front, rest)
+    → items_at item count bytes ≡ Ok (map made (first_chunks width (length front / width) front), rest)
+taken_together width item made wide size count bytes front rest len many e =
+    rw (many, parted size bytes front rest e) (all_items width item made wide count front rest len)
+
+-- the same of identifiers
+pub ids_together : (size count : ℕ) (bytes front rest : List ℕ)
+    → length front ≡ count * 32 → length front / 32 ≡ count → bytes_at size bytes ≡ Ok (front, rest)
     → items_at (bytes_at 32) count bytes ≡ Ok (first_chunks 32 (length front / 32) front, rest)
-taken_together n count bytes front rest same e len =
-    let many : length front / 32 ≡ n = omega arith in
-    let all : items_at (bytes_at 32) n bytes ≡ Ok (first_chunks 32 (length front / 32) front, rest) = rw (many, parted (32 * n) bytes front rest e) (all_ids n front rest len) in
-    subst (λ (m : ℕ). items_at (bytes_at 32) m bytes ≡ Ok (first_chunks 32 (length front / 32) front, rest)) same all
+ids_together size count bytes front rest len many e =
+    taken_together 32 (bytes_at 32) (λ (id : List ℕ). id) id_wide size count bytes front rest len many e
+    ∙ ap (λ (ids : List (List ℕ)). Ok (ids, rest)) (map-id (first_chunks 32 (length front / 32) front))
+
+-- one number more
+pub words_more : (chunks : List (List ℕ)) (i : ℕ) (d : List ℕ) → i < length chunks
+    → map (big_number 8) (take (i + 1) chunks) ≡ map (big_number 8) (take i chunks) ++ big_number 8 (get_or chunks i d) ∷ []
+words_more chunks i d lt = map_more (big_number 8) chunks i d lt
 
 -- ---- too few
 
-too_few_behind : (test : Bool) (count : ℕ) (bytes : List ℕ) → nat_lt (length bytes) 32 ≡ test → length bytes < 32 * suc count
-    → (length (drop 32 bytes) < 32 * count → items_at (bytes_at 32) count (drop 32 bytes) ≡ Err Short) → items_at (bytes_at 32) (suc count) bytes ≡ Err Short
+too_few_behind : {A : Type 0} (width : ℕ) (item : List ℕ → Read A) (made : List ℕ → A) → IsWide width item made → (test : Bool) (count : ℕ) (bytes : List ℕ) → nat_lt (length bytes) width ≡ test
+    → length bytes < suc count * width → (length (drop width bytes) < count * width → items_at item count (drop width bytes) ≡ Err Short) → items_at item (suc count) bytes ≡ Err Short
 unfolding items_at
-too_few_behind true count bytes test less behind = rw (no_id bytes test) refl
-too_few_behind false count bytes test less behind =
-    let long : 32 ≤ length bytes = grind (arith, nat_tests) in
-    let others : length (drop 32 bytes) < 32 * count = omega (arith, length-drop 32 bytes) in
-    rw (one_id bytes test, behind others) refl
+too_few_behind width item made wide true count bytes test less behind = rw (wide.short bytes test) refl
+too_few_behind width item made wide false count bytes test less behind =
+    let long : width ≤ length bytes = grind (arith, nat_tests) in
+    let others : length (drop width bytes) < count * width = omega (arith, length-drop width bytes) in
+    rw (wide.whole bytes test, behind others) refl
 
-too_few : (count : ℕ) (bytes : List ℕ) → length bytes < 32 * count → items_at (bytes_at 32) count bytes ≡ Err Short
-too_few zero bytes less = absurd (omega arith)
-too_few (suc count) bytes less = too_few_behind (nat_lt (length bytes) 32) count bytes refl less (too_few count (drop 32 bytes))
+too_few : {A : Type 0} (width : ℕ) (item : List ℕ → Read A) (made : List ℕ → A) → IsWide width item made → (count : ℕ) (bytes : List ℕ) → length bytes < count * width → items_at item count bytes ≡ Err Short
+too_few width item made wide zero bytes less = absurd (omega arith)
+too_few width item made wide (suc count) bytes less =
+    too_few_behind width item made wide (nat_lt (length bytes) width) count bytes refl less (too_few width item made wide count (drop width bytes))
 
 failed : {A : Type 0} (b : Bool) (d f : Fault) (x : A) → cond b (Err d) (Ok x) ≡ Err f → (b ≡ true) × (d ≡ f)
 failed true d f x e = (refl, cc)
 failed false d f x e = absurd cc
 
-too_short : (f : Fault) (count : ℕ) (bytes : List ℕ) → bytes_at (32 * count) bytes ≡ Err f → items_at (bytes_at 32) count bytes ≡ Err f
+too_short : {A : Type 0} (width : ℕ) (item : List ℕ → Read A) (made : List ℕ → A) → IsWide width item made → (f : Fault) (size count : ℕ) (bytes : List ℕ) → size ≡ count * width
+    → bytes_at size bytes ≡ Err f → items_at item count bytes ≡ Err f
 unfolding bytes_at
-too_short f count bytes e =
-    let g = failed (nat_lt (length bytes) (32 * count)) Short f (take (32 * count) bytes, drop (32 * count) bytes) e in
-    let less : length bytes < 32 * count = grind (arith, nat_tests, g.0) in
-    subst (λ (d : Fault). items_at (bytes_at 32) count bytes ≡ Err d) g.1 (too_few count bytes less)
-
-refused_so : (e : Skip) (count : ℕ) (bytes : List ℕ) → Refuses e (bytes_at (32 * count) bytes) → Refuses e (items_at (bytes_at 32) count bytes)
-refused_so skip.Tag count bytes h = too_short _ count bytes h
-refused_so skip.Short count bytes h = too_short _ count bytes h
-refused_so skip.Extra count bytes h = too_short _ count bytes h
-refused_so skip.Count count bytes h = too_short _ count bytes h
-refused_so skip.Memory count bytes h = tt
+too_short {A = A} width item made wide f size count bytes same e =
+    let g = failed (nat_lt (length bytes) size) Short f (take size bytes, drop size bytes) e in
+    let less : length bytes < count * width = grind (arith, nat_tests, g.0) in
+    subst (λ (d : Fault). items_at item count bytes ≡ Err d) g.1 (too_few width item made wide count bytes less)
 
 -- their bytes were refused
-pub refused_together : (e : Skip) (n count : ℕ) (bytes : List ℕ) → n ≡ count → Refuses e (bytes_at (32 * n) bytes) → Refuses e (items_at (bytes_at 32) count bytes)
-refused_together e n count bytes same h = subst (λ (m : ℕ). Refuses e (items_at (bytes_at 32) m bytes)) same (refused_so e n bytes h)
+pub refused_together : {A : Type 0} (width : ℕ) (item : List ℕ → Read A) (made : List ℕ → A) → IsWide width item made → (e : Skip) (size count : ℕ) (bytes : List ℕ) → size ≡ count * width
+    → Refuses e (bytes_at size bytes) → Refuses e (items_at item count bytes)
+refused_together width item made wide skip.Tag size count bytes same h = too_short width item made wide _ size count bytes same h
+refused_together width item made wide skip.Short size count bytes same h = too_short width item made wide _ size count bytes same h
+refused_together width item made wide skip.Extra size count bytes same h = too_short width item made wide _ size count bytes same h
+refused_together width item made wide skip.Count size count bytes same h = too_short width item made wide _ size count bytes same h
+refused_together width item made wide skip.Memory size count bytes same h = tt

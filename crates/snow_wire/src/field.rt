@@ -4,7 +4,7 @@ ghost use Rattle.snow_wire.specs.Reading.{Fault, Reads, bytes_at, number_at, siz
 
 use crate::reader::Reader;
 use crate::skip::Skip;
-use snow_base::{Bytes, Id, Ids, Items, NodeId};
+use snow_base::{Bytes, Id, Ids, Items, NodeId, Nums};
 use std::alloc::{AllocError, Global};
 
 /// The greatest length of a block.
@@ -117,6 +117,15 @@ pub(crate) fn read_ids(alloc: Global, reader: &mut Reader, limit: u16) -> Result
 {
     let count = reader.count(limit)?;
     reader.ids(alloc, count)
+}
+
+/// The same of numbers of eight bytes.
+#[tactic(auto, unfolding(crate::specs::Reading::counted_at))]
+pub(crate) fn read_words(alloc: Global, reader: &mut Reader, limit: u16) -> Result<Nums, Skip>
+    ensures { Reads result reader.new (counted_at (number_at 8) limit reader.old) }
+{
+    let count = reader.count(limit)?;
+    reader.words(alloc, count)
 }
 
 fn read_items<T: Field>(alloc: Global, reader: &mut Reader, count: u16) -> Result<Items<T>, Skip>

@@ -1,10 +1,11 @@
-ghost use Rattle.std.specs.Prelude.{◌≡◌, ◌<◌, ◌/◌, ℕ, List, length, IfOk};
+ghost use Rattle.std.specs.Prelude.{◌≡◌, ◌<◌, ◌/◌, ℕ, List, length, map, IfOk};
 ghost use Rattle.std.specs.Simd.{first_chunks};
+ghost use Rattle.byteorder.specs.Endian.{big_number};
 ghost use Rattle.snow_wire.specs.Reading.{IsEnd, Reads, ReadsAs, TakesNoMemory, bytes_at, number_at, limited_at, flag_at, items_at, sized_at};
 
 use crate::skip::Skip;
 use byteorder::{BigEndian, ByteOrder};
-use snow_base::{Bytes, Id, Ids};
+use snow_base::{Bytes, Id, Ids, Nums};
 use std::alloc::{AllocError, Global};
 use std::marker::Model;
 use std::simd::prelude::*;
@@ -165,6 +166,14 @@ impl<'a> Reader<'a> {
         Ok(ids_in(alloc, bytes)?)
     }
 
+    /// So many numbers of eight bytes, whose bytes are taken at once.
+    pub(crate) fn words(&mut self, alloc: Global, count: u16) -> Result<Nums, Skip>
+        ensures { Reads result self.new (items_at (number_at 8) count self.old) }
+    {
+        let bytes = self.take(8 * usize::from(count))?;
+        Ok(words_in(alloc, bytes)?)
+    }
+
     /// The bytes of a node, where they stand.
     #[tactic(auto, unfolding(crate::specs::Reading::bytes_at))]
     pub(crate) fn node(&mut self) -> Result<&'a [u8; 20], Skip>
@@ -212,6 +221,19 @@ fn ids_in(alloc: Global, bytes: &[u8]) -> Result<Ids, AllocError>
         ids.push(id_of(chunk))?;
     }
     Ok(ids)
+}
+
+/// The numbers whose bytes stand one behind another.
+#[tactic(auto, using(crate::proofs::Together::words_more))]
+fn words_in(alloc: Global, bytes: &[u8]) -> Result<Nums, AllocError>
+    ensures { IfOk result (λ words. words ≡ map (big_number 8) (first_chunks 8 (length bytes.now / 8) bytes.now)) }
+{
+    let (chunks, _) = bytes.as_chunks::<8>();
+    let mut words = Nums::with_capacity(alloc, chunks.len())?;
+    for chunk in chunks {
+        words.push(BigEndian::read_u64(chunk))?;
+    }
+    Ok(words)
 }
 
 /// The identifier of these bytes. They go through registers, as a vector: a plain copy would be put

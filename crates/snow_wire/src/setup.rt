@@ -4,7 +4,7 @@ ghost use Rattle.snow_wire.specs.Reading.{Gives, to_end, counted_at, number_at, 
 ghost use Rattle.snow_wire.specs.declared.event.Event.TheVariants as event;
 
 use crate::event::{Event, Start};
-use crate::field::{MAX_BLOCK, read_counted, read_ids};
+use crate::field::{MAX_BLOCK, read_counted, read_ids, read_words};
 use crate::reader::{Reader, id_of};
 use crate::skip::Skip;
 use std::alloc::Global;
@@ -60,7 +60,7 @@ pub(crate) fn words(alloc: Global, behind: &[u8]) -> Result<Event, Skip>
     ensures { Gives result (to_end (single_at (counted_at (number_at 8) 4096) event.Words behind.now)) }
 {
     let mut reader = Reader::new(behind);
-    let words = read_counted(alloc, &mut reader, 4096)?;
+    let words = read_words(alloc, &mut reader, 4096)?;
     reader.end()?;
     Ok(Event::Words { words })
 }
