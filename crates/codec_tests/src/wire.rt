@@ -322,7 +322,9 @@ fn a_block_is_found_where_it_stands(rt: HostRuntime) {
 fn has_vote(payload: &[u8]) -> bool {
     match vote_in(payload) {
         Some(vote) => {
-            is(vote.node, &CHITS[1..21]) && vote.request == 2 && is(vote.id, &CHITS[25..])
+            let node = vote.node;
+            let id = vote.id;
+            is(node, &CHITS[1..21]) && vote.request == 2 && is(id, &CHITS[25..])
         }
         None => false,
     }
