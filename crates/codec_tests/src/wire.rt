@@ -1,6 +1,6 @@
 use crate::tools::is;
-use snow_base::NodeId;
-use snow_wire::{Decoder, Event, Skip, Start, TooLong, block_in, decode, encode, vote_in};
+use snow_base::{Ids, NodeId};
+use snow_wire::{Decoder, Event, Skip, Start, TooLong, block_in, decode, encode, poll_in, vote_in};
 use std::alloc::{AllocError, Global};
 use std::test::Fail;
 
@@ -338,4 +338,34 @@ fn a_vote_is_found_where_it_stands(rt: HostRuntime) {
     for payload in [&[], &CHITS[..56], &[5; 58], &FRONTIER, &ASK_BLOCK] {
         assert!(rt; vote_in(payload).is_none());
     }
+}
+
+/// How many votes a poll has whose payload is looked at in this room.
+fn votes_in(payload: &[u8], ids: &mut Ids) -> Result<Option<usize>, AllocError> {
+    if poll_in(payload, ids)? {
+        Ok(Some(ids.list().len()))
+    } else {
+        Ok(None)
+    }
+}
+
+/// Whether the second vote is for the identifier with these bytes.
+fn has_second(ids: &Ids, bytes: &[u8]) -> bool {
+    match ids.list().get(1) {
+        Some(id) => is(id.as_bytes(), bytes),
+        None => false,
+    }
+}
+
+/// A poll too short, one with a byte behind it, and one of more votes than there may be.
+#[test]
+fn the_votes_of_a_poll_replace_those_before(rt: HostRuntime) {
+    let mut ids = Ids::new(rt.alloc());
+    assert!(rt; votes_in(&POLL, &mut ids) == Ok(Some(2)));
+    assert!(rt; has_second(&ids, &POLL[35..]));
+    assert!(rt; votes_in(&[3, 0, 0], &mut ids) == Ok(Some(0)));
+    for payload in [&[], &POLL[..66], &[3, 0, 0, 9], &[3, 4, 1], &WORDS] {
+        assert!(rt; votes_in(payload, &mut ids) == Ok(None));
+    }
+    drop(ids);
 }

@@ -149,7 +149,7 @@ impl<C: Chain, B: Board> Deciding<C, B> {
     /// A poll with one vote for each of these identifiers came. It stands apart, so that the step of every
     /// other frame keeps no room for it.
     #[inline(never)]
-    fn record(&mut self, frame: u64, ids: &Ids, log: &mut Lines) -> Result<(), Halt>
+    pub fn record(&mut self, frame: u64, ids: &Ids, log: &mut Lines) -> Result<(), Halt>
         ensures answer { Turns result self.new (model.recorded B.answer self.old frame ids.now).1 }
         ensures lines { Tells result log.old log.new (model.recorded B.answer self.old frame ids.now).0 }
     {

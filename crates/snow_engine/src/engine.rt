@@ -3,6 +3,7 @@ ghost use Rattle.snow_flake.specs.Parameters.{AreGood, checked};
 ghost use Rattle.snow_sample.specs.Roster.{first_fault};
 ghost use Rattle.snow_chain.specs.Chain.{begun};
 ghost use Rattle.snow_wire.specs.Sent.{as_event, as_vote};
+ghost use Rattle.snow_wire.specs.declared.event.Event.TheVariants as event;
 ghost use Rattle.snow_engine.specs.Node as model;
 ghost use Rattle.snow_node.specs.Stepping.{Starts, Tells, Turns};
 ghost use Rattle.snow_node.specs.Stopping.{Logs, Steps, stops_by};
@@ -12,7 +13,7 @@ use crate::booting::Booting;
 use crate::deciding::Deciding;
 use crate::stage::{Node, Stage};
 use crate::task::Task;
-use snow_base::Numbers;
+use snow_base::{Ids, Numbers};
 use snow_chain::Chain;
 use snow_flake::{ParamFault, Params};
 use snow_lines::{Line, Lines, SkipKind};
@@ -147,6 +148,26 @@ impl<C: Chain, B: Board> Engine<C, B> {
             ),
             Stage::Running(node) => node.hear_vote(vote.request, vote.node, vote.id, log),
             Stage::Booting(_) | Stage::Ended => Ok(()),
+        }
+    }
+
+    /// The same at a Poll whose votes stand in a list that is used again.
+    #[inline(always)]
+    #[tactic(auto, unfolding(crate::specs::Deciding::decides_on, crate::specs::Catching::boots_on, snow_node::specs::Turning::runs_on), using(crate::proofs::Staged::turned))]
+    pub(crate) fn record(&mut self, frame: u64, ids: &Ids, log: &mut Lines) -> Result<(), Halt>
+        ensures answer { Turns result self.new (model.step C.rules B.answer self.old frame (event.Poll ids.now)).1 }
+        ensures lines { Tells result log.old log.new (model.step C.rules B.answer self.old frame (event.Poll ids.now)).0 }
+    {
+        match &mut self.stage {
+            Stage::Deciding(node) => node.record(frame, ids, log),
+            Stage::Booting(_) | Stage::Running(_) => write(
+                Line::Skip {
+                    frame,
+                    kind: SkipKind::Task,
+                },
+                log,
+            ),
+            Stage::Ended => Ok(()),
         }
     }
 

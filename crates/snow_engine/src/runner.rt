@@ -9,11 +9,12 @@ ghost use Rattle.snow_node.specs.Stopping.{stop_for, stops_by};
 use crate::end::{BadKind, End, Over};
 use crate::engine::Engine;
 use crate::task::Task;
+use snow_base::Ids;
 use snow_chain::Chain;
 use snow_lines::{Lines, SkipKind};
 use snow_node::{EngineStop, Halt};
 use snow_plain::Board;
-use snow_wire::{Event, Skip, block_in, decode, vote_in};
+use snow_wire::{Event, Skip, block_in, decode, poll_in, vote_in};
 use std::alloc::{AllocError, Global};
 
 /// An engine, once a Start came, and the lines of the frame that was worked last.
@@ -22,6 +23,8 @@ pub struct Runner<C: Chain, B: Board> {
     pub task: Task,
     pub engine: Option<Engine<C, B>>,
     pub log: Lines,
+    /// Room for the votes of a poll.
+    pub ids: Ids,
     /// Why the engine stopped, where a word doesn't tell it.
     pub stop: EngineStop,
     /// How the run ended, once it is over.
@@ -39,6 +42,7 @@ impl<C: Chain, B: Board> Runner<C, B> {
             task,
             engine: None,
             log: Lines::new(alloc),
+            ids: Ids::new(alloc),
             stop: EngineStop::Memory,
             end: End::Done,
             alloc,
@@ -62,6 +66,7 @@ impl<C: Chain, B: Board> Runner<C, B> {
                 engine,
                 frame,
                 payload,
+                &mut self.ids,
                 &mut self.log,
                 &mut self.stop,
             ),
@@ -164,6 +169,7 @@ fn follow<C: Chain, B: Board>(
     engine: &mut Engine<C, B>,
     frame: u64,
     payload: &[u8],
+    ids: &mut Ids,
     log: &mut Lines,
     kept: &mut EngineStop,
 ) -> Result<Option<SkipKind>, Halt>
@@ -176,7 +182,7 @@ fn follow<C: Chain, B: Board>(
             Ok(()) => Ok(None),
             Err(halt) => Err(halt),
         },
-        None => follow_block(alloc, engine, frame, payload, log, kept),
+        None => follow_block(alloc, engine, frame, payload, ids, log, kept),
     }
 }
 
@@ -187,6 +193,7 @@ fn follow_block<C: Chain, B: Board>(
     engine: &mut Engine<C, B>,
     frame: u64,
     payload: &[u8],
+    ids: &mut Ids,
     log: &mut Lines,
     kept: &mut EngineStop,
 ) -> Result<Option<SkipKind>, Halt>
@@ -199,7 +206,32 @@ fn follow_block<C: Chain, B: Board>(
             Ok(()) => Ok(None),
             Err(halt) => Err(halt),
         },
-        None => follow_whole(alloc, engine, frame, payload, log, kept),
+        None => follow_poll(alloc, engine, frame, payload, ids, log, kept),
+    }
+}
+
+/// The same for a payload that is no block either. The votes of a poll are put into room that is kept.
+#[tactic(auto, using(snow_node::proofs::Logs::logs_nothing, crate::proofs::Staged::stopped, crate::proofs::Staged::told, crate::proofs::Stopped::stands_in, crate::proofs::Stopped::logs_in))]
+fn follow_poll<C: Chain, B: Board>(
+    alloc: Global,
+    engine: &mut Engine<C, B>,
+    frame: u64,
+    payload: &[u8],
+    ids: &mut Ids,
+    log: &mut Lines,
+    kept: &mut EngineStop,
+) -> Result<Option<SkipKind>, Halt>
+    requires { log.old ≡ [] }
+    ensures stand { Stands (ends_in frame (stops_by kept.new result)) (Some engine.new) (model.followed C.rules B.answer engine.old frame (model.read payload.now)).1 }
+    ensures lines { LogsFrame (ends_in frame (stops_by kept.new result)) [] (told frame result log.new) (model.followed C.rules B.answer engine.old frame (model.read payload.now)).0 }
+{
+    match poll_in(payload, ids) {
+        Ok(true) => match engine.record(frame, ids, log) {
+            Ok(()) => Ok(None),
+            Err(halt) => Err(halt),
+        },
+        Ok(false) => follow_whole(alloc, engine, frame, payload, log, kept),
+        Err(_) => Err(Halt::Memory),
     }
 }
 

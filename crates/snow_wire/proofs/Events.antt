@@ -1,5 +1,5 @@
 -- Each event in range is read back from its spelling, and what is read is spelled so.
-use Rattle.std.proofs.Common.{◌≡◌, ◌≢◌, ℕ, zero, suc, ◌+◌, ◌%◌, ◌^◌, ◌<◌, ◌≤◌, cond, ◌==◌, get_or, List, [], ◌∷◌, ◌++◌, length, All, Option, Some, None, Result, Ok, Err, refl, sym, ap, subst, ◌∙◌, append-nil, arith}
+use Rattle.std.proofs.Common.{◌≡◌, ◌≢◌, ℕ, zero, suc, ◌+◌, ◌%◌, ◌^◌, ◌<◌, ◌≤◌, cond, ◌==◌, get_or, List, [], ◌∷◌, ◌++◌, length, All, Option, Some, None, Result, Ok, Err, Bor, refl, sym, ap, subst, ◌∙◌, append-nil, arith}
 use Rattle.std.specs.Prelude.{IfOk, IfSome, IfNone}
 use Rattle.std.proofs.lemmas.Bool.{eqb-true}
 use Rattle.std.proofs.lemmas.List.{length-append, nil_from_length}
@@ -11,7 +11,7 @@ use Rattle.snow_wire.specs.declared.skip.Skip.{Skip}
 use Rattle.snow_wire.specs.declared.skip.Skip.TheVariants as skip
 use Rattle.snow_wire.specs.Spelling.{number, sender, spelling, start, sized, counted, weighed, IsId, IsWeighed, IsBlock, IsInRange}
 use Rattle.snow_wire.specs.Reading.{Extra, Fault, Gives, IsBytes, Read, Refuses, TakesNoMemory, ◌>>=◌, number_at, id_at, block_at, sized_at, counted_at, weighed_at, single_at, sender_at, message_at, unknown_at, tags, fields_at, event_of}
-use Rattle.snow_wire.specs.Sent.{as_event, as_vote}
+use Rattle.snow_wire.specs.Sent.{as_event, as_poll, as_vote}
 use Rattle.snow_wire.proofs.Numbers.{width1, width8}
 use Rattle.snow_wire.proofs.Fields.{IsField, by_step, again_then, bind_ok, when, bytes_field, number_field, sized_field, counted_field, weighed_field}
 use Rattle.snow_wire.proofs.Tagged.{IsTagged, single_tagged, single_again, sender_tagged, sender_again, message_tagged, message_again}
@@ -332,6 +332,28 @@ unfolding spelling
 vote_wrong bytes fits other node request id given =
     let taken = event_taken bytes (event.Chits node request id) fits given in
     other (ap length taken.1 ∙ vote_length node request id taken.0.0.0.0 taken.0.0.1)
+
+-- ---- a poll
+
+poll_fields : fields_at 3 ≡ single_at (counted_at id_at 1024) event.Poll
+unfolding fields_at
+poll_fields = refl
+
+pub poll_found : (bytes rest : List ℕ) (found : Option (Bor (List ℕ))) → number_at 1 bytes ≡ Ok (3, rest)
+    → IfSome found (λ votes. single_at (counted_at id_at 1024) event.Poll rest ≡ Ok (as_poll votes, []))
+    → IfSome found (λ votes. event_of bytes ≡ Ok (as_poll votes))
+poll_found bytes rest found r only = sent_found as_poll 3 (single_at (counted_at id_at 1024) event.Poll) bytes rest found poll_fields r only
+
+pub poll_lost : (bytes rest : List ℕ) (found : Option (Bor (List ℕ))) → number_at 1 bytes ≡ Ok (3, rest)
+    → IfNone found ((e : Event) → single_at (counted_at id_at 1024) event.Poll rest ≢ Ok (e, []))
+    → IfNone found ((ids : List (List ℕ)) → event_of bytes ≢ Ok (event.Poll ids))
+poll_lost bytes rest (Some votes) r none = tt
+poll_lost bytes rest None r none = λ ids. sent_lost 3 (single_at (counted_at id_at 1024) event.Poll) bytes rest poll_fields r none (event.Poll ids)
+
+pub poll_absent : (bytes : List ℕ) → IsBytes bytes → ((rest : List ℕ) → number_at 1 bytes ≢ Ok (3, rest))
+    → (ids : List (List ℕ)) → event_of bytes ≢ Ok (event.Poll ids)
+unfolding spelling
+poll_absent bytes fits other ids = sent_absent 3 (counted (λ id. id) ids) (event.Poll ids) refl (omega arith) bytes fits other
 
 -- ---- what a function that decodes ensures
 

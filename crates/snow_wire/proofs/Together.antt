@@ -1,5 +1,6 @@
 -- Items of one width whose bytes are taken at once are those that are read one at a time.
-use Rattle.std.proofs.Common.{◌≡◌, ℕ, zero, suc, ◌+◌, ◌*◌, ◌/◌, ◌<◌, ◌≤◌, Bool, true, false, cond, nat_lt, List, [], ◌∷◌, ◌++◌, length, take, drop, map, get_or, Ok, Err, refl, sym, subst, ap, ◌∙◌, arith}
+use Rattle.std.proofs.Common.{◌≡◌, ℕ, zero, suc, ◌+◌, ◌*◌, ◌/◌, ◌<◌, ◌≤◌, Bool, true, false, cond, nat_lt, List, [], ◌∷◌, ◌++◌, length, take, drop, map, get_or, Result, Ok, Err, Bor, refl, sym, subst, ap, ◌∙◌, arith}
+use Rattle.std.specs.Prelude.{IfOk}
 use Rattle.std.specs.Simd.{first_chunks}
 use Rattle.std.specs.Simd.Lanes.{chunk}
 use Rattle.std.proofs.lemmas.Bool.Decides.{nat_tests}
@@ -8,7 +9,7 @@ use Rattle.byteorder.specs.Endian.{big_number}
 use Rattle.byteorder.specs.Numbers.{big_from-take}
 use Rattle.snow_wire.specs.declared.skip.Skip.{Skip}
 use Rattle.snow_wire.specs.declared.skip.Skip.TheVariants as skip
-use Rattle.snow_wire.specs.Reading.{Fault, Short, Read, Refuses, bytes_at, number_at, items_at}
+use Rattle.snow_wire.specs.Reading.{Fault, Short, Read, ReadsAs, Refuses, bytes_at, number_at, items_at}
 use Rattle.snow_wire.proofs.Fields.{unless}
 
 -- an item of so many bytes, which is made of them
@@ -124,3 +125,10 @@ refused_together width item made wide skip.Short size count bytes same h = too_s
 refused_together width item made wide skip.Extra size count bytes same h = too_short width item made wide _ size count bytes same h
 refused_together width item made wide skip.Count size count bytes same h = too_short width item made wide _ size count bytes same h
 refused_together width item made wide skip.Memory size count bytes same h = tt
+
+-- the bytes of so many identifiers, or why they were refused
+pub ids_read : (r : Result (Bor (List ℕ)) Skip) (left : List ℕ) (size count : ℕ) (bytes : List ℕ) → size ≡ count * 32
+    → ReadsAs (λ front. front.now) r left (bytes_at size bytes) → IfOk r (λ front. length front.now ≡ size)
+    → ReadsAs (λ front. first_chunks 32 (length front.now / 32) front.now) r left (items_at (bytes_at 32) count bytes)
+ids_read (Ok front) left size count bytes same read len = ids_together size count bytes front.now left (omega arith) (omega arith) read
+ids_read (Err e) left size count bytes same read len = refused_together 32 (bytes_at 32) (λ (id : List ℕ). id) id_wide e size count bytes same read

@@ -1,4 +1,4 @@
-ghost use Rattle.std.specs.Prelude.{◌≡◌, ◌<◌, ◌/◌, ℕ, List, length, map, IfOk};
+ghost use Rattle.std.specs.Prelude.{◌≡◌, ◌<◌, ◌/◌, ℕ, List, length, map, IfOk, OnOk};
 ghost use Rattle.std.specs.Simd.{first_chunks};
 ghost use Rattle.byteorder.specs.Endian.{big_number};
 ghost use Rattle.snow_wire.specs.Reading.{IsEnd, Reads, ReadsAs, TakesNoMemory, bytes_at, number_at, limited_at, flag_at, items_at, sized_at};
@@ -84,7 +84,8 @@ impl<'a> Reader<'a> {
 
     #[tactic(auto, unfolding(crate::specs::Reading::number_at))]
     fn u16(&mut self) -> Result<u16, Skip>
-        ensures { Reads result self.new (number_at 2 self.old) }
+        ensures read { Reads result self.new (number_at 2 self.old) }
+        ensures memory { TakesNoMemory result }
     {
         if self.rest.len() < 2 {
             return Err(Skip::Short);
@@ -122,7 +123,8 @@ impl<'a> Reader<'a> {
     /// A count that is at most the limit.
     #[tactic(auto, unfolding(crate::specs::Reading::limited_at))]
     pub(crate) fn count(&mut self, limit: u16) -> Result<u16, Skip>
-        ensures { Reads result self.new (limited_at 2 limit self.old) }
+        ensures read { Reads result self.new (limited_at 2 limit self.old) }
+        ensures memory { TakesNoMemory result }
     {
         let count = self.u16()?;
         if count > limit {
@@ -158,11 +160,20 @@ impl<'a> Reader<'a> {
         }
     }
 
-    /// So many identifiers, whose bytes are taken at once.
+    /// The bytes of so many identifiers, which are taken at once.
+    #[tactic(auto, using(crate::proofs::Together::ids_read))]
+    pub(crate) fn id_bytes(&mut self, count: u16) -> Result<&'a [u8], Skip>
+        ensures read { ReadsAs (λ bytes. first_chunks 32 (length bytes.now / 32) bytes.now) result self.new (items_at (bytes_at 32) count self.old) }
+        ensures memory { TakesNoMemory result }
+    {
+        self.take(32 * usize::from(count))
+    }
+
+    /// The same, as a list of them.
     pub(crate) fn ids(&mut self, alloc: Global, count: u16) -> Result<Ids, Skip>
         ensures { Reads result self.new (items_at (bytes_at 32) count self.old) }
     {
-        let bytes = self.take(32 * usize::from(count))?;
+        let bytes = self.id_bytes(count)?;
         Ok(ids_in(alloc, bytes)?)
     }
 
@@ -215,12 +226,22 @@ impl<'a> Reader<'a> {
 fn ids_in(alloc: Global, bytes: &[u8]) -> Result<Ids, AllocError>
     ensures { IfOk result (λ ids. ids ≡ first_chunks 32 (length bytes.now / 32) bytes.now) }
 {
+    let mut ids = Ids::with_capacity(alloc, bytes.len() / 32)?;
+    put_ids(&mut ids, bytes)?;
+    Ok(ids)
+}
+
+/// The same, in the room of a list, in place of what it held.
+#[inline(always)]
+pub(crate) fn put_ids(ids: &mut Ids, bytes: &[u8]) -> Result<(), AllocError>
+    ensures { OnOk result (ids.new ≡ first_chunks 32 (length bytes.now / 32) bytes.now) }
+{
+    ids.clear();
     let (chunks, _) = bytes.as_chunks::<32>();
-    let mut ids = Ids::with_capacity(alloc, chunks.len())?;
     for chunk in chunks {
         ids.push(id_of(chunk))?;
     }
-    Ok(ids)
+    Ok(())
 }
 
 /// The numbers whose bytes stand one behind another.

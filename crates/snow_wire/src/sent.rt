@@ -1,13 +1,14 @@
-ghost use Rattle.std.specs.Prelude.{◌≡◌, ◌≢◌, ℕ, List, [], Ok, IfSome, IfNone};
-ghost use Rattle.snow_wire.specs.Reading.{ReadsAs, TakesNoMemory, block_at, event_of, id_at, message_at};
-ghost use Rattle.snow_wire.specs.Sent.{as_event, as_vote};
+ghost use Rattle.std.specs.Prelude.{◌≡◌, ◌≢◌, ℕ, List, [], true, false, Ok, IfSome, IfNone};
+ghost use Rattle.snow_wire.specs.Reading.{ReadsAs, TakesNoMemory, block_at, counted_at, event_of, id_at, message_at, single_at};
+ghost use Rattle.snow_wire.specs.Sent.{as_event, as_poll, as_vote};
 ghost use Rattle.snow_wire.specs.declared.event.Event.{Event};
 ghost use Rattle.snow_wire.specs.declared.event.Event.TheVariants as event;
 
 use crate::field::MAX_BLOCK;
-use crate::reader::Reader;
+use crate::reader::{Reader, put_ids};
 use crate::skip::Skip;
-use snow_base::NodeId;
+use snow_base::{Ids, NodeId};
+use std::alloc::AllocError;
 
 /// A block that came, its bytes still where they stand in the payload of its frame.
 #[derive(Clone, Copy, Debug, PartialEq, Eq)]
@@ -135,4 +136,66 @@ pub(crate) fn read_vote<'a>(reader: &mut Reader<'a>) -> Result<SentVote<'a>, Ski
     let request = reader.u32()?;
     let id = reader.id()?;
     Ok(SentVote { node, request, id })
+}
+
+/// Puts the votes of a Poll into a list, in place of what it held, where a payload spells one: then it is
+/// the event that `decode` gives. False for all other payloads.
+#[inline(always)]
+pub fn poll_in(payload: &[u8], ids: &mut Ids) -> Result<bool, AllocError>
+    ensures found { result ≡ Ok true → event_of payload.now ≡ Ok (event.Poll ids.new) }
+    ensures none { result ≡ Ok false → (ids : List (List ℕ)) → event_of payload.now ≢ Ok (event.Poll ids) }
+{
+    match votes_in(payload) {
+        Some(bytes) => {
+            put_ids(ids, bytes)?;
+            Ok(true)
+        }
+        None => Ok(false),
+    }
+}
+
+/// The bytes of the votes of a Poll that a payload spells.
+#[inline(always)]
+fn votes_in(payload: &[u8]) -> Option<&[u8]>
+    ensures found { IfSome result (λ bytes. event_of payload.now ≡ Ok (as_poll bytes)) }
+    ensures none { IfNone result ((ids : List (List ℕ)) → event_of payload.now ≢ Ok (event.Poll ids)) }
+{
+    let mut reader = Reader::new(payload);
+    let Ok(tag) = reader.u8() else {
+        return None;
+    };
+    if tag == 3 {
+        only_votes(&mut reader)
+    } else {
+        None
+    }
+}
+
+/// The fields of a Poll behind its tag, where no bytes are behind them.
+#[inline(always)]
+fn only_votes<'a>(reader: &mut Reader<'a>) -> Option<&'a [u8]>
+    ensures found { IfSome result (λ bytes. single_at (counted_at id_at 1024) event.Poll reader.old ≡ Ok (as_poll bytes, [])) }
+    ensures none { IfNone result ((e : Event) → single_at (counted_at id_at 1024) event.Poll reader.old ≢ Ok (e, [])) }
+{
+    match read_votes(reader) {
+        Ok(bytes) => {
+            if reader.rest_len() > 0 {
+                return None;
+            }
+            Some(bytes)
+        }
+        Err(_) => None,
+    }
+}
+
+/// The fields of a Poll behind its tag.
+#[tactic(auto, unfolding(crate::specs::Reading::single_at, crate::specs::Reading::counted_at))]
+#[inline(always)]
+fn read_votes<'a>(reader: &mut Reader<'a>) -> Result<&'a [u8], Skip>
+    ensures read { ReadsAs (λ bytes. as_poll bytes) result reader.new (single_at (counted_at id_at 1024) event.Poll reader.old) }
+    ensures memory { TakesNoMemory result }
+{
+    let count = reader.count(1024)?;
+    let bytes = reader.id_bytes(count)?;
+    Ok(bytes)
 }
