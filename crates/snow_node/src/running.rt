@@ -33,7 +33,7 @@ use snow_issue::Queue;
 use snow_lines::{Line, Lines, SkipKind};
 use snow_plain::Board;
 use snow_poll::Polls;
-use snow_sample::{Node, Roster, RosterFault, Words};
+use snow_sample::{Draws, Node, Roster, RosterFault, Words};
 use snow_wire::{Event, SentBlock};
 use std::alloc::{AllocError, Global};
 use std::marker::Model;
@@ -54,6 +54,8 @@ pub struct Running<C: Chain, B: Board> {
     polls: Polls,
     queue: Queue,
     words: Words,
+    /// Draws that came back. Only their room counts.
+    spare: Draws,
     numbers: Numbers,
     /// Whether a poll was recorded since the event began.
     recorded: bool,
@@ -121,6 +123,7 @@ impl<C: Chain, B: Board> Running<C, B> {
                 polls: Polls::new(alloc, params),
                 queue,
                 words,
+                spare: Draws::new(alloc),
                 numbers,
                 recorded: false,
                 remembered: Remembered::Nothing,

@@ -10,11 +10,19 @@ use snow_chain::Chain;
 use snow_lines::{Line, Lines, QueryWhy};
 use snow_plain::Board;
 use snow_sample::{Draws, SampleFault};
+use std::mem;
 
 /// The most polls that run at a time.
 const MOST_POLLS: usize = 1024;
 
 impl<C: Chain, B: Board> Running<C, B> {
+    /// Takes back the draws of a query that was written, so that the next one has their room.
+    pub fn take_back(&mut self, draws: Draws)
+        ensures { self.new ≡ self.old }
+    {
+        self.spare = draws;
+    }
+
     /// A query for the preference; whether it was sent.
     pub(super) fn query(&mut self, log: &mut Lines) -> Result<bool, Halt>
         ensures answer { Answers result self.new (model.queried B.answer self.old).1 }
@@ -23,7 +31,7 @@ impl<C: Chain, B: Board> Running<C, B> {
         if self.polls.len() >= MOST_POLLS {
             return self.drop_query(QueryWhy::Full, log);
         }
-        let mut draws = Draws::new(self.alloc);
+        let mut draws = mem::replace(&mut self.spare, Draws::new(self.alloc));
         match self
             .roster
             .sample(self.params.k(), &mut self.words, &mut draws)
