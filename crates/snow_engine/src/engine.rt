@@ -19,7 +19,7 @@ use snow_flake::{ParamFault, Params};
 use snow_lines::{Line, Lines, SkipKind};
 use snow_node::{EngineStop, Halt, Running, roster_of, write};
 use snow_plain::Board;
-use snow_sample::{Roster, Words};
+use snow_sample::{Draws, Roster, Words};
 use snow_wire::{Event, SentBlock, SentVote, Start};
 use std::alloc::Global;
 use std::marker::Model;
@@ -168,6 +168,16 @@ impl<C: Chain, B: Board> Engine<C, B> {
                 log,
             ),
             Stage::Ended => Ok(()),
+        }
+    }
+
+    /// Takes back the draws of a query that was written, for the next one of a node that runs.
+    pub(crate) fn take_back(&mut self, draws: Draws)
+        ensures { self.new ≡ self.old }
+    {
+        match &mut self.stage {
+            Stage::Running(node) => node.take_back(draws),
+            _ => drop(draws),
         }
     }
 

@@ -11,9 +11,10 @@ use crate::engine::Engine;
 use crate::task::Task;
 use snow_base::Ids;
 use snow_chain::Chain;
-use snow_lines::{Lines, SkipKind};
+use snow_lines::{Line, Lines, SkipKind};
 use snow_node::{EngineStop, Halt};
 use snow_plain::Board;
+use snow_sample::Draws;
 use snow_wire::{Event, Skip, block_in, decode, poll_in, vote_in};
 use std::alloc::{AllocError, Global};
 
@@ -58,7 +59,7 @@ impl<C: Chain, B: Board> Runner<C, B> {
         ensures lines { LogsFrame (ends_by self.new.end result) [] (told frame result self.new.log) (after_frame C.rules B.answer self.old.task (stand_of self.old.engine) frame payload.now).0 }
         ensures task { self.new.task ≡ self.old.task }
     {
-        self.log.clear();
+        self.clear_log();
         let followed = match &mut self.engine {
             None => return self.begin(frame, payload),
             Some(engine) => follow(
@@ -74,6 +75,43 @@ impl<C: Chain, B: Board> Runner<C, B> {
         match followed {
             Ok(skipped) => Ok(skipped),
             Err(halt) => Err(self.stops(frame, halt)),
+        }
+    }
+
+    /// Lets the lines of the frame before go, which were written. The draws of a query that stands last
+    /// come back to the engine.
+    fn clear_log(&mut self)
+        ensures log { self.new.log ≡ [] }
+        ensures engine { self.new.engine ≡ self.old.engine }
+        ensures task { self.new.task ≡ self.old.task }
+    {
+        if let Some(Line::Query { .. }) = self.log.list().last() {
+            self.take_out();
+        }
+        self.log.clear();
+    }
+
+    /// Takes the last line out, and gives its draws back. It stands apart, so that a frame behind one
+    /// without a query doesn't pay for the room of a line.
+    #[inline(never)]
+    fn take_out(&mut self)
+        ensures engine { self.new.engine ≡ self.old.engine }
+        ensures task { self.new.task ≡ self.old.task }
+    {
+        match self.log.pop() {
+            Some(Line::Query { draws, .. }) => self.give_back(draws),
+            other => drop(other),
+        }
+    }
+
+    /// Gives draws back to the engine.
+    fn give_back(&mut self, draws: Draws)
+        ensures engine { self.new.engine ≡ self.old.engine }
+        ensures task { self.new.task ≡ self.old.task }
+    {
+        match &mut self.engine {
+            Some(engine) => engine.take_back(draws),
+            None => drop(draws),
         }
     }
 
