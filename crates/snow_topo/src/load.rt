@@ -38,7 +38,7 @@ impl<R: Rule> Model for Load<R> {
 }
 
 // A tree takes a poll with these votes, after it has failed where it didn't record the last poll. The
-// answer is false only where it leads where it led.
+// answer is false only where it leads where it led, as a tree of one child does whatever comes.
 fn catch_up<R: Rule, L: Ledger>(
     trie: &mut Trie<R>,
     is_behind: bool,
@@ -55,10 +55,13 @@ fn catch_up<R: Rule, L: Ledger>(
     ensures steps { steps.new ≤ steps.old + 1 + (trie.old).nodes }
     ensures steady { result ≡ false → chosen R.answer (trie.new).counters ≡ chosen R.answer (trie.old).counters }
 {
+    let choices = trie.choices();
     if is_behind {
         trie.fail(steps);
     }
-    trie.record(votes, steps)
+    let moved = trie.record(votes, steps);
+    let _choices = trie.choices();
+    if choices == 1 { false } else { moved }
 }
 
 // The identifier to which decided counters alone lead.

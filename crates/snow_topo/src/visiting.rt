@@ -20,8 +20,8 @@ use snow_tree::Tree;
 use std::sync::ledger::Ledger;
 
 // What is kept at a place takes the next poll with these votes. The answer is whether it leads elsewhere
-// then. Few visits come to it.
-#[inline(never)]
+// then.
+#[inline(always)]
 fn record_at<R: Rule, L: Ledger>(
     tree: &mut Tree<Load<R>>,
     at: usize,
