@@ -34,9 +34,7 @@ impl<E: Driven> Player<E> {
             request: number,
             id,
         };
-        let came = self.make(&event);
-        drop(event);
-        came
+        self.make(&event)
     }
 
     // The votes of all nodes of a query.

@@ -12,6 +12,7 @@ use std::mem;
 impl<E: Driven> Player<E> {
     // The next event. Its lines go to a log that is empty before. A stop, which none comes to, and a
     // count past 64 bits are told as want of memory.
+    #[inline(always)]
     fn event(&mut self, event: &Event, log: &mut Lines) -> Result<(), AllocError>
         requires { log.old ≡ [] }
         ensures follows { OnOk result (Follows self.old self.new (λ d. model.with_event E.step d event.now)) }

@@ -9,6 +9,6 @@ use Rattle.snow_drill.proofs.player.Player.vote.Goals as goal
 pub returns : goal.returns
 returns g c =
     let voted : c.voted-id.result ≡ voted_by c.args.self.now.made c.args.self.now.account.tally.tip (following c.args.self.now.generator) = search rules in
-    on_ok_weaker c.make-came.result
-    (follows_vote g.E.Driven.step c.args.self.now c.make-came.new.self c.args.number c.args.node c.pick-picked.new.self c.voted-id.result c.pick-picked.ensures.state voted)
-    c.make-came.ensures
+    on_ok_weaker c.make.result
+    (follows_vote g.E.Driven.step c.args.self.now c.make.new.self c.args.number c.args.node c.pick-picked.new.self c.voted-id.result c.pick-picked.ensures.state voted)
+    c.make.ensures
