@@ -73,9 +73,8 @@ pub(crate) fn climb<R: Rule, L: Ledger>(
     let mut top = lower(ladder.top(), tree.len());
     while top > 0 {
         let at = top - 1;
-        let one = visit(params, tree, at, polls, ladder, children, steps);
-        moved = either(one, moved);
-        top = lower(ladder.top(), at);
+        moved = visit(params, tree, at, polls, ladder, children, steps, moved);
+        top = lower(ladder.top_left(), at);
     }
     moved
 }

@@ -32,7 +32,7 @@ pub(crate) struct Ladder {
     words: Vec<u64>,
     // Nobody stands on this rung or a higher one.
     low: usize,
-    // Nobody was put on a higher rung.
+    // Nobody was put on a higher rung; the last number where this isn't kept.
     high: usize,
     // Who was put last on the rung that was taken off last, as `next` of a link tells it.
     taken: usize,
@@ -80,6 +80,7 @@ fn unmark(words: &mut [u64], rung: usize)
 }
 
 // The highest rung whose bit is set in the first so many words; 0 where none is.
+#[inline(never)]
 fn highest(words: &[u64], count: usize) -> usize
     requires within { count ≤ length words.now }
     requires small { 64 * count < 2 ^ 64 }
@@ -94,6 +95,21 @@ fn highest(words: &[u64], count: usize) -> usize
         at -= 1;
     }
     0
+}
+
+// The highest rung whose bit is set in a word or in one before it; 0 where none is. Most stand in the word
+// itself.
+#[inline(always)]
+fn highest_from(words: &[u64], at: usize) -> usize
+    requires within { at < length words.now }
+    requires small { 64 * at + 64 < 2 ^ 64 }
+    ensures { (rung : ℕ) → rung < 64 * (at + 1) → mark_at words.now rung ≡ 1 → rung ≤ result }
+{
+    let word = words[at];
+    if word > 0 {
+        return 64 * at + word.ilog2() as usize;
+    }
+    highest(words, at)
 }
 
 // Lists those that were put on one rung up to one of them, the latest first.
@@ -201,6 +217,7 @@ impl Ladder {
         requires room { (self.old).put < (self.old).most }
         ensures { self.new ≡ record (self.old) { climbers = (self.old).climbers ++ climber ∷ []; put = (self.old).put + 1 } }
     {
+        self.high = self.high.max(climber.place);
         let head = self.heads[climber.place];
         self.links.push_reserved(Link {
             climber,
@@ -211,7 +228,6 @@ impl Ladder {
             count: head.count.wrapping_add(climber.count),
         };
         mark(&mut self.words, climber.place);
-        self.high = self.high.max(climber.place);
     }
 
     /// Nobody stands on this rung or a higher one.
@@ -221,13 +237,30 @@ impl Ladder {
         self.low
     }
 
-    /// No rung is higher on which somebody stands.
+    /// No rung is higher on which somebody stands. It is asked before any is taken off.
     #[inline]
     pub(crate) fn top(&self) -> usize
         ensures { All (λ c. c.place ≤ result) (self.now).climbers }
     {
         let bound = self.high.min(self.low);
-        highest(&self.words, bound / 64 + 1)
+        highest_from(&self.words, bound / 64)
+    }
+
+    /// The same, and it is as quick where the highest rung was just taken off.
+    #[inline(always)]
+    pub(crate) fn top_left(&self) -> usize
+        ensures { All (λ c. c.place ≤ result) (self.now).climbers }
+    {
+        highest_from(&self.words, self.low / 64)
+    }
+
+    /// All that are put on from here on stand below a rung that was taken off. How high they stand need
+    /// not be kept then.
+    #[inline(always)]
+    pub(crate) fn put_below(&mut self)
+        ensures { self.new ≡ self.old }
+    {
+        self.high = self.high.max(usize::MAX);
     }
 
     /// Takes all off the highest rung on which somebody stands, or one above it. The answer is how many

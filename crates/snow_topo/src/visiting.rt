@@ -1,4 +1,4 @@
-ghost use Rattle.std.specs.Prelude.{◌≡◌, ◌+◌, ◌*◌, ◌^◌, ◌<◌, ◌≤◌, nat_le, nat_lt, [], ◌∷◌, List, All, Contains, IfSome, IsPermutation, length, slice_get, if◌then◌else◌};
+ghost use Rattle.std.specs.Prelude.{◌≡◌, ◌+◌, ◌*◌, ◌^◌, ◌<◌, ◌≤◌, nat_le, nat_lt, [], ◌∷◌, List, All, Contains, IfSome, IsPermutation, length, slice_get, false, if◌then◌else◌};
 ghost use Rattle.snow_base.specs.Votes.{IsInBitOrder, total_count};
 ghost use Rattle.snow_base.specs.declared.vote.Vote.{Vote};
 ghost use Rattle.snow_flake.specs.Parameters.{AreGood};
@@ -11,6 +11,7 @@ ghost use Rattle.snow_topo.specs.Ladder.{KeepsRoom};
 ghost use Rattle.snow_topo.specs.Leading.{IsSteady};
 
 use crate::climber::go_on;
+use crate::climbing::either;
 use crate::gathering::gather;
 use crate::ladder::Ladder;
 use crate::load::Load;
@@ -52,7 +53,7 @@ pub(crate) fn has_quorum(params: &Params, count: u32) -> bool
 
 // What is kept at a place takes the next poll with the votes that were taken off the ladder last, so many in
 // all, where they are AlphaPreference; else it is left alone, and has failed by its number. The answer is
-// whether it leads elsewhere then.
+// whether it leads elsewhere then, or another did before.
 #[inline(always)]
 fn record_quorum<R: Rule, L: Ledger>(
     params: &Params,
@@ -63,6 +64,7 @@ fn record_quorum<R: Rule, L: Ledger>(
     count: u32,
     children: &mut Bag,
     steps: &mut Steps<L>,
+    moved: bool,
 ) -> bool
     requires room { polls + 1 < 2 ^ 64 }
     requires count { count ≡ climber_total (ladder.old).came }
@@ -77,13 +79,15 @@ fn record_quorum<R: Rule, L: Ledger>(
     ensures steps { IfSome (slice_get (tree.old).pending at) (λ e. steps.new ≤ steps.old + 5 * (if nat_le params.now.alpha_preference (climber_total (ladder.old).came) then length (ids_in e.load.contest) else 0)) }
     ensures places { children.old.room + length children.old.list ≤ children.new.room + length children.new.list }
     ensures ladder { ladder.new ≡ record (ladder.old) { listed = (ladder.new).listed } }
+    ensures moved { result ≡ false → moved ≡ false }
 {
     let _k = params.k();
     if has_quorum(params, count) {
         gather(tree, ladder, children);
-        record_at(tree, at, polls, children.entries(), steps)
+        let one = record_at(tree, at, polls, children.entries(), steps);
+        either(one, moved)
     } else {
-        false
+        moved
     }
 }
 
@@ -99,13 +103,14 @@ fn pass<R: Rule>(tree: &Tree<Load<R>>, at: usize, count: u32, ladder: &mut Ladde
     ensures room { KeepsRoom ladder.old ladder.new }
 {
     if count > 0 {
+        ladder.put_below();
         go_on(tree, ladder, at, count);
     }
 }
 
 /// The latest block for which votes look is visited: what is kept of its children takes the next poll
 /// with the votes that came to it, and these go on to its parent. The answer is whether it leads
-/// elsewhere then. It takes no memory where the bag has places.
+/// elsewhere then, or another did before. It takes no memory where the bag has places.
 #[inline(always)]
 pub(crate) fn visit<R: Rule, L: Ledger>(
     params: &Params,
@@ -115,11 +120,13 @@ pub(crate) fn visit<R: Rule, L: Ledger>(
     ladder: &mut Ladder,
     children: &mut Bag,
     steps: &mut Steps<L>,
+    moved: bool,
 ) -> bool
     requires room { polls + 1 < 2 ^ 64 }
     requires places { length (ladder.old).climbers ≤ children.old.room + length children.old.list }
     requires put { (ladder.old).put < (ladder.old).most }
     requires wide { length (ladder.old).climbers ≤ (ladder.old).wide }
+    requires within { at < length (tree.old).pending }
     requires below { at + 1 < (ladder.old).low }
     requires climbing { (votes : List Vote) × AreClimbing params.now votes (blocks_in (tree.old).pending) (at + 1) (cursors_of (blocks_in (tree.old).pending) (ladder.old).climbers) }
     requires placed { ArePlaced (blocks_in (tree.old).pending) (ladder.old).climbers }
@@ -132,15 +139,15 @@ pub(crate) fn visit<R: Rule, L: Ledger>(
     ensures put { (ladder.new).put ≤ (ladder.old).put + 1 }
     ensures low { at < (ladder.new).low }
     ensures room { KeepsRoom ladder.old ladder.new }
+    ensures moved { result ≡ false → moved ≡ false }
 {
     let _k = params.k();
     let _last = tree.last();
     let _low = ladder.low();
-    if at >= tree.len() {
-        return false;
-    }
     let count = ladder.take(at + 1);
-    let moved = record_quorum(params, tree, at, polls, ladder, count, children, steps);
+    let any = record_quorum(
+        params, tree, at, polls, ladder, count, children, steps, moved,
+    );
     pass(tree, at, count, ladder);
-    moved
+    any
 }

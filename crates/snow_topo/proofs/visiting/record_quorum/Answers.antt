@@ -1,4 +1,5 @@
 use Rattle.std.proofs.Common.{ℕ, Bool, List, ◌∙◌, All, Contains, IfSome, slice_get, refl, sym, ap, subst, arith}
+use Rattle.std.proofs.lemmas.Bool.{or_parts}
 use Rattle.snow_plain.specs.Conflict.{votes_on}
 use Rattle.snow_plain.specs.Cursors.{votes_at}
 use Rattle.snow_tree.specs.Held.{blocks_in, children_of}
@@ -12,8 +13,8 @@ use Rattle.snow_topo.proofs.Merged.{few_came}
 use Rattle.snow_topo.proofs.Taken.{same_load, left_alone, if_some}
 use Rattle.snow_topo.proofs.visiting.record_quorum.Goals as goal
 
-pub record_at-requires-clause-given : goal.record_at-requires-clause-given
-record_at-requires-clause-given g c =
+pub record_at-one-requires-clause-given : goal.record_at-one-requires-clause-given
+record_at-one-requires-clause-given g c =
     let blocks = blocks_in c.args.tree.now.pending in
     rw c.entries.ensures.list
     (if_some (slice_get c.args.tree.now.pending c.args.at) _ _
@@ -32,9 +33,9 @@ returns-then-has_quorum-clause-taken g c =
       took.1.1,
       subst (λ (f : List Bool → ℕ). HasTaken c.args.params.now c.args.polls f e.load took.1.0) (ap votes_on c.entries.ensures.list ∙ c.gather.ensures.votes e.block.id come)
           (λ children fit. took.1.2 c.args.params.now children fit),
-      took.1.3,
+      λ s. took.1.3 (or_parts c.record_at-one.result c.args.moved (sym c.either.ensures ∙ s)).0,
     ))
-    c.record_at.ensures.taken
+    c.record_at-one.ensures.taken
 
 pub returns-else-has_quorum-clause-taken : goal.returns-else-has_quorum-clause-taken
 returns-else-has_quorum-clause-taken g c =
@@ -59,3 +60,6 @@ pub returns-then-has_quorum-clause-ladder : goal.returns-then-has_quorum-clause-
 returns-then-has_quorum-clause-ladder g c =
     let listed = c.gather.ensures.ladder in
     listed ∙ ap (λ l. record c.args.ladder.now { listed = l }) (sym (ap (λ (s : Rungs). s.listed) listed))
+
+pub returns-then-has_quorum-clause-moved : goal.returns-then-has_quorum-clause-moved
+returns-then-has_quorum-clause-moved g c = λ s. (or_parts c.record_at-one.result c.args.moved (sym c.either.ensures ∙ s)).1

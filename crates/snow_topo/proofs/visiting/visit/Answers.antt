@@ -26,19 +26,19 @@ pub take-count-requires-clause-highest : goal.take-count-requires-clause-highest
 take-count-requires-clause-highest g c =
     highest_place (blocks_in c.args.tree.now.pending) (c.args.at + 1) c.args.ladder.now.climbers c.requires.placed c.requires.climbing.1.below
 
-pub record_quorum-moved-requires-clause-places : goal.record_quorum-moved-requires-clause-places
-record_quorum-moved-requires-clause-places g c =
+pub record_quorum-any-requires-clause-places : goal.record_quorum-any-requires-clause-places
+record_quorum-any-requires-clause-places g c =
     omega (arith, c.requires.places, group_few (c.args.at + 1) c.args.ladder.now.climbers c.take-count.new.self.came c.take-count.ensures.came)
 
-pub record_quorum-moved-requires-clause-placed : goal.record_quorum-moved-requires-clause-placed
-record_quorum-moved-requires-clause-placed g c =
+pub record_quorum-any-requires-clause-placed : goal.record_quorum-any-requires-clause-placed
+record_quorum-any-requires-clause-placed g c =
     let first = c.args.tree.now.pending in
     let bs = blocks_in first in
     let all = of_group (λ x. (x.passed < length bs) × (x.place ≡ reach bs (parent_in (slice_get bs x.passed)))) (c.args.at + 1) c.args.ladder.now.climbers c.take-count.new.self.came c.take-count.ensures.came c.requires.placed in
     λ k d h. omega (arith, (all k d h).0, length-map first (λ e. e.block))
 
-pub record_quorum-moved-requires-clause-count : goal.record_quorum-moved-requires-clause-count
-record_quorum-moved-requires-clause-count g c =
+pub record_quorum-any-requires-clause-count : goal.record_quorum-any-requires-clause-count
+record_quorum-any-requires-clause-count g c =
     let bs = blocks_in c.args.tree.now.pending in
     let cs = c.args.ladder.now.climbers in
     omega (
@@ -50,28 +50,28 @@ record_quorum-moved-requires-clause-count g c =
       c.k-k.ensures.value,
     )
 
-pub record_quorum-moved-requires-clause-counts : goal.record_quorum-moved-requires-clause-counts
-record_quorum-moved-requires-clause-counts g c =
+pub record_quorum-any-requires-clause-counts : goal.record_quorum-any-requires-clause-counts
+record_quorum-any-requires-clause-counts g c =
     let bs = blocks_in c.args.tree.now.pending in
     let cs = c.args.ladder.now.climbers in
     of_group (λ x. 0 < x.count) (c.args.at + 1) cs c.take-count.new.self.came c.take-count.ensures.came (all_back (λ x. 0 < x.count) (cursor_of bs) cs c.requires.climbing.1.counts)
 
-pub record_quorum-moved-requires-clause-total : goal.record_quorum-moved-requires-clause-total
-record_quorum-moved-requires-clause-total g c =
+pub record_quorum-any-requires-clause-total : goal.record_quorum-any-requires-clause-total
+record_quorum-any-requires-clause-total g c =
     let bs = blocks_in c.args.tree.now.pending in
     let cs = c.args.ladder.now.climbers in
     omega (arith, group_total (c.args.at + 1) cs c.take-count.new.self.came c.take-count.ensures.came, same_total bs cs, c.requires.climbing.1.total)
 
-pub record_quorum-moved-requires-clause-came : goal.record_quorum-moved-requires-clause-came
-record_quorum-moved-requires-clause-came g c =
+pub record_quorum-any-requires-clause-came : goal.record_quorum-any-requires-clause-came
+record_quorum-any-requires-clause-came g c =
     let first = c.args.tree.now.pending in
     let cs = c.args.ladder.now.climbers in
     if_some (slice_get first c.args.at) _ _
     (λ e fit. group_come c.args.params.now c.requires.climbing.0 c.args.tree.now.last first c.args.at e cs c.take-count.new.self.came c.last-last.ensures.grown fit.0 c.requires.climbing.1 c.requires.placed c.take-count.ensures.came)
     c.requires.fit
 
-pub record_quorum-moved-requires-clause-wide : goal.record_quorum-moved-requires-clause-wide
-record_quorum-moved-requires-clause-wide g c =
+pub record_quorum-any-requires-clause-wide : goal.record_quorum-any-requires-clause-wide
+record_quorum-any-requires-clause-wide g c =
     omega (arith, c.requires.wide, group_few (c.args.at + 1) c.args.ladder.now.climbers c.take-count.new.self.came c.take-count.ensures.came, ap (λ (s : Rungs). s.wide) c.take-count.ensures.rest)
 
 pub pass-requires-clause-room : goal.pass-requires-clause-room
@@ -81,31 +81,30 @@ pass-requires-clause-room g c =
       c.requires.put,
       ap (λ (s : Rungs). s.put) c.take-count.ensures.rest,
       ap (λ (s : Rungs). s.most) c.take-count.ensures.rest,
-      ap (λ (s : Rungs). s.put) c.record_quorum-moved.ensures.ladder,
-      ap (λ (s : Rungs). s.most) c.record_quorum-moved.ensures.ladder,
+      ap (λ (s : Rungs). s.put) c.record_quorum-any.ensures.ladder,
+      ap (λ (s : Rungs). s.most) c.record_quorum-any.ensures.ladder,
     )
 
 pub pass-requires-clause-within : goal.pass-requires-clause-within
 pass-requires-clause-within g c =
     let held = c.args.tree.now in
-    let found = entry_at held.pending c.args.at (omega (arith, c.if-at-len.false, c.len.ensures)) in
-    let took = some_of (slice_get held.pending c.args.at) _ found.0 found.1 c.record_quorum-moved.ensures.taken in
-    let blocks = blocks_after c.record_quorum-moved.new.tree held c.args.at took.0 took.1 in
+    let found = entry_at held.pending c.args.at c.requires.within in
+    let took = some_of (slice_get held.pending c.args.at) _ found.0 found.1 c.record_quorum-any.ensures.taken in
+    let blocks = blocks_after c.record_quorum-any.new.tree held c.args.at took.0 took.1 in
     omega (
       arith,
-      c.if-at-len.false,
-      c.len.ensures,
+      c.requires.within,
       ap length blocks,
       length-map held.pending (λ e. e.block),
-      length-map c.record_quorum-moved.new.tree.pending (λ e. e.block),
+      length-map c.record_quorum-any.new.tree.pending (λ e. e.block),
     )
 
 pub pass-requires-clause-below : goal.pass-requires-clause-below
 pass-requires-clause-below g c =
     let held = c.args.tree.now in
-    let found = entry_at held.pending c.args.at (omega (arith, c.if-at-len.false, c.len.ensures)) in
-    let took = some_of (slice_get held.pending c.args.at) _ found.0 found.1 c.record_quorum-moved.ensures.taken in
-    let blocks = blocks_after c.record_quorum-moved.new.tree held c.args.at took.0 took.1 in
+    let found = entry_at held.pending c.args.at c.requires.within in
+    let took = some_of (slice_get held.pending c.args.at) _ found.0 found.1 c.record_quorum-any.ensures.taken in
+    let blocks = blocks_after c.record_quorum-any.new.tree held c.args.at took.0 took.1 in
     let low = parent_reach held.last held.pending c.args.at found.0 c.last-last.ensures.grown found.1 in
     let here = block_at held.pending c.args.at found.0 found.1 in
     omega (
@@ -114,7 +113,7 @@ pass-requires-clause-below g c =
       ap (λ o. reach (blocks_in held.pending) (parent_in o)) here,
       ap (λ bs. reach bs (parent_in (slice_get bs c.args.at))) blocks,
       ap (λ (s : Rungs). s.low) c.take-count.ensures.rest,
-      ap (λ (s : Rungs). s.low) c.record_quorum-moved.ensures.ladder,
+      ap (λ (s : Rungs). s.low) c.record_quorum-any.ensures.ladder,
     )
 
 pub returns-clause-taken : goal.returns-clause-taken
@@ -132,7 +131,7 @@ returns-clause-taken g c =
           (sym (votes_of_group bs e.block (c.args.at + 1) cs c.take-count.new.self.came c.take-count.ensures.came others)) took.1.2,
       took.1.3,
     ))
-    c.record_quorum-moved.ensures.taken
+    c.record_quorum-any.ensures.taken
 
 pub returns-clause-steps : goal.returns-clause-steps
 returns-clause-steps g c =
@@ -149,8 +148,8 @@ returns-clause-steps g c =
     sym (same_total bs came) ∙ sym (all_came bs e.block.id (cursors_of bs came) come)
     ∙ sym (ap (λ f. f []) (votes_of_group bs e.block (c.args.at + 1) cs came c.take-count.ensures.came others))
     in
-    subst (λ n. c.record_quorum-moved.new.steps ≤ c.args.steps.now + 5 * (if nat_le c.args.params.now.alpha_preference n then length (ids_in e.load.contest) else 0)) total given.1)
-    c.record_quorum-moved.ensures.steps
+    subst (λ n. c.record_quorum-any.new.steps ≤ c.args.steps.now + 5 * (if nat_le c.args.params.now.alpha_preference n then length (ids_in e.load.contest) else 0)) total given.1)
+    c.record_quorum-any.ensures.steps
 
 pub returns-clause-merged : goal.returns-clause-merged
 returns-clause-merged g c =
@@ -162,17 +161,17 @@ returns-clause-merged g c =
     let count : c.take-count.result ≡ climber_total came =
     omega (arith, c.take-count.ensures.total, group_total (c.args.at + 1) cs came c.take-count.ensures.came, same_total bs cs, c.requires.climbing.1.total, c.k-k.ensures.value)
     in
-    let stays = ap (λ (s : Rungs). s.climbers) c.record_quorum-moved.ensures.ladder ∙ c.take-count.ensures.climbers in
+    let stays = ap (λ (s : Rungs). s.climbers) c.record_quorum-any.ensures.ladder ∙ c.take-count.ensures.climbers in
     if_some (slice_get first c.args.at) _ _
     (λ e took.
     let come = group_come c.args.params.now c.requires.climbing.0 held.last first c.args.at e cs came c.last-last.ensures.grown took.0 c.requires.climbing.1 c.requires.placed c.take-count.ensures.came in
     let others = group_others held.last first c.args.at e cs c.last-last.ensures.grown took.0 c.requires.placed in
-    let blocks = blocks_after c.record_quorum-moved.new.tree held c.args.at took.1.0 took.1.1 in
+    let blocks = blocks_after c.record_quorum-any.new.tree held c.args.at took.1.0 took.1.1 in
     merged_on bs e.block c.args.at cs came c.pass.new.ladder.climbers (block_at first c.args.at e took.0) others come c.take-count.ensures.came
     (subst (λ l. IsPermutation (passed_on bs c.args.at l came) c.pass.new.ladder.climbers) stays
-    (subst (λ l. IsPermutation (passed_on l c.args.at c.record_quorum-moved.new.ladder.climbers came) c.pass.new.ladder.climbers) blocks
-    (passed_of c.record_quorum-moved.new.tree c.args.at _ c.record_quorum-moved.new.ladder.climbers came c.pass.new.ladder.climbers count c.pass.ensures.same))))
-    c.record_quorum-moved.ensures.taken
+    (subst (λ l. IsPermutation (passed_on l c.args.at c.record_quorum-any.new.ladder.climbers came) c.pass.new.ladder.climbers) blocks
+    (passed_of c.record_quorum-any.new.tree c.args.at _ c.record_quorum-any.new.ladder.climbers came c.pass.new.ladder.climbers count c.pass.ensures.same))))
+    c.record_quorum-any.ensures.taken
 
 pub returns-clause-placed : goal.returns-clause-placed
 returns-clause-placed g c =
@@ -183,25 +182,25 @@ returns-clause-placed g c =
     let count : c.take-count.result ≡ climber_total came =
     omega (arith, c.take-count.ensures.total, group_total (c.args.at + 1) cs came c.take-count.ensures.came, same_total bs cs, c.requires.climbing.1.total, c.k-k.ensures.value)
     in
-    let stays = ap (λ (s : Rungs). s.climbers) c.record_quorum-moved.ensures.ladder ∙ c.take-count.ensures.climbers in
-    let found = entry_at held.pending c.args.at (omega (arith, c.if-at-len.false, c.len.ensures)) in
-    let took = some_of (slice_get held.pending c.args.at) _ found.0 found.1 c.record_quorum-moved.ensures.taken in
-    let blocks = blocks_after c.record_quorum-moved.new.tree held c.args.at took.0 took.1 in
+    let stays = ap (λ (s : Rungs). s.climbers) c.record_quorum-any.ensures.ladder ∙ c.take-count.ensures.climbers in
+    let found = entry_at held.pending c.args.at c.requires.within in
+    let took = some_of (slice_get held.pending c.args.at) _ found.0 found.1 c.record_quorum-any.ensures.taken in
+    let blocks = blocks_after c.record_quorum-any.new.tree held c.args.at took.0 took.1 in
     placed_on bs c.args.at cs came c.pass.new.ladder.climbers (slice_get_within bs c.args.at found.0.block (block_at held.pending c.args.at found.0 found.1)) c.requires.placed
     (subst (λ l. IsPermutation (passed_on bs c.args.at l came) c.pass.new.ladder.climbers) stays
-    (subst (λ l. IsPermutation (passed_on l c.args.at c.record_quorum-moved.new.ladder.climbers came) c.pass.new.ladder.climbers) blocks
-    (passed_of c.record_quorum-moved.new.tree c.args.at _ c.record_quorum-moved.new.ladder.climbers came c.pass.new.ladder.climbers count c.pass.ensures.same)))
+    (subst (λ l. IsPermutation (passed_on l c.args.at c.record_quorum-any.new.ladder.climbers came) c.pass.new.ladder.climbers) blocks
+    (passed_of c.record_quorum-any.new.tree c.args.at _ c.record_quorum-any.new.ladder.climbers came c.pass.new.ladder.climbers count c.pass.ensures.same)))
 
 pub returns-clause-put : goal.returns-clause-put
-returns-clause-put g c = omega (arith, c.pass.ensures.put, ap (λ (s : Rungs). s.put) c.record_quorum-moved.ensures.ladder, ap (λ (s : Rungs). s.put) c.take-count.ensures.rest)
+returns-clause-put g c = omega (arith, c.pass.ensures.put, ap (λ (s : Rungs). s.put) c.record_quorum-any.ensures.ladder, ap (λ (s : Rungs). s.put) c.take-count.ensures.rest)
 
 pub returns-clause-low : goal.returns-clause-low
-returns-clause-low g c = omega (arith, c.pass.ensures.low, ap (λ (s : Rungs). s.low) c.record_quorum-moved.ensures.ladder, ap (λ (s : Rungs). s.low) c.take-count.ensures.rest)
+returns-clause-low g c = omega (arith, c.pass.ensures.low, ap (λ (s : Rungs). s.low) c.record_quorum-any.ensures.ladder, ap (λ (s : Rungs). s.low) c.take-count.ensures.rest)
 
 pub returns-clause-room : goal.returns-clause-room
 returns-clause-room g c =
     let took = c.take-count.ensures.rest in
-    let recorded = c.record_quorum-moved.ensures.ladder in
+    let recorded = c.record_quorum-any.ensures.ladder in
     record {
       most = c.pass.ensures.room.most ∙ ap (λ (s : Rungs). s.most) recorded ∙ ap (λ (s : Rungs). s.most) took;
       wide = c.pass.ensures.room.wide ∙ ap (λ (s : Rungs). s.wide) recorded ∙ ap (λ (s : Rungs). s.wide) took;
