@@ -15,9 +15,8 @@ use snow_base::{Id, Vote};
 use snow_flake::Rule;
 use snow_tree::Tree;
 
-// A vote begins past its own block; one for a block that isn't pending counts nowhere. It is put in place,
-// where the seats' loop keeps its registers anyway.
-#[inline(always)]
+// A vote begins past its own block; one for a block that isn't pending counts nowhere.
+#[inline(never)]
 fn start<R: Rule>(tree: &Tree<Load<R>>, ladder: &mut Ladder, vote: &Vote)
     requires room { (ladder.old).put < (ladder.old).most }
     requires low { length (tree.now).pending < (ladder.old).low }
