@@ -1,7 +1,7 @@
 -- Lemmas on what is seen of the nodes.
 use Rattle.std.proofs.Common.{◌≡◌, ℕ, zero, suc, ◌+◌, ◌-◌, Bool, true, false, not, cond, nat_lt, nat_eq, ◌||◌, List, [], ◌∷◌, ◌++◌, length, get_or, reverse, map, find, bytes_eq, All, Option, Some, None, IfSome, is_some, slice_get, Result, Ok, Err, is_err, OnOk, refl, sym, ap, subst, ◌∙◌, arith, length-append}
 use Rattle.std.specs.List.{list_any, position, prefix_len}
-use Rattle.std.specs.Map.{lookup}
+use Rattle.std.specs.Map.{keys_of, lookup}
 use Rattle.std.specs.Option.{option_map}
 use Rattle.std.proofs.lemmas.Bool.{or_parts, or_left, or_right}
 use Rattle.std.proofs.lemmas.List.{length-map}
@@ -18,7 +18,7 @@ use Rattle.snow_plain.proofs.Grown.{grown_parent, grown_rest, no_line, has_block
 use Rattle.snow_tree.specs.declared.node.Node.{Node}
 use Rattle.snow_tree.specs.Held.{children_of, set_load}
 use Rattle.snow_tree.specs.Nodes.{block_of, blocks_of, ArePlaced, edge_of, entry_of, with_children, IsKept}
-use Rattle.snow_tree.proofs.Placed.{off_place}
+use Rattle.snow_tree.proofs.Placed.{off_place, place_same}
 use Rattle.snow_tree.proofs.Listed.{no_children}
 use Rattle.snow_tree.proofs.Linked.{no_block}
 use Rattle.snow_tree.proofs.Numbered.{length-set_value_at}
@@ -71,6 +71,12 @@ module _ {T : Type 0} where
           split_on (bytes_eq x.0 id)
           (λ t. rw t refl)
           (λ t. rw t (ap (λ n. 1 + n) (lens xs)))
+
+  -- so is one that was guessed
+  pub guess_seen : (nodes : List (List ℕ × Node T)) (id : List ℕ) (o : Option ℕ) → IfSome o (λ place. position (bytes_eq id) (keys_of nodes) ≡ Some place)
+      → IfSome o (λ place. position (λ e. bytes_eq e.block.id id) (map entry_of nodes) ≡ Some place)
+  guess_seen nodes id None h = tt
+  guess_seen nodes id (Some place) h = sym (place_seen nodes id) ∙ sym (place_same nodes id) ∙ h
 
   -- what is seen doesn't show who is whose child
   pub seen_changed : (change : List ℕ → List (List ℕ) → List (List ℕ)) (nodes : List (List ℕ × Node T)) → map entry_of (map (with_children change) nodes) ≡ map entry_of nodes

@@ -31,14 +31,12 @@ pub(crate) fn back_to<T>(nodes: &Nodes<T>, last: &Id, place: usize, parent: &Id)
     }
 }
 
-/// The place so far before another; none at no distance, nor beyond the first.
+/// The place so far before another; none at no distance, nor beyond the first. At no distance the
+/// distance wraps, and so leads beyond the first as well: nothing is compared.
 pub(crate) fn place_before(place: usize, back: usize) -> Option<usize>
     ensures { result ≡ place_before place back }
 {
-    if back == 0 || place < back {
-        return None;
-    }
-    Some(place - back)
+    place.saturating_sub(back.wrapping_sub(1)).checked_sub(1)
 }
 
 /// Where the parent of the block at a place stands.

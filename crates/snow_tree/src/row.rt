@@ -1,4 +1,4 @@
-ghost use Rattle.std.specs.Prelude.{◌≡◌, ◌^◌, ◌<◌, ◌↔◌, IsSome, ◌∷◌, ◌++◌, [], None, Some, true, length, drop, take, slice_get, bytes_eq, option_to_list, OnOk};
+ghost use Rattle.std.specs.Prelude.{◌≡◌, ◌^◌, ◌<◌, ◌↔◌, IsSome, ◌∷◌, ◌++◌, [], None, Some, IfSome, true, length, drop, take, slice_get, bytes_eq, option_to_list, OnOk};
 ghost use Rattle.std.specs.List.{IsDistinct, position};
 ghost use Rattle.std.specs.Map.{keys_of, values_of, lookup};
 ghost use Rattle.std.specs.Option.{option_map, option_copied, option_copied_mut};
@@ -85,28 +85,32 @@ impl<V> Row<V> {
         }
     }
 
-    // The place of an identifier. The map isn't asked where the guess is right.
-    fn find(&self, guess: usize, id: &Id) -> Option<usize>
-        ensures index { result ≡ position (bytes_eq id.now) (keys_of self.now.entries) }
-        ensures unique { IsDistinct bytes_eq (keys_of self.now.entries) }
+    /// The place of an identifier, where the map needn't be asked for it.
+    #[inline(always)]
+    pub(crate) fn guess(&self, id: &Id) -> Option<usize>
+        ensures { IfSome result (λ place. position (bytes_eq id.now) (keys_of self.now.entries) ≡ Some place) }
     {
-        let _len = self.len();
+        let guess = self.hints.place_of(id, self.first);
         if self.is_at(guess, id) {
             return Some(guess);
         }
-        self.look_up(id)
+        None
     }
 
-    /// The place of an identifier.
+    /// The place of an identifier. The map isn't asked where the guess is right.
     pub(crate) fn get_index_of(&self, id: &Id) -> Option<usize>
         ensures index { result ≡ position (bytes_eq id.now) (keys_of self.now.entries) }
         ensures unique { IsDistinct bytes_eq (keys_of self.now.entries) }
     {
         // Often nothing stands in the row.
+        let _len = self.len();
         if self.entries.is_empty() {
             return None;
         }
-        self.find(self.hints.place_of(id, self.first), id)
+        match self.guess(id) {
+            Some(place) => Some(place),
+            None => self.look_up(id),
+        }
     }
 
     /// The identifier and the value at a place.

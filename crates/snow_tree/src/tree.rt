@@ -183,6 +183,14 @@ impl<T: Drop> Tree<T> {
         place_of(&self.nodes, id)
     }
 
+    /// Where a block stands in order of issue, where that is known at once. Nothing is said of any other.
+    #[inline(always)]
+    pub fn guess(&self, id: &Id) -> Option<usize>
+        ensures { IfSome result (λ place. place_in (self.now).pending id.now ≡ Some place) }
+    {
+        self.nodes.guess(id)
+    }
+
     /// Where the parent of the block at a place stands, and nothing where that isn't pending. It compares
     /// no identifiers: each block notes how far before it its parent stands.
     pub fn parent_place(&self, place: usize) -> Option<usize>
