@@ -14,7 +14,7 @@ ghost use Rattle.snow_topo.specs.Leading.{IsSteady};
 ghost use Rattle.snow_topo.specs.Recording.{recording};
 
 use crate::climbing::{climb, either};
-use crate::gathering::gather;
+use crate::gathering::{gather, votes_in};
 use crate::ladder::Ladder;
 use crate::load::Load;
 use crate::visiting::has_quorum;
@@ -53,8 +53,8 @@ fn record_root<R: Rule, L: Ledger>(
 {
     let _k = params.k();
     if has_quorum(params, count) {
-        gather(tree, ladder, children);
-        root.record(polls, children.entries(), steps)
+        let one = gather(tree, ladder, children);
+        root.record(polls, votes_in(&one, children), steps)
     } else {
         false
     }

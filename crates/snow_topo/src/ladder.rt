@@ -157,7 +157,7 @@ fn add_rung(heads: &mut Vec<Head>, words: &mut Vec<u64>) -> Result<(), AllocErro
 }
 
 impl Ladder {
-    ghost use Rattle.std.specs.Prelude.{[], ◌∷◌, ◌++◌, IfOk, IsPermutation};
+    ghost use Rattle.std.specs.Prelude.{[], ◌∷◌, ◌++◌, IfOk, IfSome, IsPermutation};
     ghost use Rattle.snow_topo.specs.Ladder.{under, up_from, IsReady};
 
     /// A ladder for polls of so many votes, as long as nothing is pending.
@@ -280,6 +280,22 @@ impl Ladder {
         self.low = rung;
         self.taken = head.last;
         head.count
+    }
+
+    /// The one that was taken off last, where nobody else stood on its rung. Nothing is listed for it.
+    #[inline(always)]
+    pub(crate) fn only(&self) -> Option<Climber>
+        ensures { IfSome result (λ c. (self.now).came ≡ c ∷ []) }
+    {
+        if self.taken == 0 {
+            return None;
+        }
+        let link = self.links[self.taken - 1];
+        if link.next == 0 {
+            Some(link.climber)
+        } else {
+            None
+        }
     }
 
     /// Lists those that were taken off last. It takes no memory.

@@ -12,7 +12,7 @@ ghost use Rattle.snow_topo.specs.Leading.{IsSteady};
 
 use crate::climber::go_on;
 use crate::climbing::either;
-use crate::gathering::gather;
+use crate::gathering::{gather, votes_in};
 use crate::ladder::Ladder;
 use crate::load::Load;
 use snow_base::{Bag, Steps, Vote};
@@ -41,6 +41,36 @@ fn record_at<R: Rule, L: Ledger>(
         Some(load) => load.record(polls, votes, steps),
         None => false,
     }
+}
+
+// The same with the votes that were taken off the ladder last. Few visits come to it, and those that
+// don't are to be short.
+#[inline(never)]
+fn record_came<R: Rule, L: Ledger>(
+    params: &Params,
+    tree: &mut Tree<Load<R>>,
+    at: usize,
+    polls: u64,
+    ladder: &mut Ladder,
+    children: &mut Bag,
+    steps: &mut Steps<L>,
+) -> bool
+    requires room { polls + 1 < 2 ^ 64 }
+    requires wide { length (ladder.old).came ≤ (ladder.old).wide }
+    requires places { length (ladder.old).came ≤ children.old.room + length children.old.list }
+    requires placed { All (λ c. c.passed < length (tree.old).pending) (ladder.old).came }
+    requires counts { All (λ c. 0 < c.count) (ladder.old).came }
+    requires total { climber_total (ladder.old).came ≤ params.now.k }
+    requires came { IfSome (slice_get (tree.old).pending at) (λ e. All (HasCome (blocks_in (tree.old).pending) e.block.id) (cursors_of (blocks_in (tree.old).pending) (ladder.old).came)) }
+    requires fit { IfSome (slice_get (tree.old).pending at) (λ e. IsFit params.now polls (children_of (blocks_in (tree.old).pending) e.block.id) e.load) }
+    ensures taken { IfSome (slice_get (tree.old).pending at) (λ e. (load : Kept) × (tree.new ≡ with_load tree.old at load) × HasTaken params.now polls (votes_at (cursors_of (blocks_in (tree.old).pending) (ladder.old).came) e.block.id) e.load load × IsSteady R.answer result e.load load) }
+    ensures steps { IfSome (slice_get (tree.old).pending at) (λ e. steps.new ≤ steps.old + 5 * length (ids_in e.load.contest)) }
+    ensures places { children.old.room + length children.old.list ≤ children.new.room + length children.new.list }
+    ensures ladder { ladder.new ≡ record (ladder.old) { listed = (ladder.new).listed } }
+{
+    let _k = params.k();
+    let one = gather(tree, ladder, children);
+    record_at(tree, at, polls, votes_in(&one, children), steps)
 }
 
 /// Whether so many votes are AlphaPreference.
@@ -83,8 +113,7 @@ fn record_quorum<R: Rule, L: Ledger>(
 {
     let _k = params.k();
     if has_quorum(params, count) {
-        gather(tree, ladder, children);
-        let one = record_at(tree, at, polls, children.entries(), steps);
+        let one = record_came(params, tree, at, polls, ladder, children, steps);
         either(one, moved)
     } else {
         moved

@@ -2,8 +2,7 @@ use Rattle.std.proofs.Common.{ℕ, Bool, List, ◌∙◌, All, Contains, sym, ap
 use Rattle.snow_plain.specs.Conflict.{votes_on}
 use Rattle.snow_plain.specs.Cursors.{votes_at}
 use Rattle.snow_tree.specs.Held.{blocks_in}
-use Rattle.snow_topo.specs.Ladder.{Rungs}
-use Rattle.snow_topo.specs.Climbing.{cursors_of}
+use Rattle.snow_topo.specs.Climbing.{cursors_of, gathered}
 use Rattle.snow_topo.specs.Half.{HasTaken}
 use Rattle.snow_topo.proofs.Climbers.{same_total}
 use Rattle.snow_topo.proofs.Costing.{no_quorum}
@@ -13,13 +12,13 @@ use Rattle.snow_topo.proofs.counting.record_root.Goals as goal
 
 pub record-requires-clause-given : goal.record-requires-clause-given
 record-requires-clause-given g c =
-    rw c.entries.ensures.list
-    (subst (λ l. All (λ v. Contains l v.id) c.gather.new.children.list) (sym c.requires.fit.ids) (c.gather.ensures.among c.args.tree.now.last c.requires.came))
+    rw c.votes_in.ensures.list
+    (subst (λ l. All (λ v. Contains l v.id) (gathered c.gather-one.result c.gather-one.new.children.list)) (sym c.requires.fit.ids) (c.gather-one.ensures.among c.args.tree.now.last c.requires.came))
 
 pub returns-then-has_quorum-clause-taken : goal.returns-then-has_quorum-clause-taken
 returns-then-has_quorum-clause-taken g c =
     subst (λ (f : List Bool → ℕ). HasTaken c.args.params.now c.args.polls f c.args.root.now c.record.new.self)
-    (ap votes_on c.entries.ensures.list ∙ c.gather.ensures.votes c.args.tree.now.last c.requires.came)
+    (ap votes_on c.votes_in.ensures.list ∙ c.gather-one.ensures.votes c.args.tree.now.last c.requires.came)
     (λ children fit. (c.record.ensures.counters c.args.params.now children fit, c.record.ensures.fit c.args.params.now children fit))
 
 pub returns-else-has_quorum-clause-taken : goal.returns-else-has_quorum-clause-taken
@@ -29,8 +28,3 @@ returns-else-has_quorum-clause-taken g c =
     λ children fit.
     left_alone c.args.params.now c.args.polls children c.args.root.now (votes_at cursors c.args.tree.now.last) c.has_quorum.ensures.good fit
     (λ front. omega (arith, c.requires.count, few_came c.args.tree.now.last cursors front, same_total bs c.args.ladder.now.came, no_quorum _ _ (sym c.has_quorum.ensures.value ∙ c.if-has_quorum.false)))
-
-pub returns-then-has_quorum-clause-ladder : goal.returns-then-has_quorum-clause-ladder
-returns-then-has_quorum-clause-ladder g c =
-    let listed = c.gather.ensures.ladder in
-    listed ∙ ap (λ l. record c.args.ladder.now { listed = l }) (sym (ap (λ (s : Rungs). s.listed) listed))

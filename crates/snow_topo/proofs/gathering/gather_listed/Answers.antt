@@ -1,7 +1,7 @@
 use Rattle.std.proofs.Common.{length, ap, arith}
 use Rattle.snow_topo.specs.Climbing.{climber_total}
 use Rattle.snow_topo.specs.Ladder.{Rungs}
-use Rattle.snow_topo.proofs.gathering.gather.Goals as goal
+use Rattle.snow_topo.proofs.gathering.gather_listed.Goals as goal
 
 pub gather_all-requires-clause-places : goal.gather_all-requires-clause-places
 gather_all-requires-clause-places g c = omega (arith, c.requires.places, ap length c.listed.ensures, ap (λ (s : Rungs). length s.listed) c.list_came.ensures)

@@ -1,41 +1,19 @@
-use Rattle.std.proofs.Common.{ℕ, Bool, List, ◌∙◌, All, Contains, IfSome, slice_get, refl, sym, ap, subst, arith}
+use Rattle.std.proofs.Common.{◌∙◌, slice_get, refl, sym, arith}
 use Rattle.std.proofs.lemmas.Bool.{or_parts}
-use Rattle.snow_plain.specs.Conflict.{votes_on}
 use Rattle.snow_plain.specs.Cursors.{votes_at}
-use Rattle.snow_tree.specs.Held.{blocks_in, children_of}
-use Rattle.snow_topo.specs.Kept.{IsFit}
-use Rattle.snow_topo.specs.Ladder.{Rungs}
-use Rattle.snow_topo.specs.Climbing.{cursors_of, HasCome}
-use Rattle.snow_topo.specs.Half.{HasTaken}
+use Rattle.snow_tree.specs.Held.{blocks_in}
+use Rattle.snow_topo.specs.Climbing.{cursors_of}
 use Rattle.snow_topo.proofs.Climbers.{same_total}
 use Rattle.snow_topo.proofs.Costing.{no_quorum}
 use Rattle.snow_topo.proofs.Merged.{few_came}
 use Rattle.snow_topo.proofs.Taken.{same_load, left_alone, if_some}
 use Rattle.snow_topo.proofs.visiting.record_quorum.Goals as goal
 
-pub record_at-one-requires-clause-given : goal.record_at-one-requires-clause-given
-record_at-one-requires-clause-given g c =
-    let blocks = blocks_in c.args.tree.now.pending in
-    rw c.entries.ensures.list
-    (if_some (slice_get c.args.tree.now.pending c.args.at) _ _
-    (λ e come.
-    let fit = subst (λ o. IfSome o (λ e. IsFit c.args.params.now c.args.polls (children_of blocks e.block.id) e.load)) come.0 c.requires.fit in
-    subst (λ l. All (λ v. Contains l v.id) c.gather.new.children.list) (sym fit.ids) (c.gather.ensures.among e.block.id come.1))
-    c.requires.came)
-
 pub returns-then-has_quorum-clause-taken : goal.returns-then-has_quorum-clause-taken
 returns-then-has_quorum-clause-taken g c =
-    let blocks = blocks_in c.args.tree.now.pending in
     if_some (slice_get c.args.tree.now.pending c.args.at) _ _
-    (λ e took.
-    let come = subst (λ o. IfSome o (λ e. All (HasCome blocks e.block.id) (cursors_of blocks c.args.ladder.now.came))) took.0 c.requires.came in (
-      took.1.0,
-      took.1.1,
-      subst (λ (f : List Bool → ℕ). HasTaken c.args.params.now c.args.polls f e.load took.1.0) (ap votes_on c.entries.ensures.list ∙ c.gather.ensures.votes e.block.id come)
-          (λ children fit. took.1.2 c.args.params.now children fit),
-      λ s. took.1.3 (or_parts c.record_at-one.result c.args.moved (sym c.either.ensures ∙ s)).0,
-    ))
-    c.record_at-one.ensures.taken
+    (λ e took. (took.1.0, took.1.1, took.1.2, λ s. took.1.3 (or_parts c.record_came-one.result c.args.moved (sym c.either.ensures ∙ s)).0))
+    c.record_came-one.ensures.taken
 
 pub returns-else-has_quorum-clause-taken : goal.returns-else-has_quorum-clause-taken
 returns-else-has_quorum-clause-taken g c =
@@ -56,10 +34,5 @@ returns-else-has_quorum-clause-taken g c =
     ))
     c.requires.fit
 
-pub returns-then-has_quorum-clause-ladder : goal.returns-then-has_quorum-clause-ladder
-returns-then-has_quorum-clause-ladder g c =
-    let listed = c.gather.ensures.ladder in
-    listed ∙ ap (λ l. record c.args.ladder.now { listed = l }) (sym (ap (λ (s : Rungs). s.listed) listed))
-
 pub returns-then-has_quorum-clause-moved : goal.returns-then-has_quorum-clause-moved
-returns-then-has_quorum-clause-moved g c = λ s. (or_parts c.record_at-one.result c.args.moved (sym c.either.ensures ∙ s)).1
+returns-then-has_quorum-clause-moved g c = λ s. (or_parts c.record_came-one.result c.args.moved (sym c.either.ensures ∙ s)).1
