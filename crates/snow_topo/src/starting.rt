@@ -2,6 +2,7 @@ ghost use Rattle.std.specs.Prelude.{◌≡◌, ℕ, ◌+◌, ◌^◌, ◌<◌, �
 ghost use Rattle.std.specs.Option.{option_to_list};
 ghost use Rattle.snow_base.specs.Gathered.{one_each};
 ghost use Rattle.snow_base.specs.Votes.{total_count};
+ghost use Rattle.snow_base.specs.declared.vote.Vote.{Vote};
 ghost use Rattle.snow_flake.specs.Parameters.{Parameters};
 ghost use Rattle.snow_topo.specs.Climbing.{begun};
 ghost use Rattle.snow_topo.specs.Ladder.{KeepsRoom, IsReady};
@@ -15,19 +16,39 @@ use snow_base::{Id, Vote};
 use snow_flake::Rule;
 use snow_tree::Tree;
 
-// A vote begins past its own block; one for a block that isn't pending counts nowhere.
+// So many votes begin past their own block, where nothing tells at once where it stands. They count nowhere
+// where it isn't pending.
 #[inline(never)]
-fn start<R: Rule>(tree: &Tree<Load<R>>, ladder: &mut Ladder, vote: &Vote)
+fn start_found<R: Rule>(tree: &Tree<Load<R>>, ladder: &mut Ladder, id: &Id, count: u32)
     requires room { (ladder.old).put < (ladder.old).most }
     requires low { length (tree.now).pending < (ladder.old).low }
-    ensures same { IsPermutation (option_to_list (begun (tree.now).pending vote.now) ++ (ladder.old).climbers) (ladder.new).climbers }
+    ensures same { let vote : Vote = record { id = id.now; count = count } in
+        IsPermutation (option_to_list (begun (tree.now).pending vote) ++ (ladder.old).climbers) (ladder.new).climbers }
     ensures put { (ladder.new).put ≤ (ladder.old).put + 1 }
     ensures low { (ladder.new).low ≡ (ladder.old).low }
     ensures room { KeepsRoom ladder.old ladder.new }
 {
-    match tree.place_of(&vote.id) {
-        Some(at) => go_on(tree, ladder, at, vote.count),
+    match tree.place_of(id) {
+        Some(at) => go_on(tree, ladder, at, count),
         None => (),
+    }
+}
+
+// So many votes begin past their own block; those for a block that isn't pending count nowhere. It stands
+// apart, as the seats' loop needs its registers, and keeps none where the block is found at once.
+#[inline(never)]
+fn start<R: Rule>(tree: &Tree<Load<R>>, ladder: &mut Ladder, id: &Id, count: u32)
+    requires room { (ladder.old).put < (ladder.old).most }
+    requires low { length (tree.now).pending < (ladder.old).low }
+    ensures same { let vote : Vote = record { id = id.now; count = count } in
+        IsPermutation (option_to_list (begun (tree.now).pending vote) ++ (ladder.old).climbers) (ladder.new).climbers }
+    ensures put { (ladder.new).put ≤ (ladder.old).put + 1 }
+    ensures low { (ladder.new).low ≡ (ladder.old).low }
+    ensures room { KeepsRoom ladder.old ladder.new }
+{
+    match tree.guess(id) {
+        Some(at) => go_on(tree, ladder, at, count),
+        None => start_found(tree, ladder, id, count),
     }
 }
 
@@ -43,7 +64,7 @@ fn let_go<R: Rule>(tree: &Tree<Load<R>>, ladder: &mut Ladder, vote: &Vote)
     ensures room { KeepsRoom ladder.old ladder.new }
 {
     if vote.count > 0 {
-        start(tree, ladder, vote);
+        start(tree, ladder, &vote.id, vote.count);
     }
 }
 
@@ -182,11 +203,7 @@ fn let_one_go<R: Rule>(tree: &Tree<Load<R>>, ladder: &mut Ladder, ids: &[Id])
     requires more { TakesMore (length (tree.now).pending) (length ids.now) ladder.old }
     ensures { HaveGone (tree.now).pending ids.now ladder.old ladder.new }
 {
-    let vote = Vote {
-        id: ids[0],
-        count: 1,
-    };
-    start(tree, ladder, &vote);
+    start(tree, ladder, &ids[0], 1);
 }
 
 // The same, where most of the votes for one block go on as one. Many votes have more seats, and where
