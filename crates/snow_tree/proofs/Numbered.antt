@@ -1,5 +1,5 @@
 -- Lemmas on the numbers by which the entries of a row are found.
-use Rattle.std.proofs.Common.{◌≡◌, ℕ, zero, suc, ◌+◌, ◌-◌, ◌%◌, ◌^◌, ◌<◌, ◌≤◌, ◌↔◌, true, false, cond, if◌then◌else◌, List, [], ◌∷◌, ◌++◌, length, drop, slice_index_or, slice_set, option_to_list, IsSome, Result, Ok, Err, OnErr, IsOk, bytes_eq, Bool, Option, Some, None, slice_get, refl, sym, ap, subst, ◌∙◌, arith}
+use Rattle.std.proofs.Common.{◌≡◌, ℕ, zero, suc, ◌+◌, ◌-◌, ◌%◌, ◌^◌, ◌<◌, ◌≤◌, ◌↔◌, true, false, cond, if◌then◌else◌, List, [], ◌∷◌, ◌++◌, length, drop, slice_index_or, slice_set, option_to_list, IsSome, Result, Ok, Err, OnErr, IsOk, IfSome, bytes_eq, Bool, Option, Some, None, slice_get, refl, sym, ap, subst, ◌∙◌, arith}
 use Rattle.std.specs.List.{AllByRecursion, IsDistinct, position}
 use Rattle.std.specs.Map.{lookup, keys_of, values_of}
 use Rattle.std.specs.Option.{option_map}
@@ -11,6 +11,10 @@ use Rattle.std.proofs.lemmas.Option.{none-some}
 use Rattle.snow_plain.proofs.Cases.{split_on, same_id, id_itself, id_same, differs_back}
 use Rattle.snow_tree.specs.Row.{number_at, set_value_at, IsNumbered}
 use Rattle.snow_tree.proofs.Placed.{position_cons}
+
+-- what is so of what was found
+pub some_is : {A : Type 0} (P : A → Type 0) (o : Option A) (x : A) → o ≡ Some x → IfSome o P → P x
+some_is P o x is h = subst (λ q. IfSome q P) is h
 
 -- what is looked for at a key is looked for at one that is the same
 same_key : (k q : List ℕ) (ks : List (List ℕ)) → bytes_eq k q ≡ true → position (bytes_eq q) ks ≡ position (bytes_eq k) ks

@@ -1,7 +1,7 @@
 -- Lemmas on what is seen of the nodes.
 use Rattle.std.proofs.Common.{◌≡◌, ℕ, zero, suc, ◌+◌, ◌-◌, Bool, true, false, not, cond, nat_lt, nat_eq, ◌||◌, List, [], ◌∷◌, ◌++◌, length, get_or, reverse, map, find, bytes_eq, All, Option, Some, None, IfSome, is_some, slice_get, Result, Ok, Err, is_err, OnOk, refl, sym, ap, subst, ◌∙◌, arith, length-append}
 use Rattle.std.specs.List.{list_any, position, prefix_len}
-use Rattle.std.specs.Map.{keys_of, lookup}
+use Rattle.std.specs.Map.{lookup}
 use Rattle.std.specs.Option.{option_map}
 use Rattle.std.proofs.lemmas.Bool.{or_parts, or_left, or_right}
 use Rattle.std.proofs.lemmas.List.{length-map}
@@ -18,7 +18,7 @@ use Rattle.snow_plain.proofs.Grown.{grown_parent, grown_rest, no_line, has_block
 use Rattle.snow_tree.specs.declared.node.Node.{Node}
 use Rattle.snow_tree.specs.Held.{children_of, set_load}
 use Rattle.snow_tree.specs.Nodes.{block_of, blocks_of, ArePlaced, edge_of, entry_of, with_children, IsKept}
-use Rattle.snow_tree.proofs.Placed.{off_place, place_same}
+use Rattle.snow_tree.proofs.Placed.{off_place}
 use Rattle.snow_tree.proofs.Listed.{no_children}
 use Rattle.snow_tree.proofs.Linked.{no_block}
 use Rattle.snow_tree.proofs.Numbered.{length-set_value_at}
@@ -73,10 +73,10 @@ module _ {T : Type 0} where
           (λ t. rw t (ap (λ n. 1 + n) (lens xs)))
 
   -- so is one that was guessed
-  pub guess_seen : (nodes : List (List ℕ × Node T)) (id : List ℕ) (o : Option ℕ) → IfSome o (λ place. position (bytes_eq id) (keys_of nodes) ≡ Some place)
-      → IfSome o (λ place. position (λ e. bytes_eq e.block.id id) (map entry_of nodes) ≡ Some place)
+  pub guess_seen : {B : Type 0} (nodes : List (List ℕ × Node T)) (id : List ℕ) (o : Option (ℕ × B)) → IfSome o (λ r. position (λ e. bytes_eq e.0 id) nodes ≡ Some r.0)
+      → IfSome o (λ r. position (λ e. bytes_eq e.block.id id) (map entry_of nodes) ≡ Some r.0)
   guess_seen nodes id None h = tt
-  guess_seen nodes id (Some place) h = sym (place_seen nodes id) ∙ sym (place_same nodes id) ∙ h
+  guess_seen nodes id (Some r) h = sym (place_seen nodes id) ∙ h
 
   -- what is seen doesn't show who is whose child
   pub seen_changed : (change : List ℕ → List (List ℕ) → List (List ℕ)) (nodes : List (List ℕ × Node T)) → map entry_of (map (with_children change) nodes) ≡ map entry_of nodes
@@ -219,3 +219,10 @@ module _ {T : Type 0} where
       by : (o : Option (List ℕ × Node T)) → slice_get nodes place ≡ o → IfSome (option_map entry_of o) (λ e. r ≡ position (λ y. bytes_eq y.block.id e.block.parent) (map entry_of nodes))
       by None h = tt
       by (Some e) h = each e h ∙ place_seen nodes e.1.parent
+
+  -- as it is seen where the place was guessed
+  pub guessed_seen : (nodes : List (List ℕ × Node T)) (o : Option (ℕ × Option ℕ))
+      → IfSome o (λ r. (e : List ℕ × Node T) → slice_get nodes r.0 ≡ Some e → r.1 ≡ position (λ y. bytes_eq y.0 e.1.parent) nodes)
+      → IfSome o (λ r. IfSome (slice_get (map entry_of nodes) r.0) (λ e. r.1 ≡ position (λ y. bytes_eq y.block.id e.block.parent) (map entry_of nodes)))
+  guessed_seen nodes None h = tt
+  guessed_seen nodes (Some r) h = parent_seen nodes r.0 r.1 h

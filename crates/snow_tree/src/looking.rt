@@ -1,4 +1,4 @@
-ghost use Rattle.std.specs.Prelude.{◌≡◌, ◌<◌, ℕ, List, false, Some, reverse, slice_get, bytes_eq};
+ghost use Rattle.std.specs.Prelude.{◌≡◌, ◌<◌, ℕ, List, false, Some, IfSome, reverse, slice_get, bytes_eq};
 ghost use Rattle.std.specs.List.{position};
 ghost use Rattle.std.specs.Option.{option_map};
 ghost use Rattle.snow_base.specs.Ancestry.{child_on};
@@ -31,12 +31,14 @@ pub(crate) fn back_to<T>(nodes: &Nodes<T>, last: &Id, place: usize, parent: &Id)
     }
 }
 
-/// The place so far before another; none at no distance, nor beyond the first. At no distance the
-/// distance wraps, and so leads beyond the first as well: nothing is compared.
+/// The place so far before another; none at no distance, nor beyond the first.
 pub(crate) fn place_before(place: usize, back: usize) -> Option<usize>
     ensures { result ≡ place_before place back }
 {
-    place.saturating_sub(back.wrapping_sub(1)).checked_sub(1)
+    if back == 0 || place < back {
+        return None;
+    }
+    Some(place - back)
 }
 
 /// Where the parent of the block at a place stands.
@@ -46,6 +48,19 @@ pub(crate) fn parent_of<T>(nodes: &Nodes<T>, place: usize) -> Option<usize>
 {
     match nodes.get_index(place) {
         Some((_, node)) => place_before(place, node.back),
+        None => None,
+    }
+}
+
+/// Where the block of an identifier and its parent stand, where the first is known at once.
+#[inline(always)]
+pub(crate) fn guess<T>(nodes: &Nodes<T>, id: &Id) -> Option<(usize, Option<usize>)>
+    requires { ArePlaced (edges_of nodes.now.entries) }
+    ensures place { IfSome result (λ r. position (λ e. bytes_eq e.0 id.now) nodes.now.entries ≡ Some r.0) }
+    ensures parent { IfSome result (λ r. (e : List ℕ × Node T) → slice_get nodes.now.entries r.0 ≡ Some e → r.1 ≡ position (λ x. bytes_eq x.0 e.1.parent) nodes.now.entries) }
+{
+    match nodes.guess(id) {
+        Some((place, node)) => Some((place, place_before(place, node.back))),
         None => None,
     }
 }

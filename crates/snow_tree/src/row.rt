@@ -1,4 +1,4 @@
-ghost use Rattle.std.specs.Prelude.{◌≡◌, ◌^◌, ◌<◌, ◌↔◌, IsSome, ◌∷◌, ◌++◌, [], None, Some, IfSome, true, length, drop, take, slice_get, bytes_eq, option_to_list, OnOk};
+ghost use Rattle.std.specs.Prelude.{◌≡◌, ℕ, List, ◌^◌, ◌<◌, ◌↔◌, IsSome, ◌∷◌, ◌++◌, [], None, Some, IfSome, true, length, drop, take, slice_get, bytes_eq, option_to_list, OnOk};
 ghost use Rattle.std.specs.List.{IsDistinct, position};
 ghost use Rattle.std.specs.Map.{keys_of, values_of, lookup};
 ghost use Rattle.std.specs.Option.{option_map, option_copied, option_copied_mut};
@@ -85,31 +85,47 @@ impl<V> Row<V> {
         }
     }
 
-    /// The place of an identifier, where the map needn't be asked for it.
-    #[inline(always)]
-    pub(crate) fn guess(&self, id: &Id) -> Option<usize>
-        ensures { IfSome result (λ place. position (bytes_eq id.now) (keys_of self.now.entries) ≡ Some place) }
+    // The place of an identifier. The map isn't asked where the guess is right.
+    fn find(&self, guess: usize, id: &Id) -> Option<usize>
+        ensures index { result ≡ position (bytes_eq id.now) (keys_of self.now.entries) }
+        ensures unique { IsDistinct bytes_eq (keys_of self.now.entries) }
     {
-        let guess = self.hints.place_of(id, self.first);
+        let _len = self.len();
         if self.is_at(guess, id) {
             return Some(guess);
         }
-        None
+        self.look_up(id)
     }
 
-    /// The place of an identifier. The map isn't asked where the guess is right.
+    /// The place of an identifier.
     pub(crate) fn get_index_of(&self, id: &Id) -> Option<usize>
         ensures index { result ≡ position (bytes_eq id.now) (keys_of self.now.entries) }
         ensures unique { IsDistinct bytes_eq (keys_of self.now.entries) }
     {
         // Often nothing stands in the row.
-        let _len = self.len();
         if self.entries.is_empty() {
             return None;
         }
-        match self.guess(id) {
-            Some(place) => Some(place),
-            None => self.look_up(id),
+        self.find(self.hints.place_of(id, self.first), id)
+    }
+
+    /// The place and the value of an identifier, where the map needn't be asked. The entry is looked at
+    /// once.
+    #[inline(always)]
+    pub(crate) fn guess(&self, id: &Id) -> Option<(usize, &V)>
+        ensures { IfSome result (λ r. (position (bytes_eq id.now) (keys_of self.now.entries) ≡ Some r.0) × (key : List ℕ) × (slice_get self.now.entries r.0 ≡ Some (key, r.1.now))) }
+    {
+        let _len = self.len();
+        let place = self.hints.place_of(id, self.first);
+        match self.get_index(place) {
+            Some((other, value)) => {
+                if other == id {
+                    Some((place, value))
+                } else {
+                    None
+                }
+            }
+            None => None,
         }
     }
 
@@ -123,14 +139,28 @@ impl<V> Row<V> {
         }
     }
 
-    /// The value of an identifier.
-    pub(crate) fn get(&self, id: &Id) -> Option<&V>
+    // The value of an identifier, by the map.
+    #[inline(never)]
+    fn look_up_value(&self, id: &Id) -> Option<&V>
         ensures value { option_copied result ≡ lookup (bytes_eq id.now) self.now.entries }
     {
-        let place = self.get_index_of(id)?;
+        let place = self.look_up(id)?;
         match self.get_index(place) {
             Some((_, value)) => Some(value),
             None => None,
+        }
+    }
+
+    /// The value of an identifier. Where the guess is right no other function is called.
+    pub(crate) fn get(&self, id: &Id) -> Option<&V>
+        ensures value { option_copied result ≡ lookup (bytes_eq id.now) self.now.entries }
+    {
+        if self.entries.is_empty() {
+            return None;
+        }
+        match self.guess(id) {
+            Some((_, value)) => Some(value),
+            None => self.look_up_value(id),
         }
     }
 

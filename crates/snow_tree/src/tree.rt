@@ -6,7 +6,7 @@ ghost use Rattle.snow_tree.specs.Held.{blocks_in, begun, inserted, taken_back, p
 use crate::children::Children;
 use crate::leaving::take_accepted;
 use crate::linking::{make_room, unlink};
-use crate::looking::{ancestor, back_to, block_at, parent_of, place_of};
+use crate::looking::{ancestor, back_to, block_at, guess, parent_of, place_of};
 use crate::node::{Node, Nodes};
 use crate::row::Row;
 use snow_base::{Header, Id};
@@ -183,12 +183,14 @@ impl<T: Drop> Tree<T> {
         place_of(&self.nodes, id)
     }
 
-    /// Where a block stands in order of issue, where that is known at once. Nothing is said of any other.
+    /// Where a block and its parent stand in order of issue, where the first is known at once. Nothing is
+    /// said of any other.
     #[inline(always)]
-    pub fn guess(&self, id: &Id) -> Option<usize>
-        ensures { IfSome result (λ place. place_in (self.now).pending id.now ≡ Some place) }
+    pub fn guess(&self, id: &Id) -> Option<(usize, Option<usize>)>
+        ensures place { IfSome result (λ r. place_in (self.now).pending id.now ≡ Some r.0) }
+        ensures parent { IfSome result (λ r. IfSome (slice_get (self.now).pending r.0) (λ e. r.1 ≡ place_in (self.now).pending e.block.parent)) }
     {
-        self.nodes.guess(id)
+        guess(&self.nodes, id)
     }
 
     /// Where the parent of the block at a place stands, and nothing where that isn't pending. It compares
