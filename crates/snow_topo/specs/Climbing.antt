@@ -49,9 +49,9 @@ abbrev pub vote_in : List Header → Climber → Vote
 vote_in blocks c = record { id = id_in (slice_get blocks c.passed); count = c.count }
 
 -- the votes that came to a parent, by its children: one for all that came by one, or those of a bag
-abbrev pub gathered : Option Vote → List Vote → List Vote
-gathered None votes = votes
-gathered (Some v) votes = v ∷ []
+abbrev pub gathered : Bool → Vote → List Vote → List Vote
+gathered true one votes = one ∷ []
+gathered false one votes = votes
 
 -- so many votes that passed the block at a place
 abbrev pub passing : List Header → ℕ → ℕ → Climber

@@ -1,5 +1,5 @@
-ghost use Rattle.std.specs.Prelude.{◌≡◌, ◌+◌, ◌<◌, ◌∷◌, length, slice_get, IsPermutation};
-ghost use Rattle.snow_tree.specs.Held.{blocks_in};
+ghost use Rattle.std.specs.Prelude.{◌≡◌, ◌+◌, ◌<◌, ◌∷◌, length, slice_get, IfSome, IsPermutation};
+ghost use Rattle.snow_tree.specs.Held.{blocks_in, place_in};
 ghost use Rattle.snow_topo.specs.Climbing.{reach, parent_in, passing};
 
 use crate::ladder::Ladder;
@@ -24,20 +24,47 @@ fn above(place: usize, len: usize) -> usize
     place + 1
 }
 
-// One more than the place of the parent of the block at a place; 0 where that isn't pending.
+// One more than the place of the parent of the block at a place, which is this one; 0 where that isn't
+// pending.
 #[inline(always)]
-fn parent_reach<R: Rule>(tree: &Tree<Load<R>>, at: usize) -> usize
-    requires { at < length (tree.now).pending }
+fn parent_reach<R: Rule>(tree: &Tree<Load<R>>, at: usize, parent: Option<usize>) -> usize
+    requires within { at < length (tree.now).pending }
+    requires parent { IfSome (slice_get (tree.now).pending at) (λ e. parent ≡ place_in (tree.now).pending e.block.parent) }
     ensures { result ≡ reach (blocks_in (tree.now).pending) (parent_in (slice_get (blocks_in (tree.now).pending) at)) }
 {
     let len = tree.len();
-    match tree.parent_place(at) {
+    match parent {
         Some(place) => above(place, len),
         None => 0,
     }
 }
 
-/// Votes that passed the block at a place go on to its parent. It takes no memory.
+/// Votes that passed the block at a place go on to its parent, which stands at this one. It takes no
+/// memory.
+#[inline(always)]
+pub(crate) fn go_on_to<R: Rule>(
+    tree: &Tree<Load<R>>,
+    ladder: &mut Ladder,
+    at: usize,
+    parent: Option<usize>,
+    count: u32,
+)
+    requires room { (ladder.old).put < (ladder.old).most }
+    requires within { at < length (tree.now).pending }
+    requires parent { IfSome (slice_get (tree.now).pending at) (λ e. parent ≡ place_in (tree.now).pending e.block.parent) }
+    requires below { reach (blocks_in (tree.now).pending) (parent_in (slice_get (blocks_in (tree.now).pending) at)) < (ladder.old).low }
+    ensures same { IsPermutation (passing (blocks_in (tree.now).pending) at count ∷ (ladder.old).climbers) (ladder.new).climbers }
+    ensures rest { ladder.new ≡ record (ladder.old) { climbers = (ladder.new).climbers; put = (ladder.old).put + 1 } }
+{
+    let place = parent_reach(tree, at, parent);
+    ladder.put(Climber {
+        place,
+        passed: at,
+        count,
+    });
+}
+
+/// The same where it isn't known yet at which.
 #[inline(always)]
 pub(crate) fn go_on<R: Rule>(tree: &Tree<Load<R>>, ladder: &mut Ladder, at: usize, count: u32)
     requires room { (ladder.old).put < (ladder.old).most }
@@ -46,10 +73,5 @@ pub(crate) fn go_on<R: Rule>(tree: &Tree<Load<R>>, ladder: &mut Ladder, at: usiz
     ensures same { IsPermutation (passing (blocks_in (tree.now).pending) at count ∷ (ladder.old).climbers) (ladder.new).climbers }
     ensures rest { ladder.new ≡ record (ladder.old) { climbers = (ladder.new).climbers; put = (ladder.old).put + 1 } }
 {
-    let place = parent_reach(tree, at);
-    ladder.put(Climber {
-        place,
-        passed: at,
-        count,
-    });
+    go_on_to(tree, ladder, at, tree.parent_place(at), count);
 }

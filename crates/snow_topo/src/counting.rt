@@ -14,7 +14,7 @@ ghost use Rattle.snow_topo.specs.Leading.{IsSteady};
 ghost use Rattle.snow_topo.specs.Recording.{recording};
 
 use crate::climbing::{climb, either};
-use crate::gathering::{gather, votes_in};
+use crate::gathering::{gather, no_vote, votes_in};
 use crate::ladder::Ladder;
 use crate::load::Load;
 use crate::visiting::has_quorum;
@@ -53,8 +53,9 @@ fn record_root<R: Rule, L: Ledger>(
 {
     let _k = params.k();
     if has_quorum(params, count) {
-        let one = gather(tree, ladder, children);
-        root.record(polls, votes_in(&one, children), steps)
+        let mut one = no_vote();
+        let is_one = gather(tree, ladder, &mut one, children);
+        root.record(polls, votes_in(is_one, &one, children), steps)
     } else {
         false
     }

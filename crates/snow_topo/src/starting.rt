@@ -8,7 +8,7 @@ ghost use Rattle.snow_topo.specs.Climbing.{begun};
 ghost use Rattle.snow_topo.specs.Ladder.{KeepsRoom, IsReady};
 ghost use Rattle.snow_topo.specs.Starting.{share, votes_by, ids_by, HaveStarted, HaveGone, HaveBegun, IsLoaded, TakesMore};
 
-use crate::climber::go_on;
+use crate::climber::{go_on, go_on_to};
 use crate::ladder::Ladder;
 use crate::leading::all_named;
 use crate::load::Load;
@@ -47,7 +47,7 @@ fn start<R: Rule>(tree: &Tree<Load<R>>, ladder: &mut Ladder, id: &Id, count: u32
     ensures room { KeepsRoom ladder.old ladder.new }
 {
     match tree.guess(id) {
-        Some(at) => go_on(tree, ladder, at, count),
+        Some((at, parent)) => go_on_to(tree, ladder, at, parent, count),
         None => start_found(tree, ladder, id, count),
     }
 }

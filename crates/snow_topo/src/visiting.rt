@@ -12,7 +12,7 @@ ghost use Rattle.snow_topo.specs.Leading.{IsSteady};
 
 use crate::climber::go_on;
 use crate::climbing::either;
-use crate::gathering::{gather, votes_in};
+use crate::gathering::{gather, no_vote, votes_in};
 use crate::ladder::Ladder;
 use crate::load::Load;
 use snow_base::{Bag, Steps, Vote};
@@ -69,8 +69,9 @@ fn record_came<R: Rule, L: Ledger>(
     ensures ladder { ladder.new ≡ record (ladder.old) { listed = (ladder.new).listed } }
 {
     let _k = params.k();
-    let one = gather(tree, ladder, children);
-    record_at(tree, at, polls, votes_in(&one, children), steps)
+    let mut one = no_vote();
+    let is_one = gather(tree, ladder, &mut one, children);
+    record_at(tree, at, polls, votes_in(is_one, &one, children), steps)
 }
 
 /// Whether so many votes are AlphaPreference.

@@ -13,12 +13,12 @@ use Rattle.snow_topo.proofs.counting.record_root.Goals as goal
 pub record-requires-clause-given : goal.record-requires-clause-given
 record-requires-clause-given g c =
     rw c.votes_in.ensures.list
-    (subst (λ l. All (λ v. Contains l v.id) (gathered c.gather-one.result c.gather-one.new.children.list)) (sym c.requires.fit.ids) (c.gather-one.ensures.among c.args.tree.now.last c.requires.came))
+    (subst (λ l. All (λ v. Contains l v.id) (gathered c.gather-is_one.result c.gather-is_one.new.one c.gather-is_one.new.children.list)) (sym c.requires.fit.ids) (c.gather-is_one.ensures.among c.args.tree.now.last c.requires.came))
 
 pub returns-then-has_quorum-clause-taken : goal.returns-then-has_quorum-clause-taken
 returns-then-has_quorum-clause-taken g c =
     subst (λ (f : List Bool → ℕ). HasTaken c.args.params.now c.args.polls f c.args.root.now c.record.new.self)
-    (ap votes_on c.votes_in.ensures.list ∙ c.gather-one.ensures.votes c.args.tree.now.last c.requires.came)
+    (ap votes_on c.votes_in.ensures.list ∙ c.gather-is_one.ensures.votes c.args.tree.now.last c.requires.came)
     (λ children fit. (c.record.ensures.counters c.args.params.now children fit, c.record.ensures.fit c.args.params.now children fit))
 
 pub returns-else-has_quorum-clause-taken : goal.returns-else-has_quorum-clause-taken

@@ -2,29 +2,29 @@ use Rattle.std.proofs.Common.{◌≡◌, ◌≤◌, ◌∷◌, [], All, Contains
 use Rattle.snow_base.specs.Votes.{total_count}
 use Rattle.snow_plain.specs.Conflict.{votes_on}
 use Rattle.snow_tree.specs.Held.{blocks_in, children_of}
-use Rattle.snow_topo.specs.Climbing.{climber_total, gathered}
+use Rattle.snow_topo.specs.Climbing.{climber_total}
 use Rattle.snow_topo.proofs.Climbers.{only_votes, only_among, only_total, only_placed}
 use Rattle.snow_topo.proofs.gathering.gather.Goals as goal
 
-pub vote_of-requires : goal.vote_of-requires
-vote_of-requires g c = only_placed c.args.tree.now.pending c.in-Some.climber c.args.ladder.now.came (subst (λ o. IfSome o (λ x. c.args.ladder.now.came ≡ x ∷ [])) c.in-Some.is c.only.ensures) c.requires.placed
+pub write_vote-requires : goal.write_vote-requires
+write_vote-requires g c = only_placed c.args.tree.now.pending c.in-Some.climber c.args.ladder.now.came (subst (λ o. IfSome o (λ x. c.args.ladder.now.came ≡ x ∷ [])) c.in-Some.is c.only.ensures) c.requires.placed
 
 pub returns-in-Some-clause-votes : goal.returns-in-Some-clause-votes
 returns-in-Some-clause-votes g c =
     λ parent come.
     let bs = blocks_in c.args.tree.now.pending in
-    ap (λ o. votes_on (gathered o c.args.children.now.list)) c.vote_of.ensures
+    ap (λ v. votes_on (v ∷ [])) c.write_vote.ensures
     ∙ only_votes bs parent c.in-Some.climber c.args.ladder.now.came (subst (λ o. IfSome o (λ x. c.args.ladder.now.came ≡ x ∷ [])) c.in-Some.is c.only.ensures) come
 
 pub returns-in-Some-clause-among : goal.returns-in-Some-clause-among
 returns-in-Some-clause-among g c =
     λ parent come.
     let bs = blocks_in c.args.tree.now.pending in
-    subst (λ o. All (λ v. Contains (children_of bs parent) v.id) (gathered o c.args.children.now.list)) (sym c.vote_of.ensures)
+    subst (λ one. All (λ v. Contains (children_of bs parent) v.id) (one ∷ [])) (sym c.write_vote.ensures)
     (only_among bs parent c.in-Some.climber c.args.ladder.now.came (subst (λ o. IfSome o (λ x. c.args.ladder.now.came ≡ x ∷ [])) c.in-Some.is c.only.ensures) come)
 
 pub returns-in-Some-clause-total : goal.returns-in-Some-clause-total
 returns-in-Some-clause-total g c =
     let bs = blocks_in c.args.tree.now.pending in
-    subst (λ o. total_count (gathered o c.args.children.now.list) ≤ climber_total c.args.ladder.now.came) (sym c.vote_of.ensures)
+    subst (λ one. total_count (one ∷ []) ≤ climber_total c.args.ladder.now.came) (sym c.write_vote.ensures)
     (only_total bs c.in-Some.climber c.args.ladder.now.came (subst (λ o. IfSome o (λ x. c.args.ladder.now.came ≡ x ∷ [])) c.in-Some.is c.only.ensures))

@@ -14,7 +14,7 @@ record_at-requires-clause-given g c =
     (if_some (slice_get c.args.tree.now.pending c.args.at) _ _
     (λ e come.
     let fit = subst (λ o. IfSome o (λ e. IsFit c.args.params.now c.args.polls (children_of blocks e.block.id) e.load)) come.0 c.requires.fit in
-    subst (λ l. All (λ v. Contains l v.id) (gathered c.gather-one.result c.gather-one.new.children.list)) (sym fit.ids) (c.gather-one.ensures.among e.block.id come.1))
+    subst (λ l. All (λ v. Contains l v.id) (gathered c.gather-is_one.result c.gather-is_one.new.one c.gather-is_one.new.children.list)) (sym fit.ids) (c.gather-is_one.ensures.among e.block.id come.1))
     c.requires.came)
 
 pub returns-clause-taken : goal.returns-clause-taken
@@ -25,7 +25,7 @@ returns-clause-taken g c =
     let come = subst (λ o. IfSome o (λ e. All (HasCome blocks e.block.id) (cursors_of blocks c.args.ladder.now.came))) took.0 c.requires.came in (
       took.1.0,
       took.1.1,
-      subst (λ (f : List Bool → ℕ). HasTaken c.args.params.now c.args.polls f e.load took.1.0) (ap votes_on c.votes_in.ensures.list ∙ c.gather-one.ensures.votes e.block.id come)
+      subst (λ (f : List Bool → ℕ). HasTaken c.args.params.now c.args.polls f e.load took.1.0) (ap votes_on c.votes_in.ensures.list ∙ c.gather-is_one.ensures.votes e.block.id come)
           (λ children fit. took.1.2 c.args.params.now children fit),
       took.1.3,
     ))
