@@ -151,7 +151,9 @@ impl<V> Row<V> {
         }
     }
 
-    /// The value of an identifier. Where the guess is right no other function is called.
+    /// The value of an identifier. Where the guess is right no other function is called. It stands apart, so
+    /// that of a value that is only looked for nothing is copied.
+    #[inline(never)]
     pub(crate) fn get(&self, id: &Id) -> Option<&V>
         ensures value { option_copied result ≡ lookup (bytes_eq id.now) self.now.entries }
     {

@@ -162,6 +162,7 @@ impl<T: Drop> Tree<T> {
     }
 
     /// What a pending block says of itself, and nothing for any other.
+    #[inline(always)]
     pub fn header_of(&self, id: &Id) -> Option<Header>
         ensures { result ≡ option_map (λ e. e.block) (entry_in (self.now).pending id.now) }
     {
