@@ -1,5 +1,5 @@
 -- Lemmas on the end of the walk, and on what is kept of the blocks of a board.
-use Rattle.std.proofs.Common.{◌≡◌, ◌⊎◌, inl, inr, ℕ, zero, suc, ◌<◌, Bool, true, false, ◌&&◌, List, [], ◌∷◌, ◌==◌, length, get_or, reverse, bytes_eq, All, Option, Some, None, IfSome, slice_get, find, is_some, refl, sym, ap, subst, ◌∙◌, arith, if◌then◌else◌}
+use Rattle.std.proofs.Common.{◌≡◌, ◌⊎◌, inl, inr, ℕ, zero, suc, ◌<◌, Bool, true, false, not, ◌&&◌, List, [], ◌∷◌, ◌==◌, length, get_or, reverse, bytes_eq, All, Option, Some, None, IfSome, slice_get, find, is_some, refl, sym, ap, subst, ◌∙◌, arith, if◌then◌else◌}
 use Rattle.std.specs.List.{list_any, position}
 use Rattle.std.specs.Borrow.{Bor}
 use Rattle.std.specs.Option.{option_map, option_map_or, option_copied}
@@ -27,6 +27,7 @@ use Rattle.snow_topo.specs.View.{pending_of, all_pending, view, AreFit}
 use Rattle.snow_topo.specs.Walking.{kept_of}
 use Rattle.snow_topo.proofs.Climbs.{one_of}
 use Rattle.snow_topo.proofs.Counted.{blocks_seen}
+use Rattle.snow_topo.proofs.Standings.{pending_there}
 use Rattle.snow_topo.proofs.Gained.{equal_number, unequal_number, elsewhere}
 use Rattle.snow_topo.proofs.Stamped.{shown_none}
 use Rattle.snow_topo.proofs.Walked.{path_blank}
@@ -269,6 +270,27 @@ none_preferred answer p polls root held id off =
     let parts = or_parts (bytes_eq held.last id) (has_block (blocks_in held.pending) id) off in
     or_from (bytes_eq held.last id) _ parts.0
     (off_path answer held.last (shown p polls root) (all_pending p polls held.pending) id (ap (λ l. has_block l id) (blocks_seen p polls held.pending) ∙ parts.1))
+
+-- a walk that ends at another block than it began with comes to that
+end_passed : (at : List ℕ) (path : List (List ℕ)) (id : List ℕ) → bytes_eq at id ≡ false → bytes_eq (end_of at path) id ≡ true → list_any (λ other. bytes_eq other id) path ≡ true
+end_passed at [] id away h = absurd (clash (bytes_eq at id) h away)
+end_passed at (next ∷ path) id away h =
+    split_on (bytes_eq next id)
+    (λ t. rw t refl)
+    (λ t. rw t (end_passed next path id t h))
+
+-- the preference is pending where it isn't the last accepted block
+pub preferred_pending : (answer : Answer) (p : Parameters) (polls : ℕ) (root : Kept) (held : Held Kept) (id : List ℕ) → IsGrown held.last (reverse (blocks_in held.pending))
+    → bytes_eq (preferred answer (view p polls root held)) id ≡ true → is_pending (view p polls root held) id ≡ not (bytes_eq held.last id)
+preferred_pending answer p polls root held id g h =
+    pending_there (all_pending p polls held.pending) id
+    ∙ split_on (bytes_eq held.last id)
+    (λ t. rw t (ap (has_block (blocks_of (all_pending p polls held.pending))) (sym (same_id held.last id t)) ∙ ap (λ l. has_block l held.last) (blocks_seen p polls held.pending) ∙ last_off held.last (blocks_in held.pending) g))
+    (λ t. rw t
+    (split_on (has_block (blocks_of (all_pending p polls held.pending)) id)
+    (λ s. s)
+    (λ s. absurd (clash _ (end_passed held.last (path_from answer held.last (shown p polls root) (all_pending p polls held.pending)) id t h)
+    (off_path answer held.last (shown p polls root) (all_pending p polls held.pending) id s)))))
 
 -- one without a tree is where it is the preference
 pub bare_preferred : (answer : Answer) (p : Parameters) (polls : ℕ) (root : Kept) (held : Held Kept) (id : List ℕ) (kept : Kept) → IsGrown held.last (reverse (blocks_in held.pending))

@@ -100,7 +100,7 @@ names_kept p polls root held board is named =
 -- ---- steps
 
 -- a block is pending where it is among the blocks
-pending_there : (pending : List Pending) (id : List ℕ) → is_some (find (λ q. bytes_eq q.block.id id) pending) ≡ has_block (blocks_of pending) id
+pub pending_there : (pending : List Pending) (id : List ℕ) → is_some (find (λ q. bytes_eq q.block.id id) pending) ≡ has_block (blocks_of pending) id
 pending_there [] id = refl
 pending_there (q ∷ pending) id = split_on (bytes_eq q.block.id id) (λ t. rw t refl) (λ t. rw t (pending_there pending id))
 

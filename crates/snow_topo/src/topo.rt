@@ -236,6 +236,10 @@ impl<R: Rule> Board for Topo<R> {
     }
 
     fn is_pending(&self, id: &Id) -> bool {
+        // The preference, which most votes are for, is pending or the last accepted block.
+        if self.preference == *id {
+            return self.tree.last() != *id;
+        }
         self.tree.header_of(id).is_some()
     }
 
