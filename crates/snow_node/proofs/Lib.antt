@@ -11,6 +11,7 @@ pub mod Looping
 pub mod Made
 pub mod Sequel
 pub mod Working
+pub mod Wordless
 pub mod Issuing
 pub mod RunExamples
 pub mod Preferred

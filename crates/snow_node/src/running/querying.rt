@@ -1,5 +1,5 @@
-ghost use Rattle.std.specs.Prelude.{◌≡◌, ◌<◌, length};
-ghost use Rattle.snow_sample.specs.Sampling.{draw_count, AreOfDistinctNodes};
+ghost use Rattle.std.specs.Prelude.{◌≡◌, ◌<◌, [], length, true, Err};
+ghost use Rattle.snow_sample.specs.Sampling.{sample_of, draw_count, AreOfDistinctNodes};
 ghost use Rattle.snow_node.specs.Running.{numbered};
 ghost use Rattle.snow_node.specs.Querying as model;
 ghost use Rattle.snow_node.specs.Stepping.{Answers, Tells, Turns};
@@ -7,9 +7,10 @@ ghost use Rattle.snow_node.specs.Stepping.{Answers, Tells, Turns};
 use crate::running::Running;
 use crate::stop::Halt;
 use snow_chain::Chain;
+use snow_flake::Params;
 use snow_lines::{Line, Lines, QueryWhy};
 use snow_plain::Board;
-use snow_sample::{Draws, SampleFault};
+use snow_sample::{Draws, Roster, SampleFault, Words};
 use std::mem;
 
 /// The most polls that run at a time.
@@ -30,6 +31,10 @@ impl<C: Chain, B: Board> Running<C, B> {
     {
         if self.polls.len() >= MOST_POLLS {
             return self.drop_query(QueryWhy::Full, log);
+        }
+        // Where no word is left, no room is made ready for a sample.
+        if lacks_words(&self.params, &self.roster, &self.words) {
+            return self.drop_query(QueryWhy::Words, log);
         }
         let mut draws = mem::replace(&mut self.spare, Draws::new(self.alloc));
         match self
@@ -103,4 +108,13 @@ impl<C: Chain, B: Board> Running<C, B> {
         while self.repoll_one(log)? {}
         Ok(())
     }
+}
+
+/// Whether there are units enough for a sample, and no word is left to draw one by.
+#[tactic(auto, using(crate::proofs::Wordless::out_of_words))]
+fn lacks_words(params: &Params, roster: &Roster, words: &Words) -> bool
+    ensures sample { result ≡ true → sample_of roster.now params.now.k words.now ≡ Err SampleFault.WordsOut }
+    ensures none { result ≡ true → words.now ≡ [] }
+{
+    words.len() == 0 && u64::from(params.k()) <= roster.total()
 }
