@@ -110,6 +110,15 @@ polled_line p votes count before from to run run' below below' less small agree 
           ∙ (λ i. Straight run.id from run.to (outline (same i) below));
     }
 
+-- a visit of a last unary node, whose identifier stands below it
+pub polled_last : (p : Parameters) (votes : List Vote) (count before from : ℕ) (run run' : Run)
+    → from < run.to → run.to ≡ 256 → All (λ v. AgreeFrom from run.to run.id v.id) votes → count ≡ total_count votes
+    → ((b : Bool) → run_counter (before + 1) run' b ≡ stepped p (run_counter before run b) (on_side false count b) (on_side true count b))
+    → run'.id ≡ run.id → run'.to ≡ run.to → run'.seen ≡ before + 1 → IsPolled p votes before from (Line run (Tip run.id)) (Line run' (Tip run'.id))
+polled_last p votes count before from run run' less end agree is step id_is to_is seen =
+    polled_line p votes count before from run.to run run' (Tip run.id) (Tip run'.id) less (omega (arith, end)) agree is step id_is to_is seen refl
+    (subst (λ x. IsPolled p votes before run.to (Tip run.id) (Tip x)) (sym id_is) (at_end p votes before run.to run.id end))
+
 -- ---- votes at a binary node
 
 -- votes with a 0 at its bit that go down go down on that side
@@ -164,6 +173,10 @@ few_zeros p votes front behind at for_one good f b is most more =
 
 -- ---- restamping
 
+-- the stamps of nothing are none
+pub restamped_tip : (now : ℕ) (id : List ℕ) → IsRestamped now 0 (Tip id) (Tip id)
+restamped_tip now id = record { counters = λ from. refl; outline = λ from. refl; placed = λ from h. h; stamped = λ h. h; undecided = λ h. h }
+
 pub restamped_line : (now : ℕ) (run run' : Run) (below below' : Tree) → ((b : Bool) → run_counter 0 run' b ≡ run_counter now run b)
     → run'.id ≡ run.id → run'.to ≡ run.to → run'.seen ≡ 0 → IsRestamped now 0 below below' → IsRestamped now 0 (Line run below) (Line run' below')
 restamped_line now run run' below below' step id_is to_is seen h = record {
@@ -179,3 +192,9 @@ restamped_line now run run' below below' step id_is to_is seen h = record {
     h.undecided o.1,
   );
 }
+
+pub restamped_last : (now : ℕ) (run run' : Run) → ((b : Bool) → run_counter 0 run' b ≡ run_counter now run b)
+    → run'.id ≡ run.id → run'.to ≡ run.to → run'.seen ≡ 0 → IsRestamped now 0 (Line run (Tip run.id)) (Line run' (Tip run'.id))
+restamped_last now run run' step id_is to_is seen =
+    restamped_line now run run' (Tip run.id) (Tip run'.id) step id_is to_is seen
+    (subst (λ x. IsRestamped now 0 (Tip run.id) (Tip x)) (sym id_is) (restamped_tip now run.id))

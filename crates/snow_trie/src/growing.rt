@@ -1,5 +1,6 @@
 ghost use Rattle.std.specs.Prelude.{◌≡◌, ◌+◌, ◌<◌, OnOk, OnErr};
-ghost use Rattle.snow_trie.specs.Tree.{tree_of};
+ghost use Rattle.snow_base.specs.Identifier.{bit};
+ghost use Rattle.snow_trie.specs.Tree.{Tip, tree_of};
 ghost use Rattle.snow_trie.specs.Shape.{IsPlaced};
 ghost use Rattle.snow_trie.specs.Growing.{grown, branch, parted, before, after, joined, fork_of};
 ghost use Rattle.snow_trie.specs.Whole.{added};
@@ -40,7 +41,7 @@ fn add(node: &mut Node, alloc: Global, id: &Id, from: u16) -> Result<(), AllocEr
         return part(node, alloc, id, from, at);
     }
     match node {
-        Node::End(_) => Ok(()),
+        Node::End(_) | Node::Last(_) => Ok(()),
         Node::Along(run, below) => add(below, alloc, id, run.to),
         Node::Apart(_, zeros, ones) => {
             if id.bit(from) {
@@ -58,7 +59,7 @@ fn part(node: &mut Node, alloc: Global, id: &Id, from: u16, at: u16) -> Result<(
     ensures ok { OnOk result (tree_of node.new ≡ parted from at (branch id.now (at + 1)) (tree_of node.old)) }
     ensures err { OnErr result (tree_of node.new ≡ tree_of node.old) }
 {
-    let new = Box::new(alloc, node::branch(alloc, id, at + 1)?)?;
+    let new = Box::new(alloc, node::branch(id, at + 1))?;
     let first = Box::new(alloc, Node::End(*id))?;
     let second = Box::new(alloc, Node::End(*id))?;
     let old = mem::replace(node, Node::End(*id));
@@ -79,14 +80,27 @@ fn parted(
     ensures { tree_of result ≡ parted from at (tree_of new.value) (tree_of old) }
 {
     match old {
+        Node::Last(run) => {
+            let rest = after_last(&run, at, second);
+            apart(&run, from, at, rest, new, first)
+        }
         Node::Along(run, below) => {
-            let side = run.id.bit(at);
-            let fork = Fork::of(&run, side);
             let rest = after(&run, at, below, second);
-            before(&run, from, at, joined(side, fork, rest, new), first)
+            apart(&run, from, at, rest, new, first)
         }
         other => other,
     }
+}
+
+// What is left of a unary node behind a bit and a new branch, one on each side of that bit, behind what
+// is left before it.
+fn apart(run: &Run, from: u16, at: u16, rest: Box<Node>, new: Box<Node>, room: Box<Node>) -> Node
+    requires { at < 256 }
+    ensures { tree_of result ≡ before from at run.now (joined (bit (run.now).id at) (fork_of run.now (bit (run.now).id at)) (tree_of rest.value) (tree_of new.value)) }
+{
+    let side = run.id.bit(at);
+    let fork = Fork::of(run, side);
+    before(run, from, at, joined(side, fork, rest, new), room)
 }
 
 // The old piece on its side, and the new branch on the other.
@@ -111,6 +125,19 @@ fn after(run: &Run, at: u16, below: Box<Node>, mut room: Box<Node>) -> Box<Node>
     } else {
         below
     }
+}
+
+// The same of a last one, whose identifier stands below it.
+fn after_last(run: &Run, at: u16, mut room: Box<Node>) -> Box<Node>
+    requires { at < 256 }
+    ensures { tree_of result.value ≡ after at run.now (Tip (run.now).id) }
+{
+    *room = if at + 1 < run.to {
+        Node::Last(*run)
+    } else {
+        Node::End(run.id)
+    };
+    room
 }
 
 // What is left of it before a bit.

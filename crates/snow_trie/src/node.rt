@@ -1,4 +1,4 @@
-ghost use Rattle.std.specs.Prelude.{◌≡◌, ◌+◌, ◌-◌, ◌^◌, ◌<◌, ◌≤◌, Option, IfOk};
+ghost use Rattle.std.specs.Prelude.{◌≡◌, ◌+◌, ◌-◌, ◌^◌, ◌<◌, ◌≤◌, Option};
 ghost use Rattle.snow_flake.specs.Rule.{answer_of};
 ghost use Rattle.snow_trie.specs.Tree.{tree_of};
 ghost use Rattle.snow_trie.specs.Outline.{size};
@@ -10,27 +10,26 @@ use crate::fork::Fork;
 use crate::run::Run;
 use snow_base::Id;
 use snow_flake::Rule;
-use std::alloc::{AllocError, Global};
 
-/// A node of the tree, with what is below it. Behind its last bit an identifier stands.
+/// A node of the tree, with what is below it. Behind its last bit an identifier stands. A last unary
+/// node, up to that bit, is that identifier's own: it keeps nothing below it.
 #[derive(Debug, Drop)]
 pub enum Node {
     End(Id),
+    Last(Run),
     Along(Run, Box<Node>),
     Apart(Fork, Box<Node>, Box<Node>),
 }
 
 /// What stands from a bit on for an identifier that is added: a fresh unary node up to its end, or
 /// nothing behind the last bit.
-pub fn branch(alloc: Global, id: &Id, at: u16) -> Result<Node, AllocError>
-    ensures { IfOk result (λ node. tree_of node ≡ branch id.now at) }
+pub fn branch(id: &Id, at: u16) -> Node
+    ensures { tree_of result ≡ branch id.now at }
 {
-    let end = Node::End(*id);
     if at < 256 {
-        let below = Box::new(alloc, end)?;
-        Ok(Node::Along(Run::fresh(id), below))
+        Node::Last(Run::fresh(id))
     } else {
-        Ok(end)
+        Node::End(*id)
     }
 }
 
@@ -41,6 +40,7 @@ pub fn parting(node: &Node, id: &Id, from: u16) -> Option<u16>
 {
     match node {
         Node::Along(run, _) => run.id.first_difference(id, from, run.to),
+        Node::Last(run) => run.id.first_difference(id, from, run.to),
         _ => None,
     }
 }
@@ -52,6 +52,7 @@ pub fn count(node: &Node) -> usize
 {
     match node {
         Node::End(_) => 0,
+        Node::Last(_) => 1,
         Node::Along(_, below) => count(below) + 1,
         Node::Apart(_, zeros, ones) => count(zeros) + count(ones) + 1,
     }
@@ -63,6 +64,7 @@ pub fn preference<R: Rule>(node: &Node) -> &Id
 {
     match node {
         Node::End(id) => id,
+        Node::Last(run) => &run.id,
         Node::Along(_, below) => preference::<R>(below),
         Node::Apart(fork, zeros, ones) => {
             preference::<R>(if fork.answer::<R>() { ones } else { zeros })
@@ -76,6 +78,7 @@ pub fn first_leaf(node: &Node) -> &Id
 {
     match node {
         Node::End(id) => id,
+        Node::Last(run) => &run.id,
         Node::Along(_, below) => first_leaf(below),
         Node::Apart(_, zeros, _) => first_leaf(zeros),
     }

@@ -1,10 +1,11 @@
 ghost use Rattle.std.specs.Prelude.{◌≡◌, ℕ, ◌+◌, ◌<◌, false};
-ghost use Rattle.snow_trie.specs.Tree.{tree_of};
+ghost use Rattle.snow_trie.specs.Tree.{Tip, Line, tree_of};
 ghost use Rattle.snow_trie.specs.Shape.{IsPlaced};
 ghost use Rattle.snow_trie.specs.Peeling.{peeled};
 ghost use Rattle.snow_trie.specs.Whole.{next_leader};
 
 use crate::node::{Node, first_leaf};
+use crate::run::Run;
 use snow_base::Id;
 use snow_flake::Snowflake;
 use std::mem;
@@ -14,6 +15,24 @@ use std::mem;
 struct Rest {
     from: u16,
     root: Node,
+}
+
+// What is left of a last unary node: its identifier, where it is decided.
+fn past_last(run: &Run, from: u16) -> Rest
+    ensures from { result.from ≡ (peeled from (Line run.now (Tip (run.now).id))).0 }
+    ensures root { tree_of result.root ≡ (peeled from (Line run.now (Tip (run.now).id))).1 }
+{
+    if run.counter.is_final() {
+        Rest {
+            from: run.to,
+            root: Node::End(run.id),
+        }
+    } else {
+        Rest {
+            from,
+            root: Node::Last(*run),
+        }
+    }
 }
 
 // What is left of a tree whose decided first nodes are taken off.
@@ -33,6 +52,7 @@ fn peeled(node: Node, from: u16) -> Rest
                 }
             }
         }
+        Node::Last(run) => past_last(&run, from),
         Node::Apart(fork, zeros, ones) => {
             if fork.counter.is_final() {
                 let side = if fork.counter.preference::<Snowflake>() {
@@ -65,11 +85,13 @@ fn leader_of(rest: &Rest, leader: &Id, decided: u16) -> Id
 }
 
 // Whether the first node of a tree is decided.
+#[inline(always)]
 fn is_decided(node: &Node) -> bool
     ensures { result ≡ false → (from : ℕ) → peeled from (tree_of node.now) ≡ (from, tree_of node.now) }
 {
     match node {
         Node::End(_) => false,
+        Node::Last(run) => run.counter.is_final(),
         Node::Along(run, _) => run.counter.is_final(),
         Node::Apart(fork, _, _) => fork.counter.is_final(),
     }
@@ -77,16 +99,28 @@ fn is_decided(node: &Node) -> bool
 
 /// Takes the decided first nodes off a tree that begins at a bit behind a leader's first ones. The answer
 /// is the bit at which what is left begins, behind those of the leader then. Mostly nothing is taken off,
-/// and no node is moved.
+/// and no node is moved: so taking off is a function of its own, which has the room for moves.
+#[inline(always)]
 pub fn peel(root: &mut Node, leader: &mut Id, decided: u16) -> u16
     requires { IsPlaced decided (tree_of root.old) }
     ensures from { result ≡ (peeled decided (tree_of root.old)).0 }
     ensures root { tree_of root.new ≡ (peeled decided (tree_of root.old)).1 }
     ensures leader { leader.new ≡ next_leader leader.old decided result (tree_of root.new) }
 {
-    if !is_decided(root) {
-        return decided;
+    if is_decided(root) {
+        take_off(root, leader, decided)
+    } else {
+        decided
     }
+}
+
+#[inline(never)]
+fn take_off(root: &mut Node, leader: &mut Id, decided: u16) -> u16
+    requires { IsPlaced decided (tree_of root.old) }
+    ensures from { result ≡ (peeled decided (tree_of root.old)).0 }
+    ensures root { tree_of root.new ≡ (peeled decided (tree_of root.old)).1 }
+    ensures leader { leader.new ≡ next_leader leader.old decided result (tree_of root.new) }
+{
     let whole = mem::replace(root, Node::End(*leader));
     let rest = peeled(whole, decided);
     *leader = leader_of(&rest, leader, decided);

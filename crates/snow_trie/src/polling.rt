@@ -21,7 +21,7 @@ fn either(one: bool, other: bool) -> bool
 
 /// A poll comes to a tree with these votes, all for identifiers that go down it. Where they are
 /// fewer than AlphaPreference the tree fails, which is one step and touches no node. The answer is false
-/// only where the tree leads where it led.
+/// only where the tree leads where it led. That of one identifier is polled in place.
 pub fn poll<R: Rule, L: Ledger>(
     root: &mut Node,
     from: u16,
@@ -49,6 +49,11 @@ pub fn poll<R: Rule, L: Ledger>(
     }
     if from == 256 {
         steps.tick();
+        return false;
+    }
+    if let Node::Last(run) = root {
+        steps.tick();
+        run.poll(params, count, before);
         return false;
     }
     visit::<R, L>(root, from, params, votes, count, before, steps)
@@ -85,6 +90,11 @@ fn visit<R: Rule, L: Ledger>(
             steps.tick();
             run.poll(params, count, before);
             visit::<R, L>(below, run.to, params, votes, count, before, steps)
+        }
+        Node::Last(run) => {
+            steps.tick();
+            run.poll(params, count, before);
+            false
         }
         Node::Apart(fork, zeros, ones) => {
             steps.tick();
@@ -133,7 +143,8 @@ pub fn ready(root: &mut Node, polls: u64) -> u64
     0
 }
 
-// The stamps begin anew at 0, and say what they said after this many polls.
+// The stamps begin anew at 0, and say what they said after this many polls. That is rare.
+#[inline(never)]
 fn restamp(node: &mut Node, now: u64)
     ensures { IsRestamped now 0 (tree_of node.old) (tree_of node.new) }
 {
@@ -143,6 +154,7 @@ fn restamp(node: &mut Node, now: u64)
             run.restamp(now);
             restamp(below, now);
         }
+        Node::Last(run) => run.restamp(now),
         Node::Apart(fork, zeros, ones) => {
             fork.restamp(now);
             restamp(zeros, now);

@@ -11,8 +11,8 @@ use std::alloc::{AllocError, Global};
 use std::marker::{Model, PhantomData};
 use std::sync::ledger::Ledger;
 
-// More identifiers than any memory holds.
-const MOST_CHOICES: usize = 1 << 48;
+// With the first one these are more identifiers than any memory holds.
+const MOST_MORE: usize = (1 << 48) - 1;
 
 /// The counters of one conflict as a compressed tree, by whose rule they answer. A poll visits only
 /// nodes to which AlphaPreference votes come, so at most one at each bit; all others fail by their
@@ -21,7 +21,9 @@ const MOST_CHOICES: usize = 1 << 48;
 #[derive(Debug, Drop)]
 pub struct Trie<R: Rule> {
     params: Params,
-    ids: Vec<Id>,
+    // The identifiers in the order in which they were given. A list that is empty takes no memory.
+    first: Id,
+    more: Vec<Id>,
     polls: u64,
     // The bits up to here are decided, and are the leader's.
     decided: u16,
@@ -32,6 +34,7 @@ pub struct Trie<R: Rule> {
 }
 
 impl<R: Rule> Model for Trie<R> {
+    ghost use Rattle.std.specs.Prelude.{◌∷◌};
     ghost use Rattle.snow_trie.specs.Tree.{tree_of};
     ghost use Rattle.snow_trie.specs.Stamped.{whole};
     ghost use Rattle.snow_trie.specs.Whole.{Compressed, coded_compressed, nodes_of, IsWhole};
@@ -42,12 +45,12 @@ impl<R: Rule> Model for Trie<R> {
 
     ghost view = { λ a. record {
       parameters = a.params;
-      ids = a.ids.items;
+      ids = a.first ∷ a.more.items;
       counters = whole a.polls a.decided a.leader (tree_of a.root);
       nodes = nodes_of (tree_of a.root);
     } };
 
-    ghost invariant = { λ a. IsWhole a.ids.items a.polls a.decided a.leader (tree_of a.root) };
+    ghost invariant = { λ a. IsWhole (a.first ∷ a.more.items) a.polls a.decided a.leader (tree_of a.root) };
 }
 
 // Whether a poll may lead elsewhere: where it moved a counter that leads, began the stamps anew, or took
@@ -69,12 +72,11 @@ impl<R: Rule> Trie<R> {
     pub fn new(alloc: Global, params: Params, id: Id) -> Result<Self, AllocError>
         ensures { IfOk result (λ trie. trie ≡ begun params id) }
     {
-        let mut ids = Vec::with_capacity(alloc, 1)?;
-        ids.push_reserved(id);
-        let root = node::branch(alloc, &id, 0)?;
+        let root = node::branch(&id, 0);
         Ok(Trie {
             params,
-            ids,
+            first: id,
+            more: Vec::new(alloc),
             polls: 0,
             decided: 0,
             leader: id,
@@ -95,12 +97,12 @@ impl<R: Rule> Trie<R> {
         ensures few { HasFewNodes self.new }
         ensures err { OnErr result (self.new ≡ self.old) }
     {
-        if self.ids.len() >= MOST_CHOICES {
+        if self.more.len() >= MOST_MORE {
             return Err(AllocError);
         }
-        self.ids.reserve(1)?;
+        self.more.reserve(1)?;
         growing::add_behind(&mut self.root, self.alloc, &id, &self.leader, self.decided)?;
-        self.ids.push_reserved(id);
+        self.more.push_reserved(id);
         Ok(())
     }
 
@@ -188,7 +190,7 @@ impl<R: Rule> Trie<R> {
         ensures nodes { result ≡ (self.now).nodes }
         ensures few { HasFewNodes self.now }
     {
-        let _choices = self.ids.len();
+        let _more = self.more.len();
         node::count(&self.root).max(1)
     }
 
@@ -197,6 +199,6 @@ impl<R: Rule> Trie<R> {
         ensures count { result ≡ length (self.now).ids }
         ensures alone { length (self.now).ids ≡ 1 → All (λ id. chosen R.answer (self.now).counters ≡ bits id) (self.now).ids }
     {
-        self.ids.len()
+        self.more.len() + 1
     }
 }

@@ -3,7 +3,7 @@ use Rattle.std.proofs.lemmas.List.Elements.{All-take, All-drop}
 use Rattle.snow_trie.specs.Tree.{tree_of}
 use Rattle.snow_trie.specs.Outline.{Split, outline, Leads}
 use Rattle.snow_trie.specs.Peeling.{preferred}
-use Rattle.snow_trie.proofs.Visited.{at_end, agree_on, down_zero, down_one, polled_line, polled_two, unvisited, few_ones, few_zeros}
+use Rattle.snow_trie.proofs.Visited.{at_end, agree_on, down_zero, down_one, polled_line, polled_last, polled_two, unvisited, few_ones, few_zeros}
 use Rattle.snow_trie.proofs.polling.+visit.Goals as goal
 
 pub visit-requires : goal.visit-requires
@@ -116,6 +116,14 @@ returns-in-Along-clause-tree g t c =
     rw c.in-Along.is (polled_line c.args.params.now c.args.votes.now c.args.count c.args.before c.args.from (c.poll.new.self).to c.in-Along.run' c.poll.new.self
     (tree_of c.in-Along.below.value) (tree_of c.visit.new.node) placed.0 placed.1 (λ k d h. (known k d h).0) c.requires.count
     c.poll.ensures.counter c.poll.ensures.id c.poll.ensures.to c.poll.ensures.seen c.poll.ensures.to (rw c.deref_mut.ensures.value at c.visit.ensures.tree))
+
+pub returns-in-Last-clause-tree : goal.returns-in-Last-clause-tree
+returns-in-Last-clause-tree g t c =
+    let placed = rw c.in-Last.is at c.requires.placed in
+    let known = rw c.in-Last.is at c.requires.known in
+    rw c.in-Last.is (polled_last c.args.params.now c.args.votes.now c.args.count c.args.before c.args.from c.in-Last.run' c.poll-in-Last.new.self
+    placed.0 placed.2 (λ k d h. (known k d h).0) c.requires.count
+    c.poll-in-Last.ensures.counter c.poll-in-Last.ensures.id c.poll-in-Last.ensures.to c.poll-in-Last.ensures.seen)
 
 pub returns-then-alpha_preference-zero-clause-tree : goal.returns-then-alpha_preference-zero-clause-tree
 returns-then-alpha_preference-zero-clause-tree g t c =

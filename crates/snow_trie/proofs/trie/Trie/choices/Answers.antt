@@ -1,3 +1,4 @@
+use Rattle.std.proofs.Common.{◌∷◌}
 use Rattle.snow_trie.specs.Tree.{tree_of}
 use Rattle.snow_trie.proofs.Chosen.{chosen_alone}
 use Rattle.snow_trie.proofs.trie.Trie.choices.Goals as goal
@@ -6,4 +7,4 @@ pub returns-clause-alone : goal.returns-clause-alone
 returns-clause-alone g c =
     let inside = c.self.inside in
     rw (← c.self.view_is)
-    (chosen_alone g.R.Rule.answer inside.ids.items inside.polls inside.decided inside.leader (tree_of inside.root) g.met.R.Rule.agrees c.self.invariant)
+    (chosen_alone g.R.Rule.answer (inside.first ∷ inside.more.items) inside.polls inside.decided inside.leader (tree_of inside.root) g.met.R.Rule.agrees c.self.invariant)

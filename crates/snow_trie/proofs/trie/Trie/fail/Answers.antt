@@ -1,4 +1,4 @@
-use Rattle.std.proofs.Common.{max, refl, ap, ◌∙◌}
+use Rattle.std.proofs.Common.{◌∷◌, max, refl, ap, ◌∙◌}
 use Rattle.snow_flake.specs.Counter.{Decided}
 use Rattle.snow_plain.specs.Conflict.{chosen}
 use Rattle.snow_plain.specs.FailingLaw.{failed}
@@ -12,8 +12,8 @@ pub invariant_of-self : goal.invariant_of-self
 invariant_of-self g c =
     let inside = c.self.inside in
     let now = tree_of c.ready-before.new.root in
-    whole_failed inside.ids.items inside.params c.ready-before.result inside.decided inside.leader now c.k-k.ensures.good
-    (whole_restamped inside.ids.items inside.polls c.ready-before.result inside.decided inside.leader (tree_of inside.root) now c.self.invariant c.ready-before.ensures.tree)
+    whole_failed (inside.first ∷ inside.more.items) inside.params c.ready-before.result inside.decided inside.leader now c.k-k.ensures.good
+    (whole_restamped (inside.first ∷ inside.more.items) inside.polls c.ready-before.result inside.decided inside.leader (tree_of inside.root) now c.self.invariant c.ready-before.ensures.tree)
 
 pub returns-clause-trie : goal.returns-clause-trie
 returns-clause-trie g c =
@@ -25,14 +25,14 @@ returns-clause-trie g c =
     ∙ ap (λ rest. failed inside.params (strand (between inside.leader 0 inside.decided) Decided rest)) (same.counters inside.decided)
     in
     let nodes = ap (max 1) (same_size inside.decided (tree_of inside.root) now (same.outline inside.decided)) in
-    rw (← c.self.view_is) (λ i. record { parameters = inside.params; ids = inside.ids.items; counters = counters i; nodes = nodes i })
+    rw (← c.self.view_is) (λ i. record { parameters = inside.params; ids = inside.first ∷ inside.more.items; counters = counters i; nodes = nodes i })
 
 pub returns-clause-few : goal.returns-clause-few
 returns-clause-few g c =
     let inside = c.self.inside in
     let now = tree_of c.ready-before.new.root in
-    few_nodes inside.ids.items c.ready-before.result inside.decided inside.leader now _
-    (whole_restamped inside.ids.items inside.polls c.ready-before.result inside.decided inside.leader (tree_of inside.root) now c.self.invariant c.ready-before.ensures.tree) refl refl
+    few_nodes (inside.first ∷ inside.more.items) c.ready-before.result inside.decided inside.leader now _
+    (whole_restamped (inside.first ∷ inside.more.items) inside.polls c.ready-before.result inside.decided inside.leader (tree_of inside.root) now c.self.invariant c.ready-before.ensures.tree) refl refl
 
 pub returns-clause-steady : goal.returns-clause-steady
 returns-clause-steady g c =

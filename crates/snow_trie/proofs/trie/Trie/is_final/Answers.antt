@@ -1,3 +1,4 @@
+use Rattle.std.proofs.Common.{◌∷◌}
 use Rattle.snow_trie.specs.Tree.{tree_of}
 use Rattle.snow_trie.proofs.Chosen.{final_whole}
 use Rattle.snow_trie.proofs.trie.Trie.is_final.Goals as goal
@@ -5,4 +6,4 @@ use Rattle.snow_trie.proofs.trie.Trie.is_final.Goals as goal
 pub returns : goal.returns
 returns g c =
     let inside = c.self.inside in
-    rw (← c.self.view_is) (final_whole inside.ids.items inside.polls inside.decided inside.leader (tree_of inside.root) c.self.invariant)
+    rw (← c.self.view_is) (final_whole (inside.first ∷ inside.more.items) inside.polls inside.decided inside.leader (tree_of inside.root) c.self.invariant)

@@ -1,4 +1,4 @@
-use Rattle.std.proofs.Common.{◌+◌, ◌≤◌, All, Contains, refl, sym, subst, ◌∙◌, arith}
+use Rattle.std.proofs.Common.{◌∷◌, ◌+◌, ◌≤◌, All, Contains, refl, sym, subst, ◌∙◌, arith}
 use Rattle.snow_base.specs.declared.vote.Vote.{Vote}
 use Rattle.snow_base.specs.Votes.{total_count}
 use Rattle.snow_trie.specs.Tree.{tree_of}
@@ -12,7 +12,7 @@ poll-moved-requires-clause-known g c =
     let inside = c.self.inside in
     let given = subst (λ (t : Compressed). All (λ (v : Vote). Contains t.ids v.id) c.args.votes.now) (sym c.self.view_is) c.requires.given in
     rw (c.ready-before.ensures.tree.outline inside.decided)
-    (all_lead inside.ids.items inside.polls inside.decided inside.leader (tree_of inside.root) c.args.votes.now c.narrowed-votes.result.now c.self.invariant given c.narrowed-votes.ensures)
+    (all_lead (inside.first ∷ inside.more.items) inside.polls inside.decided inside.leader (tree_of inside.root) c.args.votes.now c.narrowed-votes.result.now c.self.invariant given c.narrowed-votes.ensures)
 
 pub poll-moved-requires-clause-most : goal.poll-moved-requires-clause-most
 poll-moved-requires-clause-most g c =
@@ -25,7 +25,7 @@ invariant_of-self g c =
     let inside = c.self.inside in
     let most = subst (λ (t : Compressed). total_count c.args.votes.now ≤ t.parameters.k) (sym c.self.view_is) c.requires.most in
     rw (c.peel-from.ensures.leader, c.peel-from.ensures.from, c.peel-from.ensures.root)
-    (whole_polled inside.ids.items inside.params inside.polls c.ready-before.result inside.decided inside.leader c.args.votes.now c.narrowed-votes.result.now
+    (whole_polled (inside.first ∷ inside.more.items) inside.params inside.polls c.ready-before.result inside.decided inside.leader c.args.votes.now c.narrowed-votes.result.now
     (tree_of inside.root) (tree_of c.ready-before.new.root) (tree_of c.poll-moved.new.root)
     (record { good = c.k-k.ensures.good; was = c.self.invariant; restamped = c.ready-before.ensures.tree; narrowed = c.narrowed-votes.ensures; polled = c.poll-moved.ensures.tree; most = most }))
 
@@ -34,7 +34,7 @@ returns-clause-counters g c =
     let inside = c.self.inside in
     let most = subst (λ (t : Compressed). total_count c.args.votes.now ≤ t.parameters.k) (sym c.self.view_is) c.requires.most in
     rw (← c.self.view_is, c.peel-from.ensures.leader, c.peel-from.ensures.from, c.peel-from.ensures.root)
-    (polled_counters inside.ids.items inside.params inside.polls c.ready-before.result inside.decided inside.leader c.args.votes.now c.narrowed-votes.result.now
+    (polled_counters (inside.first ∷ inside.more.items) inside.params inside.polls c.ready-before.result inside.decided inside.leader c.args.votes.now c.narrowed-votes.result.now
     (tree_of inside.root) (tree_of c.ready-before.new.root) (tree_of c.poll-moved.new.root)
     (record { good = c.k-k.ensures.good; was = c.self.invariant; restamped = c.ready-before.ensures.tree; narrowed = c.narrowed-votes.ensures; polled = c.poll-moved.ensures.tree; most = most }))
 
@@ -43,7 +43,7 @@ returns-clause-nodes g c =
     let inside = c.self.inside in
     let most = subst (λ (t : Compressed). total_count c.args.votes.now ≤ t.parameters.k) (sym c.self.view_is) c.requires.most in
     rw (← c.self.view_is, c.peel-from.ensures.root)
-    (fewer_nodes inside.ids.items inside.params inside.polls c.ready-before.result inside.decided inside.leader c.args.votes.now c.narrowed-votes.result.now
+    (fewer_nodes (inside.first ∷ inside.more.items) inside.params inside.polls c.ready-before.result inside.decided inside.leader c.args.votes.now c.narrowed-votes.result.now
     (tree_of inside.root) (tree_of c.ready-before.new.root) (tree_of c.poll-moved.new.root)
     (record { good = c.k-k.ensures.good; was = c.self.invariant; restamped = c.ready-before.ensures.tree; narrowed = c.narrowed-votes.ensures; polled = c.poll-moved.ensures.tree; most = most }))
 
@@ -52,8 +52,8 @@ returns-clause-few g c =
     let inside = c.self.inside in
     let most = subst (λ (t : Compressed). total_count c.args.votes.now ≤ t.parameters.k) (sym c.self.view_is) c.requires.most in
     rw (c.peel-from.ensures.root)
-    (few_nodes inside.ids.items (c.ready-before.result + 1) _ _ _ _
-    (whole_polled inside.ids.items inside.params inside.polls c.ready-before.result inside.decided inside.leader c.args.votes.now c.narrowed-votes.result.now
+    (few_nodes (inside.first ∷ inside.more.items) (c.ready-before.result + 1) _ _ _ _
+    (whole_polled (inside.first ∷ inside.more.items) inside.params inside.polls c.ready-before.result inside.decided inside.leader c.args.votes.now c.narrowed-votes.result.now
     (tree_of inside.root) (tree_of c.ready-before.new.root) (tree_of c.poll-moved.new.root)
     (record { good = c.k-k.ensures.good; was = c.self.invariant; restamped = c.ready-before.ensures.tree; narrowed = c.narrowed-votes.ensures; polled = c.poll-moved.ensures.tree; most = most })) refl refl)
 
@@ -70,7 +70,7 @@ returns-clause-steady g c =
     let stays = c.has_moved-is_elsewhere.ensures s in
     let most = subst (λ (t : Compressed). total_count c.args.votes.now ≤ t.parameters.k) (sym c.self.view_is) c.requires.most in
     rw (← c.self.view_is, c.peel-from.ensures.leader, c.peel-from.ensures.from, c.peel-from.ensures.root)
-    (still_chosen g.R.Rule.answer inside.ids.items inside.params inside.polls c.ready-before.result inside.decided inside.leader c.args.votes.now c.narrowed-votes.result.now
+    (still_chosen g.R.Rule.answer (inside.first ∷ inside.more.items) inside.params inside.polls c.ready-before.result inside.decided inside.leader c.args.votes.now c.narrowed-votes.result.now
     (tree_of inside.root) (tree_of c.ready-before.new.root) (tree_of c.poll-moved.new.root) g.met.R.Rule.agrees
     (record { good = c.k-k.ensures.good; was = c.self.invariant; restamped = c.ready-before.ensures.tree; narrowed = c.narrowed-votes.ensures; polled = c.poll-moved.ensures.tree; most = most })
     (sym c.peel-from.ensures.from ∙ stays.2) (c.ready-before.ensures.kept stays.1) (c.poll-moved.ensures.steady stays.0))
