@@ -1,6 +1,6 @@
-ghost use Rattle.std.specs.Prelude.{◌≡◌, ◌+◌, ◌<◌, OnOk, OnErr};
+ghost use Rattle.std.specs.Prelude.{◌≡◌, ◌+◌, ◌<◌, IfOk, OnOk, OnErr};
 ghost use Rattle.snow_base.specs.Identifier.{bit};
-ghost use Rattle.snow_trie.specs.Tree.{Tip, tree_of};
+ghost use Rattle.snow_trie.specs.Tree.{Tip, Line, tree_of};
 ghost use Rattle.snow_trie.specs.Shape.{IsPlaced};
 ghost use Rattle.snow_trie.specs.Growing.{grown, branch, parted, before, after, joined, fork_of};
 ghost use Rattle.snow_trie.specs.Whole.{added};
@@ -59,36 +59,51 @@ fn part(node: &mut Node, alloc: Global, id: &Id, from: u16, at: u16) -> Result<(
     ensures ok { OnOk result (tree_of node.new ≡ parted from at (branch id.now (at + 1)) (tree_of node.old)) }
     ensures err { OnErr result (tree_of node.new ≡ tree_of node.old) }
 {
+    if let Node::Last(run) = node {
+        *node = parted_last(run, alloc, id, from, at)?;
+        return Ok(());
+    }
     let new = Box::new(alloc, node::branch(id, at + 1))?;
     let first = Box::new(alloc, Node::End(*id))?;
     let second = Box::new(alloc, Node::End(*id))?;
     let old = mem::replace(node, Node::End(*id));
-    *node = parted(old, new, first, second, from, at);
-    Ok(())
-}
-
-// The node parted at a bit, with a new branch. The other two nodes are room for its pieces.
-fn parted(
-    old: Node,
-    new: Box<Node>,
-    first: Box<Node>,
-    second: Box<Node>,
-    from: u16,
-    at: u16,
-) -> Node
-    requires { at < 256 }
-    ensures { tree_of result ≡ parted from at (tree_of new.value) (tree_of old) }
-{
-    match old {
-        Node::Last(run) => {
-            let rest = after_last(&run, at, second);
-            apart(&run, from, at, rest, new, first)
-        }
+    *node = match old {
         Node::Along(run, below) => {
             let rest = after(&run, at, below, second);
             apart(&run, from, at, rest, new, first)
         }
         other => other,
+    };
+    Ok(())
+}
+
+// A last unary node parted at a bit, with a new branch. It has nothing below it that would have to be
+// moved, so each piece is made where it stays.
+fn parted_last(run: &Run, alloc: Global, id: &Id, from: u16, at: u16) -> Result<Node, AllocError>
+    requires { at < 256 }
+    ensures { IfOk result (λ node. tree_of node ≡ parted from at (branch id.now (at + 1)) (Line run.now (Tip (run.now).id))) }
+{
+    let new = Box::new(alloc, node::branch(id, at + 1))?;
+    let rest = Box::new(alloc, after_last(run, at))?;
+    let side = run.id.bit(at);
+    let fork = joined(side, Fork::of(run, side), rest, new);
+    if from < at {
+        let below = Box::new(alloc, fork)?;
+        Ok(Node::Along(Run { to: at, ..*run }, below))
+    } else {
+        Ok(fork)
+    }
+}
+
+// What is left of it behind a bit, or its identifier.
+fn after_last(run: &Run, at: u16) -> Node
+    requires { at < 256 }
+    ensures { tree_of result ≡ after at run.now (Tip (run.now).id) }
+{
+    if at + 1 < run.to {
+        Node::Last(*run)
+    } else {
+        Node::End(run.id)
     }
 }
 
@@ -114,7 +129,7 @@ fn joined(side: bool, fork: Fork, old: Box<Node>, new: Box<Node>) -> Node
     }
 }
 
-// What is left of a unary node behind a bit.
+// What is left of it behind a bit.
 fn after(run: &Run, at: u16, below: Box<Node>, mut room: Box<Node>) -> Box<Node>
     requires { at < 256 }
     ensures { tree_of result.value ≡ after at run.now (tree_of below.value) }
@@ -125,19 +140,6 @@ fn after(run: &Run, at: u16, below: Box<Node>, mut room: Box<Node>) -> Box<Node>
     } else {
         below
     }
-}
-
-// The same of a last one, whose identifier stands below it.
-fn after_last(run: &Run, at: u16, mut room: Box<Node>) -> Box<Node>
-    requires { at < 256 }
-    ensures { tree_of result.value ≡ after at run.now (Tip (run.now).id) }
-{
-    *room = if at + 1 < run.to {
-        Node::Last(*run)
-    } else {
-        Node::End(run.id)
-    };
-    room
 }
 
 // What is left of it before a bit.
