@@ -154,6 +154,15 @@ polled_two p votes front behind at before from for_zero for_one fork fork' z z' 
       outline = λ i. Split from (below_z.outline i) (below_o.outline i);
     }
 
+-- the votes of both are all
+pub both_sides : (votes front behind : List Vote) (at count for_zero : ℕ) → front ≡ take at votes → behind ≡ drop at votes → for_zero ≡ total_count front
+    → count ≡ total_count votes → count ≡ for_zero + total_count behind
+both_sides votes front behind at count for_zero f b is all =
+    let sum = sum_by-take-drop (λ (v : Vote). v.count) votes at in
+    let first = is ∙ ap total_count f in
+    let second = ap total_count b in
+    omega (arith, sum, first, second, all)
+
 -- where one side has AlphaPreference votes, the other has few
 pub few_ones : (p : Parameters) (votes front behind : List Vote) (at for_zero : ℕ) → AreGood p → front ≡ take at votes → behind ≡ drop at votes → for_zero ≡ total_count front
     → total_count votes ≤ p.k → p.alpha_preference ≤ for_zero → total_count behind < p.alpha_preference

@@ -99,7 +99,8 @@ fn is_decided(node: &Node) -> bool
 
 /// Takes the decided first nodes off a tree that begins at a bit behind a leader's first ones. The answer
 /// is the bit at which what is left begins, behind those of the leader then. Mostly nothing is taken off,
-/// and no node is moved: so taking off is a function of its own, which has the room for moves.
+/// or a last node, of which an identifier is left: so taking off more is a function of its own, which has
+/// the room for moves.
 #[inline(always)]
 pub fn peel(root: &mut Node, leader: &mut Id, decided: u16) -> u16
     requires { IsPlaced decided (tree_of root.old) }
@@ -107,6 +108,15 @@ pub fn peel(root: &mut Node, leader: &mut Id, decided: u16) -> u16
     ensures root { tree_of root.new ≡ (peeled decided (tree_of root.old)).1 }
     ensures leader { leader.new ≡ next_leader leader.old decided result (tree_of root.new) }
 {
+    if let Node::Last(run) = root {
+        if !run.counter.is_final() {
+            return decided;
+        }
+        let to = run.to;
+        *leader = run.id;
+        *root = Node::End(*leader);
+        return to;
+    }
     if is_decided(root) {
         take_off(root, leader, decided)
     } else {

@@ -56,11 +56,13 @@ pub fn poll<R: Rule, L: Ledger>(
         run.poll(params, count, before);
         return false;
     }
-    visit::<R, L>(root, from, params, votes, count, before, steps)
+    visit::<R, L>(root, from, params, votes, count, before, steps, false)
 }
 
-// A poll comes to a node. It goes on to a side with AlphaPreference votes alone: the stamps of the
-// others say that they failed.
+// A poll comes to a node, where one above it moved, or none. It goes on to a side with AlphaPreference
+// votes alone: the stamps of the others say that they failed. Going on is the last that is done, so no
+// frame is kept for it.
+#[inline(never)]
 fn visit<R: Rule, L: Ledger>(
     node: &mut Node,
     from: u16,
@@ -69,6 +71,7 @@ fn visit<R: Rule, L: Ledger>(
     count: u32,
     before: u64,
     steps: &mut Steps<L>,
+    moved: bool,
 ) -> bool
     requires placed { IsPlaced from (tree_of node.old) }
     requires stamped { IsStamped before (tree_of node.old) }
@@ -82,36 +85,42 @@ fn visit<R: Rule, L: Ledger>(
     ensures later { steps.old ≤ steps.new }
     ensures least { from < 256 → steps.old < steps.new }
     ensures most { steps.new ≤ steps.old + size (tree_of node.old) }
+    ensures above { result ≡ false → moved ≡ false }
     ensures steady { result ≡ false → preferred R.answer (tree_of node.new) ≡ preferred R.answer (tree_of node.old) }
 {
     match node {
-        Node::End(_) => false,
+        Node::End(_) => moved,
         Node::Along(run, below) => {
             steps.tick();
             run.poll(params, count, before);
-            visit::<R, L>(below, run.to, params, votes, count, before, steps)
+            visit::<R, L>(below, run.to, params, votes, count, before, steps, moved)
         }
         Node::Last(run) => {
             steps.tick();
             run.poll(params, count, before);
-            false
+            moved
         }
         Node::Apart(fork, zeros, ones) => {
             steps.tick();
-            let (for_zero, for_one) = votes.split_at(split(votes, from));
+            let at = split(votes, from);
+            let (for_zero, for_one) = votes.split_at(at);
             let zero = total(params, for_zero);
-            let one = total(params, for_one);
-            let moved = fork.poll::<R>(params, zero, one, before);
+            let one = behind(for_one, count, zero);
+            let here = fork.poll::<R>(params, zero, one, before);
+            let moved = either(moved, here);
             if params.alpha_preference() <= zero {
-                either(
+                visit::<R, L>(
+                    zeros,
+                    from + 1,
+                    params,
+                    for_zero,
+                    zero,
+                    before,
+                    steps,
                     moved,
-                    visit::<R, L>(zeros, from + 1, params, for_zero, zero, before, steps),
                 )
             } else if params.alpha_preference() <= one {
-                either(
-                    moved,
-                    visit::<R, L>(ones, from + 1, params, for_one, one, before, steps),
-                )
+                visit::<R, L>(ones, from + 1, params, for_one, one, before, steps, moved)
             } else {
                 moved
             }
@@ -127,6 +136,15 @@ fn total(params: &Params, votes: &[Vote]) -> u32
 {
     let _k = params.k();
     votes.iter().map(|vote| vote.count).sum()
+}
+
+// How many of so many votes are these, where so many are before them.
+fn behind(votes: &[Vote], count: u32, front: u32) -> u32
+    requires { count ≡ front + total_count votes.now }
+    ensures count { result ≡ total_count votes.now }
+    ensures few { result ≤ count }
+{
+    count - front
 }
 
 /// The number of polls so far, where the next one has a number too: at the end of 64 bits the

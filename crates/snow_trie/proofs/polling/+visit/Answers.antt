@@ -3,7 +3,7 @@ use Rattle.std.proofs.lemmas.List.Elements.{All-take, All-drop}
 use Rattle.snow_trie.specs.Tree.{tree_of}
 use Rattle.snow_trie.specs.Outline.{Split, outline, Leads}
 use Rattle.snow_trie.specs.Peeling.{preferred}
-use Rattle.snow_trie.proofs.Visited.{at_end, agree_on, down_zero, down_one, polled_line, polled_last, polled_two, unvisited, few_ones, few_zeros}
+use Rattle.snow_trie.proofs.Visited.{at_end, agree_on, down_zero, down_one, polled_line, polled_last, polled_two, unvisited, both_sides, few_ones, few_zeros}
 use Rattle.snow_trie.proofs.polling.+visit.Goals as goal
 
 pub visit-requires : goal.visit-requires
@@ -40,6 +40,11 @@ visit-requires g t c κs within =
       ),
     )
 
+pub behind-one-requires : goal.behind-one-requires
+behind-one-requires g t c =
+    both_sides c.args.votes.now c.split_at.result.0.now c.split_at.result.1.now c.split-at.result c.args.count c.total-zero.result
+    c.split_at.ensures.front c.split_at.ensures.back c.total-zero.ensures.count c.requires.count
+
 pub visit-requires-then-alpha_preference-zero : goal.visit-requires-then-alpha_preference-zero
 visit-requires-then-alpha_preference-zero g t c κs within =
     let falls = c.decreases in
@@ -59,11 +64,11 @@ visit-requires-then-alpha_preference-zero g t c κs within =
             (
               rw here stamped.1,
               (
-                rw (here, c.split_at.ensures.front) (down_zero c.args.from zeros ones (take c.split.result c.args.votes.now)
-                    (All-take (λ v. Leads (Split c.args.from zeros ones) v.id) c.split.result c.args.votes.now known) c.split.ensures.zeros),
+                rw (here, c.split_at.ensures.front) (down_zero c.args.from zeros ones (take c.split-at.result c.args.votes.now)
+                    (All-take (λ v. Leads (Split c.args.from zeros ones) v.id) c.split-at.result c.args.votes.now known) c.split-at.ensures.zeros),
                 (
-                  rw c.split_at.ensures.front c.split.ensures.zeros_order,
-                  (rw c.split_at.ensures.front c.split.ensures.zeros_agree, (c.total-zero.ensures.count, (c.total-zero.ensures.few, c.requires.room))),
+                  rw c.split_at.ensures.front c.split-at.ensures.zeros_order,
+                  (rw c.split_at.ensures.front c.split-at.ensures.zeros_agree, (c.total-zero.ensures.count, (c.total-zero.ensures.few, c.requires.room))),
                 ),
               ),
             ),
@@ -91,11 +96,11 @@ visit-requires-then-alpha_preference-one g t c κs within =
             (
               rw here stamped.2,
               (
-                rw (here, c.split_at.ensures.back) (down_one c.args.from zeros ones (drop c.split.result c.args.votes.now)
-                    (All-drop (λ v. Leads (Split c.args.from zeros ones) v.id) c.split.result c.args.votes.now known) c.split.ensures.ones),
+                rw (here, c.split_at.ensures.back) (down_one c.args.from zeros ones (drop c.split-at.result c.args.votes.now)
+                    (All-drop (λ v. Leads (Split c.args.from zeros ones) v.id) c.split-at.result c.args.votes.now known) c.split-at.ensures.ones),
                 (
-                  rw c.split_at.ensures.back c.split.ensures.ones_order,
-                  (rw c.split_at.ensures.back c.split.ensures.ones_agree, (c.total-one.ensures.count, (c.total-one.ensures.few, c.requires.room))),
+                  rw c.split_at.ensures.back c.split-at.ensures.ones_order,
+                  (rw c.split_at.ensures.back c.split-at.ensures.ones_agree, (c.behind-one.ensures.count, (omega (arith, c.behind-one.ensures.few, c.requires.most), c.requires.room))),
                 ),
               ),
             ),
@@ -130,13 +135,13 @@ returns-then-alpha_preference-zero-clause-tree g t c =
     let placed = rw c.in-Apart.is at c.requires.placed in
     let stamped = rw c.in-Apart.is at c.requires.stamped in
     let p = c.args.params.now in
-    let few = few_ones p c.args.votes.now c.split_at.result.0.now c.split_at.result.1.now c.split.result c.total-zero.result c.alpha_preference.ensures.good
+    let few = few_ones p c.args.votes.now c.split_at.result.0.now c.split_at.result.1.now c.split-at.result c.total-zero.result c.alpha_preference.ensures.good
     c.split_at.ensures.front c.split_at.ensures.back c.total-zero.ensures.count (omega (arith, c.requires.count, c.requires.most)) (omega (arith, c.if-alpha_preference-zero.true, c.alpha_preference.ensures.value)) in
-    rw c.in-Apart.is (polled_two p c.args.votes.now c.split_at.result.0.now c.split_at.result.1.now c.split.result c.args.before c.args.from
-    c.total-zero.result c.total-one.result c.in-Apart.fork c.poll-moved.new.self
+    rw c.in-Apart.is (polled_two p c.args.votes.now c.split_at.result.0.now c.split_at.result.1.now c.split-at.result c.args.before c.args.from
+    c.total-zero.result c.behind-one.result c.in-Apart.fork c.poll-here.new.self
     (tree_of c.in-Apart.zeros.value) (tree_of c.visit-then-alpha_preference-zero.new.node) (tree_of c.in-Apart.ones.value) (tree_of c.in-Apart.ones.value)
-    placed.0 c.split.ensures.zeros c.split.ensures.ones c.split_at.ensures.front c.split_at.ensures.back c.total-zero.ensures.count c.total-one.ensures.count
-    c.poll-moved.ensures.counter c.poll-moved.ensures.seen
+    placed.0 c.split-at.ensures.zeros c.split-at.ensures.ones c.split_at.ensures.front c.split_at.ensures.back c.total-zero.ensures.count c.behind-one.ensures.count
+    c.poll-here.ensures.counter c.poll-here.ensures.seen
     (rw c.deref_mut-then-alpha_preference-zero.ensures.value at c.visit-then-alpha_preference-zero.ensures.tree)
     (unvisited p c.split_at.result.1.now c.args.before (c.args.from + 1) (tree_of c.in-Apart.ones.value) c.alpha_preference.ensures.good placed.2 stamped.2 few))
 
@@ -145,13 +150,13 @@ returns-then-alpha_preference-one-clause-tree g t c =
     let placed = rw c.in-Apart.is at c.requires.placed in
     let stamped = rw c.in-Apart.is at c.requires.stamped in
     let p = c.args.params.now in
-    let few = few_zeros p c.args.votes.now c.split_at.result.0.now c.split_at.result.1.now c.split.result c.total-one.result c.alpha_preference.ensures.good
-    c.split_at.ensures.front c.split_at.ensures.back c.total-one.ensures.count (omega (arith, c.requires.count, c.requires.most)) (omega (arith, c.if-alpha_preference-one.true, c.alpha_preference-else-alpha_preference-zero.ensures.value)) in
-    rw c.in-Apart.is (polled_two p c.args.votes.now c.split_at.result.0.now c.split_at.result.1.now c.split.result c.args.before c.args.from
-    c.total-zero.result c.total-one.result c.in-Apart.fork c.poll-moved.new.self
+    let few = few_zeros p c.args.votes.now c.split_at.result.0.now c.split_at.result.1.now c.split-at.result c.behind-one.result c.alpha_preference.ensures.good
+    c.split_at.ensures.front c.split_at.ensures.back c.behind-one.ensures.count (omega (arith, c.requires.count, c.requires.most)) (omega (arith, c.if-alpha_preference-one.true, c.alpha_preference-else-alpha_preference-zero.ensures.value)) in
+    rw c.in-Apart.is (polled_two p c.args.votes.now c.split_at.result.0.now c.split_at.result.1.now c.split-at.result c.args.before c.args.from
+    c.total-zero.result c.behind-one.result c.in-Apart.fork c.poll-here.new.self
     (tree_of c.in-Apart.zeros.value) (tree_of c.in-Apart.zeros.value) (tree_of c.in-Apart.ones.value) (tree_of c.visit-then-alpha_preference-one.new.node)
-    placed.0 c.split.ensures.zeros c.split.ensures.ones c.split_at.ensures.front c.split_at.ensures.back c.total-zero.ensures.count c.total-one.ensures.count
-    c.poll-moved.ensures.counter c.poll-moved.ensures.seen
+    placed.0 c.split-at.ensures.zeros c.split-at.ensures.ones c.split_at.ensures.front c.split_at.ensures.back c.total-zero.ensures.count c.behind-one.ensures.count
+    c.poll-here.ensures.counter c.poll-here.ensures.seen
     (unvisited p c.split_at.result.0.now c.args.before (c.args.from + 1) (tree_of c.in-Apart.zeros.value) c.alpha_preference.ensures.good placed.1 stamped.1 few)
     (rw c.deref_mut-then-alpha_preference-one.ensures.value at c.visit-then-alpha_preference-one.ensures.tree))
 
@@ -161,33 +166,44 @@ returns-else-alpha_preference-one-clause-tree g t c =
     let stamped = rw c.in-Apart.is at c.requires.stamped in
     let p = c.args.params.now in
     let good = c.alpha_preference.ensures.good in
-    rw c.in-Apart.is (polled_two p c.args.votes.now c.split_at.result.0.now c.split_at.result.1.now c.split.result c.args.before c.args.from
-    c.total-zero.result c.total-one.result c.in-Apart.fork c.poll-moved.new.self
+    rw c.in-Apart.is (polled_two p c.args.votes.now c.split_at.result.0.now c.split_at.result.1.now c.split-at.result c.args.before c.args.from
+    c.total-zero.result c.behind-one.result c.in-Apart.fork c.poll-here.new.self
     (tree_of c.in-Apart.zeros.value) (tree_of c.in-Apart.zeros.value) (tree_of c.in-Apart.ones.value) (tree_of c.in-Apart.ones.value)
-    placed.0 c.split.ensures.zeros c.split.ensures.ones c.split_at.ensures.front c.split_at.ensures.back c.total-zero.ensures.count c.total-one.ensures.count
-    c.poll-moved.ensures.counter c.poll-moved.ensures.seen
+    placed.0 c.split-at.ensures.zeros c.split-at.ensures.ones c.split_at.ensures.front c.split_at.ensures.back c.total-zero.ensures.count c.behind-one.ensures.count
+    c.poll-here.ensures.counter c.poll-here.ensures.seen
     (unvisited p c.split_at.result.0.now c.args.before (c.args.from + 1) (tree_of c.in-Apart.zeros.value) good placed.1 stamped.1
     (omega (arith, c.total-zero.ensures.count, c.if-alpha_preference-zero.false, c.alpha_preference.ensures.value)))
     (unvisited p c.split_at.result.1.now c.args.before (c.args.from + 1) (tree_of c.in-Apart.ones.value) good placed.2 stamped.2
-    (omega (arith, c.total-one.ensures.count, c.if-alpha_preference-one.false, c.alpha_preference-else-alpha_preference-zero.ensures.value))))
+    (omega (arith, c.behind-one.ensures.count, c.if-alpha_preference-one.false, c.alpha_preference-else-alpha_preference-zero.ensures.value))))
 
 pub returns-in-Along-clause-steady : goal.returns-in-Along-clause-steady
 returns-in-Along-clause-steady g t c = λ s. rw c.in-Along.is (rw c.deref_mut.ensures.value at (c.visit.ensures.steady s))
 
+pub returns-then-alpha_preference-zero-clause-above : goal.returns-then-alpha_preference-zero-clause-above
+returns-then-alpha_preference-zero-clause-above g t c = λ s. (c.either-moved.ensures (c.visit-then-alpha_preference-zero.ensures.above s)).0
+
+pub returns-then-alpha_preference-one-clause-above : goal.returns-then-alpha_preference-one-clause-above
+returns-then-alpha_preference-one-clause-above g t c = λ s. (c.either-moved.ensures (c.visit-then-alpha_preference-one.ensures.above s)).0
+
+pub returns-else-alpha_preference-one-clause-above : goal.returns-else-alpha_preference-one-clause-above
+returns-else-alpha_preference-one-clause-above g t c = λ s. (c.either-moved.ensures s).0
+
 pub returns-then-alpha_preference-zero-clause-steady : goal.returns-then-alpha_preference-zero-clause-steady
 returns-then-alpha_preference-zero-clause-steady g t c =
     λ s.
-    let stays = c.either.ensures s in
-    let zeros = rw c.deref_mut-then-alpha_preference-zero.ensures.value at (c.visit-then-alpha_preference-zero.ensures.steady stays.1) in
-    rw c.in-Apart.is (λ i. if c.poll-moved.ensures.steady stays.0 i then preferred g.R.Rule.answer (tree_of c.in-Apart.ones.value) else zeros i)
+    let stays = c.either-moved.ensures (c.visit-then-alpha_preference-zero.ensures.above s) in
+    let zeros = rw c.deref_mut-then-alpha_preference-zero.ensures.value at (c.visit-then-alpha_preference-zero.ensures.steady s) in
+    rw c.in-Apart.is (λ i. if c.poll-here.ensures.steady stays.1 i then preferred g.R.Rule.answer (tree_of c.in-Apart.ones.value) else zeros i)
 
 pub returns-then-alpha_preference-one-clause-steady : goal.returns-then-alpha_preference-one-clause-steady
 returns-then-alpha_preference-one-clause-steady g t c =
     λ s.
-    let stays = c.either-then-alpha_preference-one.ensures s in
-    let ones = rw c.deref_mut-then-alpha_preference-one.ensures.value at (c.visit-then-alpha_preference-one.ensures.steady stays.1) in
-    rw c.in-Apart.is (λ i. if c.poll-moved.ensures.steady stays.0 i then ones i else preferred g.R.Rule.answer (tree_of c.in-Apart.zeros.value))
+    let stays = c.either-moved.ensures (c.visit-then-alpha_preference-one.ensures.above s) in
+    let ones = rw c.deref_mut-then-alpha_preference-one.ensures.value at (c.visit-then-alpha_preference-one.ensures.steady s) in
+    rw c.in-Apart.is (λ i. if c.poll-here.ensures.steady stays.1 i then ones i else preferred g.R.Rule.answer (tree_of c.in-Apart.zeros.value))
 
 pub returns-else-alpha_preference-one-clause-steady : goal.returns-else-alpha_preference-one-clause-steady
 returns-else-alpha_preference-one-clause-steady g t c =
-    λ s. rw c.in-Apart.is (λ i. if c.poll-moved.ensures.steady s i then preferred g.R.Rule.answer (tree_of c.in-Apart.ones.value) else preferred g.R.Rule.answer (tree_of c.in-Apart.zeros.value))
+    λ s.
+    let stays = c.either-moved.ensures s in
+    rw c.in-Apart.is (λ i. if c.poll-here.ensures.steady stays.1 i then preferred g.R.Rule.answer (tree_of c.in-Apart.ones.value) else preferred g.R.Rule.answer (tree_of c.in-Apart.zeros.value))
