@@ -1,15 +1,16 @@
 -- Lemmas on the votes for identifiers that begin with the first bits of a leader.
-use Rattle.std.proofs.Common.{◌≡◌, ℕ, ◌+◌, Bool, List, [], ◌∷◌, ◌++◌, All, Contains, get_or, refl, sym, ap, ◌∙◌, subst, inl, inr, append_assoc, arith}
+use Rattle.std.proofs.Common.{◌≡◌, ℕ, ◌+◌, ◌≤◌, Bool, List, [], ◌∷◌, ◌++◌, All, Contains, get_or, refl, sym, ap, ◌∙◌, subst, inl, inr, append_assoc, arith}
 use Rattle.std.proofs.lemmas.Bool.{cases_lt}
 use Rattle.std.proofs.lemmas.List.Elements.{All-contains, All-contains_itself}
 use Rattle.snow_base.specs.declared.vote.Vote.{Vote}
 use Rattle.snow_base.specs.Identifier.{bit, AgreeFrom}
 use Rattle.snow_base.specs.Split.{AgreeBelow, HaveBit}
-use Rattle.snow_base.specs.Votes.{IsInBitOrder}
+use Rattle.snow_base.specs.Votes.{IsInBitOrder, total_count}
 use Rattle.snow_plain.specs.Walk.{votes_from}
 use Rattle.snow_trie.specs.Stamped.{between}
 use Rattle.snow_trie.specs.Polled.{IsNarrowed}
 use Rattle.snow_trie.proofs.Strands.{between_split, between_first, between_none}
+use Rattle.snow_trie.proofs.Visited.{no_more_votes}
 
 -- at the beginning there are all votes
 pub all_votes : (leader : List ℕ) (votes : List Vote) → IsInBitOrder votes → IsNarrowed leader 0 votes votes
@@ -50,3 +51,21 @@ narrowed_more leader at votes rest next h order agree have counts among =
         | inr more ↦ let is : j ≡ at = omega arith in subst (λ i. bit leader i ≡ bit (get_or next k d).id i) (sym is) (sym (have k d q))
       ];
     }
+
+-- of more bits there are no more votes
+pub few_more : (leader : List ℕ) (at to : ℕ) (votes rest : List Vote) → at ≤ to → IsNarrowed leader at votes rest
+    → (front : List Bool) → votes_from 0 votes (between leader 0 to ++ front) ≤ total_count rest
+few_more leader at to votes rest h n front =
+    let more = between leader at to ++ front in
+    let parted : between leader 0 to ++ front ≡ between leader 0 at ++ more =
+    ap (λ l. l ++ front) (between_split leader 0 at to (omega arith) h) ∙ append_assoc (between leader 0 at) (between leader at to) front
+    in
+    let is : votes_from 0 votes (between leader 0 to ++ front) ≡ votes_from at rest more = ap (votes_from 0 votes) parted ∙ sym (n.counts more) in
+    omega (arith, is, no_more_votes at rest more)
+
+-- and none that were not there
+pub fewer_votes : (leader : List ℕ) (decided : ℕ) (votes rest : List Vote) → IsNarrowed leader decided votes rest → total_count rest ≤ total_count votes
+fewer_votes leader decided votes rest n =
+    let front = between leader 0 decided ++ [] in
+    let e : total_count rest ≡ votes_from 0 votes front = n.counts [] in
+    omega (arith, e, no_more_votes 0 votes front)

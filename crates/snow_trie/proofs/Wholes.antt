@@ -10,6 +10,7 @@ use Rattle.snow_flake.specs.Counter.{Decided, admits}
 use Rattle.snow_plain.specs.Conflict.{Counters, Blank, with_child, all_polled, votes_on}
 use Rattle.snow_plain.specs.FailingLaw.{failed}
 use Rattle.snow_plain.specs.Walk.{votes_from}
+use Rattle.snow_plain.proofs.Failing.{few_fail}
 use Rattle.snow_trie.specs.Tree.{Tree, Tip, Line, Two}
 use Rattle.snow_trie.specs.Stamped.{between, linked, strand, counters, whole}
 use Rattle.snow_trie.specs.Outline.{Outline, Leaf, Straight, Split, outline, size, Leads, IsLeaf, IsSorted}
@@ -21,7 +22,8 @@ use Rattle.snow_trie.specs.Whole.{added, next_leader, nodes_of, IsWhole, Compres
 use Rattle.snow_trie.proofs.Strands.{between_split, between_first, between_same, strand-append, polled_linked, failed_strand, grown_strand, parted_strand, forked}
 use Rattle.snow_trie.proofs.Stamps.{later, stamped_later}
 use Rattle.snow_trie.proofs.Parting.{IsParting, agrees, parts}
-use Rattle.snow_trie.proofs.Visited.{no_more_votes, placed_within}
+use Rattle.snow_trie.proofs.Visited.{placed_within}
+use Rattle.snow_trie.proofs.Narrowed.{fewer_votes}
 use Rattle.snow_trie.proofs.Grown.{branch_counters, grown_counters}
 use Rattle.snow_trie.proofs.Standing.{placed_branch, placed_grown, stamped_grown, open_grown, size_grown, leads_still, leads_added, leaf_grown, sorted_grown}
 use Rattle.snow_trie.proofs.Ordered.{are_counts, no_counts, ordered_polled, ordered_grown, ordered_behind, open_all}
@@ -219,6 +221,18 @@ failed_counters p polls decided leader t good stamped =
     ap (strand (between leader 0 decided) Decided) (later p polls decided t good stamped)
     ∙ sym (failed_strand p (between leader 0 decided) Decided (counters polls decided t) good own_side)
 
+-- where few votes have the prefix, a poll is one without votes
+pub few_whole : (p : Parameters) (polls decided : ℕ) (leader : List ℕ) (t : Tree) (votes : List Vote) (count : ℕ) → AreGood p → count < p.alpha_preference
+    → ((front : List Bool) → votes_from 0 votes (between leader 0 decided ++ front) ≤ count)
+    → all_polled p (votes_on votes) (whole polls decided leader t) ≡ failed p (whole polls decided leader t)
+few_whole p polls decided leader t votes count good few h =
+    let front = between leader 0 decided in
+    polled_prefix p (votes_on votes) front (counters polls decided t)
+    ∙ ap (strand front Decided)
+    (few_fail p (λ more. votes_on votes (front ++ more)) (counters polls decided t)
+    (λ more. let least : votes_on votes (front ++ more) ≤ count = h more in omega (arith, least, few)))
+    ∙ sym (failed_strand p front Decided (counters polls decided t) good own_side)
+
 -- ---- a poll
 
 -- the votes that have the prefix go down the tree
@@ -227,13 +241,6 @@ pub all_lead : (ids : List (List ℕ)) (polls decided : ℕ) (leader : List ℕ)
 all_lead ids polls decided leader t votes rest h given n k d q =
     let v : Vote = get_or rest k d in
     h.known v.id (All-contains (λ (v : Vote). Contains ids v.id) votes v given (n.among k d q)) (n.have k d q)
-
--- they are no more than all
-pub fewer_votes : (leader : List ℕ) (decided : ℕ) (votes rest : List Vote) → IsNarrowed leader decided votes rest → total_count rest ≤ total_count votes
-fewer_votes leader decided votes rest n =
-    let front = between leader 0 decided ++ [] in
-    let e : total_count rest ≡ votes_from 0 votes front = n.counts [] in
-    omega (arith, e, no_more_votes 0 votes front)
 
 -- two identifiers that a third agrees with agree
 agree_by : (a b c : List ℕ) (from to : ℕ) → AgreeFrom from to a b → AgreeFrom from to a c → AgreeFrom from to b c

@@ -1,22 +1,60 @@
-ghost use Rattle.std.specs.Prelude.{◌≡◌, ◌+◌, ◌<◌, ◌≤◌, Bool, List, ◌∷◌, All, Contains};
+ghost use Rattle.std.specs.Prelude.{◌≡◌, ◌+◌, ◌<◌, ◌≤◌, Bool, List, ◌∷◌, ◌++◌, All, Contains};
 ghost use Rattle.snow_base.specs.Split.{AgreeBelow, HaveBit};
-ghost use Rattle.snow_base.specs.Votes.{IsInBitOrder};
+ghost use Rattle.snow_base.specs.Votes.{IsInBitOrder, total_count};
 ghost use Rattle.snow_plain.specs.Walk.{votes_from};
+ghost use Rattle.snow_trie.specs.Stamped.{between};
 ghost use Rattle.snow_trie.specs.Polled.{IsNarrowed};
 
 use snow_base::{Id, Vote, split};
+use snow_flake::Params;
 
-/// The votes for identifiers that begin with the first bits of a leader.
-pub fn narrowed<'a>(votes: &'a [Vote], leader: &Id, to: u16) -> &'a [Vote]
+/// The votes for identifiers that begin with the first bits of a leader. Once fewer than AlphaPreference
+/// are left, they are those for some of these bits.
+#[inline(always)]
+pub fn narrowed<'a>(votes: &'a [Vote], leader: &Id, to: u16, params: &Params) -> &'a [Vote]
     requires order { IsInBitOrder votes.now }
     requires within { to ≤ 256 }
-    ensures { IsNarrowed leader.now to votes.now result.now }
+    requires most { total_count votes.now ≤ params.now.k }
+    ensures narrowed { params.now.alpha_preference ≤ total_count result.now → IsNarrowed leader.now to votes.now result.now }
+    ensures few { (front : List Bool) → votes_from 0 votes.now (between leader.now 0 to ++ front) ≤ total_count result.now }
+    ensures most { total_count result.now ≤ params.now.k }
+{
+    if to == 0 {
+        votes
+    } else {
+        narrowed_on(votes, leader, to, params)
+    }
+}
+
+// The same on bits that most trees don't have.
+#[inline(never)]
+fn narrowed_on<'a>(votes: &'a [Vote], leader: &Id, to: u16, params: &Params) -> &'a [Vote]
+    requires order { IsInBitOrder votes.now }
+    requires within { to ≤ 256 }
+    requires most { total_count votes.now ≤ params.now.k }
+    ensures narrowed { params.now.alpha_preference ≤ total_count result.now → IsNarrowed leader.now to votes.now result.now }
+    ensures few { (front : List Bool) → votes_from 0 votes.now (between leader.now 0 to ++ front) ≤ total_count result.now }
+    ensures most { total_count result.now ≤ params.now.k }
 {
     let mut rest = votes;
     for bit in 0..to {
+        let count = total(params, rest);
+        if count < params.alpha_preference() {
+            return rest;
+        }
         rest = with_bit(rest, bit, leader.bit(bit));
     }
     rest
+}
+
+/// How many votes there are in all: at most K.
+pub fn total(params: &Params, votes: &[Vote]) -> u32
+    requires { total_count votes.now ≤ params.now.k }
+    ensures count { result ≡ total_count votes.now }
+    ensures few { result ≤ params.now.k }
+{
+    let _k = params.k();
+    votes.iter().map(|vote| vote.count).sum()
 }
 
 // The votes for identifiers with this bit. All agree on the bits before it.

@@ -114,7 +114,7 @@ pub fn peel(root: &mut Node, leader: &mut Id, decided: u16) -> u16
         }
         let to = run.to;
         *leader = run.id;
-        *root = Node::End(*leader);
+        end(root, leader);
         return to;
     }
     if is_decided(root) {
@@ -124,6 +124,15 @@ pub fn peel(root: &mut Node, leader: &mut Id, decided: u16) -> u16
     }
 }
 
+// An identifier alone is left. It is made here, so that a poll that takes nothing off clears no room for it.
+#[inline(never)]
+fn end(root: &mut Node, id: &Id)
+    ensures { tree_of root.new ≡ Tip id.now }
+{
+    *root = Node::End(*id);
+}
+
+// The same where the first node is decided.
 #[inline(never)]
 fn take_off(root: &mut Node, leader: &mut Id, decided: u16) -> u16
     requires { IsPlaced decided (tree_of root.old) }

@@ -7,6 +7,7 @@ ghost use Rattle.snow_trie.specs.Shape.{IsPlaced, IsStamped};
 ghost use Rattle.snow_trie.specs.Polled.{IsPolled, IsRestamped};
 ghost use Rattle.snow_trie.specs.Peeling.{preferred};
 
+use crate::narrowing::total;
 use crate::node::Node;
 use snow_base::{Steps, Vote, split};
 use snow_flake::{Params, Rule};
@@ -19,14 +20,14 @@ fn either(one: bool, other: bool) -> bool
     one || other
 }
 
-/// A poll comes to a tree with these votes, all for identifiers that go down it. Where they are
-/// fewer than AlphaPreference the tree fails, which is one step and touches no node. The answer is false
-/// only where the tree leads where it led. That of one identifier is polled in place.
+/// A poll comes to a tree with these votes, so many, all for identifiers that go down it. The answer is
+/// false only where the tree leads where it led. A tree of one identifier is polled in place.
 pub fn poll<R: Rule, L: Ledger>(
     root: &mut Node,
     from: u16,
     params: &Params,
     votes: &[Vote],
+    count: u32,
     before: u64,
     steps: &mut Steps<L>,
 ) -> bool
@@ -35,25 +36,21 @@ pub fn poll<R: Rule, L: Ledger>(
     requires known { All (λ v. Leads (outline from (tree_of root.old)) v.id) votes.now }
     requires order { IsInBitOrder votes.now }
     requires agree { AgreeBelow from votes.now }
-    requires most { total_count votes.now ≤ params.now.k }
+    requires count { count ≡ total_count votes.now }
+    requires most { count ≤ params.now.k }
     requires room { before + 1 < 2 ^ 64 }
     ensures tree { IsPolled params.now votes.now before from (tree_of root.old) (tree_of root.new) }
     ensures least { steps.old < steps.new }
     ensures most { steps.new ≤ steps.old + max 1 (size (tree_of root.old)) }
     ensures steady { result ≡ false → preferred R.answer (tree_of root.new) ≡ preferred R.answer (tree_of root.old) }
 {
-    let count = total(params, votes);
-    if count < params.alpha_preference() {
+    if let Node::Last(run) = root {
         steps.tick();
+        run.poll(params, count, before);
         return false;
     }
     if from == 256 {
         steps.tick();
-        return false;
-    }
-    if let Node::Last(run) = root {
-        steps.tick();
-        run.poll(params, count, before);
         return false;
     }
     visit::<R, L>(root, from, params, votes, count, before, steps, false)
@@ -126,16 +123,6 @@ fn visit<R: Rule, L: Ledger>(
             }
         }
     }
-}
-
-// How many votes there are in all: at most K.
-fn total(params: &Params, votes: &[Vote]) -> u32
-    requires { total_count votes.now ≤ params.now.k }
-    ensures count { result ≡ total_count votes.now }
-    ensures few { result ≤ params.now.k }
-{
-    let _k = params.k();
-    votes.iter().map(|vote| vote.count).sum()
 }
 
 // How many of so many votes are these, where so many are before them.

@@ -1,7 +1,7 @@
 ghost use Rattle.std.specs.Prelude.{◌≡◌, ◌+◌, ◌<◌, ◌≤◌, false, is_some, length, [], ◌∷◌, ◌++◌, All, Contains, IfOk, OnOk, OnErr};
 
 use crate::growing;
-use crate::narrowing::narrowed;
+use crate::narrowing::{narrowed, total};
 use crate::node::{self, Node};
 use crate::peeling::peel;
 use crate::polling::{poll, ready};
@@ -139,14 +139,20 @@ impl<R: Rule> Trie<R> {
         ensures most { steps.new ≤ steps.old + (self.old).nodes }
         ensures steady { result ≡ false → chosen R.answer (self.new).counters ≡ chosen R.answer (self.old).counters }
     {
+        let votes = narrowed(votes, &self.leader, self.decided, &self.params);
+        let count = total(&self.params, votes);
+        if count < self.params.alpha_preference() {
+            self.fail(steps);
+            return false;
+        }
         let _k = self.params.k();
         let before = ready(&mut self.root, self.polls);
-        let votes = narrowed(votes, &self.leader, self.decided);
         let moved = poll::<R, L>(
             &mut self.root,
             self.decided,
             &self.params,
             votes,
+            count,
             before,
             steps,
         );

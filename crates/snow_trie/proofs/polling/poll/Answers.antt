@@ -2,13 +2,8 @@ use Rattle.std.proofs.Common.{◌≡◌, arith, subst, sym}
 use Rattle.snow_trie.specs.Tree.{tree_of}
 use Rattle.snow_trie.specs.Shape.{IsPlaced}
 use Rattle.snow_trie.specs.Polled.{IsPolled}
-use Rattle.snow_trie.proofs.Visited.{unvisited, ended, polled_last, placed_within}
+use Rattle.snow_trie.proofs.Visited.{ended, polled_last, placed_within}
 use Rattle.snow_trie.proofs.polling.poll.Goals as goal
-
-pub returns-then-count-alpha_preference-clause-tree : goal.returns-then-count-alpha_preference-clause-tree
-returns-then-count-alpha_preference-clause-tree g c =
-    unvisited c.args.params.now c.args.votes.now c.args.before c.args.from (tree_of c.args.root.now) c.alpha_preference.ensures.good c.requires.placed c.requires.stamped
-    (omega (arith, c.total-count.ensures.count, c.alpha_preference.ensures.value, c.if-count-alpha_preference.true))
 
 pub returns-then-from-eq256-clause-tree : goal.returns-then-from-eq256-clause-tree
 returns-then-from-eq256-clause-tree g c =
@@ -26,6 +21,6 @@ pub returns-in-Last-clause-tree : goal.returns-in-Last-clause-tree
 returns-in-Last-clause-tree g c =
     let placed = rw c.in-Last.is at c.requires.placed in
     let known = rw c.in-Last.is at c.requires.known in
-    rw c.in-Last.is (polled_last c.args.params.now c.args.votes.now c.total-count.result c.args.before c.args.from c.in-Last.run' c.poll.new.self
-    placed.0 placed.2 (λ k d h. (known k d h).0) c.total-count.ensures.count
+    rw c.in-Last.is (polled_last c.args.params.now c.args.votes.now c.args.count c.args.before c.args.from c.in-Last.run' c.poll.new.self
+    placed.0 placed.2 (λ k d h. (known k d h).0) c.requires.count
     c.poll.ensures.counter c.poll.ensures.id c.poll.ensures.to c.poll.ensures.seen)
