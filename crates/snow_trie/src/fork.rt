@@ -38,6 +38,15 @@ impl Fork {
         counter
     }
 
+    // The counter fails where it stands, if the last of so many polls didn't come here.
+    fn catch_up(&mut self, now: u64)
+        ensures { self.new ≡ record (self.old) { counter = standing_at now (self.old).seen (self.old).counter } }
+    {
+        if self.seen != now {
+            self.counter.fail();
+        }
+    }
+
     /// A poll comes with votes for both bits: those that reach AlphaPreference are
     /// followed. The answer is whether the rule answers otherwise then.
     pub fn poll<R: Rule>(
@@ -53,9 +62,8 @@ impl Fork {
         ensures steady { result ≡ false → answer_of R.answer (fork_counter 0 self.new) ≡ answer_of R.answer (fork_counter 0 self.old) }
     {
         let answer = self.answer::<R>();
-        let mut counter = self.standing(before);
-        step(&mut counter, params, for_zero, for_one);
-        self.counter = counter;
+        self.catch_up(before);
+        step(&mut self.counter, params, for_zero, for_one);
         self.seen = before + 1;
         self.answer::<R>() != answer
     }
