@@ -1,7 +1,6 @@
 -- A player goes where the drill goes.
-use Rattle.std.proofs.Common.{◌≡◌, ℕ, ◌+◌, ◌≤◌, List, [], ◌∷◌, ◌++◌, length, take, Result, Ok, Err, Some, sym, ap, ◌∙◌, subst, fold}
+use Rattle.std.proofs.Common.{◌≡◌, ℕ, ◌+◌, List, [], ◌∷◌, ◌++◌, Result, Ok, Err, Some, sym, ap, ◌∙◌, subst, fold}
 use Rattle.std.specs.Prelude.{IfOk}
-use Rattle.std.proofs.lemmas.List.{take_all}
 use Rattle.std.proofs.lemmas.Result.{IfOk-weaker}
 use Rattle.sha2.specs.Sha256.{sha256}
 use Rattle.snow_base.specs.declared.header.Header.{Header}
@@ -22,12 +21,12 @@ use Rattle.snow_drill.specs.Following.{Takes, Digests, Plays, Opens, Follows}
 
 module _ {N : Type 0} (step : Step N) where
   -- an event and its Timeouts
-  pub follows_made : (p mid after : Player N) (e : Event) (log : List Line) (i : ℕ) → Follows p mid (λ d. with_event step d e)
-      → ((d : Drill N) → Plays p d → log ≡ (comes step d e).0) → length log ≤ i
-      → Follows mid after (λ d. fold (timed_out step) d (take i log)) → Follows p after (λ d. with_timeouts step d e)
+  pub follows_made : (p mid after : Player N) (e : Event) (log : List Line) → Follows p mid (λ d. with_event step d e)
+      → ((d : Drill N) → Plays p d → log ≡ (comes step d e).0)
+      → Follows mid after (λ d. fold (timed_out step) d log) → Follows p after (λ d. with_timeouts step d e)
   unfolding with_timeouts
-  follows_made p mid after e log i first logs all later d h =
-      subst (λ (ls : List Line). Plays after (fold (timed_out step) (with_event step d e) ls)) (take_all i log all ∙ logs d h) (later (with_event step d e) (first d h))
+  follows_made p mid after e log first logs later d h =
+      subst (λ (ls : List Line). Plays after (fold (timed_out step) (with_event step d e) ls)) (logs d h) (later (with_event step d e) (first d h))
 
   -- values were taken of the generator
   turned : (p : Player N) (g x : ℕ) (d : Drill N) → g ≡ x → Plays p d → Plays (record p { generator = g }) (record d { x = x })
@@ -40,17 +39,18 @@ module _ {N : Type 0} (step : Step N) where
       let at = turned p g (last_of n d.x) d (last ∙ ap (last_of n) h.x) h in
       subst (λ (ws : List ℕ). Plays after (with_timeouts step (record d { x = last_of n d.x }) (event.Words ws))) (e ∙ ap (values n) h.x) (f (record d { x = last_of n d.x }) at)
 
-  -- a vote
-  pub follows_vote : (p after : Player N) (number : ℕ) (peer : List ℕ) (g : ℕ) (id : List ℕ) → g ≡ following p.generator
+  -- a vote, sent by this peer for this block
+  pub follows_vote : (p after : Player N) (number : ℕ) (peer sender : List ℕ) (g : ℕ) (id : List ℕ) → sender ≡ peer → g ≡ following p.generator
       → id ≡ voted_by p.made p.account.tally.tip (following p.generator)
-      → Follows (record p { generator = g }) after (λ d. with_timeouts step d (event.Chits peer number id)) → Follows p after (λ d. with_vote step number d peer)
-  follows_vote p after number peer g id e voted f d h =
+      → Follows (record p { generator = g }) after (λ d. with_timeouts step d (event.Chits sender number id)) → Follows p after (λ d. with_vote step number d peer)
+  follows_vote p after number peer sender g id sent e voted f d h =
       let at = turned p g (following d.x) d (e ∙ ap following h.x) h in
       let same : id ≡ voted_by d.made d.told.tip (following d.x) =
       voted ∙ ap (λ (m : List Header). voted_by m p.account.tally.tip (following p.generator)) h.made
       ∙ ap (λ (t : Told). voted_by d.made t.tip (following p.generator)) h.told
       ∙ ap (λ (x : ℕ). voted_by d.made d.told.tip (following x)) h.x in
-      subst (λ (v : List ℕ). Plays after (with_timeouts step (record d { x = following d.x }) (event.Chits peer number v))) same (f (record d { x = following d.x }) at)
+      subst (λ (s : List ℕ). Plays after (with_timeouts step (record d { x = following d.x }) (event.Chits s number (voted_by d.made d.told.tip (following d.x))))) sent
+      (subst (λ (v : List ℕ). Plays after (with_timeouts step (record d { x = following d.x }) (event.Chits sender number v))) same (f (record d { x = following d.x }) at))
 
   -- the oldest query is answered
   pub follows_answer : (p after : Player N) (tally : Told) (query : Asked) → Takes (Some query) p.account.tally tally

@@ -1,4 +1,4 @@
-ghost use Rattle.std.specs.Prelude.{◌≡◌, ◌==◌, fold, if◌then◌else◌, OnOk};
+ghost use Rattle.std.specs.Prelude.{◌≡◌, ◌==◌, [], fold, if◌then◌else◌, OnOk};
 ghost use Rattle.snow_drill.specs.Drill as model;
 ghost use Rattle.snow_drill.specs.Made.{newest};
 ghost use Rattle.snow_drill.specs.Following.{Follows};
@@ -7,7 +7,8 @@ use crate::driven::Driven;
 use crate::player::Player;
 use crate::tally::Asked;
 use snow_base::{Header, Id, NodeId};
-use snow_wire::Event;
+use snow_lines::Lines;
+use snow_wire::{Event, SentVote};
 use std::alloc::AllocError;
 
 impl<E: Driven> Player<E> {
@@ -23,18 +24,32 @@ impl<E: Driven> Player<E> {
         came
     }
 
-    // A node's vote in the poll of a number.
-    fn vote(&mut self, number: u32, node: NodeId) -> Result<(), AllocError>
-        ensures { OnOk result (Follows self.old self.new (λ d. model.with_vote E.step number d node)) }
+    // A node's vote in the poll of a number. The log is empty before and after.
+    #[inline(always)]
+    fn vote(&mut self, number: u32, node: &NodeId, log: &mut Lines) -> Result<(), AllocError>
+        requires { log.old ≡ [] }
+        ensures follows { OnOk result (Follows self.old self.new (λ d. model.with_vote E.step number d node.now)) }
+        ensures empty { OnOk result (log.new ≡ []) }
     {
         let picked = self.generator.pick(16);
         let id = voted(self.made.list(), &self.account.tally.tip(), picked);
-        let event = Event::Chits {
-            node,
+        let vote = SentVote {
+            node: node.as_bytes(),
             request: number,
-            id,
+            id: id.as_bytes(),
         };
-        self.make(&event)
+        self.make_vote(&vote, log)
+    }
+
+    // The votes of nodes in the poll of a number, one after another. The log is empty before.
+    fn vote_all(&mut self, number: u32, nodes: &[NodeId], log: &mut Lines) -> Result<(), AllocError>
+        requires { log.old ≡ [] }
+        ensures { OnOk result (Follows self.old self.new (λ d. fold (model.with_vote E.step number) d nodes.now)) }
+    {
+        for node in nodes {
+            self.vote(number, node, log)?;
+        }
+        Ok(())
     }
 
     // The votes of all nodes of a query.
@@ -43,10 +58,10 @@ impl<E: Driven> Player<E> {
             fold (model.with_vote E.step query.now.number) (model.with_words E.step 20 d) query.now.nodes)) }
     {
         self.words(20)?;
-        for node in query.nodes.list() {
-            self.vote(query.number, *node)?;
-        }
-        Ok(())
+        let mut log = self.take_log();
+        let came = self.vote_all(query.number, query.nodes.list(), &mut log);
+        self.log = log;
+        came
     }
 
     /// Answers the oldest query that isn't answered; where there is none, nothing is done.

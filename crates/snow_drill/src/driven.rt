@@ -1,17 +1,19 @@
 ghost use Rattle.std.specs.Prelude.{◌≡◌, [], Ok, OnOk};
 ghost use Rattle.snow_engine.specs.Node.{step};
+ghost use Rattle.snow_wire.specs.Sent.{as_vote};
 
 use snow_chain::Chain;
 use snow_engine::Engine;
 use snow_lines::Lines;
 use snow_plain::Board;
-use snow_wire::Event;
+use snow_wire::{Event, SentVote};
 use std::alloc::AllocError;
 
 /// A node that a drill drives by events. Nothing of a drill looks into it, and it is let go by a call
 /// alone: what lets go of a whole node is many steps, which stand with the engine.
 pub(crate) trait Driven: Sized {
     ghost use Rattle.std.specs.Prelude.{◌≡◌, [], Ok, OnOk};
+    ghost use Rattle.snow_wire.specs.Sent.{as_vote};
     ghost use Rattle.snow_drill.specs.Drill.{Step};
 
     /// What an event makes of it, and its lines.
@@ -24,6 +26,12 @@ pub(crate) trait Driven: Sized {
         ensures node { OnOk result ((step self.old frame event.now).1 ≡ Ok self.new) }
         ensures lines { OnOk result (log.new ≡ (step self.old frame event.now).0) };
 
+    /// The same at a vote, of which no event is made.
+    fn drive_vote(&mut self, frame: u64, vote: &SentVote, log: &mut Lines) -> Result<(), AllocError>
+        requires { log.old ≡ [] }
+        ensures node { OnOk result ((step self.old frame (as_vote vote.now)).1 ≡ Ok self.new) }
+        ensures lines { OnOk result (log.new ≡ (step self.old frame (as_vote vote.now)).0) };
+
     /// Lets it go.
     fn let_go(self);
 }
@@ -33,6 +41,19 @@ impl<C: Chain, B: Board> Driven for Engine<C, B> {
 
     fn drive(&mut self, frame: u64, event: &Event, log: &mut Lines) -> Result<(), AllocError> {
         match self.step(frame, event, log) {
+            Ok(()) => Ok(()),
+            Err(_) => Err(AllocError),
+        }
+    }
+
+    #[inline(always)]
+    fn drive_vote(
+        &mut self,
+        frame: u64,
+        vote: &SentVote,
+        log: &mut Lines,
+    ) -> Result<(), AllocError> {
+        match self.take_vote(frame, vote, log) {
             Ok(()) => Ok(()),
             Err(_) => Err(AllocError),
         }

@@ -1,11 +1,12 @@
-ghost use Rattle.std.specs.Prelude.{◌≡◌, [], OnOk};
+ghost use Rattle.std.specs.Prelude.{◌≡◌, [], fold, OnOk};
 ghost use Rattle.snow_drill.specs.Drill as model;
 ghost use Rattle.snow_drill.specs.Following.{Plays, Follows};
+ghost use Rattle.snow_wire.specs.Sent.{as_vote};
 
 use crate::driven::Driven;
 use crate::player::Player;
 use snow_lines::{Line, Lines};
-use snow_wire::Event;
+use snow_wire::{Event, SentVote};
 use std::alloc::AllocError;
 use std::mem;
 
@@ -22,6 +23,21 @@ impl<E: Driven> Player<E> {
             return Err(AllocError);
         };
         self.node.drive(frame, event, log)?;
+        self.frame = frame;
+        self.account.keep(log.list())
+    }
+
+    // The same with a vote.
+    #[inline(always)]
+    fn vote_event(&mut self, vote: &SentVote, log: &mut Lines) -> Result<(), AllocError>
+        requires { log.old ≡ [] }
+        ensures follows { OnOk result (Follows self.old self.new (λ d. model.with_event E.step d (as_vote vote.now))) }
+        ensures lines { OnOk result ((d : model.Drill E) → Plays self.old d → log.new ≡ (model.comes E.step d (as_vote vote.now)).0) }
+    {
+        let Some(frame) = self.frame.checked_add(1) else {
+            return Err(AllocError);
+        };
+        self.node.drive_vote(frame, vote, log)?;
         self.frame = frame;
         self.account.keep(log.list())
     }
@@ -44,21 +60,40 @@ impl<E: Driven> Player<E> {
         came
     }
 
-    // The same with the Timeouts that follow. The log is empty before.
-    #[tactic(auto, unfolding(crate::specs::Drill::with_timeouts))]
-    fn event_on(&mut self, event: &Event, log: &mut Lines) -> Result<(), AllocError>
-        requires { log.old ≡ [] }
-        ensures { OnOk result (Follows self.old self.new (λ d. model.with_timeouts E.step d event.now)) }
+    // A Timeout for each block that these lines ask for. Most events bring no lines, so what they cost
+    // stands apart.
+    #[inline(always)]
+    fn time_outs(&mut self, lines: &[Line]) -> Result<(), AllocError>
+        ensures { OnOk result (Follows self.old self.new (λ d. fold (model.timed_out E.step) d lines.now)) }
     {
-        self.event(event, log)?;
-        for line in log.list() {
+        if lines.is_empty() {
+            return Ok(());
+        }
+        self.time_out_all(lines)
+    }
+
+    // The same for each of them.
+    #[inline(never)]
+    fn time_out_all(&mut self, lines: &[Line]) -> Result<(), AllocError>
+        ensures { OnOk result (Follows self.old self.new (λ d. fold (model.timed_out E.step) d lines.now)) }
+    {
+        for line in lines {
             self.time_out(line)?;
         }
         Ok(())
     }
 
-    // An empty log, in the room of the last one.
-    fn take_log(&mut self) -> Lines
+    // An event with the Timeouts that follow. The log is empty before.
+    fn event_on(&mut self, event: &Event, log: &mut Lines) -> Result<(), AllocError>
+        requires { log.old ≡ [] }
+        ensures { OnOk result (Follows self.old self.new (λ d. model.with_timeouts E.step d event.now)) }
+    {
+        self.event(event, log)?;
+        self.time_outs(log.list())
+    }
+
+    /// An empty log, in the room of the last one.
+    pub fn take_log(&mut self) -> Lines
         ensures log { result ≡ [] }
         ensures same { (d : model.Drill E) → Plays self.old d → Plays self.new d }
     {
@@ -76,5 +111,28 @@ impl<E: Driven> Player<E> {
         let came = self.event_on(event, &mut log);
         self.log = log;
         came
+    }
+    /// The same with a vote, of which no event is made. Its log is empty before and after, so that all
+    /// votes of a query share one.
+    #[inline(always)]
+    pub fn make_vote(&mut self, vote: &SentVote, log: &mut Lines) -> Result<(), AllocError>
+        requires { log.old ≡ [] }
+        ensures follows { OnOk result (Follows self.old self.new (λ d. model.with_timeouts E.step d (as_vote vote.now))) }
+        ensures empty { OnOk result (log.new ≡ []) }
+    {
+        self.vote_event(vote, log)?;
+        self.time_outs(log.list())?;
+        empty(log);
+        Ok(())
+    }
+}
+
+// Lets lines go, if there are any.
+#[inline(always)]
+fn empty(log: &mut Lines)
+    ensures { log.new ≡ [] }
+{
+    if !log.list().is_empty() {
+        log.clear();
     }
 }

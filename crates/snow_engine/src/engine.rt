@@ -85,7 +85,26 @@ impl<C: Chain, B: Board> Engine<C, B> {
         }
     }
 
-    /// The same, with a stop told by a word; one that has more to tell is kept aside.
+    /// One vote, which came in this frame: what `step` does at its Chits, but no event is made of it, and
+    /// its bytes are only looked at.
+    #[inline(always)]
+    #[tactic(auto, using(crate::proofs::Staged::stopped, crate::proofs::Staged::told))]
+    pub fn take_vote(
+        &mut self,
+        frame: u64,
+        vote: &SentVote,
+        log: &mut Lines,
+    ) -> Result<(), EngineStop>
+        ensures answer { Steps result self.new (model.step C.rules B.answer self.old frame (as_vote vote.now)).1 }
+        ensures lines { Logs result log.old log.new (model.step C.rules B.answer self.old frame (as_vote vote.now)).0 }
+    {
+        match self.hear(frame, vote, log) {
+            Ok(()) => Ok(()),
+            Err(halt) => Err(halt.stop(&EngineStop::Memory)),
+        }
+    }
+
+    /// One event, with a stop told by a word; one that has more to tell is kept aside.
     #[tactic(auto, using(crate::proofs::Staged::turned, crate::proofs::Staged::stopped, crate::proofs::Staged::told))]
     pub(crate) fn turn(
         &mut self,

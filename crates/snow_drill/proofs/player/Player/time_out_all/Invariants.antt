@@ -2,8 +2,8 @@
 use Rattle.std.proofs.Common.{fold, take}
 use Rattle.snow_drill.specs.Drill.{timed_out}
 use Rattle.snow_drill.specs.Following.{Follows}
-use Rattle.snow_drill.proofs.player.Player.event_on.Given as goal
+use Rattle.snow_drill.proofs.player.Player.time_out_all.Given as goal
 
 abbrev pub invariant-loop-line : goal.invariant-loop-line
 invariant-loop-line g l =
-    Follows l.initial.self l.self (λ d. fold (timed_out g.E.Driven.step) d (take l.line-index l.line-items))
+    Follows l.initial.self l.self (λ d. fold (timed_out g.E.Driven.step) d (take l.line-index l.lines))

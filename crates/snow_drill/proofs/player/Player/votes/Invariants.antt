@@ -1,9 +1,0 @@
--- The votes so far.
-use Rattle.std.proofs.Common.{fold, take}
-use Rattle.snow_drill.specs.Drill.{with_vote}
-use Rattle.snow_drill.specs.Following.{Follows}
-use Rattle.snow_drill.proofs.player.Player.votes.Given as goal
-
-abbrev pub invariant-loop-node : goal.invariant-loop-node
-invariant-loop-node g l =
-    Follows l.initial.self l.self (λ d. fold (with_vote g.E.Driven.step l.query.number) d (take l.node-index l.query.nodes))
