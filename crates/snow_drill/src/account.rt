@@ -1,22 +1,28 @@
-ghost use Rattle.std.specs.Prelude.{◌≡◌, [], ◌++◌, List, fold, OnOk};
+ghost use Rattle.std.specs.Prelude.{◌≡◌, ℕ, [], ◌++◌, List, fold, OnOk};
 ghost use Rattle.sha2.specs.Hashers.{Holds256};
 ghost use Rattle.snow_lines.specs.Text.{texts};
 ghost use Rattle.snow_lines.specs.declared.line.Line as told;
+ghost use Rattle.snow_lines.specs.declared.line.Line.TheVariants as kind;
 ghost use Rattle.snow_drill.specs.Told.{untold, noted};
-ghost use Rattle.snow_drill.specs.Following.{Digests};
+ghost use Rattle.snow_drill.specs.Following.{Digests, DigestsBut, IsLeftOf};
 
 use crate::scratch::Scratch;
 use crate::tally::Tally;
 use sha2::{Digest, Sha256};
 use snow_base::Bytes;
-use snow_lines::{Line, print_all};
+use snow_lines::{Line, Lines, print_all};
+use snow_sample::Draws;
 use std::alloc::{AllocError, Global};
+
+/// So many bytes of text are digested at once.
+const ENOUGH: usize = 32_768;
 
 /// What is kept of the lines of a drill, and their digest as they come.
 #[derive(Drop)]
 pub struct Account {
     pub tally: Tally,
     pub hasher: Sha256,
+    /// The end of the text, which waits to be digested. So the lines of many events are digested at once.
     pub scratch: Scratch,
 }
 
@@ -36,31 +42,88 @@ impl Account {
         }
     }
 
-    /// Lines were written. Most events bring none, so what they cost stands apart.
+    /// The lines of a log were written. Of these a query that stands last is taken out. Most events bring
+    /// no lines, so what they cost stands apart.
     #[inline(always)]
-    pub fn keep(&mut self, lines: &[Line]) -> Result<(), AllocError>
-        ensures told { OnOk result (self.new.tally ≡ fold noted self.old.tally lines.now) }
-        ensures digest { OnOk result ((past : List told.Line) → Digests self.old past → Digests self.new (past ++ lines.now)) }
+    pub fn keep(&mut self, log: &mut Lines) -> Result<(), AllocError>
+        ensures told { OnOk result (self.new.tally ≡ fold noted self.old.tally log.old) }
+        ensures digest { OnOk result ((past : List told.Line) → Digests self.old past → Digests self.new (past ++ log.old)) }
+        ensures left { OnOk result (IsLeftOf log.old log.new) }
     {
-        if lines.is_empty() {
+        if log.list().is_empty() {
             return Ok(());
         }
-        self.keep_all(lines)
+        self.keep_all(log)
     }
 
     // The same for each of them.
     #[inline(never)]
-    fn keep_all(&mut self, lines: &[Line]) -> Result<(), AllocError>
-        ensures told { OnOk result (self.new.tally ≡ fold noted self.old.tally lines.now) }
-        ensures digest { OnOk result ((past : List told.Line) → Digests self.old past → Digests self.new (past ++ lines.now)) }
+    fn keep_all(&mut self, log: &mut Lines) -> Result<(), AllocError>
+        ensures told { OnOk result (self.new.tally ≡ fold noted self.old.tally log.old) }
+        ensures digest { OnOk result ((past : List told.Line) → Digests self.old past → Digests self.new (past ++ log.old)) }
+        ensures left { OnOk result (IsLeftOf log.old log.new) }
     {
-        note_all(&mut self.tally, lines)?;
-        digest(&mut self.hasher, &mut self.scratch, lines)
+        digest(&mut self.hasher, &mut self.scratch, log.list())?;
+        note_all(&mut self.tally, log)
+    }
+
+    /// Digests what waits, as no more lines come.
+    pub fn finish(&mut self)
+        ensures told { self.new.tally ≡ self.old.tally }
+        ensures digest { (lines : List told.Line) → Digests self.old lines → Holds256 self.new.hasher (texts lines) }
+    {
+        take_in(&mut self.hasher, &mut self.scratch);
+    }
+}
+
+// Notes the lines of a log, one after another. A query that stands last is taken out, so that its draws
+// needn't be copied.
+fn note_all(tally: &mut Tally, log: &mut Lines) -> Result<(), AllocError>
+    ensures told { OnOk result (tally.new ≡ fold noted tally.old log.old) }
+    ensures left { OnOk result (IsLeftOf log.old log.new) }
+{
+    match log.list().last() {
+        Some(Line::Query { .. }) => note_last(tally, log),
+        _ => note_each(tally, log.list()),
+    }
+}
+
+// The same where a query stands last.
+#[inline(never)]
+fn note_last(tally: &mut Tally, log: &mut Lines) -> Result<(), AllocError>
+    ensures told { OnOk result (tally.new ≡ fold noted tally.old log.old) }
+    ensures left { OnOk result (IsLeftOf log.old log.new) }
+{
+    match log.pop() {
+        Some(Line::Query { number, draws, .. }) => note_query(tally, log.list(), number, draws),
+        Some(line) => {
+            log.push(line)?;
+            note_each(tally, log.list())
+        }
+        None => Ok(()),
+    }
+}
+
+// Notes lines, and then a query of any block with these draws.
+fn note_query(
+    tally: &mut Tally,
+    lines: &[Line],
+    number: u32,
+    draws: Draws,
+) -> Result<(), AllocError>
+    ensures { (id : List ℕ) → OnOk result (tally.new ≡ noted (fold noted tally.old lines.now) (kind.Query number id draws)) }
+{
+    match note_each(tally, lines) {
+        Ok(()) => tally.ask(number, draws),
+        Err(fault) => {
+            drop(draws);
+            Err(fault)
+        }
     }
 }
 
 // Notes lines, one after another.
-fn note_all(tally: &mut Tally, lines: &[Line]) -> Result<(), AllocError>
+fn note_each(tally: &mut Tally, lines: &[Line]) -> Result<(), AllocError>
     ensures { OnOk result (tally.new ≡ fold noted tally.old lines.now) }
 {
     for line in lines {
@@ -69,16 +132,26 @@ fn note_all(tally: &mut Tally, lines: &[Line]) -> Result<(), AllocError>
     Ok(())
 }
 
-// Digests the text of lines behind what was digested. The scratch is empty before and after.
+// Appends the text of lines to what waits to be digested, and digests it once it is enough.
 fn digest(hasher: &mut Sha256, scratch: &mut Scratch, lines: &[Line]) -> Result<(), AllocError>
-    ensures digest { OnOk result ((past : List told.Line) → scratch.old.bytes ≡ []
-        → Holds256 hasher.old (texts past) → Holds256 hasher.new (texts (past ++ lines.now))) }
-    ensures empty { OnOk result (scratch.new.bytes ≡ []) }
+    ensures { OnOk result ((past : List told.Line)
+        → DigestsBut hasher.old scratch.old.bytes (texts past) → DigestsBut hasher.new scratch.new.bytes (texts (past ++ lines.now))) }
 {
     if print_all(lines, scratch).is_err() {
         return Err(AllocError);
     }
+    if scratch.bytes.list().len() >= ENOUGH {
+        take_in(hasher, scratch);
+    }
+    Ok(())
+}
+
+// Digests what waits.
+#[inline(never)]
+fn take_in(hasher: &mut Sha256, scratch: &mut Scratch)
+    ensures digest { (past : List ℕ) → Holds256 hasher.old past → Holds256 hasher.new (past ++ scratch.old.bytes) }
+    ensures empty { scratch.new.bytes ≡ [] }
+{
     hasher.update(scratch.bytes.list());
     scratch.bytes.clear();
-    Ok(())
 }

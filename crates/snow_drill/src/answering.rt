@@ -1,4 +1,4 @@
-ghost use Rattle.std.specs.Prelude.{◌≡◌, ◌==◌, [], fold, if◌then◌else◌, OnOk};
+ghost use Rattle.std.specs.Prelude.{◌≡◌, ◌==◌, [], fold, map, if◌then◌else◌, OnOk};
 ghost use Rattle.snow_drill.specs.Drill as model;
 ghost use Rattle.snow_drill.specs.Made.{newest};
 ghost use Rattle.snow_drill.specs.Following.{Follows};
@@ -8,6 +8,7 @@ use crate::player::Player;
 use crate::tally::Asked;
 use snow_base::{Header, Id, NodeId};
 use snow_lines::Lines;
+use snow_sample::Draw;
 use snow_wire::{Event, SentVote};
 use std::alloc::AllocError;
 
@@ -41,13 +42,13 @@ impl<E: Driven> Player<E> {
         self.make_vote(&vote, log)
     }
 
-    // The votes of nodes in the poll of a number, one after another. The log is empty before.
-    fn vote_all(&mut self, number: u32, nodes: &[NodeId], log: &mut Lines) -> Result<(), AllocError>
+    // The votes of the nodes of draws in the poll of a number, one after another. The log is empty before.
+    fn vote_all(&mut self, number: u32, draws: &[Draw], log: &mut Lines) -> Result<(), AllocError>
         requires { log.old ≡ [] }
-        ensures { OnOk result (Follows self.old self.new (λ d. fold (model.with_vote E.step number) d nodes.now)) }
+        ensures { OnOk result (Follows self.old self.new (λ d. fold (model.with_vote E.step number) d (map (λ draw. draw.node) draws.now))) }
     {
-        for node in nodes {
-            self.vote(number, node, log)?;
+        for draw in draws {
+            self.vote(number, &draw.node, log)?;
         }
         Ok(())
     }
@@ -59,7 +60,7 @@ impl<E: Driven> Player<E> {
     {
         self.words(20)?;
         let mut log = self.take_log();
-        let came = self.vote_all(query.number, query.nodes.list(), &mut log);
+        let came = self.vote_all(query.number, query.nodes.draws(), &mut log);
         self.log = log;
         came
     }

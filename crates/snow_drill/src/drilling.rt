@@ -47,7 +47,7 @@ fn drilled<B: Board>(alloc: Global, seed: u64, blocks: u32) -> Result<Bytes, All
 {
     let mut log = Lines::new(alloc);
     match start::<B>(alloc, &mut log) {
-        Ok(node) => played(alloc, seed, blocks, node, &log),
+        Ok(node) => played(alloc, seed, blocks, node, &mut log),
         Err(_) => Err(AllocError),
     }
 }
@@ -71,9 +71,9 @@ fn played<E: Driven>(
     seed: u64,
     blocks: u32,
     node: E,
-    log: &Lines,
+    log: &mut Lines,
 ) -> Result<Bytes, AllocError>
-    ensures { IfOk result (λ text. text ≡ drilled E.step seed blocks (log.now, Ok node)) }
+    ensures { IfOk result (λ text. text ≡ drilled E.step seed blocks (log.old, Ok node)) }
 {
     let mut player = begin(alloc, seed, node, log)?;
     let went = player.play(blocks);
@@ -88,8 +88,13 @@ fn played<E: Driven>(
 }
 
 // A drill behind its Start, which brought these lines.
-fn begin<E: Driven>(alloc: Global, seed: u64, node: E, log: &Lines) -> Result<Player<E>, AllocError>
-    ensures { IfOk result (λ player. Opens player seed (log.now, Ok node)) }
+fn begin<E: Driven>(
+    alloc: Global,
+    seed: u64,
+    node: E,
+    log: &mut Lines,
+) -> Result<Player<E>, AllocError>
+    ensures { IfOk result (λ player. Opens player seed (log.old, Ok node)) }
 {
     match opened(alloc, log) {
         Ok(account) => Ok(Player {
@@ -109,12 +114,12 @@ fn begin<E: Driven>(alloc: Global, seed: u64, node: E, log: &Lines) -> Result<Pl
 }
 
 // What is kept of the lines of a Start.
-fn opened(alloc: Global, log: &Lines) -> Result<Account, AllocError>
-    ensures told { IfOk result (λ account. account.tally ≡ fold noted untold log.now) }
-    ensures digest { IfOk result (λ account. Digests account log.now) }
+fn opened(alloc: Global, log: &mut Lines) -> Result<Account, AllocError>
+    ensures told { IfOk result (λ account. account.tally ≡ fold noted untold log.old) }
+    ensures digest { IfOk result (λ account. Digests account log.old) }
 {
     let mut account = Account::new(alloc);
-    match account.keep(log.list()) {
+    match account.keep(log) {
         Ok(()) => Ok(account),
         Err(fault) => {
             drop(account);

@@ -9,6 +9,7 @@ mod driven;
 mod generator;
 mod made;
 mod making;
+mod peers;
 mod player;
 mod scratch;
 mod stepping;

@@ -1,6 +1,6 @@
 use snow_base::{Bytes, Failed, Sink};
 
-/// Where the text of an event's lines waits to be digested. It fails where memory runs out.
+/// Where text waits to be digested. It fails where memory runs out.
 #[derive(Drop)]
 pub struct Scratch {
     pub bytes: Bytes,

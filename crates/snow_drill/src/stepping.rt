@@ -1,6 +1,6 @@
 ghost use Rattle.std.specs.Prelude.{◌≡◌, [], fold, OnOk};
 ghost use Rattle.snow_drill.specs.Drill as model;
-ghost use Rattle.snow_drill.specs.Following.{Plays, Follows};
+ghost use Rattle.snow_drill.specs.Following.{Plays, Follows, IsLeftOf};
 ghost use Rattle.snow_wire.specs.Sent.{as_vote};
 
 use crate::driven::Driven;
@@ -17,14 +17,14 @@ impl<E: Driven> Player<E> {
     fn event(&mut self, event: &Event, log: &mut Lines) -> Result<(), AllocError>
         requires { log.old ≡ [] }
         ensures follows { OnOk result (Follows self.old self.new (λ d. model.with_event E.step d event.now)) }
-        ensures lines { OnOk result ((d : model.Drill E) → Plays self.old d → log.new ≡ (model.comes E.step d event.now).0) }
+        ensures lines { OnOk result ((d : model.Drill E) → Plays self.old d → IsLeftOf (model.comes E.step d event.now).0 log.new) }
     {
         let Some(frame) = self.frame.checked_add(1) else {
             return Err(AllocError);
         };
         self.node.drive(frame, event, log)?;
         self.frame = frame;
-        self.account.keep(log.list())
+        self.account.keep(log)
     }
 
     // The same with a vote.
@@ -32,14 +32,14 @@ impl<E: Driven> Player<E> {
     fn vote_event(&mut self, vote: &SentVote, log: &mut Lines) -> Result<(), AllocError>
         requires { log.old ≡ [] }
         ensures follows { OnOk result (Follows self.old self.new (λ d. model.with_event E.step d (as_vote vote.now))) }
-        ensures lines { OnOk result ((d : model.Drill E) → Plays self.old d → log.new ≡ (model.comes E.step d (as_vote vote.now)).0) }
+        ensures lines { OnOk result ((d : model.Drill E) → Plays self.old d → IsLeftOf (model.comes E.step d (as_vote vote.now)).0 log.new) }
     {
         let Some(frame) = self.frame.checked_add(1) else {
             return Err(AllocError);
         };
         self.node.drive_vote(frame, vote, log)?;
         self.frame = frame;
-        self.account.keep(log.list())
+        self.account.keep(log)
     }
 
     // A node that was asked for a block gives none.

@@ -1,4 +1,5 @@
 ghost use Rattle.std.specs.Prelude.{◌≡◌, ◌++◌, ◌≤◌, List, length, IfOk, OnOk};
+ghost use Rattle.sha2.specs.Hashers.{Holds256};
 ghost use Rattle.sha2.specs.Sha256.{sha256};
 ghost use Rattle.snow_lines.specs.Text.{texts};
 ghost use Rattle.snow_lines.specs.declared.line.Line as told;
@@ -13,8 +14,17 @@ use snow_lines::Text;
 use std::alloc::{AllocError, Global};
 
 /// The six lines of a drill of so many blocks.
-pub fn summary(alloc: Global, blocks: u32, account: Account) -> Result<Bytes, AllocError>
+pub fn summary(alloc: Global, blocks: u32, mut account: Account) -> Result<Bytes, AllocError>
     ensures { (lines : List told.Line) → Digests account lines
+        → IfOk result (λ text. text ≡ summary_of blocks account.tally (sha256 (texts lines))) }
+{
+    account.finish();
+    finished(alloc, blocks, account)
+}
+
+// The same where all was digested.
+fn finished(alloc: Global, blocks: u32, account: Account) -> Result<Bytes, AllocError>
+    ensures { (lines : List told.Line) → Holds256 account.hasher (texts lines)
         → IfOk result (λ text. text ≡ summary_of blocks account.tally (sha256 (texts lines))) }
 {
     let Account { tally, hasher, .. } = account;

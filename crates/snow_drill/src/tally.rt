@@ -1,8 +1,10 @@
-ghost use Rattle.std.specs.Prelude.{◌≡◌, ◌+◌, map, OnOk, IfOk};
+ghost use Rattle.std.specs.Prelude.{◌≡◌, ◌+◌, ℕ, List, OnOk, IfOk};
+ghost use Rattle.snow_lines.specs.declared.line.Line.TheVariants as told;
 ghost use Rattle.snow_drill.specs.Told.{untold, noted};
 ghost use Rattle.snow_drill.specs.Following.{Takes};
 
-use snow_base::{Id, Items, NodeId};
+use crate::peers::Peers;
+use snow_base::Id;
 use snow_lines::Line;
 use snow_sample::Draws;
 use std::alloc::{AllocError, Global};
@@ -13,7 +15,7 @@ use std::marker::Model;
 #[derive(Drop)]
 pub struct Asked {
     pub number: u32,
-    pub nodes: Items<NodeId>,
+    pub nodes: Peers,
 }
 
 /// What is kept of the lines so far.
@@ -110,13 +112,20 @@ impl Tally {
             }
             Line::Reject { .. } => count(&mut self.rejected),
             Line::Query { number, draws, .. } => {
-                let nodes = nodes_of(self.alloc, draws)?;
-                let number = *number;
-                self.asked.push_back(Asked { number, nodes })?;
-                Ok(())
+                let draws = copy_of(self.alloc, draws)?;
+                self.ask(*number, draws)
             }
             _ => Ok(()),
         }
+    }
+
+    /// The line of a query was written, of any block, and these are its draws.
+    pub fn ask(&mut self, number: u32, draws: Draws) -> Result<(), AllocError>
+        ensures { (id : List ℕ) → OnOk result (self.new ≡ noted self.old (told.Query number id draws)) }
+    {
+        let nodes = Peers::of(draws);
+        self.asked.push_back(Asked { number, nodes })?;
+        Ok(())
     }
 
     /// Takes the oldest query that isn't answered, which then counts as answered.
@@ -142,14 +151,13 @@ fn count(number: &mut u64) -> Result<(), AllocError>
     Ok(())
 }
 
-// The nodes of draws, in order.
-fn nodes_of(alloc: Global, draws: &Draws) -> Result<Items<NodeId>, AllocError>
-    ensures { IfOk result (λ nodes. nodes ≡ map (λ d. d.node) draws.now) }
+// The same draws once more.
+fn copy_of(alloc: Global, draws: &Draws) -> Result<Draws, AllocError>
+    ensures { IfOk result (λ copy. copy ≡ draws.now) }
 {
-    let draws = draws.list();
-    let mut nodes = Items::with_capacity(alloc, draws.len())?;
-    for draw in draws {
-        nodes.push(draw.node)?;
+    let mut copy = Draws::new(alloc);
+    for draw in draws.list() {
+        copy.push(*draw)?;
     }
-    Ok(nodes)
+    Ok(copy)
 }
