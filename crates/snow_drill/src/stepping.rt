@@ -112,6 +112,7 @@ impl<E: Driven> Player<E> {
         self.log = log;
         came
     }
+
     /// The same with a vote, of which no event is made. Its log is empty before and after, so that all
     /// votes of a query share one.
     #[inline(always)]
