@@ -135,6 +135,48 @@ fn promotes(rt: HostRuntime) -> Result<(), Fail> {
     Ok(())
 }
 
+// The same branches, of blocks whose identifiers differ where a guess looks.
+const APART: [(u16, u16); 6] = [
+    (256, 0),
+    (512, 0),
+    (768, 256),
+    (1024, 512),
+    (1280, 768),
+    (1536, 256),
+];
+
+// Whether a block is guessed to stand at a place, and its parent so.
+fn is_guessed(tree: &Tree<u16>, number: u16, at: usize, parent: Option<usize>) -> bool {
+    match tree.guess(&named(number)) {
+        Some((place, above)) => place == at && above == parent,
+        None => false,
+    }
+}
+
+// Whether the branches are guessed, and a block that isn't there isn't.
+fn are_guessed(tree: &Tree<u16>) -> bool {
+    is_guessed(tree, 256, 0, None)
+        && is_guessed(tree, 768, 2, Some(0))
+        && is_guessed(tree, 1280, 4, Some(2))
+        && tree.guess(&named(1792)).is_none()
+}
+
+// Whether those that stay are, once the second branch is rejected.
+fn are_guessed_anew(tree: &mut Tree<u16>) -> bool {
+    accept(tree, 256) == Some(256)
+        && is_guessed(tree, 768, 0, None)
+        && is_guessed(tree, 1280, 1, Some(0))
+        && tree.guess(&named(512)).is_none()
+}
+
+#[test]
+fn guesses(rt: HostRuntime) -> Result<(), Fail> {
+    let mut tree = grown(rt.alloc(), &APART)?;
+    assert!(rt; are_guessed(&tree) && are_guessed_anew(&mut tree));
+    drop(tree);
+    Ok(())
+}
+
 // Whether the latest block is taken back, and then, between blocks that are accepted, the one before it.
 fn takes_two_back(tree: &mut Tree<u16>) -> bool {
     let latest = take_back(tree) == Some(6) && has_children(tree, 1, &[3]);

@@ -25,14 +25,14 @@ impl Hints {
         }
     }
 
-    /// Makes slots for one more entry than so many: four for each, so that few share one. What they tell
-    /// they still tell then.
+    /// Makes slots for one more entry than so many: sixteen for each, so that few share one. What they
+    /// tell they still tell then.
     pub(crate) fn make_room(&mut self, entries: usize) -> Result<(), AllocError> {
         let slots = self.numbers.len();
         if slots == 0 {
             return self.numbers.resize(64, 0);
         }
-        if entries < slots / 4 || slots >= MOST_SLOTS {
+        if entries < slots / 16 || slots >= MOST_SLOTS {
             return Ok(());
         }
         self.numbers.extend_from_within(..)
