@@ -1,13 +1,14 @@
 -- Lemmas on votes in bit order: where an identifier's votes stand, and what adding to them does.
-use Rattle.std.proofs.Common.{◌≡◌, ℕ, zero, suc, ◌+◌, ◌-◌, ◌<◌, ◌≤◌, List, [], ◌∷◌, ◌++◌, length, get_or, set, take, insert, All, Result, Ok, Err, Some, None, slice_get, refl, sym, ap, ◌∙◌, arith, Ordering, Less, Equal, Greater, is_lt, inl, inr, ◌^◌, max}
+use Rattle.std.proofs.Common.{◌≡◌, ℕ, zero, suc, ◌+◌, ◌<◌, ◌≤◌, List, [], ◌∷◌, ◌++◌, length, get_or, set, take, insert, All, Result, Ok, Err, refl, sym, ap, ◌∙◌, arith, Ordering, Less, Equal, Greater, is_lt, inl, inr, ◌^◌, max, true, bytes_eq}
 use Rattle.std.specs.List.Sorted.{IsSortedBy, IsSearchInRange, IsBinarySearchResult}
 use Rattle.std.specs.Ordering.{match_ordering, ordering_reverse}
 use Rattle.std.proofs.lemmas.Bool.{cases_lt}
 use Rattle.std.proofs.lemmas.Cmp.{tied_itself, alike_right}
-use Rattle.std.proofs.lemmas.Option.{none-some, slice_get_within, slice_get-get_or, get_or_from_slice_get}
+use Rattle.std.proofs.lemmas.Option.{slice_get-get_or, get_or_from_slice_get}
 use Rattle.std.proofs.lemmas.List.Elements.{All-cons, All-head, All-tail}
 use Rattle.std.proofs.lemmas.List.Sorted.{searchable_from_sorted}
 use Rattle.std.proofs.lemmas.List.{take_more}
+use Rattle.std.proofs.lemmas.Slice.Eq.{bytes_eq-Decides}
 use Rattle.std.proofs.lemmas.List.Recursion.{max_push}
 use Rattle.std.proofs.lemmas.List.Sums.{sum_by-cons}
 use Rattle.snow_base.specs.declared.vote.Vote.{Vote}
@@ -34,6 +35,10 @@ order_cons v votes first rest (suc i) (suc j) d p q = rest i j d (omega arith) (
 
 -- ---- the place of an identifier
 
+-- all from this place on stand after an identifier
+abbrev pub AllBehind : List Vote → List ℕ → ℕ → Type 0
+AllBehind votes id at = (k : ℕ) (d : Vote) → at ≤ k → k < length votes → bit_cmp (get_or votes k d).id id ≡ Greater
+
 flip : (a b : List ℕ) → bit_cmp a b ≡ ordering_reverse (bit_cmp b a)
 flip a b = bit_cmp-total.antisymm a b
 
@@ -48,33 +53,44 @@ searched votes id (Ok at) order bound found = (bound, found)
 searched votes id (Err at) order bound found =
     (bound, found (searchable_from_sorted bit_cmp-total (λ v. v.id) votes id (sorted votes order)))
 
--- the last of all votes stands before an identifier: then all do
-pub past_last : (votes : List Vote) (id : List ℕ) (last : Vote) → IsInBitOrder votes → slice_get votes (length votes - 1) ≡ Some last → bit_cmp last.id id ≡ Less
-    → IsPlaceOf votes id (Err (length votes))
-past_last votes id last order is less =
-    let some : length votes - 1 < length votes = slice_get_within votes (length votes - 1) last is in (
+-- within a list it doesn't matter what is read past its end
+same_within : (votes : List Vote) (at : ℕ) (d w : Vote) → at < length votes → get_or votes at d ≡ get_or votes at w
+same_within votes at d w some = get_or_from_slice_get votes at (get_or votes at w) d (slice_get-get_or votes at w some)
+
+-- one stands before an identifier, and all behind it after: new votes belong between them
+pub place_behind : (votes : List Vote) (id : List ℕ) (at : ℕ) (w : Vote) → IsInBitOrder votes → at < length votes → bit_cmp (get_or votes at w).id id ≡ Less
+    → AllBehind votes id (at + 1) → IsPlaceOf votes id (Err (at + 1))
+place_behind votes id at w order some less behind =
+    let before : (d : Vote) → bit_cmp (get_or votes at d).id id ≡ Less = λ d. ap (λ v. bit_cmp v.id id) (same_within votes at d w some) ∙ less in (
       omega arith,
       (
         λ k d p q.
-            let end : get_or votes (length votes - 1) d ≡ last = get_or_from_slice_get votes (length votes - 1) last d is in
-            elim (cases_lt k (length votes - 1)) [
-              | inl l ↦ bit_cmp-total.trans (get_or votes k d).id last.id id (ap (λ v. bit_cmp (get_or votes k d).id v.id) (sym end) ∙ order k (length votes - 1) d l some) less
-              | inr l ↦ let at : k ≡ length votes - 1 = omega arith in ap (λ j. bit_cmp (get_or votes j d).id id) at ∙ ap (λ v. bit_cmp v.id id) end ∙ less
+            elim (cases_lt k at) [
+              | inl l ↦ bit_cmp-total.trans (get_or votes k d).id (get_or votes at d).id id (order k at d l some) (before d)
+              | inr l ↦ let same : k ≡ at = omega arith in ap (λ j. bit_cmp (get_or votes j d).id id) same ∙ before d
             ],
-        λ k d p q. absurd (omega arith),
+        λ k d p q. behind k d (omega arith) q,
       ),
     )
 
--- the last of all votes are those for an identifier
-pub at_last : (votes : List Vote) (id : List ℕ) (last : Vote) → slice_get votes (length votes - 1) ≡ Some last → bit_cmp last.id id ≡ Equal
-    → IsPlaceOf votes id (Ok (length votes - 1))
-at_last votes id last is same =
-    (slice_get_within votes (length votes - 1) last is, λ d. ap (λ v. bit_cmp v.id id) (get_or_from_slice_get votes (length votes - 1) last d is) ∙ same)
+-- one is the identifier
+pub place_at : (votes : List Vote) (id : List ℕ) (at : ℕ) (w : Vote) → at < length votes → bit_cmp (get_or votes at w).id id ≡ Equal → IsPlaceOf votes id (Ok at)
+place_at votes id at w some same = (some, λ d. ap (λ v. bit_cmp v.id id) (same_within votes at d w some) ∙ same)
 
--- where there is no last one there are no votes
-pub no_last : (votes : List Vote) (id : List ℕ) → slice_get votes (length votes - 1) ≡ None → IsPlaceOf votes id (Err 0)
-no_last [] id e = (omega arith, (λ k d p q. absurd (omega arith), λ k d p q. absurd (omega arith)))
-no_last (v ∷ votes) id e = absurd (none-some _ (sym e ∙ slice_get-get_or (v ∷ votes) (length (v ∷ votes) - 1) v (omega arith)))
+-- one more stands behind an identifier
+pub behind_more : (votes : List Vote) (id : List ℕ) (at : ℕ) (w : Vote) → at < length votes → bit_cmp (get_or votes at w).id id ≡ Greater → AllBehind votes id (at + 1)
+    → AllBehind votes id at
+behind_more votes id at w some greater behind k d p q =
+    elim (cases_lt at k) [
+      | inl l ↦ behind k d (omega arith) q
+      | inr l ↦
+          let same : k ≡ at = omega arith in
+          ap (λ j. bit_cmp (get_or votes j d).id id) same ∙ ap (λ v. bit_cmp v.id id) (same_within votes at d w some) ∙ greater
+    ]
+
+-- all stand behind it
+pub place_first : (votes : List Vote) (id : List ℕ) → AllBehind votes id 0 → IsPlaceOf votes id (Err 0)
+place_first votes id behind = (omega arith, (λ k d p q. absurd (omega arith), λ k d p q. behind k d p q))
 
 -- at a place for new votes there are none yet
 pub none_there : (votes : List Vote) (id : List ℕ) (at : ℕ) → IsPlaceOf votes id (Err at) → HasVotesFor votes id → ⊥
@@ -129,6 +145,20 @@ added_inserted (v ∷ votes) id n (suc at) place =
 pub insert_end : (votes : List Vote) (v : Vote) → insert votes (length votes) v ≡ votes ++ v ∷ []
 insert_end [] v = refl
 insert_end (x ∷ votes) v = ap (λ l. x ∷ l) (insert_end votes v)
+
+-- the first votes of all
+pub added_first : (votes : List Vote) (id : List ℕ) (n : ℕ) → length votes ≡ 0 → votes ++ record { id = id; count = n } ∷ [] ≡ added votes id n
+unfolding added
+added_first [] id n none = refl
+added_first (v ∷ votes) id n none = absurd (omega arith)
+
+-- where the last votes are for id, n more are counted
+pub added_last : (votes : List Vote) (id : List ℕ) (n at : ℕ) (last w : Vote) → IsInBitOrder votes → at < length votes → last ≡ get_or votes at last → bytes_eq last.id id ≡ true
+    → w ≡ get_or votes at w → set votes at (record { id = w.id; count = w.count + n }) ≡ added votes id n
+added_last votes id n at last w order some is same found =
+    let one : last.id ≡ id = (bytes_eq-Decides last.id id).0 same in
+    let tied : bit_cmp (get_or votes at last).id id ≡ Equal = ap (λ v. bit_cmp v.id id) (sym is) ∙ ap (λ i. bit_cmp i id) one ∙ tied_itself {R = bit_cmp} bit_cmp-total id in
+    added_counted votes id n at w order (place_at votes id at last some tied) found
 
 -- what holds of all votes, of the new ones, and of votes as more are counted, holds after adding
 all_added : (P : Vote → Type 0) (votes : List Vote) (id : List ℕ) (n : ℕ) → All P votes → P (record { id = id; count = n })

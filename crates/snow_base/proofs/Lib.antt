@@ -6,3 +6,4 @@ pub mod Gathered
 pub mod Known
 pub mod Splitting
 pub mod Words
+pub mod Moving

@@ -8,7 +8,7 @@ use Rattle.std.proofs.lemmas.Bool.Decides.{nat_tests}
 use Rattle.std.proofs.lemmas.Nat.{div-add-mod', mod_below, pow_pos}
 use Rattle.std.proofs.lemmas.Nat.Bits.{bit_at-lt, bit_at_cat_low, bit_at_cat_high, bit_at_above}
 use Rattle.snow_base.specs.Identifier.{bit, bit_cmp, AgreeFrom, FirstDiffers}
-use Rattle.snow_base.specs.Words.{high_first, IsWord}
+use Rattle.snow_base.specs.Words.{high_first, IsWord, eight_from}
 use Rattle.snow_base.proofs.Bits.{bit_cmp-first, same_if_tested}
 
 -- ---- the bits of eight bytes
@@ -37,8 +37,7 @@ digit_bit f k (suc n) i bytes h =
 
 -- eight bytes of an identifier, the first the lowest, have 64 of its bits
 pub word_is : (id : List ℕ) (at i n : ℕ) → i ≡ 8 * at → ((j : ℕ) → get_or id j 0 < 2 ^ 8)
-    → n ≡ from_le_bytes w64 (get_or id i 0 ∷ get_or id (i + 1) 0 ∷ get_or id (i + 2) 0 ∷ get_or id (i + 3) 0
-    ∷ get_or id (i + 4) 0 ∷ get_or id (i + 5) 0 ∷ get_or id (i + 6) 0 ∷ get_or id (i + 7) 0 ∷ [])
+    → n ≡ from_le_bytes w64 (eight_from id i)
     → IsWord id at n
 word_is id at i n from bytes is k h =
     let f : ℕ → ℕ = λ j. get_or id (i + j) 0 in
@@ -247,8 +246,7 @@ module _ (a b : List ℕ) (from x y : ℕ) (long_a : from + 8 ≤ length a) (lon
 
 -- eight bytes, the first the highest
 pub high_is : (s : List ℕ) (i n : ℕ)
-    → n ≡ from_be_bytes w64 (get_or s i 0 ∷ get_or s (i + 1) 0 ∷ get_or s (i + 2) 0 ∷ get_or s (i + 3) 0
-    ∷ get_or s (i + 4) 0 ∷ get_or s (i + 5) 0 ∷ get_or s (i + 6) 0 ∷ get_or s (i + 7) 0 ∷ [])
+    → n ≡ from_be_bytes w64 (eight_from s i)
     → n ≡ high_first (λ k. get_or s (i + k) 0) 8
 unfolding high_first
 high_is s i n is =
@@ -257,8 +255,7 @@ high_is s i n is =
 
 -- and the first the lowest
 pub low_is : (s : List ℕ) (i n : ℕ)
-    → n ≡ from_le_bytes w64 (get_or s i 0 ∷ get_or s (i + 1) 0 ∷ get_or s (i + 2) 0 ∷ get_or s (i + 3) 0
-    ∷ get_or s (i + 4) 0 ∷ get_or s (i + 5) 0 ∷ get_or s (i + 6) 0 ∷ get_or s (i + 7) 0 ∷ [])
+    → n ≡ from_le_bytes w64 (eight_from s i)
     → n ≡ high_first (λ k. get_or s (i + (7 - k)) 0) 8
 unfolding high_first
 low_is s i n is =

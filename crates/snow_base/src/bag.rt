@@ -1,4 +1,5 @@
-ghost use Rattle.std.specs.Prelude.{◌≡◌, ℕ, ◌+◌, ◌^◌, ◌<◌, ◌≤◌, [], length, All, IsOk, IfOk, OnOk, OnErr, vec_len, vec_capacity};
+ghost use Rattle.std.specs.Prelude.{◌≡◌, ℕ, ◌+◌, ◌^◌, ◌<◌, ◌≤◌, [], length, All, take, ◌-◌, IsOk, IfOk, OnOk, OnErr, vec_len, vec_capacity};
+ghost use Rattle.std.specs.List.{insert};
 ghost use Rattle.snow_base.specs.Votes.{total_count, most_count, IsInBitOrder, HasVotesFor, added, IsPlaceOf};
 ghost use Rattle.snow_base.specs.Gathered.{one_each};
 
@@ -68,6 +69,7 @@ impl Bag {
 
     /// Adds `n` votes for `id`. With room, or where `id` has votes already, it takes no memory;
     /// after want of memory the votes are as before.
+    #[inline(always)]
     pub fn add(&mut self, id: Id, n: u32) -> Result<(), AllocError>
         requires some { 1 ≤ n }
         requires total { total_count self.old.list + n < 2 ^ 32 }
@@ -123,7 +125,12 @@ impl Bag {
     }
 }
 
-// Adds `n` votes for `id` to votes in bit order.
+// Among so few identifiers one is found by looking at each.
+const FEW: usize = 8;
+
+// Adds `n` votes for `id` to votes in bit order. Most that come one after another are for the last
+// identifier: those are counted at once.
+#[inline(always)]
 fn count_in(votes: &mut Vec<Vote>, id: Id, n: u32) -> Result<(), AllocError>
     requires order { IsInBitOrder votes.old.items }
     requires total { total_count votes.old.items + n < 2 ^ 32 }
@@ -135,36 +142,106 @@ fn count_in(votes: &mut Vec<Vote>, id: Id, n: u32) -> Result<(), AllocError>
     ensures len_kept { OnErr result (vec_len votes.new ≡ vec_len votes.old) }
     ensures capacity { vec_capacity votes.old ≤ vec_capacity votes.new }
 {
-    match place(votes.as_slice(), &id) {
+    let len = votes.len();
+    if len == 0 {
+        votes.reserve(1)?;
+        votes.push_reserved(Vote { id, count: n });
+        return Ok(());
+    }
+    if votes[len - 1].id.word(0) == id.word(0) && votes[len - 1].id == id {
+        votes[len - 1].count += n;
+        return Ok(());
+    }
+    count_past(votes, &id, n)
+}
+
+// The same where the last votes are for another identifier.
+#[inline(never)]
+fn count_past(votes: &mut Vec<Vote>, id: &Id, n: u32) -> Result<(), AllocError>
+    requires order { IsInBitOrder votes.old.items }
+    requires total { total_count votes.old.items + n < 2 ^ 32 }
+    ensures ok { OnOk result (votes.new.items ≡ added votes.old.items id.now n) }
+    ensures err { OnErr result (votes.new.items ≡ votes.old.items) }
+    ensures fits { vec_len votes.old < vec_capacity votes.old → IsOk result }
+    ensures known { HasVotesFor votes.old.items id.now → IsOk result × (vec_len votes.new ≡ vec_len votes.old) }
+    ensures len { vec_len votes.new ≤ vec_len votes.old + 1 }
+    ensures len_kept { OnErr result (vec_len votes.new ≡ vec_len votes.old) }
+    ensures capacity { vec_capacity votes.old ≤ vec_capacity votes.new }
+{
+    match place(votes.as_slice(), id) {
         Ok(at) => {
             votes[at].count += n;
             Ok(())
         }
-        Err(at) if at == votes.len() => {
-            votes.push(Vote { id, count: n })?;
-            Ok(())
-        }
-        Err(at) => {
-            votes.insert(at, Vote { id, count: n })?;
-            Ok(())
-        }
+        Err(at) => put_in(votes, at, id, n),
     }
+}
+
+// Puts new votes at their place.
+#[inline(always)]
+fn put_in(votes: &mut Vec<Vote>, at: usize, id: &Id, n: u32) -> Result<(), AllocError>
+    requires { at ≤ vec_len votes.old }
+    ensures ok { OnOk result (votes.new.items ≡ insert votes.old.items at (record { id = id.now; count = n })) }
+    ensures err { OnErr result (votes.new.items ≡ votes.old.items) }
+    ensures fits { vec_len votes.old < vec_capacity votes.old → IsOk result }
+    ensures len { OnOk result (vec_len votes.new ≡ vec_len votes.old + 1) }
+    ensures len_kept { OnErr result (vec_len votes.new ≡ vec_len votes.old) }
+    ensures capacity { vec_capacity votes.old ≤ vec_capacity votes.new }
+{
+    let end = votes.len();
+    votes.reserve(1)?;
+    votes.push_reserved(Vote { id: *id, count: n });
+    if at < end {
+        move_in(votes.as_mut_slice(), at, id, n);
+    }
+    Ok(())
+}
+
+// The same over the last ones: those between move up by one.
+#[inline(always)]
+fn move_in(row: &mut [Vote], at: usize, id: &Id, n: u32)
+    requires { at < length row.old }
+    ensures { row.new ≡ insert (take (length row.old - 1) row.old) at (record { id = id.now; count = n }) }
+{
+    let mut free = row.len() - 1;
+    while free > at {
+        row[free] = row[free - 1];
+        free -= 1;
+    }
+    row[at] = Vote { id: *id, count: n };
 }
 
 // Where the votes for `id` stand, or else where new ones belong. Identifiers that come in bit order
 // aren't searched for.
+#[inline(always)]
 fn place(votes: &[Vote], id: &Id) -> Result<usize, usize>
     requires { IsInBitOrder votes.now }
     ensures { IsPlaceOf votes.now id.now result }
 {
-    match votes.last() {
-        None => Err(0),
-        Some(last) => match last.id.bit_cmp(id) {
-            Ordering::Less => Err(votes.len()),
-            Ordering::Equal => Ok(votes.len() - 1),
-            Ordering::Greater => search(votes, id),
-        },
+    if votes.len() <= FEW {
+        return place_among_few(votes, id);
     }
+    match votes[votes.len() - 1].id.bit_cmp(id) {
+        Ordering::Less => Err(votes.len()),
+        _ => search(votes, id),
+    }
+}
+
+// The same by looking at one after another, the last one first.
+#[inline(always)]
+fn place_among_few(votes: &[Vote], id: &Id) -> Result<usize, usize>
+    requires { IsInBitOrder votes.now }
+    ensures { IsPlaceOf votes.now id.now result }
+{
+    let mut at = votes.len();
+    while at > 0 {
+        match votes[at - 1].id.bit_cmp(id) {
+            Ordering::Less => return Err(at),
+            Ordering::Equal => return Ok(at - 1),
+            Ordering::Greater => at -= 1,
+        }
+    }
+    Err(0)
 }
 
 // The same by a search.

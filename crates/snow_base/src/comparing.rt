@@ -2,7 +2,7 @@
 ghost use Rattle.std.specs.Prelude.{◌≡◌, ◌≢◌, ℕ, ◌+◌, ◌-◌, ◌<◌, ◌≤◌, length, bytes_eq, slice_index};
 ghost use Rattle.std.specs.Cmp.Lexicographic.{slice_cmp};
 ghost use Rattle.std.specs.Ordering.{nat_cmp};
-ghost use Rattle.snow_base.specs.Words.{high_first};
+ghost use Rattle.snow_base.specs.Words.{eight_from, high_first};
 
 use std::cmp::Ordering;
 
@@ -61,16 +61,7 @@ fn high_word(bytes: &[u8], from: usize) -> u64
     requires { from + 8 ≤ length bytes.now }
     ensures { result ≡ high_first (λ k. slice_index bytes.now (from + k)) 8 }
 {
-    u64::from_be_bytes([
-        bytes[from],
-        bytes[from + 1],
-        bytes[from + 2],
-        bytes[from + 3],
-        bytes[from + 4],
-        bytes[from + 5],
-        bytes[from + 6],
-        bytes[from + 7],
-    ])
+    u64::from_be_bytes(eight(bytes, from))
 }
 
 // Eight bytes as a number, the first one the lowest, as the machine reads them.
@@ -79,7 +70,16 @@ fn low_word(bytes: &[u8], from: usize) -> u64
     requires { from + 8 ≤ length bytes.now }
     ensures { result ≡ high_first (λ k. slice_index bytes.now (from + (7 - k))) 8 }
 {
-    u64::from_le_bytes([
+    u64::from_le_bytes(eight(bytes, from))
+}
+
+// Eight bytes from a place on.
+#[inline(always)]
+pub(crate) fn eight(bytes: &[u8], from: usize) -> [u8; 8]
+    requires { from + 8 ≤ length bytes.now }
+    ensures { result ≡ eight_from bytes.now from }
+{
+    [
         bytes[from],
         bytes[from + 1],
         bytes[from + 2],
@@ -88,5 +88,5 @@ fn low_word(bytes: &[u8], from: usize) -> u64
         bytes[from + 5],
         bytes[from + 6],
         bytes[from + 7],
-    ])
+    ]
 }

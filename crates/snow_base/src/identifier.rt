@@ -1,7 +1,7 @@
 ghost use Rattle.std.specs.Prelude.{◌≡◌, ◌≢◌, ℕ, ◌+◌, ◌*◌, ◌/◌, ◌^◌, ◌<◌, ◌≤◌, length, slice_index};
 ghost use Rattle.std.specs.Int.{bit_at};
 
-use crate::comparing::{are_equal, order};
+use crate::comparing::{are_equal, eight, order};
 use std::cmp::Ordering;
 use std::hash::{Hash, Hasher};
 use std::marker::Model;
@@ -122,21 +122,12 @@ impl Id {
 
     // The 64 bits from bit `64 * at` on, the first one the lowest.
     #[inline]
-    fn word(&self, at: usize) -> u64
+    pub(crate) fn word(&self, at: usize) -> u64
         requires { at < 4 }
         ensures { IsWord self.now at result }
     {
-        let from = 8 * at;
-        u64::from_le_bytes([
-            self.bytes[from],
-            self.bytes[from + 1],
-            self.bytes[from + 2],
-            self.bytes[from + 3],
-            self.bytes[from + 4],
-            self.bytes[from + 5],
-            self.bytes[from + 6],
-            self.bytes[from + 7],
-        ])
+        small(&self.bytes);
+        u64::from_le_bytes(eight(&self.bytes, 8 * at))
     }
 
     /// Bit order: bit 0 is compared first, then bit 1, and so on; a 0 stands before a 1.

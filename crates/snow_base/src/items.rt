@@ -1,4 +1,4 @@
-ghost use Rattle.std.specs.Prelude.{◌≡◌, [], ◌∷◌, ◌++◌, None, IfOk, IfSome, OnOk, OnErr};
+ghost use Rattle.std.specs.Prelude.{◌≡◌, [], ◌∷◌, ◌++◌, None, IfOk, IfSome, OnOk, OnErr, length};
 
 use crate::identifier::Id;
 use crate::node::NodeId;
@@ -38,11 +38,14 @@ impl<T: Drop> Items<T> {
     }
 
     /// Appends an item. After want of memory the list is as before.
+    #[inline(always)]
     pub fn push(&mut self, item: T) -> Result<(), AllocError>
         ensures ok { OnOk result (self.new ≡ self.old ++ item ∷ []) }
         ensures err { OnErr result (self.new ≡ self.old) }
     {
-        self.items.push(item)?;
+        // Room is made first, so that the item is moved once.
+        self.items.reserve(1)?;
+        self.items.push_reserved(item);
         Ok(())
     }
 
@@ -87,6 +90,29 @@ impl Items<u8> {
     {
         self.items.extend_from_slice(bytes)?;
         Ok(())
+    }
+}
+
+impl Items<Id> {
+    /// The identifiers of these bytes, in place of what the list held. After want of memory it is as
+    /// before.
+    pub fn replace(&mut self, chunks: &[[u8; 32]]) -> Result<(), AllocError>
+        ensures ok { OnOk result (self.new ≡ chunks.now) }
+        ensures err { OnErr result (self.new ≡ self.old) }
+    {
+        self.items.resize(chunks.len(), Id::from_bytes([0; 32]))?;
+        write_over(self.items.as_mut_slice(), chunks);
+        Ok(())
+    }
+}
+
+// Writes identifiers over others.
+fn write_over(ids: &mut [Id], chunks: &[[u8; 32]])
+    requires { length ids.old ≡ length chunks.now }
+    ensures { ids.new ≡ chunks.now }
+{
+    for at in 0..ids.len() {
+        ids[at] = Id::from_bytes(chunks[at]);
     }
 }
 

@@ -226,7 +226,7 @@ impl<'a> Reader<'a> {
 fn ids_in(alloc: Global, bytes: &[u8]) -> Result<Ids, AllocError>
     ensures { IfOk result (λ ids. ids ≡ first_chunks 32 (length bytes.now / 32) bytes.now) }
 {
-    let mut ids = Ids::with_capacity(alloc, bytes.len() / 32)?;
+    let mut ids = Ids::new(alloc);
     put_ids(&mut ids, bytes)?;
     Ok(ids)
 }
@@ -236,12 +236,8 @@ fn ids_in(alloc: Global, bytes: &[u8]) -> Result<Ids, AllocError>
 pub(crate) fn put_ids(ids: &mut Ids, bytes: &[u8]) -> Result<(), AllocError>
     ensures { OnOk result (ids.new ≡ first_chunks 32 (length bytes.now / 32) bytes.now) }
 {
-    ids.clear();
     let (chunks, _) = bytes.as_chunks::<32>();
-    for chunk in chunks {
-        ids.push(id_of(chunk))?;
-    }
-    Ok(())
+    ids.replace(chunks)
 }
 
 /// The numbers whose bytes stand one behind another.
