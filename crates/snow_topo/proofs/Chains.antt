@@ -110,20 +110,3 @@ chain_next links number linked some within =
 pub next_falls : (links : List Link) (number : ℕ) → AreLinked links → 0 < number → number ≤ length links → (get_or links (number - 1) no_link).next < number
 next_falls links number linked some within =
     omega (arith, some, linked (number - 1) (omega (arith, some, within)), latest_within links (number - 1) (get_or links (number - 1) no_link).climber.place)
-
--- those that were listed, and those that are still to be
-pub listed_more : (links : List Link) (number : ℕ) (listed : List Climber) → AreLinked links → 0 < number → number ≤ length links
-    → (listed ++ (get_or links (number - 1) no_link).climber ∷ []) ++ chain links (get_or links (number - 1) no_link).next ≡ listed ++ chain links number
-listed_more links number listed linked some within =
-    let x = get_or links (number - 1) no_link in
-    append_assoc listed (x.climber ∷ []) (chain links x.next) ∙ ap (λ l. listed ++ l) (sym (chain_next links number linked some within))
-
-pub listed_room : (links : List Link) (number head : ℕ) (listed : List Climber) → AreLinked links → 0 < number → number ≤ length links → listed ++ chain links number ≡ chain links head
-    → length listed < length (chain links head)
-listed_room links number head listed linked some within all =
-    omega (arith, ap length all, length-append listed (chain links number), ap length (chain_next links number linked some within))
-
-pub listed_all : (links : List Link) (number head : ℕ) (listed : List Climber) → number ≤ 0 → listed ++ chain links number ≡ chain links head → listed ≡ chain links head
-listed_all links number head listed none all =
-    let zero_left : number ≡ 0 = omega (arith, none) in
-    sym (append-nil listed) ∙ ap (λ n. listed ++ chain links n) (sym zero_left) ∙ all

@@ -21,3 +21,4 @@ pub mod Begun
 pub mod Started
 pub mod Chains
 pub mod Hung
+pub mod Gatherings

@@ -32,7 +32,7 @@ use Rattle.snow_topo.proofs.Reached.{off_below}
 -- ---- the beginning
 
 -- where nothing is pending
-pub begun_standing : (answer : Answer) (p : Parameters) (last : List ℕ) (ladder : Rungs) (height decisions children : ℕ) → IsReady 0 ladder → p.k ≤ ladder.wide → p.k ≤ children
+pub begun_standing : (answer : Answer) (p : Parameters) (last : List ℕ) (ladder : Rungs) (height decisions children : ℕ) → IsReady 0 ladder → p.k ≤ ladder.votes → p.k ≤ children
     → IsStanding answer p 0 bare (begun last height) last ladder decisions children
 unfolding path_from
 begun_standing answer p last ladder height decisions children ready counts gathers = record {

@@ -218,6 +218,5 @@ pub loaded_again : (old new : List (Entry Kept)) (ladder : Rungs) → blocks_in 
 loaded_again old new ladder same loaded = record {
   placed = subst (λ bs. ArePlaced bs ladder.climbers) (sym same) loaded.placed;
   put = omega (arith, loaded.put, same_length old new same);
-  wide = loaded.wide;
   low = omega (arith, loaded.low, same_length old new same);
 }

@@ -12,15 +12,13 @@ pub record Rungs : Type 0 where
   pub climbers : List Climber
   -- those that were taken off last
   pub came : List Climber
-  -- those that were listed last
-  pub listed : List Climber
   -- nobody stands on this rung or a higher one
   pub low : ℕ
   -- how many were put on, and how many may be
   pub put : ℕ
   pub most : ℕ
-  -- how many may be listed
-  pub wide : ℕ
+  -- how many votes a poll may have
+  pub votes : ℕ
   -- how many rungs there are
   pub rungs : ℕ
 
@@ -34,13 +32,13 @@ up_from rung climbers = filter (λ c. not (nat_lt c.place rung)) climbers
 -- a ladder has room for as many as another
 pub record KeepsRoom (old new : Rungs) : Type 0 where
   pub most : new.most ≡ old.most
-  pub wide : new.wide ≡ old.wide
+  pub votes : new.votes ≡ old.votes
   pub rungs : new.rungs ≡ old.rungs
 
 -- nobody stands on it, and there is room for the next poll over so many pending blocks
 pub record IsReady (pending : ℕ) (ladder : Rungs) : Type 0 where
   pub low : ladder.low ≡ 0
-  pub most : ladder.wide + pending ≤ ladder.most
+  pub most : ladder.votes + pending ≤ ladder.most
   pub rungs : pending < ladder.rungs
 
 -- ---- how it is kept

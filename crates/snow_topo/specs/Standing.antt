@@ -22,7 +22,7 @@ pub record IsStanding (answer : Answer) (p : Parameters) (polls : ℕ) (root : K
   pub fit : AreFit p polls root held
   pub named : AreNamed (blocks_in held.pending)
   pub preference : leading ≡ preferred answer (view p polls root held)
-  pub room : HasRoom (view p polls root held) decisions ladder.wide children
+  pub room : HasRoom (view p polls root held) decisions ladder.votes children
   pub ready : IsReady (length held.pending) ladder
 
 -- counters that a tree keeps are those of the board, or have failed there since the tree recorded a poll

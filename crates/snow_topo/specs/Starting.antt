@@ -50,5 +50,4 @@ HaveBegun p votes pending ladder = AreClimbing p votes (blocks_in pending) (leng
 pub record IsLoaded (pending : List (Entry Kept)) (ladder : Rungs) : Type 0 where
   pub placed : ArePlaced (blocks_in pending) ladder.climbers
   pub put : ladder.put + length pending ≤ ladder.most
-  pub wide : length ladder.climbers ≤ ladder.wide
   pub low : length pending < ladder.low

@@ -46,7 +46,6 @@ pub(crate) fn climb<R: Rule, L: Ledger>(
     requires room { polls + 1 < 2 ^ 64 }
     requires places { length (ladder.old).climbers ≤ children.old.room + length children.old.list }
     requires put { (ladder.old).put + length (tree.old).pending ≤ (ladder.old).most }
-    requires wide { length (ladder.old).climbers ≤ (ladder.old).wide }
     requires low { length (tree.old).pending < (ladder.old).low }
     requires climbing { (votes : List Vote) × AreClimbing params.now votes (blocks_in (tree.old).pending) (length (tree.old).pending) (cursors_of (blocks_in (tree.old).pending) (ladder.old).climbers) }
     requires placed { ArePlaced (blocks_in (tree.old).pending) (ladder.old).climbers }

@@ -31,25 +31,23 @@ fn record_root<R: Rule, L: Ledger>(
     root: &mut Load<R>,
     tree: &Tree<Load<R>>,
     polls: u64,
-    ladder: &mut Ladder,
+    ladder: &Ladder,
     count: u32,
     children: &mut Bag,
     steps: &mut Steps<L>,
 ) -> bool
     requires room { polls + 1 < 2 ^ 64 }
-    requires count { count ≡ climber_total (ladder.old).came }
-    requires wide { length (ladder.old).came ≤ (ladder.old).wide }
-    requires places { length (ladder.old).came ≤ children.old.room + length children.old.list }
-    requires placed { All (λ c. c.passed < length (tree.now).pending) (ladder.old).came }
-    requires counts { All (λ c. 0 < c.count) (ladder.old).came }
-    requires total { climber_total (ladder.old).came ≤ params.now.k }
-    requires came { All (HasCome (blocks_in (tree.now).pending) (tree.now).last) (cursors_of (blocks_in (tree.now).pending) (ladder.old).came) }
+    requires count { count ≡ climber_total (ladder.now).came }
+    requires places { length (ladder.now).came ≤ children.old.room + length children.old.list }
+    requires placed { All (λ c. c.passed < length (tree.now).pending) (ladder.now).came }
+    requires counts { All (λ c. 0 < c.count) (ladder.now).came }
+    requires total { climber_total (ladder.now).came ≤ params.now.k }
+    requires came { All (HasCome (blocks_in (tree.now).pending) (tree.now).last) (cursors_of (blocks_in (tree.now).pending) (ladder.now).came) }
     requires fit { IsFit params.now polls (children_of (blocks_in (tree.now).pending) (tree.now).last) root.old }
-    ensures taken { HasTaken params.now polls (votes_at (cursors_of (blocks_in (tree.now).pending) (ladder.old).came) (tree.now).last) root.old root.new }
+    ensures taken { HasTaken params.now polls (votes_at (cursors_of (blocks_in (tree.now).pending) (ladder.now).came) (tree.now).last) root.old root.new }
     ensures steady { IsSteady R.answer result root.old root.new }
-    ensures steps { steps.new ≤ steps.old + 5 * (if nat_le params.now.alpha_preference (climber_total (ladder.old).came) then length (ids_in (root.old).contest) else 0) }
+    ensures steps { steps.new ≤ steps.old + 5 * (if nat_le params.now.alpha_preference (climber_total (ladder.now).came) then length (ids_in (root.old).contest) else 0) }
     ensures places { children.old.room + length children.old.list ≤ children.new.room + length children.new.list }
-    ensures ladder { ladder.new ≡ record (ladder.old) { listed = (ladder.new).listed } }
 {
     let _k = params.k();
     if has_quorum(params, count) {

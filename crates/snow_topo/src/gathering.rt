@@ -4,51 +4,40 @@ ghost use Rattle.snow_plain.specs.Conflict.{votes_on};
 ghost use Rattle.snow_plain.specs.Cursors.{votes_at};
 ghost use Rattle.snow_tree.specs.Held.{blocks_in, children_of};
 ghost use Rattle.snow_topo.specs.Climbing.{climber_total, cursors_of, gathered, vote_in, HasCome};
+ghost use Rattle.snow_topo.specs.Ladder.{chain, AreLinked};
 
 use crate::climber::Climber;
-use crate::ladder::Ladder;
+use crate::ladder::{Ladder, Link};
 use crate::load::Load;
 use snow_base::{Bag, Id, Vote};
 use snow_flake::Rule;
 use snow_tree::Tree;
 use std::slice;
 
-// Votes that came to a parent, by its children.
-fn gather_all<R: Rule>(tree: &Tree<Load<R>>, came: &[Climber], children: &mut Bag)
-    requires places { length came.now ≤ children.old.room + length children.old.list }
-    requires placed { All (λ c. c.passed < length (tree.now).pending) came.now }
-    requires counts { All (λ c. 0 < c.count) came.now }
-    requires total { climber_total came.now < 2 ^ 32 }
-    ensures votes { (parent : List ℕ) → All (HasCome (blocks_in (tree.now).pending) parent) (cursors_of (blocks_in (tree.now).pending) came.now) → votes_on children.new.list ≡ votes_at (cursors_of (blocks_in (tree.now).pending) came.now) parent }
-    ensures among { (parent : List ℕ) → All (HasCome (blocks_in (tree.now).pending) parent) (cursors_of (blocks_in (tree.now).pending) came.now) → All (λ v. Contains (children_of (blocks_in (tree.now).pending) parent) v.id) children.new.list }
-    ensures total { total_count children.new.list ≤ climber_total came.now }
+// Votes that came to a parent, by its children: who was put on its rung last, and all before. It takes no
+// memory where the bag has places.
+#[inline(never)]
+fn gather_all<R: Rule>(tree: &Tree<Load<R>>, links: &[Link], last: usize, children: &mut Bag)
+    requires linked { AreLinked links.now }
+    requires within { last ≤ length links.now }
+    requires places { length (chain links.now last) ≤ children.old.room + length children.old.list }
+    requires placed { All (λ c. c.passed < length (tree.now).pending) (chain links.now last) }
+    requires counts { All (λ c. 0 < c.count) (chain links.now last) }
+    requires total { climber_total (chain links.now last) < 2 ^ 32 }
+    ensures votes { (parent : List ℕ) → All (HasCome (blocks_in (tree.now).pending) parent) (cursors_of (blocks_in (tree.now).pending) (chain links.now last)) → votes_on children.new.list ≡ votes_at (cursors_of (blocks_in (tree.now).pending) (chain links.now last)) parent }
+    ensures among { (parent : List ℕ) → All (HasCome (blocks_in (tree.now).pending) parent) (cursors_of (blocks_in (tree.now).pending) (chain links.now last)) → All (λ v. Contains (children_of (blocks_in (tree.now).pending) parent) v.id) children.new.list }
+    ensures total { total_count children.new.list ≤ climber_total (chain links.now last) }
     ensures places { children.old.room + length children.old.list ≤ children.new.room + length children.new.list }
 {
     children.clear();
-    for climber in came {
-        if let Some(child) = tree.at(climber.passed) {
-            let _ = children.add(child, climber.count);
+    let mut number = last;
+    while number > 0 {
+        let link = links[number - 1];
+        if let Some(child) = tree.at(link.climber.passed) {
+            let _ = children.add(child, link.climber.count);
         }
+        number = link.next;
     }
-}
-
-// The votes that were taken off a ladder last, and came to a parent, by its children. They are listed
-// first. It takes no memory where the bag has places.
-#[inline(never)]
-fn gather_listed<R: Rule>(tree: &Tree<Load<R>>, ladder: &mut Ladder, children: &mut Bag)
-    requires wide { length (ladder.old).came ≤ (ladder.old).wide }
-    requires places { length (ladder.old).came ≤ children.old.room + length children.old.list }
-    requires placed { All (λ c. c.passed < length (tree.now).pending) (ladder.old).came }
-    requires counts { All (λ c. 0 < c.count) (ladder.old).came }
-    requires total { climber_total (ladder.old).came < 2 ^ 32 }
-    ensures votes { (parent : List ℕ) → All (HasCome (blocks_in (tree.now).pending) parent) (cursors_of (blocks_in (tree.now).pending) (ladder.old).came) → votes_on children.new.list ≡ votes_at (cursors_of (blocks_in (tree.now).pending) (ladder.old).came) parent }
-    ensures among { (parent : List ℕ) → All (HasCome (blocks_in (tree.now).pending) parent) (cursors_of (blocks_in (tree.now).pending) (ladder.old).came) → All (λ v. Contains (children_of (blocks_in (tree.now).pending) parent) v.id) children.new.list }
-    ensures total { total_count children.new.list ≤ climber_total (ladder.old).came }
-    ensures places { children.old.room + length children.old.list ≤ children.new.room + length children.new.list }
-    ensures ladder { ladder.new ≡ record (ladder.old) { listed = (ladder.old).came } }
-{
-    ladder.list_came();
-    gather_all(tree, ladder.listed(), children);
 }
 
 // Votes that came to a parent by one child alone.
@@ -80,20 +69,18 @@ pub(crate) fn no_vote() -> Vote {
 #[inline(always)]
 pub(crate) fn gather<R: Rule>(
     tree: &Tree<Load<R>>,
-    ladder: &mut Ladder,
+    ladder: &Ladder,
     one: &mut Vote,
     children: &mut Bag,
 ) -> bool
-    requires wide { length (ladder.old).came ≤ (ladder.old).wide }
-    requires places { length (ladder.old).came ≤ children.old.room + length children.old.list }
-    requires placed { All (λ c. c.passed < length (tree.now).pending) (ladder.old).came }
-    requires counts { All (λ c. 0 < c.count) (ladder.old).came }
-    requires total { climber_total (ladder.old).came < 2 ^ 32 }
-    ensures votes { (parent : List ℕ) → All (HasCome (blocks_in (tree.now).pending) parent) (cursors_of (blocks_in (tree.now).pending) (ladder.old).came) → votes_on (gathered result one.new children.new.list) ≡ votes_at (cursors_of (blocks_in (tree.now).pending) (ladder.old).came) parent }
-    ensures among { (parent : List ℕ) → All (HasCome (blocks_in (tree.now).pending) parent) (cursors_of (blocks_in (tree.now).pending) (ladder.old).came) → All (λ v. Contains (children_of (blocks_in (tree.now).pending) parent) v.id) (gathered result one.new children.new.list) }
-    ensures total { total_count (gathered result one.new children.new.list) ≤ climber_total (ladder.old).came }
+    requires places { length (ladder.now).came ≤ children.old.room + length children.old.list }
+    requires placed { All (λ c. c.passed < length (tree.now).pending) (ladder.now).came }
+    requires counts { All (λ c. 0 < c.count) (ladder.now).came }
+    requires total { climber_total (ladder.now).came < 2 ^ 32 }
+    ensures votes { (parent : List ℕ) → All (HasCome (blocks_in (tree.now).pending) parent) (cursors_of (blocks_in (tree.now).pending) (ladder.now).came) → votes_on (gathered result one.new children.new.list) ≡ votes_at (cursors_of (blocks_in (tree.now).pending) (ladder.now).came) parent }
+    ensures among { (parent : List ℕ) → All (HasCome (blocks_in (tree.now).pending) parent) (cursors_of (blocks_in (tree.now).pending) (ladder.now).came) → All (λ v. Contains (children_of (blocks_in (tree.now).pending) parent) v.id) (gathered result one.new children.new.list) }
+    ensures total { total_count (gathered result one.new children.new.list) ≤ climber_total (ladder.now).came }
     ensures places { children.old.room + length children.old.list ≤ children.new.room + length children.new.list }
-    ensures ladder { ladder.new ≡ record (ladder.old) { listed = (ladder.new).listed } }
 {
     match ladder.only() {
         Some(climber) => {
@@ -101,7 +88,8 @@ pub(crate) fn gather<R: Rule>(
             true
         }
         None => {
-            gather_listed(tree, ladder, children);
+            let (links, last) = ladder.came();
+            gather_all(tree, links, last, children);
             false
         }
     }

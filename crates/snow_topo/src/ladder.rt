@@ -36,8 +36,8 @@ pub(crate) struct Ladder {
     high: usize,
     // Who was put last on the rung that was taken off last, as `next` of a link tells it.
     taken: usize,
-    // Room to list those that were taken off.
-    listed: Vec<Climber>,
+    // A poll has no more votes.
+    votes: u32,
 }
 
 impl Model for Ladder {
@@ -49,11 +49,10 @@ impl Model for Ladder {
     ghost view = { λ a. record {
       climbers = under a.low (climbers_of a.links.items);
       came = chain a.links.items a.taken;
-      listed = a.listed.items;
       low = a.low;
       put = length a.links.items;
       most = vec_capacity a.links;
-      wide = vec_capacity a.listed;
+      votes = a.votes;
       rungs = length a.heads.items;
     } };
 
@@ -112,23 +111,6 @@ fn highest_from(words: &[u64], at: usize) -> usize
     highest(words, at)
 }
 
-// Lists those that were put on one rung up to one of them, the latest first.
-fn list_from(links: &[Link], head: usize, listed: &mut Vec<Climber>)
-    requires linked { AreLinked links.now }
-    requires within { head ≤ length links.now }
-    requires wide { length (chain links.now head) ≤ vec_capacity listed.old }
-    ensures all { listed.new.items ≡ chain links.now head }
-    ensures room { vec_capacity listed.new ≡ vec_capacity listed.old }
-{
-    listed.clear();
-    let mut number = head;
-    while number > 0 {
-        let link = links[number - 1];
-        listed.push_reserved(link.climber);
-        number = link.next;
-    }
-}
-
 // There is a bit for one rung more.
 fn add_bit(words: &mut Vec<u64>, rungs: usize) -> Result<(), AllocError>
     requires small { rungs + 1 < 2 ^ 64 }
@@ -161,12 +143,11 @@ impl Ladder {
     ghost use Rattle.snow_topo.specs.Ladder.{under, up_from, IsReady};
 
     /// A ladder for polls of so many votes, as long as nothing is pending.
-    pub(crate) fn new(alloc: Global, votes: usize) -> Result<Self, AllocError>
+    pub(crate) fn new(alloc: Global, votes: u32) -> Result<Self, AllocError>
         ensures ready { IfOk result (λ r. IsReady 0 r) }
-        ensures wide { IfOk result (λ r. votes ≤ r.wide) }
+        ensures votes { IfOk result (λ r. r.votes ≡ votes) }
     {
-        let links = Vec::with_capacity(alloc, votes)?;
-        let listed = Vec::with_capacity(alloc, votes)?;
+        let links = Vec::with_capacity(alloc, votes as usize)?;
         let heads = vec![in alloc; Head { last: 0, count: 0 }]?;
         let words = vec![in alloc; 0]?;
         Ok(Ladder {
@@ -176,7 +157,7 @@ impl Ladder {
             low: 0,
             high: 0,
             taken: 0,
-            listed,
+            votes,
         })
     }
 
@@ -186,13 +167,13 @@ impl Ladder {
         requires pending { pending ≤ (self.old).rungs }
         ensures ok { OnOk result (IsReady pending self.new) }
         ensures low { (self.new).low ≡ 0 }
-        ensures wide { (self.new).wide ≡ (self.old).wide }
+        ensures votes { (self.new).votes ≡ (self.old).votes }
         ensures most { (self.old).most ≤ (self.new).most }
         ensures rungs { (self.old).rungs ≤ (self.new).rungs }
     {
         self.links.clear();
         self.taken = 0;
-        self.links.reserve(self.listed.capacity() + pending)?;
+        self.links.reserve(self.votes as usize + pending)?;
         if pending < self.heads.len() {
             return Ok(());
         }
@@ -298,18 +279,14 @@ impl Ladder {
         }
     }
 
-    /// Lists those that were taken off last. It takes no memory.
-    pub(crate) fn list_came(&mut self)
-        requires { length (self.old).came ≤ (self.old).wide }
-        ensures { self.new ≡ record (self.old) { listed = (self.old).came } }
+    /// Those that were taken off last: the links of all, and who of them was put last on that rung, as
+    /// `next` of a link tells it.
+    #[inline(always)]
+    pub(crate) fn came(&self) -> (&[Link], usize)
+        ensures linked { AreLinked result.0.now }
+        ensures within { result.1 ≤ length result.0.now }
+        ensures all { chain result.0.now result.1 ≡ (self.now).came }
     {
-        list_from(&self.links, self.taken, &mut self.listed);
-    }
-
-    /// Those that were listed last.
-    pub(crate) fn listed(&self) -> &[Climber]
-        ensures { result.now ≡ (self.now).listed }
-    {
-        self.listed.as_slice()
+        (self.links.as_slice(), self.taken)
     }
 }

@@ -86,7 +86,7 @@ fn let_all_go<R: Rule>(tree: &Tree<Load<R>>, ladder: &mut Ladder, votes: &[Vote]
 /// The votes of a poll, each past its own block, where this is pending. It takes no memory.
 pub(crate) fn start_votes<R: Rule>(tree: &Tree<Load<R>>, ladder: &mut Ladder, votes: &[Vote])
     requires ready { IsReady (length (tree.now).pending) ladder.old }
-    requires few { total_count votes.now ≤ (ladder.old).wide }
+    requires few { total_count votes.now ≤ (ladder.old).votes }
     ensures begun { (p : Parameters) → total_count votes.now ≤ p.k → HaveBegun p votes.now (tree.now).pending ladder.new }
     ensures loaded { IsLoaded (tree.now).pending ladder.new }
     ensures few { length (ladder.new).climbers ≤ total_count votes.now }
@@ -225,7 +225,7 @@ fn let_each_go<R: Rule>(tree: &Tree<Load<R>>, ladder: &mut Ladder, ids: &[Id])
 /// takes no memory.
 pub(crate) fn start_each<R: Rule>(tree: &Tree<Load<R>>, ladder: &mut Ladder, ids: &[Id])
     requires ready { IsReady (length (tree.now).pending) ladder.old }
-    requires few { length ids.now ≤ (ladder.old).wide }
+    requires few { length ids.now ≤ (ladder.old).votes }
     requires small { length ids.now < 2 ^ 32 }
     ensures begun { (p : Parameters) → length ids.now ≤ p.k → HaveBegun p (one_each ids.now) (tree.now).pending ladder.new }
     ensures loaded { IsLoaded (tree.now).pending ladder.new }

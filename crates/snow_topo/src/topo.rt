@@ -155,10 +155,10 @@ impl<R: Rule> Board for Topo<R> {
     ghost agrees = { R.agrees };
 
     fn begin(alloc: Global, params: Params, last: Id, height: u64) -> Result<Self, AllocError> {
-        let votes = params.k() as usize;
+        let votes = params.k();
         let ladder = Ladder::new(alloc, votes)?;
         let mut children = Bag::new(alloc);
-        children.reserve(votes)?;
+        children.reserve(votes as usize)?;
         Ok(Topo {
             params,
             polls: 0,

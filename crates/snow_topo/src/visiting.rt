@@ -51,22 +51,20 @@ fn record_came<R: Rule, L: Ledger>(
     tree: &mut Tree<Load<R>>,
     at: usize,
     polls: u64,
-    ladder: &mut Ladder,
+    ladder: &Ladder,
     children: &mut Bag,
     steps: &mut Steps<L>,
 ) -> bool
     requires room { polls + 1 < 2 ^ 64 }
-    requires wide { length (ladder.old).came ≤ (ladder.old).wide }
-    requires places { length (ladder.old).came ≤ children.old.room + length children.old.list }
-    requires placed { All (λ c. c.passed < length (tree.old).pending) (ladder.old).came }
-    requires counts { All (λ c. 0 < c.count) (ladder.old).came }
-    requires total { climber_total (ladder.old).came ≤ params.now.k }
-    requires came { IfSome (slice_get (tree.old).pending at) (λ e. All (HasCome (blocks_in (tree.old).pending) e.block.id) (cursors_of (blocks_in (tree.old).pending) (ladder.old).came)) }
+    requires places { length (ladder.now).came ≤ children.old.room + length children.old.list }
+    requires placed { All (λ c. c.passed < length (tree.old).pending) (ladder.now).came }
+    requires counts { All (λ c. 0 < c.count) (ladder.now).came }
+    requires total { climber_total (ladder.now).came ≤ params.now.k }
+    requires came { IfSome (slice_get (tree.old).pending at) (λ e. All (HasCome (blocks_in (tree.old).pending) e.block.id) (cursors_of (blocks_in (tree.old).pending) (ladder.now).came)) }
     requires fit { IfSome (slice_get (tree.old).pending at) (λ e. IsFit params.now polls (children_of (blocks_in (tree.old).pending) e.block.id) e.load) }
-    ensures taken { IfSome (slice_get (tree.old).pending at) (λ e. (load : Kept) × (tree.new ≡ with_load tree.old at load) × HasTaken params.now polls (votes_at (cursors_of (blocks_in (tree.old).pending) (ladder.old).came) e.block.id) e.load load × IsSteady R.answer result e.load load) }
+    ensures taken { IfSome (slice_get (tree.old).pending at) (λ e. (load : Kept) × (tree.new ≡ with_load tree.old at load) × HasTaken params.now polls (votes_at (cursors_of (blocks_in (tree.old).pending) (ladder.now).came) e.block.id) e.load load × IsSteady R.answer result e.load load) }
     ensures steps { IfSome (slice_get (tree.old).pending at) (λ e. steps.new ≤ steps.old + 5 * length (ids_in e.load.contest)) }
     ensures places { children.old.room + length children.old.list ≤ children.new.room + length children.new.list }
-    ensures ladder { ladder.new ≡ record (ladder.old) { listed = (ladder.new).listed } }
 {
     let _k = params.k();
     let mut one = no_vote();
@@ -91,25 +89,23 @@ fn record_quorum<R: Rule, L: Ledger>(
     tree: &mut Tree<Load<R>>,
     at: usize,
     polls: u64,
-    ladder: &mut Ladder,
+    ladder: &Ladder,
     count: u32,
     children: &mut Bag,
     steps: &mut Steps<L>,
     moved: bool,
 ) -> bool
     requires room { polls + 1 < 2 ^ 64 }
-    requires count { count ≡ climber_total (ladder.old).came }
-    requires wide { length (ladder.old).came ≤ (ladder.old).wide }
-    requires places { length (ladder.old).came ≤ children.old.room + length children.old.list }
-    requires placed { All (λ c. c.passed < length (tree.old).pending) (ladder.old).came }
-    requires counts { All (λ c. 0 < c.count) (ladder.old).came }
-    requires total { climber_total (ladder.old).came ≤ params.now.k }
-    requires came { IfSome (slice_get (tree.old).pending at) (λ e. All (HasCome (blocks_in (tree.old).pending) e.block.id) (cursors_of (blocks_in (tree.old).pending) (ladder.old).came)) }
+    requires count { count ≡ climber_total (ladder.now).came }
+    requires places { length (ladder.now).came ≤ children.old.room + length children.old.list }
+    requires placed { All (λ c. c.passed < length (tree.old).pending) (ladder.now).came }
+    requires counts { All (λ c. 0 < c.count) (ladder.now).came }
+    requires total { climber_total (ladder.now).came ≤ params.now.k }
+    requires came { IfSome (slice_get (tree.old).pending at) (λ e. All (HasCome (blocks_in (tree.old).pending) e.block.id) (cursors_of (blocks_in (tree.old).pending) (ladder.now).came)) }
     requires fit { IfSome (slice_get (tree.old).pending at) (λ e. IsFit params.now polls (children_of (blocks_in (tree.old).pending) e.block.id) e.load) }
-    ensures taken { IfSome (slice_get (tree.old).pending at) (λ e. (load : Kept) × (tree.new ≡ with_load tree.old at load) × HasTaken params.now polls (votes_at (cursors_of (blocks_in (tree.old).pending) (ladder.old).came) e.block.id) e.load load × IsSteady R.answer result e.load load) }
-    ensures steps { IfSome (slice_get (tree.old).pending at) (λ e. steps.new ≤ steps.old + 5 * (if nat_le params.now.alpha_preference (climber_total (ladder.old).came) then length (ids_in e.load.contest) else 0)) }
+    ensures taken { IfSome (slice_get (tree.old).pending at) (λ e. (load : Kept) × (tree.new ≡ with_load tree.old at load) × HasTaken params.now polls (votes_at (cursors_of (blocks_in (tree.old).pending) (ladder.now).came) e.block.id) e.load load × IsSteady R.answer result e.load load) }
+    ensures steps { IfSome (slice_get (tree.old).pending at) (λ e. steps.new ≤ steps.old + 5 * (if nat_le params.now.alpha_preference (climber_total (ladder.now).came) then length (ids_in e.load.contest) else 0)) }
     ensures places { children.old.room + length children.old.list ≤ children.new.room + length children.new.list }
-    ensures ladder { ladder.new ≡ record (ladder.old) { listed = (ladder.new).listed } }
     ensures moved { result ≡ false → moved ≡ false }
 {
     let _k = params.k();
@@ -155,7 +151,6 @@ pub(crate) fn visit<R: Rule, L: Ledger>(
     requires room { polls + 1 < 2 ^ 64 }
     requires places { length (ladder.old).climbers ≤ children.old.room + length children.old.list }
     requires put { (ladder.old).put < (ladder.old).most }
-    requires wide { length (ladder.old).climbers ≤ (ladder.old).wide }
     requires within { at < length (tree.old).pending }
     requires below { at + 1 < (ladder.old).low }
     requires climbing { (votes : List Vote) × AreClimbing params.now votes (blocks_in (tree.old).pending) (at + 1) (cursors_of (blocks_in (tree.old).pending) (ladder.old).climbers) }

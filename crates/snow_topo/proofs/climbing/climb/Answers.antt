@@ -42,7 +42,7 @@ loop-top-init g c =
       places = omega arith;
       put = omega (arith, c.requires.put, within);
       below = omega (arith, c.requires.low, within);
-      room = record { most = refl; wide = refl; rungs = refl };
+      room = record { most = refl; votes = refl; rungs = refl };
       steady = λ s. refl;
       steps = λ votes climbing. omega arith;
     }
@@ -126,7 +126,7 @@ loop-top-preserved g c =
       below = omega (arith, c.visit-moved.ensures.low, c.lower-top-in-loop-top.ensures.second);
       room = record {
         most = c.visit-moved.ensures.room.most ∙ inv.room.most;
-        wide = c.visit-moved.ensures.room.wide ∙ inv.room.wide;
+        votes = c.visit-moved.ensures.room.votes ∙ inv.room.votes;
         rungs = c.visit-moved.ensures.room.rungs ∙ inv.room.rungs;
       };
       steady = λ s.

@@ -21,17 +21,6 @@ take-votes-requires-clause-highest g c =
     let held = c.args.tree.now in
     highest_place (blocks_in held.pending) 0 c.climb-moved.new.ladder.climbers c.climb-moved.ensures.placed (c.climb-moved.ensures.climbing c.requires.begun.0 c.requires.begun.1).below
 
-pub record_root-first-requires-clause-wide : goal.record_root-first-requires-clause-wide
-record_root-first-requires-clause-wide g c =
-    omega (
-      arith,
-      c.requires.loaded.wide,
-      c.climb-moved.ensures.room.wide,
-      c.climb-moved.ensures.short,
-      group_few 0 c.climb-moved.new.ladder.climbers c.take-votes.new.self.came c.take-votes.ensures.came,
-      ap (λ (s : Rungs). s.wide) c.take-votes.ensures.rest,
-    )
-
 pub record_root-first-requires-clause-places : goal.record_root-first-requires-clause-places
 record_root-first-requires-clause-places g c =
     omega (
@@ -158,14 +147,13 @@ returns-clause-steps g c =
     omega (arith, own, c.climb-moved.ensures.steps votes begun)
 
 pub returns-clause-low : goal.returns-clause-low
-returns-clause-low g c = ap (λ (s : Rungs). s.low) c.record_root-first.ensures.ladder ∙ ap (λ (s : Rungs). s.low) c.take-votes.ensures.rest
+returns-clause-low g c = ap (λ (s : Rungs). s.low) c.take-votes.ensures.rest
 
 pub returns-clause-room : goal.returns-clause-room
 returns-clause-room g c =
     let took = c.take-votes.ensures.rest in
-    let recorded = c.record_root-first.ensures.ladder in
     record {
-      most = ap (λ (s : Rungs). s.most) recorded ∙ ap (λ (s : Rungs). s.most) took ∙ c.climb-moved.ensures.room.most;
-      wide = ap (λ (s : Rungs). s.wide) recorded ∙ ap (λ (s : Rungs). s.wide) took ∙ c.climb-moved.ensures.room.wide;
-      rungs = ap (λ (s : Rungs). s.rungs) recorded ∙ ap (λ (s : Rungs). s.rungs) took ∙ c.climb-moved.ensures.room.rungs;
+      most = ap (λ (s : Rungs). s.most) took ∙ c.climb-moved.ensures.room.most;
+      votes = ap (λ (s : Rungs). s.votes) took ∙ c.climb-moved.ensures.room.votes;
+      rungs = ap (λ (s : Rungs). s.rungs) took ∙ c.climb-moved.ensures.room.rungs;
     }

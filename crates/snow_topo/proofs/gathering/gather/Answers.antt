@@ -28,3 +28,9 @@ returns-in-Some-clause-total g c =
     let bs = blocks_in c.args.tree.now.pending in
     subst (λ one. total_count (one ∷ []) ≤ climber_total c.args.ladder.now.came) (sym c.write_vote.ensures)
     (only_total bs c.in-Some.climber c.args.ladder.now.came (subst (λ o. IfSome o (λ x. c.args.ladder.now.came ≡ x ∷ [])) c.in-Some.is c.only.ensures))
+
+pub returns-in-None-clause-votes : goal.returns-in-None-clause-votes
+returns-in-None-clause-votes g c = rw c.came-last.ensures.all at c.gather_all.ensures.votes
+
+pub returns-in-None-clause-among : goal.returns-in-None-clause-among
+returns-in-None-clause-among g c = rw c.came-last.ensures.all at c.gather_all.ensures.among

@@ -1,70 +1,92 @@
-use Rattle.std.proofs.Common.{◌+◌, ◌<◌, Contains, Some, get_or, sym, ap, subst, ◌∙◌, length, arith, take_all}
-use Rattle.std.proofs.lemmas.List.{get_or_default, length-map}
-use Rattle.std.proofs.lemmas.List.Sums.{sum_by-take-le}
-use Rattle.snow_base.specs.Votes.{total_count}
-use Rattle.snow_base.proofs.Adding.{total_added}
-use Rattle.snow_plain.specs.Cursors.{votes_at}
-use Rattle.snow_plain.specs.Conflict.{votes_on}
-use Rattle.snow_plain.proofs.Gathered.{ok_then, length-added, gathered_some}
-use Rattle.snow_plain.proofs.Given.{given_added}
-use Rattle.snow_tree.specs.Held.{blocks_in, children_of}
-use Rattle.snow_topo.specs.Climbing.{cursor_of, cursors_of, HasCome}
-use Rattle.snow_topo.specs.declared.climber.Climber.{Climber}
-use Rattle.snow_topo.proofs.Climbers.{no_climber, item_at, more_total, child_seen, child_there}
-use Rattle.snow_topo.proofs.Merged.{come_by}
+use Rattle.std.proofs.Common.{◌≡◌, ℕ, ◌-◌, ◌<◌, ◌≤◌, List, [], ◌∷◌, length, get_or, sym, ap, subst, ◌∙◌, arith}
+use Rattle.snow_plain.proofs.Gathered.{ok_then}
+use Rattle.snow_tree.specs.Held.{Entry}
+use Rattle.snow_base.specs.declared.vote.Vote.{Vote}
+use Rattle.snow_topo.specs.declared.ladder.Link.{Link}
+use Rattle.snow_topo.specs.Ladder.{no_link, chain, AreLinked}
+use Rattle.snow_topo.proofs.Chains.{chain_next, next_falls}
+use Rattle.snow_topo.proofs.Climbers.{child_seen, child_there}
+use Rattle.snow_topo.proofs.Gatherings.{AreGathered, is_among, none_gathered, more_gathered, total_left, short_left, all_votes, all_counts}
 use Rattle.snow_topo.proofs.gathering.gather_all.Goals as goal
-use Rattle.snow_topo.proofs.gathering.gather_all.Goals.{in-Some, in_default}
+
+-- what is left begins with the one at hand
+at_hand : {T : Type 0} (pending : List (Entry T)) (links : List Link) (last number : ℕ) (list : List Vote) → AreLinked links → 0 < number → number ≤ length links → AreGathered pending (chain links last) (chain links number) list
+    → AreGathered pending (chain links last) ((get_or links (number - 1) no_link).climber ∷ chain links (get_or links (number - 1) no_link).next) list
+at_hand pending links last number list linked some within so_far = subst (λ l. AreGathered pending (chain links last) l list) (chain_next links number linked some within) so_far
+
+-- at the end nothing is left
+at_end : {T : Type 0} (pending : List (Entry T)) (links : List Link) (last number : ℕ) (list : List Vote) → number ≤ 0 → AreGathered pending (chain links last) (chain links number) list → AreGathered pending (chain links last) [] list
+at_end pending links last number list none so_far =
+    let zero_left : number ≡ 0 = omega (arith, none) in
+    subst (λ n. AreGathered pending (chain links last) (chain links n) list) zero_left so_far
+
+pub loop-number-init : goal.loop-number-init
+loop-number-init g c = record {
+  within = c.requires.within;
+  gathered = none_gathered c.args.tree.now.pending (chain c.args.links.now c.args.last) c.clear.new.self.list c.clear.ensures.list;
+  places = omega (arith, c.clear.ensures.room);
+}
 
 pub add-requires-clause-some : goal.add-requires-clause-some
 add-requires-clause-some g c =
-    c.requires.counts c.loop-climber.climber-index no_climber c.loop-climber-test.true
+    let links = c.args.links.now in
+    let inv = c.loop-number.invariant in
+    let x = get_or links (c.loop-number.number - 1) no_link in
+    let hand = at_hand c.args.tree.now.pending links c.args.last c.loop-number.number c.loop-number.children.list c.requires.linked c.loop-number-test.true inv.within inv.gathered in
+    is_among (λ c. 0 < c.count) (chain links c.args.last) (chain links x.next) hand.at x.climber hand.left c.requires.counts
 
 pub add-requires-clause-total : goal.add-requires-clause-total
 add-requires-clause-total g c =
-    let came = c.args.came.now in
-    let i = c.loop-climber.climber-index in
-    let x : Climber = get_or came i no_climber in
-    let more = more_total came i x c.loop-climber-test.true (get_or_default came i no_climber x c.loop-climber-test.true) in
-    omega (arith, c.loop-climber.invariant.total, more, sum_by-take-le (λ c. c.count) came (i + 1), c.requires.total)
+    let links = c.args.links.now in
+    let inv = c.loop-number.invariant in
+    let x = get_or links (c.loop-number.number - 1) no_link in
+    let hand = at_hand c.args.tree.now.pending links c.args.last c.loop-number.number c.loop-number.children.list c.requires.linked c.loop-number-test.true inv.within inv.gathered in
+    omega (arith, total_left c.args.tree.now.pending (chain links c.args.last) (chain links x.next) x.climber c.loop-number.children.list hand, c.requires.total)
 
-pub loop-climber-preserved : goal.loop-climber-preserved
-loop-climber-preserved g c =
+pub loop-number-smaller-in-Some : goal.loop-number-smaller-in-Some
+loop-number-smaller-in-Some g c = next_falls c.args.links.now c.loop-number.number c.requires.linked c.loop-number-test.true c.loop-number.invariant.within
+
+pub loop-number-preserved-in-Some : goal.loop-number-preserved-in-Some
+loop-number-preserved-in-Some g c =
     let pending = c.args.tree.now.pending in
-    let bs = blocks_in pending in
-    let came = c.args.came.now in
-    let cursors = cursors_of bs came in
-    let i = c.loop-climber.climber-index in
-    let x : Climber = get_or came i no_climber in
-    let is_x = get_or_default came i no_climber x c.loop-climber-test.true in
-    let item = item_at bs came i x c.loop-climber-test.true is_x in
-    let so_far = c.loop-climber.invariant in
-    let more = more_total came i x c.loop-climber-test.true is_x in
-    elim c.match-at.branch [
-      | in-Some w ↦
-          let child = w.in-Some.child in
-          let room : 0 < c.loop-climber.children.room = omega (arith, so_far.places, so_far.short, c.requires.places, c.loop-climber-test.true) in
-          let added = ap (λ v. v.list) w.children-is ∙ ok_then w.add.result (w.add.ensures.fits room) w.add.ensures.ok in
-          let is = child_seen pending x child (sym c.at.ensures ∙ w.in-Some.is) in
-          record {
-            votes = λ parent come.
-                let own = subst (HasCome bs parent) (sym item.1) (come i (cursor_of bs x) item.0) in
-                ap votes_on added
-                ∙ gathered_some cursors i (cursor_of bs x) parent child c.loop-climber.children.list item.0 item.1 (so_far.votes parent come) (come_by bs parent (cursor_of bs x) own ∙ ap Some is);
-            among = λ parent come.
-                let own = subst (HasCome bs parent) (sym item.1) (come i (cursor_of bs x) item.0) in
-                rw added (given_added (children_of bs parent) c.loop-climber.children.list child x.count (subst (Contains (children_of bs parent)) is own.2) (so_far.among parent come));
-            total = omega (arith, more, ap total_count added, total_added c.loop-climber.children.list child x.count, so_far.total);
-            short = omega (arith, ap length added, length-added c.loop-climber.children.list child x.count, so_far.short);
-            places = rw w.children-is (omega (arith, w.add.ensures.places, so_far.places));
-          }
-      | in_default w ↦
-          absurd (child_there pending x.passed (c.requires.placed i no_climber c.loop-climber-test.true) (sym c.at.ensures ∙ w.in_default.is))
-    ]
+    let links = c.args.links.now in
+    let inv = c.loop-number.invariant in
+    let list = c.loop-number.children.list in
+    let came = chain links c.args.last in
+    let x = get_or links (c.loop-number.number - 1) no_link in
+    let hand = at_hand pending links c.args.last c.loop-number.number list c.requires.linked c.loop-number-test.true inv.within inv.gathered in
+    let child = c.in-Some.child in
+    let room : 0 < c.loop-number.children.room = omega (arith, inv.places, short_left pending came (chain links x.next) x.climber list hand, c.requires.places) in
+    let added = ok_then c.add.result (c.add.ensures.fits room) c.add.ensures.ok in
+    let is = child_seen pending x.climber child (sym c.at.ensures ∙ c.in-Some.is) in
+    record {
+      within = omega (arith, inv.within, next_falls links c.loop-number.number c.requires.linked c.loop-number-test.true inv.within);
+      gathered = subst (AreGathered pending came (chain links x.next)) (sym added) (more_gathered pending came (chain links x.next) x.climber child list is hand);
+      places = omega (arith, c.add.ensures.places, inv.places);
+    }
+
+pub loop-number-smaller : goal.loop-number-smaller
+loop-number-smaller g c = next_falls c.args.links.now c.loop-number.number c.requires.linked c.loop-number-test.true c.loop-number.invariant.within
+
+pub loop-number-preserved : goal.loop-number-preserved
+loop-number-preserved g c =
+    let pending = c.args.tree.now.pending in
+    let links = c.args.links.now in
+    let inv = c.loop-number.invariant in
+    let x = get_or links (c.loop-number.number - 1) no_link in
+    let hand = at_hand pending links c.args.last c.loop-number.number c.loop-number.children.list c.requires.linked c.loop-number-test.true inv.within inv.gathered in
+    absurd (child_there pending x.climber.passed (is_among (λ c. c.passed < length pending) (chain links c.args.last) (chain links x.next) hand.at x.climber hand.left c.requires.placed) (sym c.at.ensures ∙ c.in_default.is))
 
 pub returns-clause-votes : goal.returns-clause-votes
 returns-clause-votes g c =
     λ parent come.
-    let bs = blocks_in c.args.tree.now.pending in
-    let came = c.args.came.now in
-    c.loop-climber.invariant.votes parent come
-    ∙ ap (λ l. votes_at l parent) (take_all c.loop-climber.climber-index (cursors_of bs came) (omega (arith, c.loop-climber-test.false, length-map came (cursor_of bs))))
+    let inv = c.loop-number.invariant in
+    let end = at_end c.args.tree.now.pending c.args.links.now c.args.last c.loop-number.number c.loop-number.children.list (omega (arith, c.loop-number-test.false)) inv.gathered in
+    all_votes c.args.tree.now.pending (chain c.args.links.now c.args.last) c.loop-number.children.list parent end come
+
+pub returns-clause-among : goal.returns-clause-among
+returns-clause-among g c = λ parent come. c.loop-number.invariant.gathered.among parent come
+
+pub returns-clause-total : goal.returns-clause-total
+returns-clause-total g c =
+    all_counts c.args.tree.now.pending (chain c.args.links.now c.args.last) (chain c.args.links.now c.loop-number.number) c.loop-number.children.list c.loop-number.invariant.gathered

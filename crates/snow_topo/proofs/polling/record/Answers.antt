@@ -119,12 +119,12 @@ returns-clause-standing g c =
               c.apply-moved.ensures.decisions,
               stood.room.decides,
             );
-        counts = omega (arith, c.apply-moved.ensures.ladder.wide, kept.wide, stood.room.counts);
+        counts = omega (arith, c.apply-moved.ensures.ladder.votes, kept.votes, stood.room.counts);
         gathers = omega (arith, c.apply-moved.ensures.places, stood.room.gathers);
       };
       ready = record {
         low = c.apply-moved.ensures.low;
-        most = omega (arith, fewer, c.apply-moved.ensures.ladder.most, c.apply-moved.ensures.ladder.wide, kept.most, kept.wide, stood.ready.most);
+        most = omega (arith, fewer, c.apply-moved.ensures.ladder.most, c.apply-moved.ensures.ladder.votes, kept.most, kept.votes, stood.ready.most);
         rungs = omega (arith, fewer, c.apply-moved.ensures.ladder.rungs, kept.rungs, stood.ready.rungs);
       };
     }

@@ -56,7 +56,7 @@ loop-id-preserved g c =
       low = c.count_one.ensures.low ∙ inv.low;
       room = record {
         most = c.count_one.ensures.room.most ∙ inv.room.most;
-        wide = c.count_one.ensures.room.wide ∙ inv.room.wide;
+        votes = c.count_one.ensures.room.votes ∙ inv.room.votes;
         rungs = c.count_one.ensures.room.rungs ∙ inv.room.rungs;
       };
     }

@@ -31,7 +31,7 @@ loop-vote-preserved g c =
       low = c.let_go.ensures.low ∙ so_far.low;
       room = record {
         most = c.let_go.ensures.room.most ∙ so_far.room.most;
-        wide = c.let_go.ensures.room.wide ∙ so_far.room.wide;
+        votes = c.let_go.ensures.room.votes ∙ so_far.room.votes;
         rungs = c.let_go.ensures.room.rungs ∙ so_far.room.rungs;
       };
     }

@@ -14,7 +14,7 @@ returns g c = record {
   low = c.let_all_go.ensures.low ∙ c.count_each.ensures.low;
   room = record {
     most = c.let_all_go.ensures.room.most ∙ c.count_each.ensures.room.most;
-    wide = c.let_all_go.ensures.room.wide ∙ c.count_each.ensures.room.wide;
+    votes = c.let_all_go.ensures.room.votes ∙ c.count_each.ensures.room.votes;
     rungs = c.let_all_go.ensures.room.rungs ∙ c.count_each.ensures.room.rungs;
   };
 }

@@ -56,6 +56,5 @@ returns-clause-loaded g c =
             ap (λ (s : Rungs). s.put) c.begin.ensures,
             ap (λ (s : Rungs). s.most) c.begin.ensures,
           );
-      wide = omega (arith, c.requires.few, fewer g at, room.wide, ap (λ (s : Rungs). s.wide) c.begin.ensures);
       low = omega (arith, c.requires.ready.rungs, c.let_each_go.ensures.low, ap (λ (s : Rungs). s.low) c.begin.ensures);
     }

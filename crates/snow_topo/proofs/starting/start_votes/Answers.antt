@@ -36,7 +36,6 @@ returns-clause-loaded g c =
             ap (λ (s : Rungs). s.put) c.begin.ensures,
             ap (λ (s : Rungs). s.most) c.begin.ensures,
           );
-      wide = omega (arith, c.requires.few, begun_fewer votes pending c.let_all_go.new.ladder.climbers (started g at), room.wide, ap (λ (s : Rungs). s.wide) c.begin.ensures);
       low = omega (arith, c.requires.ready.rungs, c.let_all_go.ensures.low, ap (λ (s : Rungs). s.low) c.begin.ensures);
     }
 

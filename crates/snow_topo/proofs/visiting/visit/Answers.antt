@@ -70,10 +70,6 @@ record_quorum-any-requires-clause-came g c =
     (λ e fit. group_come c.args.params.now c.requires.climbing.0 c.args.tree.now.last first c.args.at e cs c.take-count.new.self.came c.last-last.ensures.grown fit.0 c.requires.climbing.1 c.requires.placed c.take-count.ensures.came)
     c.requires.fit
 
-pub record_quorum-any-requires-clause-wide : goal.record_quorum-any-requires-clause-wide
-record_quorum-any-requires-clause-wide g c =
-    omega (arith, c.requires.wide, group_few (c.args.at + 1) c.args.ladder.now.climbers c.take-count.new.self.came c.take-count.ensures.came, ap (λ (s : Rungs). s.wide) c.take-count.ensures.rest)
-
 pub pass-requires-clause-room : goal.pass-requires-clause-room
 pass-requires-clause-room g c =
     omega (
@@ -81,8 +77,6 @@ pass-requires-clause-room g c =
       c.requires.put,
       ap (λ (s : Rungs). s.put) c.take-count.ensures.rest,
       ap (λ (s : Rungs). s.most) c.take-count.ensures.rest,
-      ap (λ (s : Rungs). s.put) c.record_quorum-any.ensures.ladder,
-      ap (λ (s : Rungs). s.most) c.record_quorum-any.ensures.ladder,
     )
 
 pub pass-requires-clause-within : goal.pass-requires-clause-within
@@ -113,7 +107,6 @@ pass-requires-clause-below g c =
       ap (λ o. reach (blocks_in held.pending) (parent_in o)) here,
       ap (λ bs. reach bs (parent_in (slice_get bs c.args.at))) blocks,
       ap (λ (s : Rungs). s.low) c.take-count.ensures.rest,
-      ap (λ (s : Rungs). s.low) c.record_quorum-any.ensures.ladder,
     )
 
 pub returns-clause-taken : goal.returns-clause-taken
@@ -161,7 +154,7 @@ returns-clause-merged g c =
     let count : c.take-count.result ≡ climber_total came =
     omega (arith, c.take-count.ensures.total, group_total (c.args.at + 1) cs came c.take-count.ensures.came, same_total bs cs, c.requires.climbing.1.total, c.k-k.ensures.value)
     in
-    let stays = ap (λ (s : Rungs). s.climbers) c.record_quorum-any.ensures.ladder ∙ c.take-count.ensures.climbers in
+    let stays = c.take-count.ensures.climbers in
     if_some (slice_get first c.args.at) _ _
     (λ e took.
     let come = group_come c.args.params.now c.requires.climbing.0 held.last first c.args.at e cs came c.last-last.ensures.grown took.0 c.requires.climbing.1 c.requires.placed c.take-count.ensures.came in
@@ -169,8 +162,8 @@ returns-clause-merged g c =
     let blocks = blocks_after c.record_quorum-any.new.tree held c.args.at took.1.0 took.1.1 in
     merged_on bs e.block c.args.at cs came c.pass.new.ladder.climbers (block_at first c.args.at e took.0) others come c.take-count.ensures.came
     (subst (λ l. IsPermutation (passed_on bs c.args.at l came) c.pass.new.ladder.climbers) stays
-    (subst (λ l. IsPermutation (passed_on l c.args.at c.record_quorum-any.new.ladder.climbers came) c.pass.new.ladder.climbers) blocks
-    (passed_of c.record_quorum-any.new.tree c.args.at _ c.record_quorum-any.new.ladder.climbers came c.pass.new.ladder.climbers count c.pass.ensures.same))))
+    (subst (λ l. IsPermutation (passed_on l c.args.at c.take-count.new.self.climbers came) c.pass.new.ladder.climbers) blocks
+    (passed_of c.record_quorum-any.new.tree c.args.at _ c.take-count.new.self.climbers came c.pass.new.ladder.climbers count c.pass.ensures.same))))
     c.record_quorum-any.ensures.taken
 
 pub returns-clause-placed : goal.returns-clause-placed
@@ -182,27 +175,26 @@ returns-clause-placed g c =
     let count : c.take-count.result ≡ climber_total came =
     omega (arith, c.take-count.ensures.total, group_total (c.args.at + 1) cs came c.take-count.ensures.came, same_total bs cs, c.requires.climbing.1.total, c.k-k.ensures.value)
     in
-    let stays = ap (λ (s : Rungs). s.climbers) c.record_quorum-any.ensures.ladder ∙ c.take-count.ensures.climbers in
+    let stays = c.take-count.ensures.climbers in
     let found = entry_at held.pending c.args.at c.requires.within in
     let took = some_of (slice_get held.pending c.args.at) _ found.0 found.1 c.record_quorum-any.ensures.taken in
     let blocks = blocks_after c.record_quorum-any.new.tree held c.args.at took.0 took.1 in
     placed_on bs c.args.at cs came c.pass.new.ladder.climbers (slice_get_within bs c.args.at found.0.block (block_at held.pending c.args.at found.0 found.1)) c.requires.placed
     (subst (λ l. IsPermutation (passed_on bs c.args.at l came) c.pass.new.ladder.climbers) stays
-    (subst (λ l. IsPermutation (passed_on l c.args.at c.record_quorum-any.new.ladder.climbers came) c.pass.new.ladder.climbers) blocks
-    (passed_of c.record_quorum-any.new.tree c.args.at _ c.record_quorum-any.new.ladder.climbers came c.pass.new.ladder.climbers count c.pass.ensures.same)))
+    (subst (λ l. IsPermutation (passed_on l c.args.at c.take-count.new.self.climbers came) c.pass.new.ladder.climbers) blocks
+    (passed_of c.record_quorum-any.new.tree c.args.at _ c.take-count.new.self.climbers came c.pass.new.ladder.climbers count c.pass.ensures.same)))
 
 pub returns-clause-put : goal.returns-clause-put
-returns-clause-put g c = omega (arith, c.pass.ensures.put, ap (λ (s : Rungs). s.put) c.record_quorum-any.ensures.ladder, ap (λ (s : Rungs). s.put) c.take-count.ensures.rest)
+returns-clause-put g c = omega (arith, c.pass.ensures.put, ap (λ (s : Rungs). s.put) c.take-count.ensures.rest)
 
 pub returns-clause-low : goal.returns-clause-low
-returns-clause-low g c = omega (arith, c.pass.ensures.low, ap (λ (s : Rungs). s.low) c.record_quorum-any.ensures.ladder, ap (λ (s : Rungs). s.low) c.take-count.ensures.rest)
+returns-clause-low g c = omega (arith, c.pass.ensures.low, ap (λ (s : Rungs). s.low) c.take-count.ensures.rest)
 
 pub returns-clause-room : goal.returns-clause-room
 returns-clause-room g c =
     let took = c.take-count.ensures.rest in
-    let recorded = c.record_quorum-any.ensures.ladder in
     record {
-      most = c.pass.ensures.room.most ∙ ap (λ (s : Rungs). s.most) recorded ∙ ap (λ (s : Rungs). s.most) took;
-      wide = c.pass.ensures.room.wide ∙ ap (λ (s : Rungs). s.wide) recorded ∙ ap (λ (s : Rungs). s.wide) took;
-      rungs = c.pass.ensures.room.rungs ∙ ap (λ (s : Rungs). s.rungs) recorded ∙ ap (λ (s : Rungs). s.rungs) took;
+      most = c.pass.ensures.room.most ∙ ap (λ (s : Rungs). s.most) took;
+      votes = c.pass.ensures.room.votes ∙ ap (λ (s : Rungs). s.votes) took;
+      rungs = c.pass.ensures.room.rungs ∙ ap (λ (s : Rungs). s.rungs) took;
     }

@@ -37,11 +37,10 @@ returns c =
     (λ i. record {
       climbers = climbers i;
       came = came i;
-      listed = a.listed.items;
       low = a.low;
       put = put i;
       most = c.push_reserved.ensures.capacity i;
-      wide = vec_capacity a.listed;
+      votes = a.votes;
       rungs = length-set a.heads.items place head i;
     })
     ∙ ap (λ (s : Rungs). record s { climbers = s.climbers ++ c.args.climber ∷ []; put = s.put + 1 }) c.self.view_is

@@ -59,7 +59,7 @@ invariant_of-self-2 g c =
       preference = c.preference_after-self-inside.ensures ∙ ap (λ b. (leading_after answer leading b child).block) new ∙ after.block ∙ ap (preferred answer) (sym new);
       room = record {
         decides = let before = view_length a.params a.polls a.root a.tree in grind (arith, common_steps);
-        counts = omega (arith, c.make_room.ensures.wide, c.self.invariant.room.counts);
+        counts = omega (arith, c.make_room.ensures.votes, c.self.invariant.room.counts);
         gathers = c.self.invariant.room.gathers;
       };
       ready =
