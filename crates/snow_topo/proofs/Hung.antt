@@ -218,21 +218,21 @@ none_hung heads words low high clear within covered = record {
   counted = λ rung h. ap (λ (x : Head). x.count) (clear rung);
   clear = λ rung h. clear rung;
   marked = λ i h lower. absurd (omega (arith, h));
-  highest = λ i h. absurd (omega (arith, h));
+  highest = λ i h lower. absurd (omega (arith, h));
   took = omega arith;
   within = within;
   covered = covered;
 }
 
--- a higher bound than that of those that were put on
-pub high_raised : (links : List Link) (heads : List Head) (words : List ℕ) (low high taken most : ℕ) → high ≤ most → IsHung links heads words low high taken → IsHung links heads words low most taken
-high_raised links heads words low high taken most raised hung = record {
+-- a bound that no rung passes
+pub not_higher : (links : List Link) (heads : List Head) (words : List ℕ) (low high taken most : ℕ) → length heads ≤ most → IsHung links heads words low high taken → IsHung links heads words low most taken
+not_higher links heads words low high taken most bound hung = record {
   linked = hung.linked;
   last = hung.last;
   counted = hung.counted;
   clear = hung.clear;
   marked = hung.marked;
-  highest = λ i h. omega (arith, hung.highest i h, raised);
+  highest = λ i h lower. omega (arith, lower, hung.within, bound);
   took = hung.took;
   within = hung.within;
   covered = hung.covered;
@@ -292,9 +292,9 @@ one_hung links heads words after low high taken most head l hung raised own_plac
           (λ t. let same : length links ≡ i = omega (arith, t, h, size) in
           subst (λ j. mark_at after (get_or (links ++ l ∷ []) j no_link).climber.place ≡ 1) same
           (subst (λ (x : Link). mark_at after x.climber.place ≡ 1) (sym own) here));
-      highest = λ i h.
+      highest = λ i h low_enough.
           halves i (length links)
-          (λ t. subst (λ (x : Link). x.climber.place ≤ most) (sym (before i t)) (omega (arith, hung.highest i t, raised)))
+          (λ t. subst (λ (x : Link). x.climber.place ≤ most) (sym (before i t)) (omega (arith, hung.highest i t (subst (λ (x : Link). x.climber.place < low) (before i t) low_enough), raised)))
           (λ t. let same : length links ≡ i = omega (arith, t, h, size) in
           subst (λ j. (get_or (links ++ l ∷ []) j no_link).climber.place ≤ most) same
           (subst (λ (x : Link). x.climber.place ≤ most) (sym own) own_place));
@@ -338,7 +338,7 @@ rung_empty links heads words after low high rung taken next hung lower there all
           (hung.counted r u ∙ ap (λ g. climber_total g % 2 ^ 32) (group_none links (length links) r (λ i inside same. nobody r i u h other inside same))))
           (λ u. hung.clear r u));
       marked = λ i h low_enough. others (get_or links i no_link).climber.place (omega (arith, low_enough)) ∙ hung.marked i h (omega (arith, low_enough, lower));
-      highest = hung.highest;
+      highest = λ i h low_enough. hung.highest i h (omega (arith, low_enough, lower));
       took = there;
       within = omega (arith, lower, hung.within, length-set heads rung no_head);
       covered = omega (arith, hung.covered, length-set heads rung no_head, long);

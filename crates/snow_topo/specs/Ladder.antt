@@ -77,14 +77,14 @@ mark_at words rung = bit_at (get_or words (rung / 64) 0) (rung % 64)
 abbrev pub AreLinked : List Link → Type 0
 AreLinked links = (i : ℕ) → i < length links → (get_or links i no_link).next ≡ latest links i (get_or links i no_link).climber.place
 
--- each rung below `low` tells who was put on it last and how many votes stand there, as 32 bits hold it, and is marked if there is one; nobody was put on a higher one than `high`
+-- each rung below `low` tells who was put on it last and how many votes stand there, as 32 bits hold it, and is marked if there is one; nobody stands on a higher one than `high`
 pub record IsHung (links : List Link) (heads : List Head) (words : List ℕ) (low high taken : ℕ) : Type 0 where
   pub linked : AreLinked links
   pub last : (rung : ℕ) → rung < low → (get_or heads rung no_head).last ≡ latest links (length links) rung
   pub counted : (rung : ℕ) → rung < low → (get_or heads rung no_head).count ≡ climber_total (group links (length links) rung) % 2 ^ 32
   pub clear : (rung : ℕ) → low ≤ rung → get_or heads rung no_head ≡ no_head
   pub marked : (i : ℕ) → i < length links → (get_or links i no_link).climber.place < low → mark_at words (get_or links i no_link).climber.place ≡ 1
-  pub highest : (i : ℕ) → i < length links → (get_or links i no_link).climber.place ≤ high
+  pub highest : (i : ℕ) → i < length links → (get_or links i no_link).climber.place < low → (get_or links i no_link).climber.place ≤ high
   pub took : taken ≤ length links
   pub within : low ≤ length heads
   pub covered : length heads < 64 * length words

@@ -32,7 +32,7 @@ pub(crate) struct Ladder {
     words: Vec<u64>,
     // Nobody stands on this rung or a higher one.
     low: usize,
-    // Nobody was put on a higher rung; the last number where this isn't kept.
+    // Nobody stands on a higher rung; the last number where this isn't kept.
     high: usize,
     // Who was put last on the rung that was taken off last, as `next` of a link tells it.
     taken: usize,
@@ -241,7 +241,8 @@ impl Ladder {
     pub(crate) fn put_below(&mut self)
         ensures { self.new ≡ self.old }
     {
-        self.high = self.high.max(usize::MAX);
+        let _rungs = self.heads.len();
+        self.high = usize::MAX;
     }
 
     /// Takes all off the highest rung on which somebody stands, or one above it. The answer is how many

@@ -10,4 +10,4 @@ returns c =
     (each_seen (λ x. x.place ≤ c.highest_from.result) a.low a.links.items
     (λ i h lower.
     let place = (get_or a.links.items i no_link).climber.place in
-    c.highest_from.ensures place (omega (arith, lower, c.self.invariant.highest i h, c.min-bound.ensures)) (subst (λ w. mark_at w place ≡ 1) (sym c.deref.ensures.value) (c.self.invariant.marked i h lower))))
+    c.highest_from.ensures place (omega (arith, lower, c.self.invariant.highest i h lower, c.min-bound.ensures)) (subst (λ w. mark_at w place ≡ 1) (sym c.deref.ensures.value) (c.self.invariant.marked i h lower))))
