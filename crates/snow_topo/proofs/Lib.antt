@@ -22,3 +22,4 @@ pub mod Started
 pub mod Chains
 pub mod Hung
 pub mod Gatherings
+pub mod Mains

@@ -1,16 +1,18 @@
-ghost use Rattle.std.specs.Prelude.{◌≡◌, ◌+◌, ◌^◌, ◌<◌, ◌≤◌, List, ℕ, All, Contains, length};
+ghost use Rattle.std.specs.Prelude.{◌≡◌, Bool, true, ◌+◌, ◌^◌, ◌<◌, ◌≤◌, List, ℕ, All, Contains, length};
 ghost use Rattle.snow_base.specs.Votes.{IsInBitOrder, total_count};
+ghost use Rattle.snow_flake.specs.Counter.{class};
 ghost use Rattle.snow_plain.specs.Conflict.{votes_on};
 ghost use Rattle.snow_plain.specs.Cursors.{votes_at};
 ghost use Rattle.snow_tree.specs.Held.{blocks_in, children_of};
 ghost use Rattle.snow_topo.specs.Climbing.{climber_total, cursors_of, gathered, vote_in, HasCome};
+ghost use Rattle.snow_topo.specs.Gathering.{count_by, StandsForAll};
 ghost use Rattle.snow_topo.specs.Ladder.{chain, AreLinked};
 
 use crate::climber::Climber;
 use crate::ladder::{Ladder, Link};
 use crate::load::Load;
 use snow_base::{Bag, Id, Vote};
-use snow_flake::Rule;
+use snow_flake::{Params, Rule};
 use snow_tree::Tree;
 use std::slice;
 
@@ -30,13 +32,13 @@ fn gather_all<R: Rule>(tree: &Tree<Load<R>>, links: &[Link], last: usize, childr
     ensures places { children.old.room + length children.old.list ≤ children.new.room + length children.new.list }
 {
     children.clear();
-    let mut number = last;
-    while number > 0 {
-        let link = links[number - 1];
+    let mut left = last;
+    while left > 0 {
+        let link = links[left - 1];
         if let Some(child) = tree.at(link.climber.passed) {
             let _ = children.add(child, link.climber.count);
         }
-        number = link.next;
+        left = link.next;
     }
 }
 
@@ -63,21 +65,125 @@ pub(crate) fn no_vote() -> Vote {
     }
 }
 
-/// The votes that were taken off a ladder last, and came to a parent, by its children: one vote where all
-/// came by one, else those of the bag. The answer is whether it is one. It takes no memory where the bag
-/// has places.
+// A child by which many of the votes came: the one by which most came at once. Whoever asks counts them.
 #[inline(always)]
-pub(crate) fn gather<R: Rule>(
+fn main_child(links: &[Link], last: usize) -> usize
+    requires linked { AreLinked links.now }
+    requires within { last ≤ length links.now }
+{
+    let mut number = last;
+    let mut most = 0;
+    let mut child = 0;
+    while number > 0 {
+        let link = links[number - 1];
+        if link.climber.count > most {
+            most = link.climber.count;
+            child = link.climber.passed;
+        }
+        number = link.next;
+    }
+    child
+}
+
+// How many of the votes came by the child at a place.
+#[inline(always)]
+fn count_by(links: &[Link], last: usize, child: usize) -> u32
+    requires linked { AreLinked links.now }
+    requires within { last ≤ length links.now }
+    requires total { climber_total (chain links.now last) < 2 ^ 32 }
+    ensures { result ≡ count_by child (chain links.now last) }
+{
+    let mut number = last;
+    let mut count = 0;
+    while number > 0 {
+        let link = links[number - 1];
+        if link.climber.passed == child {
+            count += link.climber.count;
+        }
+        number = link.next;
+    }
+    count
+}
+
+// One vote that stands for all these, so many in all: where a child has AlphaConfidence of them, and the
+// others together have fewer than AlphaPreference, no counter sees these. The answer is whether there is
+// one.
+#[inline(always)]
+fn write_main<R: Rule>(
+    params: &Params,
+    tree: &Tree<Load<R>>,
+    links: &[Link],
+    last: usize,
+    total: u32,
+    one: &mut Vote,
+) -> bool
+    requires linked { AreLinked links.now }
+    requires within { last ≤ length links.now }
+    requires total { total ≡ climber_total (chain links.now last) }
+    ensures { result ≡ true → StandsForAll params.now (blocks_in (tree.now).pending) (chain links.now last) one.new }
+{
+    let child = main_child(links, last);
+    let count = count_by(links, last, child);
+    if count < params.alpha_confidence() {
+        return false;
+    }
+    let others = total - count;
+    if others >= params.alpha_preference() {
+        return false;
+    }
+    match tree.at(child) {
+        Some(id) => {
+            *one = Vote { id, count };
+            true
+        }
+        None => false,
+    }
+}
+
+// The same as below, where they came by more than one climber.
+#[inline(never)]
+fn gather_many<R: Rule>(
+    params: &Params,
     tree: &Tree<Load<R>>,
     ladder: &Ladder,
+    total: u32,
     one: &mut Vote,
     children: &mut Bag,
 ) -> bool
+    requires count { total ≡ climber_total (ladder.now).came }
     requires places { length (ladder.now).came ≤ children.old.room + length children.old.list }
     requires placed { All (λ c. c.passed < length (tree.now).pending) (ladder.now).came }
     requires counts { All (λ c. 0 < c.count) (ladder.now).came }
-    requires total { climber_total (ladder.now).came < 2 ^ 32 }
-    ensures votes { (parent : List ℕ) → All (HasCome (blocks_in (tree.now).pending) parent) (cursors_of (blocks_in (tree.now).pending) (ladder.now).came) → votes_on (gathered result one.new children.new.list) ≡ votes_at (cursors_of (blocks_in (tree.now).pending) (ladder.now).came) parent }
+    ensures votes { (parent : List ℕ) → All (HasCome (blocks_in (tree.now).pending) parent) (cursors_of (blocks_in (tree.now).pending) (ladder.now).came) → (front : List Bool) → class params.now (votes_on (gathered result one.new children.new.list) front) ≡ class params.now (votes_at (cursors_of (blocks_in (tree.now).pending) (ladder.now).came) parent front) }
+    ensures among { (parent : List ℕ) → All (HasCome (blocks_in (tree.now).pending) parent) (cursors_of (blocks_in (tree.now).pending) (ladder.now).came) → All (λ v. Contains (children_of (blocks_in (tree.now).pending) parent) v.id) (gathered result one.new children.new.list) }
+    ensures total { total_count (gathered result one.new children.new.list) ≤ climber_total (ladder.now).came }
+    ensures places { children.old.room + length children.old.list ≤ children.new.room + length children.new.list }
+{
+    let (links, last) = ladder.came();
+    if write_main(params, tree, links, last, total, one) {
+        return true;
+    }
+    gather_all(tree, links, last, children);
+    false
+}
+
+/// The votes that were taken off a ladder last, so many in all, and came to a parent, by its children: one
+/// vote where all came by one, or where it does to each counter what all do; else those of the bag. The
+/// answer is whether it is one. It takes no memory where the bag has places.
+#[inline(always)]
+pub(crate) fn gather<R: Rule>(
+    params: &Params,
+    tree: &Tree<Load<R>>,
+    ladder: &Ladder,
+    total: u32,
+    one: &mut Vote,
+    children: &mut Bag,
+) -> bool
+    requires count { total ≡ climber_total (ladder.now).came }
+    requires places { length (ladder.now).came ≤ children.old.room + length children.old.list }
+    requires placed { All (λ c. c.passed < length (tree.now).pending) (ladder.now).came }
+    requires counts { All (λ c. 0 < c.count) (ladder.now).came }
+    ensures votes { (parent : List ℕ) → All (HasCome (blocks_in (tree.now).pending) parent) (cursors_of (blocks_in (tree.now).pending) (ladder.now).came) → (front : List Bool) → class params.now (votes_on (gathered result one.new children.new.list) front) ≡ class params.now (votes_at (cursors_of (blocks_in (tree.now).pending) (ladder.now).came) parent front) }
     ensures among { (parent : List ℕ) → All (HasCome (blocks_in (tree.now).pending) parent) (cursors_of (blocks_in (tree.now).pending) (ladder.now).came) → All (λ v. Contains (children_of (blocks_in (tree.now).pending) parent) v.id) (gathered result one.new children.new.list) }
     ensures total { total_count (gathered result one.new children.new.list) ≤ climber_total (ladder.now).came }
     ensures places { children.old.room + length children.old.list ≤ children.new.room + length children.new.list }
@@ -87,11 +193,7 @@ pub(crate) fn gather<R: Rule>(
             write_vote(tree, &climber, one);
             true
         }
-        None => {
-            let (links, last) = ladder.came();
-            gather_all(tree, links, last, children);
-            false
-        }
+        None => gather_many(params, tree, ladder, total, one, children),
     }
 }
 

@@ -264,7 +264,7 @@ impl Ladder {
         head.count
     }
 
-    /// The one that was taken off last, where nobody else stood on its rung. Nothing is listed for it.
+    /// The one that was taken off last, where nobody else stood on its rung.
     #[inline(always)]
     pub(crate) fn only(&self) -> Option<Climber>
         ensures { IfSome result (λ c. (self.now).came ≡ c ∷ []) }

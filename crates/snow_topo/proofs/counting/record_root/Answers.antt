@@ -1,11 +1,12 @@
 use Rattle.std.proofs.Common.{ℕ, Bool, List, ◌∙◌, All, Contains, sym, ap, subst, arith}
+use Rattle.snow_flake.specs.Counter.{class}
 use Rattle.snow_plain.specs.Conflict.{votes_on}
 use Rattle.snow_plain.specs.Cursors.{votes_at}
 use Rattle.snow_tree.specs.Held.{blocks_in}
 use Rattle.snow_topo.specs.Climbing.{cursors_of, gathered}
-use Rattle.snow_topo.specs.Half.{HasTaken}
 use Rattle.snow_topo.proofs.Climbers.{same_total}
 use Rattle.snow_topo.proofs.Costing.{no_quorum}
+use Rattle.snow_topo.proofs.Mains.{taken_alike}
 use Rattle.snow_topo.proofs.Merged.{few_came}
 use Rattle.snow_topo.proofs.Taken.{left_alone}
 use Rattle.snow_topo.proofs.counting.record_root.Goals as goal
@@ -17,8 +18,9 @@ record-requires-clause-given g c =
 
 pub returns-then-has_quorum-clause-taken : goal.returns-then-has_quorum-clause-taken
 returns-then-has_quorum-clause-taken g c =
-    subst (λ (f : List Bool → ℕ). HasTaken c.args.params.now c.args.polls f c.args.root.now c.record.new.self)
-    (ap votes_on c.votes_in.ensures.list ∙ c.gather-is_one.ensures.votes c.args.tree.now.last c.requires.came)
+    let cursors = cursors_of (blocks_in c.args.tree.now.pending) c.args.ladder.now.came in
+    taken_alike c.args.params.now c.args.polls (votes_on c.votes_in.result.now) (votes_at cursors c.args.tree.now.last) c.args.root.now c.record.new.self
+    (λ front. ap (λ l. class c.args.params.now (votes_on l front)) c.votes_in.ensures.list ∙ c.gather-is_one.ensures.votes c.args.tree.now.last c.requires.came front)
     (λ children fit. (c.record.ensures.counters c.args.params.now children fit, c.record.ensures.fit c.args.params.now children fit))
 
 pub returns-else-has_quorum-clause-taken : goal.returns-else-has_quorum-clause-taken

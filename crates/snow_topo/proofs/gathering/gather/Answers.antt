@@ -1,5 +1,6 @@
 use Rattle.std.proofs.Common.{◌≡◌, ◌≤◌, ◌∷◌, [], All, Contains, IfSome, sym, ap, subst, ◌∙◌}
 use Rattle.snow_base.specs.Votes.{total_count}
+use Rattle.snow_flake.specs.Counter.{class}
 use Rattle.snow_plain.specs.Conflict.{votes_on}
 use Rattle.snow_tree.specs.Held.{blocks_in, children_of}
 use Rattle.snow_topo.specs.Climbing.{climber_total}
@@ -11,10 +12,11 @@ write_vote-requires g c = only_placed c.args.tree.now.pending c.in-Some.climber 
 
 pub returns-in-Some-clause-votes : goal.returns-in-Some-clause-votes
 returns-in-Some-clause-votes g c =
-    λ parent come.
+    λ parent come front.
     let bs = blocks_in c.args.tree.now.pending in
-    ap (λ v. votes_on (v ∷ [])) c.write_vote.ensures
-    ∙ only_votes bs parent c.in-Some.climber c.args.ladder.now.came (subst (λ o. IfSome o (λ x. c.args.ladder.now.came ≡ x ∷ [])) c.in-Some.is c.only.ensures) come
+    ap (λ f. class c.args.params.now (f front))
+    (ap (λ v. votes_on (v ∷ [])) c.write_vote.ensures
+    ∙ only_votes bs parent c.in-Some.climber c.args.ladder.now.came (subst (λ o. IfSome o (λ x. c.args.ladder.now.came ≡ x ∷ [])) c.in-Some.is c.only.ensures) come)
 
 pub returns-in-Some-clause-among : goal.returns-in-Some-clause-among
 returns-in-Some-clause-among g c =
@@ -28,9 +30,3 @@ returns-in-Some-clause-total g c =
     let bs = blocks_in c.args.tree.now.pending in
     subst (λ one. total_count (one ∷ []) ≤ climber_total c.args.ladder.now.came) (sym c.write_vote.ensures)
     (only_total bs c.in-Some.climber c.args.ladder.now.came (subst (λ o. IfSome o (λ x. c.args.ladder.now.came ≡ x ∷ [])) c.in-Some.is c.only.ensures))
-
-pub returns-in-None-clause-votes : goal.returns-in-None-clause-votes
-returns-in-None-clause-votes g c = rw c.came-last.ensures.all at c.gather_all.ensures.votes
-
-pub returns-in-None-clause-among : goal.returns-in-None-clause-among
-returns-in-None-clause-among g c = rw c.came-last.ensures.all at c.gather_all.ensures.among

@@ -1,9 +1,11 @@
 use Rattle.std.proofs.Common.{ℕ, Bool, List, ◌∙◌, All, Contains, IfSome, slice_get, sym, ap, subst}
+use Rattle.snow_flake.specs.Counter.{class}
 use Rattle.snow_plain.specs.Conflict.{votes_on}
+use Rattle.snow_plain.specs.Cursors.{votes_at}
 use Rattle.snow_tree.specs.Held.{blocks_in, children_of}
 use Rattle.snow_topo.specs.Kept.{IsFit}
 use Rattle.snow_topo.specs.Climbing.{cursors_of, gathered, HasCome}
-use Rattle.snow_topo.specs.Half.{HasTaken}
+use Rattle.snow_topo.proofs.Mains.{taken_alike}
 use Rattle.snow_topo.proofs.Taken.{if_some}
 use Rattle.snow_topo.proofs.visiting.record_came.Goals as goal
 
@@ -25,7 +27,8 @@ returns-clause-taken g c =
     let come = subst (λ o. IfSome o (λ e. All (HasCome blocks e.block.id) (cursors_of blocks c.args.ladder.now.came))) took.0 c.requires.came in (
       took.1.0,
       took.1.1,
-      subst (λ (f : List Bool → ℕ). HasTaken c.args.params.now c.args.polls f e.load took.1.0) (ap votes_on c.votes_in.ensures.list ∙ c.gather-is_one.ensures.votes e.block.id come)
+      taken_alike c.args.params.now c.args.polls (votes_on c.votes_in.result.now) (votes_at (cursors_of blocks c.args.ladder.now.came) e.block.id) e.load took.1.0
+          (λ front. ap (λ l. class c.args.params.now (votes_on l front)) c.votes_in.ensures.list ∙ c.gather-is_one.ensures.votes e.block.id come front)
           (λ children fit. took.1.2 c.args.params.now children fit),
       took.1.3,
     ))
