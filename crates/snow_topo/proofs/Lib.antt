@@ -23,3 +23,4 @@ pub mod Chains
 pub mod Hung
 pub mod Gatherings
 pub mod Mains
+pub mod Majorities

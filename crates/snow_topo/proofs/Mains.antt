@@ -111,7 +111,7 @@ module _ (bs : List Header) (parent : List ℕ) (at : ℕ) where
 
 -- ---- classes
 
-high_class : (p : Parameters) (n : ℕ) → p.alpha_preference ≤ p.alpha_confidence → p.alpha_confidence ≤ n → class p n ≡ High
+pub high_class : (p : Parameters) (n : ℕ) → p.alpha_preference ≤ p.alpha_confidence → p.alpha_confidence ≤ n → class p n ≡ High
 high_class p n order high =
     let no : nat_lt n p.alpha_preference ≡ false = not_less n p.alpha_preference (omega (arith, order, high)) in
     let yes : nat_le p.alpha_confidence n ≡ true = no_more p.alpha_confidence n high in
@@ -123,7 +123,7 @@ high_class p n order high =
     no_more : (a b : ℕ) → a ≤ b → nat_le a b ≡ true
     no_more a b h = grind (arith, common_steps)
 
-low_class : (p : Parameters) (n : ℕ) → n < p.alpha_preference → class p n ≡ Low
+pub low_class : (p : Parameters) (n : ℕ) → n < p.alpha_preference → class p n ≡ Low
 low_class p n low =
     let yes : nat_lt n p.alpha_preference ≡ true = less n p.alpha_preference low in
     rw yes refl

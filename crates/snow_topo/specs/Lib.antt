@@ -14,3 +14,4 @@ pub mod Walking
 pub mod Standing
 pub mod Costs
 pub mod Gathering
+pub mod Majority

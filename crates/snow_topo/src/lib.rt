@@ -11,6 +11,7 @@ mod issuing;
 mod ladder;
 mod leading;
 mod load;
+mod majority;
 mod polling;
 mod renewing;
 mod replaying;

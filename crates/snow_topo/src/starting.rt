@@ -6,15 +6,18 @@ ghost use Rattle.snow_base.specs.declared.vote.Vote.{Vote};
 ghost use Rattle.snow_flake.specs.Parameters.{Parameters};
 ghost use Rattle.snow_topo.specs.Climbing.{begun};
 ghost use Rattle.snow_topo.specs.Ladder.{KeepsRoom, IsReady};
+ghost use Rattle.snow_topo.specs.Majority.{StandFor};
 ghost use Rattle.snow_topo.specs.Starting.{share, votes_by, ids_by, HaveStarted, HaveGone, HaveBegun, IsLoaded, TakesMore};
 
 use crate::climber::{go_on, go_on_to};
 use crate::ladder::Ladder;
 use crate::leading::all_named;
 use crate::load::Load;
+use crate::majority::main_vote;
 use snow_base::{Id, Vote};
-use snow_flake::Rule;
+use snow_flake::{Params, Rule};
 use snow_tree::Tree;
+use std::slice;
 
 // So many votes begin past their own block, where nothing tells at once where it stands. They count nowhere
 // where it isn't pending.
@@ -221,9 +224,9 @@ fn let_each_go<R: Rule>(tree: &Tree<Load<R>>, ladder: &mut Ladder, ids: &[Id])
     }
 }
 
-/// The votes of a poll, one for each of these identifiers, past its own block, where this is pending. It
-/// takes no memory.
-pub(crate) fn start_each<R: Rule>(tree: &Tree<Load<R>>, ladder: &mut Ladder, ids: &[Id])
+// The votes of a poll, one for each of these identifiers, past its own block, where this is pending. It
+// takes no memory.
+fn start_each<R: Rule>(tree: &Tree<Load<R>>, ladder: &mut Ladder, ids: &[Id])
     requires ready { IsReady (length (tree.now).pending) ladder.old }
     requires few { length ids.now ≤ (ladder.old).votes }
     requires small { length ids.now < 2 ^ 32 }
@@ -236,4 +239,29 @@ pub(crate) fn start_each<R: Rule>(tree: &Tree<Load<R>>, ladder: &mut Ladder, ids
     all_named(ids);
     ladder.begin();
     let_each_go(tree, ladder, ids);
+}
+
+/// Votes of a poll past their own blocks that do what one vote for each of these identifiers does: a
+/// single one, where it stands for all. It takes no memory.
+#[inline(always)]
+pub(crate) fn start_ids<R: Rule>(
+    params: &Params,
+    tree: &Tree<Load<R>>,
+    ladder: &mut Ladder,
+    ids: &[Id],
+)
+    requires ready { IsReady (length (tree.now).pending) ladder.old }
+    requires few { length ids.now ≤ (ladder.old).votes }
+    requires most { length ids.now ≤ params.now.k }
+    ensures begun { (votes : List Vote) × HaveBegun params.now votes (tree.now).pending ladder.new × StandFor params.now votes (one_each ids.now) }
+    ensures loaded { IsLoaded (tree.now).pending ladder.new }
+    ensures few { length (ladder.new).climbers ≤ length ids.now }
+    ensures room { KeepsRoom ladder.old ladder.new }
+{
+    let _k = params.k();
+    all_named(ids);
+    match main_vote(params, ids) {
+        Some(one) => start_votes(tree, ladder, slice::from_ref(&one)),
+        None => start_each(tree, ladder, ids),
+    }
 }

@@ -14,7 +14,7 @@ use crate::ladder::Ladder;
 use crate::leading::{is_preferred, is_top, kept_of, named, preference_after};
 use crate::load::Load;
 use crate::polling::record;
-use crate::starting::{start_each, start_votes};
+use crate::starting::{start_ids, start_votes};
 use snow_base::{Bag, Header, Id, Steps};
 use snow_flake::{Params, Rule};
 use snow_plain::{Board, Decision};
@@ -119,7 +119,7 @@ impl<R: Rule> Topo<R> {
         ensures steps { steps.new ≤ steps.old + most_steps (self.old).board (one_each ids.now) }
     {
         let _k = self.params.k();
-        start_each(&self.tree, &mut self.ladder, ids);
+        start_ids(&self.params, &self.tree, &mut self.ladder, ids);
         let (polls, preference) = record(
             &self.params,
             self.polls,

@@ -1,0 +1,127 @@
+-- Lemmas on votes of a poll that stand for all.
+use Rattle.std.proofs.Common.{◌≡◌, ℕ, ◌+◌, ◌*◌, ◌<◌, ◌≤◌, Bool, true, false, nat_lt, nat_le, List, [], ◌∷◌, All, length, bytes_eq, refl, sym, ap, ◌∙◌, arith, if◌then◌else◌}
+use Rattle.std.specs.List.{list_any}
+use Rattle.std.proofs.lemmas.Grind.{common_steps}
+use Rattle.std.proofs.lemmas.List.Sums.{sum_by-cons, sum_by-le-sum_by}
+use Rattle.snow_base.specs.declared.header.Header.{Header}
+use Rattle.snow_base.specs.declared.vote.Vote.{Vote}
+use Rattle.snow_base.specs.Ancestry.{is_below}
+use Rattle.snow_base.specs.Gathered.{one_each}
+use Rattle.snow_flake.specs.Parameters.{Parameters}
+use Rattle.snow_flake.specs.Counter.{class}
+use Rattle.snow_plain.specs.Board.{Board, blocks_of, is_pending}
+use Rattle.snow_plain.proofs.Cases.{split_on, same_id}
+use Rattle.snow_tree.specs.Held.{children_of}
+use Rattle.snow_topo.specs.Costs.{pending_votes, most_steps}
+use Rattle.snow_topo.specs.Majority.{StandsForPoll, StandFor}
+use Rattle.snow_topo.specs.Recording.{recording_at, recording}
+use Rattle.snow_topo.specs.Starting.{share, votes_by, ids_by}
+use Rattle.snow_topo.specs.Walking.{IsNamed}
+use Rattle.snow_topo.proofs.Mains.{high_class, low_class}
+use Rattle.snow_topo.proofs.Started.{each_passes}
+
+-- one for each that passes
+abbrev one_of : (List ℕ → Bool) → List ℕ → ℕ
+one_of test id = if test id then 1 else 0
+
+most_one : (test : List ℕ → Bool) (id : List ℕ) → one_of test id ≤ 1
+most_one test id = split_on (test id) (λ t. rw t (omega arith)) (λ t. rw t (omega arith))
+
+-- no more are for one than there are
+pub ids_few : (test : List ℕ → Bool) (ids : List (List ℕ)) → ids_by test ids ≤ length ids
+ids_few test [] = omega arith
+ids_few test (x ∷ ids) = omega (arith, most_one test x, ids_few test ids, sum_by-cons (one_of test) x ids)
+
+-- where it passes a test, all that are for it do
+pub main_passes : (test : List ℕ → Bool) (main : List ℕ) (ids : List (List ℕ)) → test main ≡ true → ids_by (λ id. bytes_eq id main) ids ≤ ids_by test ids
+main_passes test main [] t = omega arith
+main_passes test main (x ∷ ids) t =
+    let own : one_of (λ id. bytes_eq id main) x ≤ one_of test x =
+    split_on (bytes_eq x main)
+    (λ s. let here : test x ≡ true = ap test (same_id x main s) ∙ t in
+    rw (s, here) (omega arith))
+    (λ s. rw s (omega arith))
+    in
+    omega (arith, own, main_passes test main ids t, sum_by-cons (one_of (λ id. bytes_eq id main)) x ids, sum_by-cons (one_of test) x ids)
+
+-- where it doesn't, none of them do
+pub main_fails : (test : List ℕ → Bool) (main : List ℕ) (ids : List (List ℕ)) → test main ≡ false → ids_by test ids + ids_by (λ id. bytes_eq id main) ids ≤ length ids
+main_fails test main [] t = omega arith
+main_fails test main (x ∷ ids) t =
+    let own : one_of test x + one_of (λ id. bytes_eq id main) x ≤ 1 =
+    split_on (bytes_eq x main)
+    (λ s. let here : test x ≡ false = ap test (same_id x main s) ∙ t in
+    rw (s, here) (omega arith))
+    (λ s. let most = most_one test x in rw s (omega (arith, most)))
+    in
+    omega (arith, own, main_fails test main ids t, sum_by-cons (one_of (λ id. bytes_eq id main)) x ids, sum_by-cons (one_of test) x ids)
+
+-- ---- one vote for all
+
+alone : (test : List ℕ → Bool) (one : Vote) → votes_by test (one ∷ []) ≡ share test one
+alone test one = omega (arith, sum_by-cons (share test) one [])
+
+-- by each test it is no more
+one_fewer : (p : Parameters) (ids : List (List ℕ)) (one : Vote) (test : List ℕ → Bool) → StandsForPoll p ids one → votes_by test (one ∷ []) ≤ ids_by test ids
+one_fewer p ids one test stands =
+    split_on (test one.id)
+    (λ t. let own : share test one ≡ one.count = rw t refl in omega (arith, alone test one, own, stands.count, main_passes test one.id ids t))
+    (λ t. let own : share test one ≡ 0 = rw t refl in omega (arith, alone test one, own))
+
+-- and of the same class
+one_class : (p : Parameters) (ids : List (List ℕ)) (one : Vote) (test : List ℕ → Bool) → StandsForPoll p ids one → class p (votes_by test (one ∷ [])) ≡ class p (ids_by test ids)
+one_class p ids one test stands =
+    split_on (test one.id)
+    (λ t.
+    let own : share test one ≡ one.count = rw t refl in
+    high_class p (votes_by test (one ∷ [])) stands.order (omega (arith, alone test one, own, stands.high))
+    ∙ sym (high_class p (ids_by test ids) stands.order (omega (arith, main_passes test one.id ids t, stands.count, stands.high))))
+    (λ t.
+    let own : share test one ≡ 0 = rw t refl in
+    let low : ids_by test ids < p.alpha_preference = omega (arith, main_fails test one.id ids t, stands.count, stands.low) in
+    low_class p (votes_by test (one ∷ [])) (omega (arith, alone test one, own, low))
+    ∙ sym (low_class p (ids_by test ids) low))
+
+-- so it stands for the poll
+pub one_for_all : (p : Parameters) (ids : List (List ℕ)) (one : Vote) → All IsNamed ids → StandsForPoll p ids one → StandFor p (one ∷ []) (one_each ids)
+one_for_all p ids one named stands = record {
+  alike = λ list.
+      let test : List ℕ → Bool = λ id. list_any (λ other. bytes_eq other id) list in
+      one_class p ids one test stands ∙ ap (class p) (each_passes ids named test);
+  fewer = λ test. omega (arith, one_fewer p ids one test stands, each_passes ids named test);
+}
+
+-- votes stand for themselves
+pub all_for_all : (p : Parameters) (votes : List Vote) → StandFor p votes votes
+all_for_all p votes = record { alike = λ list. refl; fewer = λ test. omega arith }
+
+-- ---- steps
+
+-- fewer votes are recorded at no more
+fewer_at : (p : Parameters) (blocks : List Header) (votes others : List Vote) (parent : List ℕ) → ((test : List ℕ → Bool) → votes_by test votes ≤ votes_by test others)
+    → recording_at p blocks votes parent ≤ recording_at p blocks others parent
+fewer_at p blocks votes others parent fewer = by (votes_by (is_below blocks parent []) votes) (votes_by (is_below blocks parent []) others) (length (children_of blocks parent)) (fewer (is_below blocks parent []))
+  where
+    reached : (least m n : ℕ) → m ≤ n → nat_le least m ≡ true → nat_le least n ≡ true
+    reached least m n h t = grind (arith, common_steps)
+
+    by : (m n c : ℕ) → m ≤ n → (if nat_le p.alpha_preference m then c else 0) ≤ (if nat_le p.alpha_preference n then c else 0)
+    by m n c h =
+        split_on (nat_le p.alpha_preference m)
+        (λ t. rw (t, reached p.alpha_preference m n h t) (omega arith))
+        (λ t. rw t (omega arith))
+
+-- and take no more steps
+pub fewer_steps : (board : Board) (votes others : List Vote) → ((test : List ℕ → Bool) → votes_by test votes ≤ votes_by test others) → most_steps board votes ≤ most_steps board others
+fewer_steps board votes others fewer =
+    let p = board.parameters in
+    let blocks = blocks_of board.pending in
+    let less : pending_votes board votes ≤ pending_votes board others = fewer (is_pending board) in
+    let rest = sum_by-le-sum_by (λ (b : Header). recording_at p blocks votes b.id) (λ b. recording_at p blocks others b.id) blocks (λ b. fewer_at p blocks votes others b.id fewer) in
+    let all : recording p board.last blocks votes ≤ recording p board.last blocks others = omega (arith, rest, fewer_at p blocks votes others board.last fewer) in
+    split_on (nat_lt (pending_votes board votes) p.alpha_preference)
+    (λ t. split_on (nat_lt (pending_votes board others) p.alpha_preference) (λ s. rw (t, s) (omega arith)) (λ s. rw (t, s) (omega arith)))
+    (λ t. rw (t, still (pending_votes board votes) (pending_votes board others) p.alpha_preference less t) (omega (arith, all)))
+  where
+    still : (m n least : ℕ) → m ≤ n → nat_lt m least ≡ false → nat_lt n least ≡ false
+    still m n least h t = grind (arith, common_steps)
