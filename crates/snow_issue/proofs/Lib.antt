@@ -5,6 +5,7 @@ mod GoneExamples
 pub mod Examples
 mod Heights
 pub mod Idle
+mod Lone
 mod Looked
 mod Named
 pub mod Noted
@@ -16,5 +17,6 @@ mod Settled
 mod Tagged
 mod Taken
 mod Windowed
+mod Rested
 mod Resting
 mod Stepped

@@ -13,7 +13,7 @@ use Rattle.snow_issue.specs.Known.{Seen, Knows, NoneNew, NoneRipe, lists_of, ite
 use Rattle.snow_issue.proofs.Looked.{items_at, known_not_hopeless, ready_is_ripe}
 
 -- where all fail, none is found
-find_fails : {T : Type 0} (p : T → Bool) (xs : List T) → All (λ x. p x ≡ false) xs → None ≡ find p xs
+pub find_fails : {T : Type 0} (p : T → Bool) (xs : List T) → All (λ x. p x ≡ false) xs → None ≡ find p xs
 find_fails p [] fails = refl
 find_fails {T} p (x ∷ xs) fails =
     find_fails p xs (All-tail (λ (y : T). p y ≡ false) x xs fails)

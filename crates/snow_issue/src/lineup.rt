@@ -1,4 +1,4 @@
-ghost use Rattle.std.specs.Prelude.{◌≡◌, ℕ, ◌<◌, ◌^◌, ◌≤◌, ◌==◌, true, false, All, [], ◌∷◌, ◌++◌, List, map, length, nat_lt, slice_set, HoldsAt, OnOk, OnErr};
+ghost use Rattle.std.specs.Prelude.{◌≡◌, ℕ, ◌+◌, ◌<◌, ◌^◌, ◌≤◌, ◌==◌, true, false, IfSome, All, [], ◌∷◌, ◌++◌, List, map, length, nat_lt, slice_set, HoldsAt, OnOk, OnErr};
 ghost use Rattle.std.specs.List.{AllPairs, position_or_len, remove};
 ghost use Rattle.std.specs.Option.{option_to_list};
 ghost use Rattle.snow_issue.specs.Known.{has};
@@ -102,6 +102,16 @@ impl<T: Keyed> Lineup<T> {
         ensures ripe { result ≡ true → All (λ s. has Ripe s ≡ false) self.now }
     {
         self.windows.are_empty()
+    }
+
+    /// Where the one item stands of which nothing is remembered, where it is plain that there is no
+    /// other and that none is ripe.
+    pub(crate) fn lone(&self) -> Option<usize>
+        ensures there { IfSome result (λ at. at < length self.now) }
+        ensures new { IfSome result (λ at. IsWithin New self.now (record { low = at; high = at + 1 })) }
+        ensures ripe { IfSome result (λ at. All (λ s. has Ripe s ≡ false) self.now) }
+    {
+        self.windows.lone(self.slots.len())
     }
 
     /// Where the first item with this mark stands, or how many items there are.

@@ -1,8 +1,10 @@
-ghost use Rattle.std.specs.Prelude.{◌≡◌, ◌<◌, All, length};
+ghost use Rattle.std.specs.Prelude.{◌≡◌, ◌<◌, true, false, All, length};
 ghost use Rattle.std.specs.List.{position_or_len};
+ghost use Rattle.snow_plain.specs.Board as model;
 ghost use Rattle.snow_issue.specs.declared.marks.Mark.TheVariants.{New};
 ghost use Rattle.snow_issue.specs.Settling.{is_hopeless_by, is_free_by};
-ghost use Rattle.snow_issue.specs.Known.{items_of, has, sight, Tells};
+ghost use Rattle.snow_issue.specs.Offering.{is_on};
+ghost use Rattle.snow_issue.specs.Known.{items_of, has, sight, Tells, NoneNew, NoneRipe};
 ghost use Rattle.snow_issue.specs.Keeping.{Rests};
 
 use crate::gets::Gets;
@@ -11,7 +13,7 @@ use crate::offering::is_on;
 use crate::replies::Replies;
 use crate::waiting::WaitingList;
 use crate::work::Held;
-use snow_base::Header;
+use snow_base::{Header, Id};
 use snow_plain::Board;
 
 // What a look at a waiting block tells; nothing where it is hopeless.
@@ -46,6 +48,39 @@ pub(crate) fn first_hopeless<B: Board>(waiting: &mut WaitingList, gets: &Gets, b
             None => return at,
         }
     }
+}
+
+// Remembers of the block at a place that it can wait on, where it is a child of this block, which
+// isn't on the board.
+fn rest_at(waiting: &mut WaitingList, gets: &Gets, at: usize, parent: &Id)
+    requires { at < length waiting.old }
+    ensures same { items_of waiting.new ≡ items_of waiting.old }
+    ensures tells { (b : model.Board) → is_on b parent.now ≡ false → All (Tells (items_of waiting.old) gets.now b) waiting.old → All (Tells (items_of waiting.new) gets.now b) waiting.new }
+    ensures ripe { NoneRipe waiting.old → NoneRipe waiting.new }
+{
+    let block = waiting.header(at);
+    if block.parent == *parent && (gets.asks_for(&block.parent) || waiting.waits_below(block)) {
+        waiting.set(at, Mark::Quiet);
+    }
+}
+
+/// Remembers of the block that came last, and of the one before it where that is its child, that
+/// they can wait on. Whether something is then remembered of each, and none is ripe.
+pub(crate) fn rest_last(waiting: &mut WaitingList, gets: &Gets, block: &Header) -> bool
+    ensures same { items_of waiting.new ≡ items_of waiting.old }
+    ensures tells { (b : model.Board) → is_on b block.now.id ≡ false → is_on b block.now.parent ≡ false → All (Tells (items_of waiting.old) gets.now b) waiting.old → All (Tells (items_of waiting.new) gets.now b) waiting.new }
+    ensures ripe { NoneRipe waiting.old → NoneRipe waiting.new }
+    ensures seen { result ≡ true → NoneNew waiting.new }
+    ensures calm { result ≡ true → NoneRipe waiting.new }
+{
+    let len = waiting.len();
+    if len < 2 {
+        return false;
+    }
+    rest_at(waiting, gets, len - 1, &block.parent);
+    rest_at(waiting, gets, len - 2, &block.id);
+    let _ = waiting.first(Mark::New);
+    waiting.rests()
 }
 
 // Whether the block of a reply neither waits nor is asked for.

@@ -1,12 +1,12 @@
-ghost use Rattle.std.specs.Prelude.{◌≡◌, ◌<◌, List, find, length, None, IfOk, OnOk, OnErr, false};
+ghost use Rattle.std.specs.Prelude.{◌≡◌, ◌<◌, List, find, length, None, IfOk, OnOk, OnErr, true, false};
 ghost use Rattle.std.specs.Option.{option_map};
 ghost use Rattle.snow_plain.specs.Board as model;
 ghost use Rattle.snow_issue.specs.declared.work.Get.{Get};
 ghost use Rattle.snow_issue.specs.declared.work.Waiting.{Waiting};
 ghost use Rattle.snow_issue.specs.declared.gone.Gone.{Gone};
 ghost use Rattle.snow_issue.specs.Lists.{begun, has_number, is_asked, is_get, holds_in, after_asked, after_closed, after_held, after_forgotten, after_gone, AreWithinLimits};
-ghost use Rattle.snow_issue.specs.Offering.{offered, after_offer, refusal, is_next, wanted};
-ghost use Rattle.snow_issue.specs.Settling.{work_of, after, is_free};
+ghost use Rattle.snow_issue.specs.Offering.{is_on, offered, after_offer, refusal, is_next, wanted};
+ghost use Rattle.snow_issue.specs.Settling.{work_of, after, is_free, IsIdle};
 ghost use Rattle.snow_issue.specs.declared.work.Work.TheVariants as work;
 ghost use Rattle.snow_issue.specs.Bubbling.{bubbled, vote_at_once};
 ghost use Rattle.snow_issue.specs.Known.{lists_of, Knows, ForgetsChildren, NoneRipe, RestsAfter, TakesStep};
@@ -16,7 +16,7 @@ use crate::gone::{Gone, GoneList};
 use crate::replies::Replies;
 use crate::waiting::WaitingList;
 use crate::work::{Get, Held, Offered, Waiting, Work};
-use crate::{bubbling, offering};
+use crate::{bubbling, looking, offering};
 use snow_base::{Bytes, Header, Id, NodeId};
 use snow_plain::Board;
 use std::alloc::{AllocError, Global};
@@ -178,6 +178,22 @@ impl Queue {
         Ok(())
     }
 
+    /// Remembers of a block that came last, and of the one before it where that is its child, that
+    /// they can wait on: the parent of the block is asked for. Whether it is plain that nothing is
+    /// to be done then. The lists stay as they were. It looks neither at the board nor at any other
+    /// block.
+    pub fn rest(&mut self, block: &Header) -> bool
+        ensures lists { lists_of self.new ≡ lists_of self.old }
+        ensures knows { (b : model.Board) → is_on b block.now.id ≡ false → is_on b block.now.parent ≡ false → Knows self.old b → Knows self.new b }
+        ensures ripe { NoneRipe self.old.seats → NoneRipe self.new.seats }
+        ensures calm { result ≡ true → NoneRipe self.new.seats }
+        ensures idle { (b : model.Board) → result ≡ true → Knows self.new b → IsIdle (lists_of self.new) b }
+        ensures limits { AreWithinLimits (lists_of self.new) }
+    {
+        let rests = looking::rest_last(&mut self.waiting, &self.gets, block);
+        rests && self.replies.len() == 0
+    }
+
     /// Closes the get of this number and node, and gives the block that was asked for; None, with
     /// all as before, exactly where there is no such get. It takes no memory.
     pub fn close_get(&mut self, number: u32, node: &NodeId) -> Option<Id>
@@ -272,6 +288,9 @@ impl Queue {
     {
         if self.waiting.rests() {
             return self.next_vote();
+        }
+        if let Some(at) = self.lone_ready(board) {
+            return self.take_ready(at, board);
         }
         self.next_step(board)
     }

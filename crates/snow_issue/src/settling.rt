@@ -1,4 +1,4 @@
-ghost use Rattle.std.specs.Prelude.{◌≡◌, ◌<◌, ◌≤◌, None, find, is_some, map, length, HoldsAt, if◌then◌else◌};
+ghost use Rattle.std.specs.Prelude.{◌≡◌, ◌<◌, ◌≤◌, None, IfSome, find, is_some, map, length, HoldsAt, if◌then◌else◌};
 ghost use Rattle.std.specs.List.{position_or_len, remove};
 ghost use Rattle.snow_issue.specs.declared.marks.Mark.TheVariants.{New};
 ghost use Rattle.snow_issue.specs.Settling.{is_hopeless, is_ready, is_free, gone_with};
@@ -9,6 +9,7 @@ ghost use Rattle.snow_issue.specs.Index.{woken};
 use crate::gone::Gone;
 use crate::looking;
 use crate::marks::Mark;
+use crate::offering::is_on;
 use crate::queue::Queue;
 use crate::work::{Held, Waiting, Work};
 use snow_plain::Board;
@@ -43,6 +44,21 @@ impl Queue {
         ensures limits { AreWithinLimits (lists_of self.new) }
     {
         self.waiting.first(Mark::Ripe)
+    }
+
+    /// Where the one block stands of which nothing is remembered, if it is ready: mostly the child of
+    /// the block that was issued last. Then none is hopeless, and it is the earliest ready one.
+    pub(crate) fn lone_ready<B: Board>(&self, board: &B) -> Option<usize>
+        requires { Knows self.now (B.board board.now) }
+        ensures there { IfSome result (λ at. at < length self.now.seats) }
+        ensures none { IfSome result (λ at. find (is_hopeless (lists_of self.now) (B.board board.now)) (lists_of self.now).waiting ≡ None) }
+        ensures first { IfSome result (λ at. at ≡ position_or_len (is_ready (B.board board.now)) (lists_of self.now).waiting) }
+    {
+        let at = self.waiting.lone()?;
+        if is_on(board, &self.waiting.header(at).parent) {
+            return Some(at);
+        }
+        None
     }
 
     /// Takes the earliest hopeless block out, which stands at this place.

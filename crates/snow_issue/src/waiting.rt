@@ -1,8 +1,9 @@
-ghost use Rattle.std.specs.Prelude.{◌≡◌, ◌+◌, ◌==◌, ◌<◌, ◌∷◌, ◌++◌, [], List, map, true, false, length, slice_set, HoldsAt, OnOk, OnErr};
+ghost use Rattle.std.specs.Prelude.{◌≡◌, ◌+◌, ◌==◌, IfSome, ◌<◌, ◌∷◌, ◌++◌, [], List, map, true, false, length, slice_set, HoldsAt, OnOk, OnErr};
 ghost use Rattle.std.specs.List.{position_or_len, remove};
 ghost use Rattle.snow_issue.specs.Known.{has, items_of, NoneNew, NoneRipe};
 ghost use Rattle.snow_issue.specs.Lists.{waits_among, waits_below};
 ghost use Rattle.snow_issue.specs.Index.{woken, forgotten};
+ghost use Rattle.snow_issue.specs.Windows.{IsWithin};
 
 use crate::lineup::{Keyed, Lineup};
 use crate::marks::Mark;
@@ -130,6 +131,16 @@ impl WaitingList {
         ensures ripe { result ≡ true → NoneRipe self.now }
     {
         self.lineup.rests()
+    }
+
+    /// Where the one block stands of which nothing is remembered, where it is plain that there is no
+    /// other and that none is ripe.
+    pub(crate) fn lone(&self) -> Option<usize>
+        ensures there { IfSome result (λ at. at < length self.now) }
+        ensures new { IfSome result (λ at. IsWithin New self.now (record { low = at; high = at + 1 })) }
+        ensures ripe { IfSome result (λ at. NoneRipe self.now) }
+    {
+        self.lineup.lone()
     }
 
     /// Where the first block with this mark stands, or how many blocks there are.

@@ -1,4 +1,4 @@
-ghost use Rattle.std.specs.Prelude.{◌≡◌, ◌<◌, ◌≤◌, ◌^◌, true};
+ghost use Rattle.std.specs.Prelude.{◌≡◌, ◌+◌, ◌<◌, ◌≤◌, ◌^◌, true, IfSome};
 ghost use Rattle.snow_issue.specs.Windows.{no_place, all_places, with_place, closed_up, left_of, from_first, all_fresh, no_windows, marked, all_closed_up, all_left, window_of, narrowed};
 
 use crate::marks::Mark;
@@ -155,6 +155,20 @@ impl Windows {
         ensures ripe { result ≡ true → self.ripe.high ≤ self.ripe.low }
     {
         self.fresh.high <= self.fresh.low && self.ripe.high <= self.ripe.low
+    }
+
+    /// The one place of so many where a new item may stand, where no ripe one may.
+    pub(crate) fn lone(self, len: usize) -> Option<usize>
+        ensures there { IfSome result (λ at. at < len) }
+        ensures low { IfSome result (λ at. self.fresh.low ≡ at) }
+        ensures high { IfSome result (λ at. self.fresh.high ≡ at + 1) }
+        ensures ripe { IfSome result (λ at. self.ripe.high ≤ self.ripe.low) }
+    {
+        let Window { low, high } = self.fresh;
+        if low < len && high == low + 1 && self.ripe.high <= self.ripe.low {
+            return Some(low);
+        }
+        None
     }
 
     /// Where a mark may stand among so many items.
