@@ -1,5 +1,5 @@
 -- What is known of that which a queue remembers is kept by each thing that a node does.
-use Rattle.std.proofs.Common.{◌≡◌, ℕ, List, [], ◌∷◌, Option, Some, None, bytes_eq, refl, sym, ap, ◌∙◌, subst}
+use Rattle.std.proofs.Common.{◌≡◌, ℕ, Bool, true, false, List, [], ◌∷◌, Option, Some, None, bytes_eq, refl, sym, ap, ◌∙◌, subst}
 use Rattle.snow_base.specs.declared.header.Header.{Header}
 use Rattle.snow_base.specs.declared.vote.Vote.{Vote}
 use Rattle.snow_plain.specs.declared.decision.Decision.{Decision}
@@ -16,7 +16,7 @@ use Rattle.snow_issue.proofs.Remembered.{tells_issued, tells_polled}
 use Rattle.snow_node.specs.Closing.{all_gone}
 use Rattle.snow_node.specs.declared.running.remembering.Remembered.{Remembered}
 use Rattle.snow_node.specs.declared.running.remembering.Remembered.TheVariants as known
-use Rattle.snow_node.specs.Remembering.{Remembers, when_taken, when_woken, when_next, when_issued, when_polled}
+use Rattle.snow_node.specs.Remembering.{Remembers, when_taken, when_woken, when_looked, when_next, when_issued, when_polled}
 
 -- no block is looked at again, and no more is to be done
 pub kept_seats : (board : Board) (old now : Seen) (k : Remembered) → ((b : Board) → Knows old b → Knows now b) → now.seats ≡ old.seats
@@ -35,6 +35,20 @@ kept_woken board old now known.True knows ripe r = knows board r
 kept_woken board old now known.Calm knows ripe r = (knows board r.0, ripe r.1)
 kept_woken board old now known.Idle knows ripe r = (knows board r.0, ripe r.1)
 kept_woken board old now (known.Ready id) knows ripe r = knows board r.0
+
+-- some were looked at
+pub kept_looked : (board : Board) (old now : Seen) (k : Remembered) (rests : Bool) → (Knows old board → Knows now board) → (NoneRipe old.seats → NoneRipe now.seats)
+    → (rests ≡ true → NoneRipe now.seats) → (rests ≡ true → Knows now board → IsIdle (lists_of now) board) → Remembers board old k → Remembers board now (when_looked k rests)
+kept_looked board old now known.Nothing true knows ripe calm idle r = tt
+kept_looked board old now known.True true knows ripe calm idle r = (knows r, calm refl, idle refl (knows r))
+kept_looked board old now known.Calm true knows ripe calm idle r = (knows r.0, calm refl, idle refl (knows r.0))
+kept_looked board old now known.Idle true knows ripe calm idle r = (knows r.0, calm refl, idle refl (knows r.0))
+kept_looked board old now (known.Ready id) true knows ripe calm idle r = (knows r.0, calm refl, idle refl (knows r.0))
+kept_looked board old now known.Nothing false knows ripe calm idle r = tt
+kept_looked board old now known.True false knows ripe calm idle r = knows r
+kept_looked board old now known.Calm false knows ripe calm idle r = (knows r.0, ripe r.1)
+kept_looked board old now known.Idle false knows ripe calm idle r = (knows r.0, ripe r.1)
+kept_looked board old now (known.Ready id) false knows ripe calm idle r = knows r.0
 
 -- those are that wait for this block
 pub kept_next : (board : Board) (old now : Seen) (k : Remembered) (id : List ℕ) → ((b : Board) → Knows old b → Knows now b) → ForgetsChildren id now.seats → Remembers board old k

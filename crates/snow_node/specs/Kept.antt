@@ -1,5 +1,6 @@
 -- What ties the board, the chain, the polls and the queue of a node that runs.
 use Rattle.std.specs.Prelude.{◌≡◌, ℕ, ◌-◌, ◌^◌, ◌<◌, ◌≤◌, length, false, List, [], ◌∷◌, None}
+use Rattle.snow_base.specs.declared.header.Header.{Header}
 use Rattle.snow_flake.specs.Parameters.{Parameters}
 use Rattle.snow_plain.specs.Board.{Board, height_of}
 use Rattle.snow_chain.specs.Chain.{Held}
@@ -8,6 +9,7 @@ use Rattle.snow_issue.specs.declared.work.Waiting.{Waiting}
 use Rattle.snow_issue.specs.declared.work.Work.{Work}
 use Rattle.snow_issue.specs.declared.work.Work.TheVariants as work
 use Rattle.snow_issue.specs.Lists.{Lists, waits_among, is_asked}
+use Rattle.snow_issue.specs.Offering.{is_on}
 use Rattle.snow_node.specs.Matching.{IsSteady}
 
 -- blocks that wait are off the board, and no two have one identifier
@@ -20,6 +22,10 @@ AreOff board (w ∷ waiting) =
 pub record IsApart (board : Board) (waiting : List Waiting) (id : List ℕ) : Type 0 where
   pub off : height_of board id ≡ None
   pub other : waits_among waiting id ≡ false
+
+-- neither a block nor its parent is on the board
+abbrev pub AreBothOff : Board → Header → Type 0
+AreBothOff board block = (is_on board block.id ≡ false) × (is_on board block.parent ≡ false)
 
 -- what was taken out of the queue can be done
 abbrev pub MayWork : Board → Lists → Work → Type 0

@@ -1,5 +1,5 @@
 -- What is known of that which a queue remembers of its waiting blocks.
-use Rattle.std.specs.Prelude.{ℕ, List, Option, Some, None, bytes_eq, if◌then◌else◌}
+use Rattle.std.specs.Prelude.{ℕ, Bool, true, false, List, Option, Some, None, bytes_eq, if◌then◌else◌}
 use Rattle.snow_plain.specs.Board.{Board}
 use Rattle.snow_issue.specs.declared.work.Work.{Work}
 use Rattle.snow_issue.specs.declared.work.Work.TheVariants as work
@@ -30,6 +30,19 @@ when_woken known.True = known.True
 when_woken known.Calm = known.Calm
 when_woken known.Idle = known.Calm
 when_woken (known.Ready id) = known.True
+
+-- once nothing is to be done, where it is true
+abbrev pub when_rested : Remembered → Remembered
+when_rested known.Nothing = known.Nothing
+when_rested known.True = known.Idle
+when_rested known.Calm = known.Idle
+when_rested known.Idle = known.Idle
+when_rested (known.Ready id) = known.Idle
+
+-- once some were looked at, and whether it is plain that nothing is to be done
+abbrev pub when_looked : Remembered → Bool → Remembered
+when_looked k true = when_rested k
+when_looked k false = when_woken k
 
 -- once nothing is remembered of the children of this block, which may then be issued
 abbrev pub when_next : Remembered → List ℕ → Remembered

@@ -1,9 +1,9 @@
-ghost use Rattle.std.specs.Prelude.{◌≡◌, None, true, false, IfSome};
+ghost use Rattle.std.specs.Prelude.{◌≡◌, None, true, false, IfSome, OnOk};
 ghost use Rattle.snow_lines.specs.declared.line.Line.TheVariants as line;
 ghost use Rattle.snow_lines.specs.declared.why.SkipKind.TheVariants as kind;
 ghost use Rattle.snow_issue.specs.declared.work.Waiting.{Waiting as Block};
 ghost use Rattle.snow_issue.specs.Lists.{has_number, holds_in};
-ghost use Rattle.snow_node.specs.Kept.{MayFetch};
+ghost use Rattle.snow_node.specs.Kept.{MayFetch, AreBothOff};
 ghost use Rattle.snow_node.specs.Running.{numbered};
 ghost use Rattle.snow_node.specs.Hearing as model;
 ghost use Rattle.snow_node.specs.Closing.{closed_out};
@@ -150,20 +150,40 @@ impl<C: Chain, B: Board> Running<C, B> {
             Offered::Invalid => drop_block(id, DropWhy::Invalid, log),
             Offered::Old => drop_block(id, DropWhy::Old, log),
             Offered::Full => drop_block(id, DropWhy::Full, log),
-            Offered::Waits { ask } => self.fetch_if(peer, ask, log),
+            Offered::Waits { ask } => self.fetch_parent(peer, ask, &header, log),
         }
     }
 
-    /// A peer is asked for a block, if any is wanted.
-    fn fetch_if(&mut self, peer: &NodeId, id: Option<Id>, log: &mut Lines) -> Result<(), Halt>
-        requires { IfSome id (λ id. MayFetch self.old.queue id) }
+    /// A peer is asked for the parent of a block that came last and waits, if it is wanted. Then mostly
+    /// nothing is to be done.
+    fn fetch_parent(
+        &mut self,
+        peer: &NodeId,
+        id: Option<Id>,
+        block: &Header,
+        log: &mut Lines,
+    ) -> Result<(), Halt>
+        requires may { IfSome id (λ id. MayFetch self.old.queue id) }
+        requires off { IfSome id (λ _. AreBothOff self.old.board block.now) }
         ensures answer { Turns result self.new (model.fetched_if self.old peer.now id).1 }
         ensures lines { Tells result log.old log.new (model.fetched_if self.old peer.now id).0 }
     {
-        match id {
-            Some(id) => self.fetch(peer, id, log),
-            None => Ok(()),
-        }
+        let Some(id) = id else {
+            return Ok(());
+        };
+        self.fetch(peer, id, log)?;
+        self.rest(block);
+        Ok(())
+    }
+
+    /// The queue remembers that a block which came last can wait on, and so can its child if that came
+    /// right before it.
+    fn rest(&mut self, block: &Header)
+        requires { AreBothOff self.old.board block.now }
+        ensures { self.new ≡ self.old }
+    {
+        let rests = self.queue.rest(block);
+        self.remembered = self.remembered.looked(rests);
     }
 
     #[tactic(auto, using(crate::proofs::Logs::logs_nothing))]
@@ -172,6 +192,7 @@ impl<C: Chain, B: Board> Running<C, B> {
         requires { MayFetch self.old.queue id }
         ensures answer { Turns result self.new (numbered self.old (model.fetched peer.now id)).1 }
         ensures lines { Tells result log.old log.new (numbered self.old (model.fetched peer.now id)).0 }
+        ensures board { OnOk result (self.new.board ≡ self.old.board) }
     {
         let Some(number) = self.numbers.draw() else {
             return Err(Halt::Requests);

@@ -47,6 +47,17 @@ impl Remembered {
         }
     }
 
+    /// Once some were looked at, and whether it is plain that nothing is to be done.
+    pub fn looked(&self, rests: bool) -> Remembered
+        ensures { result ≡ model.when_looked self.now rests }
+    {
+        match self {
+            Remembered::Nothing => Remembered::Nothing,
+            _ if rests => Remembered::Idle,
+            known => known.woken(),
+        }
+    }
+
     /// Once nothing is remembered of the children of this block, which may then be issued.
     pub fn next(&self, id: &Id) -> Remembered
         ensures { result ≡ model.when_next self.now id.now }
