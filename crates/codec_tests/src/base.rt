@@ -2,7 +2,7 @@ ghost use Rattle.std.specs.Prelude.{◌≡◌, ◌<◌};
 
 use crate::tools::{id, is};
 use snow_base::{
-    Bag, Bytes, Id, MemSink, MemSource, Numbers, Nums, PureSink, PureSource, ReadSource, Sink,
+    Bag, Bytes, Id, Ids, MemSink, MemSource, Numbers, Nums, PureSink, PureSource, ReadSource, Sink,
     Source, Steps, WriteSink, write_whole,
 };
 use std::alloc::{AllocError, Global};
@@ -55,6 +55,54 @@ fn votes_stand_in_bit_order(rt: HostRuntime) {
     assert!(rt; stand(&bag, &[]));
     assert_eq!(rt; counts(&bag), (0, 0));
     drop(bag);
+}
+
+// Twelve identifiers, more than are looked at one by one, and two of them twice.
+#[test]
+fn many_votes_stand_in_bit_order(rt: HostRuntime) {
+    let mut bag = Bag::new(rt.alloc());
+    let came = [(3, 1), (8, 1), (0, 1), (5, 1), (11, 1), (2, 1), (9, 1)];
+    let more = [(6, 1), (1, 1), (10, 1), (4, 1), (7, 1), (5, 2), (7, 1)];
+    assert!(rt; adds(&mut bag, &came));
+    assert!(rt; adds(&mut bag, &more));
+    let order = [
+        (0, 1),
+        (8, 1),
+        (4, 1),
+        (2, 1),
+        (10, 1),
+        (6, 1),
+        (1, 1),
+        (9, 1),
+        (5, 3),
+        (3, 1),
+        (11, 1),
+        (7, 2),
+    ];
+    assert!(rt; stand(&bag, &order));
+    drop(bag);
+}
+
+// Whether identifiers of these bytes, each of one byte again and again, are the list's, in this order.
+fn are(ids: &Ids, bytes: &[u8]) -> bool {
+    for (id, byte) in ids.list().iter().zip(bytes) {
+        if *id != Id::from_bytes([*byte; 32]) {
+            return false;
+        }
+    }
+    ids.list().len() == bytes.len()
+}
+
+#[test]
+fn identifiers_take_the_place_of_others(rt: HostRuntime) {
+    let mut ids = Ids::new(rt.alloc());
+    assert!(rt; ids.replace(&[[1; 32], [2; 32], [3; 32]]).is_ok());
+    assert!(rt; are(&ids, &[1, 2, 3]));
+    assert!(rt; ids.replace(&[[4; 32]]).is_ok());
+    assert!(rt; are(&ids, &[4]));
+    assert!(rt; ids.replace(&[[5; 32], [4; 32]]).is_ok());
+    assert!(rt; are(&ids, &[5, 4]));
+    drop(ids);
 }
 
 // Whether the votes of a list of identifiers are gathered so.
