@@ -1,5 +1,5 @@
 -- Lemmas on drawing: what positions later draws look at, and how one draw more goes on.
-use Rattle.std.proofs.Common.{◌≡◌, ℕ, zero, suc, ◌+◌, ◌-◌, ◌<◌, ◌≤◌, cond, List, [], None, Some, Option, Result, Ok, Err, map, fold, ◌==◌, refl, sym, ap, ◌∙◌, arith, inl, inr}
+use Rattle.std.proofs.Common.{◌≡◌, ℕ, zero, suc, ◌+◌, ◌-◌, ◌<◌, ◌≤◌, cond, List, [], ◌∷◌, None, Some, Option, Result, Ok, Err, map, fold, ◌==◌, refl, sym, ap, ◌∙◌, subst, arith, inl, inr}
 use Rattle.std.specs.Option.{option_and_then}
 use Rattle.std.proofs.lemmas.Bool.{cases_eq, cond-true, cond-false, cond_both, eq-eqb, ne_eqb, le-ltb}
 use Rattle.snow_sample.specs.declared.draws.Draw.{Draw}
@@ -155,3 +155,33 @@ drawing_ends nodes k first words units draws done enough =
     let stops : drawn_from (k - k) total k units words ≡ Some ([], words) =
     ap (λ n. drawn_from n total k units words) none ∙ drawn_end total k units words in
     cond-false _ _ (or_out nodes (drawn k total first)) (le-ltb total k enough) ∙ sym done.later ∙ ap (finished nodes draws) stops
+
+-- ---- one draw
+
+-- a sample of one unit: the one that is chosen, since each stands at its own position
+pub record OneDraw (nodes : List Node) (first left : List ℕ) (draws : List Draw) : Type 0 where
+  pub sample : sample_of nodes 1 first ≡ Ok (draws, left)
+  pub count : draw_count draws ≡ 1
+  pub distinct : AreOfDistinctNodes draws
+
+pub one_draw : (nodes : List Node) (r : ℕ) (words left : List ℕ) → 1 ≤ total_weight nodes
+    → choice (total_weight nodes - 1) words ≡ Some (r, left) → r ≤ total_weight nodes - 1 → IsRest words left
+    → OneDraw nodes words left (record { node = owner nodes r; count = 1 } ∷ [])
+one_draw nodes r words left enough chosen small taken =
+    let own : ℕ → ℕ = λ p. p in
+    let all : total_weight nodes - 1 - 0 ≡ total_weight nodes - 1 = omega arith in
+    let begun = drawing_begins nodes 1 words own (λ p. refl) in
+    let moved : ℕ → ℕ = swapped own (0 + r) 0 in
+    let first : 0 + r ≡ r = omega arith in
+    let made : Drawing nodes 1 1 words left moved (counted [] (owner nodes r)) =
+    subst (λ u. Drawing nodes 1 1 words left moved (counted [] (owner nodes u))) first
+    (drawing_more nodes 1 0 r words words left own moved [] begun (omega arith) enough (rw all chosen) (omega (arith, small)) taken (λ p h. refl)) in
+    record { sample = drawing_ends nodes 1 words left moved (counted [] (owner nodes r)) made enough; count = made.count; distinct = made.distinct }
+
+-- there is no word for it
+pub one_fails : (nodes : List Node) (words : List ℕ) → 1 ≤ total_weight nodes → choice (total_weight nodes - 1) words ≡ None
+    → sample_of nodes 1 words ≡ Err WordsOut
+one_fails nodes words enough none =
+    let own : ℕ → ℕ = λ p. p in
+    let all : total_weight nodes - 1 - 0 ≡ total_weight nodes - 1 = omega arith in
+    drawing_fails nodes 1 0 words words own [] (drawing_begins nodes 1 words own (λ p. refl)) (omega arith) enough (rw all none)

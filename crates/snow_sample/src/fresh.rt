@@ -1,4 +1,4 @@
-ghost use Rattle.std.specs.Prelude.{◌≡◌, replicate, IfOk};
+ghost use Rattle.std.specs.Prelude.{◌≡◌, replicate, IfOk, OnOk};
 
 use std::alloc::AllocError;
 
@@ -10,6 +10,14 @@ const SOME: usize = 256;
 pub fn zeros(mut room: Vec<u32>, count: usize) -> Result<Vec<u32>, AllocError>
     ensures { IfOk result (λ made. made.items ≡ replicate count 0) }
 {
+    write_zeros(&mut room, count)?;
+    Ok(room)
+}
+
+// The same where the room stands.
+pub(crate) fn write_zeros(room: &mut Vec<u32>, count: usize) -> Result<(), AllocError>
+    ensures { OnOk result (room.new.items ≡ replicate count 0) }
+{
     room.clear();
     room.reserve(count)?;
     let mut made = 0;
@@ -18,5 +26,5 @@ pub fn zeros(mut room: Vec<u32>, count: usize) -> Result<Vec<u32>, AllocError>
         made += more;
         room.resize(made, 0)?;
     }
-    Ok(room)
+    Ok(())
 }

@@ -5,6 +5,7 @@ mod draws;
 mod fresh;
 mod guide;
 mod laws;
+mod line;
 mod places;
 mod room;
 mod roster;

@@ -1,30 +1,37 @@
-ghost use Rattle.std.specs.Prelude.{◌≡◌, ◌+◌, ◌^◌, ◌<◌, [], IfOk, OnOk};
+ghost use Rattle.std.specs.Prelude.{◌≡◌, ◌+◌, ◌^◌, ◌<◌, [], OnOk};
 ghost use Rattle.snow_sample.specs.Kept.{HasSlots};
 ghost use Rattle.snow_sample.specs.Roster.{total_weight, owner};
 ghost use Rattle.snow_sample.specs.Sampling.{counted, draw_count};
 
 use crate::draws::Draws;
 use crate::roster::Roster;
-use std::alloc::AllocError;
+use std::alloc::{AllocError, Global};
 
 // For each node of a roster a slot, so that a draw needs no walk over them all. That of a node that
 // was drawn has the place at which its draws are counted. Any other may have whatever an earlier
 // sample left there: no draw of its node stands at that place.
-#[derive(Drop)]
+#[derive(Debug, Drop)]
 pub(crate) struct Places {
     pub(crate) slots: Vec<u32>,
 }
 
 impl Places {
+    // No slot. It takes no memory.
+    pub(crate) fn new(alloc: Global) -> Places {
+        Places {
+            slots: Vec::new(alloc),
+        }
+    }
+
     // No node was drawn. The slots may have any numbers, and are made more where they are too few.
-    pub(crate) fn begin(mut slots: Vec<u32>, roster: &Roster) -> Result<Places, AllocError>
-        ensures { IfOk result (λ places. HasSlots roster.now places.slots.items []) }
+    pub(crate) fn begin(&mut self, roster: &Roster) -> Result<(), AllocError>
+        ensures { OnOk result (HasSlots roster.now self.new.slots.items []) }
     {
         let nodes = roster.nodes().len();
-        if slots.len() < nodes {
-            slots.resize(nodes, 0)?;
+        if self.slots.len() < nodes {
+            self.slots.resize(nodes, 0)?;
         }
-        Ok(Places { slots })
+        Ok(())
     }
 
     // Counts one more draw, that of the node which has a unit.

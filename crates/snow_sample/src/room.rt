@@ -1,21 +1,20 @@
-use crate::shuffle::Move;
+use crate::places::Places;
+use crate::shuffle::Shuffle;
 use std::alloc::Global;
 
-// What a sample is drawn in. Only the room counts, and not what is left there.
+// What a sample is drawn in. It stays where it is, and each sample begins it anew.
 #[derive(Debug, Drop)]
 pub(crate) struct Room {
-    pub(crate) moved: Vec<Move>,
-    pub(crate) lasts: Vec<u32>,
-    pub(crate) slots: Vec<u32>,
+    pub(crate) shuffle: Shuffle,
+    pub(crate) places: Places,
 }
 
 impl Room {
     // None, as before the first sample. It takes no memory.
     pub(crate) fn new(alloc: Global) -> Room {
         Room {
-            moved: Vec::new(alloc),
-            lasts: Vec::new(alloc),
-            slots: Vec::new(alloc),
+            shuffle: Shuffle::new(alloc),
+            places: Places::new(alloc),
         }
     }
 }

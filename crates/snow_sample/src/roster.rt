@@ -48,7 +48,6 @@ impl From<AllocError> for RosterFault {
 /// 2^63-1 units in all. Contracts see the list of the nodes.
 #[derive(Debug, Drop)]
 pub struct Roster {
-    alloc: Global,
     nodes: Vec<Node>,
     ends: Vec<u64>,
     guide: Guide,
@@ -91,7 +90,6 @@ impl Roster {
         let guide = Guide::new(alloc, ends.as_slice(), total)?;
         let nodes = Vec::from_slice(alloc, nodes)?;
         Ok(Roster {
-            alloc,
             nodes,
             ends,
             guide,
@@ -113,10 +111,6 @@ impl Roster {
         ensures good { first_fault result.now ≡ None }
     {
         self.nodes.as_slice()
-    }
-
-    pub(crate) fn alloc(&self) -> Global {
-        self.alloc
     }
 
     // The place of the node that has a unit.

@@ -1,9 +1,10 @@
 ghost use Rattle.std.specs.Prelude.{◌≡◌, ℕ, ◌<◌, ◌≤◌, [], length, vec_capacity, Ok, Err, IfErr, OnOk, OnErr};
-ghost use Rattle.snow_sample.specs.Kept.{unit_at, HasSlots};
+ghost use Rattle.snow_sample.specs.Kept.{unit_at, AreMoves, HasSlots};
 ghost use Rattle.snow_sample.specs.Roster.{total_weight};
 ghost use Rattle.snow_sample.specs.Sampling.{sample_of, IsFault, draw_count, AreOfDistinctNodes};
 
 use crate::draws::Draws;
+use crate::line::Line;
 use crate::places::Places;
 use crate::room::Room;
 use crate::roster::Roster;
@@ -54,7 +55,7 @@ impl Roster {
                 total: self.total(),
             });
         }
-        let drawn = draw_all(self, k, words, out);
+        let drawn = words.draw(self, k, out);
         if drawn.is_err() {
             out.clear();
         }
@@ -62,8 +63,38 @@ impl Roster {
     }
 }
 
+// Draws one unit, and counts the draw of its node. It is the first, so that nothing was moved, and
+// the last, so that nothing need be.
+#[inline(always)]
+pub(crate) fn draw_one(
+    roster: &Roster,
+    words: &mut Line,
+    out: &mut Draws,
+) -> Result<(), SampleFault>
+    requires enough { 1 ≤ total_weight roster.now }
+    requires empty { out.old ≡ [] }
+    ensures sample { OnOk result (sample_of roster.now 1 words.old ≡ Ok (out.new, words.new)) }
+    ensures fault { IfErr result (λ fault. IsFault (sample_of roster.now 1 words.old) words.old fault words.new) }
+    ensures counts { OnOk result (draw_count out.new ≡ 1) }
+    ensures nodes { OnOk result (AreOfDistinctNodes out.new) }
+{
+    let Some(unit) = words.choose(roster.total() - 1) else {
+        return Err(SampleFault::WordsOut);
+    };
+    let at = roster.place(unit);
+    out.push_first(&roster.nodes()[at].id)?;
+    Ok(())
+}
+
 // Draws `k` units, at most all, and counts the draws of their nodes.
-fn draw_all(roster: &Roster, k: u32, words: &mut Words, out: &mut Draws) -> Result<(), SampleFault>
+#[inline(never)]
+pub(crate) fn draw_all(
+    roster: &Roster,
+    k: u32,
+    words: &mut Line,
+    room: &mut Room,
+    out: &mut Draws,
+) -> Result<(), SampleFault>
     requires enough { k ≤ total_weight roster.now }
     requires empty { out.old ≡ [] }
     ensures sample { OnOk result (sample_of roster.now k words.old ≡ Ok (out.new, words.new)) }
@@ -74,22 +105,9 @@ fn draw_all(roster: &Roster, k: u32, words: &mut Words, out: &mut Draws) -> Resu
     // Each draw takes a word.
     let draws = words.len().min(k as usize);
     out.reserve(draws.min(roster.nodes().len()))?;
-    let Room {
-        moved,
-        lasts,
-        slots,
-    } = words.take_room(roster.alloc());
-    let mut shuffle = Shuffle::begin(moved, lasts, draws)?;
-    let mut places = Places::begin(slots, roster)?;
-    let drawn = draw_each(roster, k, words, &mut shuffle, &mut places, out);
-    let Shuffle { moved, lasts, .. } = shuffle;
-    let Places { slots } = places;
-    words.leave_room(Room {
-        moved,
-        lasts,
-        slots,
-    });
-    drawn
+    room.shuffle.begin(draws)?;
+    room.places.begin(roster)?;
+    draw_each(roster, k, words, &mut room.shuffle, &mut room.places, out)
 }
 
 // Draws `k` units, where nothing was moved and no node was drawn. There is room for a move a word.
@@ -97,12 +115,13 @@ fn draw_all(roster: &Roster, k: u32, words: &mut Words, out: &mut Draws) -> Resu
 fn draw_each(
     roster: &Roster,
     k: u32,
-    words: &mut Words,
+    words: &mut Line,
     shuffle: &mut Shuffle,
     places: &mut Places,
     out: &mut Draws,
 ) -> Result<(), SampleFault>
     requires enough { k ≤ total_weight roster.now }
+    requires chained { AreMoves shuffle.old.mask shuffle.old.moved.items shuffle.old.lasts.items }
     requires units { (p : ℕ) → unit_at shuffle.old.moved.items p ≡ p }
     requires none { length shuffle.old.moved.items ≡ 0 }
     requires room { (n : ℕ) → n ≤ length words.old → n ≤ k → n ≤ vec_capacity shuffle.old.moved }

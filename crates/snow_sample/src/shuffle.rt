@@ -1,9 +1,9 @@
-ghost use Rattle.std.specs.Prelude.{◌≡◌, ℕ, ◌==◌, ◌+◌, ◌^◌, ◌<◌, ◌≤◌, length, vec_capacity, if◌then◌else◌, IfOk};
+ghost use Rattle.std.specs.Prelude.{◌≡◌, ℕ, ◌==◌, ◌+◌, ◌^◌, ◌<◌, ◌≤◌, length, vec_capacity, if◌then◌else◌, OnOk};
 ghost use Rattle.snow_sample.specs.Kept.{AreMoves, unit_at};
 ghost use Rattle.snow_sample.specs.Sampling.{swapped};
 
 use crate::fresh;
-use std::alloc::AllocError;
+use std::alloc::{AllocError, Global};
 
 // A unit that was moved to a position. Positions with the same low bits are one class; `before` is
 // the number, from 1, of the last move before this one in its class, and 0 where there is none.
@@ -17,45 +17,50 @@ pub(crate) struct Move {
 // The units that were moved, in the order of their moves, and for each class of positions the number
 // of its last move, so that a look-up walks one class alone. Where nothing was moved to a position
 // it has its own unit.
-#[derive(Drop)]
+#[derive(Debug, Drop)]
 pub(crate) struct Shuffle {
     pub(crate) moved: Vec<Move>,
     pub(crate) lasts: Vec<u32>,
-    mask: u64,
-    ghost chained: { AreMoves mask moved.items lasts.items },
+    pub(crate) mask: u64,
 }
 
 impl Shuffle {
+    // None was begun. It takes no memory.
+    pub(crate) fn new(alloc: Global) -> Shuffle {
+        Shuffle {
+            moved: Vec::new(alloc),
+            lasts: Vec::new(alloc),
+            mask: 0,
+        }
+    }
+
     // Each unit stands at its own position. There is room for so many draws, and twice as many
     // classes at least: in these vectors, of which only the room is used.
-    pub(crate) fn begin(
-        mut moved: Vec<Move>,
-        lasts: Vec<u32>,
-        draws: usize,
-    ) -> Result<Shuffle, AllocError>
+    pub(crate) fn begin(&mut self, draws: usize) -> Result<(), AllocError>
         requires { draws ≤ 65536 }
-        ensures units { IfOk result (λ shuffle. (p : ℕ) → unit_at shuffle.moved.items p ≡ p) }
-        ensures none { IfOk result (λ shuffle. length shuffle.moved.items ≡ 0) }
-        ensures room { IfOk result (λ shuffle. draws ≤ vec_capacity shuffle.moved) }
+        ensures chained { OnOk result (AreMoves self.new.mask self.new.moved.items self.new.lasts.items) }
+        ensures units { OnOk result ((p : ℕ) → unit_at self.new.moved.items p ≡ p) }
+        ensures none { OnOk result (length self.new.moved.items ≡ 0) }
+        ensures room { OnOk result (draws ≤ vec_capacity self.new.moved) }
     {
         let classes = (2 * draws).next_power_of_two();
-        moved.clear();
-        moved.reserve(draws)?;
-        Ok(Shuffle {
-            moved,
-            lasts: fresh::zeros(lasts, classes)?,
-            mask: classes as u64 - 1,
-        })
+        self.mask = classes as u64 - 1;
+        self.moved.clear();
+        self.moved.reserve(draws)?;
+        fresh::write_zeros(&mut self.lasts, classes)?;
+        Ok(())
     }
 
     // Exchanges position `at` with the one `r` behind it, and gives the unit that then stands there.
     // What stands at `at` isn't kept, since later draws look only behind it.
     #[inline(always)]
     pub(crate) fn draw(&mut self, at: u64, r: u64) -> u64
+        requires chained { AreMoves self.old.mask self.old.moved.items self.old.lasts.items }
         requires within { at + r < 2 ^ 64 }
         requires few { length self.old.moved.items + 1 < 2 ^ 32 }
         requires room { length self.old.moved.items < vec_capacity self.old.moved }
         ensures unit { result ≡ unit_at self.old.moved.items (at + r) }
+        ensures chained { AreMoves self.new.mask self.new.moved.items self.new.lasts.items }
         ensures behind { (p : ℕ) → at < p → unit_at self.new.moved.items p ≡ swapped (unit_at self.old.moved.items) (at + r) at p }
         ensures moves { length self.new.moved.items ≡ length self.old.moved.items + 1 }
         ensures kept { vec_capacity self.new.moved ≡ vec_capacity self.old.moved }
@@ -69,6 +74,7 @@ impl Shuffle {
     // The unit at a position.
     #[inline(always)]
     fn unit(&self, place: u64) -> u64
+        requires { AreMoves self.now.mask self.now.moved.items self.now.lasts.items }
         ensures { result ≡ unit_at self.now.moved.items place }
     {
         let mut number = self.lasts[(place & self.mask) as usize];
@@ -85,8 +91,10 @@ impl Shuffle {
     // Moves a unit to a position.
     #[inline(always)]
     fn keep(&mut self, place: u64, unit: u64)
+        requires chained { AreMoves self.old.mask self.old.moved.items self.old.lasts.items }
         requires few { length self.old.moved.items + 1 < 2 ^ 32 }
         requires room { length self.old.moved.items < vec_capacity self.old.moved }
+        ensures chained { AreMoves self.new.mask self.new.moved.items self.new.lasts.items }
         ensures units { (p : ℕ) → unit_at self.new.moved.items p ≡ (if p == place then unit else unit_at self.old.moved.items p) }
         ensures moves { length self.new.moved.items ≡ length self.old.moved.items + 1 }
         ensures kept { vec_capacity self.new.moved ≡ vec_capacity self.old.moved }

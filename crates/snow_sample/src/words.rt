@@ -1,40 +1,30 @@
-ghost use Rattle.std.specs.Prelude.{◌≡◌, ◌+◌, ◌^◌, ◌<◌, ◌≤◌, [], ◌++◌, length, drop, vec_len, vec_capacity, OnOk, OnErr, IfSome, IfNone};
-ghost use Rattle.std.specs.Option.{option_map};
-ghost use Rattle.snow_sample.specs.Words.{choice, reduced, IsRest};
+ghost use Rattle.std.specs.Prelude.{◌≡◌, ◌+◌, ◌≤◌, [], ◌++◌, length, Ok, IfErr, OnOk, OnErr};
+ghost use Rattle.snow_sample.specs.Roster.{total_weight};
+ghost use Rattle.snow_sample.specs.Sampling.{sample_of, IsFault, draw_count, AreOfDistinctNodes};
 
+use crate::draws::Draws;
+use crate::line::Line;
 use crate::room::Room;
+use crate::roster::Roster;
+use crate::sampling::{SampleFault, draw_all, draw_one};
 use std::alloc::{AllocError, Global};
 use std::marker::Model;
-use std::mem;
-
-// The low 63 bits of a word.
-const LOW_BITS: u64 = 0x7fff_ffff_ffff_ffff;
-
-// Where more words are left, eight times so many that were taken are enough to move them.
-const FEW: usize = 8_192;
-
-// So many words are copied at a time.
-const SOME: usize = 256;
 
 /// Random words, first in first out, at most 65,536 of them. Contracts see the list of them.
 ///
 /// The room of a sample stays with the words that it took, for the next one.
 #[derive(Debug, Drop)]
 pub struct Words {
-    // So many in front were taken. They go where words are appended and few are left beside them.
-    words: Vec<u64>,
-    taken: usize,
+    line: Line,
     room: Room,
 }
 
 impl Model for Words {
-    ghost use Rattle.std.specs.Prelude.{ℕ, ◌-◌, ◌≤◌, List, drop, length};
+    ghost use Rattle.std.specs.Prelude.{ℕ, List};
 
     ghost Value = { List ℕ };
 
-    ghost view = { λ a. drop a.taken a.words.items };
-
-    ghost invariant = { λ a. (a.taken ≤ length a.words.items) × (length a.words.items - a.taken ≤ 65536) };
+    ghost view = { λ a. a.line };
 }
 
 impl Words {
@@ -43,8 +33,7 @@ impl Words {
         ensures { result ≡ [] }
     {
         Words {
-            words: Vec::new(alloc),
-            taken: 0,
+            line: Line::new(alloc),
             room: Room::new(alloc),
         }
     }
@@ -56,19 +45,7 @@ impl Words {
         ensures ok { OnOk result (self.new ≡ self.old ++ words.now) }
         ensures err { OnErr result (self.new ≡ self.old) }
     {
-        self.close_up();
-        append(&mut self.words, words)
-    }
-
-    // Moves the words that are left to the front, where many times as many were taken: so hardly a
-    // word is moved for each that is taken.
-    fn close_up(&mut self)
-        ensures { self.new ≡ self.old }
-    {
-        if self.taken / 8 > self.len().min(FEW) {
-            cut_front(&mut self.words, self.taken);
-            self.taken = 0;
-        }
+        self.line.push_all(words)
     }
 
     /// How many words there are.
@@ -76,95 +53,27 @@ impl Words {
         ensures len { result ≡ length self.now }
         ensures small { result ≤ 65536 }
     {
-        self.words.len() - self.taken
+        self.line.len()
     }
 
-    // Takes out the room that the last sample left.
-    pub(crate) fn take_room(&mut self, alloc: Global) -> Room
-        ensures { self.new ≡ self.old }
+    // Draws `k` units, at most all, and counts the draws of their nodes. One draw needs no room.
+    #[inline(always)]
+    pub(crate) fn draw(
+        &mut self,
+        roster: &Roster,
+        k: u32,
+        out: &mut Draws,
+    ) -> Result<(), SampleFault>
+        requires enough { k ≤ total_weight roster.now }
+        requires empty { out.old ≡ [] }
+        ensures sample { OnOk result (sample_of roster.now k self.old ≡ Ok (out.new, self.new)) }
+        ensures fault { IfErr result (λ fault. IsFault (sample_of roster.now k self.old) self.old fault self.new) }
+        ensures counts { OnOk result (draw_count out.new ≡ k) }
+        ensures nodes { OnOk result (AreOfDistinctNodes out.new) }
     {
-        mem::replace(&mut self.room, Room::new(alloc))
-    }
-
-    // Leaves the room of a sample for the next.
-    pub(crate) fn leave_room(&mut self, room: Room)
-        ensures { self.new ≡ self.old }
-    {
-        self.room = room;
-    }
-
-    // A number from 0 to `n` by the words at the front, which are taken out. There is none where a
-    // word past the last is asked for; no word is left then. Where `n + 1` is a power of two no word
-    // is passed over, and the remainder is the bits that `n` has.
-    pub(crate) fn choose(&mut self, n: u64) -> Option<u64>
-        requires { n + 1 < 2 ^ 63 }
-        ensures chosen { choice n self.old ≡ option_map (λ r. (r, self.new)) result }
-        ensures out { IfNone result (self.new ≡ []) }
-        ensures within { IfSome result (λ r. r ≤ n) }
-        ensures rest { IsRest self.old self.new }
-        ensures fewer { IfSome result (λ r. length self.new < length self.old) }
-    {
-        reduce(self.words.as_slice(), &mut self.taken, n)
-    }
-}
-
-// The low 63 bits of the first word from a place on that isn't passed over, modulo `n + 1`. The
-// place is then behind that word, or behind all.
-fn reduce(words: &[u64], at: &mut usize, n: u64) -> Option<u64>
-    requires few { n + 1 < 2 ^ 63 }
-    requires begins { at.old ≤ length words.now }
-    ensures reduced { reduced n (drop at.old words.now) ≡ option_map (λ r. (r, drop at.new words.now)) result }
-    ensures out { IfNone result (at.new ≡ length words.now) }
-    ensures within { IfSome result (λ r. r ≤ n) }
-    ensures ends { at.new ≤ length words.now }
-    ensures further { IfSome result (λ r. at.old < at.new) }
-    ensures rest { IsRest (drop at.old words.now) (drop at.new words.now) }
-{
-    while *at < words.len() {
-        let value = words[*at] & LOW_BITS;
-        *at += 1;
-        let r = value % (n + 1);
-        // A value is good where all values with its quotient are below 2^63.
-        if value - r <= LOW_BITS - n {
-            return Some(r);
+        if k == 1 {
+            return draw_one(roster, &mut self.line, out);
         }
+        draw_all(roster, k, &mut self.line, &mut self.room, out)
     }
-    None
-}
-
-// Takes so many words off the front.
-fn cut_front(words: &mut Vec<u64>, taken: usize)
-    requires { taken ≤ length words.old.items }
-    ensures { words.new.items ≡ drop taken words.old.items }
-{
-    let left = words.len() - taken;
-    words.copy_within(taken.., 0);
-    words.truncate(left);
-}
-
-// Appends all words, or none where there is no memory for them.
-fn append(room: &mut Vec<u64>, words: &[u64]) -> Result<(), AllocError>
-    ensures ok { OnOk result (room.new.items ≡ room.old.items ++ words.now) }
-    ensures err { OnErr result (room.new.items ≡ room.old.items) }
-{
-    room.reserve(words.len())?;
-    let mut rest = words;
-    while !rest.is_empty() {
-        let len = rest.len().min(SOME);
-        append_some(room, &rest[..len]);
-        rest = &rest[len..];
-    }
-    Ok(())
-}
-
-// Appends a few words, for which there is room.
-fn append_some(room: &mut Vec<u64>, some: &[u64])
-    requires { vec_len room.old + length some.now ≤ vec_capacity room.old }
-    ensures items { room.new.items ≡ room.old.items ++ some.now }
-    ensures len { vec_len room.new ≡ vec_len room.old + length some.now }
-    ensures capacity { vec_capacity room.old ≤ vec_capacity room.new }
-{
-    let taken = room.extend_from_slice(some);
-    prove!(taken.is_ok());
-    let _ = taken;
 }

@@ -8,7 +8,7 @@ use Rattle.snow_sample.proofs.sampling.draw_each.Goals as goal
 
 pub loop-j-init : goal.loop-j-init
 loop-j-init c =
-    rw c.requires.empty (drawing_begins c.args.roster.now c.args.k c.args.words.now (unit_at c.args.shuffle.now.moved.items) c.requires.units, c.requires.slots, c.requires.none, omega arith, refl)
+    rw c.requires.empty (drawing_begins c.args.roster.now c.args.k c.args.words.now (unit_at c.args.shuffle.now.moved.items) c.requires.units, c.requires.slots, c.requires.none, omega arith, refl, c.requires.chained)
 
 pub returns-in_default-clause-fault : goal.returns-in_default-clause-fault
 returns-in_default-clause-fault c = (
@@ -38,6 +38,7 @@ loop-j-preserved c = (
   omega (arith, c.loop-j.invariant.2, c.draw-unit.ensures.moves),
   omega (arith, c.loop-j.invariant.3, c.in-Some.ensures.fewer),
   c.draw-unit.ensures.kept ∙ c.loop-j.invariant.4,
+  c.draw-unit.ensures.chained,
 )
 
 pub returns-clause-sample : goal.returns-clause-sample

@@ -1,7 +1,7 @@
 -- The draws so far are made, each took a word, and each node's slot has their place.
 use Rattle.std.proofs.Common.{◌≡◌, ◌+◌, ◌≤◌, length}
 use Rattle.std.specs.Vec.{vec_capacity}
-use Rattle.snow_sample.specs.Kept.{unit_at, HasSlots}
+use Rattle.snow_sample.specs.Kept.{unit_at, AreMoves, HasSlots}
 use Rattle.snow_sample.proofs.Drawing.{Drawing}
 use Rattle.snow_sample.proofs.sampling.draw_each.Given as goal
 
@@ -10,3 +10,4 @@ invariant-loop-j l =
     Drawing l.roster l.k l.j l.initial.words l.words (unit_at l.shuffle.moved.items) l.out × HasSlots l.roster l.places.slots.items l.out
     × (length l.shuffle.moved.items ≡ l.j) × (l.j + length l.words ≤ length l.initial.words)
     × (vec_capacity l.shuffle.moved ≡ vec_capacity l.initial.shuffle.moved)
+    × AreMoves l.shuffle.mask l.shuffle.moved.items l.shuffle.lasts.items

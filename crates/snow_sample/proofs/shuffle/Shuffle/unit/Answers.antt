@@ -7,8 +7,8 @@ use Rattle.snow_sample.proofs.shuffle.Shuffle.unit.Goals as goal
 pub loop-number-init : goal.loop-number-init
 loop-number-init c =
     let self = c.args.self.now in
-    let within = within_classes self.mask self.moved.items self.lasts.items c.args.place self.chained in
-    walk_to self.mask self.moved.items self.lasts.items c.args.place c.index-number.result.now self.chained
+    let within = within_classes self.mask self.moved.items self.lasts.items c.args.place c.requires in
+    walk_to self.mask self.moved.items self.lasts.items c.args.place c.index-number.result.now c.requires
     (get_or_read self.lasts.items (bit_and c.args.place self.mask) c.index-number.result.now within c.index-number.ensures 0)
 
 pub returns-then-last-place : goal.returns-then-last-place
@@ -21,13 +21,13 @@ pub loop-number-preserved : goal.loop-number-preserved
 loop-number-preserved c =
     let self = c.args.self.now in
     (walk_past self.mask self.moved.items self.lasts.items c.args.place c.loop-number.number c.index-last.result.now
-    self.chained c.loop-number.invariant c.loop-number-test.true c.index-last.ensures c.if-last-place.false).0
+    c.requires c.loop-number.invariant c.loop-number-test.true c.index-last.ensures c.if-last-place.false).0
 
 pub loop-number-smaller : goal.loop-number-smaller
 loop-number-smaller c =
     let self = c.args.self.now in
     (walk_past self.mask self.moved.items self.lasts.items c.args.place c.loop-number.number c.index-last.result.now
-    self.chained c.loop-number.invariant c.loop-number-test.true c.index-last.ensures c.if-last-place.false).1
+    c.requires c.loop-number.invariant c.loop-number-test.true c.index-last.ensures c.if-last-place.false).1
 
 pub returns : goal.returns
 returns c = walk_ends c.args.self.now.mask c.args.self.now.moved.items c.args.place c.loop-number.number c.loop-number.invariant c.loop-number-test.false

@@ -1,7 +1,7 @@
 -- The words so far are appended, and the others have room.
 use Rattle.std.proofs.Common.{◌≡◌, ◌+◌, ◌≤◌, ◌++◌, length}
 use Rattle.std.specs.Vec.{vec_len, vec_capacity}
-use Rattle.snow_sample.proofs.words.append.Given as goal
+use Rattle.snow_sample.proofs.line.append.Given as goal
 
 abbrev pub invariant-loop-rest : goal.invariant-loop-rest
 invariant-loop-rest l =

@@ -1,7 +1,7 @@
 -- Some words more are appended.
 use Rattle.std.proofs.Common.{ℕ, List, ◌++◌, take, drop, append_assoc, take-append-drop, ap, ◌∙◌, arith}
 use Rattle.std.proofs.lemmas.List.{length-drop, length-take-le, take_rest}
-use Rattle.snow_sample.proofs.words.append.Goals as goal
+use Rattle.snow_sample.proofs.line.append.Goals as goal
 
 pub loop-rest-preserved : goal.loop-rest-preserved
 loop-rest-preserved c =

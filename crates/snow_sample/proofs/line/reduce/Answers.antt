@@ -3,7 +3,7 @@ use Rattle.std.proofs.Common.{◌≡◌, ◌+◌, ◌∷◌, drop, slice_index, 
 use Rattle.std.proofs.lemmas.List.{drop_more}
 use Rattle.snow_sample.specs.Words.{reduced}
 use Rattle.snow_sample.proofs.Choosing.{rest_whole, rest_more, taken, passed}
-use Rattle.snow_sample.proofs.words.reduce.Goals as goal
+use Rattle.snow_sample.proofs.line.reduce.Goals as goal
 
 pub loop-at-init : goal.loop-at-init
 loop-at-init c = (c.requires.begins, omega arith, refl, rest_whole (drop c.args.at.now c.args.words.now))

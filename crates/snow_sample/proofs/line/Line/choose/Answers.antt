@@ -2,7 +2,7 @@
 use Rattle.std.proofs.Common.{sym, ap, ◌∙◌}
 use Rattle.snow_sample.specs.Words.{reduced}
 use Rattle.snow_sample.proofs.Choosing.{choice_reduced}
-use Rattle.snow_sample.proofs.words.Words.choose.Goals as goal
+use Rattle.snow_sample.proofs.line.Line.choose.Goals as goal
 
 pub returns-clause-chosen : goal.returns-clause-chosen
 returns-clause-chosen c =

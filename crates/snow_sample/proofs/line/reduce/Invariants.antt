@@ -1,7 +1,7 @@
 -- The words so far were passed over.
 use Rattle.std.proofs.Common.{◌≡◌, ◌-◌, ◌≤◌, length, drop}
 use Rattle.snow_sample.specs.Words.{reduced, IsRest}
-use Rattle.snow_sample.proofs.words.reduce.Given as goal
+use Rattle.snow_sample.proofs.line.reduce.Given as goal
 
 abbrev pub invariant-loop-at : goal.invariant-loop-at
 invariant-loop-at l =
