@@ -1,4 +1,4 @@
-ghost use Rattle.std.specs.Prelude.{◌≡◌, ℕ, ◌+◌, ◌^◌, ◌<◌, ◌≤◌, List, [], ◌∷◌, ◌++◌, length, map, None, Some, bytes_eq, if◌then◌else◌, IfOk, OnOk};
+ghost use Rattle.std.specs.Prelude.{◌≡◌, ℕ, ◌+◌, ◌^◌, ◌<◌, ◌≤◌, List, [], ◌∷◌, ◌++◌, length, map, None, Some, bytes_eq, if◌then◌else◌, true, vec_capacity, IfOk, OnOk};
 ghost use Rattle.std.specs.Option.{is_some};
 ghost use Rattle.snow_poll.specs.Awaited.{counts_at, draw_of, word_at, spread_of, class_of, AreWaits, IsNumberOf};
 
@@ -32,7 +32,9 @@ pub(crate) struct Awaited {
 impl Awaited {
     // No node, and room for so many. Few polls need it made, so it stands apart.
     #[inline(never)]
-    pub(crate) fn new(alloc: Global, nodes: usize) -> Result<Awaited, AllocError> {
+    pub(crate) fn new(alloc: Global, nodes: usize) -> Result<Awaited, AllocError>
+        ensures { IfOk result (λ made. nodes ≤ vec_capacity made.waits) }
+    {
         let classes = nodes.min(MOST_CLASSES).next_power_of_two();
         let mut waits = Vec::new(alloc);
         waits.reserve(nodes)?;
@@ -44,13 +46,17 @@ impl Awaited {
     }
 
     // Whether so many nodes have room, and classes enough.
-    pub(crate) fn fits(&self, nodes: usize) -> bool {
+    pub(crate) fn fits(&self, nodes: usize) -> bool
+        ensures { result ≡ true → nodes ≤ vec_capacity self.now.waits }
+    {
         nodes <= self.waits.capacity() && nodes.min(MOST_CLASSES) <= self.lasts.len()
     }
 
     // Makes room for so many nodes. Those that were awaited are let go.
     #[inline(never)]
-    pub(crate) fn grow(&mut self, alloc: Global, nodes: usize) -> Result<(), AllocError> {
+    pub(crate) fn grow(&mut self, alloc: Global, nodes: usize) -> Result<(), AllocError>
+        ensures { OnOk result (nodes ≤ vec_capacity self.new.waits) }
+    {
         *self = Awaited::new(alloc, nodes)?;
         Ok(())
     }
@@ -59,27 +65,30 @@ impl Awaited {
     pub(crate) fn clear(&mut self)
         ensures counts { (node : List ℕ) → counts_at self.new.waits.items node ≡ None }
         ensures none { self.new.waits.items ≡ [] }
+        ensures room { vec_capacity self.new.waits ≡ vec_capacity self.old.waits }
     {
         self.waits.clear();
         self.lasts.fill(0);
     }
 
-    // Awaits a node, drawn so often.
-    pub(crate) fn insert(&mut self, node: &NodeId, count: u32) -> Result<(), AllocError>
-        requires { length self.old.waits.items + 1 < 2 ^ 32 }
-        ensures counts { OnOk result ((other : List ℕ) → counts_at self.new.waits.items other ≡ (if bytes_eq node.now other then Some count else counts_at self.old.waits.items other)) }
-        ensures drawn { OnOk result (map draw_of self.new.waits.items ≡ map draw_of self.old.waits.items ++ record { node = node.now; count = count } ∷ []) }
+    // Awaits a node, drawn so often, for which there is room.
+    #[inline(always)]
+    pub(crate) fn insert(&mut self, node: &NodeId, count: u32)
+        requires few { length self.old.waits.items + 1 < 2 ^ 32 }
+        requires room { length self.old.waits.items < vec_capacity self.old.waits }
+        ensures counts { (other : List ℕ) → counts_at self.new.waits.items other ≡ (if bytes_eq node.now other then Some count else counts_at self.old.waits.items other) }
+        ensures drawn { map draw_of self.new.waits.items ≡ map draw_of self.old.waits.items ++ record { node = node.now; count = count } ∷ [] }
+        ensures room { vec_capacity self.new.waits ≡ vec_capacity self.old.waits }
     {
         let class = class(node, self.mask);
         let before = self.lasts[class];
-        self.waits.push(Wait {
+        self.waits.push_reserved(Wait {
             node: *node,
             count,
             before,
             replied: false,
-        })?;
+        });
         self.lasts[class] = self.waits.len() as u32;
-        Ok(())
     }
 
     // Whether a node is awaited.

@@ -85,16 +85,20 @@ impl Poll {
 
     /// Counts the reply of a node, if it awaits one: whether it did. Else nothing changes. It takes
     /// no memory.
-    pub(crate) fn count(&mut self, node: &NodeId, id: Option<Id>) -> bool
+    #[inline(always)]
+    pub(crate) fn count(&mut self, node: &NodeId, id: &Option<Id>) -> bool
         ensures awaited { result ≡ awaits self.old node.now }
-        ensures poll { self.new ≡ replied self.old node.now id }
+        ensures poll { self.new ≡ replied self.old node.now id.now }
     {
         let Some(times) = self.nodes.awaited.remove(node) else {
             return false;
         };
         self.outstanding -= times;
-        self.most = tally::give(&mut self.votes, self.most, &id, times);
-        self.nodes.replies.push_reserved(Reply { node: *node, id });
+        self.most = tally::give(&mut self.votes, self.most, id, times);
+        self.nodes.replies.push_reserved(Reply {
+            node: *node,
+            id: *id,
+        });
         true
     }
 

@@ -153,7 +153,7 @@ impl Polls {
         if !self.has_in_front(number) {
             return self.vote_behind(number, node, id);
         }
-        if !self.polls[0].count(node, id) {
+        if !self.polls[0].count(node, &id) {
             return Answered::NotAwaited;
         }
         Answered::Counted
@@ -179,7 +179,7 @@ impl Polls {
         let Some(at) = find_place(&self.polls, &self.turns, number) else {
             return Answered::NotAwaited;
         };
-        if !self.polls[at].count(node, id) {
+        if !self.polls[at].count(node, &id) {
             return Answered::NotAwaited;
         }
         Answered::Counted

@@ -62,21 +62,23 @@ impl Nodes {
             self.awaited.grow(alloc, draws.len())?;
         }
         self.awaited.clear();
-        await_all(&mut self.awaited, draws)
+        await_all(&mut self.awaited, draws);
+        Ok(())
     }
 }
 
-// Awaits the nodes of these draws, each as often as it was drawn, and no other.
-fn await_all(awaited: &mut Awaited, draws: &[Draw]) -> Result<(), AllocError>
+// Awaits the nodes of these draws, for which there is room, each as often as it was drawn, and no
+// other.
+fn await_all(awaited: &mut Awaited, draws: &[Draw])
     requires counts { (node : List ℕ) → counts_at awaited.old.waits.items node ≡ None }
     requires none { awaited.old.waits.items ≡ [] }
     requires nodes { AreOfDistinctNodes draws.now }
     requires few { length draws.now < 2 ^ 32 }
-    ensures times { OnOk result (HasTimes (counts_at awaited.new.waits.items) draws.now) }
-    ensures drawn { OnOk result (map draw_of awaited.new.waits.items ≡ draws.now) }
+    requires room { length draws.now ≤ vec_capacity awaited.old.waits }
+    ensures times { HasTimes (counts_at awaited.new.waits.items) draws.now }
+    ensures drawn { map draw_of awaited.new.waits.items ≡ draws.now }
 {
     for draw in draws {
-        awaited.insert(&draw.node, draw.count)?;
+        awaited.insert(&draw.node, draw.count);
     }
-    Ok(())
 }
