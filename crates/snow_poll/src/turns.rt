@@ -56,8 +56,19 @@ impl Turns {
         ensures turns { (m : ℕ) → get nat_cmp self.new.turns m ≡ (if number == m then None else get nat_cmp self.old.turns m) }
         ensures gone { self.new.gone ≡ turn self.old.gone 1 }
     {
-        let _ = self.turns.remove(&number);
+        if !self.turns.is_empty() {
+            self.forget(number);
+        }
         self.gone = self.gone.wrapping_add(1);
+    }
+
+    // Keeps the turn of a number no longer. Where one poll runs at a time there is none.
+    #[inline(never)]
+    fn forget(&mut self, number: u32)
+        ensures turns { (m : ℕ) → get nat_cmp self.new.turns m ≡ (if number == m then None else get nat_cmp self.old.turns m) }
+        ensures gone { self.new.gone ≡ self.old.gone }
+    {
+        let _ = self.turns.remove(&number);
     }
 }
 
