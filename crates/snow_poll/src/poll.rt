@@ -11,6 +11,7 @@ use snow_flake::Params;
 use snow_sample::Draws;
 use std::alloc::{AllocError, Global};
 use std::marker::Model;
+use std::mem;
 
 /// A poll under way. Contracts see its number, its draws, and the replies in order of arrival.
 ///
@@ -48,7 +49,7 @@ impl Poll {
     pub(crate) fn begin(
         alloc: Global,
         left: Option<Box<Nodes>>,
-        mut votes: Bag,
+        spare: &mut Bag,
         number: u32,
         draws: &Draws,
         outstanding: u32,
@@ -58,12 +59,13 @@ impl Poll {
         ensures { IfOk result (λ made. made ≡ new_poll number draws.now) }
     {
         let drawn = draws.list();
-        votes.clear();
-        votes.reserve(drawn.len())?;
+        let nodes = Nodes::of(alloc, left, drawn)?;
+        spare.clear();
+        spare.reserve(drawn.len())?;
         Ok(Poll {
             number,
-            nodes: Nodes::of(alloc, left, drawn)?,
-            votes,
+            nodes,
+            votes: mem::replace(spare, Bag::new(alloc)),
             most: 0,
             outstanding,
         })

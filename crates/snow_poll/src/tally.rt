@@ -11,6 +11,7 @@ const FEW: usize = 8;
 // Gives votes, for which there is room, to what a reply names, and answers the most that one
 // identifier has then. Before, one has `most`.
 #[tactic(auto, using(crate::proofs::Counting::most_added))]
+#[inline(always)]
 pub(crate) fn give(votes: &mut Bag, most: u32, id: &Option<Id>, times: u32) -> u32
     requires some { 1 ≤ times }
     requires total { total_count votes.old.list + times < 2 ^ 32 }
