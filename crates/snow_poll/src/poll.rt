@@ -119,10 +119,17 @@ impl Poll {
         ensures within { received self + outstanding self ≤ draw_count self.draws }
     {
         let Poll { nodes, votes, .. } = self;
-        *left = Some(nodes);
+        if let Some(older) = mem::replace(left, Some(nodes)) {
+            let_go(older);
+        }
         votes
     }
 }
+
+// Lets go what a poll kept of its nodes. That is rare, and it stands apart so that others don't pay
+// for it.
+#[inline(never)]
+fn let_go(_: Box<Nodes>) {}
 
 // Whether a poll is closed that can reach so many votes, of which so many are outstanding, and where
 // one identifier has the most.

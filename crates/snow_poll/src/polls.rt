@@ -211,9 +211,8 @@ impl Polls {
         }
     }
 
-    // Takes out the front poll, which is closed. It stands apart, so that a reply which closes no poll
-    // doesn't pay for it.
-    #[inline(never)]
+    // Takes out the front poll, which is closed.
+    #[inline(always)]
     fn take_front(&mut self) -> Option<Closed>
         requires closed { is_some (finished self.old.parameters self.old.polls) ≡ true }
         requires good { AreGood self.old.parameters }
