@@ -121,10 +121,10 @@ impl Polls {
         if self.polls.len() >= MOST_POLLS {
             return Err(PollFault::Full);
         }
+        self.polls.reserve(1)?;
         let left = self.left.take();
         let k = self.params.k();
         let poll = Poll::begin(self.alloc, left, &mut self.spare, number, draws, k)?;
-        self.polls.reserve(1)?;
         self.turns.enter(number, self.polls.len())?;
         self.polls.push_back_reserved(poll);
         Ok(())
