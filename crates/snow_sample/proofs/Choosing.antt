@@ -1,5 +1,5 @@
 -- Lemmas on how words choose a number: powers of two, and the words that are left.
-use Rattle.std.proofs.Common.{◌≡◌, ℕ, ◌+◌, ◌*◌, ◌/◌, ◌-◌, ◌%◌, ◌^◌, ◌<◌, ◌≤◌, Bool, true, false, List, [], ◌∷◌, ◌++◌, refl, sym, ap, ◌∙◌, arith, inl, inr, ◌==◌, Option, Some, None, cond, nat_le, bit_and, append_assoc}
+use Rattle.std.proofs.Common.{◌≡◌, ℕ, ◌+◌, ◌*◌, ◌/◌, ◌-◌, ◌%◌, ◌^◌, ◌<◌, ◌≤◌, Bool, true, false, List, [], ◌∷◌, ◌++◌, length, refl, sym, ap, ◌∙◌, arith, inl, inr, ◌==◌, Option, Some, None, cond, nat_le, bit_and, append_assoc}
 use Rattle.std.specs.List.{list_any, range_with_len}
 use Rattle.std.proofs.lemmas.Bool.{cases_Bool, cases_lt, cond-true, cond-false, eqb-true, le-leb, lt-leb}
 use Rattle.std.proofs.lemmas.List.Folds.{Any-from_list_any}
@@ -129,4 +129,33 @@ choice_within n r words left is =
     elim (is_power (n + 1)) as (λ (power : Bool). cond power (masked n words) (reduced n words) ≡ Some (r, left) → r ≤ n) [
       | true ↦ within_masked n r words left
       | false ↦ within_reduced n r words left
+    ] is
+
+-- ---- a choice takes a word
+
+-- how many words an answer leaves
+abbrev left_of : Option (ℕ × List ℕ) → ℕ
+left_of None = 0
+left_of (Some c) = length c.1
+
+-- fewer words are left by a remainder
+fewer_reduced : (n r : ℕ) (words left : List ℕ) → reduced n words ≡ Some (r, left) → length left < length words
+fewer_reduced n r [] left is = absurd (cc)
+fewer_reduced n r (word ∷ words) left is =
+    let value = bit_and word (2 ^ 63 - 1) in
+    elim (nat_le value (2 ^ 63 - 1 - 2 ^ 63 % (n + 1))) as (λ (good : Bool). cond good (Some (value % (n + 1), words)) (reduced n words) ≡ Some (r, left) → length left < length (word ∷ words)) [
+      | true ↦ λ h. let same : length words ≡ length left = ap left_of h in omega (arith, same)
+      | false ↦ λ h. omega (arith, fewer_reduced n r words left h)
+    ] is
+
+-- and by some bits
+fewer_masked : (n r : ℕ) (words left : List ℕ) → masked n words ≡ Some (r, left) → length left < length words
+fewer_masked n r [] left is = absurd (cc)
+fewer_masked n r (word ∷ words) left is = let same : length words ≡ length left = ap left_of is in omega (arith, same)
+
+pub choice_fewer : (n r : ℕ) (words left : List ℕ) → choice n words ≡ Some (r, left) → length left < length words
+choice_fewer n r words left is =
+    elim (is_power (n + 1)) as (λ (power : Bool). cond power (masked n words) (reduced n words) ≡ Some (r, left) → length left < length words) [
+      | true ↦ fewer_masked n r words left
+      | false ↦ fewer_reduced n r words left
     ] is

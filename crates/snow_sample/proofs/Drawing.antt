@@ -1,5 +1,5 @@
 -- Lemmas on drawing: what positions later draws look at, and how one draw more goes on.
-use Rattle.std.proofs.Common.{◌≡◌, ℕ, zero, suc, ◌+◌, ◌-◌, ◌<◌, ◌≤◌, cond, List, [], ◌∷◌, None, Some, Option, Result, Ok, Err, map, fold, ◌==◌, refl, sym, ap, ◌∙◌, subst, arith, inl, inr}
+use Rattle.std.proofs.Common.{◌≡◌, ℕ, zero, suc, ◌+◌, ◌-◌, ◌<◌, ◌≤◌, cond, List, [], ◌∷◌, length, None, Some, Option, Result, Ok, Err, map, fold, ◌==◌, refl, sym, ap, ◌∙◌, subst, arith, inl, inr}
 use Rattle.std.specs.Option.{option_and_then}
 use Rattle.std.proofs.lemmas.Bool.{cases_eq, cond-true, cond-false, cond_both, eq-eqb, ne_eqb, le-ltb}
 use Rattle.snow_sample.specs.declared.draws.Draw.{Draw}
@@ -9,7 +9,7 @@ use Rattle.snow_sample.specs.declared.sampling.SampleFault.TheVariants.{WordsOut
 use Rattle.snow_sample.specs.Roster.{total_weight, owner}
 use Rattle.snow_sample.specs.Words.{choice, IsRest}
 use Rattle.snow_sample.specs.Sampling.{swapped, with_unit, drawn_from, drawn, counted, or_out, sample_of, draw_count, AreOfDistinctNodes}
-use Rattle.snow_sample.proofs.Choosing.{rest_whole, rest_rest}
+use Rattle.snow_sample.proofs.Choosing.{rest_whole, rest_rest, choice_fewer}
 use Rattle.snow_sample.proofs.Counting.{count_more, distinct_more}
 
 -- ---- positions
@@ -185,3 +185,23 @@ one_fails nodes words enough none =
     let own : ℕ → ℕ = λ p. p in
     let all : total_weight nodes - 1 - 0 ≡ total_weight nodes - 1 = omega arith in
     drawing_fails nodes 1 0 words words own [] (drawing_begins nodes 1 words own (λ p. refl)) (omega arith) enough (rw all none)
+
+-- ---- too few words
+
+-- each draw takes a word
+drawn_short : (k total j : ℕ) (units : ℕ → ℕ) (words : List ℕ) → length words < k → drawn_from k total j units words ≡ None
+drawn_short zero total j units words few = absurd (omega arith)
+drawn_short (suc k) total j units words few =
+    drawn_step k total j units words
+    ∙ elim (choice (total - 1 - j) words) as (λ o. choice (total - 1 - j) words ≡ o → option_and_then (after_choice k total j units) o ≡ None) [
+      | None ↦ λ is. refl
+      | Some c ↦ λ is.
+          let fewer : length c.1 < length words = choice_fewer (total - 1 - j) c.0 words c.1 is in
+          ap (with_unit (swapped units (j + c.0) j j)) (drawn_short k total (j + 1) (swapped units (j + c.0) j) c.1 (omega (arith, fewer)))
+    ] refl
+
+-- so where there are fewer words than draws, they run out
+pub short_fails : (nodes : List Node) (k : ℕ) (words : List ℕ) → length words < k → k ≤ total_weight nodes → sample_of nodes k words ≡ Err WordsOut
+short_fails nodes k words few enough =
+    cond-false _ _ (or_out nodes (drawn k (total_weight nodes) words)) (le-ltb (total_weight nodes) k enough)
+    ∙ ap (or_out nodes) (drawn_short k (total_weight nodes) 0 (λ unit. unit) words few)

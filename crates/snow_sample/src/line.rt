@@ -73,6 +73,13 @@ impl Line {
         self.words.len() - self.taken
     }
 
+    // Takes all words out.
+    pub(crate) fn clear(&mut self)
+        ensures { self.new ≡ [] }
+    {
+        self.taken = self.words.len();
+    }
+
     // A number from 0 to `n` by the words at the front, which are taken out. There is none where a
     // word past the last is asked for; no word is left then. Where `n + 1` is a power of two no word
     // is passed over, and the remainder is the bits that `n` has.

@@ -102,8 +102,12 @@ pub(crate) fn draw_all(
     ensures counts { OnOk result (draw_count out.new ≡ k) }
     ensures nodes { OnOk result (AreOfDistinctNodes out.new) }
 {
-    // Each draw takes a word.
-    let draws = words.len().min(k as usize);
+    // Each draw takes a word, so that none is made where they can't suffice.
+    let draws = k as usize;
+    if words.len() < draws {
+        words.clear();
+        return Err(SampleFault::WordsOut);
+    }
     out.reserve(draws.min(roster.nodes().len()))?;
     room.shuffle.begin(draws)?;
     room.places.begin(roster)?;

@@ -2,7 +2,12 @@
 use Rattle.std.proofs.Common.{arith}
 use Rattle.std.proofs.lemmas.Result.{err_from_is_err_and}
 use Rattle.snow_sample.proofs.Choosing.{rest_whole}
+use Rattle.snow_sample.proofs.Drawing.{short_fails}
 use Rattle.snow_sample.proofs.sampling.draw_all.Goals as goal
+
+pub returns-then-len-draws-clause-fault : goal.returns-then-len-draws-clause-fault
+returns-then-len-draws-clause-fault c =
+    (short_fails c.args.roster.now c.args.k c.args.words.now (omega (arith, c.len.ensures.len, c.if-len-draws.true)) c.requires.enough, c.clear.ensures)
 
 pub returns-in_err-reserve-clause-fault : goal.returns-in_err-reserve-clause-fault
 returns-in_err-reserve-clause-fault c =
@@ -21,4 +26,4 @@ returns-in_err-begin-2-clause-fault c =
 
 pub draw_each-requires-clause-room : goal.draw_each-requires-clause-room
 draw_each-requires-clause-room c n few low =
-    omega (arith, few, low, c.min-draws.ensures, c.len.ensures.len, c.in_ok-begin.ensures.room)
+    omega (arith, few, low, c.in_ok-begin.ensures.room)
