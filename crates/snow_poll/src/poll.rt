@@ -49,7 +49,7 @@ impl Poll {
     pub(crate) fn begin(
         alloc: Global,
         left: Option<Box<Nodes>>,
-        spare: &mut Bag,
+        mut votes: Bag,
         number: u32,
         draws: &Draws,
         outstanding: u32,
@@ -59,13 +59,12 @@ impl Poll {
         ensures { IfOk result (λ made. made ≡ new_poll number draws.now) }
     {
         let drawn = draws.list();
-        let nodes = Nodes::of(alloc, left, drawn)?;
-        spare.clear();
-        spare.reserve(drawn.len())?;
+        votes.clear();
+        votes.reserve(drawn.len())?;
         Ok(Poll {
             number,
-            nodes,
-            votes: mem::replace(spare, Bag::new(alloc)),
+            nodes: Nodes::of(alloc, left, drawn)?,
+            votes,
             most: 0,
             outstanding,
         })

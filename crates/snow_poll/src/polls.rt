@@ -14,6 +14,7 @@ use snow_sample::Draws;
 use std::alloc::{AllocError, Global};
 use std::collections::VecDeque;
 use std::marker::Model;
+use std::mem;
 use thiserror::Error;
 
 // How many polls are in the table at most.
@@ -123,8 +124,8 @@ impl Polls {
         }
         self.polls.reserve(1)?;
         let left = self.left.take();
-        let k = self.params.k();
-        let poll = Poll::begin(self.alloc, left, &mut self.spare, number, draws, k)?;
+        let votes = mem::replace(&mut self.spare, Bag::new(self.alloc));
+        let poll = Poll::begin(self.alloc, left, votes, number, draws, self.params.k())?;
         self.turns.enter(number, self.polls.len())?;
         self.polls.push_back_reserved(poll);
         Ok(())
