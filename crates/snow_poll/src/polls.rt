@@ -122,10 +122,10 @@ impl Polls {
         if self.polls.len() >= MOST_POLLS {
             return Err(PollFault::Full);
         }
-        self.polls.reserve(1)?;
         let left = self.left.take();
         let votes = mem::replace(&mut self.spare, Bag::new(self.alloc));
         let poll = Poll::begin(self.alloc, left, votes, number, draws, self.params.k())?;
+        self.polls.reserve(1)?;
         self.turns.enter(number, self.polls.len())?;
         self.polls.push_back_reserved(poll);
         Ok(())

@@ -46,17 +46,6 @@ impl Turns {
         if at == 0 {
             return Ok(());
         }
-        self.keep(number, at)
-    }
-
-    // Keeps the turn of a number, whose poll stands at this place. It stands apart, so that where one
-    // poll runs at a time none pays for it.
-    #[inline(never)]
-    fn keep(&mut self, number: u32, at: usize) -> Result<(), AllocError>
-        ensures kept { OnOk result ((m : ℕ) → get nat_cmp self.new.turns m ≡ (if number == m then Some (turn self.old.gone at) else get nat_cmp self.old.turns m)) }
-        ensures err { OnErr result ((m : ℕ) → get nat_cmp self.new.turns m ≡ get nat_cmp self.old.turns m) }
-        ensures gone { self.new.gone ≡ self.old.gone }
-    {
         let turn = self.gone.wrapping_add(at as u64);
         self.turns.insert(number, turn)?;
         Ok(())

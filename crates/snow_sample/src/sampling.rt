@@ -86,8 +86,9 @@ pub(crate) fn draw_one(
     Ok(())
 }
 
-// Draws `k` units, at most all, and counts the draws of their nodes.
-#[inline(never)]
+// Draws `k` units, at most all, and counts the draws of their nodes. Each draw takes a word, so that
+// none is made where they can't suffice.
+#[inline(always)]
 pub(crate) fn draw_all(
     roster: &Roster,
     k: u32,
@@ -102,12 +103,30 @@ pub(crate) fn draw_all(
     ensures counts { OnOk result (draw_count out.new ≡ k) }
     ensures nodes { OnOk result (AreOfDistinctNodes out.new) }
 {
-    // Each draw takes a word, so that none is made where they can't suffice.
-    let draws = k as usize;
-    if words.len() < draws {
+    if words.len() < k as usize {
         words.clear();
         return Err(SampleFault::WordsOut);
     }
+    draw_more(roster, k, words, room, out)
+}
+
+// The same where some may suffice.
+#[inline(never)]
+fn draw_more(
+    roster: &Roster,
+    k: u32,
+    words: &mut Line,
+    room: &mut Room,
+    out: &mut Draws,
+) -> Result<(), SampleFault>
+    requires enough { k ≤ total_weight roster.now }
+    requires empty { out.old ≡ [] }
+    ensures sample { OnOk result (sample_of roster.now k words.old ≡ Ok (out.new, words.new)) }
+    ensures fault { IfErr result (λ fault. IsFault (sample_of roster.now k words.old) words.old fault words.new) }
+    ensures counts { OnOk result (draw_count out.new ≡ k) }
+    ensures nodes { OnOk result (AreOfDistinctNodes out.new) }
+{
+    let draws = words.len().min(k as usize);
     out.reserve(draws.min(roster.nodes().len()))?;
     room.shuffle.begin(draws)?;
     room.places.begin(roster)?;
