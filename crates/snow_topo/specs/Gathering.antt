@@ -10,7 +10,7 @@ use Rattle.snow_topo.specs.Climbing.{climber_total, id_in}
 abbrev pub count_by : ℕ → List Climber → ℕ
 count_by at climbers = sum_by (λ c. if c.passed == at then c.count else 0) climbers
 
--- those of one child are AlphaConfidence, and all others fewer than AlphaPreference
+-- those of one child are AlphaConfidence, so that all others are fewer than AlphaPreference
 pub record StandsForAll (p : Parameters) (blocks : List Header) (came : List Climber) (one : Vote) : Type 0 where
   pub at : ℕ
   pub id : one.id ≡ id_in (slice_get blocks at)

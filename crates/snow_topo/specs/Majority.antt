@@ -5,7 +5,7 @@ use Rattle.snow_flake.specs.Parameters.{Parameters}
 use Rattle.snow_flake.specs.Alike.{AreAlike}
 use Rattle.snow_topo.specs.Starting.{votes_by, ids_by}
 
--- those for one identifier are AlphaConfidence, and all others fewer than AlphaPreference
+-- those for one identifier are AlphaConfidence, so that all others are fewer than AlphaPreference
 pub record StandsForPoll (p : Parameters) (ids : List (List ℕ)) (one : Vote) : Type 0 where
   pub count : one.count ≡ ids_by (λ id. bytes_eq id one.id) ids
   pub high : p.alpha_confidence ≤ one.count

@@ -52,7 +52,7 @@ fn record_root<R: Rule, L: Ledger>(
     let _k = params.k();
     if has_quorum(params, count) {
         let mut one = no_vote();
-        let is_one = gather(params, tree, ladder, count, &mut one, children);
+        let is_one = gather(params, tree, ladder, &mut one, children);
         root.record(polls, votes_in(is_one, &one, children), steps)
     } else {
         false

@@ -105,30 +105,25 @@ fn count_by(links: &[Link], last: usize, child: usize) -> u32
     count
 }
 
-// One vote that stands for all these, so many in all: where a child has AlphaConfidence of them, and the
-// others together have fewer than AlphaPreference, no counter sees these. The answer is whether there is
-// one.
+// One vote that stands for all these: where a child has AlphaConfidence of them, the others are fewer than
+// AlphaPreference, and no counter sees them. The answer is whether there is one.
 #[inline(always)]
 fn write_main<R: Rule>(
     params: &Params,
     tree: &Tree<Load<R>>,
     links: &[Link],
     last: usize,
-    total: u32,
     one: &mut Vote,
 ) -> bool
     requires linked { AreLinked links.now }
     requires within { last ≤ length links.now }
-    requires total { total ≡ climber_total (chain links.now last) }
+    requires total { climber_total (chain links.now last) ≤ params.now.k }
     ensures { result ≡ true → StandsForAll params.now (blocks_in (tree.now).pending) (chain links.now last) one.new }
 {
+    let _k = params.k();
     let child = main_child(links, last);
     let count = count_by(links, last, child);
     if count < params.alpha_confidence() {
-        return false;
-    }
-    let others = total - count;
-    if others >= params.alpha_preference() {
         return false;
     }
     match tree.at(child) {
@@ -146,11 +141,10 @@ fn gather_many<R: Rule>(
     params: &Params,
     tree: &Tree<Load<R>>,
     ladder: &Ladder,
-    total: u32,
     one: &mut Vote,
     children: &mut Bag,
 ) -> bool
-    requires count { total ≡ climber_total (ladder.now).came }
+    requires total { climber_total (ladder.now).came ≤ params.now.k }
     requires places { length (ladder.now).came ≤ children.old.room + length children.old.list }
     requires placed { All (λ c. c.passed < length (tree.now).pending) (ladder.now).came }
     requires counts { All (λ c. 0 < c.count) (ladder.now).came }
@@ -159,27 +153,27 @@ fn gather_many<R: Rule>(
     ensures total { total_count (gathered result one.new children.new.list) ≤ climber_total (ladder.now).came }
     ensures places { children.old.room + length children.old.list ≤ children.new.room + length children.new.list }
 {
+    let _k = params.k();
     let (links, last) = ladder.came();
-    if write_main(params, tree, links, last, total, one) {
+    if write_main(params, tree, links, last, one) {
         return true;
     }
     gather_all(tree, links, last, children);
     false
 }
 
-/// The votes that were taken off a ladder last, so many in all, and came to a parent, by its children: one
-/// vote where all came by one, or where it does to each counter what all do; else those of the bag. The
-/// answer is whether it is one. It takes no memory where the bag has places.
+/// The votes that were taken off a ladder last, and came to a parent, by its children: one vote where all
+/// came by one, or where it does to each counter what all do; else those of the bag. The answer is whether
+/// it is one. It takes no memory where the bag has places.
 #[inline(always)]
 pub(crate) fn gather<R: Rule>(
     params: &Params,
     tree: &Tree<Load<R>>,
     ladder: &Ladder,
-    total: u32,
     one: &mut Vote,
     children: &mut Bag,
 ) -> bool
-    requires count { total ≡ climber_total (ladder.now).came }
+    requires total { climber_total (ladder.now).came ≤ params.now.k }
     requires places { length (ladder.now).came ≤ children.old.room + length children.old.list }
     requires placed { All (λ c. c.passed < length (tree.now).pending) (ladder.now).came }
     requires counts { All (λ c. 0 < c.count) (ladder.now).came }
@@ -193,7 +187,7 @@ pub(crate) fn gather<R: Rule>(
             write_vote(tree, &climber, one);
             true
         }
-        None => gather_many(params, tree, ladder, total, one, children),
+        None => gather_many(params, tree, ladder, one, children),
     }
 }
 

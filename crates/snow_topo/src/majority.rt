@@ -8,8 +8,15 @@ use snow_flake::Params;
 // So many votes are looked at first.
 const FIRST: usize = 16;
 
-// A vote for what many of the first votes are for, if one is clearly ahead: each vote for another takes one
-// off. Whoever asks counts all.
+// Some bits of an identifier, by its ends. They are enough for a guess.
+#[inline(always)]
+fn some_bits(id: &Id) -> u32 {
+    let bytes = id.as_bytes();
+    u32::from_le_bytes([bytes[0], bytes[1], bytes[30], bytes[31]])
+}
+
+// A vote for what most of the first votes are for, if it is ahead: each vote for another takes one off.
+// Whoever asks counts all.
 #[inline(always)]
 fn guess_main(ids: &[Id]) -> Option<usize>
     requires { 0 < length ids.now }
@@ -17,18 +24,21 @@ fn guess_main(ids: &[Id]) -> Option<usize>
 {
     let few = ids.len().min(FIRST);
     let mut main = 0;
+    let mut bits = some_bits(&ids[0]);
     let mut lead: u32 = 0;
     for at in 0..few {
-        if ids[at] == ids[main] {
+        let others = some_bits(&ids[at]);
+        if others == bits {
             lead = lead.wrapping_add(1);
         } else if lead > 0 {
             lead -= 1;
         } else {
             main = at;
+            bits = others;
             lead = 1;
         }
     }
-    if lead > 2 { Some(main) } else { None }
+    if lead > 1 { Some(main) } else { None }
 }
 
 // How many of these votes are for an identifier.
@@ -46,9 +56,9 @@ fn count_for(ids: &[Id], main: &Id) -> u32
     count
 }
 
-/// One vote that stands for all of a poll, if there is one: where AlphaConfidence are for one identifier,
-/// and fewer than AlphaPreference for all others, no counter sees these. Which it is is guessed from the
-/// first, so that there may be one where none is found.
+/// One vote that stands for all of a poll, if there is one: where AlphaConfidence are for one identifier, all
+/// others are fewer than AlphaPreference, and no counter sees them. Which it is is guessed from the first, so
+/// that there may be one where none is found.
 #[inline(never)]
 pub(crate) fn main_vote(params: &Params, ids: &[Id]) -> Option<Vote>
     requires { length ids.now ≤ params.now.k }
@@ -62,10 +72,6 @@ pub(crate) fn main_vote(params: &Params, ids: &[Id]) -> Option<Vote>
     let main = ids[at];
     let count = count_for(ids, &main);
     if count < params.alpha_confidence() {
-        return None;
-    }
-    let others = ids.len() - count as usize;
-    if others >= params.alpha_preference() as usize {
         return None;
     }
     Some(Vote { id: main, count })

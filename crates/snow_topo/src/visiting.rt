@@ -43,7 +43,7 @@ fn record_at<R: Rule, L: Ledger>(
     }
 }
 
-// The same with the votes that were taken off the ladder last, so many in all. Few visits come to it, and those that
+// The same with the votes that were taken off the ladder last. Few visits come to it, and those that
 // don't are to be short.
 #[inline(never)]
 fn record_came<R: Rule, L: Ledger>(
@@ -52,12 +52,10 @@ fn record_came<R: Rule, L: Ledger>(
     at: usize,
     polls: u64,
     ladder: &Ladder,
-    count: u32,
     children: &mut Bag,
     steps: &mut Steps<L>,
 ) -> bool
     requires room { polls + 1 < 2 ^ 64 }
-    requires count { count ≡ climber_total (ladder.now).came }
     requires places { length (ladder.now).came ≤ children.old.room + length children.old.list }
     requires placed { All (λ c. c.passed < length (tree.old).pending) (ladder.now).came }
     requires counts { All (λ c. 0 < c.count) (ladder.now).came }
@@ -70,7 +68,7 @@ fn record_came<R: Rule, L: Ledger>(
 {
     let _k = params.k();
     let mut one = no_vote();
-    let is_one = gather(params, tree, ladder, count, &mut one, children);
+    let is_one = gather(params, tree, ladder, &mut one, children);
     record_at(tree, at, polls, votes_in(is_one, &one, children), steps)
 }
 
@@ -112,7 +110,7 @@ fn record_quorum<R: Rule, L: Ledger>(
 {
     let _k = params.k();
     if has_quorum(params, count) {
-        let one = record_came(params, tree, at, polls, ladder, count, children, steps);
+        let one = record_came(params, tree, at, polls, ladder, children, steps);
         either(one, moved)
     } else {
         moved
