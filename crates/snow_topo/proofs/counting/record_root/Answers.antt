@@ -1,4 +1,4 @@
-use Rattle.std.proofs.Common.{ℕ, Bool, List, ◌∙◌, All, Contains, sym, ap, subst, arith}
+use Rattle.std.proofs.Common.{◌∙◌, All, Contains, sym, ap, subst, arith}
 use Rattle.snow_flake.specs.Counter.{class}
 use Rattle.snow_plain.specs.Conflict.{votes_on}
 use Rattle.snow_plain.specs.Cursors.{votes_at}

@@ -1,8 +1,6 @@
 use Rattle.std.proofs.Common.{ap}
 use Rattle.snow_flake.specs.Counter.{class}
 use Rattle.snow_tree.specs.Held.{blocks_in}
-use Rattle.snow_topo.specs.Climbing.{climber_total}
-use Rattle.snow_topo.specs.Gathering.{StandsForAll}
 use Rattle.snow_topo.proofs.Mains.{stands_alike, stands_among, stands_total}
 use Rattle.snow_topo.proofs.gathering.gather_many.Goals as goal
 

@@ -4,8 +4,7 @@ use Rattle.snow_base.specs.declared.vote.Vote.{Vote}
 use Rattle.snow_base.specs.Gathered.{one_each}
 use Rattle.snow_base.specs.Votes.{total_count}
 use Rattle.snow_flake.specs.Parameters.{Parameters}
-use Rattle.snow_topo.specs.Majority.{StandsForPoll, StandFor}
-use Rattle.snow_topo.specs.Starting.{HaveBegun}
+use Rattle.snow_topo.specs.Majority.{StandsForPoll}
 use Rattle.snow_topo.proofs.Majorities.{ids_few, one_for_all, all_for_all}
 use Rattle.snow_topo.proofs.starting.start_ids.Goals as goal
 

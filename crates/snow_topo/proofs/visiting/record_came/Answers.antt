@@ -1,4 +1,4 @@
-use Rattle.std.proofs.Common.{ℕ, Bool, List, ◌∙◌, All, Contains, IfSome, slice_get, sym, ap, subst}
+use Rattle.std.proofs.Common.{◌∙◌, All, Contains, IfSome, slice_get, sym, ap, subst}
 use Rattle.snow_flake.specs.Counter.{class}
 use Rattle.snow_plain.specs.Conflict.{votes_on}
 use Rattle.snow_plain.specs.Cursors.{votes_at}
