@@ -8,6 +8,7 @@ pub mod Idle
 mod Lone
 mod Looked
 mod Named
+mod Newest
 pub mod Noted
 mod Placed
 mod Preferred

@@ -1,5 +1,5 @@
 -- The indexes of a lineup: at which places the items of a key stand, and between which places a mark may stand.
-use Rattle.std.specs.Prelude.{◌≡◌, ℕ, ◌<◌, ◌≤◌, Bool, true, false, ◌==◌, List, [], ◌∷◌, filter, find, not, All, Option, Some, None, unwrap_or, bytes_eq, if◌then◌else◌}
+use Rattle.std.specs.Prelude.{◌≡◌, ℕ, ◌+◌, ◌-◌, ◌<◌, ◌≤◌, length, get_or, Bool, true, false, ◌==◌, List, [], ◌∷◌, filter, find, not, All, Option, Some, None, unwrap_or, bytes_eq, if◌then◌else◌}
 use Rattle.std.specs.List.{list_any, AllPairs}
 use Rattle.std.specs.BTreeMap.{BTreeMap, get}
 use Rattle.std.specs.BTreeSet.{BTreeSet, contains}
@@ -78,6 +78,12 @@ AreNamedApart name (x ∷ items) = (list_any (λ y. bytes_eq (name y) (name x)) 
 pub record HasHeights (height : List ℕ → Option ℕ) (waiting : List Waiting) : Type 0 where
   pub known : (id : List ℕ) → height id ≡ height_among waiting id
   pub apart : AreNamedApart (λ w. w.header.id) waiting
+
+-- no other waiting block has the parent of the one that came last
+abbrev pub LastIsAlone : Bool → List Waiting → Type 0
+LastIsAlone false waiting = Unit {0}
+LastIsAlone true waiting =
+    (k : ℕ) (d : Waiting) → k + 1 < length waiting → bytes_eq (get_or waiting (length waiting - 1) d).header.parent (get_or waiting k d).header.parent ≡ false
 
 -- the gets of a map by number
 abbrev pub get_of : ℕ × Asked → Get

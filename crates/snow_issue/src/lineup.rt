@@ -1,4 +1,4 @@
-ghost use Rattle.std.specs.Prelude.{◌≡◌, ℕ, ◌+◌, ◌<◌, ◌^◌, ◌≤◌, ◌==◌, true, false, IfSome, All, [], ◌∷◌, ◌++◌, List, map, length, nat_lt, slice_set, HoldsAt, OnOk, OnErr};
+ghost use Rattle.std.specs.Prelude.{◌≡◌, ℕ, ◌+◌, ◌<◌, ◌^◌, ◌≤◌, ◌==◌, true, false, IfOk, IfSome, All, bytes_eq, [], ◌∷◌, ◌++◌, List, map, length, nat_lt, slice_set, HoldsAt, OnOk, OnErr};
 ghost use Rattle.std.specs.List.{AllPairs, position_or_len, remove};
 ghost use Rattle.std.specs.Option.{option_to_list};
 ghost use Rattle.snow_issue.specs.Known.{has};
@@ -75,9 +75,11 @@ impl<T: Keyed> Lineup<T> {
         self.slots.len()
     }
 
-    /// Appends an item, of which nothing is remembered. After want of memory all is as before.
-    pub(crate) fn push(&mut self, item: T) -> Result<(), AllocError>
+    /// Appends an item, of which nothing is remembered, and tells where it is plain that no other has
+    /// its key. After want of memory all is as before.
+    pub(crate) fn push(&mut self, item: T) -> Result<bool, AllocError>
         ensures ok { OnOk result (self.new ≡ self.old ++ (item, New) ∷ []) }
+        ensures alone { IfOk result (λ alone. alone ≡ true → All (λ s. bytes_eq (T.key item) (T.key s.0) ≡ false) self.old) }
         ensures err { OnErr result (self.new ≡ self.old) }
     {
         // Places never come again, and there are more than a node lives to use.
@@ -85,7 +87,7 @@ impl<T: Keyed> Lineup<T> {
             return Err(AllocError);
         }
         self.slots.reserve(1)?;
-        self.rows.note(self.alloc, item.key(), self.next)?;
+        let alone = self.rows.note(self.alloc, item.key(), self.next)?;
         self.windows = self.windows.marked(self.slots.len(), Mark::New);
         self.slots.push_reserved(Slot {
             place: self.next,
@@ -93,7 +95,7 @@ impl<T: Keyed> Lineup<T> {
             item,
         });
         self.next += 1;
-        Ok(())
+        Ok(alone)
     }
 
     /// Whether it is plain that something is remembered of each item, and that none is ripe.

@@ -1,4 +1,4 @@
-ghost use Rattle.std.specs.Prelude.{◌≡◌, ◌==◌, ℕ, List, [], ◌∷◌, ◌++◌, not, OnOk, OnErr, bytes_eq, if◌then◌else◌};
+ghost use Rattle.std.specs.Prelude.{◌≡◌, ◌==◌, ℕ, List, [], ◌∷◌, ◌++◌, true, not, IfOk, OnOk, OnErr, bytes_eq, if◌then◌else◌};
 ghost use Rattle.std.specs.Bool.{OnTrue};
 ghost use Rattle.std.specs.Option.{option_to_list};
 ghost use Rattle.snow_issue.specs.Index.{row_of, left_by};
@@ -106,17 +106,22 @@ impl Rows {
         }
     }
 
-    /// One place more of a key. After want of memory the rows are as before.
+    /// One place more of a key, and whether it is the first one. After want of memory the rows are as
+    /// before.
     #[inline(never)]
-    pub(crate) fn note(&mut self, alloc: Global, key: Id, place: u64) -> Result<(), AllocError>
+    pub(crate) fn note(&mut self, alloc: Global, key: Id, place: u64) -> Result<bool, AllocError>
         ensures ok { OnOk result ((q : List ℕ) → row_of self.new.rows q ≡ (if bytes_eq key q then row_of self.old.rows q ++ place ∷ [] else row_of self.old.rows q)) }
+        ensures first { IfOk result (λ first. first ≡ true → row_of self.old.rows key ≡ []) }
         ensures err { OnErr result ((q : List ℕ) → row_of self.new.rows q ≡ row_of self.old.rows q) }
     {
         match self.rows.entry(key)? {
-            Entry::Occupied(entry) => entry.into_mut().push(place),
+            Entry::Occupied(entry) => {
+                entry.into_mut().push(place)?;
+                Ok(false)
+            }
             Entry::Vacant(entry) => {
                 let _ = entry.insert(Row::of(alloc, place));
-                Ok(())
+                Ok(true)
             }
         }
     }

@@ -27,6 +27,8 @@ impl Keyed for Waiting {
 pub(crate) struct WaitingList {
     lineup: Lineup<Waiting>,
     heights: HashMap<Id, u64>,
+    /// Whether it is plain that no other block has the parent of the one that came last.
+    alone: bool,
 }
 
 impl Model for WaitingList {
@@ -35,13 +37,13 @@ impl Model for WaitingList {
     ghost use Rattle.snow_issue.specs.declared.work.Waiting.{Waiting};
     ghost use Rattle.snow_issue.specs.declared.marks.Mark.{Mark};
     ghost use Rattle.snow_issue.specs.Known.{items_of};
-    ghost use Rattle.snow_issue.specs.Index.{HasHeights};
+    ghost use Rattle.snow_issue.specs.Index.{HasHeights, LastIsAlone};
 
     ghost Value = { List (Waiting × Mark) };
 
     ghost view = { λ a. a.lineup };
 
-    ghost invariant = { λ a. HasHeights (get bytes_eq a.heights) (items_of a.lineup) };
+    ghost invariant = { λ a. HasHeights (get bytes_eq a.heights) (items_of a.lineup) × LastIsAlone a.alone (items_of a.lineup) };
 }
 
 impl WaitingList {
@@ -54,6 +56,7 @@ impl WaitingList {
         WaitingList {
             lineup: Lineup::new(alloc),
             heights: HashMap::new(alloc),
+            alone: false,
         }
     }
 
@@ -118,11 +121,16 @@ impl WaitingList {
         let header = &block.header;
         let (id, height) = (header.id, header.height);
         self.heights.insert(id, height)?;
-        if let Err(error) = self.lineup.push(block) {
-            let _ = self.heights.remove(&id);
-            return Err(error);
+        match self.lineup.push(block) {
+            Ok(alone) => {
+                self.alone = alone;
+                Ok(())
+            }
+            Err(error) => {
+                let _ = self.heights.remove(&id);
+                Err(error)
+            }
         }
-        Ok(())
     }
 
     /// Whether it is plain that something is remembered of each block, and that none is ripe.
@@ -174,13 +182,19 @@ impl WaitingList {
         ensures rest { self.new ≡ remove self.old at }
     {
         let _ = self.heights.remove(&self.lineup.item(at).header.id);
+        self.alone = false;
         self.lineup.take(at)
     }
 
-    /// Forgets what is remembered of a block's children.
+    /// Forgets what is remembered of a block's children. Mostly that is the block that came last alone.
     pub(crate) fn wake(&mut self, parent: &Id)
         ensures { self.new ≡ map (woken (λ w. w.header.parent) parent.now) self.old }
     {
+        let len = self.lineup.len();
+        if self.alone && len > 0 && self.lineup.item(len - 1).header.parent == *parent {
+            self.lineup.set(len - 1, Mark::New);
+            return;
+        }
         self.lineup.wake(parent);
     }
 

@@ -5,8 +5,9 @@ use Rattle.snow_issue.specs.declared.work.Waiting.{Waiting}
 use Rattle.snow_issue.specs.declared.marks.Mark.TheVariants.{New}
 use Rattle.snow_issue.specs.Lists.{waits_among}
 use Rattle.snow_issue.specs.Known.{items_of}
-use Rattle.snow_issue.specs.Index.{HasHeights}
+use Rattle.snow_issue.specs.Index.{HasHeights, LastIsAlone}
 use Rattle.snow_issue.proofs.Heights.{heights_pushed, heights_undone}
+use Rattle.snow_issue.proofs.Newest.{last_pushed}
 use Rattle.snow_issue.proofs.Taken.{items_pushed}
 use Rattle.snow_issue.proofs.waiting.WaitingList.push.Goals as goal
 
@@ -15,12 +16,17 @@ invariant_of-self-in-Err c =
     let inside = c.self.inside in
     let header = c.args.block.header in
     let new = subst (λ l. waits_among (items_of l) header.id ≡ false) (sym c.self.view_is) c.requires in
-    subst (λ (l : List Waiting). HasHeights (λ q. get bytes_eq c.remove.new.self q) l) (sym (ap items_of c.in-Err.ensures.err))
-    (heights_undone (λ q. get bytes_eq inside.heights q) (λ q. get bytes_eq c.insert.new.self q) (λ q. get bytes_eq c.remove.new.self q) (items_of inside.lineup) header.id header.height c.self.invariant new c.in_ok-insert.ensures.updates.0 c.remove.ensures.updates.0)
+    let same = sym (ap items_of c.in-Err.ensures.err) in (
+      subst (λ (l : List Waiting). HasHeights (λ q. get bytes_eq c.remove.new.self q) l) same
+          (heights_undone (λ q. get bytes_eq inside.heights q) (λ q. get bytes_eq c.insert.new.self q) (λ q. get bytes_eq c.remove.new.self q) (items_of inside.lineup) header.id header.height c.self.invariant.0 new c.in_ok-insert.ensures.updates.0 c.remove.ensures.updates.0),
+      subst (λ (l : List Waiting). LastIsAlone inside.alone l) same c.self.invariant.1,
+    )
 
-pub invariant_of-self-in_default : goal.invariant_of-self-in_default
-invariant_of-self-in_default c =
-    let inside = c.self.inside in
-    let new = subst (λ l. waits_among (items_of l) c.args.block.header.id ≡ false) (sym c.self.view_is) c.requires in
-    subst (λ (l : List Waiting). HasHeights (λ q. get bytes_eq c.insert.new.self q) l) (sym (ap items_of c.in_default.ensures.ok ∙ items_pushed inside.lineup c.args.block New))
-    (heights_pushed (λ q. get bytes_eq inside.heights q) (λ q. get bytes_eq c.insert.new.self q) (items_of inside.lineup) c.args.block c.self.invariant new c.in_ok-insert.ensures.updates.0)
+pub invariant_of-self-in-Ok : goal.invariant_of-self-in-Ok
+invariant_of-self-in-Ok c =
+    let seats = c.self.inside.lineup in
+    let new = subst (λ l. waits_among (items_of l) c.args.block.header.id ≡ false) (sym c.self.view_is) c.requires in (
+      subst (λ (l : List Waiting). HasHeights (λ q. get bytes_eq c.insert.new.self q) l) (sym (ap items_of c.in-Ok.ensures.ok ∙ items_pushed seats c.args.block New))
+          (heights_pushed (λ q. get bytes_eq c.self.inside.heights q) (λ q. get bytes_eq c.insert.new.self q) (items_of seats) c.args.block c.self.invariant.0 new c.in_ok-insert.ensures.updates.0),
+      last_pushed c.in-Ok.alone seats c.push.new.self c.args.block c.in-Ok.ensures.ok c.in-Ok.ensures.alone,
+    )
