@@ -158,3 +158,8 @@ pub(crate) fn told_flag(flag: bool) -> Told {
 pub(crate) fn is_next<B: Board>(queue: &Queue, board: &B, block: Placed) -> Told {
     told_flag(queue.is_next(&header_of(block), board))
 }
+
+// Whether nothing is to be done once the parent of a block that waits is asked for.
+pub(crate) fn rest(queue: &mut Queue, block: Placed) -> Told {
+    told_flag(queue.rest(&header_of(block)))
+}

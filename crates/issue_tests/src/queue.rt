@@ -1,5 +1,5 @@
 use crate::calls::{
-    NOTHING, Tale, ask, bubble, close, count, go, hold, is_next, issue, named, offer, step,
+    NOTHING, Tale, ask, bubble, close, count, go, hold, is_next, issue, named, offer, rest, step,
     step_known, tale, told_flag,
 };
 use snow_flake::{Params, Snowball};
@@ -16,6 +16,7 @@ enum Case {
     Bubbling,
     AtOnce,
     Next,
+    Resting,
     ByItself,
     Forgetting,
     GetsFill,
@@ -51,6 +52,7 @@ fn play<B: Board>(
         Case::Bubbling => bubbling(queue, board),
         Case::AtOnce => at_once(alloc, queue, board),
         Case::Next => next(alloc, queue, board),
+        Case::Resting => resting(alloc, queue, board),
         Case::ByItself => by_itself(alloc, queue, board),
         Case::Forgetting => forgetting(queue, board),
         Case::GetsFill => gets_fill(queue, board),
@@ -170,6 +172,29 @@ fn a_child_of_the_board_is_next(rt: HostRuntime) -> Result<(), Fail> {
     let told = told_in(rt.alloc(), Case::Next)?;
     let no = ('n', 0);
     assert_eq!(rt; told, tale(&[('y', 0), no, no, no, no, ('w', 0), no]));
+    Ok(())
+}
+
+// A block was asked for by its child, and rests with it once its own parent is asked for; not where a reply
+// is held.
+fn resting<B: Board>(alloc: Global, queue: &mut Queue, board: &mut B) -> Result<Tale, AllocError> {
+    let child = offer(alloc, queue, board, (6, 5, 3))?;
+    ask(queue, 1, 5)?;
+    let closed = close(queue, 1);
+    let block = offer(alloc, queue, board, (5, 4, 2))?;
+    let before = rest(queue, (5, 4, 2));
+    ask(queue, 2, 4)?;
+    let both = rest(queue, (5, 4, 2));
+    hold(queue, 3, 9)?;
+    let held = rest(queue, (5, 4, 2));
+    Ok(tale(&[child, closed, block, before, both, held]))
+}
+
+#[test]
+fn a_block_rests_once_its_parent_is_asked_for(rt: HostRuntime) -> Result<(), Fail> {
+    let told = told_in(rt.alloc(), Case::Resting)?;
+    let (yes, no) = (('y', 0), ('n', 0));
+    assert_eq!(rt; told, tale(&[('w', 5), ('c', 5), ('w', 4), no, yes, no]));
     Ok(())
 }
 
