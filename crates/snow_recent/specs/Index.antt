@@ -48,9 +48,9 @@ filed id [] number = number ∷ []
 filed id (n ∷ numbers) number =
     match_ordering (byte_cmp (id n) (id number)) (n ∷ filed id numbers number) (number ∷ numbers) (number ∷ n ∷ numbers)
 
--- the seat of an identifier: its first two bytes
+-- the seat of an identifier: its first two bytes and its last two, as numbers that are added
 abbrev pub seat_of : List ℕ → ℕ
-seat_of id = get_or id 0 0 * 256 + get_or id 1 0
+seat_of id = (get_or id 0 0 + get_or id 1 0 * 256 + (get_or id 30 0 + get_or id 31 0 * 256)) % 65536
 
 -- the place of the entry whose number stands at a seat
 abbrev pub head_of : ℕ → List ℕ → ℕ → ℕ

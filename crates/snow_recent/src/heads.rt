@@ -56,11 +56,14 @@ fn filled(alloc: Global, count: usize) -> Result<Vec<u32>, AllocError>
     vec![in alloc; u32::MAX; count]
 }
 
-/// The seat of an identifier: its first two bytes.
+/// The seat of an identifier, by its ends, so that numbers in place of hashes don't share one: its first
+/// two bytes and its last two, added.
 pub(crate) fn seat_of(id: &Id) -> usize
     ensures seat { result ≡ seat_of id.now }
     ensures small { result < 65536 }
 {
     let bytes = id.as_bytes();
-    usize::from(bytes[0]) * 256 + usize::from(bytes[1])
+    let first = u16::from_le_bytes([bytes[0], bytes[1]]);
+    let last = u16::from_le_bytes([bytes[30], bytes[31]]);
+    usize::from(first.wrapping_add(last))
 }
