@@ -24,3 +24,4 @@ pub mod Hung
 pub mod Gatherings
 pub mod Mains
 pub mod Majorities
+pub mod Lone

@@ -75,3 +75,17 @@ pub(crate) fn go_on<R: Rule>(tree: &Tree<Load<R>>, ladder: &mut Ladder, at: usiz
 {
     go_on_to(tree, ladder, at, tree.parent_place(at), count);
 }
+
+/// So many votes once they passed the block at a place.
+#[inline(always)]
+pub(crate) fn past<R: Rule>(tree: &Tree<Load<R>>, at: usize, count: u32) -> Climber
+    requires { at < length (tree.now).pending }
+    ensures { result ≡ passing (blocks_in (tree.now).pending) at count }
+{
+    let place = parent_reach(tree, at, tree.parent_place(at));
+    Climber {
+        place,
+        passed: at,
+        count,
+    }
+}

@@ -42,9 +42,9 @@ fn gather_all<R: Rule>(tree: &Tree<Load<R>>, links: &[Link], last: usize, childr
     }
 }
 
-// Votes that came to a parent by one child alone.
+/// Votes that came to a parent by one child alone.
 #[inline(always)]
-fn write_vote<R: Rule>(tree: &Tree<Load<R>>, climber: &Climber, one: &mut Vote)
+pub(crate) fn write_vote<R: Rule>(tree: &Tree<Load<R>>, climber: &Climber, one: &mut Vote)
     requires { (climber.now).passed < length (tree.now).pending }
     ensures { one.new ≡ vote_in (blocks_in (tree.now).pending) climber.now }
 {

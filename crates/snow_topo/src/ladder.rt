@@ -218,6 +218,22 @@ impl Ladder {
         self.low
     }
 
+    /// The one who stands on it, where nobody else was put on.
+    #[inline(always)]
+    pub(crate) fn lone(&self) -> Option<Climber>
+        ensures { IfSome result (λ c. (self.now).climbers ≡ c ∷ []) }
+    {
+        if self.links.len() != 1 {
+            return None;
+        }
+        let climber = self.links[0].climber;
+        if climber.place < self.low {
+            Some(climber)
+        } else {
+            None
+        }
+    }
+
     /// No rung is higher on which somebody stands. It is asked before any is taken off.
     #[inline]
     pub(crate) fn top(&self) -> usize

@@ -142,6 +142,7 @@ impl<R: Rule> Load<R> {
 
     /// The children take the bit step of the next poll with these votes. The answer is whether they
     /// lead elsewhere then. It takes no memory.
+    #[inline(always)]
     pub(crate) fn record<L: Ledger>(
         &mut self,
         polls: u64,

@@ -5,19 +5,20 @@ ghost use Rattle.snow_flake.specs.Parameters.{AreGood};
 ghost use Rattle.snow_plain.specs.Cursors.{votes_at};
 ghost use Rattle.snow_tree.specs.Held.{blocks_in, children_of, with_load};
 ghost use Rattle.snow_topo.specs.Kept.{Kept, ids_in, IsFit};
-ghost use Rattle.snow_topo.specs.Climbing.{climber_total, cursors_of, parent_in, passing, reach, merged, ArePlaced, HasCome};
+ghost use Rattle.snow_topo.specs.Climbing.{climber_total, cursor_of, cursors_of, parent_in, passing, reach, merged, ArePlaced, HasCome};
 ghost use Rattle.snow_topo.specs.Half.{AreClimbing, IsRecorded, HasTaken};
 ghost use Rattle.snow_topo.specs.Ladder.{KeepsRoom};
 ghost use Rattle.snow_topo.specs.Leading.{IsSteady};
 
-use crate::climber::go_on;
+use crate::climber::{Climber, go_on};
 use crate::climbing::either;
-use crate::gathering::{gather, no_vote, votes_in};
+use crate::gathering::{gather, no_vote, votes_in, write_vote};
 use crate::ladder::Ladder;
 use crate::load::Load;
 use snow_base::{Bag, Steps, Vote};
 use snow_flake::{Params, Rule};
 use snow_tree::Tree;
+use std::slice;
 use std::sync::ledger::Ledger;
 
 // What is kept at a place takes the next poll with these votes. The answer is whether it leads elsewhere
@@ -175,4 +176,62 @@ pub(crate) fn visit<R: Rule, L: Ledger>(
     );
     pass(tree, at, count, ladder);
     any
+}
+
+// What is kept at a place takes the next poll with votes that came to it by one child alone, as many as
+// AlphaPreference. The answer is whether it leads elsewhere then.
+#[inline(always)]
+fn record_lone<R: Rule, L: Ledger>(
+    params: &Params,
+    tree: &mut Tree<Load<R>>,
+    at: usize,
+    polls: u64,
+    lone: &Climber,
+    steps: &mut Steps<L>,
+) -> bool
+    requires room { polls + 1 < 2 ^ 64 }
+    requires placed { (lone.now).passed < length (tree.old).pending }
+    requires total { (lone.now).count ≤ params.now.k }
+    requires came { IfSome (slice_get (tree.old).pending at) (λ e. All (HasCome (blocks_in (tree.old).pending) e.block.id) (cursors_of (blocks_in (tree.old).pending) (lone.now ∷ []))) }
+    requires fit { IfSome (slice_get (tree.old).pending at) (λ e. IsFit params.now polls (children_of (blocks_in (tree.old).pending) e.block.id) e.load) }
+    ensures taken { IfSome (slice_get (tree.old).pending at) (λ e. (load : Kept) × (tree.new ≡ with_load tree.old at load) × HasTaken params.now polls (votes_at (cursors_of (blocks_in (tree.old).pending) (lone.now ∷ [])) e.block.id) e.load load × IsSteady R.answer result e.load load) }
+    ensures steps { IfSome (slice_get (tree.old).pending at) (λ e. steps.new ≤ steps.old + 5 * length (ids_in e.load.contest)) }
+{
+    let _k = params.k();
+    let mut one = no_vote();
+    write_vote(tree, lone, &mut one);
+    record_at(tree, at, polls, slice::from_ref(&one), steps)
+}
+
+/// The block for which votes look that climb alone is visited: what is kept of its children takes the next
+/// poll with them. The answer is whether it leads elsewhere then, or another did before. It takes no
+/// memory.
+#[inline(always)]
+pub(crate) fn visit_lone<R: Rule, L: Ledger>(
+    params: &Params,
+    tree: &mut Tree<Load<R>>,
+    at: usize,
+    polls: u64,
+    lone: &Climber,
+    steps: &mut Steps<L>,
+    moved: bool,
+) -> bool
+    requires room { polls + 1 < 2 ^ 64 }
+    requires within { at < length (tree.old).pending }
+    requires here { (lone.now).place ≡ at + 1 }
+    requires climbing { (votes : List Vote) × AreClimbing params.now votes (blocks_in (tree.old).pending) (at + 1) (cursors_of (blocks_in (tree.old).pending) (lone.now ∷ [])) }
+    requires placed { ArePlaced (blocks_in (tree.old).pending) (lone.now ∷ []) }
+    requires fit { IfSome (slice_get (tree.old).pending at) (λ e. IsFit params.now polls (children_of (blocks_in (tree.old).pending) e.block.id) e.load) }
+    ensures taken { IfSome (slice_get (tree.old).pending at) (λ e. (load : Kept) × (tree.new ≡ with_load tree.old at load) × HasTaken params.now polls (votes_at (cursors_of (blocks_in (tree.old).pending) (lone.now ∷ [])) e.block.id) e.load load × IsSteady R.answer result e.load load) }
+    ensures steps { IfSome (slice_get (tree.old).pending at) (λ e. steps.new ≤ steps.old + 5 * (if nat_le params.now.alpha_preference (votes_at (cursors_of (blocks_in (tree.old).pending) (lone.now ∷ [])) e.block.id []) then length (ids_in e.load.contest) else 0)) }
+    ensures moved { result ≡ false → moved ≡ false }
+{
+    let _k = params.k();
+    let _last = tree.last();
+    if has_quorum(params, lone.count) {
+        let one = record_lone(params, tree, at, polls, lone, steps);
+        either(one, moved)
+    } else {
+        moved
+    }
 }

@@ -16,7 +16,7 @@ use Rattle.snow_topo.proofs.Begun.{climbing_again}
 use Rattle.snow_topo.proofs.Climbers.{below_places, within_places}
 use Rattle.snow_topo.proofs.Costing.{paid}
 use Rattle.snow_topo.proofs.Climbs.{entry_at, came_here, one_of, all_there, some_of, set_blocks, begun_half, step_half, climbed_past, ended_half, ended_fit}
-use Rattle.snow_topo.proofs.climbing.climb.Goals as goal
+use Rattle.snow_topo.proofs.climbing.climb_all.Goals as goal
 
 pub loop-top-init : goal.loop-top-init
 loop-top-init g c =
