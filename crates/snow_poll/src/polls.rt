@@ -145,6 +145,7 @@ impl Polls {
     /// Counts the reply of a node to the poll of a number: an identifier, or none where the node
     /// gives no vote. `NotAwaited` comes exactly where `awaits` is false, and nothing changed then.
     /// It takes no memory.
+    #[inline(always)]
     pub fn vote(&mut self, number: u32, node: &NodeId, id: Option<Id>) -> Answered
         ensures answer { result ≡ answer self.old.polls number node.now }
         ensures table { self.new ≡ voted self.old number node.now id }
@@ -189,6 +190,7 @@ impl Polls {
     /// table or the front one isn't closed; nothing changes then. The votes stand for those of each
     /// completion of the poll: they are alike to them, so a board makes the same of both. It takes
     /// no memory.
+    #[inline(always)]
     pub fn take_finished(&mut self) -> Option<Closed>
         ensures found { option_map (λ c. (c.number, c.votes.list)) result ≡ finished self.old.parameters self.old.polls }
         ensures table { self.new ≡ shortened self.old }
@@ -212,8 +214,9 @@ impl Polls {
         }
     }
 
-    // Takes out the front poll, which is closed.
-    #[inline(always)]
+    // Takes out the front poll, which is closed. It stands apart, so that a reply which closes no poll
+    // doesn't pay for it.
+    #[inline(never)]
     fn take_front(&mut self) -> Option<Closed>
         requires closed { is_some (finished self.old.parameters self.old.polls) ≡ true }
         requires good { AreGood self.old.parameters }

@@ -159,10 +159,13 @@ pub(crate) fn climb<R: Rule, L: Ledger>(
     ensures steps { (votes : List Vote) → AreClimbing params.now votes (blocks_in (tree.old).pending) (length (tree.old).pending) (cursors_of (blocks_in (tree.old).pending) (ladder.old).climbers)
         → steps.new ≤ steps.old + 5 * recording_in params.now (blocks_in (tree.old).pending) votes (blocks_in (tree.old).pending) }
 {
+    let _k = params.k();
+    let _last = tree.last();
     match ladder.lone() {
         Some(climber) if climber.place > 0 => {
             climb_lone(params, tree, polls, ladder, &climber, steps)
         }
-        _ => climb_all(params, tree, polls, ladder, children, steps),
+        Some(_) => false,
+        None => climb_all(params, tree, polls, ladder, children, steps),
     }
 }

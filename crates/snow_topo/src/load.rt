@@ -39,6 +39,7 @@ impl<R: Rule> Model for Load<R> {
 
 // A tree takes a poll with these votes, after it has failed where it didn't record the last poll. The
 // answer is false only where it leads where it led, as a tree of one child does whatever comes.
+#[inline(always)]
 fn catch_up<R: Rule, L: Ledger>(
     trie: &mut Trie<R>,
     is_behind: bool,
