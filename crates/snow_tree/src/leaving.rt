@@ -154,6 +154,7 @@ fn sweep<T: Drop>(
 /// Takes the child out that is accepted, and all that don't descend from it. These are told in order
 /// of issue. Where it is the only child it was issued first, and no other block is touched: a child of it
 /// stood so far back that this leads beyond the first place now. It takes no memory.
+#[inline(always)]
 pub(crate) fn take_accepted<T: Drop>(
     nodes: &mut Nodes<T>,
     last: &Id,

@@ -73,6 +73,7 @@ impl<T: Drop> Tree<T> {
     }
 
     /// A block is issued, with a load. After want of memory all is as before, and the load comes back.
+    #[inline(always)]
     pub fn insert(&mut self, id: Id, parent: Id, height: u64, load: T) -> Result<(), TreeFull<T>>
         requires unknown { is_on (self.old).last (blocks_in (self.old).pending) id ≡ false }
         requires follows { is_on (self.old).last (blocks_in (self.old).pending) parent ≡ true }
@@ -249,6 +250,7 @@ impl<T: Drop> Tree<T> {
     /// All that don't descend from it go, with their loads. It takes no memory. Where the child is the
     /// only one it is one look-up, whatever is pending; where others leave, one pass over the pending
     /// blocks, with two look-ups for each that stays.
+    #[inline(always)]
     pub fn promote(&mut self, child: &Id) -> T
         requires child { option_map (λ e. e.block.parent) (entry_in (self.old).pending child.now) ≡ Some (self.old).last }
         ensures load { IfSome (entry_in (self.old).pending child.now) (λ e. result ≡ e.load) }

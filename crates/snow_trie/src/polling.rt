@@ -22,6 +22,7 @@ fn either(one: bool, other: bool) -> bool
 
 /// A poll comes to a tree with these votes, so many, all for identifiers that go down it. The answer is
 /// false only where the tree leads where it led. A tree of one identifier is polled in place.
+#[inline(always)]
 pub fn poll<R: Rule, L: Ledger>(
     root: &mut Node,
     from: u16,

@@ -69,6 +69,7 @@ impl<R: Rule> Trie<R> {
     ghost use Rattle.snow_trie.specs.Whole.{begun, HasFewNodes};
 
     /// The counters where one identifier stands alone.
+    #[inline(always)]
     pub fn new(alloc: Global, params: Params, id: Id) -> Result<Self, AllocError>
         ensures { IfOk result (λ trie. trie ≡ begun params id) }
     {
@@ -126,6 +127,7 @@ impl<R: Rule> Trie<R> {
 
     /// The same, and whether it may have moved where the counters lead: the answer is false only where they
     /// lead where they led.
+    #[inline(always)]
     pub fn record<L: Ledger>(&mut self, votes: &[Vote], steps: &mut Steps<L>) -> bool
         requires order { IsInBitOrder votes.now }
         requires most { total_count votes.now ≤ (self.old).parameters.k }
