@@ -2,7 +2,9 @@ pub mod Descending
 pub mod Listed
 pub mod Noted
 pub mod Placed
+pub mod Slots
 pub mod Numbered
+pub mod Told
 pub mod Edges
 pub mod Sifted
 pub mod Linked

@@ -1,15 +1,14 @@
 -- Lemmas on the numbers by which the entries of a row are found.
-use Rattle.std.proofs.Common.{◌≡◌, ℕ, zero, suc, ◌+◌, ◌-◌, ◌%◌, ◌^◌, ◌<◌, ◌≤◌, ◌↔◌, true, false, cond, if◌then◌else◌, List, [], ◌∷◌, ◌++◌, length, drop, slice_index_or, slice_set, option_to_list, IsSome, Result, Ok, Err, OnErr, IsOk, IfSome, bytes_eq, Bool, Option, Some, None, slice_get, refl, sym, ap, subst, ◌∙◌, arith}
+use Rattle.std.proofs.Common.{◌≡◌, ℕ, zero, suc, ◌<◌, ◌≤◌, ◌↔◌, true, false, if◌then◌else◌, List, [], ◌∷◌, ◌++◌, length, get_or, drop, slice_index_or, slice_set, option_to_list, IsSome, IfSome, bytes_eq, Bool, Option, Some, None, slice_get, refl, sym, ap, subst, ◌∙◌, arith}
 use Rattle.std.specs.List.{AllByRecursion, IsDistinct, position}
 use Rattle.std.specs.Map.{lookup, keys_of, values_of}
 use Rattle.std.specs.Option.{option_map}
 use Rattle.std.proofs.lemmas.Bool.{true≢false}
-use Rattle.std.proofs.lemmas.List.{map-append}
 use Rattle.std.proofs.lemmas.List.Quantifiers.{position-Some}
 use Rattle.std.proofs.lemmas.Map.Entries.{length-keys_of}
 use Rattle.std.proofs.lemmas.Option.{none-some}
-use Rattle.snow_plain.proofs.Cases.{split_on, same_id, id_itself, id_same, differs_back}
-use Rattle.snow_tree.specs.Row.{number_at, set_value_at, IsNumbered}
+use Rattle.snow_plain.proofs.Cases.{split_on, same_id, id_same, differs_back}
+use Rattle.snow_tree.specs.Row.{set_value_at}
 use Rattle.snow_tree.proofs.Placed.{position_cons}
 
 -- what is so of what was found
@@ -17,16 +16,16 @@ pub some_is : {A : Type 0} (P : A → Type 0) (o : Option A) (x : A) → o ≡ S
 some_is P o x is h = subst (λ q. IfSome q P) is h
 
 -- what is looked for at a key is looked for at one that is the same
-same_key : (k q : List ℕ) (ks : List (List ℕ)) → bytes_eq k q ≡ true → position (bytes_eq q) ks ≡ position (bytes_eq k) ks
+pub same_key : (k q : List ℕ) (ks : List (List ℕ)) → bytes_eq k q ≡ true → position (bytes_eq q) ks ≡ position (bytes_eq k) ks
 same_key k q ks t = ap (λ id. position (bytes_eq id) ks) (sym (same_id k q t))
 
 -- a key that differs from all has no place
-no_place : (k : List ℕ) (ks : List (List ℕ)) → AllByRecursion (λ y. bytes_eq k y ≡ false) ks → position (bytes_eq k) ks ≡ None
+pub no_place : (k : List ℕ) (ks : List (List ℕ)) → AllByRecursion (λ y. bytes_eq k y ≡ false) ks → position (bytes_eq k) ks ≡ None
 no_place k [] h = refl
 no_place k (y ∷ ks) h = position_cons (bytes_eq k) y ks ∙ rw h.0 (ap (option_map suc) (no_place k ks h.1))
 
 -- a place with one more key
-place_more : (p : List ℕ → Bool) (ks : List (List ℕ)) (k : List ℕ) → position p ks ≡ None → position p (ks ++ k ∷ []) ≡ (if p k then Some (length ks) else None)
+pub place_more : (p : List ℕ → Bool) (ks : List (List ℕ)) (k : List ℕ) → position p ks ≡ None → position p (ks ++ k ∷ []) ≡ (if p k then Some (length ks) else None)
 place_more p [] k none = position_cons p k []
 place_more p (y ∷ ks) k none =
     position_cons p y (ks ++ k ∷ [])
@@ -53,11 +52,6 @@ place_kept p (y ∷ ks) k fails =
     ∙ ap (λ o. if p y then Some 0 else option_map suc o) (place_kept p ks k fails)
     ∙ sym (position_cons p y ks)
 
--- what is there already needs no room
-pub ok_present : {A E X : Type 0} (r : Result A E) (o : Option X) (x : X) → OnErr r (o ≡ None) → o ≡ Some x → IsOk r
-ok_present (Ok a) o x err there = refl
-ok_present (Err e) o x err there = absurd (none-some x (sym err ∙ there))
-
 -- ---- keys of which no two are the same
 
 apart_more : (y : List ℕ) (ks : List (List ℕ)) (k : List ℕ) → AllByRecursion (λ z. bytes_eq y z ≡ false) ks → bytes_eq y k ≡ false → AllByRecursion (λ z. bytes_eq y z ≡ false) (ks ++ k ∷ [])
@@ -69,13 +63,13 @@ apart_less y [] k all = (tt, all.0)
 apart_less y (z ∷ ks) k all = let rest = apart_less y ks k all.1 in ((all.0, rest.0), rest.1)
 
 -- with one more that differs from all
-distinct_more : (ks : List (List ℕ)) (k : List ℕ) → IsDistinct bytes_eq ks → AllByRecursion (λ y. bytes_eq k y ≡ false) ks → IsDistinct bytes_eq (ks ++ k ∷ [])
+pub distinct_more : (ks : List (List ℕ)) (k : List ℕ) → IsDistinct bytes_eq ks → AllByRecursion (λ y. bytes_eq k y ≡ false) ks → IsDistinct bytes_eq (ks ++ k ∷ [])
 unfolding IsDistinct
 distinct_more [] k unique apart = (tt, tt)
 distinct_more (y ∷ ks) k unique apart = (apart_more y ks k unique.0 (differs_back y k apart.0), distinct_more ks k unique.1 apart.1)
 
 -- and without the last
-distinct_less : (ks : List (List ℕ)) (k : List ℕ) → IsDistinct bytes_eq (ks ++ k ∷ []) → IsDistinct bytes_eq ks × AllByRecursion (λ y. bytes_eq k y ≡ false) ks
+pub distinct_less : (ks : List (List ℕ)) (k : List ℕ) → IsDistinct bytes_eq (ks ++ k ∷ []) → IsDistinct bytes_eq ks × AllByRecursion (λ y. bytes_eq k y ≡ false) ks
 unfolding IsDistinct
 distinct_less [] k unique = (tt, tt)
 distinct_less (y ∷ ks) k unique =
@@ -102,28 +96,6 @@ module _ {V : Type 0} where
       key_or (Some y) = y.0
   of_key P (x ∷ entries) (suc i) e h at = of_key P entries i e h.1 at
 
-  -- ---- the place that is told by a number
-
-  pub place_read : (entries : List (List ℕ × V)) (number : List ℕ → Option ℕ) (first n : ℕ) (k : List ℕ) → IsNumbered entries number first → first < 2 ^ 64 → length entries < 2 ^ 63
-      → number k ≡ Some n → Some ((n + (2 ^ 64 - first)) % 2 ^ 64) ≡ position (bytes_eq k) (keys_of entries)
-  place_read entries number first n k is small few at = by (position (bytes_eq k) (keys_of entries)) refl (sym (is.found k) ∙ at)
-    where
-      by : (o : Option ℕ) → position (bytes_eq k) (keys_of entries) ≡ o → option_map (number_at first) o ≡ Some n → Some ((n + (2 ^ 64 - first)) % 2 ^ 64) ≡ o
-      by None e told = absurd (none-some n told)
-      by (Some i) e told =
-          let same : number_at first i ≡ n = cc in
-          let within : i < length (keys_of entries) = (position-Some (bytes_eq k) (keys_of entries) i k e).0 in
-          ap Some (omega (arith, same, within, length-keys_of entries))
-
-  -- what has no number has no place
-  pub place_unread : (entries : List (List ℕ × V)) (number : List ℕ → Option ℕ) (first : ℕ) (k : List ℕ) → IsNumbered entries number first → number k ≡ None
-      → None ≡ position (bytes_eq k) (keys_of entries)
-  place_unread entries number first k is none = sym (missing (position (bytes_eq k) (keys_of entries)) (sym (is.found k) ∙ none))
-    where
-      missing : (o : Option ℕ) → option_map (number_at first) o ≡ None → o ≡ None
-      missing None e = refl
-      missing (Some i) e = absurd (none-some (number_at first i) (sym e))
-
   -- the value at a place, if there is one
   abbrev pub value_at : List (List ℕ × V) → Option ℕ → Option V
   value_at entries None = None
@@ -142,93 +114,10 @@ module _ {V : Type 0} where
       later None = refl
       later (Some i) = refl
 
-  -- ---- entries that come and go
-
-  -- no entry
-  pub none_numbered : (number : List ℕ → Option ℕ) (first : ℕ) → ((k : List ℕ) → number k ≡ None) → IsNumbered {V = V} [] number first
-  unfolding IsDistinct
-  none_numbered number first none = record { unique = tt; found = none }
-
-  -- one more at the end
-  pub one_more : (entries : List (List ℕ × V)) (number now : List ℕ → Option ℕ) (first : ℕ) (k : List ℕ) (v : V) → IsNumbered entries number first
-      → AllByRecursion (λ y. bytes_eq k y ≡ false) (keys_of entries)
-      → ((q : List ℕ) → now q ≡ cond (bytes_eq k q) (Some (number_at first (length entries))) (number q))
-      → IsNumbered (entries ++ (k, v) ∷ []) now first
-  one_more entries number now first k v is apart says =
-      let ks = keys_of entries in
-      let all : keys_of (entries ++ (k, v) ∷ []) ≡ ks ++ k ∷ [] = map-append (λ e. e.0) entries ((k, v) ∷ []) in
-      record {
-        unique = subst (IsDistinct bytes_eq) (sym all) (distinct_more ks k is.unique apart);
-        found = λ q.
-            says q
-            ∙ split_on (bytes_eq k q)
-            (λ t.
-            let there : position (bytes_eq q) (ks ++ k ∷ []) ≡ Some (length ks) =
-            place_more (bytes_eq q) ks k (same_key k q ks t ∙ no_place k ks apart) ∙ rw (id_same q k (sym (same_id k q t))) refl
-            in
-            rw t (sym (ap (option_map (number_at first)) (ap (position (bytes_eq q)) all ∙ there ∙ ap Some (length-keys_of entries)))))
-            (λ t. rw t (is.found q ∙ sym (ap (option_map (number_at first)) (ap (position (bytes_eq q)) all ∙ place_kept (bytes_eq q) ks k (differs_back q k t)))));
-      }
-
-  -- the last one gone
-  pub last_gone : (entries : List (List ℕ × V)) (e : List ℕ × V) (number now : List ℕ → Option ℕ) (first : ℕ) → IsNumbered (entries ++ e ∷ []) number first
-      → ((q : List ℕ) → now q ≡ cond (bytes_eq e.0 q) None (number q)) → IsNumbered entries now first
-  last_gone entries e number now first is says =
-      let ks = keys_of entries in
-      let all : keys_of (entries ++ e ∷ []) ≡ ks ++ e.0 ∷ [] = map-append (λ x. x.0) entries (e ∷ []) in
-      let less = distinct_less ks e.0 (subst (IsDistinct bytes_eq) all is.unique) in
-      record {
-        unique = less.0;
-        found = λ q.
-            says q
-            ∙ split_on (bytes_eq e.0 q)
-            (λ t. rw t (sym (ap (option_map (number_at first)) (same_key e.0 q ks t ∙ no_place e.0 ks less.1))))
-            (λ t. rw t (is.found q ∙ ap (option_map (number_at first)) (ap (position (bytes_eq q)) all ∙ place_kept (bytes_eq q) ks e.0 (differs_back q e.0 t))));
-      }
-
   -- the first differs from the others
-  first_apart : (e : List ℕ × V) (entries : List (List ℕ × V)) → IsDistinct bytes_eq (keys_of (e ∷ entries)) → AllByRecursion (λ y. bytes_eq e.0 y ≡ false) (keys_of entries) × IsDistinct bytes_eq (keys_of entries)
+  pub first_apart : (e : List ℕ × V) (entries : List (List ℕ × V)) → IsDistinct bytes_eq (keys_of (e ∷ entries)) → AllByRecursion (λ y. bytes_eq e.0 y ≡ false) (keys_of entries) × IsDistinct bytes_eq (keys_of entries)
   unfolding IsDistinct
   first_apart e entries unique = unique
-
-  -- the first one gone: the number of the next is one higher
-  pub first_gone : (e : List ℕ × V) (entries : List (List ℕ × V)) (number now : List ℕ → Option ℕ) (first : ℕ) → IsNumbered (e ∷ entries) number first
-      → ((q : List ℕ) → now q ≡ cond (bytes_eq e.0 q) None (number q)) → IsNumbered entries now (number_at first 1)
-  first_gone e entries number now first is says =
-      let ks = keys_of entries in
-      let apart = first_apart e entries is.unique in
-      record {
-        unique = apart.1;
-        found = λ q.
-            says q
-            ∙ split_on (bytes_eq e.0 q)
-            (λ t. rw t (sym (ap (option_map (number_at (number_at first 1))) (same_key e.0 q ks t ∙ no_place e.0 ks apart.0))))
-            (λ t. rw t (is.found q ∙ ap (option_map (number_at first)) (position_cons (bytes_eq q) e.0 ks ∙ rw (differs_back q e.0 t) refl) ∙ shifted (position (bytes_eq q) ks)));
-      }
-    where
-      shifted : (o : Option ℕ) → option_map (number_at first) (option_map suc o) ≡ option_map (number_at (number_at first 1)) o
-      shifted None = refl
-      shifted (Some i) = ap Some (omega arith)
-
-  -- the first one has the first number
-  pub first_found : (e : List ℕ × V) (entries : List (List ℕ × V)) (number : List ℕ → Option ℕ) (first : ℕ) → IsNumbered (e ∷ entries) number first → number e.0 ≡ Some (number_at first 0)
-  first_found e entries number first is =
-      let here : position (bytes_eq e.0) (keys_of (e ∷ entries)) ≡ Some 0 = position_cons (bytes_eq e.0) e.0 (keys_of entries) ∙ rw (id_itself e.0) refl in
-      is.found e.0 ∙ ap (option_map (number_at first)) here
-
-  -- the first one at the end
-  pub first_turned : (e : List ℕ × V) (entries : List (List ℕ × V)) (number now : List ℕ → Option ℕ) (first : ℕ) → IsNumbered (e ∷ entries) number first
-      → ((q : List ℕ) → now q ≡ cond (bytes_eq e.0 q) (Some (number_at first (suc (length entries)))) (number q))
-      → IsNumbered (entries ++ e ∷ []) now (number_at first 1)
-  first_turned e entries number now first is says =
-      let gone : List ℕ → Option ℕ = λ q. cond (bytes_eq e.0 q) None (number q) in
-      let n : number_at first (suc (length entries)) ≡ number_at (number_at first 1) (length entries) = omega arith in
-      one_more entries gone now (number_at first 1) e.0 e.1 (first_gone e entries number gone first is (λ q. refl)) (first_apart e entries is.unique).0
-      (λ q. says q ∙ split_on (bytes_eq e.0 q) (λ t. rw t (ap Some n)) (λ t. rw t refl))
-
-  -- the same by other means
-  pub same_numbers : (entries : List (List ℕ × V)) (number now : List ℕ → Option ℕ) (first : ℕ) → IsNumbered entries number first → ((k : List ℕ) → now k ≡ number k) → IsNumbered entries now first
-  same_numbers entries number now first is same = record { unique = is.unique; found = λ k. same k ∙ is.found k }
 
   -- ---- the first and the last
 
@@ -274,12 +163,6 @@ module _ {V : Type 0} where
   value_kept (e ∷ entries) zero value = refl
   value_kept (e ∷ entries) (suc place) value = ap (λ l. e.0 ∷ l) (value_kept entries place value)
 
-  pub same_numbered : (entries other : List (List ℕ × V)) (number : List ℕ → Option ℕ) (first : ℕ) → keys_of other ≡ keys_of entries → IsNumbered entries number first → IsNumbered other number first
-  same_numbered entries other number first same is = record {
-    unique = subst (IsDistinct bytes_eq) (sym same) is.unique;
-    found = λ k. is.found k ∙ sym (ap (λ ks. option_map (number_at first) (position (bytes_eq k) ks)) same);
-  }
-
   -- an identifier that stands at a place has no other
   pub one_place : (id : List ℕ) (entries : List (List ℕ × V)) (place : ℕ) (e : List ℕ × V) → IsDistinct bytes_eq (keys_of entries) → slice_get entries place ≡ Some e → bytes_eq id e.0 ≡ true
       → position (bytes_eq id) (keys_of entries) ≡ Some place
@@ -297,3 +180,27 @@ module _ {V : Type 0} where
       (λ t. t)
       in
       position_cons (bytes_eq id) x.0 (keys_of entries) ∙ rw first (ap (option_map suc) (one_place id entries place e apart.1 at is))
+
+  -- an entry that is read stands there
+  pub entry_at : (entries : List (List ℕ × V)) (place : ℕ) (e : List ℕ × V) → place < length entries → e ≡ slice_index_or entries place e → slice_get entries place ≡ Some e
+  entry_at [] place e h is = absurd (omega arith)
+  entry_at (x ∷ entries) zero e h is = ap Some (sym is)
+  entry_at (x ∷ entries) (suc place) e h is = entry_at entries place e (omega arith) is
+
+  -- and has the identifier of its place
+  pub key_at : (id : List ℕ) (entries : List (List ℕ × V)) (place : ℕ) (e : List ℕ × V) → position (bytes_eq id) (keys_of entries) ≡ Some place → slice_get entries place ≡ Some e → bytes_eq id e.0 ≡ true
+  key_at id entries place e at is = ap (bytes_eq id) (sym (key_read entries place e is)) ∙ (position-Some (bytes_eq id) (keys_of entries) place [] at).1
+    where
+      key_read : (entries : List (List ℕ × V)) (place : ℕ) (e : List ℕ × V) → slice_get entries place ≡ Some e → get_or (keys_of entries) place [] ≡ e.0
+      key_read [] place e is = absurd (none-some e is)
+      key_read (x ∷ entries) zero e is = let same : x ≡ e = cc in ap (λ (y : List ℕ × V). y.0) same
+      key_read (x ∷ entries) (suc place) e is = key_read entries place e is
+
+  -- no identifier has a place where no entry stands
+  pub no_key_at : (id : List ℕ) (entries : List (List ℕ × V)) (place : ℕ) → position (bytes_eq id) (keys_of entries) ≡ Some place → None ≡ slice_get entries place → ⊥
+  no_key_at id entries place at none = past entries place none (omega (arith, (position-Some (bytes_eq id) (keys_of entries) place [] at).0, length-keys_of entries))
+    where
+      past : (entries : List (List ℕ × V)) (place : ℕ) → None ≡ slice_get entries place → place < length entries → ⊥
+      past [] place none h = omega arith
+      past (x ∷ entries) zero none h = none-some x none
+      past (x ∷ entries) (suc place) none h = past entries place none (omega arith)

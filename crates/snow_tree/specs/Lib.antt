@@ -1,4 +1,5 @@
 pub mod Held
+pub mod Hints
 pub mod Row
 pub mod Nodes
 pub mod Lent

@@ -1,33 +1,49 @@
+//! Which number an identifier is told.
+ghost use Rattle.std.specs.Prelude.{◌≡◌, ◌==◌, ◌<◌, ◌≤◌, ℕ, List, [], length, slice_set, OnOk};
+ghost use Rattle.snow_tree.specs.Hints.{seat_of, slot_of, hint_of};
+
 use snow_base::Id;
 use std::alloc::{AllocError, Global};
+use std::marker::Model;
 
 // More slots have no use: 16 bits tell one.
 const MOST_SLOTS: usize = 1 << 16;
 
-/// Guesses where entries of a row stand. Of the identifiers that share a slot it tells the number of the
-/// entry that was put last. Whoever asks confirms the guess.
+/// A number for each slot, which all identifiers of the slot are told: that of the entry that was put
+/// last. Contracts see the numbers.
 #[derive(Debug, Drop)]
 pub(crate) struct Hints {
-    // As many as a power of two, or none.
-    numbers: Vec<u32>,
+    numbers: Vec<usize>,
 }
 
-// The lowest bits of a number, which are enough for a guess.
-fn low_bits(number: usize) -> u32 {
-    (number % (1 << 32)) as u32
+impl Model for Hints {
+    ghost use Rattle.std.specs.Prelude.{ℕ, List, length};
+    ghost use Rattle.snow_tree.specs.Hints.{AreSlots};
+
+    ghost Value = { List ℕ };
+
+    ghost view = { λ a. a.numbers.items };
+
+    ghost invariant = { λ a. AreSlots (length a.numbers.items) };
 }
 
 impl Hints {
-    /// No guess. It takes no memory.
-    pub(crate) fn new(alloc: Global) -> Self {
+    /// No slot. It takes no memory.
+    pub(crate) fn new(alloc: Global) -> Self
+        ensures { result ≡ [] }
+    {
         Hints {
             numbers: Vec::new(alloc),
         }
     }
 
-    /// Makes slots for one more entry than so many: sixteen for each, so that few share one. What they
-    /// tell they still tell then.
-    pub(crate) fn make_room(&mut self, entries: usize) -> Result<(), AllocError> {
+    /// Makes slots for one more entry than so many: sixteen for each, so that few share one. What an
+    /// identifier was told it is still told then.
+    pub(crate) fn make_room(&mut self, entries: usize) -> Result<(), AllocError>
+        ensures told { (id : List ℕ) → hint_of self.new id ≡ hint_of self.old id }
+        ensures some { OnOk result (0 < length self.new) }
+        ensures more { length self.old ≤ length self.new }
+    {
         let slots = self.numbers.len();
         if slots == 0 {
             return self.numbers.resize(64, 0);
@@ -38,27 +54,49 @@ impl Hints {
         self.numbers.extend_from_within(..)
     }
 
-    /// The entry of an identifier has this number.
-    pub(crate) fn note(&mut self, id: &Id, number: usize) {
+    /// The number that an identifier is told.
+    #[inline(always)]
+    pub(crate) fn number(&self, id: &Id) -> usize
+        ensures { result ≡ hint_of self.now id.now }
+    {
+        self.numbers.get(self.slot_of(id)).copied().unwrap_or(0)
+    }
+
+    /// Those that share an identifier's slot are told another number.
+    #[inline(always)]
+    pub(crate) fn set(&mut self, id: &Id, number: usize)
+        requires { 0 < length self.old }
+        ensures { self.new ≡ slice_set self.old (slot_of (length self.old) id.now) number }
+    {
         let slot = self.slot_of(id);
-        if let Some(hint) = self.numbers.get_mut(slot) {
-            *hint = low_bits(number);
-        }
+        self.numbers[slot] = number;
     }
 
-    /// The place of an identifier, if it is there and shares its slot with none that was put later. The
-    /// first entry has the number `first`.
-    pub(crate) fn place_of(&self, id: &Id, first: usize) -> usize {
-        let hint = self.numbers.get(self.slot_of(id)).copied().unwrap_or(0);
-        hint.wrapping_sub(low_bits(first)) as usize
+    /// Whether two identifiers share a slot.
+    #[inline(always)]
+    pub(crate) fn share(&self, id: &Id, other: &Id) -> bool
+        requires { 0 < length self.now }
+        ensures { result ≡ (slot_of (length self.now) id.now == slot_of (length self.now) other.now) }
+    {
+        self.slot_of(id) == self.slot_of(other)
     }
 
-    // The slot of an identifier, by its ends, so that numbers in place of hashes don't share one; past the
-    // last where there is none.
-    fn slot_of(&self, id: &Id) -> usize {
-        let bytes = id.as_bytes();
-        let first = u16::from_le_bytes([bytes[0], bytes[1]]);
-        let last = u16::from_be_bytes([bytes[30], bytes[31]]);
-        usize::from(first.wrapping_add(last)) & self.numbers.len().wrapping_sub(1)
+    // The slot of an identifier. Their number is a power of two; where there is none it is one past the last.
+    #[inline(always)]
+    fn slot_of(&self, id: &Id) -> usize
+        ensures slot { 0 < length self.now → result ≡ slot_of (length self.now) id.now }
+        ensures there { 0 < length self.now → result < length self.now }
+    {
+        seat_of(id) & self.numbers.len().wrapping_sub(1)
     }
+}
+
+// The seat of an identifier, by its ends, so that numbers in place of hashes don't share one.
+fn seat_of(id: &Id) -> usize
+    ensures { result ≡ seat_of id.now }
+{
+    let bytes = id.as_bytes();
+    let first = u16::from_le_bytes([bytes[0], bytes[1]]);
+    let last = u16::from_be_bytes([bytes[30], bytes[31]]);
+    usize::from(first.wrapping_add(last))
 }

@@ -7,6 +7,7 @@ mod leaving;
 mod linking;
 mod looking;
 mod node;
+mod numbers;
 mod row;
 mod tree;
 

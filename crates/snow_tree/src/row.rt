@@ -3,37 +3,37 @@ ghost use Rattle.std.specs.List.{IsDistinct, position};
 ghost use Rattle.std.specs.Map.{keys_of, values_of, lookup};
 ghost use Rattle.std.specs.Option.{option_map, option_copied, option_copied_mut};
 
-use crate::hints::Hints;
+use crate::numbers::Numbers;
 use snow_base::Id;
 use std::alloc::{AllocError, Global};
-use std::collections::{HashMap, VecDeque};
+use std::collections::VecDeque;
 use std::marker::Model;
 
 /// Values in a row, each found by its identifier. As an `IndexMap`, but the first one leaves without
 /// moving the others: an identifier has a number and no place, and the place is how far that lies above
-/// the first's. Most are found by a hint, without the map.
+/// the first's. Most numbers are told by a hint, without a map.
 #[derive(Debug, Drop)]
 pub(crate) struct Row<V> {
     entries: VecDeque<(Id, V)>,
-    numbers: HashMap<Id, usize>,
+    numbers: Numbers,
     first: usize,
-    hints: Hints,
 }
 
 impl<V> Model for Row<V> {
-    ghost use Rattle.std.specs.Prelude.{◌-◌, min, bytes_eq};
+    ghost use Rattle.std.specs.Prelude.{◌-◌, min, length, bytes_eq};
     ghost use Rattle.std.specs.HashMap.{get, spare};
     ghost use Rattle.std.specs.VecDeque.{deque_len, deque_capacity};
     ghost use Rattle.snow_tree.specs.Row.{Lined, IsNumbered};
 
     ghost Value = { Lined V };
 
+    // There is no room where there are no slots.
     ghost view = { λ a. record {
       entries = a.entries.items;
-      spare = min (spare a.numbers) (deque_capacity a.entries - deque_len a.entries);
+      spare = min (length a.numbers.hints) (min (spare a.numbers.map) (deque_capacity a.entries - deque_len a.entries));
     } };
 
-    ghost invariant = { λ a. IsNumbered a.entries.items (get bytes_eq a.numbers) a.first };
+    ghost invariant = { λ a. IsNumbered a.entries.items (get bytes_eq a.numbers.map) a.numbers.hints a.first };
 }
 
 impl<V> Row<V> {
@@ -44,11 +44,11 @@ impl<V> Row<V> {
     pub(crate) fn new(alloc: Global) -> Self
         ensures { result.entries ≡ [] }
     {
+        // An identifier that wasn't told any number is told 0, which no entry has for a long time.
         Row {
             entries: VecDeque::new(alloc),
-            numbers: HashMap::new(alloc),
-            first: 0,
-            hints: Hints::new(alloc),
+            numbers: Numbers::new(alloc),
+            first: 1,
         }
     }
 
@@ -61,22 +61,9 @@ impl<V> Row<V> {
         self.entries.len()
     }
 
-    // The place of an identifier, by the map. It stands apart, so that few registers are kept for what a
-    // guess mostly spares.
-    #[inline(never)]
-    fn look_up(&self, id: &Id) -> Option<usize>
-        ensures index { result ≡ position (bytes_eq id.now) (keys_of self.now.entries) }
-        ensures unique { IsDistinct bytes_eq (keys_of self.now.entries) }
-    {
-        match self.numbers.get(id) {
-            Some(number) => Some(number.wrapping_sub(self.first)),
-            None => None,
-        }
-    }
-
     // Whether an identifier stands at a place.
     fn is_at(&self, place: usize, id: &Id) -> bool
-        ensures { result ≡ true → position (bytes_eq id.now) (keys_of self.now.entries) ≡ Some place }
+        ensures { result ≡ true ↔ (position (bytes_eq id.now) (keys_of self.now.entries) ≡ Some place) }
     {
         let _len = self.len();
         match self.get_index(place) {
@@ -85,28 +72,21 @@ impl<V> Row<V> {
         }
     }
 
-    // The place of an identifier. The map isn't asked where the guess is right.
-    fn find(&self, guess: usize, id: &Id) -> Option<usize>
-        ensures index { result ≡ position (bytes_eq id.now) (keys_of self.now.entries) }
-        ensures unique { IsDistinct bytes_eq (keys_of self.now.entries) }
-    {
-        let _len = self.len();
-        if self.is_at(guess, id) {
-            return Some(guess);
-        }
-        self.look_up(id)
-    }
-
-    /// The place of an identifier.
+    /// The place of an identifier. The map isn't asked where the guess is right.
     pub(crate) fn get_index_of(&self, id: &Id) -> Option<usize>
         ensures index { result ≡ position (bytes_eq id.now) (keys_of self.now.entries) }
         ensures unique { IsDistinct bytes_eq (keys_of self.now.entries) }
     {
+        let _len = self.len();
         // Often nothing stands in the row.
         if self.entries.is_empty() {
             return None;
         }
-        self.find(self.hints.place_of(id, self.first), id)
+        let guess = self.numbers.guess(id, self.first);
+        if self.is_at(guess, id) {
+            return Some(guess);
+        }
+        self.numbers.look_up(id, self.first)
     }
 
     /// The place and the value of an identifier, where the map needn't be asked. The entry is looked at
@@ -116,7 +96,7 @@ impl<V> Row<V> {
         ensures { IfSome result (λ r. (position (bytes_eq id.now) (keys_of self.now.entries) ≡ Some r.0) × (key : List ℕ) × (slice_get self.now.entries r.0 ≡ Some (key, r.1.now))) }
     {
         let _len = self.len();
-        let place = self.hints.place_of(id, self.first);
+        let place = self.numbers.guess(id, self.first);
         match self.get_index(place) {
             Some((other, value)) => {
                 if other == id {
@@ -139,12 +119,12 @@ impl<V> Row<V> {
         }
     }
 
-    // The value of an identifier, by the map.
+    // The value of an identifier, for which the map may be asked.
     #[inline(never)]
     fn look_up_value(&self, id: &Id) -> Option<&V>
         ensures value { option_copied result ≡ lookup (bytes_eq id.now) self.now.entries }
     {
-        let place = self.look_up(id)?;
+        let place = self.get_index_of(id)?;
         match self.get_index(place) {
             Some((_, value)) => Some(value),
             None => None,
@@ -182,9 +162,8 @@ impl<V> Row<V> {
         ensures entries { self.new.entries ≡ self.old.entries }
         ensures room { OnOk result (0 < self.new.spare) }
     {
-        self.hints.make_room(self.entries.len())?;
         self.entries.reserve(1)?;
-        self.numbers.reserve(1)
+        self.numbers.reserve_one(self.entries.len())
     }
 
     /// Appends an entry, for which there is room.
@@ -194,9 +173,8 @@ impl<V> Row<V> {
         ensures { self.new.entries ≡ self.old.entries ++ (id, value) ∷ [] }
     {
         let number = self.first.wrapping_add(self.entries.len());
-        self.hints.note(&id, number);
-        let added: Result<_, _> = self.numbers.insert(id, number);
-        let _ = added.unwrap();
+        self.numbers
+            .take_slot(&self.entries, self.first, &id, number);
         self.entries.push_back_reserved((id, value));
     }
 
@@ -206,7 +184,8 @@ impl<V> Row<V> {
         ensures found { IsSome result ↔ (0 < length self.old.entries) }
     {
         let entry = self.entries.pop_back()?;
-        let _number = self.numbers.remove(&entry.0);
+        let number = self.first.wrapping_add(self.entries.len());
+        self.numbers.forget(&entry.0, number);
         Some(entry)
     }
 
@@ -215,11 +194,10 @@ impl<V> Row<V> {
         ensures first { result ≡ slice_get self.old.entries 0 }
         ensures rest { self.new.entries ≡ drop 1 self.old.entries }
     {
-        let key = match self.entries.front() {
-            Some(entry) => entry.0,
+        match self.entries.front() {
+            Some(entry) => self.numbers.forget(&entry.0, self.first),
             None => return None,
-        };
-        let _number = self.numbers.remove(&key);
+        }
         self.first = self.first.wrapping_add(1);
         // Last, so that the entry goes where it is wanted at once.
         self.entries.pop_front()
@@ -229,14 +207,11 @@ impl<V> Row<V> {
     pub(crate) fn turn(&mut self)
         ensures { self.new.entries ≡ drop 1 self.old.entries ++ take 1 self.old.entries }
     {
-        let key = match self.entries.front() {
-            Some(entry) => entry.0,
-            None => return,
-        };
         let number = self.first.wrapping_add(self.entries.len());
-        self.hints.note(&key, number);
-        let moved: Result<_, _> = self.numbers.insert(key, number);
-        let _ = moved.unwrap();
+        match self.entries.front() {
+            Some(entry) => self.numbers.renumber(&entry.0, self.first, number),
+            None => return,
+        }
         self.entries.rotate_left(1);
         self.first = self.first.wrapping_add(1);
     }

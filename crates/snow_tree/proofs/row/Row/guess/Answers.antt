@@ -9,4 +9,4 @@ returns-then-eq g c =
     let key = c.in-Some.other.now in
     let same = sym (same_id key c.args.id.now (sym c.eq.ensures ∙ c.if-eq.true)) in
     let there = sym c.get_index.ensures ∙ ap (option_map (λ e. (e.0.now, e.1.now))) c.in-Some.is in
-    (one_place c.args.id.now c.args.self.now.entries c.place_of-place.result _ c.len-len.ensures.unique there (id_same c.args.id.now key same), key, there)
+    (one_place c.args.id.now c.args.self.now.entries c.guess-place.result _ c.len-len.ensures.unique there (id_same c.args.id.now key same), key, there)

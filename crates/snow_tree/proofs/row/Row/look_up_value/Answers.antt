@@ -8,7 +8,7 @@ returns-in_err-place g c =
     let entries = c.args.self.now.entries in
     record {
       value = ap option_copied c.from_residual.ensures
-          ∙ ap (value_at entries) (sym c.in_err-place.was ∙ c.look_up.ensures.index)
+          ∙ ap (value_at entries) (sym c.in_err-place.was ∙ c.get_index_of.ensures.index)
           ∙ value_found (bytes_eq c.args.id.now) entries;
     }
 
@@ -17,7 +17,7 @@ returns-in-Some g c =
     let entries = c.args.self.now.entries in
     record {
       value = sym (ap (option_map (λ e. e.1)) (sym c.get_index.ensures ∙ ap (option_map (λ e. (e.0.now, e.1.now))) c.in-Some.is))
-          ∙ ap (value_at entries) (sym c.in_ok-place.was ∙ c.look_up.ensures.index)
+          ∙ ap (value_at entries) (sym c.in_ok-place.was ∙ c.get_index_of.ensures.index)
           ∙ value_found (bytes_eq c.args.id.now) entries;
     }
 
@@ -26,6 +26,6 @@ returns-in-None g c =
     let entries = c.args.self.now.entries in
     record {
       value = sym (ap (option_map (λ e. e.1)) (sym c.get_index.ensures ∙ ap (option_map (λ e. (e.0.now, e.1.now))) c.in-None.is))
-          ∙ ap (value_at entries) (sym c.in_ok-place.was ∙ c.look_up.ensures.index)
+          ∙ ap (value_at entries) (sym c.in_ok-place.was ∙ c.get_index_of.ensures.index)
           ∙ value_found (bytes_eq c.args.id.now) entries;
     }

@@ -1,19 +1,19 @@
-use Rattle.std.proofs.Common.{◌<◌, Some, cond, bytes_eq, ap, ◌∙◌, arith}
-use Rattle.std.specs.HashMap.{get, spare}
+use Rattle.std.proofs.Common.{◌<◌, ◌^◌, length, slice_set, ap, ◌∙◌, arith}
+use Rattle.snow_tree.specs.Hints.{slot_of}
 use Rattle.snow_tree.specs.Row.{number_at}
-use Rattle.snow_tree.proofs.Linked.{ok_holds}
-use Rattle.snow_tree.proofs.Numbered.{one_more, apart_unfound}
+use Rattle.snow_tree.proofs.Numbered.{apart_unfound}
+use Rattle.snow_tree.proofs.Told.{one_told}
 use Rattle.snow_tree.proofs.row.Row.push.Goals as goal
 
 pub invariant_of-self : goal.invariant_of-self
 invariant_of-self g c =
-    let items = c.self.inside.entries.items in
+    let entries = c.self.inside.entries in
+    let slots = c.self.inside.numbers.hints in
     let first = c.self.inside.first in
     let id = c.args.id in
+    let few : length entries.items < 2 ^ 63 = omega (arith, entries.ok.0, entries.small.0, entries.small.1) in
     let free = rw (← c.self.view_is) at c.requires.room in
-    let room : 0 < spare c.self.inside.numbers = omega (arith, free) in
-    let updates = ok_holds c.insert-added.result (c.insert-added.ensures.succeeds room) c.insert-added.ensures.updates in
-    let apart = apart_unfound id items (rw (← c.self.view_is) at c.requires.new) in
-    rw c.push_back_reserved.ensures.items
-    (one_more items _ _ first id c.args.value c.self.invariant apart
-    (λ q. updates.0 q ∙ ap (λ n. cond (bytes_eq id q) (Some (number_at first n)) (get bytes_eq c.self.inside.numbers q)) (c.len.ensures ∙ c.self.inside.entries.ok.0)))
+    let some : 0 < length slots = omega (arith, free) in
+    let apart = apart_unfound id entries.items (rw (← c.self.view_is) at c.requires.new) in
+    let set = c.take_slot.ensures.hints ∙ ap (λ n. slice_set slots (slot_of (length slots) id) (number_at first n)) (c.len.ensures ∙ entries.ok.0) in
+    rw (c.push_back_reserved.ensures.items, set) (one_told entries.items _ _ slots first id c.args.value c.self.invariant some few apart c.take_slot.ensures.map)

@@ -1,0 +1,23 @@
+-- Which number an identifier is told: that of a slot, of which those share one that have the same seat modulo the number of slots.
+use Rattle.std.specs.Prelude.{◌≡◌, ℕ, ◌+◌, ◌*◌, ◌%◌, ◌^◌, ◌<◌, List, get_or, length}
+
+-- the seat of an identifier: its first two bytes and its last two, as numbers that are added
+abbrev pub seat_of : List ℕ → ℕ
+seat_of id = (get_or id 0 0 + get_or id 1 0 * 256 + (get_or id 31 0 + get_or id 30 0 * 256)) % 65536
+
+-- its slot among so many
+abbrev pub slot_of : ℕ → List ℕ → ℕ
+slot_of slots id = seat_of id % slots
+
+-- what it is told, and 0 where there are no slots
+abbrev pub hint_of : List ℕ → List ℕ → ℕ
+hint_of slots id = get_or slots (slot_of (length slots) id) 0
+
+-- a power of two
+pub record IsPower (n : ℕ) : Type 0 where
+  pub bits : ℕ
+  pub is : n ≡ 2 ^ bits
+
+-- there are as many slots as a power of two, if any
+abbrev pub AreSlots : ℕ → Type 0
+AreSlots slots = 0 < slots → IsPower slots
