@@ -14,13 +14,15 @@ use Rattle.snow_plain.specs.Grown.{IsGrown}
 use Rattle.snow_tree.specs.Held.{Entry, Held, blocks_in, children_of, set_load, with_load}
 use Rattle.snow_topo.specs.Kept.{Kept, shown, IsFit}
 use Rattle.snow_topo.specs.View.{pending_of, all_pending}
-use Rattle.snow_topo.specs.declared.climber.Climber.{Climber}
-use Rattle.snow_topo.specs.Climbing.{reach, cursors_of, votes_for, merged, stepped_by, AreBelow, ArePlaced, HasCome}
-use Rattle.snow_topo.specs.Half.{AreClimbing, IsHalf, HasTaken}
-use Rattle.snow_topo.specs.Ladder.{under, up_from}
-use Rattle.snow_topo.proofs.Climbers.{group_came, rest_others}
-use Rattle.snow_topo.proofs.Reached.{reach_at, parent_low}
-use Rattle.snow_topo.proofs.Halfway.{sunk, visited, came_for, climbed}
+use Rattle.snow_climb.specs.declared.climber.Climber.{Climber}
+use Rattle.snow_climb.specs.Climbing.{reach, cursors_of, votes_for, merged, AreBelow, ArePlaced, HasCome}
+use Rattle.snow_topo.specs.Half.{stepped_by, IsHalf, HasTaken}
+use Rattle.snow_climb.specs.Rising.{AreClimbing}
+use Rattle.snow_climb.specs.Ladder.{under, up_from}
+use Rattle.snow_climb.proofs.Climbers.{group_came, rest_others}
+use Rattle.snow_climb.proofs.Reached.{reach_at, parent_low}
+use Rattle.snow_topo.proofs.Halfway.{sunk, visited}
+use Rattle.snow_climb.proofs.Passed.{came_for, climbed}
 
 -- there is an entry at a place within
 pub entry_at : (pending : List (Entry Kept)) (at : ℕ) → at < length pending → (e : Entry Kept) × (slice_get pending at ≡ Some e)

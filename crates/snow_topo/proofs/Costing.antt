@@ -1,15 +1,20 @@
 -- Lemmas on how many steps a poll takes.
-use Rattle.std.proofs.Common.{◌≡◌, ℕ, zero, suc, ◌+◌, ◌<◌, ◌≤◌, List, [], ◌∷◌, length, get_or, drop, sum_by, Some, slice_get, sym, ap, subst, ◌∙◌, arith, drop-cons, nat_le, false}
+use Rattle.std.proofs.Common.{◌≡◌, ℕ, zero, suc, ◌+◌, ◌<◌, ◌≤◌, Bool, true, false, nat_lt, nat_le, List, [], ◌∷◌, length, get_or, drop, sum_by, Some, slice_get, sym, ap, subst, ◌∙◌, arith, drop-cons, if◌then◌else◌}
 use Rattle.std.proofs.lemmas.Grind.{common_steps}
-use Rattle.std.proofs.lemmas.List.Sums.{sum_by-cons}
+use Rattle.std.proofs.lemmas.List.Sums.{sum_by-cons, sum_by-le-sum_by}
 use Rattle.std.proofs.lemmas.List.{get_or-map, length-map}
 use Rattle.std.proofs.lemmas.Option.{slice_get_within, get_or_from_slice_get}
 use Rattle.snow_base.specs.declared.header.Header.{Header}
 use Rattle.snow_base.specs.declared.vote.Vote.{Vote}
+use Rattle.snow_base.specs.Ancestry.{is_below}
 use Rattle.snow_flake.specs.Parameters.{Parameters}
-use Rattle.snow_tree.specs.Held.{Entry, blocks_in}
+use Rattle.snow_plain.specs.Board.{Board, blocks_of, is_pending}
+use Rattle.snow_plain.proofs.Cases.{split_on}
+use Rattle.snow_tree.specs.Held.{Entry, blocks_in, children_of}
+use Rattle.snow_climb.specs.Starting.{votes_by}
+use Rattle.snow_topo.specs.Costs.{pending_votes, most_steps}
 use Rattle.snow_topo.specs.Kept.{Kept}
-use Rattle.snow_topo.specs.Recording.{recording_at, recording_in}
+use Rattle.snow_topo.specs.Recording.{recording_at, recording_in, recording}
 
 -- where there is no quorum there are too few
 pub no_quorum : (least n : ℕ) → nat_le least n ≡ false → n < least
@@ -43,3 +48,32 @@ paid p votes first at m e there less =
     ∙ (λ i. f (block i) + sum_by f (drop (next i) bs))
     in
     omega (arith, here, more_sum f m at bs less)
+
+-- fewer votes are recorded at no more
+fewer_at : (p : Parameters) (blocks : List Header) (votes others : List Vote) (parent : List ℕ) → ((test : List ℕ → Bool) → votes_by test votes ≤ votes_by test others)
+    → recording_at p blocks votes parent ≤ recording_at p blocks others parent
+fewer_at p blocks votes others parent fewer = by (votes_by (is_below blocks parent []) votes) (votes_by (is_below blocks parent []) others) (length (children_of blocks parent)) (fewer (is_below blocks parent []))
+  where
+    reached : (least m n : ℕ) → m ≤ n → nat_le least m ≡ true → nat_le least n ≡ true
+    reached least m n h t = grind (arith, common_steps)
+
+    by : (m n c : ℕ) → m ≤ n → (if nat_le p.alpha_preference m then c else 0) ≤ (if nat_le p.alpha_preference n then c else 0)
+    by m n c h =
+        split_on (nat_le p.alpha_preference m)
+        (λ t. rw (t, reached p.alpha_preference m n h t) (omega arith))
+        (λ t. rw t (omega arith))
+
+-- and take no more steps
+pub fewer_steps : (board : Board) (votes others : List Vote) → ((test : List ℕ → Bool) → votes_by test votes ≤ votes_by test others) → most_steps board votes ≤ most_steps board others
+fewer_steps board votes others fewer =
+    let p = board.parameters in
+    let blocks = blocks_of board.pending in
+    let less : pending_votes board votes ≤ pending_votes board others = fewer (is_pending board) in
+    let rest = sum_by-le-sum_by (λ (b : Header). recording_at p blocks votes b.id) (λ b. recording_at p blocks others b.id) blocks (λ b. fewer_at p blocks votes others b.id fewer) in
+    let all : recording p board.last blocks votes ≤ recording p board.last blocks others = omega (arith, rest, fewer_at p blocks votes others board.last fewer) in
+    split_on (nat_lt (pending_votes board votes) p.alpha_preference)
+    (λ t. split_on (nat_lt (pending_votes board others) p.alpha_preference) (λ s. rw (t, s) (omega arith)) (λ s. rw (t, s) (omega arith)))
+    (λ t. rw (t, still (pending_votes board votes) (pending_votes board others) p.alpha_preference less t) (omega (arith, all)))
+  where
+    still : (m n least : ℕ) → m ≤ n → nat_lt m least ≡ false → nat_lt n least ≡ false
+    still m n least h t = grind (arith, common_steps)

@@ -15,10 +15,11 @@ use Rattle.snow_tree.specs.Held.{Entry, Held, blocks_in}
 use Rattle.snow_tree.proofs.Descending.{last_off}
 use Rattle.snow_topo.specs.Kept.{Kept, shown}
 use Rattle.snow_topo.specs.View.{view, all_pending}
-use Rattle.snow_topo.specs.Climbing.{reach, is_for, stepped_by}
-use Rattle.snow_topo.specs.Half.{AreClimbing}
-use Rattle.snow_topo.proofs.Reached.{near, off_reach, off_below}
-use Rattle.snow_topo.proofs.Halfway.{sum_same}
+use Rattle.snow_climb.specs.Climbing.{reach, is_for}
+use Rattle.snow_topo.specs.Half.{stepped_by}
+use Rattle.snow_climb.specs.Rising.{AreClimbing}
+use Rattle.snow_climb.proofs.Reached.{near, off_reach, off_below}
+use Rattle.snow_climb.proofs.Passed.{sum_same}
 
 -- the votes that came to the last accepted block are those below it
 pub came_last : (p : Parameters) (votes : List Vote) (last : List ℕ) (bs : List Header) (cs : List Cursor) → IsGrown last (reverse bs) → AreClimbing p votes bs 0 cs

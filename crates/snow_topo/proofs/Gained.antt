@@ -23,9 +23,9 @@ use Rattle.snow_tree.proofs.Placed.{either_way}
 use Rattle.snow_topo.specs.Kept.{Contest, Kept, bare, joined, gained, counters_in, ids_in, shown, IsFit}
 use Rattle.snow_topo.specs.View.{pending_of, all_pending, view, AreFit}
 use Rattle.snow_topo.specs.Gaining.{gained_by, with_gain, all_gained}
-use Rattle.snow_topo.specs.Climbing.{above, reach}
+use Rattle.snow_climb.specs.Climbing.{above, reach}
 use Rattle.snow_topo.proofs.Stamped.{same_number, shown_none}
-use Rattle.snow_topo.proofs.Reached.{reach_at, at_reach, reach_within, reach_seen}
+use Rattle.snow_climb.proofs.Reached.{reach_at, at_reach, reach_within, reach_seen}
 use Rattle.snow_topo.proofs.Climbs.{entry_at, set_here, set_other, same_slices}
 
 -- ---- places

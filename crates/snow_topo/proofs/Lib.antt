@@ -1,6 +1,4 @@
 pub mod Stamped
-pub mod Merged
-pub mod Reached
 pub mod Halfway
 pub mod Taken
 pub mod Climbs
@@ -16,12 +14,4 @@ pub mod Endings
 pub mod Standings
 pub mod Polls
 pub mod Advancing
-pub mod Climbers
-pub mod Begun
-pub mod Started
-pub mod Chains
-pub mod Hung
-pub mod Gatherings
-pub mod Mains
-pub mod Majorities
 pub mod Lone

@@ -13,14 +13,14 @@ use Rattle.snow_plain.specs.declared.cursor.Cursor.{Cursor}
 use Rattle.snow_plain.specs.Cursors.{votes_at}
 use Rattle.snow_plain.specs.Grown.{IsGrown}
 use Rattle.snow_tree.specs.Held.{Entry, blocks_in}
-use Rattle.snow_topo.specs.declared.climber.Climber.{Climber}
+use Rattle.snow_climb.specs.declared.climber.Climber.{Climber}
 use Rattle.snow_topo.specs.Kept.{Kept}
-use Rattle.snow_topo.specs.Ladder.{under, up_from}
-use Rattle.snow_topo.specs.Half.{AreClimbing}
-use Rattle.snow_topo.specs.Climbing.{climber_total, count_at, cursor_of, cursors_of, id_in, merged, parent_in, passing, reach, AreBelow, ArePlaced, HasCome}
-use Rattle.snow_topo.proofs.Climbers.{same_total, below_places, within_places}
+use Rattle.snow_climb.specs.Ladder.{under, up_from}
+use Rattle.snow_climb.specs.Rising.{AreClimbing}
+use Rattle.snow_climb.specs.Climbing.{climber_total, count_at, cursor_of, cursors_of, id_in, merged, parent_in, passing, reach, AreBelow, ArePlaced, HasCome}
+use Rattle.snow_climb.proofs.Climbers.{same_total, below_places, within_places}
 use Rattle.snow_topo.proofs.Climbs.{block_at, group_come, parent_reach}
-use Rattle.snow_topo.proofs.Merged.{all_came}
+use Rattle.snow_climb.proofs.Merged.{all_came}
 
 -- he is all who stand on his rung
 lone_here : (at : ℕ) (x : Climber) → x.place ≡ at + 1 → IsPermutation (up_from (at + 1) (x ∷ [])) (x ∷ [])

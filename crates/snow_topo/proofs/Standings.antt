@@ -20,14 +20,15 @@ use Rattle.snow_plain.proofs.Invariant.{settled_keeps, blocks_counted, blocks_is
 use Rattle.snow_plain.proofs.Kept.{blocks-filter}
 use Rattle.snow_tree.specs.Held.{Held, blocks_in, begun}
 use Rattle.snow_topo.specs.Kept.{Kept, bare}
-use Rattle.snow_topo.specs.Ladder.{Rungs, IsReady}
+use Rattle.snow_climb.specs.Ladder.{Rungs, IsReady}
 use Rattle.snow_topo.specs.Standing.{IsStanding}
 use Rattle.snow_topo.specs.View.{pending_of, all_pending, view}
 use Rattle.snow_topo.specs.Recording.{recording, recording_at, recording_in}
 use Rattle.snow_topo.specs.Costs.{pending_votes, most_steps}
-use Rattle.snow_topo.specs.Walking.{IsNamed, AreNamed}
+use Rattle.snow_base.specs.Gathered.{IsNamed}
+use Rattle.snow_topo.specs.Walking.{AreNamed}
 use Rattle.snow_topo.proofs.Counted.{blocks_seen}
-use Rattle.snow_topo.proofs.Reached.{off_below}
+use Rattle.snow_climb.proofs.Reached.{off_below}
 
 -- ---- the beginning
 

@@ -1,9 +1,8 @@
 -- Lemmas on the walk by the answers, from child to child.
-use Rattle.std.proofs.Common.{◌≡◌, ℕ, zero, suc, ◌^◌, ◌<◌, Bool, true, false, List, [], ◌∷◌, ◌++◌, length, get_or, filter, reverse, bytes_eq, Contains, Some, None, slice_get, refl, sym, ap, subst, ◌∙◌, append_assoc, arith}
+use Rattle.std.proofs.Common.{◌≡◌, ℕ, zero, suc, ◌<◌, Bool, true, false, List, [], ◌∷◌, ◌++◌, length, get_or, filter, reverse, bytes_eq, Contains, Some, None, slice_get, refl, sym, ap, subst, ◌∙◌, append_assoc, arith}
 use mathlib.Core.List.{reverse-cons}
 use Rattle.std.specs.Bool.{beq}
 use Rattle.std.specs.Cmp.Lexicographic.{pointwise}
-use Rattle.std.proofs.Math.ListN.{get_or-eq_default}
 use Rattle.std.proofs.lemmas.Bool.{or_parts, and_parts}
 use Rattle.std.proofs.lemmas.List.{get_or_default, length-map, map-append, reverse-append}
 use Rattle.std.proofs.lemmas.List.Elements.{All-head, All-tail, All-map, All-filter, All-nil, All-cons, filter_passes, All-contains, All-contains_itself}
@@ -25,25 +24,18 @@ use Rattle.snow_tree.specs.Held.{Entry, blocks_in, children_of}
 use Rattle.snow_tree.proofs.Left.{one_block}
 use Rattle.snow_topo.specs.Kept.{Contest, Kept, counters_in, ids_in, shown, IsFit}
 use Rattle.snow_topo.specs.View.{pending_of, all_pending}
-use Rattle.snow_topo.specs.Walking.{IsNamed, AreNamed}
-use Rattle.snow_topo.proofs.Halfway.{halves}
+use Rattle.snow_base.specs.Gathered.{IsNamed}
+use Rattle.snow_topo.specs.Walking.{AreNamed}
 use Rattle.snow_topo.proofs.Gained.{block_there}
 use Rattle.snow_topo.proofs.Stamped.{shown_none}
 use Rattle.snow_topo.proofs.Steady.{chosen_shown}
 
 -- ---- identifiers
 
--- a byte of an identifier
-pub small_byte : (id : List ℕ) → IsNamed id → (i : ℕ) → get_or id i 0 < 2 ^ 8
-small_byte id n i =
-    halves i (length id)
-    (λ t. n.bytes i 0 t)
-    (λ t. rw (get_or-eq_default id 0 t) (omega arith))
-
 -- identifiers of the same bits are one
 pub same_bits : (a b : List ℕ) → IsNamed a → IsNamed b → bits a ≡ bits b → a ≡ b
 same_bits a b m n same =
-    same_from_bit_cmp a b m.long n.long (small_byte a m) (small_byte b n)
+    same_from_bit_cmp a b m.long n.long m.bytes n.bytes
     (bit_cmp-same a b (λ k h. sym (get_or-bits a k false h) ∙ ap (λ l. get_or l k false) same ∙ get_or-bits b k false h))
 
 -- lists of bits that are found equal are one

@@ -1,27 +1,20 @@
 -- A poll on its way over the pending blocks, the latest first.
-use Rattle.std.specs.Prelude.{◌≡◌, ℕ, ◌+◌, ◌<◌, ◌≤◌, Bool, List, All, Some, slice_get}
+use Rattle.std.specs.Prelude.{◌≡◌, ℕ, ◌+◌, ◌<◌, ◌≤◌, Bool, List, Some, slice_get}
 use Rattle.std.specs.Option.{option_map}
 use Rattle.snow_base.specs.declared.header.Header.{Header}
 use Rattle.snow_base.specs.declared.vote.Vote.{Vote}
-use Rattle.snow_base.specs.Ancestry.{votes_below}
 use Rattle.snow_flake.specs.Parameters.{Parameters}
-use Rattle.snow_plain.specs.declared.cursor.Cursor.{Cursor}
+use Rattle.snow_plain.specs.declared.pending.Pending.{Pending}
+use Rattle.snow_plain.specs.Board.{with_counters}
 use Rattle.snow_plain.specs.Conflict.{all_polled, votes_on}
-use Rattle.snow_plain.specs.Cursors.{cursor_total}
+use Rattle.snow_plain.specs.Poll.{with_votes}
 use Rattle.snow_tree.specs.Held.{Entry, blocks_in, children_of}
 use Rattle.snow_topo.specs.Kept.{Kept, shown, IsFit}
 use Rattle.snow_topo.specs.View.{all_pending}
-use Rattle.snow_topo.specs.Climbing.{reach, AreBelow, CameBy, votes_for, stepped_by}
 
--- what is so of the votes that climb
-pub record AreClimbing (p : Parameters) (votes : List Vote) (blocks : List Header) (top : ℕ) (cursors : List Cursor) : Type 0 where
-  -- they look for blocks below a place
-  pub below : AreBelow blocks top cursors
-  -- for each block down there they are the votes of the poll
-  pub counted : (q : List ℕ) (front : List Bool) → reach blocks q ≤ top → votes_for blocks cursors q front ≡ votes_below blocks votes q front
-  pub came : All (CameBy blocks) cursors
-  pub counts : All (λ c. 0 < c.count) cursors
-  pub total : cursor_total cursors ≤ p.k
+-- a block's counters take the bit step with all votes below it
+abbrev pub stepped_by : Parameters → List Header → List Vote → Pending → Pending
+stepped_by p blocks votes q = with_counters (with_votes p blocks votes) q
 
 -- from a place on the blocks show what they are to show after the poll; below it they are as they were
 pub record IsHalf (p : Parameters) (polls : ℕ) (votes : List Vote) (first now : List (Entry Kept)) (top : ℕ) : Type 0 where

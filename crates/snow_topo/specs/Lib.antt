@@ -1,10 +1,7 @@
 pub mod Kept
 pub mod KeptCode
 pub mod View
-pub mod Climbing
-pub mod Ladder
 pub mod Half
-pub mod Starting
 pub mod Leading
 pub mod Recording
 pub mod Told
@@ -13,5 +10,3 @@ pub mod Gaining
 pub mod Walking
 pub mod Standing
 pub mod Costs
-pub mod Gathering
-pub mod Majority

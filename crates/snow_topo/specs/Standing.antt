@@ -9,7 +9,7 @@ use Rattle.snow_plain.specs.Preference.{preferred}
 use Rattle.snow_plain.specs.Shown.{Shown, HasRoom}
 use Rattle.snow_tree.specs.Held.{Held, blocks_in}
 use Rattle.snow_topo.specs.Kept.{Kept}
-use Rattle.snow_topo.specs.Ladder.{Rungs, IsReady}
+use Rattle.snow_climb.specs.Ladder.{Rungs, IsReady}
 use Rattle.snow_topo.specs.View.{view, AreFit}
 use Rattle.snow_topo.specs.Walking.{AreNamed}
 

@@ -1,16 +1,12 @@
 -- What a walk by the answers needs of the tree of pending blocks.
-use Rattle.std.specs.Prelude.{◌≡◌, ℕ, ◌^◌, ◌<◌, List, length, All, Option, Some, bytes_eq, if◌then◌else◌}
+use Rattle.std.specs.Prelude.{ℕ, List, All, Option, Some, bytes_eq, if◌then◌else◌}
 use Rattle.std.specs.Option.{option_map}
 use Rattle.snow_base.specs.declared.header.Header.{Header}
+use Rattle.snow_base.specs.Gathered.{IsNamed}
 use Rattle.snow_tree.specs.Held.{Held, entry_in}
 use Rattle.snow_topo.specs.Kept.{Kept}
 
--- an identifier is 32 bytes
-pub record IsNamed (id : List ℕ) : Type 0 where
-  pub long : length id ≡ 32
-  pub bytes : All (λ b. b < 2 ^ 8) id
-
--- so are those of all blocks
+-- the identifier of each block is 32 bytes
 abbrev pub AreNamed : List Header → Type 0
 AreNamed blocks = All (λ b. IsNamed b.id) blocks
 

@@ -1,4 +1,4 @@
-ghost use Rattle.std.specs.Prelude.{◌≡◌, ℕ, ◌^◌, ◌<◌, true, false, [], ◌∷◌, All, None, IfSome, bytes_eq};
+ghost use Rattle.std.specs.Prelude.{◌≡◌, true, false, [], ◌∷◌, All, None, IfSome, bytes_eq};
 ghost use Rattle.std.specs.List.{list_any};
 ghost use Rattle.std.specs.Option.{option_copied};
 ghost use Rattle.snow_plain.specs.declared.leading.Leading.{Leading};
@@ -7,35 +7,12 @@ ghost use Rattle.snow_plain.specs.Preference.{path_from, preferred_path, preferr
 ghost use Rattle.snow_tree.specs.Held.{blocks_in, children_of};
 ghost use Rattle.snow_topo.specs.Kept.{shown, IsFit};
 ghost use Rattle.snow_topo.specs.View.{all_pending, view, AreFit};
-ghost use Rattle.snow_topo.specs.Walking.{IsNamed, AreNamed, kept_of};
+ghost use Rattle.snow_topo.specs.Walking.{AreNamed, kept_of};
 
 use crate::load::Load;
 use snow_base::{Header, Id};
 use snow_flake::{Params, Rule};
 use snow_tree::Tree;
-
-// Bytes are small, as their type says.
-fn small(bytes: &[u8])
-    ensures { All (λ b. b < 2 ^ 8) bytes.now }
-{
-    let _len = bytes.len();
-}
-
-/// An identifier has 32 bytes, which contracts see as a list of numbers.
-pub(crate) fn named(id: &Id)
-    ensures { IsNamed id.now }
-{
-    small(id.as_bytes());
-}
-
-/// So have all of these.
-pub(crate) fn all_named(ids: &[Id])
-    ensures { All IsNamed ids.now }
-{
-    for id in ids {
-        named(id);
-    }
-}
 
 /// What is kept of a block on the board.
 pub(crate) fn kept_of<'a, R: Rule>(

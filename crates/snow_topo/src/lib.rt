@@ -3,20 +3,15 @@
 
 mod accepting;
 mod applying;
-mod climber;
 mod climbing;
 mod counting;
-mod gathering;
 mod issuing;
-mod ladder;
 mod leading;
 mod load;
-mod majority;
 mod polling;
 mod renewing;
 mod replaying;
 mod settling;
-mod starting;
 mod topo;
 mod visiting;
 mod winning;

@@ -2,17 +2,17 @@ ghost use Rattle.std.specs.Prelude.{◌≡◌, ◌+◌, ◌≤◌, List, length,
 ghost use Rattle.snow_base.specs.declared.vote.Vote.{Vote};
 ghost use Rattle.snow_plain.specs.Poll.{poll};
 ghost use Rattle.snow_topo.specs.Costs.{most_steps};
-ghost use Rattle.snow_topo.specs.Ladder.{Rungs, KeepsRoom};
+ghost use Rattle.snow_climb.specs.Ladder.{Rungs, KeepsRoom};
 ghost use Rattle.snow_topo.specs.Standing.{IsStanding};
-ghost use Rattle.snow_topo.specs.Starting.{HaveBegun, IsLoaded};
+ghost use Rattle.snow_climb.specs.Starting.{HaveBegun, IsLoaded};
 ghost use Rattle.snow_topo.specs.View.{view};
 
 use crate::applying::apply;
-use crate::ladder::Ladder;
 use crate::leading::preference_kept;
 use crate::load::Load;
 use crate::renewing::renew;
 use snow_base::{Bag, Id, Steps};
+use snow_climb::Ladder;
 use snow_flake::{Params, Rule};
 use snow_plain::Decision;
 use snow_tree::Tree;

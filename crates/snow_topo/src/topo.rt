@@ -10,12 +10,11 @@ ghost use Rattle.snow_topo.specs.Costs.{most_steps};
 ghost use Rattle.snow_topo.specs.Standing.{AreKept};
 
 use crate::issuing::issue;
-use crate::ladder::Ladder;
-use crate::leading::{is_preferred, is_top, kept_of, named, preference_after};
+use crate::leading::{is_preferred, is_top, kept_of, preference_after};
 use crate::load::Load;
 use crate::polling::record;
-use crate::starting::{start_ids, start_votes};
 use snow_base::{Bag, Header, Id, Steps};
+use snow_climb::{Ladder, named, start_ids, start_votes};
 use snow_flake::{Params, Rule};
 use snow_plain::{Board, Decision};
 use snow_tree::Tree;

@@ -1,21 +1,20 @@
-ghost use Rattle.std.specs.Prelude.{◌≡◌, ◌+◌, ◌*◌, ◌^◌, ◌<◌, ◌≤◌, nat_le, nat_lt, [], ◌∷◌, List, All, Contains, IfSome, IsPermutation, length, slice_get, false, if◌then◌else◌};
+ghost use Rattle.std.specs.Prelude.{◌≡◌, ◌+◌, ◌*◌, ◌^◌, ◌<◌, ◌≤◌, nat_le, [], ◌∷◌, List, All, Contains, IfSome, IsPermutation, length, slice_get, false, if◌then◌else◌};
 ghost use Rattle.snow_base.specs.Votes.{IsInBitOrder, total_count};
 ghost use Rattle.snow_base.specs.declared.vote.Vote.{Vote};
 ghost use Rattle.snow_flake.specs.Parameters.{AreGood};
 ghost use Rattle.snow_plain.specs.Cursors.{votes_at};
 ghost use Rattle.snow_tree.specs.Held.{blocks_in, children_of, with_load};
 ghost use Rattle.snow_topo.specs.Kept.{Kept, ids_in, IsFit};
-ghost use Rattle.snow_topo.specs.Climbing.{climber_total, cursor_of, cursors_of, parent_in, passing, reach, merged, ArePlaced, HasCome};
-ghost use Rattle.snow_topo.specs.Half.{AreClimbing, IsRecorded, HasTaken};
-ghost use Rattle.snow_topo.specs.Ladder.{KeepsRoom};
+ghost use Rattle.snow_climb.specs.Climbing.{climber_total, cursors_of, merged, ArePlaced, HasCome};
+ghost use Rattle.snow_climb.specs.Rising.{AreClimbing};
+ghost use Rattle.snow_topo.specs.Half.{IsRecorded, HasTaken};
+ghost use Rattle.snow_climb.specs.Ladder.{KeepsRoom};
 ghost use Rattle.snow_topo.specs.Leading.{IsSteady};
 
-use crate::climber::{Climber, go_on};
 use crate::climbing::either;
-use crate::gathering::{gather, no_vote, votes_in, write_vote};
-use crate::ladder::Ladder;
 use crate::load::Load;
 use snow_base::{Bag, Steps, Vote};
+use snow_climb::{Climber, Ladder, gather, no_vote, pass, votes_in, write_vote};
 use snow_flake::{Params, Rule};
 use snow_tree::Tree;
 use std::slice;
@@ -115,23 +114,6 @@ fn record_quorum<R: Rule, L: Ledger>(
         either(one, moved)
     } else {
         moved
-    }
-}
-
-// So many votes that came to the block at a place go on to its parent together.
-#[inline(always)]
-fn pass<R: Rule>(tree: &Tree<Load<R>>, at: usize, count: u32, ladder: &mut Ladder)
-    requires room { (ladder.old).put < (ladder.old).most }
-    requires within { at < length (tree.now).pending }
-    requires below { reach (blocks_in (tree.now).pending) (parent_in (slice_get (blocks_in (tree.now).pending) at)) < (ladder.old).low }
-    ensures same { IsPermutation (if nat_lt 0 count then passing (blocks_in (tree.now).pending) at count ∷ (ladder.old).climbers else (ladder.old).climbers) (ladder.new).climbers }
-    ensures put { (ladder.new).put ≤ (ladder.old).put + 1 }
-    ensures low { (ladder.new).low ≡ (ladder.old).low }
-    ensures room { KeepsRoom ladder.old ladder.new }
-{
-    if count > 0 {
-        ladder.put_below();
-        go_on(tree, ladder, at, count);
     }
 }
 

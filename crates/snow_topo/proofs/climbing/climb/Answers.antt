@@ -1,7 +1,7 @@
 use Rattle.std.proofs.Common.{[], ◌∷◌, length, subst, arith}
 use Rattle.snow_tree.specs.Held.{blocks_in}
-use Rattle.snow_topo.specs.Climbing.{cursors_of, ArePlaced}
-use Rattle.snow_topo.specs.Half.{AreClimbing}
+use Rattle.snow_climb.specs.Climbing.{cursors_of, ArePlaced}
+use Rattle.snow_climb.specs.Rising.{AreClimbing}
 use Rattle.snow_topo.proofs.Climbs.{begun_half, ended_half}
 use Rattle.snow_topo.proofs.Lone.{lone_below}
 use Rattle.snow_topo.proofs.climbing.climb.Goals as goal

@@ -1,19 +1,20 @@
 use Rattle.std.proofs.Common.{◌≡◌, ◌+◌, ◌*◌, ◌-◌, ◌≤◌, nat_le, Bool, [], drop, if◌then◌else◌, ℕ, List, All, Some, IsPermutation, slice_get, get_or, length, refl, sym, ap, subst, ◌∙◌, arith}
 use Rattle.std.proofs.lemmas.List.{length-map}
 use Rattle.std.proofs.lemmas.List.Sorted.{All-permutation, IsPermutation-sym, length_permutation}
-use Rattle.snow_topo.specs.declared.climber.Climber.{Climber}
+use Rattle.snow_climb.specs.declared.climber.Climber.{Climber}
 use Rattle.snow_base.specs.Ancestry.{votes_below}
 use Rattle.snow_plain.specs.Cursors.{votes_at}
 use Rattle.snow_tree.specs.Held.{Held, blocks_in, children_of, set_load, with_load}
 use Rattle.snow_topo.specs.Kept.{Kept, ids_in, IsFit}
-use Rattle.snow_topo.specs.Climbing.{reach, cursor_of, cursors_of, ArePlaced, AreBelow, merged}
-use Rattle.snow_topo.specs.Half.{AreClimbing, IsHalf, HasTaken}
-use Rattle.snow_topo.proofs.Merged.{fewer_merged}
+use Rattle.snow_climb.specs.Climbing.{reach, cursor_of, cursors_of, ArePlaced, AreBelow, merged}
+use Rattle.snow_climb.specs.Rising.{AreClimbing}
+use Rattle.snow_topo.specs.Half.{IsHalf, HasTaken}
+use Rattle.snow_climb.proofs.Merged.{fewer_merged}
 use Rattle.snow_topo.specs.Leading.{all_leads, IsSteady}
 use Rattle.snow_topo.specs.Recording.{recording_at, recording_in}
 use Rattle.snow_topo.proofs.Steady.{leads_set}
-use Rattle.snow_topo.proofs.Begun.{climbing_again}
-use Rattle.snow_topo.proofs.Climbers.{below_places, within_places}
+use Rattle.snow_climb.proofs.Begun.{climbing_again}
+use Rattle.snow_climb.proofs.Climbers.{below_places, within_places}
 use Rattle.snow_topo.proofs.Costing.{paid}
 use Rattle.snow_topo.proofs.Climbs.{entry_at, came_here, one_of, all_there, some_of, set_blocks, begun_half, step_half, climbed_past, ended_half, ended_fit}
 use Rattle.snow_topo.proofs.climbing.climb_all.Goals as goal

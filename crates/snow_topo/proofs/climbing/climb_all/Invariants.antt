@@ -1,9 +1,10 @@
 use Rattle.std.proofs.Common.{◌≡◌, ◌+◌, ◌*◌, ◌<◌, ◌≤◌, false, List, drop, length}
 use Rattle.snow_base.specs.declared.vote.Vote.{Vote}
 use Rattle.snow_tree.specs.Held.{blocks_in}
-use Rattle.snow_topo.specs.Climbing.{cursors_of, ArePlaced}
-use Rattle.snow_topo.specs.Half.{AreClimbing, IsHalf}
-use Rattle.snow_topo.specs.Ladder.{KeepsRoom}
+use Rattle.snow_climb.specs.Climbing.{cursors_of, ArePlaced}
+use Rattle.snow_climb.specs.Rising.{AreClimbing}
+use Rattle.snow_topo.specs.Half.{IsHalf}
+use Rattle.snow_climb.specs.Ladder.{KeepsRoom}
 use Rattle.snow_topo.specs.Leading.{all_leads}
 use Rattle.snow_topo.specs.Recording.{recording_in}
 use Rattle.snow_topo.proofs.climbing.climb_all.Given as goal

@@ -1,15 +1,16 @@
 use Rattle.std.proofs.Common.{◌≡◌, ◌+◌, ◌*◌, ◌-◌, ◌<◌, ◌≤◌, nat_le, Bool, [], ◌∷◌, ◌++◌, drop, if◌then◌else◌, ℕ, List, All, Some, slice_get, length, refl, sym, ap, subst, ◌∙◌, arith}
 use Rattle.std.proofs.lemmas.List.{length-map}
 use Rattle.std.proofs.lemmas.List.Elements.{All-head}
-use Rattle.snow_topo.specs.declared.climber.Climber.{Climber}
+use Rattle.snow_climb.specs.declared.climber.Climber.{Climber}
 use Rattle.snow_base.specs.Ancestry.{votes_below}
 use Rattle.snow_plain.specs.declared.cursor.Cursor.{Cursor}
 use Rattle.snow_plain.specs.Cursors.{votes_at}
 use Rattle.snow_tree.specs.Held.{Held, blocks_in, children_of, set_load, with_load}
 use Rattle.snow_topo.specs.Kept.{Kept, ids_in, IsFit}
-use Rattle.snow_topo.specs.Climbing.{cursor_of, cursors_of, merged, passing, ArePlaced, AreBelow}
-use Rattle.snow_topo.specs.Half.{AreClimbing, IsHalf, HasTaken}
-use Rattle.snow_topo.specs.Ladder.{Rungs, under}
+use Rattle.snow_climb.specs.Climbing.{cursor_of, cursors_of, merged, passing, ArePlaced, AreBelow}
+use Rattle.snow_climb.specs.Rising.{AreClimbing}
+use Rattle.snow_topo.specs.Half.{IsHalf, HasTaken}
+use Rattle.snow_climb.specs.Ladder.{Rungs, under}
 use Rattle.snow_topo.specs.Leading.{all_leads, IsSteady}
 use Rattle.snow_topo.specs.Recording.{recording_at, recording_in}
 use Rattle.snow_topo.proofs.Steady.{leads_set}

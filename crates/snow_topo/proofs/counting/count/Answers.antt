@@ -6,13 +6,13 @@ use Rattle.snow_plain.specs.Conflict.{all_polled}
 use Rattle.snow_plain.specs.Cursors.{votes_at}
 use Rattle.snow_tree.specs.Held.{Held, blocks_in, children_of}
 use Rattle.snow_topo.specs.Kept.{ids_in, shown, IsFit}
-use Rattle.snow_topo.specs.Ladder.{Rungs}
+use Rattle.snow_climb.specs.Ladder.{Rungs}
 use Rattle.snow_topo.specs.Recording.{recording_at}
-use Rattle.snow_topo.specs.Climbing.{climber_total, cursors_of, cursor_of, parent_in, reach, HasCome}
-use Rattle.snow_topo.proofs.Begun.{no_block}
-use Rattle.snow_topo.proofs.Climbers.{all_back, same_total, have_come_last, highest_place, of_group, group_total, group_few, group_come_last, votes_of_all, none_under}
+use Rattle.snow_climb.specs.Climbing.{climber_total, cursors_of, cursor_of, parent_in, reach, HasCome}
+use Rattle.snow_climb.proofs.Begun.{no_block}
+use Rattle.snow_climb.proofs.Climbers.{all_back, same_total, have_come_last, highest_place, of_group, group_total, group_few, group_come_last, votes_of_all, none_under}
 use Rattle.snow_topo.proofs.Counted.{came_last, counted_view}
-use Rattle.snow_topo.proofs.Merged.{all_came}
+use Rattle.snow_climb.proofs.Merged.{all_came}
 use Rattle.snow_topo.proofs.Steady.{preferred_same}
 use Rattle.snow_topo.proofs.counting.count.Goals as goal
 

@@ -3,12 +3,11 @@ use Rattle.snow_flake.specs.Counter.{class}
 use Rattle.snow_plain.specs.Conflict.{votes_on}
 use Rattle.snow_plain.specs.Cursors.{votes_at}
 use Rattle.snow_tree.specs.Held.{blocks_in}
-use Rattle.snow_topo.specs.Climbing.{cursors_of, gathered}
-use Rattle.snow_topo.proofs.Climbers.{same_total}
+use Rattle.snow_climb.specs.Climbing.{cursors_of, gathered}
+use Rattle.snow_climb.proofs.Climbers.{same_total}
 use Rattle.snow_topo.proofs.Costing.{no_quorum}
-use Rattle.snow_topo.proofs.Mains.{taken_alike}
-use Rattle.snow_topo.proofs.Merged.{few_came}
-use Rattle.snow_topo.proofs.Taken.{left_alone}
+use Rattle.snow_topo.proofs.Taken.{taken_alike, left_alone}
+use Rattle.snow_climb.proofs.Merged.{few_came}
 use Rattle.snow_topo.proofs.counting.record_root.Goals as goal
 
 pub record-requires-clause-given : goal.record-requires-clause-given

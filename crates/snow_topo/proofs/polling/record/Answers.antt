@@ -8,7 +8,7 @@ use Rattle.snow_topo.specs.View.{view}
 use Rattle.snow_topo.specs.Walking.{AreNamed}
 use Rattle.snow_topo.proofs.Counted.{blocks_seen}
 use Rattle.snow_topo.proofs.Standings.{view_length, names_seen, names_kept, names_polled, bounded}
-use Rattle.snow_topo.proofs.Started.{begun_again, loaded_again}
+use Rattle.snow_climb.proofs.Started.{begun_again, loaded_again}
 use Rattle.snow_topo.proofs.polling.record.Given as given
 use Rattle.snow_topo.proofs.polling.record.Goals as goal
 use Rattle.snow_topo.proofs.polling.record.Goals.{After-renew-before, After-apply-moved}

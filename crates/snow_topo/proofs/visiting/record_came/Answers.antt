@@ -4,9 +4,8 @@ use Rattle.snow_plain.specs.Conflict.{votes_on}
 use Rattle.snow_plain.specs.Cursors.{votes_at}
 use Rattle.snow_tree.specs.Held.{blocks_in, children_of}
 use Rattle.snow_topo.specs.Kept.{IsFit}
-use Rattle.snow_topo.specs.Climbing.{cursors_of, gathered, HasCome}
-use Rattle.snow_topo.proofs.Mains.{taken_alike}
-use Rattle.snow_topo.proofs.Taken.{if_some}
+use Rattle.snow_climb.specs.Climbing.{cursors_of, gathered, HasCome}
+use Rattle.snow_topo.proofs.Taken.{taken_alike, if_some}
 use Rattle.snow_topo.proofs.visiting.record_came.Goals as goal
 
 pub record_at-requires-clause-given : goal.record_at-requires-clause-given

@@ -4,8 +4,8 @@ use Rattle.snow_plain.specs.Conflict.{all_polled, votes_on}
 use Rattle.snow_plain.specs.Cursors.{votes_at}
 use Rattle.snow_tree.specs.Held.{blocks_in, children_of}
 use Rattle.snow_topo.specs.Kept.{ids_in, shown, IsFit}
-use Rattle.snow_topo.specs.Climbing.{cursors_of, vote_in, HasCome}
-use Rattle.snow_topo.proofs.Climbers.{only_votes, only_among}
+use Rattle.snow_climb.specs.Climbing.{cursors_of, vote_in, HasCome}
+use Rattle.snow_climb.proofs.Climbers.{only_votes, only_among}
 use Rattle.snow_topo.proofs.Taken.{if_some}
 use Rattle.snow_topo.proofs.visiting.record_lone.Goals as goal
 

@@ -2,10 +2,10 @@ use Rattle.std.proofs.Common.{◌∙◌, slice_get, refl, sym, arith}
 use Rattle.std.proofs.lemmas.Bool.{or_parts}
 use Rattle.snow_plain.specs.Cursors.{votes_at}
 use Rattle.snow_tree.specs.Held.{blocks_in}
-use Rattle.snow_topo.specs.Climbing.{cursors_of}
-use Rattle.snow_topo.proofs.Climbers.{same_total}
+use Rattle.snow_climb.specs.Climbing.{cursors_of}
+use Rattle.snow_climb.proofs.Climbers.{same_total}
 use Rattle.snow_topo.proofs.Costing.{no_quorum}
-use Rattle.snow_topo.proofs.Merged.{few_came}
+use Rattle.snow_climb.proofs.Merged.{few_came}
 use Rattle.snow_topo.proofs.Taken.{same_load, left_alone, if_some}
 use Rattle.snow_topo.proofs.visiting.record_quorum.Goals as goal
 

@@ -3,14 +3,14 @@ use Rattle.std.proofs.lemmas.List.{length-map}
 use Rattle.std.proofs.lemmas.Option.{slice_get_within}
 use Rattle.snow_plain.specs.Cursors.{votes_at}
 use Rattle.snow_tree.specs.Held.{Held, blocks_in}
-use Rattle.snow_topo.specs.declared.climber.Climber.{Climber}
+use Rattle.snow_climb.specs.declared.climber.Climber.{Climber}
 use Rattle.snow_topo.specs.Kept.{Kept, ids_in}
 use Rattle.snow_topo.specs.Half.{HasTaken}
-use Rattle.snow_topo.specs.Climbing.{climber_total, cursor_of, cursors_of, parent_in, passing, reach}
-use Rattle.snow_topo.specs.Ladder.{Rungs}
-use Rattle.snow_topo.proofs.Climbers.{all_back, same_total, highest_place, of_group, group_total, group_few, votes_of_group, passed_on, merged_on, placed_on}
+use Rattle.snow_climb.specs.Climbing.{climber_total, cursor_of, cursors_of, parent_in, passing, reach}
+use Rattle.snow_climb.specs.Ladder.{Rungs}
+use Rattle.snow_climb.proofs.Climbers.{all_back, same_total, highest_place, of_group, group_total, group_few, votes_of_group, passed_on, merged_on, placed_on}
 use Rattle.snow_topo.proofs.Climbs.{block_at, entry_at, blocks_after, parent_reach, group_come, group_others, some_of}
-use Rattle.snow_topo.proofs.Merged.{all_came}
+use Rattle.snow_climb.proofs.Merged.{all_came}
 use Rattle.snow_topo.proofs.Taken.{if_some}
 use Rattle.snow_topo.proofs.visiting.visit.Goals as goal
 

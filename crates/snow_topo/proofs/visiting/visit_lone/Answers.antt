@@ -2,11 +2,11 @@ use Rattle.std.proofs.Common.{◌≡◌, ◌+◌, ◌*◌, ◌≤◌, ◌∷◌,
 use Rattle.snow_plain.specs.Cursors.{votes_at}
 use Rattle.snow_tree.specs.Held.{blocks_in, children_of}
 use Rattle.snow_topo.specs.Kept.{ids_in, IsFit}
-use Rattle.snow_topo.specs.Climbing.{cursors_of}
-use Rattle.snow_topo.proofs.Climbers.{same_total}
+use Rattle.snow_climb.specs.Climbing.{cursors_of}
+use Rattle.snow_climb.proofs.Climbers.{same_total}
 use Rattle.snow_topo.proofs.Costing.{no_quorum}
 use Rattle.snow_topo.proofs.Lone.{lone_come, lone_count, lone_total}
-use Rattle.snow_topo.proofs.Merged.{few_came}
+use Rattle.snow_climb.proofs.Merged.{few_came}
 use Rattle.snow_topo.proofs.Taken.{same_load, left_alone, if_some}
 use Rattle.snow_topo.proofs.visiting.visit_lone.Goals as goal
 

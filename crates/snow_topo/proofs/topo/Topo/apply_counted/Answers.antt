@@ -3,7 +3,7 @@ use Rattle.snow_base.specs.Votes.{total_count}
 use Rattle.snow_plain.specs.Poll.{poll}
 use Rattle.snow_plain.specs.Shown.{Shown}
 use Rattle.snow_topo.specs.Costs.{most_steps}
-use Rattle.snow_topo.specs.Starting.{HaveBegun}
+use Rattle.snow_climb.specs.Starting.{HaveBegun}
 use Rattle.snow_topo.proofs.topo.Topo.apply_counted.Given as given
 use Rattle.snow_topo.proofs.topo.Topo.apply_counted.Goals as goal
 use Rattle.snow_topo.proofs.topo.Topo.apply_counted.Goals.{After-start_votes}

@@ -5,7 +5,7 @@ use Rattle.snow_plain.specs.Shown.{Shown}
 use Rattle.snow_plain.proofs.Same.{same_board}
 use Rattle.snow_topo.specs.Costs.{most_steps}
 use Rattle.snow_topo.specs.View.{view}
-use Rattle.snow_topo.proofs.Majorities.{fewer_steps}
+use Rattle.snow_topo.proofs.Costing.{fewer_steps}
 use Rattle.snow_topo.proofs.topo.Topo.apply_votes_counted.Goals as goal
 
 pub record-polls-requires-clause-begun : goal.record-polls-requires-clause-begun

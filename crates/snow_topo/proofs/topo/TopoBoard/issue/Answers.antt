@@ -8,7 +8,7 @@ use Rattle.snow_plain.specs.Preference.{preferred}
 use Rattle.snow_plain.specs.Reached.{MayIssue}
 use Rattle.snow_plain.specs.Shown.{Shown}
 use Rattle.snow_plain.proofs.Ended.{latest_alone, leading_issued}
-use Rattle.snow_topo.specs.Ladder.{IsReady}
+use Rattle.snow_climb.specs.Ladder.{IsReady}
 use Rattle.snow_topo.specs.View.{view}
 use Rattle.snow_topo.proofs.Standings.{issue_unknown, issue_follows, grown_seen, issued_length, view_length, names_issued, names_seen, names_kept}
 use Rattle.snow_topo.proofs.topo.TopoBoard.issue.Goals as goal

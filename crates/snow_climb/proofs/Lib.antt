@@ -1,0 +1,11 @@
+pub mod Merged
+pub mod Reached
+pub mod Passed
+pub mod Climbers
+pub mod Begun
+pub mod Started
+pub mod Chains
+pub mod Hung
+pub mod Gatherings
+pub mod Mains
+pub mod Majorities

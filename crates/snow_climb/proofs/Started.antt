@@ -1,0 +1,215 @@
+-- Lemmas on the votes of a poll before they climb: those that wait are counted with those that began.
+use Rattle.std.proofs.Common.{◌≡◌, ℕ, ◌+◌, ◌*◌, ◌<◌, ◌≤◌, Bool, true, false, List, [], ◌∷◌, ◌++◌, length, get_or, set, take, drop, replicate, reverse, bytes_eq, All, IsPermutation, refl, sym, ap, subst, ◌∙◌, arith, rules, if◌then◌else◌}
+use Rattle.std.specs.Option.{option_to_list}
+use Rattle.std.proofs.lemmas.List.{length-map, drop_all}
+use Rattle.std.proofs.lemmas.List.Elements.{All-nil, All-cons}
+use Rattle.std.proofs.lemmas.List.Folds.{sum_by-replicate}
+use Rattle.std.proofs.lemmas.List.Sums.{sum_by-cons, sum_by-set, sum_by-drop_more, sum_by_more, get_or-le-sum_by}
+use Rattle.std.proofs.lemmas.List.Sorted.{length_permutation}
+use Rattle.snow_base.specs.declared.vote.Vote.{Vote}
+use Rattle.snow_base.specs.Ancestry.{is_below}
+use Rattle.snow_base.specs.Gathered.{IsNamed, one_each}
+use Rattle.snow_base.specs.Votes.{total_count}
+use Rattle.snow_flake.specs.Parameters.{Parameters}
+use Rattle.snow_plain.specs.Grown.{IsGrown}
+use Rattle.snow_plain.proofs.Cases.{same_id}
+use Rattle.snow_plain.proofs.OneEach.{each_by}
+use Rattle.snow_plain.proofs.Polled.{few_votes}
+use Rattle.snow_tree.specs.Held.{Entry, blocks_in}
+use Rattle.snow_climb.specs.declared.climber.Climber.{Climber}
+use Rattle.snow_climb.specs.Climbing.{begun, cursors_of, ArePlaced}
+use Rattle.snow_climb.specs.Rising.{AreClimbing}
+use Rattle.snow_climb.specs.Ladder.{Rungs}
+use Rattle.snow_climb.specs.Starting.{share, votes_by, ids_by, HaveStarted, HaveBegun, IsLoaded}
+use Rattle.snow_climb.proofs.Begun.{begun_at, begun_few, begun_first, placed_at}
+
+share_more : (t : Bool) (m n : ℕ) → (if t then m + n else 0) ≡ (if t then m else 0) + (if t then n else 0)
+share_more true m n = refl
+share_more false m n = refl
+
+-- ---- at the beginning nobody waits, and nothing is counted
+
+nothing : (t : Bool) (n : ℕ) → n ≡ 0 → (if t then n else 0) ≡ 0
+nothing true n e = e
+nothing false n e = refl
+
+-- places where nobody waits
+pub nobody_waits : (test : List ℕ → Bool) (n : ℕ) (id : List ℕ) → votes_by test (replicate n (record { id = id; count = 0 })) ≡ 0
+nobody_waits test n id =
+    let own = nothing (test id) 0 refl in
+    sum_by-replicate (share test) n (record { id = id; count = 0 }) ∙ ap (λ m. n * m) own ∙ omega arith
+
+pub no_votes_wait : (n : ℕ) (id : List ℕ) → total_count (replicate n (record { id = id; count = 0 })) ≡ 0
+no_votes_wait n id = sum_by-replicate (λ (v : Vote). v.count) n (record { id = id; count = 0 }) ∙ omega arith
+
+-- all wait
+pub none_started : {T : Type 0} (pending : List (Entry T)) (waiting : (List ℕ → Bool) → ℕ) → HaveStarted pending waiting waiting []
+none_started pending waiting = record {
+  votes = [];
+  placed = search rules;
+  some = All-nil (λ v. 0 < v.count);
+  same = λ test. omega arith;
+}
+
+-- the same numbers
+pub same_started : {T : Type 0} (pending : List (Entry T)) (waiting next counted now : (List ℕ → Bool) → ℕ) (cs : List Climber) → ((test : List ℕ → Bool) → waiting test ≡ next test) → ((test : List ℕ → Bool) → counted test ≡ now test)
+    → HaveStarted pending waiting counted cs → HaveStarted pending next now cs
+same_started pending waiting next counted now cs w n h = record { votes = h.votes; placed = h.placed; some = h.some; same = λ test. omega (arith, h.same test, w test, n test) }
+
+-- ---- one begins, or one more waits
+
+-- votes that waited begin
+pub one_started : {T : Type 0} (pending : List (Entry T)) (v : Vote) (others counted : (List ℕ → Bool) → ℕ) (cs ds : List Climber) → 0 < v.count → IsPermutation (option_to_list (begun pending v) ++ cs) ds
+    → HaveStarted pending (λ test. share test v + others test) counted cs → HaveStarted pending others counted ds
+one_started pending v others counted cs ds some next h = record {
+  votes = v ∷ h.votes;
+  placed = begun_first pending v h.votes cs ds h.placed next;
+  some = All-cons (λ v. 0 < v.count) v h.votes some h.some;
+  same = λ test. omega (arith, h.same test, sum_by-cons (share test) v h.votes);
+}
+
+-- where there are none all is as before
+pub none_let_go : {T : Type 0} (pending : List (Entry T)) (v : Vote) (others counted : (List ℕ → Bool) → ℕ) (cs : List Climber) → v.count ≡ 0
+    → HaveStarted pending (λ test. share test v + others test) counted cs → HaveStarted pending others counted cs
+none_let_go pending v others counted cs none h =
+    record { votes = h.votes; placed = h.placed; some = h.some; same = λ test. let own : share test v ≡ 0 = nothing (test v.id) v.count none in omega (arith, h.same test, own) }
+
+-- the first of many begins
+pub next_waits : {T : Type 0} (pending : List (Entry T)) (votes : List Vote) (i : ℕ) (v : Vote) (counted : (List ℕ → Bool) → ℕ) (cs : List Climber) → i < length votes → v ≡ get_or votes i v
+    → HaveStarted pending (λ test. votes_by test (drop i votes)) counted cs → HaveStarted pending (λ test. share test v + votes_by test (drop (i + 1) votes)) counted cs
+next_waits pending votes i v counted cs h is started =
+    record { votes = started.votes; placed = started.placed; some = started.some; same = λ test. omega (arith, started.same test, sum_by-drop_more (share test) votes i v h, ap (share test) is) }
+
+-- until none is left
+pub all_started : {T : Type 0} (pending : List (Entry T)) (votes : List Vote) (i : ℕ) (counted : (List ℕ → Bool) → ℕ) (cs : List Climber) → length votes ≤ i
+    → HaveStarted pending (λ test. votes_by test (drop i votes)) counted cs → HaveStarted pending (λ test. 0) counted cs
+all_started pending votes i counted cs past started =
+    record { votes = started.votes; placed = started.placed; some = started.some; same = λ test. omega (arith, started.same test, ap (votes_by test) (drop_all i votes past)) }
+
+-- one more waits with others
+pub one_joins : {T : Type 0} (pending : List (Entry T)) (v : Vote) (id : List ℕ) (others counted : (List ℕ → Bool) → ℕ) (cs : List Climber) → bytes_eq v.id id ≡ true
+    → HaveStarted pending (λ test. share test v + others test) counted cs
+    → HaveStarted pending (λ test. share test (record v { count = v.count + 1 }) + others test) (λ test. (if test id then 1 else 0) + counted test) cs
+one_joins pending v id others counted cs same started =
+    record {
+      votes = started.votes;
+      placed = started.placed;
+      some = started.some;
+      same = λ test.
+          let own : ids_by test (v.id ∷ []) ≡ ids_by test (id ∷ []) = ap (λ x. ids_by test (x ∷ [])) (same_id v.id id same) in
+          omega (arith, started.same test, own, share_more (test v.id) v.count 1);
+    }
+
+-- or alone
+pub one_waits : {T : Type 0} (pending : List (Entry T)) (id : List ℕ) (others counted : (List ℕ → Bool) → ℕ) (cs : List Climber) → HaveStarted pending others counted cs
+    → HaveStarted pending (λ test. share test (record { id = id; count = 1 }) + others test) (λ test. (if test id then 1 else 0) + counted test) cs
+one_waits pending id others counted cs started = record { votes = started.votes; placed = started.placed; some = started.some; same = λ test. omega (arith, started.same test) }
+
+-- a single one begins
+pub alone_started : {T : Type 0} (pending : List (Entry T)) (ids : List (List ℕ)) (id : List ℕ) (counted : (List ℕ → Bool) → ℕ) (cs ds : List Climber) → length ids ≡ 1 → id ≡ get_or ids 0 id
+    → IsPermutation (option_to_list (begun pending (record { id = id; count = 1 })) ++ cs) ds
+    → HaveStarted pending (λ test. 0) counted cs → HaveStarted pending (λ test. 0) (λ test. ids_by test ids + counted test) ds
+alone_started pending [] id counted cs ds one is next started = absurd (omega (arith, one))
+alone_started pending (x ∷ []) id counted cs ds one is next started =
+    let v : Vote = record { id = id; count = 1 } in
+    let more : (List ℕ → Bool) → ℕ = λ test. (if test id then 1 else 0) + counted test in
+    same_started pending (λ test. 0) (λ test. 0) more (λ test. ids_by test (x ∷ []) + counted test) ds (λ test. refl) (λ test. omega (arith, ap (λ y. ids_by test (y ∷ [])) is))
+    (one_started pending v (λ test. 0) more cs ds (omega arith) next (one_waits pending id (λ test. 0) counted cs started))
+alone_started pending (x ∷ y ∷ ids) id counted cs ds one is next started = absurd (omega (arith, one))
+
+-- ---- places where votes wait
+
+abbrev Weigh : Type 0
+Weigh = (List ℕ → Bool) → ℕ
+
+-- those that wait at the other places
+abbrev pub beside : List Vote → ℕ → Vote → (List ℕ → Bool) → ℕ
+beside waiting at v test = votes_by test (set waiting at (record { id = v.id; count = 0 }))
+
+without : (waiting : List Vote) (at : ℕ) (v : Vote) (test : List ℕ → Bool) → at < length waiting → v ≡ get_or waiting at v
+    → votes_by test waiting ≡ share test v + beside waiting at v test
+without waiting at v test h is =
+    omega (arith, sum_by-set (share test) waiting at (record { id = v.id; count = 0 }) v h, ap (share test) is, nothing (test v.id) 0 refl)
+
+with_other : (waiting : List Vote) (at : ℕ) (v w : Vote) (test : List ℕ → Bool) → at < length waiting → v ≡ get_or waiting at v
+    → votes_by test (set waiting at w) ≡ share test w + beside waiting at v test
+with_other waiting at v w test h is = omega (arith, without waiting at v test h is, sum_by-set (share test) waiting at w v h, ap (share test) is)
+
+-- one place is taken out
+pub seat_taken : {T : Type 0} (pending : List (Entry T)) (waiting : List Vote) (at : ℕ) (v : Vote) (counted : (List ℕ → Bool) → ℕ) (cs : List Climber) → at < length waiting → v ≡ get_or waiting at v
+    → HaveStarted pending (λ test. votes_by test waiting) counted cs → HaveStarted pending (λ test. share test v + beside waiting at v test) counted cs
+seat_taken pending waiting at v counted cs h is started =
+    record { votes = started.votes; placed = started.placed; some = started.some; same = λ test. omega (arith, started.same test, without waiting at v test h is) }
+
+-- and put back, with one identifier more counted
+pub seat_back : {T : Type 0} (pending : List (Entry T)) (waiting : List Vote) (at : ℕ) (v w : Vote) (ids : List (List ℕ)) (i : ℕ) (id : List ℕ) (counted : (List ℕ → Bool) → ℕ) (cs : List Climber)
+    → at < length waiting → v ≡ get_or waiting at v → i < length ids → id ≡ get_or ids i id
+    → HaveStarted pending (λ test. share test w + beside waiting at v test) (λ test. (if test id then 1 else 0) + (ids_by test (take i ids) + counted test)) cs
+    → HaveStarted pending (λ test. votes_by test (set waiting at w)) (λ test. ids_by test (take (i + 1) ids) + counted test) cs
+seat_back pending waiting at v w ids i id counted cs h is k seen started =
+    record {
+      votes = started.votes;
+      placed = started.placed;
+      some = started.some;
+      same = λ test.
+          omega (
+            arith,
+            started.same test,
+            with_other waiting at v w test h is,
+            sum_by_more (λ id. if test id then 1 else 0) ids i id k,
+            ap (λ x. ids_by test (x ∷ [])) seen,
+          );
+    }
+
+-- how many wait
+pub total_set : (waiting : List Vote) (at : ℕ) (v w : Vote) → at < length waiting → v ≡ get_or waiting at v → total_count (set waiting at w) + v.count ≡ total_count waiting + w.count
+total_set waiting at v w h is = omega (arith, sum_by-set (λ (v : Vote). v.count) waiting at w v h, ap (λ (v : Vote). v.count) is)
+
+pub one_of_total : (waiting : List Vote) (at : ℕ) (v : Vote) → at < length waiting → v ≡ get_or waiting at v → v.count ≤ total_count waiting
+one_of_total waiting at v h is = omega (arith, get_or-le-sum_by (λ (v : Vote). v.count) waiting at v h, ap (λ (v : Vote). v.count) is)
+
+-- ---- once all began
+
+-- they stand past their own blocks
+pub begun_from : {T : Type 0} (p : Parameters) (votes : List Vote) (last : List ℕ) (pending : List (Entry T)) (ladder : Rungs) → IsGrown last (reverse (blocks_in pending))
+    → HaveStarted pending (λ test. 0) (λ test. votes_by test votes) ladder.climbers → total_count votes ≤ p.k → HaveBegun p votes pending ladder
+begun_from p votes last pending ladder g started few =
+    let all : total_count started.votes ≡ total_count votes = omega (arith, started.same (λ _. true)) in
+    let climbing = begun_at p started.votes last pending ladder.climbers g started.placed started.some (omega (arith, all, few)) in
+    record {
+      below = climbing.below;
+      counted = λ q front low. climbing.counted q front low ∙ omega (arith, started.same (is_below (blocks_in pending) q front));
+      came = climbing.came;
+      counts = climbing.counts;
+      total = climbing.total;
+    }
+
+-- there are no more than votes
+pub begun_fewer : {T : Type 0} (votes : List Vote) (pending : List (Entry T)) (cs : List Climber) → HaveStarted pending (λ test. 0) (λ test. votes_by test votes) cs → length cs ≤ total_count votes
+begun_fewer votes pending cs started =
+    omega (arith, length_permutation _ _ started.placed, begun_few pending started.votes, few_votes started.votes started.some, started.same (λ _. true))
+
+-- each goes with the place of its parent
+pub begun_places : {T : Type 0} (pending : List (Entry T)) (waiting counted : (List ℕ → Bool) → ℕ) (cs : List Climber) → HaveStarted pending waiting counted cs → ArePlaced (blocks_in pending) cs
+begun_places pending waiting counted cs started = placed_at pending started.votes cs started.placed
+
+-- as many of the votes as of the identifiers pass a test
+pub each_passes : (ids : List (List ℕ)) → All IsNamed ids → (test : List ℕ → Bool) → ids_by test ids ≡ votes_by test (one_each ids)
+each_passes ids named test = sym (each_by test ids named)
+
+-- ---- a board whose blocks are the same
+
+same_length : {T : Type 0} (old new : List (Entry T)) → blocks_in new ≡ blocks_in old → length new ≡ length old
+same_length old new same = omega (arith, ap length same, length-map old (λ e. e.block), length-map new (λ e. e.block))
+
+pub begun_again : {T : Type 0} (p : Parameters) (votes : List Vote) (old new : List (Entry T)) (ladder : Rungs) → blocks_in new ≡ blocks_in old → HaveBegun p votes old ladder → HaveBegun p votes new ladder
+begun_again p votes old new ladder same climbing =
+    subst (λ bs. AreClimbing p votes bs (length new) (cursors_of bs ladder.climbers)) (sym same)
+    (subst (λ n. AreClimbing p votes (blocks_in old) n (cursors_of (blocks_in old) ladder.climbers)) (sym (same_length old new same)) climbing)
+
+pub loaded_again : {T : Type 0} (old new : List (Entry T)) (ladder : Rungs) → blocks_in new ≡ blocks_in old → IsLoaded old ladder → IsLoaded new ladder
+loaded_again old new ladder same loaded = record {
+  placed = subst (λ bs. ArePlaced bs ladder.climbers) (sym same) loaded.placed;
+  put = omega (arith, loaded.put, same_length old new same);
+  low = omega (arith, loaded.low, same_length old new same);
+}

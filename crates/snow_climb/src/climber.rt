@@ -1,0 +1,108 @@
+ghost use Rattle.std.specs.Prelude.{◌≡◌, ◌+◌, ◌<◌, ◌≤◌, nat_lt, ◌∷◌, length, slice_get, IfSome, IsPermutation, if◌then◌else◌};
+ghost use Rattle.snow_tree.specs.Held.{blocks_in, place_in};
+ghost use Rattle.snow_climb.specs.Climbing.{reach, parent_in, passing};
+ghost use Rattle.snow_climb.specs.Ladder.{KeepsRoom};
+
+use crate::ladder::Ladder;
+use snow_tree::Tree;
+
+/// Votes on their way up the line of their block. They passed the block at a place, and look for its
+/// parent: `place` is one more than where that stands, and 0 where it isn't pending.
+#[derive(Clone, Copy, Debug)]
+pub struct Climber {
+    pub place: usize,
+    pub passed: usize,
+    pub count: u32,
+}
+
+// One more than a place among so many.
+fn above(place: usize, len: usize) -> usize
+    requires { place < len }
+    ensures { result ≡ place + 1 }
+{
+    place + 1
+}
+
+// One more than the place of the parent of the block at a place, which is this one; 0 where that isn't
+// pending.
+#[inline(always)]
+fn parent_reach<T: Drop>(tree: &Tree<T>, at: usize, parent: Option<usize>) -> usize
+    requires within { at < length (tree.now).pending }
+    requires parent { IfSome (slice_get (tree.now).pending at) (λ e. parent ≡ place_in (tree.now).pending e.block.parent) }
+    ensures { result ≡ reach (blocks_in (tree.now).pending) (parent_in (slice_get (blocks_in (tree.now).pending) at)) }
+{
+    let len = tree.len();
+    match parent {
+        Some(place) => above(place, len),
+        None => 0,
+    }
+}
+
+/// Votes that passed the block at a place go on to its parent, which stands at this one. It takes no
+/// memory.
+#[inline(always)]
+pub(crate) fn go_on_to<T: Drop>(
+    tree: &Tree<T>,
+    ladder: &mut Ladder,
+    at: usize,
+    parent: Option<usize>,
+    count: u32,
+)
+    requires room { (ladder.old).put < (ladder.old).most }
+    requires within { at < length (tree.now).pending }
+    requires parent { IfSome (slice_get (tree.now).pending at) (λ e. parent ≡ place_in (tree.now).pending e.block.parent) }
+    requires below { reach (blocks_in (tree.now).pending) (parent_in (slice_get (blocks_in (tree.now).pending) at)) < (ladder.old).low }
+    ensures same { IsPermutation (passing (blocks_in (tree.now).pending) at count ∷ (ladder.old).climbers) (ladder.new).climbers }
+    ensures rest { ladder.new ≡ record (ladder.old) { climbers = (ladder.new).climbers; put = (ladder.old).put + 1 } }
+{
+    let place = parent_reach(tree, at, parent);
+    ladder.put(Climber {
+        place,
+        passed: at,
+        count,
+    });
+}
+
+/// The same where it isn't known yet at which.
+#[inline(always)]
+pub(crate) fn go_on<T: Drop>(tree: &Tree<T>, ladder: &mut Ladder, at: usize, count: u32)
+    requires room { (ladder.old).put < (ladder.old).most }
+    requires within { at < length (tree.now).pending }
+    requires below { reach (blocks_in (tree.now).pending) (parent_in (slice_get (blocks_in (tree.now).pending) at)) < (ladder.old).low }
+    ensures same { IsPermutation (passing (blocks_in (tree.now).pending) at count ∷ (ladder.old).climbers) (ladder.new).climbers }
+    ensures rest { ladder.new ≡ record (ladder.old) { climbers = (ladder.new).climbers; put = (ladder.old).put + 1 } }
+{
+    go_on_to(tree, ladder, at, tree.parent_place(at), count);
+}
+
+/// So many votes that came to the block at a place go on to its parent together, if there are some. They
+/// stand below the rung that was taken off last. It takes no memory.
+#[inline(always)]
+pub fn pass<T: Drop>(tree: &Tree<T>, at: usize, count: u32, ladder: &mut Ladder)
+    requires room { (ladder.old).put < (ladder.old).most }
+    requires within { at < length (tree.now).pending }
+    requires below { reach (blocks_in (tree.now).pending) (parent_in (slice_get (blocks_in (tree.now).pending) at)) < (ladder.old).low }
+    ensures same { IsPermutation (if nat_lt 0 count then passing (blocks_in (tree.now).pending) at count ∷ (ladder.old).climbers else (ladder.old).climbers) (ladder.new).climbers }
+    ensures put { (ladder.new).put ≤ (ladder.old).put + 1 }
+    ensures low { (ladder.new).low ≡ (ladder.old).low }
+    ensures room { KeepsRoom ladder.old ladder.new }
+{
+    if count > 0 {
+        ladder.put_below();
+        go_on(tree, ladder, at, count);
+    }
+}
+
+/// So many votes once they passed the block at a place.
+#[inline(always)]
+pub fn past<T: Drop>(tree: &Tree<T>, at: usize, count: u32) -> Climber
+    requires { at < length (tree.now).pending }
+    ensures { result ≡ passing (blocks_in (tree.now).pending) at count }
+{
+    let place = parent_reach(tree, at, tree.parent_place(at));
+    Climber {
+        place,
+        passed: at,
+        count,
+    }
+}

@@ -1,0 +1,311 @@
+ghost use Rattle.std.specs.Prelude.{◌≡◌, ◌≢◌, ℕ, ◌+◌, ◌*◌, ◌/◌, ◌%◌, ◌^◌, ◌<◌, ◌≤◌, All, length, get_or, vec_capacity, OnOk};
+ghost use Rattle.snow_climb.specs.Climbing.{climber_total};
+ghost use Rattle.snow_climb.specs.Ladder.{chain, mark_at, no_head, AreLinked};
+
+use crate::climber::Climber;
+use std::alloc::{AllocError, Global};
+use std::marker::Model;
+
+/// A climber that was put on a ladder. `next` tells who was put on its rung before: one more than where
+/// that stands among all, and 0 where nobody was.
+#[derive(Clone, Copy, Debug)]
+pub(crate) struct Link {
+    pub(crate) climber: Climber,
+    pub(crate) next: usize,
+}
+
+/// Who was put on a rung last, as `next` of a link tells it, and how many votes all are who stand there.
+#[derive(Clone, Copy, Debug)]
+pub(crate) struct Head {
+    pub(crate) last: usize,
+    pub(crate) count: u32,
+}
+
+/// Climbers, each on the rung of the place for which it looks. To put one on, or to take those of the
+/// highest rung off, costs nothing for the others. It takes no memory, where there is room for those that
+/// are put on until the ladder is begun anew. Contracts see those who stand on it, those who were taken off
+/// last, and its room.
+#[derive(Debug, Drop)]
+pub struct Ladder {
+    links: Vec<Link>,
+    heads: Vec<Head>,
+    // A bit for each rung, which is set where somebody stands.
+    words: Vec<u64>,
+    // Nobody stands on this rung or a higher one.
+    low: usize,
+    // Nobody stands on a higher rung; the last number where this isn't kept.
+    high: usize,
+    // Who was put last on the rung that was taken off last, as `next` of a link tells it.
+    taken: usize,
+    // A poll has no more votes.
+    votes: u32,
+}
+
+impl Model for Ladder {
+    ghost use Rattle.std.specs.Prelude.{length, vec_capacity};
+    ghost use Rattle.snow_climb.specs.Ladder.{Rungs, climbers_of, under, chain, IsHung};
+
+    ghost Value = { Rungs };
+
+    ghost view = { λ a. record {
+      climbers = under a.low (climbers_of a.links.items);
+      came = chain a.links.items a.taken;
+      low = a.low;
+      put = length a.links.items;
+      most = vec_capacity a.links;
+      votes = a.votes;
+      rungs = length a.heads.items;
+    } };
+
+    ghost invariant = { λ a. IsHung a.links.items a.heads.items a.words.items a.low a.high a.taken };
+}
+
+// The bit of a rung is set.
+fn mark(words: &mut [u64], rung: usize)
+    requires { rung / 64 < length words.old }
+    ensures here { mark_at words.new rung ≡ 1 }
+    ensures others { (other : ℕ) → other ≢ rung → mark_at words.new other ≡ mark_at words.old other }
+    ensures len { length words.new ≡ length words.old }
+{
+    words[rung / 64] |= 1 << (rung % 64);
+}
+
+// It isn't set any more.
+fn unmark(words: &mut [u64], rung: usize)
+    requires { rung / 64 < length words.old }
+    ensures others { (other : ℕ) → other ≢ rung → mark_at words.new other ≡ mark_at words.old other }
+    ensures len { length words.new ≡ length words.old }
+{
+    words[rung / 64] &= !(1 << (rung % 64));
+}
+
+// The highest rung whose bit is set in the first so many words; 0 where none is.
+#[inline(never)]
+fn highest(words: &[u64], count: usize) -> usize
+    requires within { count ≤ length words.now }
+    requires small { 64 * count < 2 ^ 64 }
+    ensures { (rung : ℕ) → rung < 64 * count → mark_at words.now rung ≡ 1 → rung ≤ result }
+{
+    let mut at = count;
+    while at > 0 {
+        let word = words[at - 1];
+        if word > 0 {
+            return 64 * (at - 1) + word.ilog2() as usize;
+        }
+        at -= 1;
+    }
+    0
+}
+
+// The highest rung whose bit is set in a word or in one before it; 0 where none is. Most stand in the word
+// itself.
+#[inline(always)]
+fn highest_from(words: &[u64], at: usize) -> usize
+    requires within { at < length words.now }
+    requires small { 64 * at + 64 < 2 ^ 64 }
+    ensures { (rung : ℕ) → rung < 64 * (at + 1) → mark_at words.now rung ≡ 1 → rung ≤ result }
+{
+    let word = words[at];
+    if word > 0 {
+        return 64 * at + word.ilog2() as usize;
+    }
+    highest(words, at)
+}
+
+// There is a bit for one rung more.
+fn add_bit(words: &mut Vec<u64>, rungs: usize) -> Result<(), AllocError>
+    requires small { rungs + 1 < 2 ^ 64 }
+    requires covered { rungs < 64 * length words.old.items }
+    ensures ok { OnOk result (rungs + 1 < 64 * length words.new.items) }
+    ensures covered { rungs < 64 * length words.new.items }
+{
+    if (rungs + 1) / 64 < words.len() {
+        return Ok(());
+    }
+    words.push(0)?;
+    Ok(())
+}
+
+// There is one rung more.
+fn add_rung(heads: &mut Vec<Head>, words: &mut Vec<u64>) -> Result<(), AllocError>
+    requires { length heads.old.items < 64 * length words.old.items }
+    ensures ok { OnOk result (length heads.new.items ≡ length heads.old.items + 1) }
+    ensures more { length heads.old.items ≤ length heads.new.items }
+    ensures covered { length heads.new.items < 64 * length words.new.items }
+    ensures clear { (rung : ℕ) → get_or heads.new.items rung no_head ≡ get_or heads.old.items rung no_head }
+{
+    add_bit(words, heads.len())?;
+    heads.push(Head { last: 0, count: 0 })?;
+    Ok(())
+}
+
+impl Ladder {
+    ghost use Rattle.std.specs.Prelude.{[], ◌∷◌, ◌++◌, IfOk, IfSome, IsPermutation};
+    ghost use Rattle.snow_climb.specs.Ladder.{under, up_from, IsReady};
+
+    /// A ladder for polls of so many votes, as long as nothing is pending.
+    pub fn new(alloc: Global, votes: u32) -> Result<Self, AllocError>
+        ensures ready { IfOk result (λ r. IsReady 0 r) }
+        ensures votes { IfOk result (λ r. r.votes ≡ votes) }
+    {
+        let links = Vec::with_capacity(alloc, votes as usize)?;
+        let heads = vec![in alloc; Head { last: 0, count: 0 }]?;
+        let words = vec![in alloc; 0]?;
+        Ok(Ladder {
+            links,
+            heads,
+            words,
+            low: 0,
+            high: 0,
+            taken: 0,
+            votes,
+        })
+    }
+
+    /// Makes room for polls over so many pending blocks, where nobody stands on the ladder.
+    pub fn make_room(&mut self, pending: usize) -> Result<(), AllocError>
+        requires low { (self.old).low ≡ 0 }
+        requires pending { pending ≤ (self.old).rungs }
+        ensures ok { OnOk result (IsReady pending self.new) }
+        ensures low { (self.new).low ≡ 0 }
+        ensures votes { (self.new).votes ≡ (self.old).votes }
+        ensures most { (self.old).most ≤ (self.new).most }
+        ensures rungs { (self.old).rungs ≤ (self.new).rungs }
+    {
+        self.links.clear();
+        self.taken = 0;
+        self.links.reserve(self.votes as usize + pending)?;
+        if pending < self.heads.len() {
+            return Ok(());
+        }
+        add_rung(&mut self.heads, &mut self.words)
+    }
+
+    /// Begins anew, where nobody stands on it. It takes no memory.
+    pub(crate) fn begin(&mut self)
+        requires { (self.old).low ≡ 0 }
+        ensures { self.new ≡ record (self.old) { climbers = []; came = []; low = (self.old).rungs; put = 0 } }
+    {
+        self.links.clear();
+        self.low = self.heads.len();
+        self.high = 0;
+        self.taken = 0;
+    }
+
+    /// Puts one on its rung, which is below all that were taken off, where there is room for one more. It
+    /// takes no memory.
+    #[inline(always)]
+    pub fn put(&mut self, climber: Climber)
+        requires below { climber.place < (self.old).low }
+        requires room { (self.old).put < (self.old).most }
+        ensures { self.new ≡ record (self.old) { climbers = (self.old).climbers ++ climber ∷ []; put = (self.old).put + 1 } }
+    {
+        self.high = self.high.max(climber.place);
+        let head = self.heads[climber.place];
+        self.links.push_reserved(Link {
+            climber,
+            next: head.last,
+        });
+        self.heads[climber.place] = Head {
+            last: self.links.len(),
+            count: head.count.wrapping_add(climber.count),
+        };
+        mark(&mut self.words, climber.place);
+    }
+
+    /// Nobody stands on this rung or a higher one.
+    pub fn low(&self) -> usize
+        ensures { result ≡ (self.now).low }
+    {
+        self.low
+    }
+
+    /// The one who stands on it, where nobody else was put on.
+    #[inline(always)]
+    pub fn lone(&self) -> Option<Climber>
+        ensures { IfSome result (λ c. (self.now).climbers ≡ c ∷ []) }
+    {
+        if self.links.len() != 1 {
+            return None;
+        }
+        let climber = self.links[0].climber;
+        if climber.place < self.low {
+            Some(climber)
+        } else {
+            None
+        }
+    }
+
+    /// No rung is higher on which somebody stands. It is asked before any is taken off.
+    #[inline]
+    pub fn top(&self) -> usize
+        ensures { All (λ c. c.place ≤ result) (self.now).climbers }
+    {
+        let bound = self.high.min(self.low);
+        highest_from(&self.words, bound / 64)
+    }
+
+    /// The same, and it is as quick where the highest rung was just taken off.
+    #[inline(always)]
+    pub fn top_left(&self) -> usize
+        ensures { All (λ c. c.place ≤ result) (self.now).climbers }
+    {
+        highest_from(&self.words, self.low / 64)
+    }
+
+    /// All that are put on from here on stand below a rung that was taken off. How high they stand need
+    /// not be kept then.
+    #[inline(always)]
+    pub(crate) fn put_below(&mut self)
+        ensures { self.new ≡ self.old }
+    {
+        let _rungs = self.heads.len();
+        self.high = usize::MAX;
+    }
+
+    /// Takes all off the highest rung on which somebody stands, or one above it. The answer is how many
+    /// votes they are, which is counted as they are put on. It takes no memory.
+    #[inline(always)]
+    pub fn take(&mut self, rung: usize) -> u32
+        requires below { rung < (self.old).low }
+        requires highest { All (λ c. c.place ≤ rung) (self.old).climbers }
+        ensures climbers { (self.new).climbers ≡ under rung (self.old).climbers }
+        ensures came { IsPermutation (up_from rung (self.old).climbers) (self.new).came }
+        ensures total { result ≡ climber_total (self.new).came % 2 ^ 32 }
+        ensures rest { self.new ≡ record (self.old) { climbers = (self.new).climbers; came = (self.new).came; low = rung } }
+    {
+        let head = self.heads[rung];
+        self.heads[rung] = Head { last: 0, count: 0 };
+        unmark(&mut self.words, rung);
+        self.low = rung;
+        self.taken = head.last;
+        head.count
+    }
+
+    /// The one that was taken off last, where nobody else stood on its rung.
+    #[inline(always)]
+    pub(crate) fn only(&self) -> Option<Climber>
+        ensures { IfSome result (λ c. (self.now).came ≡ c ∷ []) }
+    {
+        if self.taken == 0 {
+            return None;
+        }
+        let link = self.links[self.taken - 1];
+        if link.next == 0 {
+            Some(link.climber)
+        } else {
+            None
+        }
+    }
+
+    /// Those that were taken off last: the links of all, and who of them was put last on that rung, as
+    /// `next` of a link tells it.
+    #[inline(always)]
+    pub(crate) fn came(&self) -> (&[Link], usize)
+        ensures linked { AreLinked result.0.now }
+        ensures within { result.1 ≤ length result.0.now }
+        ensures all { chain result.0.now result.1 ≡ (self.now).came }
+    {
+        (self.links.as_slice(), self.taken)
+    }
+}

@@ -1,0 +1,15 @@
+//! The votes of a poll on their way up the pending blocks.
+#![tactic(auto)]
+
+mod climber;
+mod gathering;
+mod ladder;
+mod majority;
+mod naming;
+mod starting;
+
+pub use climber::{Climber, pass, past};
+pub use gathering::{gather, no_vote, votes_in, write_vote};
+pub use ladder::Ladder;
+pub use naming::named;
+pub use starting::{start_ids, start_votes};

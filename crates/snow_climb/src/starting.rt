@@ -1,0 +1,261 @@
+ghost use Rattle.std.specs.Prelude.{◌≡◌, ℕ, ◌+◌, ◌^◌, ◌<◌, ◌≤◌, ◌++◌, Bool, List, length, IsPermutation, if◌then◌else◌};
+ghost use Rattle.std.specs.Option.{option_to_list};
+ghost use Rattle.snow_base.specs.Gathered.{one_each};
+ghost use Rattle.snow_base.specs.Votes.{total_count};
+ghost use Rattle.snow_base.specs.declared.vote.Vote.{Vote};
+ghost use Rattle.snow_flake.specs.Parameters.{Parameters};
+ghost use Rattle.snow_climb.specs.Climbing.{begun};
+ghost use Rattle.snow_climb.specs.Ladder.{KeepsRoom, IsReady};
+ghost use Rattle.snow_climb.specs.Majority.{StandFor};
+ghost use Rattle.snow_climb.specs.Starting.{share, votes_by, ids_by, HaveStarted, HaveGone, HaveBegun, IsLoaded, TakesMore};
+
+use crate::climber::{go_on, go_on_to};
+use crate::ladder::Ladder;
+use crate::majority::main_vote;
+use crate::naming::all_named;
+use snow_base::{Id, Vote};
+use snow_flake::Params;
+use snow_tree::Tree;
+use std::slice;
+
+// So many votes begin past their own block, where nothing tells at once where it stands. They count nowhere
+// where it isn't pending.
+#[inline(never)]
+fn start_found<T: Drop>(tree: &Tree<T>, ladder: &mut Ladder, id: &Id, count: u32)
+    requires room { (ladder.old).put < (ladder.old).most }
+    requires low { length (tree.now).pending < (ladder.old).low }
+    ensures same { let vote : Vote = record { id = id.now; count = count } in
+        IsPermutation (option_to_list (begun (tree.now).pending vote) ++ (ladder.old).climbers) (ladder.new).climbers }
+    ensures put { (ladder.new).put ≤ (ladder.old).put + 1 }
+    ensures low { (ladder.new).low ≡ (ladder.old).low }
+    ensures room { KeepsRoom ladder.old ladder.new }
+{
+    match tree.place_of(id) {
+        Some(at) => go_on(tree, ladder, at, count),
+        None => (),
+    }
+}
+
+// So many votes begin past their own block; those for a block that isn't pending count nowhere. It stands
+// apart, as the seats' loop needs its registers, and keeps none where the block is found at once.
+#[inline(never)]
+fn start<T: Drop>(tree: &Tree<T>, ladder: &mut Ladder, id: &Id, count: u32)
+    requires room { (ladder.old).put < (ladder.old).most }
+    requires low { length (tree.now).pending < (ladder.old).low }
+    ensures same { let vote : Vote = record { id = id.now; count = count } in
+        IsPermutation (option_to_list (begun (tree.now).pending vote) ++ (ladder.old).climbers) (ladder.new).climbers }
+    ensures put { (ladder.new).put ≤ (ladder.old).put + 1 }
+    ensures low { (ladder.new).low ≡ (ladder.old).low }
+    ensures room { KeepsRoom ladder.old ladder.new }
+{
+    match tree.guess(id) {
+        Some((at, parent)) => go_on_to(tree, ladder, at, parent, count),
+        None => start_found(tree, ladder, id, count),
+    }
+}
+
+// Votes that waited begin, if there are some. A seat where nobody waits costs one comparison.
+#[inline(always)]
+fn let_go<T: Drop>(tree: &Tree<T>, ladder: &mut Ladder, vote: &Vote)
+    requires room { (ladder.old).put + vote.now.count ≤ (ladder.old).most }
+    requires low { length (tree.now).pending < (ladder.old).low }
+    ensures started { (others counted : (List ℕ → Bool) → ℕ) → HaveStarted (tree.now).pending (λ test. share test vote.now + others test) counted (ladder.old).climbers
+        → HaveStarted (tree.now).pending others counted (ladder.new).climbers }
+    ensures put { (ladder.new).put ≤ (ladder.old).put + vote.now.count }
+    ensures low { (ladder.new).low ≡ (ladder.old).low }
+    ensures room { KeepsRoom ladder.old ladder.new }
+{
+    if vote.count > 0 {
+        start(tree, ladder, &vote.id, vote.count);
+    }
+}
+
+// All votes that waited begin.
+fn let_all_go<T: Drop>(tree: &Tree<T>, ladder: &mut Ladder, votes: &[Vote])
+    requires room { (ladder.old).put + total_count votes.now ≤ (ladder.old).most }
+    requires low { length (tree.now).pending < (ladder.old).low }
+    ensures started { (counted : (List ℕ → Bool) → ℕ) → HaveStarted (tree.now).pending (λ test. votes_by test votes.now) counted (ladder.old).climbers
+        → HaveStarted (tree.now).pending (λ test. 0) counted (ladder.new).climbers }
+    ensures put { (ladder.new).put ≤ (ladder.old).put + total_count votes.now }
+    ensures low { (ladder.new).low ≡ (ladder.old).low }
+    ensures room { KeepsRoom ladder.old ladder.new }
+{
+    for vote in votes {
+        let_go(tree, ladder, vote);
+    }
+}
+
+/// The votes of a poll, each past its own block, where this is pending. It takes no memory.
+pub fn start_votes<T: Drop>(tree: &Tree<T>, ladder: &mut Ladder, votes: &[Vote])
+    requires ready { IsReady (length (tree.now).pending) ladder.old }
+    requires few { total_count votes.now ≤ (ladder.old).votes }
+    ensures begun { (p : Parameters) → total_count votes.now ≤ p.k → HaveBegun p votes.now (tree.now).pending ladder.new }
+    ensures loaded { IsLoaded (tree.now).pending ladder.new }
+    ensures few { length (ladder.new).climbers ≤ total_count votes.now }
+    ensures room { KeepsRoom ladder.old ladder.new }
+{
+    let _last = tree.last();
+    ladder.begin();
+    let_all_go(tree, ladder, votes);
+}
+
+// One vote more for a block. It waits with those that wait for the same one; those for another begin, and
+// it waits alone.
+fn count_one<T: Drop>(tree: &Tree<T>, ladder: &mut Ladder, waiting: &mut Vote, id: &Id)
+    requires room { (ladder.old).put + waiting.old.count ≤ (ladder.old).most }
+    requires few { waiting.old.count + 1 < 2 ^ 32 }
+    requires low { length (tree.now).pending < (ladder.old).low }
+    ensures started { (others counted : (List ℕ → Bool) → ℕ) → HaveStarted (tree.now).pending (λ test. share test waiting.old + others test) counted (ladder.old).climbers
+        → HaveStarted (tree.now).pending (λ test. share test waiting.new + others test) (λ test. (if test id.now then 1 else 0) + counted test) (ladder.new).climbers }
+    ensures put { (ladder.new).put + waiting.new.count ≤ (ladder.old).put + waiting.old.count + 1 }
+    ensures more { waiting.new.count ≤ waiting.old.count + 1 }
+    ensures low { (ladder.new).low ≡ (ladder.old).low }
+    ensures room { KeepsRoom ladder.old ladder.new }
+{
+    if waiting.id == *id {
+        waiting.count += 1;
+    } else {
+        let_go(tree, ladder, waiting);
+        *waiting = Vote { id: *id, count: 1 };
+    }
+}
+
+// Where of eight seats votes for a block wait, by its first three bits: the last in bit order at the first
+// seat. So those that wait begin from the last to the first, and are listed from the first to the last.
+const FALLING: [u8; 8] = [7, 3, 5, 1, 6, 2, 4, 0];
+
+// Where of so many seats votes for a block wait: those for different blocks are to wait at different ones.
+// The seats are as many as a power of two.
+#[inline(always)]
+fn seat_of(id: &Id, seats: usize) -> usize
+    requires { 0 < seats }
+    ensures { result < seats }
+{
+    let first = id.as_bytes()[0];
+    let seat = if seats == 8 {
+        FALLING[usize::from(first % 8)]
+    } else {
+        first
+    };
+    usize::from(seat) & (seats - 1)
+}
+
+// One vote more for each of these identifiers.
+#[inline(always)]
+fn count_each<T: Drop>(tree: &Tree<T>, ladder: &mut Ladder, waiting: &mut [Vote], ids: &[Id])
+    requires seats { 0 < length waiting.old }
+    requires room { (ladder.old).put + total_count waiting.old + length ids.now ≤ (ladder.old).most }
+    requires few { total_count waiting.old + length ids.now < 2 ^ 32 }
+    requires low { length (tree.now).pending < (ladder.old).low }
+    ensures started { (counted : (List ℕ → Bool) → ℕ) → HaveStarted (tree.now).pending (λ test. votes_by test waiting.old) counted (ladder.old).climbers
+        → HaveStarted (tree.now).pending (λ test. votes_by test waiting.new) (λ test. ids_by test ids.now + counted test) (ladder.new).climbers }
+    ensures put { (ladder.new).put + total_count waiting.new ≤ (ladder.old).put + total_count waiting.old + length ids.now }
+    ensures low { (ladder.new).low ≡ (ladder.old).low }
+    ensures room { KeepsRoom ladder.old ladder.new }
+{
+    let seats = waiting.len();
+    for id in ids {
+        let seat = &mut waiting[seat_of(id, seats)];
+        count_one(tree, ladder, seat, id);
+    }
+}
+
+// The same where nobody waits before or afterwards.
+#[inline(always)]
+fn seat_each<T: Drop>(tree: &Tree<T>, ladder: &mut Ladder, waiting: &mut [Vote], ids: &[Id])
+    requires seats { 0 < length waiting.old }
+    requires empty { (test : List ℕ → Bool) → votes_by test waiting.old ≡ 0 }
+    requires nobody { total_count waiting.old ≡ 0 }
+    requires more { TakesMore (length (tree.now).pending) (length ids.now) ladder.old }
+    ensures { HaveGone (tree.now).pending ids.now ladder.old ladder.new }
+{
+    count_each(tree, ladder, waiting, ids);
+    let_all_go(tree, ladder, waiting);
+}
+
+// The same at a few seats. These are made ready on a frame of their own, which other polls don't pay for.
+#[inline(never)]
+fn seat_few<T: Drop>(tree: &Tree<T>, ladder: &mut Ladder, ids: &[Id])
+    requires { TakesMore (length (tree.now).pending) (length ids.now) ladder.old }
+    ensures { HaveGone (tree.now).pending ids.now ladder.old ladder.new }
+{
+    let nobody = Vote {
+        id: Id::from_bytes([0; 32]),
+        count: 0,
+    };
+    seat_each(tree, ladder, &mut [nobody; 8], ids);
+}
+
+// The same at many.
+#[inline(never)]
+fn seat_many<T: Drop>(tree: &Tree<T>, ladder: &mut Ladder, ids: &[Id])
+    requires { TakesMore (length (tree.now).pending) (length ids.now) ladder.old }
+    ensures { HaveGone (tree.now).pending ids.now ladder.old ladder.new }
+{
+    let nobody = Vote {
+        id: Id::from_bytes([0; 32]),
+        count: 0,
+    };
+    seat_each(tree, ladder, &mut [nobody; 32], ids);
+}
+
+// The same of a single vote, which needs no seat.
+fn let_one_go<T: Drop>(tree: &Tree<T>, ladder: &mut Ladder, ids: &[Id])
+    requires one { length ids.now ≡ 1 }
+    requires more { TakesMore (length (tree.now).pending) (length ids.now) ladder.old }
+    ensures { HaveGone (tree.now).pending ids.now ladder.old ladder.new }
+{
+    start(tree, ladder, &ids[0], 1);
+}
+
+// The same, where most of the votes for one block go on as one. Many votes have more seats, and where
+// there are less than two no seat is made ready.
+fn let_each_go<T: Drop>(tree: &Tree<T>, ladder: &mut Ladder, ids: &[Id])
+    requires { TakesMore (length (tree.now).pending) (length ids.now) ladder.old }
+    ensures { HaveGone (tree.now).pending ids.now ladder.old ladder.new }
+{
+    if ids.len() > 64 {
+        seat_many(tree, ladder, ids);
+    } else if ids.len() > 1 {
+        seat_few(tree, ladder, ids);
+    } else if !ids.is_empty() {
+        let_one_go(tree, ladder, ids);
+    }
+}
+
+// The votes of a poll, one for each of these identifiers, past its own block, where this is pending. It
+// takes no memory.
+fn start_each<T: Drop>(tree: &Tree<T>, ladder: &mut Ladder, ids: &[Id])
+    requires ready { IsReady (length (tree.now).pending) ladder.old }
+    requires few { length ids.now ≤ (ladder.old).votes }
+    requires small { length ids.now < 2 ^ 32 }
+    ensures begun { (p : Parameters) → length ids.now ≤ p.k → HaveBegun p (one_each ids.now) (tree.now).pending ladder.new }
+    ensures loaded { IsLoaded (tree.now).pending ladder.new }
+    ensures few { length (ladder.new).climbers ≤ length ids.now }
+    ensures room { KeepsRoom ladder.old ladder.new }
+{
+    let _last = tree.last();
+    all_named(ids);
+    ladder.begin();
+    let_each_go(tree, ladder, ids);
+}
+
+/// Votes of a poll past their own blocks that do what one vote for each of these identifiers does: a
+/// single one, where it stands for all. It takes no memory.
+#[inline(always)]
+pub fn start_ids<T: Drop>(params: &Params, tree: &Tree<T>, ladder: &mut Ladder, ids: &[Id])
+    requires ready { IsReady (length (tree.now).pending) ladder.old }
+    requires few { length ids.now ≤ (ladder.old).votes }
+    requires most { length ids.now ≤ params.now.k }
+    ensures begun { (votes : List Vote) × HaveBegun params.now votes (tree.now).pending ladder.new × StandFor params.now votes (one_each ids.now) }
+    ensures loaded { IsLoaded (tree.now).pending ladder.new }
+    ensures few { length (ladder.new).climbers ≤ length ids.now }
+    ensures room { KeepsRoom ladder.old ladder.new }
+{
+    let _k = params.k();
+    all_named(ids);
+    match main_vote(params, ids) {
+        Some(one) => start_votes(tree, ladder, slice::from_ref(&one)),
+        None => start_each(tree, ladder, ids),
+    }
+}
