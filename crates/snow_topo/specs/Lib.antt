@@ -2,6 +2,7 @@ pub mod Kept
 pub mod KeptCode
 pub mod View
 pub mod Half
+pub mod Climbed
 pub mod Leading
 pub mod Recording
 pub mod Told

@@ -23,7 +23,11 @@ view p polls root held = record {
   pending = all_pending p polls held.pending;
 }
 
--- what is kept of each block fits its children
+-- what is kept of each pending block fits its children
+abbrev pub AllFit : Parameters → ℕ → List (Entry Kept) → Type 0
+AllFit p polls pending = All (λ e. IsFit p polls (children_of (blocks_in pending) e.block.id) e.load) pending
+
+-- so it does of all blocks
 pub record AreFit (p : Parameters) (polls : ℕ) (first : Kept) (held : Held Kept) : Type 0 where
   pub root : IsFit p polls (children_of (blocks_in held.pending) held.last) first
-  pub pending : All (λ e. IsFit p polls (children_of (blocks_in held.pending) e.block.id) e.load) held.pending
+  pub pending : AllFit p polls held.pending

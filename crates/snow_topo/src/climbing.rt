@@ -1,14 +1,11 @@
-ghost use Rattle.std.specs.Prelude.{◌≡◌, ℕ, ◌+◌, ◌*◌, ◌^◌, ◌<◌, ◌≤◌, ◌||◌, false, List, [], ◌∷◌, All, map, length};
+ghost use Rattle.std.specs.Prelude.{◌≡◌, ℕ, ◌+◌, ◌*◌, ◌^◌, ◌<◌, ◌≤◌, ◌||◌, false, List, [], ◌∷◌, length};
 ghost use Rattle.snow_base.specs.declared.vote.Vote.{Vote};
-ghost use Rattle.snow_tree.specs.Held.{blocks_in, children_of};
-ghost use Rattle.snow_topo.specs.Kept.{IsFit};
-ghost use Rattle.snow_topo.specs.View.{all_pending};
-ghost use Rattle.snow_climb.specs.Climbing.{cursors_of, ArePlaced};
-ghost use Rattle.snow_topo.specs.Half.{stepped_by};
-ghost use Rattle.snow_climb.specs.Rising.{AreClimbing};
-ghost use Rattle.snow_climb.specs.Ladder.{KeepsRoom};
+ghost use Rattle.snow_tree.specs.Held.{blocks_in};
+ghost use Rattle.snow_climb.specs.Starting.{HaveBegun, IsLoaded};
+ghost use Rattle.snow_topo.specs.Climbed.{HasClimbed};
 ghost use Rattle.snow_topo.specs.Leading.{all_leads};
 ghost use Rattle.snow_topo.specs.Recording.{recording_in};
+ghost use Rattle.snow_topo.specs.View.{AllFit};
 
 use crate::load::Load;
 use crate::visiting::{visit, visit_lone};
@@ -46,25 +43,13 @@ fn climb_all<R: Rule, L: Ledger>(
 ) -> bool
     requires room { polls + 1 < 2 ^ 64 }
     requires places { length (ladder.old).climbers ≤ children.old.room + length children.old.list }
-    requires put { (ladder.old).put + length (tree.old).pending ≤ (ladder.old).most }
-    requires low { length (tree.old).pending < (ladder.old).low }
-    requires climbing { (votes : List Vote) × AreClimbing params.now votes (blocks_in (tree.old).pending) (length (tree.old).pending) (cursors_of (blocks_in (tree.old).pending) (ladder.old).climbers) }
-    requires placed { ArePlaced (blocks_in (tree.old).pending) (ladder.old).climbers }
-    requires fit { All (λ e. IsFit params.now polls (children_of (blocks_in (tree.old).pending) e.block.id) e.load) (tree.old).pending }
-    ensures pending { (votes : List Vote) → AreClimbing params.now votes (blocks_in (tree.old).pending) (length (tree.old).pending) (cursors_of (blocks_in (tree.old).pending) (ladder.old).climbers)
-        → all_pending params.now (polls + 1) (tree.new).pending ≡ map (stepped_by params.now (blocks_in (tree.old).pending) votes) (all_pending params.now polls (tree.old).pending) }
-    ensures climbing { (votes : List Vote) → AreClimbing params.now votes (blocks_in (tree.old).pending) (length (tree.old).pending) (cursors_of (blocks_in (tree.old).pending) (ladder.old).climbers)
-        → AreClimbing params.now votes (blocks_in (tree.old).pending) 0 (cursors_of (blocks_in (tree.old).pending) (ladder.new).climbers) }
-    ensures placed { ArePlaced (blocks_in (tree.old).pending) (ladder.new).climbers }
-    ensures rest { tree.new ≡ record (tree.old) { pending = (tree.new).pending } }
-    ensures blocks { blocks_in (tree.new).pending ≡ blocks_in (tree.old).pending }
-    ensures fit { All (λ e. IsFit params.now (polls + 1) (children_of (blocks_in (tree.new).pending) e.block.id) e.load) (tree.new).pending }
+    requires begun { (votes : List Vote) × HaveBegun params.now votes (tree.old).pending ladder.old }
+    requires loaded { IsLoaded (tree.old).pending ladder.old }
+    requires fit { AllFit params.now polls (tree.old).pending }
+    ensures climbed { HasClimbed params.now polls tree.old tree.new ladder.old ladder.new }
     ensures places { children.old.room + length children.old.list ≤ children.new.room + length children.new.list }
-    ensures short { length (ladder.new).climbers ≤ length (ladder.old).climbers }
-    ensures low { 0 < (ladder.new).low }
-    ensures room { KeepsRoom ladder.old ladder.new }
     ensures steady { result ≡ false → all_leads R.answer (tree.new).pending ≡ all_leads R.answer (tree.old).pending }
-    ensures steps { (votes : List Vote) → AreClimbing params.now votes (blocks_in (tree.old).pending) (length (tree.old).pending) (cursors_of (blocks_in (tree.old).pending) (ladder.old).climbers)
+    ensures steps { (votes : List Vote) → HaveBegun params.now votes (tree.old).pending ladder.old
         → steps.new ≤ steps.old + 5 * recording_in params.now (blocks_in (tree.old).pending) votes (blocks_in (tree.old).pending) }
 {
     let _k = params.k();
@@ -92,24 +77,12 @@ fn climb_lone<R: Rule, L: Ledger>(
     requires room { polls + 1 < 2 ^ 64 }
     requires alone { (ladder.old).climbers ≡ climber.now ∷ [] }
     requires pending { 0 < (climber.now).place }
-    requires put { (ladder.old).put + length (tree.old).pending ≤ (ladder.old).most }
-    requires low { length (tree.old).pending < (ladder.old).low }
-    requires climbing { (votes : List Vote) × AreClimbing params.now votes (blocks_in (tree.old).pending) (length (tree.old).pending) (cursors_of (blocks_in (tree.old).pending) (ladder.old).climbers) }
-    requires placed { ArePlaced (blocks_in (tree.old).pending) (ladder.old).climbers }
-    requires fit { All (λ e. IsFit params.now polls (children_of (blocks_in (tree.old).pending) e.block.id) e.load) (tree.old).pending }
-    ensures pending { (votes : List Vote) → AreClimbing params.now votes (blocks_in (tree.old).pending) (length (tree.old).pending) (cursors_of (blocks_in (tree.old).pending) (ladder.old).climbers)
-        → all_pending params.now (polls + 1) (tree.new).pending ≡ map (stepped_by params.now (blocks_in (tree.old).pending) votes) (all_pending params.now polls (tree.old).pending) }
-    ensures climbing { (votes : List Vote) → AreClimbing params.now votes (blocks_in (tree.old).pending) (length (tree.old).pending) (cursors_of (blocks_in (tree.old).pending) (ladder.old).climbers)
-        → AreClimbing params.now votes (blocks_in (tree.old).pending) 0 (cursors_of (blocks_in (tree.old).pending) (ladder.new).climbers) }
-    ensures placed { ArePlaced (blocks_in (tree.old).pending) (ladder.new).climbers }
-    ensures rest { tree.new ≡ record (tree.old) { pending = (tree.new).pending } }
-    ensures blocks { blocks_in (tree.new).pending ≡ blocks_in (tree.old).pending }
-    ensures fit { All (λ e. IsFit params.now (polls + 1) (children_of (blocks_in (tree.new).pending) e.block.id) e.load) (tree.new).pending }
-    ensures short { length (ladder.new).climbers ≤ length (ladder.old).climbers }
-    ensures low { 0 < (ladder.new).low }
-    ensures room { KeepsRoom ladder.old ladder.new }
+    requires begun { (votes : List Vote) × HaveBegun params.now votes (tree.old).pending ladder.old }
+    requires loaded { IsLoaded (tree.old).pending ladder.old }
+    requires fit { AllFit params.now polls (tree.old).pending }
+    ensures climbed { HasClimbed params.now polls tree.old tree.new ladder.old ladder.new }
     ensures steady { result ≡ false → all_leads R.answer (tree.new).pending ≡ all_leads R.answer (tree.old).pending }
-    ensures steps { (votes : List Vote) → AreClimbing params.now votes (blocks_in (tree.old).pending) (length (tree.old).pending) (cursors_of (blocks_in (tree.old).pending) (ladder.old).climbers)
+    ensures steps { (votes : List Vote) → HaveBegun params.now votes (tree.old).pending ladder.old
         → steps.new ≤ steps.old + 5 * recording_in params.now (blocks_in (tree.old).pending) votes (blocks_in (tree.old).pending) }
 {
     let _k = params.k();
@@ -138,25 +111,13 @@ pub(crate) fn climb<R: Rule, L: Ledger>(
 ) -> bool
     requires room { polls + 1 < 2 ^ 64 }
     requires places { length (ladder.old).climbers ≤ children.old.room + length children.old.list }
-    requires put { (ladder.old).put + length (tree.old).pending ≤ (ladder.old).most }
-    requires low { length (tree.old).pending < (ladder.old).low }
-    requires climbing { (votes : List Vote) × AreClimbing params.now votes (blocks_in (tree.old).pending) (length (tree.old).pending) (cursors_of (blocks_in (tree.old).pending) (ladder.old).climbers) }
-    requires placed { ArePlaced (blocks_in (tree.old).pending) (ladder.old).climbers }
-    requires fit { All (λ e. IsFit params.now polls (children_of (blocks_in (tree.old).pending) e.block.id) e.load) (tree.old).pending }
-    ensures pending { (votes : List Vote) → AreClimbing params.now votes (blocks_in (tree.old).pending) (length (tree.old).pending) (cursors_of (blocks_in (tree.old).pending) (ladder.old).climbers)
-        → all_pending params.now (polls + 1) (tree.new).pending ≡ map (stepped_by params.now (blocks_in (tree.old).pending) votes) (all_pending params.now polls (tree.old).pending) }
-    ensures climbing { (votes : List Vote) → AreClimbing params.now votes (blocks_in (tree.old).pending) (length (tree.old).pending) (cursors_of (blocks_in (tree.old).pending) (ladder.old).climbers)
-        → AreClimbing params.now votes (blocks_in (tree.old).pending) 0 (cursors_of (blocks_in (tree.old).pending) (ladder.new).climbers) }
-    ensures placed { ArePlaced (blocks_in (tree.old).pending) (ladder.new).climbers }
-    ensures rest { tree.new ≡ record (tree.old) { pending = (tree.new).pending } }
-    ensures blocks { blocks_in (tree.new).pending ≡ blocks_in (tree.old).pending }
-    ensures fit { All (λ e. IsFit params.now (polls + 1) (children_of (blocks_in (tree.new).pending) e.block.id) e.load) (tree.new).pending }
+    requires begun { (votes : List Vote) × HaveBegun params.now votes (tree.old).pending ladder.old }
+    requires loaded { IsLoaded (tree.old).pending ladder.old }
+    requires fit { AllFit params.now polls (tree.old).pending }
+    ensures climbed { HasClimbed params.now polls tree.old tree.new ladder.old ladder.new }
     ensures places { children.old.room + length children.old.list ≤ children.new.room + length children.new.list }
-    ensures short { length (ladder.new).climbers ≤ length (ladder.old).climbers }
-    ensures low { 0 < (ladder.new).low }
-    ensures room { KeepsRoom ladder.old ladder.new }
     ensures steady { result ≡ false → all_leads R.answer (tree.new).pending ≡ all_leads R.answer (tree.old).pending }
-    ensures steps { (votes : List Vote) → AreClimbing params.now votes (blocks_in (tree.old).pending) (length (tree.old).pending) (cursors_of (blocks_in (tree.old).pending) (ladder.old).climbers)
+    ensures steps { (votes : List Vote) → HaveBegun params.now votes (tree.old).pending ladder.old
         → steps.new ≤ steps.old + 5 * recording_in params.now (blocks_in (tree.old).pending) votes (blocks_in (tree.old).pending) }
 {
     let _k = params.k();

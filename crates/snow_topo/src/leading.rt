@@ -1,4 +1,4 @@
-ghost use Rattle.std.specs.Prelude.{◌≡◌, true, false, [], ◌∷◌, All, None, IfSome, bytes_eq};
+ghost use Rattle.std.specs.Prelude.{◌≡◌, true, false, [], ◌∷◌, None, IfSome, bytes_eq};
 ghost use Rattle.std.specs.List.{list_any};
 ghost use Rattle.std.specs.Option.{option_copied};
 ghost use Rattle.snow_plain.specs.declared.leading.Leading.{Leading};
@@ -6,7 +6,7 @@ ghost use Rattle.snow_plain.specs.Ending.{IsTop, leading_after};
 ghost use Rattle.snow_plain.specs.Preference.{path_from, preferred_path, preferred, is_preferred};
 ghost use Rattle.snow_tree.specs.Held.{blocks_in, children_of};
 ghost use Rattle.snow_topo.specs.Kept.{shown, IsFit};
-ghost use Rattle.snow_topo.specs.View.{all_pending, view, AreFit};
+ghost use Rattle.snow_topo.specs.View.{all_pending, view, AllFit, AreFit};
 ghost use Rattle.snow_topo.specs.Walking.{AreNamed, kept_of};
 
 use crate::load::Load;
@@ -38,7 +38,7 @@ fn next_of<'a, R: Rule>(
     load: &Load<R>,
 ) -> Option<(Id, &'a Load<R>)>
     requires named { AreNamed (blocks_in (tree.now).pending) }
-    requires all { All (λ e. IsFit params.now polls (children_of (blocks_in (tree.now).pending) e.block.id) e.load) (tree.now).pending }
+    requires all { AllFit params.now polls (tree.now).pending }
     requires fit { IsFit params.now polls (children_of (blocks_in (tree.now).pending) id.now) load.now }
     ensures some { IfSome result (λ r. path_from R.answer id.now (shown params.now polls load.now) (all_pending params.now polls (tree.now).pending)
         ≡ r.0 ∷ path_from R.answer r.0 (shown params.now polls r.1.now) (all_pending params.now polls (tree.now).pending)) }

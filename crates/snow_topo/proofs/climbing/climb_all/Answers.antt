@@ -2,12 +2,14 @@ use Rattle.std.proofs.Common.{◌≡◌, ◌+◌, ◌*◌, ◌-◌, ◌≤◌, n
 use Rattle.std.proofs.lemmas.List.{length-map}
 use Rattle.std.proofs.lemmas.List.Sorted.{All-permutation, IsPermutation-sym, length_permutation}
 use Rattle.snow_climb.specs.declared.climber.Climber.{Climber}
+use Rattle.snow_base.specs.declared.vote.Vote.{Vote}
 use Rattle.snow_base.specs.Ancestry.{votes_below}
 use Rattle.snow_plain.specs.Cursors.{votes_at}
 use Rattle.snow_tree.specs.Held.{Held, blocks_in, children_of, set_load, with_load}
 use Rattle.snow_topo.specs.Kept.{Kept, ids_in, IsFit}
 use Rattle.snow_climb.specs.Climbing.{reach, cursor_of, cursors_of, ArePlaced, AreBelow, merged}
 use Rattle.snow_climb.specs.Rising.{AreClimbing}
+use Rattle.snow_climb.specs.Starting.{HaveBegun}
 use Rattle.snow_topo.specs.Half.{IsHalf, HasTaken}
 use Rattle.snow_climb.proofs.Merged.{fewer_merged}
 use Rattle.snow_topo.specs.Leading.{all_leads, IsSteady}
@@ -27,22 +29,22 @@ loop-top-init g c =
     let top = c.lower-top.result in
     let long = length-map first (λ e. e.block) in
     let within : top ≤ length first = omega (arith, c.lower-top.ensures.second, c.len.ensures) in
-    let each : All (λ (x : Climber). x.place ≤ length first) climbers = subst (λ n. All (λ (x : Climber). x.place ≤ n) climbers) long (within_places bs climbers c.requires.placed) in
+    let each : All (λ (x : Climber). x.place ≤ length first) climbers = subst (λ n. All (λ (x : Climber). x.place ≤ n) climbers) long (within_places bs climbers c.requires.loaded.placed) in
     let highest : All (λ (x : Climber). x.place ≤ top) climbers =
     λ k d h. c.lower-top.ensures.greatest (get_or climbers k d).place (c.top.ensures k d h) (omega (arith, each k d h, c.len.ensures))
     in
-    let below : AreBelow bs top (cursors_of bs climbers) = below_places bs top climbers c.requires.placed highest in
+    let below : AreBelow bs top (cursors_of bs climbers) = below_places bs top climbers c.requires.loaded.placed highest in
     record {
       all = λ votes climbing. begun_half c.args.params.now c.args.polls votes c.args.tree.now.last first top (cursors_of bs climbers)
           c.k-k.ensures.good c.last-last.ensures.grown c.requires.fit climbing below within;
       rest = refl;
       blocks = refl;
       within = within;
-      placed = c.requires.placed;
+      placed = c.requires.loaded.placed;
       short = omega arith;
       places = omega arith;
-      put = omega (arith, c.requires.put, within);
-      below = omega (arith, c.requires.low, within);
+      put = omega (arith, c.requires.loaded.put, within);
+      below = omega (arith, c.requires.loaded.low, within);
       room = record { most = refl; votes = refl; rungs = refl };
       steady = λ s. refl;
       steps = λ votes climbing. omega arith;
@@ -50,12 +52,12 @@ loop-top-init g c =
 
 pub visit-moved-requires-clause-climbing : goal.visit-moved-requires-clause-climbing
 visit-moved-requires-clause-climbing g c =
-    let votes = c.requires.climbing.0 in
+    let votes = c.requires.begun.0 in
     let above : c.loop-top.top ≡ c.loop-top.top - 1 + 1 = omega (arith, c.loop-top-test.true) in (
       votes,
       subst (λ bs. AreClimbing c.args.params.now votes bs (c.loop-top.top - 1 + 1) (cursors_of bs c.loop-top.ladder.climbers)) (sym c.loop-top.invariant.blocks)
           (subst (λ n. AreClimbing c.args.params.now votes (blocks_in c.args.tree.now.pending) n (cursors_of (blocks_in c.args.tree.now.pending) c.loop-top.ladder.climbers)) above
-          (c.loop-top.invariant.all votes c.requires.climbing.1).1),
+          (c.loop-top.invariant.all votes c.requires.begun.1).1),
     )
 
 pub visit-moved-requires-clause-within : goal.visit-moved-requires-clause-within
@@ -67,7 +69,7 @@ pub visit-moved-requires-clause-fit : goal.visit-moved-requires-clause-fit
 visit-moved-requires-clause-fit g c =
     let first = c.args.tree.now.pending in
     let at = c.loop-top.top - 1 in
-    let low = (c.loop-top.invariant.all c.requires.climbing.0 c.requires.climbing.1).0.low at (omega (arith, c.loop-top-test.true)) in
+    let low = (c.loop-top.invariant.all c.requires.begun.0 c.requires.begun.1).0.low at (omega (arith, c.loop-top-test.true)) in
     rw (c.loop-top.invariant.blocks, low) (all_there (λ e. IsFit c.args.params.now c.args.polls (children_of (blocks_in first) e.block.id) e.load) first at c.requires.fit)
 
 pub loop-top-preserved : goal.loop-top-preserved
@@ -81,7 +83,7 @@ loop-top-preserved g c =
     let at = c.loop-top.top - 1 in
     let m = c.lower-top-in-loop-top.result in
     let inv = c.loop-top.invariant in
-    let known = inv.all c.requires.climbing.0 c.requires.climbing.1 in
+    let known = inv.all c.requires.begun.0 c.requires.begun.1 in
     let above : c.loop-top.top ≡ at + 1 = omega (arith, c.loop-top-test.true) in
     let found = entry_at first at (omega (arith, c.loop-top-test.true, inv.within)) in
     let e = found.0 in
@@ -99,7 +101,7 @@ loop-top-preserved g c =
     let pending : c.visit-moved.new.tree.pending ≡ set_load now at load = ap (λ (t : Held Kept). t.pending) took.1 in
     let blocks : blocks_in c.visit-moved.new.tree.pending ≡ blocks_in first = ap blocks_in pending ∙ set_blocks now at load ∙ inv.blocks in
     let past : AreBelow (blocks_in first) at (merged e.block cs) =
-    climbed_past p c.requires.climbing.0 last first at e cs c.last-last.ensures.grown found.1 (subst (λ n. AreClimbing p c.requires.climbing.0 (blocks_in first) n cs) above known.1)
+    climbed_past p c.requires.begun.0 last first at e cs c.last-last.ensures.grown found.1 (subst (λ n. AreClimbing p c.requires.begun.0 (blocks_in first) n cs) above known.1)
     in
     let placed : ArePlaced (blocks_in first) later = subst (λ bs. ArePlaced bs later) inv.blocks c.visit-moved.ensures.placed in
     let high : AreBelow (blocks_in first) c.top_left.result (merged e.block cs) =
@@ -148,31 +150,31 @@ loop-top-preserved g c =
           omega (arith, own, before, paid p votes first at m e found.1 c.lower-top-in-loop-top.ensures.second);
     }
 
-pub returns-clause-pending : goal.returns-clause-pending
-returns-clause-pending g c =
-    λ votes climbing.
-    let first = c.args.tree.now.pending in
-    let zero_left : c.loop-top.top ≡ 0 = omega (arith, c.loop-top-test.false) in
-    ended_half c.args.params.now c.args.polls votes first c.loop-top.tree.pending
-    (subst (IsHalf c.args.params.now c.args.polls votes first c.loop-top.tree.pending) zero_left (c.loop-top.invariant.all votes climbing).0)
-
-pub returns-clause-climbing : goal.returns-clause-climbing
-returns-clause-climbing g c =
-    λ votes climbing.
-    let zero_left : c.loop-top.top ≡ 0 = omega (arith, c.loop-top-test.false) in
-    subst (λ n. AreClimbing c.args.params.now votes (blocks_in c.args.tree.now.pending) n (cursors_of (blocks_in c.args.tree.now.pending) c.loop-top.ladder.climbers)) zero_left (c.loop-top.invariant.all votes climbing).1
-
-pub returns-clause-fit : goal.returns-clause-fit
-returns-clause-fit g c =
-    let first = c.args.tree.now.pending in
-    let votes = c.requires.climbing.0 in
-    let zero_left : c.loop-top.top ≡ 0 = omega (arith, c.loop-top-test.false) in
-    ended_fit c.args.params.now c.args.polls votes first c.loop-top.tree.pending
-    (subst (IsHalf c.args.params.now c.args.polls votes first c.loop-top.tree.pending) zero_left (c.loop-top.invariant.all votes c.requires.climbing.1).0) c.loop-top.invariant.blocks
-
 pub returns-clause-steps : goal.returns-clause-steps
 returns-clause-steps g c =
     λ votes climbing.
     let bs = blocks_in c.args.tree.now.pending in
     let zero_left : c.loop-top.top ≡ 0 = omega (arith, c.loop-top-test.false) in
     subst (λ n. c.loop-top.steps ≤ c.args.steps.now + 5 * recording_in c.args.params.now bs votes (drop n bs)) zero_left (c.loop-top.invariant.steps votes climbing)
+
+pub returns-clause-climbed : goal.returns-clause-climbed
+returns-clause-climbed g c =
+    let p = c.args.params.now in
+    let first = c.args.tree.now.pending in
+    let now = c.loop-top.tree.pending in
+    let inv = c.loop-top.invariant in
+    let zero_left : c.loop-top.top ≡ 0 = omega (arith, c.loop-top-test.false) in
+    let ended : (votes : List Vote) → HaveBegun p votes first c.args.ladder.now → IsHalf p c.args.polls votes first now 0 =
+    λ votes begun. subst (IsHalf p c.args.polls votes first now) zero_left (inv.all votes begun).0
+    in
+    record {
+      pending = λ votes begun. ended_half p c.args.polls votes first now (ended votes begun);
+      climbing = λ votes begun. subst (λ n. AreClimbing p votes (blocks_in first) n (cursors_of (blocks_in first) c.loop-top.ladder.climbers)) zero_left (inv.all votes begun).1;
+      placed = inv.placed;
+      short = inv.short;
+      rest = inv.rest;
+      blocks = inv.blocks;
+      fit = ended_fit p c.args.polls c.requires.begun.0 first now (ended c.requires.begun.0 c.requires.begun.1) inv.blocks;
+      low = omega (arith, inv.below);
+      room = inv.room;
+    }

@@ -3,6 +3,7 @@ use Rattle.snow_base.specs.declared.vote.Vote.{Vote}
 use Rattle.snow_tree.specs.Held.{blocks_in}
 use Rattle.snow_climb.specs.Climbing.{cursors_of, ArePlaced}
 use Rattle.snow_climb.specs.Rising.{AreClimbing}
+use Rattle.snow_climb.specs.Starting.{HaveBegun}
 use Rattle.snow_topo.specs.Half.{IsHalf}
 use Rattle.snow_climb.specs.Ladder.{KeepsRoom}
 use Rattle.snow_topo.specs.Leading.{all_leads}
@@ -11,7 +12,7 @@ use Rattle.snow_topo.proofs.climbing.climb_all.Given as goal
 
 abbrev pub invariant-loop-top : goal.invariant-loop-top
 invariant-loop-top g l = record {
-  all : (votes : List Vote) → AreClimbing l.params votes (blocks_in l.fn.tree.pending) (length l.fn.tree.pending) (cursors_of (blocks_in l.fn.tree.pending) l.fn.ladder.climbers)
+  all : (votes : List Vote) → HaveBegun l.params votes l.fn.tree.pending l.fn.ladder
       → IsHalf l.params l.polls votes l.fn.tree.pending l.tree.pending l.top × AreClimbing l.params votes (blocks_in l.fn.tree.pending) l.top (cursors_of (blocks_in l.fn.tree.pending) l.ladder.climbers);
   rest : l.tree ≡ record l.fn.tree { pending = l.tree.pending };
   blocks : blocks_in l.tree.pending ≡ blocks_in l.fn.tree.pending;
@@ -23,7 +24,7 @@ invariant-loop-top g l = record {
   room : KeepsRoom l.fn.ladder l.ladder;
   placed : ArePlaced (blocks_in l.fn.tree.pending) l.ladder.climbers;
   steady : l.moved ≡ false → all_leads g.R.Rule.answer l.tree.pending ≡ all_leads g.R.Rule.answer l.fn.tree.pending;
-  steps : (votes : List Vote) → AreClimbing l.params votes (blocks_in l.fn.tree.pending) (length l.fn.tree.pending) (cursors_of (blocks_in l.fn.tree.pending) l.fn.ladder.climbers)
+  steps : (votes : List Vote) → HaveBegun l.params votes l.fn.tree.pending l.fn.ladder
       → l.steps ≤ l.fn.steps + 5 * recording_in l.params (blocks_in l.fn.tree.pending) votes (drop l.top (blocks_in l.fn.tree.pending));
 }
 

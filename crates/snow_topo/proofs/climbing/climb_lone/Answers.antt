@@ -1,7 +1,8 @@
-use Rattle.std.proofs.Common.{◌≡◌, ◌+◌, ◌*◌, ◌-◌, ◌<◌, ◌≤◌, nat_le, Bool, [], ◌∷◌, ◌++◌, drop, if◌then◌else◌, ℕ, List, All, Some, slice_get, length, refl, sym, ap, subst, ◌∙◌, arith}
+use Rattle.std.proofs.Common.{◌≡◌, ◌+◌, ◌*◌, ◌-◌, ◌<◌, ◌≤◌, nat_le, Bool, [], ◌∷◌, ◌++◌, drop, if◌then◌else◌, ℕ, List, Some, slice_get, length, refl, sym, ap, subst, ◌∙◌, arith}
 use Rattle.std.proofs.lemmas.List.{length-map}
 use Rattle.std.proofs.lemmas.List.Elements.{All-head}
 use Rattle.snow_climb.specs.declared.climber.Climber.{Climber}
+use Rattle.snow_base.specs.declared.vote.Vote.{Vote}
 use Rattle.snow_base.specs.Ancestry.{votes_below}
 use Rattle.snow_plain.specs.declared.cursor.Cursor.{Cursor}
 use Rattle.snow_plain.specs.Cursors.{votes_at}
@@ -9,6 +10,7 @@ use Rattle.snow_tree.specs.Held.{Held, blocks_in, children_of, set_load, with_lo
 use Rattle.snow_topo.specs.Kept.{Kept, ids_in, IsFit}
 use Rattle.snow_climb.specs.Climbing.{cursor_of, cursors_of, merged, passing, ArePlaced, AreBelow}
 use Rattle.snow_climb.specs.Rising.{AreClimbing}
+use Rattle.snow_climb.specs.Starting.{HaveBegun}
 use Rattle.snow_topo.specs.Half.{IsHalf, HasTaken}
 use Rattle.snow_climb.specs.Ladder.{Rungs, under}
 use Rattle.snow_topo.specs.Leading.{all_leads, IsSteady}
@@ -24,7 +26,7 @@ loop-lone-init g c =
     let first = c.args.tree.now.pending in
     let bs = blocks_in first in
     let x = c.args.climber.now in
-    let placed : ArePlaced bs (x ∷ []) = subst (ArePlaced bs) c.requires.alone c.requires.placed in
+    let placed : ArePlaced bs (x ∷ []) = subst (ArePlaced bs) c.requires.alone c.requires.loaded.placed in
     record {
       all = λ votes climbing.
           begun_half c.args.params.now c.args.polls votes c.args.tree.now.last first x.place (cursors_of bs (x ∷ [])) c.k-k.ensures.good c.last-last.ensures.grown c.requires.fit
@@ -45,20 +47,20 @@ visit_lone-moved-requires-clause-within g c =
 
 pub visit_lone-moved-requires-clause-climbing : goal.visit_lone-moved-requires-clause-climbing
 visit_lone-moved-requires-clause-climbing g c =
-    let votes = c.requires.climbing.0 in
+    let votes = c.requires.begun.0 in
     let x = c.loop-lone.lone in
     let above : x.place ≡ x.place - 1 + 1 = omega (arith, c.loop-lone-test.true) in (
       votes,
       subst (λ bs. AreClimbing c.args.params.now votes bs (x.place - 1 + 1) (cursors_of bs (x ∷ []))) (sym c.loop-lone.invariant.blocks)
           (subst (λ n. AreClimbing c.args.params.now votes (blocks_in c.args.tree.now.pending) n (cursors_of (blocks_in c.args.tree.now.pending) (x ∷ []))) above
-          (c.loop-lone.invariant.all votes c.requires.climbing.1).1),
+          (c.loop-lone.invariant.all votes c.requires.begun.1).1),
     )
 
 pub visit_lone-moved-requires-clause-fit : goal.visit_lone-moved-requires-clause-fit
 visit_lone-moved-requires-clause-fit g c =
     let first = c.args.tree.now.pending in
     let at = c.loop-lone.lone.place - 1 in
-    let low = (c.loop-lone.invariant.all c.requires.climbing.0 c.requires.climbing.1).0.low at (omega (arith, c.loop-lone-test.true)) in
+    let low = (c.loop-lone.invariant.all c.requires.begun.0 c.requires.begun.1).0.low at (omega (arith, c.loop-lone-test.true)) in
     rw (c.loop-lone.invariant.blocks, low) (all_there (λ e. IsFit c.args.params.now c.args.polls (children_of (blocks_in first) e.block.id) e.load) first at c.requires.fit)
 
 pub past-lone-requires : goal.past-lone-requires
@@ -89,7 +91,7 @@ loop-lone-smaller g c =
     let inv = c.loop-lone.invariant in
     let found = entry_at first at (omega (arith, lone_within first x inv.placed, c.loop-lone-test.true)) in
     let e = found.0 in
-    let seen : slice_get now.pending at ≡ Some e = (inv.all c.requires.climbing.0 c.requires.climbing.1).0.low at (omega (arith, c.loop-lone-test.true)) ∙ found.1 in
+    let seen : slice_get now.pending at ≡ Some e = (inv.all c.requires.begun.0 c.requires.begun.1).0.low at (omega (arith, c.loop-lone-test.true)) ∙ found.1 in
     let took = some_of (slice_get now.pending at) _ e seen c.visit_lone-moved.ensures.taken in
     let blocks : blocks_in c.visit_lone-moved.new.tree.pending ≡ blocks_in first = blocks_after c.visit_lone-moved.new.tree now at took.0 took.1 ∙ inv.blocks in
     omega (
@@ -112,7 +114,7 @@ loop-lone-preserved g c =
     let at = x.place - 1 in
     let y = c.past-lone.result in
     let inv = c.loop-lone.invariant in
-    let known = inv.all c.requires.climbing.0 c.requires.climbing.1 in
+    let known = inv.all c.requires.begun.0 c.requires.begun.1 in
     let above : x.place ≡ at + 1 = omega (arith, c.loop-lone-test.true) in
     let within : at < length first = omega (arith, lone_within first x inv.placed, c.loop-lone-test.true) in
     let found = entry_at first at within in
@@ -126,8 +128,8 @@ loop-lone-preserved g c =
     let blocks : blocks_in c.visit_lone-moved.new.tree.pending ≡ bs = ap blocks_in pending ∙ set_blocks now at load ∙ inv.blocks in
     let next : y ≡ passing bs at x.count = c.past-lone.ensures ∙ ap (λ bs. passing bs at x.count) blocks in
     let less : y.place ≤ at = omega (arith, ap (λ (c : Climber). c.place) next, lone_lower last first at x.count e c.last-last.ensures.grown found.1) in
-    let here : AreClimbing p c.requires.climbing.0 bs (at + 1) cs = subst (λ n. AreClimbing p c.requires.climbing.0 bs n cs) above known.1 in
-    let come = lone_come p c.requires.climbing.0 last first at e x c.last-last.ensures.grown found.1 above here inv.placed in
+    let here : AreClimbing p c.requires.begun.0 bs (at + 1) cs = subst (λ n. AreClimbing p c.requires.begun.0 bs n cs) above known.1 in
+    let come = lone_come p c.requires.begun.0 last first at e x c.last-last.ensures.grown found.1 above here inv.placed in
     let some : 0 < x.count = All-head (λ (c : Cursor). 0 < c.count) (cursor_of bs x) [] known.1.counts in
     let turn : merged e.block cs ≡ cursors_of bs (y ∷ []) = lone_merged bs at e.block x (block_at first at e found.1) come some ∙ ap (λ c. cursors_of bs (c ∷ [])) (sym next) in
     let placed : ArePlaced bs (y ∷ []) = subst (λ c. ArePlaced bs (c ∷ [])) (sym next) (lone_placed bs at x.count (omega (arith, within, length-map first (λ e. e.block)))) in
@@ -167,39 +169,44 @@ pub put-requires-clause-room : goal.put-requires-clause-room
 put-requires-clause-room g c =
     let first = c.args.tree.now.pending in
     let x = c.args.climber.now in
-    let placed : ArePlaced (blocks_in first) (x ∷ []) = subst (ArePlaced (blocks_in first)) c.requires.alone c.requires.placed in
+    let placed : ArePlaced (blocks_in first) (x ∷ []) = subst (ArePlaced (blocks_in first)) c.requires.alone c.requires.loaded.placed in
     omega (
       arith,
-      c.requires.put,
+      c.requires.loaded.put,
       c.requires.pending,
       lone_within first x placed,
       ap (λ (s : Rungs). s.put) c.take-taken.ensures.rest,
       ap (λ (s : Rungs). s.most) c.take-taken.ensures.rest,
     )
 
-pub returns-clause-pending : goal.returns-clause-pending
-returns-clause-pending g c =
-    λ votes climbing.
+pub returns-clause-climbed : goal.returns-clause-climbed
+returns-clause-climbed g c =
+    let p = c.args.params.now in
     let first = c.args.tree.now.pending in
-    let zero_left : c.loop-lone.lone.place ≡ 0 = omega (arith, c.loop-lone-test.false) in
-    ended_half c.args.params.now c.args.polls votes first c.loop-lone.tree.pending
-    (subst (IsHalf c.args.params.now c.args.polls votes first c.loop-lone.tree.pending) zero_left (c.loop-lone.invariant.all votes climbing).0)
-
-pub returns-clause-climbing : goal.returns-clause-climbing
-returns-clause-climbing g c =
-    λ votes climbing.
-    let bs = blocks_in c.args.tree.now.pending in
+    let bs = blocks_in first in
+    let now = c.loop-lone.tree.pending in
     let x = c.args.climber.now in
-    let zero_left : c.loop-lone.lone.place ≡ 0 = omega (arith, c.loop-lone-test.false) in
+    let y = c.loop-lone.lone in
+    let inv = c.loop-lone.invariant in
+    let zero_left : y.place ≡ 0 = omega (arith, c.loop-lone-test.false) in
+    let ended : (votes : List Vote) → HaveBegun p votes first c.args.ladder.now → IsHalf p c.args.polls votes first now 0 =
+    λ votes begun. subst (IsHalf p c.args.polls votes first now) zero_left (inv.all votes begun).0
+    in
     let nobody : c.take-taken.new.self.climbers ≡ [] = c.take-taken.ensures.climbers ∙ ap (under x.place) c.requires.alone ∙ lone_under x in
-    let one : c.put.new.self.climbers ≡ c.loop-lone.lone ∷ [] = ap (λ (s : Rungs). s.climbers) c.put.ensures ∙ ap (λ l. l ++ c.loop-lone.lone ∷ []) nobody in
-    subst (λ l. AreClimbing c.args.params.now votes bs 0 (cursors_of bs l)) (sym one)
-    (subst (λ n. AreClimbing c.args.params.now votes bs n (cursors_of bs (c.loop-lone.lone ∷ []))) zero_left (c.loop-lone.invariant.all votes climbing).1)
-
-pub returns-clause-fit : goal.returns-clause-fit
-returns-clause-fit g c =
-    let first = c.args.tree.now.pending in
-    let votes = c.requires.climbing.0 in
-    let zero_left : c.loop-lone.lone.place ≡ 0 = omega (arith, c.loop-lone-test.false) in
-    ended_fit c.args.params.now c.args.polls votes first c.loop-lone.tree.pending
-    (subst (IsHalf c.args.params.now c.args.polls votes first c.loop-lone.tree.pending) zero_left (c.loop-lone.invariant.all votes c.requires.climbing.1).0) c.loop-lone.invariant.blocks
+    let one : c.put.new.self.climbers ≡ y ∷ [] = ap (λ (s : Rungs). s.climbers) c.put.ensures ∙ ap (λ l. l ++ y ∷ []) nobody in
+    record {
+      pending = λ votes begun. ended_half p c.args.polls votes first now (ended votes begun);
+      climbing = λ votes begun.
+          subst (λ l. AreClimbing p votes bs 0 (cursors_of bs l)) (sym one) (subst (λ n. AreClimbing p votes bs n (cursors_of bs (y ∷ []))) zero_left (inv.all votes begun).1);
+      placed = subst (ArePlaced bs) (sym one) inv.placed;
+      short = omega (arith, ap length one, ap length c.requires.alone);
+      rest = inv.rest;
+      blocks = inv.blocks;
+      fit = ended_fit p c.args.polls c.requires.begun.0 first now (ended c.requires.begun.0 c.requires.begun.1) inv.blocks;
+      low = omega (arith, c.requires.pending, ap (λ (s : Rungs). s.low) c.put.ensures, ap (λ (s : Rungs). s.low) c.take-taken.ensures.rest);
+      room = record {
+        most = ap (λ (s : Rungs). s.most) c.put.ensures ∙ ap (λ (s : Rungs). s.most) c.take-taken.ensures.rest;
+        votes = ap (λ (s : Rungs). s.votes) c.put.ensures ∙ ap (λ (s : Rungs). s.votes) c.take-taken.ensures.rest;
+        rungs = ap (λ (s : Rungs). s.rungs) c.put.ensures ∙ ap (λ (s : Rungs). s.rungs) c.take-taken.ensures.rest;
+      };
+    }
