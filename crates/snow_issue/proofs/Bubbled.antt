@@ -79,3 +79,7 @@ vote_is q board id vote away unasked e =
     known false false true gone few e = refl
     known false false false true few e = refl
     known false false false false few e = absurd cc
+
+-- a pending block that neither waits nor is asked for is itself that vote
+pub own_vote : (q : Lists) (board : Board) (id : List ℕ) → waits q id ≡ false → is_asked q id ≡ false → is_pending board id ≡ true → vote_at_once q board id ≡ Some (Some id)
+own_vote q board id away unasked pending = sym (vote_is q board id id away unasked (bubbled_pending 8192 q.gone board id pending))
