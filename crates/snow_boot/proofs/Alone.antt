@@ -6,10 +6,9 @@ use Rattle.std.specs.Ordering.{nat_cmp}
 use Rattle.std.specs.Cmp.Lexicographic.{slice_cmp, nat_list_cmp_total}
 use Rattle.std.specs.FinMap.{empty, get, insert, remove, get-empty, get-insert, get-remove, same_map, slice_cmp-IsAntisymmetric, nat_cmp-IsAntisymmetric}
 use Rattle.std.proofs.lemmas.Map.Text.{is_eq-slice_cmp}
-use Rattle.snow_issue.proofs.Noted.{id_turned}
 use Rattle.snow_chain.specs.Chain.{Rules, Held, States, state_of, begun, next_on, with_state, accepted, MayVerify, MayAccept}
 use Rattle.snow_chain.specs.Alone.{IsAlone, last_state}
-use Rattle.snow_store.proofs.Cases.{same_id, id_same, clash}
+use Rattle.snow_store.proofs.Cases.{same_id, id_same, id_turned, clash}
 
 -- the state that one block has, and another hasn't
 begun_at : (last state q : List ℕ) → state_of (begun last state) q ≡ cond (bytes_eq q last) (Some state) None

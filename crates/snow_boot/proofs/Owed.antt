@@ -3,11 +3,11 @@ use Rattle.std.proofs.Common.{◌≡◌, ◌+◌, ℕ, suc, Bool, true, false, �
 use Rattle.std.specs.List.{remove, position_or_len}
 use Rattle.std.specs.Option.{option_map}
 use Rattle.std.specs.Prelude.{Ok, Err}
+use Rattle.std.proofs.lemmas.Bool.{or_right}
 use Rattle.snow_base.specs.Numbers.{next_number}
 use Rattle.snow_issue.specs.declared.work.Get.{Get}
 use Rattle.snow_issue.specs.Lists.{asked_in, is_get, without}
 use Rattle.snow_issue.proofs.Asking.{none_without}
-use Rattle.snow_issue.proofs.Booleans.{or_true}
 use Rattle.snow_sample.specs.declared.roster.Node.{Node}
 use Rattle.snow_store.specs.declared.due.Due.{Due}
 use Rattle.snow_store.specs.declared.due.Due.TheVariants as due
@@ -74,10 +74,10 @@ pub asked_but_one : (nodes : List Node) (f : Fetch) (targets : List (List ℕ)) 
 unfolding asked
 asked_but_one nodes f [] requests drawn x are = refl
 asked_but_one nodes f (t ∷ targets) requests drawn x are =
-    by_missed (missed f t) refl (asked_but_one nodes f targets requests drawn x (λ id is other. are id (ap (λ u. names (missed f t) id || u) is ∙ or_true (names (missed f t) id)) other))
+    by_missed (missed f t) refl (asked_but_one nodes f targets requests drawn x (λ id is other. are id (ap (λ u. names (missed f t) id || u) is ∙ or_right (names (missed f t) id) true refl) other))
   where
     rest : ButOne f targets requests x
-    rest id is other = are id (ap (λ u. names (missed f t) id || u) is ∙ or_true (names (missed f t) id)) other
+    rest id is other = are id (ap (λ u. names (missed f t) id || u) is ∙ or_right (names (missed f t) id) true refl) other
 
     by_missed : (o : Option (List ℕ)) → missed f t ≡ o → AsksOne nodes f targets requests drawn x
         → and_asked (asked_one nodes requests drawn o) (λ requests drawn. asked nodes f targets requests drawn)

@@ -12,9 +12,9 @@ use Rattle.snow_issue.specs.declared.get_map.Asked.{Asked}
 use Rattle.snow_issue.specs.declared.work.Get.{Get}
 use Rattle.snow_issue.specs.Lists.{asked_in, has_number, is_get, with_get, without}
 use Rattle.snow_issue.specs.Index.{AreNamedApart, HasAsked, get_of}
-use Rattle.snow_issue.proofs.Noted.{same_id, id_turned}
+use Rattle.snow_lineup.proofs.Noted.{same_id, id_turned}
 use Rattle.snow_issue.proofs.Named.{named, named_removed, apart_removed, named_is_some}
-use Rattle.snow_issue.proofs.Booleans.{or_false, or_turned, or_assoc, cond_or}
+use Rattle.snow_lineup.proofs.Booleans.{or_false, or_turned, or_assoc, cond_or}
 
 abbrev Entries : Type 0
 Entries = List (ℕ × Asked)

@@ -7,7 +7,7 @@ use Rattle.snow_base.specs.declared.header.Header.{Header}
 use Rattle.snow_issue.specs.declared.work.Waiting.{Waiting}
 use Rattle.snow_issue.specs.Lists.{waits_among, waits_below}
 use Rattle.snow_issue.specs.Index.{HasHeights}
-use Rattle.snow_issue.proofs.Noted.{same_id}
+use Rattle.snow_lineup.proofs.Noted.{same_id}
 use Rattle.snow_issue.proofs.Named.{named, named_pushed, apart_pushed, named_removed, named_at, apart_removed, named_is_some, none_named, any_named}
 
 -- what finds a height by identifier

@@ -1,5 +1,4 @@
 pub mod Asking
-pub mod Booleans
 mod Bubbled
 mod GoneExamples
 pub mod Examples
@@ -9,15 +8,11 @@ mod Lone
 mod Looked
 mod Named
 mod Newest
-pub mod Noted
-mod Placed
 mod Preferred
 pub mod Remembered
 mod Replied
 mod Settled
-mod Tagged
 mod Taken
-mod Windowed
 mod Rested
 mod Resting
 mod Stepped

@@ -6,25 +6,25 @@ use Rattle.std.proofs.lemmas.List.{length-map}
 use Rattle.std.proofs.lemmas.List.Sums.{position_or_len_is}
 use Rattle.snow_plain.specs.Board.{Board}
 use Rattle.snow_issue.specs.declared.work.Waiting.{Waiting}
-use Rattle.snow_issue.specs.declared.marks.Mark.{Mark}
-use Rattle.snow_issue.specs.declared.marks.Mark.TheVariants.{New, Quiet, Ripe}
+use Rattle.snow_lineup.specs.declared.marks.Mark.{Mark}
+use Rattle.snow_lineup.specs.declared.marks.Mark.TheVariants.{New, Quiet, Ripe}
 use Rattle.snow_issue.specs.Lists.{asked_in, waits_below}
 use Rattle.snow_issue.specs.Offering.{is_on}
 use Rattle.snow_issue.specs.Settling.{is_hopeless, is_ready}
-use Rattle.snow_issue.specs.Known.{Seen, Knows, NoneRipe, has, items_of, lists_of}
-use Rattle.snow_issue.specs.Windows.{IsWithin}
+use Rattle.snow_issue.specs.Known.{Seen, Knows, NoneRipe, items_of, lists_of}
+use Rattle.snow_lineup.specs.Marks.{has}
+use Rattle.snow_lineup.specs.Marks.{IsOnlyAt}
 use Rattle.snow_issue.proofs.Looked.{items_at, known_not_hopeless, not_hopeless, ready_is_ripe}
 use Rattle.snow_issue.proofs.Resting.{find_fails}
 
 -- at no other place is a block new
 abbrev IsAlone : List (Waiting × Mark) → ℕ → Type 0
-IsAlone seats at = IsWithin New seats (record { low = at; high = at + 1 })
+IsAlone seats at = IsOnlyAt New seats at
 
 old : (seats : List (Waiting × Mark)) (at k : ℕ) (d : Waiting × Mark) → IsAlone seats at → k < length seats → (k ≡ at → ⊥) → has New (get_or seats k d) ≡ false
 old seats at k d alone within other =
     false_from_ne_true (has New (get_or seats k d)) (λ t.
-    let h = alone k d within t in
-    absurd (other (omega (arith, h.0, h.1))))
+    absurd (other (alone k d within t)))
 
 none_lost : (s : Seen) (board : Board) (at : ℕ) → Knows s board → IsAlone s.seats at → ((d : Waiting × Mark) → is_on board (get_or s.seats at d).0.header.parent ≡ true)
     → All (λ w. is_hopeless (lists_of s) board w ≡ false) (items_of s.seats)

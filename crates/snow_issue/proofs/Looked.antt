@@ -9,12 +9,13 @@ use Rattle.snow_plain.specs.Board.{Board}
 use Rattle.snow_issue.specs.declared.work.Waiting.{Waiting}
 use Rattle.snow_issue.specs.declared.work.Get.{Get}
 use Rattle.snow_issue.specs.declared.work.Held.{Held}
-use Rattle.snow_issue.specs.declared.marks.Mark.{Mark}
-use Rattle.snow_issue.specs.declared.marks.Mark.TheVariants.{New, Quiet, Ripe}
+use Rattle.snow_lineup.specs.declared.marks.Mark.{Mark}
+use Rattle.snow_lineup.specs.declared.marks.Mark.TheVariants.{New, Quiet, Ripe}
 use Rattle.snow_issue.specs.Lists.{waits_below, asked_in}
 use Rattle.snow_issue.specs.Offering.{is_on}
 use Rattle.snow_issue.specs.Settling.{is_hopeless_by, is_ready, is_free_by}
-use Rattle.snow_issue.specs.Known.{items_of, has, is_mark, sight, Tells}
+use Rattle.snow_issue.specs.Known.{items_of, sight, Tells}
+use Rattle.snow_lineup.specs.Marks.{has, is_mark}
 use Rattle.snow_issue.specs.Keeping.{Rests}
 
 -- ---- places

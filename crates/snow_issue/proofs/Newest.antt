@@ -3,10 +3,11 @@ use Rattle.std.proofs.Common.{◌≡◌, ℕ, zero, suc, ◌+◌, ◌-◌, ◌<�
 use Rattle.std.proofs.lemmas.List.{length-map}
 use Rattle.snow_plain.proofs.Cases.{id_itself, same_id}
 use Rattle.snow_issue.specs.declared.work.Waiting.{Waiting}
-use Rattle.snow_issue.specs.declared.marks.Mark.{Mark}
-use Rattle.snow_issue.specs.declared.marks.Mark.TheVariants.{New}
+use Rattle.snow_lineup.specs.declared.marks.Mark.{Mark}
+use Rattle.snow_lineup.specs.declared.marks.Mark.TheVariants.{New}
 use Rattle.snow_issue.specs.Known.{items_of}
-use Rattle.snow_issue.specs.Index.{LastIsAlone, woken}
+use Rattle.snow_issue.specs.Index.{LastIsAlone}
+use Rattle.snow_lineup.specs.Index.{woken}
 use Rattle.snow_issue.proofs.Looked.{items_at}
 use Rattle.snow_issue.proofs.Taken.{items_pushed}
 

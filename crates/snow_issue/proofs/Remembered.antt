@@ -15,14 +15,15 @@ use Rattle.snow_plain.proofs.Invariant.{settled_keeps}
 use Rattle.snow_plain.proofs.Lookup.{found}
 use Rattle.snow_issue.specs.declared.work.Waiting.{Waiting}
 use Rattle.snow_issue.specs.declared.work.Get.{Get}
-use Rattle.snow_issue.specs.declared.marks.Mark.{Mark}
-use Rattle.snow_issue.specs.declared.marks.Mark.TheVariants.{New, Quiet, Ripe}
+use Rattle.snow_lineup.specs.declared.marks.Mark.{Mark}
+use Rattle.snow_lineup.specs.declared.marks.Mark.TheVariants.{New, Quiet, Ripe}
 use Rattle.snow_issue.specs.Lists.{asked_in, waits_below}
 use Rattle.snow_issue.specs.Offering.{is_on}
-use Rattle.snow_issue.specs.Known.{Seen, items_of, is_mark, has, sight, Tells, Knows, ForgetsChildren, NoneRipe}
+use Rattle.snow_issue.specs.Known.{Seen, items_of, sight, Tells, Knows, ForgetsChildren, NoneRipe}
+use Rattle.snow_lineup.specs.Marks.{is_mark, has}
 use Rattle.snow_issue.proofs.Looked.{quiet_off}
-use Rattle.snow_issue.proofs.Noted.{id_turned}
-use Rattle.snow_issue.proofs.Booleans.{or_false, or_true, or_assoc}
+use Rattle.snow_lineup.proofs.Noted.{id_turned}
+use Rattle.snow_lineup.proofs.Booleans.{or_false, or_true, or_assoc}
 
 -- ---- what is on a board
 

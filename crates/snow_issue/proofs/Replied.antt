@@ -13,14 +13,14 @@ use Rattle.std.proofs.lemmas.List.Folds.{list_any-append}
 use Rattle.std.proofs.lemmas.List.Sums.{length-filter, count_by-le-length}
 use Rattle.std.proofs.lemmas.Map.Text.{is_eq-slice_cmp}
 use Rattle.snow_issue.specs.declared.work.Held.{Held}
-use Rattle.snow_issue.specs.declared.marks.Mark.{Mark}
+use Rattle.snow_lineup.specs.declared.marks.Mark.{Mark}
 use Rattle.snow_issue.specs.Lists.{holds_in, is_reply}
 use Rattle.snow_issue.specs.Known.{items_of}
 use Rattle.snow_issue.specs.Index.{AreNamedApart, HasReplies, has_reply, reply_key}
-use Rattle.snow_issue.proofs.Noted.{same_id, id_itself}
+use Rattle.snow_lineup.proofs.Noted.{same_id, id_itself}
 use Rattle.snow_issue.proofs.Named.{is_named, named, apart_pushed, named_removed, apart_removed, named_is_some}
 use Rattle.snow_issue.proofs.Asking.{number_is, cond_none}
-use Rattle.snow_issue.proofs.Booleans.{or_false, cond_or, both_same}
+use Rattle.snow_lineup.proofs.Booleans.{or_false, cond_or, both_same}
 
 abbrev pub PollMap : Type 0
 PollMap = BTreeMap ℕ (BTreeSet (List ℕ))

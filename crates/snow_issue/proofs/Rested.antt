@@ -10,12 +10,13 @@ use Rattle.snow_issue.specs.declared.work.Waiting.{Waiting}
 use Rattle.snow_issue.specs.declared.work.Get.{Get}
 use Rattle.snow_issue.specs.declared.work.Held.{Held}
 use Rattle.snow_issue.specs.declared.work.Work.TheVariants as work
-use Rattle.snow_issue.specs.declared.marks.Mark.{Mark}
-use Rattle.snow_issue.specs.declared.marks.Mark.TheVariants.{Quiet, Ripe}
+use Rattle.snow_lineup.specs.declared.marks.Mark.{Mark}
+use Rattle.snow_lineup.specs.declared.marks.Mark.TheVariants.{Quiet, Ripe}
 use Rattle.snow_issue.specs.Lists.{asked_in, waits_below}
 use Rattle.snow_issue.specs.Offering.{is_on}
 use Rattle.snow_issue.specs.Settling.{is_free, IsIdle}
-use Rattle.snow_issue.specs.Known.{Seen, items_of, Knows, NoneNew, NoneRipe, has, lists_of, sight}
+use Rattle.snow_issue.specs.Known.{Seen, items_of, Knows, NoneNew, NoneRipe, lists_of, sight}
+use Rattle.snow_lineup.specs.Marks.{has}
 use Rattle.snow_issue.proofs.Resting.{resting}
 
 quiet : (on other : Bool) → on ≡ false → other ≡ true → cond on (Some Ripe) (cond other (Some Quiet) None) ≡ Some Quiet

@@ -6,8 +6,8 @@ use Rattle.std.proofs.lemmas.List.Elements.{All-head, All-tail}
 use Rattle.snow_plain.specs.Board.{Board}
 use Rattle.snow_issue.specs.declared.work.Waiting.{Waiting}
 use Rattle.snow_issue.specs.declared.work.Work.TheVariants as work
-use Rattle.snow_issue.specs.declared.marks.Mark.{Mark}
-use Rattle.snow_issue.specs.declared.marks.Mark.TheVariants.{New}
+use Rattle.snow_lineup.specs.declared.marks.Mark.{Mark}
+use Rattle.snow_lineup.specs.declared.marks.Mark.TheVariants.{New}
 use Rattle.snow_issue.specs.Settling.{work_of, is_hopeless, is_ready, is_free}
 use Rattle.snow_issue.specs.Known.{Seen, Knows, NoneNew, NoneRipe, lists_of, items_of}
 use Rattle.snow_issue.proofs.Looked.{items_at, known_not_hopeless, ready_is_ripe}

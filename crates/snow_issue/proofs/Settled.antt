@@ -10,12 +10,12 @@ use Rattle.snow_issue.specs.declared.work.Waiting.{Waiting}
 use Rattle.snow_issue.specs.declared.work.Get.{Get}
 use Rattle.snow_issue.specs.declared.work.Held.{Held}
 use Rattle.snow_issue.specs.declared.gone.Gone.{Gone}
-use Rattle.snow_issue.specs.declared.marks.Mark.{Mark}
-use Rattle.snow_issue.specs.declared.marks.Mark.TheVariants.{New}
+use Rattle.snow_lineup.specs.declared.marks.Mark.{Mark}
+use Rattle.snow_lineup.specs.declared.marks.Mark.TheVariants.{New}
 use Rattle.snow_issue.specs.Gone.{with_gone}
 use Rattle.snow_issue.specs.Lists.{Lists, with_get, is_get, without, AreWithinLimits}
 use Rattle.snow_issue.specs.Known.{Seen, items_of, lists_of, Tells, Knows}
-use Rattle.snow_issue.specs.Index.{woken, forgotten}
+use Rattle.snow_lineup.specs.Index.{woken, forgotten}
 use Rattle.snow_issue.specs.Keeping.{IsKept, Rests}
 use Rattle.snow_issue.proofs.Taken.{items_woken, items_forgotten, items_pushed, items_removed, item_is, rests_left, rests_closed, rests_asked, rests_pushed}
 

@@ -7,15 +7,15 @@ use Rattle.snow_base.specs.declared.header.Header.{Header}
 use Rattle.snow_plain.specs.Board.{Board}
 use Rattle.snow_issue.specs.declared.work.Waiting.{Waiting}
 use Rattle.snow_issue.specs.declared.work.Work.TheVariants as work
-use Rattle.snow_issue.specs.declared.marks.Mark.{Mark}
-use Rattle.snow_issue.specs.declared.marks.Mark.TheVariants.{New}
+use Rattle.snow_lineup.specs.declared.marks.Mark.{Mark}
+use Rattle.snow_lineup.specs.declared.marks.Mark.TheVariants.{New}
 use Rattle.snow_issue.specs.Lists.{Lists, without}
 use Rattle.snow_issue.specs.Settling.{work_of, after, is_hopeless, is_ready, is_free, gone_with}
 use Rattle.snow_issue.specs.Known.{Seen, Knows, items_of, lists_of}
-use Rattle.snow_issue.specs.Index.{woken}
+use Rattle.snow_lineup.specs.Index.{woken}
 use Rattle.snow_issue.proofs.Looked.{found_first, found_none, within_length}
 use Rattle.snow_issue.proofs.Settled.{lists_by, knows_from, items_left}
-use Rattle.snow_issue.proofs.Tagged.{map_remove}
+use Rattle.snow_lineup.proofs.Tagged.{map_remove}
 use Rattle.snow_issue.proofs.Taken.{item_is, tells_left}
 
 abbrev pub parent_of_block : Waiting → List ℕ

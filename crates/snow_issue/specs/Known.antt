@@ -8,8 +8,9 @@ use Rattle.snow_issue.specs.declared.work.Held.{Held}
 use Rattle.snow_issue.specs.declared.work.Work.{Work}
 use Rattle.snow_issue.specs.declared.work.Work.TheVariants as work
 use Rattle.snow_issue.specs.declared.gone.Gone.{Gone}
-use Rattle.snow_issue.specs.declared.marks.Mark.{Mark}
-use Rattle.snow_issue.specs.declared.marks.Mark.TheVariants.{New, Quiet, Ripe}
+use Rattle.snow_lineup.specs.declared.marks.Mark.{Mark}
+use Rattle.snow_lineup.specs.declared.marks.Mark.TheVariants.{New, Quiet, Ripe}
+use Rattle.snow_lineup.specs.Marks.{has}
 use Rattle.snow_issue.specs.Lists.{Lists, waits_below, asked_in, AreWithinLimits}
 use Rattle.snow_issue.specs.Offering.{is_on}
 use Rattle.snow_issue.specs.Settling.{work_of, after}
@@ -27,21 +28,6 @@ items_of seats = map (λ s. s.0) seats
 
 abbrev pub lists_of : Seen → Lists
 lists_of s = record { waiting = items_of s.seats; gets = s.gets; held = s.held; gone = s.gone }
-
-abbrev pub is_mark : Mark → Mark → Bool
-is_mark New New = true
-is_mark New Quiet = false
-is_mark New Ripe = false
-is_mark Quiet New = false
-is_mark Quiet Quiet = true
-is_mark Quiet Ripe = false
-is_mark Ripe New = false
-is_mark Ripe Quiet = false
-is_mark Ripe Ripe = true
-
--- whether this is what is remembered
-abbrev pub has : {T : Type 0} → Mark → T × Mark → Bool
-has mark seat = is_mark mark seat.1
 
 -- what a look at a waiting block tells: its parent is on the board, or it can wait on; nothing where it is hopeless
 abbrev pub sight : List Waiting → List Get → Board → Header → Option Mark

@@ -6,5 +6,4 @@ pub mod Bubbling
 pub mod Known
 pub mod KnownLaw
 pub mod Index
-pub mod Windows
 pub mod Keeping

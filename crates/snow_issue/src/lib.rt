@@ -7,16 +7,12 @@ mod get_map;
 mod gets;
 mod gone;
 mod laws;
-mod lineup;
 mod looking;
-mod marks;
 mod offering;
 mod queue;
 mod replies;
-mod rows;
 mod settling;
 mod waiting;
-mod window;
 mod work;
 
 pub use gets::Gets;

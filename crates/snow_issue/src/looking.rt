@@ -1,19 +1,20 @@
 ghost use Rattle.std.specs.Prelude.{◌≡◌, ◌<◌, true, false, All, length};
 ghost use Rattle.std.specs.List.{position_or_len};
 ghost use Rattle.snow_plain.specs.Board as model;
-ghost use Rattle.snow_issue.specs.declared.marks.Mark.TheVariants.{New};
+ghost use Rattle.snow_lineup.specs.declared.marks.Mark.TheVariants.{New};
 ghost use Rattle.snow_issue.specs.Settling.{is_hopeless_by, is_free_by};
 ghost use Rattle.snow_issue.specs.Offering.{is_on};
-ghost use Rattle.snow_issue.specs.Known.{items_of, has, sight, Tells, NoneNew, NoneRipe};
+ghost use Rattle.snow_issue.specs.Known.{items_of, sight, Tells, NoneNew, NoneRipe};
+ghost use Rattle.snow_lineup.specs.Marks.{has};
 ghost use Rattle.snow_issue.specs.Keeping.{Rests};
 
 use crate::gets::Gets;
-use crate::marks::Mark;
 use crate::offering::is_on;
 use crate::replies::Replies;
 use crate::waiting::WaitingList;
 use crate::work::Held;
 use snow_base::{Header, Id};
+use snow_lineup::Mark;
 use snow_plain::Board;
 
 // What a look at a waiting block tells; nothing where it is hopeless.

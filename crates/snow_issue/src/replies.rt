@@ -1,14 +1,14 @@
 ghost use Rattle.std.specs.Prelude.{◌≡◌, ℕ, ◌<◌, ◌==◌, ◌&&◌, ◌||◌, ◌∷◌, ◌++◌, [], List, map, not, filter, false, bytes_eq, length, slice_set, HoldsAt, OnOk, OnErr, if◌then◌else◌};
-ghost use Rattle.std.specs.List.{AllPairs, position_or_len, remove};
-ghost use Rattle.snow_issue.specs.Known.{has, items_of};
+ghost use Rattle.std.specs.List.{position_or_len, remove};
+ghost use Rattle.snow_issue.specs.Known.{items_of};
+ghost use Rattle.snow_lineup.specs.Marks.{has};
+ghost use Rattle.snow_lineup.specs.Index.{woken};
 ghost use Rattle.snow_issue.specs.Lists.{holds_in};
-ghost use Rattle.snow_issue.specs.Index.{woken, row_of, left_by, has_place, has_reply, KeepsRows};
+ghost use Rattle.snow_issue.specs.Index.{has_reply};
 
-use crate::lineup::{Keyed, Lineup, Slot};
-use crate::marks::Mark;
-use crate::rows::Rows;
 use crate::work::Held;
 use snow_base::{Id, NodeId};
+use snow_lineup::{Grouped, Keyed, Lineup, Mark};
 use std::alloc::{AllocError, Global};
 use std::collections::{BTreeMap, BTreeSet};
 use std::marker::Model;
@@ -18,6 +18,14 @@ impl Keyed for Held {
 
     fn key(&self) -> Id {
         self.id
+    }
+}
+
+impl Grouped for Held {
+    ghost group = { λ h. h.number };
+
+    fn group(&self) -> u32 {
+        self.number
     }
 }
 
@@ -33,7 +41,7 @@ pub(crate) struct Replies {
 impl Model for Replies {
     ghost use Rattle.std.specs.Prelude.{List};
     ghost use Rattle.snow_issue.specs.declared.work.Held.{Held};
-    ghost use Rattle.snow_issue.specs.declared.marks.Mark.{Mark};
+    ghost use Rattle.snow_lineup.specs.declared.marks.Mark.{Mark};
     ghost use Rattle.snow_issue.specs.Known.{items_of};
     ghost use Rattle.snow_issue.specs.Index.{HasReplies};
 
@@ -45,7 +53,7 @@ impl Model for Replies {
 }
 
 impl Replies {
-    ghost use Rattle.snow_issue.specs.declared.marks.Mark.TheVariants.{New};
+    ghost use Rattle.snow_lineup.specs.declared.marks.Mark.TheVariants.{New};
 
     /// No reply is held. It takes no memory.
     pub(crate) fn new(alloc: Global) -> Self
@@ -151,42 +159,7 @@ impl Replies {
         if nodes.is_empty() {
             return;
         }
-        self.lineup.leave_poll(number);
-    }
-}
-
-impl Lineup<Held> {
-    // The replies to a poll go. It takes no memory.
-    fn leave_poll(&mut self, number: u32)
-        ensures { self.new ≡ filter (λ s. not (s.0.number == number)) self.old }
-    {
-        leave_rows(self.slots.as_slice(), &mut self.rows, number);
-        self.slots.retain(
-            |slot: &Slot<Held>| -> bool
-                ensures { result ≡ not (slot.now.item.number == number) }
-            { slot.item.number != number },
-        );
-        self.windows = self.windows.left(self.slots.len());
-    }
-}
-
-// The places of the replies to a poll go out of their rows.
-fn leave_rows(slots: &[Slot<Held>], rows: &mut Rows, number: u32)
-    requires { AllPairs (λ s t. s.place < t.place) slots.now }
-    ensures kept { KeepsRows (λ s. not (s.item.number == number)) slots.now rows.old.rows rows.new.rows }
-    ensures unused { (id : List ℕ) (place : ℕ) → has_place place (row_of rows.old.rows id) ≡ false → has_place place (row_of rows.new.rows id) ≡ false }
-{
-    for slot in slots {
-        leave_row(slot, rows, number);
-    }
-}
-
-// The place of a reply goes out of its row, where it is one to this poll.
-fn leave_row(slot: &Slot<Held>, rows: &mut Rows, number: u32)
-    ensures { (q : List ℕ) → row_of rows.new.rows q ≡ (if (slot.now.item.number == number) && bytes_eq slot.now.item.id q then left_by slot.now.place (row_of rows.old.rows q) else row_of rows.old.rows q) }
-{
-    if slot.item.number == number {
-        rows.leave(&slot.item.id, slot.place);
+        self.lineup.leave_all(number);
     }
 }
 

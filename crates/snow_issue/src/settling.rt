@@ -1,17 +1,18 @@
 ghost use Rattle.std.specs.Prelude.{◌≡◌, ◌<◌, ◌≤◌, None, IfSome, find, is_some, map, length, HoldsAt, if◌then◌else◌};
 ghost use Rattle.std.specs.List.{position_or_len, remove};
-ghost use Rattle.snow_issue.specs.declared.marks.Mark.TheVariants.{New};
+ghost use Rattle.snow_lineup.specs.declared.marks.Mark.TheVariants.{New};
 ghost use Rattle.snow_issue.specs.Settling.{is_hopeless, is_ready, is_free, gone_with};
 ghost use Rattle.snow_issue.specs.Lists.{without, AreWithinLimits};
-ghost use Rattle.snow_issue.specs.Known.{lists_of, has, Knows, NoneRipe, TakesStep};
-ghost use Rattle.snow_issue.specs.Index.{woken};
+ghost use Rattle.snow_issue.specs.Known.{lists_of, Knows, NoneRipe, TakesStep};
+ghost use Rattle.snow_lineup.specs.Marks.{has};
+ghost use Rattle.snow_lineup.specs.Index.{woken};
 
 use crate::gone::Gone;
 use crate::looking;
-use crate::marks::Mark;
 use crate::offering::is_on;
 use crate::queue::Queue;
 use crate::work::{Held, Waiting, Work};
+use snow_lineup::Mark;
 use snow_plain::Board;
 
 impl Queue {

@@ -1,14 +1,13 @@
 ghost use Rattle.std.specs.Prelude.{◌≡◌, ◌+◌, ◌==◌, IfSome, ◌<◌, ◌∷◌, ◌++◌, [], List, map, true, false, length, slice_set, HoldsAt, OnOk, OnErr};
 ghost use Rattle.std.specs.List.{position_or_len, remove};
-ghost use Rattle.snow_issue.specs.Known.{has, items_of, NoneNew, NoneRipe};
+ghost use Rattle.snow_issue.specs.Known.{items_of, NoneNew, NoneRipe};
 ghost use Rattle.snow_issue.specs.Lists.{waits_among, waits_below};
-ghost use Rattle.snow_issue.specs.Index.{woken, forgotten};
-ghost use Rattle.snow_issue.specs.Windows.{IsWithin};
+ghost use Rattle.snow_lineup.specs.Marks.{has, IsOnlyAt};
+ghost use Rattle.snow_lineup.specs.Index.{woken, forgotten};
 
-use crate::lineup::{Keyed, Lineup};
-use crate::marks::Mark;
 use crate::work::Waiting;
 use snow_base::{Header, Id};
+use snow_lineup::{Keyed, Lineup, Mark};
 use std::alloc::{AllocError, Global};
 use std::collections::HashMap;
 use std::marker::Model;
@@ -35,7 +34,7 @@ impl Model for WaitingList {
     ghost use Rattle.std.specs.Prelude.{List, bytes_eq};
     ghost use Rattle.std.specs.HashMap.{get};
     ghost use Rattle.snow_issue.specs.declared.work.Waiting.{Waiting};
-    ghost use Rattle.snow_issue.specs.declared.marks.Mark.{Mark};
+    ghost use Rattle.snow_lineup.specs.declared.marks.Mark.{Mark};
     ghost use Rattle.snow_issue.specs.Known.{items_of};
     ghost use Rattle.snow_issue.specs.Index.{HasHeights, LastIsAlone};
 
@@ -47,7 +46,7 @@ impl Model for WaitingList {
 }
 
 impl WaitingList {
-    ghost use Rattle.snow_issue.specs.declared.marks.Mark.TheVariants.{New};
+    ghost use Rattle.snow_lineup.specs.declared.marks.Mark.TheVariants.{New};
 
     /// No block waits. It takes no memory.
     pub(crate) fn new(alloc: Global) -> Self
@@ -145,7 +144,7 @@ impl WaitingList {
     /// other and that none is ripe.
     pub(crate) fn lone(&self) -> Option<usize>
         ensures there { IfSome result (λ at. at < length self.now) }
-        ensures new { IfSome result (λ at. IsWithin New self.now (record { low = at; high = at + 1 })) }
+        ensures new { IfSome result (λ at. IsOnlyAt New self.now at) }
         ensures ripe { IfSome result (λ at. NoneRipe self.now) }
     {
         self.lineup.lone()

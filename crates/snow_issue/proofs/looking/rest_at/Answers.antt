@@ -2,11 +2,11 @@
 use Rattle.std.proofs.Common.{◌≡◌, true, ◌||◌, get_or, set, Some, sym, ap, ◌∙◌}
 use Rattle.std.proofs.lemmas.Bool.{or_left}
 use Rattle.snow_issue.specs.declared.work.Waiting.{Waiting}
-use Rattle.snow_issue.specs.declared.marks.Mark.{Mark}
-use Rattle.snow_issue.specs.declared.marks.Mark.TheVariants.{Quiet}
+use Rattle.snow_lineup.specs.declared.marks.Mark.{Mark}
+use Rattle.snow_lineup.specs.declared.marks.Mark.TheVariants.{Quiet}
 use Rattle.snow_issue.specs.Lists.{asked_in, waits_below}
 use Rattle.snow_issue.specs.Known.{items_of, sight}
-use Rattle.snow_issue.proofs.Booleans.{or_true}
+use Rattle.snow_lineup.proofs.Booleans.{or_true}
 use Rattle.snow_issue.proofs.Looked.{items_after_set, tells_after}
 use Rattle.snow_issue.proofs.Rested.{sees_quiet}
 use Rattle.snow_issue.proofs.looking.rest_at.Goals as goal

@@ -1,7 +1,7 @@
 use Rattle.std.proofs.Common.{List, All, not, ◌==◌, sym, ap, ◌∙◌, subst}
 use Rattle.std.proofs.lemmas.List.Elements.{All-filter}
 use Rattle.snow_issue.specs.declared.work.Held.{Held}
-use Rattle.snow_issue.specs.declared.marks.Mark.{Mark}
+use Rattle.snow_lineup.specs.declared.marks.Mark.{Mark}
 use Rattle.snow_issue.specs.Lists.{Lists, after_forgotten}
 use Rattle.snow_issue.specs.Known.{Seen, items_of, lists_of}
 use Rattle.snow_issue.specs.Keeping.{Rests}

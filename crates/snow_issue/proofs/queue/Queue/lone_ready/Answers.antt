@@ -1,11 +1,11 @@
 -- The one block of which nothing is remembered has its parent on the board.
 use Rattle.std.proofs.Common.{◌≡◌, ◌<◌, ◌+◌, true, List, get_or, length, sym, ap, ◌∙◌, subst}
 use Rattle.snow_issue.specs.declared.work.Waiting.{Waiting}
-use Rattle.snow_issue.specs.declared.marks.Mark.{Mark}
-use Rattle.snow_issue.specs.declared.marks.Mark.TheVariants.{New}
+use Rattle.snow_lineup.specs.declared.marks.Mark.{Mark}
+use Rattle.snow_lineup.specs.declared.marks.Mark.TheVariants.{New}
 use Rattle.snow_issue.specs.Offering.{is_on}
 use Rattle.snow_issue.specs.Known.{Seen, NoneRipe}
-use Rattle.snow_issue.specs.Windows.{IsWithin}
+use Rattle.snow_lineup.specs.Marks.{IsOnlyAt}
 use Rattle.snow_issue.proofs.Lone.{none_hopeless, lone_first}
 use Rattle.snow_issue.proofs.queue.Queue.lone_ready.Goals as goal
 use Rattle.snow_issue.proofs.queue.Queue.lone_ready.Goals.{After-is_on}
@@ -23,7 +23,7 @@ pub returns-then-is_on-clause-none : goal.returns-then-is_on-clause-none
 returns-then-is_on-clause-none g c =
     let at = c.in_ok-at.at in
     none_hopeless c.args.self.now (g.B.Board.board c.args.board.now) at c.requires
-    (subst (λ (s : Seen). IsWithin New s.seats (record { low = at; high = at + 1 })) c.self.view_is c.in_ok-at.ensures.new)
+    (subst (λ (s : Seen). IsOnlyAt New s.seats at) c.self.view_is c.in_ok-at.ensures.new)
     (on g (goal.at.returns-then-is_on-clause-none g c).After-is_on c.if-is_on.true)
 
 pub returns-then-is_on-clause-first : goal.returns-then-is_on-clause-first
@@ -31,6 +31,6 @@ returns-then-is_on-clause-first g c =
     let at = c.in_ok-at.at in
     lone_first c.args.self.now (g.B.Board.board c.args.board.now) at c.requires
     (subst (λ (s : Seen). at < length s.seats) c.self.view_is c.in_ok-at.ensures.there)
-    (subst (λ (s : Seen). IsWithin New s.seats (record { low = at; high = at + 1 })) c.self.view_is c.in_ok-at.ensures.new)
+    (subst (λ (s : Seen). IsOnlyAt New s.seats at) c.self.view_is c.in_ok-at.ensures.new)
     (subst (λ (s : Seen). NoneRipe s.seats) c.self.view_is c.in_ok-at.ensures.ripe)
     (on g (goal.at.returns-then-is_on-clause-first g c).After-is_on c.if-is_on.true)

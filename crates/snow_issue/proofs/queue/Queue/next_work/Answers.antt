@@ -1,7 +1,7 @@
 -- Nothing is remembered, so what is remembered is true of the board.
 use Rattle.std.proofs.Common.{◌≡◌, List, All, sym, ap, ◌∙◌, subst}
 use Rattle.snow_issue.specs.declared.work.Waiting.{Waiting}
-use Rattle.snow_issue.specs.declared.marks.Mark.{Mark}
+use Rattle.snow_lineup.specs.declared.marks.Mark.{Mark}
 use Rattle.snow_issue.specs.Settling.{work_of, after}
 use Rattle.snow_issue.specs.Known.{Seen, items_of, lists_of, Tells}
 use Rattle.snow_issue.specs.Keeping.{IsKept}

@@ -5,9 +5,9 @@ use Rattle.std.specs.List.{remove}
 use Rattle.snow_base.specs.declared.header.Header.{Header}
 use Rattle.snow_issue.specs.declared.work.Waiting.{Waiting}
 use Rattle.snow_issue.specs.declared.work.Held.{Held}
-use Rattle.snow_issue.specs.declared.marks.Mark.{Mark}
+use Rattle.snow_lineup.specs.declared.marks.Mark.{Mark}
 use Rattle.snow_issue.specs.Known.{Seen, items_of}
-use Rattle.snow_issue.specs.Index.{woken}
+use Rattle.snow_lineup.specs.Index.{woken}
 use Rattle.snow_issue.proofs.Settled.{kept_left}
 use Rattle.snow_issue.proofs.Stepped.{IsLeft, parent_of_block, woken_left}
 use Rattle.snow_issue.proofs.Taken.{items_woken}

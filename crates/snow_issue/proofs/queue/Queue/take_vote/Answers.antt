@@ -3,14 +3,14 @@ use Rattle.std.proofs.Common.{◌<◌, List, All, length, find, get_or, sym, ap,
 use Rattle.std.specs.List.{remove}
 use Rattle.std.proofs.lemmas.List.{length-map}
 use Rattle.snow_issue.specs.declared.work.Held.{Held}
-use Rattle.snow_issue.specs.declared.marks.Mark.{Mark}
+use Rattle.snow_lineup.specs.declared.marks.Mark.{Mark}
 use Rattle.snow_issue.specs.Lists.{without}
 use Rattle.snow_issue.specs.Settling.{is_free, is_free_by}
 use Rattle.snow_issue.specs.Known.{Seen, items_of, lists_of}
 use Rattle.snow_issue.specs.Keeping.{Rests}
 use Rattle.snow_issue.proofs.Looked.{found_first, found_none}
 use Rattle.snow_issue.proofs.Settled.{kept_replies}
-use Rattle.snow_issue.proofs.Tagged.{All_remove}
+use Rattle.snow_lineup.proofs.Tagged.{All_remove}
 use Rattle.snow_issue.proofs.Taken.{item_is, items_removed}
 use Rattle.snow_issue.proofs.queue.Queue.take_vote.Goals as goal
 

@@ -37,5 +37,5 @@ returns-then-is_empty c =
 pub invariant_of-self-2 : goal.invariant_of-self-2
 invariant_of-self-2 c =
     let inside = c.self.inside in
-    subst (λ (l : List Held). HasReplies c.remove.new.self l) (sym (ap items_of c.leave_poll.ensures ∙ items_filtered inside.lineup c.args.number))
+    subst (λ (l : List Held). HasReplies c.remove.new.self l) (sym (ap items_of c.leave_all.ensures ∙ items_filtered inside.lineup c.args.number))
     (held_forgotten inside.polls c.remove.new.self (items_of inside.lineup) c.args.number c.self.invariant c.remove.ensures.updates.0)

@@ -1,6 +1,6 @@
 use Rattle.std.proofs.Common.{◌≡◌, List, false, sym, ap, ◌∙◌, subst}
 use Rattle.snow_issue.specs.declared.work.Held.{Held}
-use Rattle.snow_issue.specs.declared.marks.Mark.TheVariants.{New}
+use Rattle.snow_lineup.specs.declared.marks.Mark.TheVariants.{New}
 use Rattle.snow_issue.specs.Lists.{holds_in}
 use Rattle.snow_issue.specs.Known.{items_of}
 use Rattle.snow_issue.specs.Index.{HasReplies}

@@ -2,10 +2,11 @@ use Rattle.std.proofs.Common.{◌≡◌, suc, ◌-◌, ◌<◌, Bool, List, map,
 use Rattle.std.specs.HashMap.{get}
 use Rattle.std.specs.Str.{bytes_eq}
 use Rattle.snow_issue.specs.declared.work.Waiting.{Waiting}
-use Rattle.snow_issue.specs.declared.marks.Mark.{Mark}
-use Rattle.snow_issue.specs.declared.marks.Mark.TheVariants.{New}
+use Rattle.snow_lineup.specs.declared.marks.Mark.{Mark}
+use Rattle.snow_lineup.specs.declared.marks.Mark.TheVariants.{New}
 use Rattle.snow_issue.specs.Known.{items_of}
-use Rattle.snow_issue.specs.Index.{HasHeights, LastIsAlone, woken}
+use Rattle.snow_issue.specs.Index.{HasHeights, LastIsAlone}
+use Rattle.snow_lineup.specs.Index.{woken}
 use Rattle.snow_issue.proofs.Looked.{items_after_set}
 use Rattle.snow_issue.proofs.Newest.{wakes_last}
 use Rattle.snow_issue.proofs.Taken.{items_woken}

@@ -1,7 +1,0 @@
-use Rattle.std.proofs.Common.{map}
-use Rattle.snow_issue.specs.Index.{seat_of}
-use Rattle.snow_issue.proofs.Windowed.{NoneBelow}
-use Rattle.snow_issue.proofs.lineup.first_in.Given as goal
-
-abbrev pub invariant-loop-at : goal.invariant-loop-at
-invariant-loop-at g l = NoneBelow l.mark (map seat_of l.slots) l.at

@@ -1,8 +1,0 @@
-use Rattle.std.proofs.Common.{◌≡◌, ℕ, List, ◌==◌, not, false}
-use Rattle.snow_issue.specs.Index.{row_of, has_place, KeepsRows}
-use Rattle.snow_issue.proofs.replies.leave_rows.Given as goal
-
-abbrev pub invariant-loop-slot : goal.invariant-loop-slot
-invariant-loop-slot l =
-    KeepsRows (λ s. not (s.item.number == l.number)) l.slots l.initial.rows.rows l.rows.rows
-    × ((id : List ℕ) (place : ℕ) → has_place place (row_of l.initial.rows.rows id) ≡ false → has_place place (row_of l.rows.rows id) ≡ false)

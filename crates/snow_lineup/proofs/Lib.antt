@@ -1,0 +1,5 @@
+pub mod Booleans
+pub mod Noted
+pub mod Tagged
+mod Placed
+mod Windowed

@@ -1,0 +1,54 @@
+-- Lemmas on rows: the places of each key.
+use Rattle.std.proofs.Common.{◌≡◌, ℕ, ◌==◌, Bool, true, false, not, ◌||◌, cond, List, [], ◌∷◌, ◌++◌, refl, sym, ap, ◌∙◌}
+use Rattle.std.specs.Str.{bytes_eq}
+use Rattle.std.proofs.lemmas.Bool.{ne_eqb, eqb-true, false_from_ne_true}
+use Rattle.std.proofs.lemmas.List.Folds.{list_any-append}
+use Rattle.std.proofs.lemmas.Slice.Eq.{bytes_eq-Decides}
+use Rattle.snow_lineup.specs.Index.{has_place, left_by}
+use Rattle.snow_lineup.proofs.Booleans.{or_false}
+
+pub same_id : (a b : List ℕ) → bytes_eq a b ≡ true → a ≡ b
+same_id a b = (bytes_eq-Decides a b).0
+
+pub id_itself : (a : List ℕ) → bytes_eq a a ≡ true
+id_itself a = (bytes_eq-Decides a a).1 refl
+
+pub id_turned : (a b : List ℕ) → bytes_eq a b ≡ bytes_eq b a
+id_turned a b =
+    let Goal : Bool → Type 0 = λ x. bytes_eq a b ≡ x → x ≡ bytes_eq b a in
+    elim (bytes_eq a b) as Goal [
+      | true ↦ λ e. sym ((bytes_eq-Decides b a).1 (sym (same_id a b e)))
+      | false ↦ λ e. sym (false_from_ne_true (bytes_eq b a) (λ t. let k = (bytes_eq-Decides a b).1 (sym (same_id b a t)) in let z : true ≡ false = sym k ∙ e in absurd cc))
+    ] refl
+
+-- ---- what a row has
+
+pub has_pushed : (row : List ℕ) (place other : ℕ) → has_place other (row ++ place ∷ []) ≡ (has_place other row || (place == other))
+has_pushed row place other = list_any-append (λ p. p == other) row (place ∷ []) ∙ ap (λ b. has_place other row || b) (or_false (place == other))
+
+-- another place stays in a row
+pub has_left : (row : List ℕ) (place other : ℕ) → (other ≡ place → ⊥) → has_place other (left_by place row) ≡ has_place other row
+has_left [] place other h = refl
+has_left (p ∷ row) place other h =
+    let Goal : Bool → Type 0 = λ b. (p == place) ≡ b → has_place other (cond (not b) (p ∷ left_by place row) (left_by place row)) ≡ ((p == other) || has_place other row) in
+    elim (p == place) as Goal [
+      | true ↦ λ e.
+          let is : p ≡ place = eqb-true p place e in
+          let not : (p == other) ≡ false = ne_eqb p other (λ k. h (sym k ∙ is)) in
+          has_left row place other h ∙ sym (ap (λ b. b || has_place other row) not)
+      | false ↦ λ e. ap (λ b. (p == other) || b) (has_left row place other h)
+    ] refl
+
+-- a place that a row hasn't doesn't come
+pub none_left : (row : List ℕ) (place other : ℕ) → has_place other row ≡ false → has_place other (left_by place row) ≡ false
+none_left [] place other h = h
+none_left (p ∷ row) place other h =
+    let Goal : Bool → Type 0 = λ b. ((p == other) || has_place other row) ≡ false → has_place other (cond (not b) (p ∷ left_by place row) (left_by place row)) ≡ false in
+    let Part : Bool → Type 0 = λ b. (b || has_place other row) ≡ false → (b || has_place other (left_by place row)) ≡ false in
+    let part : (b : Bool) → Part b = λ b. elim b as Part [ true ↦ λ k. k | false ↦ λ k. none_left row place other k ] in
+    let rest : (b : Bool) → (b || has_place other row) ≡ false → has_place other (left_by place row) ≡ false =
+    λ b. elim b as (λ b. (b || has_place other row) ≡ false → has_place other (left_by place row) ≡ false) [ true ↦ λ k. absurd cc | false ↦ λ k. none_left row place other k ] in
+    elim (p == place) as Goal [
+      | true ↦ λ k. rest (p == other) k
+      | false ↦ λ k. part (p == other) k
+    ] h

@@ -1,0 +1,285 @@
+ghost use Rattle.std.specs.Prelude.{◌≡◌, ℕ, ◌+◌, ◌<◌, ◌^◌, ◌≤◌, ◌==◌, true, false, IfOk, IfSome, All, bytes_eq, [], ◌∷◌, ◌++◌, List, map, length, nat_lt, slice_set, HoldsAt, OnOk, OnErr};
+ghost use Rattle.std.specs.List.{AllPairs, position_or_len, remove};
+ghost use Rattle.std.specs.Option.{option_to_list};
+ghost use Rattle.snow_lineup.specs.Marks.{has, IsOnlyAt};
+ghost use Rattle.snow_lineup.specs.Index.{seat_of, woken, woken_at, forgotten, reset};
+ghost use Rattle.snow_lineup.specs.Windows.{IsWithin, AreWithin};
+ghost use Rattle.snow_lineup.specs.declared.marks.Mark.TheVariants.{New, Ripe};
+
+use crate::marks::Mark;
+use crate::rows::Rows;
+use crate::window::{Window, Windows};
+use snow_base::Id;
+use std::alloc::{AllocError, Global};
+use std::marker::Model;
+
+/// What waits for a block.
+pub trait Keyed: Drop {
+    ghost use Rattle.std.specs.Prelude.{◌≡◌, ℕ, List};
+
+    /// The block that it waits for.
+    ghost key: { Self → List ℕ };
+
+    /// The block that it waits for.
+    fn key(&self) -> Id
+        ensures { result ≡ key self.now };
+}
+
+/// An item with its place, a number that never comes again, and what is remembered of it.
+#[derive(Drop)]
+pub(crate) struct Slot<T> {
+    pub(crate) place: u64,
+    pub(crate) mark: Mark,
+    pub(crate) item: T,
+}
+
+/// Items in order of arrival, each with what is remembered of it, and an index by what they wait for.
+#[derive(Drop)]
+pub struct Lineup<T: Keyed> {
+    pub(crate) alloc: Global,
+    pub(crate) slots: Vec<Slot<T>>,
+    pub(crate) rows: Rows,
+    pub(crate) next: u64,
+    pub(crate) windows: Windows,
+}
+
+impl<T: Keyed> Model for Lineup<T> {
+    ghost use Rattle.std.specs.Prelude.{List, map};
+    ghost use Rattle.snow_lineup.specs.declared.marks.Mark.{Mark};
+    ghost use Rattle.snow_lineup.specs.Index.{IsIndexed, tag_of, seat_of};
+    ghost use Rattle.snow_lineup.specs.Windows.{AreWithin};
+
+    ghost Value = { List (T × Mark) };
+
+    ghost view = { λ a. map seat_of a.slots.items };
+
+    ghost invariant = { λ a. IsIndexed (map (tag_of T.key) a.slots.items) a.rows.rows a.next × AreWithin (map seat_of a.slots.items) a.windows };
+}
+
+impl<T: Keyed> Lineup<T> {
+    /// Nothing waits. It takes no memory.
+    pub fn new(alloc: Global) -> Self
+        ensures { result ≡ [] }
+    {
+        Lineup {
+            alloc,
+            slots: Vec::new(alloc),
+            rows: Rows::new(alloc),
+            next: 0,
+            windows: Windows::empty(),
+        }
+    }
+
+    /// How many items there are.
+    pub fn len(&self) -> usize
+        ensures { result ≡ length self.now }
+    {
+        self.slots.len()
+    }
+
+    /// Appends an item, of which nothing is remembered, and tells where it is plain that no other has
+    /// its key. After want of memory all is as before.
+    pub fn push(&mut self, item: T) -> Result<bool, AllocError>
+        ensures ok { OnOk result (self.new ≡ self.old ++ (item, New) ∷ []) }
+        ensures alone { IfOk result (λ alone. alone ≡ true → All (λ s. bytes_eq (T.key item) (T.key s.0) ≡ false) self.old) }
+        ensures err { OnErr result (self.new ≡ self.old) }
+    {
+        // Places never come again, and there are more than a node lives to use.
+        if self.next == u64::MAX {
+            return Err(AllocError);
+        }
+        self.slots.reserve(1)?;
+        let alone = self.rows.note(self.alloc, item.key(), self.next)?;
+        self.windows = self.windows.marked(self.slots.len(), Mark::New);
+        self.slots.push_reserved(Slot {
+            place: self.next,
+            mark: Mark::New,
+            item,
+        });
+        self.next += 1;
+        Ok(alone)
+    }
+
+    /// Whether it is plain that something is remembered of each item, and that none is ripe.
+    pub fn rests(&self) -> bool
+        ensures new { result ≡ true → All (λ s. has New s ≡ false) self.now }
+        ensures ripe { result ≡ true → All (λ s. has Ripe s ≡ false) self.now }
+    {
+        self.windows.are_empty()
+    }
+
+    /// Where the one item stands of which nothing is remembered, where it is plain that there is no
+    /// other and that none is ripe.
+    pub fn lone(&self) -> Option<usize>
+        ensures there { IfSome result (λ at. at < length self.now) }
+        ensures new { IfSome result (λ at. IsOnlyAt New self.now at) }
+        ensures ripe { IfSome result (λ at. All (λ s. has Ripe s ≡ false) self.now) }
+    {
+        self.windows.lone(self.slots.len())
+    }
+
+    /// Where the first item with this mark stands, or how many items there are.
+    pub fn first(&mut self, mark: Mark) -> usize
+        ensures at { result ≡ position_or_len (has mark) self.old }
+        ensures same { self.new ≡ self.old }
+    {
+        let len = self.slots.len();
+        let at = first_in(self.slots.as_slice(), mark, self.windows.of(mark, len));
+        self.windows = self.windows.narrowed(mark, at, len);
+        at
+    }
+
+    /// The item at a place.
+    pub fn item(&self, at: usize) -> &T
+        requires { at < length self.now }
+        ensures { HoldsAt (λ s. result.now ≡ s.0) self.now at }
+    {
+        &self.slots[at].item
+    }
+
+    /// Remembers something of the item at a place.
+    pub fn set(&mut self, at: usize, mark: Mark)
+        requires { at < length self.old }
+        ensures { HoldsAt (λ s. self.new ≡ slice_set self.old at (s.0, mark)) self.old at }
+    {
+        self.slots[at].mark = mark;
+        self.windows = self.windows.marked(at, mark);
+    }
+
+    /// Takes the item at a place out. It takes no memory.
+    pub fn take(&mut self, at: usize) -> T
+        requires { at < length self.old }
+        ensures taken { HoldsAt (λ s. result ≡ s.0) self.old at }
+        ensures rest { self.new ≡ remove self.old at }
+    {
+        let slot = &self.slots[at];
+        self.rows.leave(&slot.item.key(), slot.place);
+        self.windows = self.windows.without(at);
+        let Slot { item, .. } = self.slots.remove(at);
+        item
+    }
+
+    /// Forgets what is remembered of the items that wait for a block.
+    pub fn wake(&mut self, key: &Id)
+        ensures { self.new ≡ map (woken T.key key.now) self.old }
+    {
+        if self.slots.is_empty() {
+            return;
+        }
+        let places = self.rows.of(key);
+        wake_row(&mut self.slots, &mut self.windows, places.0, places.1);
+    }
+
+    /// Forgets what is remembered of any item.
+    pub fn forget_marks(&mut self)
+        ensures { self.new ≡ map forgotten self.old }
+    {
+        forget_all(&mut self.slots);
+        self.windows = Windows::all_fresh(self.slots.len());
+    }
+}
+
+// The first slot with this mark in the window, or how many slots there are.
+fn first_in<T>(slots: &[Slot<T>], mark: Mark, window: Window) -> usize
+    requires { IsWithin mark (map seat_of slots.now) window }
+    ensures { result ≡ position_or_len (has mark) (map seat_of slots.now) }
+{
+    let high = window.high.min(slots.len());
+    for at in window.low..high {
+        if slots[at].mark.is(mark) {
+            return at;
+        }
+    }
+    slots.len()
+}
+
+// Forgets what is remembered of any item.
+fn forget_all<T>(slots: &mut [Slot<T>])
+    ensures { slots.new ≡ map reset slots.old }
+{
+    for slot in slots.iter_mut() {
+        slot.mark = Mark::New;
+    }
+}
+
+// The slot with this place, or how many slots there are. It is looked for first where it stands if
+// no place before it is missing.
+fn find_place<T>(slots: &[Slot<T>], place: u64) -> usize
+    requires { AllPairs (λ s t. s.place < t.place) slots.now }
+    ensures { result ≡ position_or_len (λ s. s.place == place) slots.now }
+{
+    let likely = likely_place(slots, place);
+    if let Some(slot) = slots.get(likely) {
+        if slot.place == place {
+            return likely;
+        }
+    }
+    search_place(slots, place)
+}
+
+// How far a place is behind that of the first slot.
+fn likely_place<T>(slots: &[Slot<T>], place: u64) -> usize {
+    match slots.first() {
+        Some(slot) => place.wrapping_sub(slot.place) as usize,
+        None => 0,
+    }
+}
+
+// The same, wherever it stands.
+fn search_place<T>(slots: &[Slot<T>], place: u64) -> usize
+    requires { AllPairs (λ s t. s.place < t.place) slots.now }
+    ensures { result ≡ position_or_len (λ s. s.place == place) slots.now }
+{
+    let at = slots.partition_point(
+        |slot: &Slot<T>| -> bool
+            ensures { result ≡ nat_lt slot.now.place place }
+        { slot.place < place },
+    );
+    if at >= slots.len() {
+        return slots.len();
+    }
+    if slots[at].place == place {
+        return at;
+    }
+    slots.len()
+}
+
+// Forgets what is remembered of the item with this place, if there is one.
+fn wake_one<T>(slots: &mut [Slot<T>], windows: &mut Windows, place: u64)
+    requires rising { AllPairs (λ s t. s.place < t.place) slots.old }
+    requires within { AreWithin (map seat_of slots.old) windows.old }
+    ensures slots { slots.new ≡ map (woken_at (place ∷ [])) slots.old }
+    ensures within { AreWithin (map seat_of slots.new) windows.new }
+{
+    let at = find_place(slots, place);
+    if at < slots.len() {
+        slots[at].mark = Mark::New;
+        *windows = windows.marked(at, Mark::New);
+    }
+}
+
+// Forgets what is remembered of the items with these places.
+fn wake_all<T>(slots: &mut [Slot<T>], windows: &mut Windows, places: &[u64])
+    requires rising { AllPairs (λ s t. s.place < t.place) slots.old }
+    requires within { AreWithin (map seat_of slots.old) windows.old }
+    ensures slots { slots.new ≡ map (woken_at places.now) slots.old }
+    ensures within { AreWithin (map seat_of slots.new) windows.new }
+{
+    for place in places {
+        wake_one(slots, windows, *place);
+    }
+}
+
+// The same where the last of the places stands apart.
+fn wake_row<T>(slots: &mut [Slot<T>], windows: &mut Windows, before: &[u64], last: Option<u64>)
+    requires rising { AllPairs (λ s t. s.place < t.place) slots.old }
+    requires within { AreWithin (map seat_of slots.old) windows.old }
+    ensures slots { slots.new ≡ map (woken_at (before.now ++ option_to_list last)) slots.old }
+    ensures within { AreWithin (map seat_of slots.new) windows.new }
+{
+    wake_all(slots, windows, before);
+    match last {
+        Some(place) => wake_one(slots, windows, place),
+        None => (),
+    }
+}
