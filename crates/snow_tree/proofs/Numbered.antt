@@ -8,7 +8,7 @@ use Rattle.std.proofs.lemmas.List.Quantifiers.{position-Some}
 use Rattle.std.proofs.lemmas.Map.Entries.{length-keys_of}
 use Rattle.std.proofs.lemmas.Option.{none-some}
 use Rattle.snow_plain.proofs.Cases.{split_on, same_id, id_same, differs_back}
-use Rattle.snow_tree.specs.Row.{set_value_at}
+use Rattle.snow_tree.specs.Row.{set_value_at, value_at}
 use Rattle.snow_tree.proofs.Placed.{position_cons}
 
 -- what is so of what was found
@@ -95,11 +95,6 @@ module _ {V : Type 0} where
       key_or None = x.0
       key_or (Some y) = y.0
   of_key P (x ∷ entries) (suc i) e h at = of_key P entries i e h.1 at
-
-  -- the value at a place, if there is one
-  abbrev pub value_at : List (List ℕ × V) → Option ℕ → Option V
-  value_at entries None = None
-  value_at entries (Some place) = option_map (λ e. e.1) (slice_get entries place)
 
   -- the value at the place of a key is that of the key
   pub value_found : (test : List ℕ → Bool) (entries : List (List ℕ × V)) → value_at entries (position test (keys_of entries)) ≡ lookup test entries

@@ -62,6 +62,20 @@ and_false false b is = refl
 module _ {V : Type 0} where
   -- ---- what an entry's number tells
 
+  -- where the guess is wrong the map tells the place
+  pub place_looked_up : (entries : List (List ℕ × V)) (number : List ℕ → Option ℕ) (slots : List ℕ) (first : ℕ) (k : List ℕ) → IsNumbered entries number slots first → first < 2 ^ 64 → length entries < 2 ^ 63
+      → (position (bytes_eq k) (keys_of entries) ≡ Some (place_at first (hint_of slots k)) → ⊥) → option_map (place_at first) (number k) ≡ position (bytes_eq k) (keys_of entries)
+  place_looked_up entries number slots first k is small few wrong = by (position (bytes_eq k) (keys_of entries)) refl
+    where
+      by : (o : Option ℕ) → position (bytes_eq k) (keys_of entries) ≡ o → option_map (place_at first) (number k) ≡ o
+      by None e = ap (option_map (place_at first)) (is.found k ∙ ap (λ o. untold (hint_of slots k) (option_map (number_at first) o)) e)
+      by (Some i) e =
+          let within : i < length (keys_of entries) = (position-Some (bytes_eq k) (keys_of entries) i [] e).0 in
+          let few_keys = length-keys_of entries in
+          let other : number_at first i ≡ hint_of slots k → ⊥ = λ same. wrong (e ∙ ap Some (omega (arith, same, within, few_keys))) in
+          ap (option_map (place_at first)) (is.found k ∙ ap (λ o. untold (hint_of slots k) (option_map (number_at first) o)) e ∙ untold_other (hint_of slots k) (number_at first i) other)
+          ∙ ap Some (omega (arith, within, few_keys))
+
   -- whose number it is, where an entry stands at its place
   number_at_place : (entries : List (List ℕ × V)) (first n : ℕ) (e : List ℕ × V) (q : List ℕ) → IsDistinct bytes_eq (keys_of entries) → first < 2 ^ 64 → n < 2 ^ 64 → length entries < 2 ^ 63
       → slice_get entries (place_at first n) ≡ Some e → option_map_or (λ m. m == n) (number_in entries first q) false ≡ bytes_eq e.0 q

@@ -1,5 +1,5 @@
 -- Entries in a row, each of an identifier. An entry has a number, by which its place is found from the identifier.
-use Rattle.std.specs.Prelude.{◌≡◌, ℕ, zero, suc, ◌+◌, ◌-◌, ◌%◌, ◌^◌, ◌<◌, Bool, false, ◌==◌, ◌&&◌, if◌then◌else◌, List, [], ◌∷◌, length, Option, None, Some, bytes_eq, slice_set}
+use Rattle.std.specs.Prelude.{◌≡◌, ℕ, zero, suc, ◌+◌, ◌-◌, ◌%◌, ◌^◌, ◌<◌, Bool, false, ◌==◌, ◌&&◌, if◌then◌else◌, List, [], ◌∷◌, length, Option, None, Some, bytes_eq, slice_get, slice_set}
 use Rattle.std.specs.List.{IsDistinct, position}
 use Rattle.std.specs.Map.{keys_of}
 use Rattle.std.specs.Option.{option_map, option_map_or}
@@ -28,6 +28,11 @@ abbrev pub retold : List ℕ → List ℕ → ℕ → ℕ → List ℕ
 retold slots id from to = if hint_of slots id == from then slice_set slots (slot_of (length slots) id) to else slots
 
 module _ {V : Type 0} where
+  -- the value at a place, if there is one
+  abbrev pub value_at : List (List ℕ × V) → Option ℕ → Option V
+  value_at entries None = None
+  value_at entries (Some place) = option_map (λ e. e.1) (slice_get entries place)
+
   -- the entries with another value at a place
   abbrev pub set_value_at : List (List ℕ × V) → ℕ → V → List (List ℕ × V)
   set_value_at [] place value = []

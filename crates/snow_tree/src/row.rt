@@ -2,6 +2,8 @@ ghost use Rattle.std.specs.Prelude.{◌≡◌, ℕ, List, ◌^◌, ◌<◌, ◌�
 ghost use Rattle.std.specs.List.{IsDistinct, position};
 ghost use Rattle.std.specs.Map.{keys_of, values_of, lookup};
 ghost use Rattle.std.specs.Option.{option_map, option_copied, option_copied_mut};
+ghost use Rattle.std.specs.HashMap.{get};
+ghost use Rattle.snow_tree.specs.Row.{place_at, value_at};
 
 use crate::numbers::Numbers;
 use snow_base::Id;
@@ -34,6 +36,23 @@ impl<V> Model for Row<V> {
     } };
 
     ghost invariant = { λ a. IsNumbered a.entries.items (get bytes_eq a.numbers.map) a.numbers.hints a.first };
+}
+
+// The value of an identifier by the map.
+#[inline(never)]
+fn value_by_map<'a, V>(
+    entries: &'a VecDeque<(Id, V)>,
+    numbers: &Numbers,
+    first: usize,
+    id: &Id,
+) -> Option<&'a V>
+    ensures { option_copied result ≡ value_at entries.now.items (option_map (place_at first) (get bytes_eq numbers.now.map id.now)) }
+{
+    let place = numbers.look_up(id, first)?;
+    match entries.get(place) {
+        Some(entry) => Some(&entry.1),
+        None => None,
+    }
 }
 
 impl<V> Row<V> {
@@ -119,31 +138,22 @@ impl<V> Row<V> {
         }
     }
 
-    // The value of an identifier, for which the map may be asked.
-    #[inline(never)]
-    fn look_up_value(&self, id: &Id) -> Option<&V>
-        ensures value { option_copied result ≡ lookup (bytes_eq id.now) self.now.entries }
-    {
-        let place = self.get_index_of(id)?;
-        match self.get_index(place) {
-            Some((_, value)) => Some(value),
-            None => None,
-        }
-    }
-
     /// The value of an identifier. Where the guess is right no other function is called. It stands apart, so
     /// that of a value that is only looked for nothing is copied.
     #[inline(never)]
     pub(crate) fn get(&self, id: &Id) -> Option<&V>
         ensures value { option_copied result ≡ lookup (bytes_eq id.now) self.now.entries }
     {
+        let _len = self.len();
         if self.entries.is_empty() {
             return None;
         }
-        match self.guess(id) {
-            Some((_, value)) => Some(value),
-            None => self.look_up_value(id),
+        if let Some((other, value)) = self.get_index(self.numbers.guess(id, self.first)) {
+            if other == id {
+                return Some(value);
+            }
         }
+        value_by_map(&self.entries, &self.numbers, self.first, id)
     }
 
     /// The value at a place, to write.
