@@ -3,10 +3,11 @@ use Rattle.std.specs.List.{concat, slice_get}
 use Rattle.std.specs.Option.{option_copied}
 use Rattle.std.proofs.lemmas.Slice.Eq.{bytes_eq-Decides}
 use Rattle.snow_recent.specs.Recent.{latest}
-use Rattle.snow_recent.specs.Index.{head_of, place_of}
+use Rattle.snow_recent.specs.Index.{head_of, id_at, place_of, seat_of}
 use Rattle.snow_recent.proofs.Appended.{rising_before}
 use Rattle.snow_recent.proofs.Latest.{head_found, head_other, headless, found_number, missing_number}
 use Rattle.snow_recent.proofs.recent.Recent.latest.Goals as goal
+use Rattle.snow_recent.proofs.recent.Recent.latest.Goals.{Else-eq}
 
 pub returns-in_default : goal.returns-in_default
 returns-in_default g c =
@@ -32,17 +33,24 @@ latest-requires g c =
     let inside = c.self.inside in
     rising_before g.T.Named.id inside.entries.items inside.first (head_of inside.first inside.heads) (concat inside.table.rows) c.self.invariant.index
 
+-- the head of the seat is of another identifier
+other : (g : _) (c : Else-eq g) → id_at g.T.Named.id c.self.inside.entries.items (head_of c.self.inside.first c.self.inside.heads (seat_of c.args.id.now)) ≡ c.args.id.now → ⊥
+other g c =
+    let inside = c.self.inside in
+    let entries = inside.entries.items in
+    let first = inside.first in
+    let is = ap option_copied (sym c.in-Some.is) ∙ c.entry_of.ensures ∙ ap (λ n. slice_get entries (place_of first n)) c.number-number.ensures in
+    head_other g.T.Named.id entries (head_of first inside.heads) c.args.id.now c.in-Some.head.now is
+    (λ same. let yes : true ≡ false = sym ((bytes_eq-Decides c.id.result c.args.id.now).1 (c.id.ensures ∙ same)) ∙ sym c.eq.ensures ∙ c.if-eq.false in absurd cc)
+
 pub returns-in-Some-latest : goal.returns-in-Some-latest
 returns-in-Some-latest g c =
     let inside = c.self.inside in
     let entries = inside.entries.items in
     let first = inside.first in
     let head = head_of first inside.heads in
-    let is = ap option_copied (sym c.in-Some.is) ∙ c.entry_of.ensures ∙ ap (λ n. slice_get entries (place_of first n)) c.number-number.ensures in
-    let other = head_other g.T.Named.id entries head c.args.id.now c.in-Some.head.now is
-    (λ same. let yes : true ≡ false = sym ((bytes_eq-Decides c.id.result c.args.id.now).1 (c.id.ensures ∙ same)) ∙ sym c.eq.ensures ∙ c.if-eq.false in absurd cc) in
     c.entry_of-in-Some-latest.ensures
-    ∙ sym (found_number g.T.Named.id entries first head (concat inside.table.rows) c.args.id.now c.in-Some-latest.number c.self.invariant.index other c.in-Some-latest.ensures)
+    ∙ sym (found_number g.T.Named.id entries first head (concat inside.table.rows) c.args.id.now c.in-Some-latest.number c.self.invariant.index (other g (goal.at.returns-in-Some-latest g c).Else-eq) c.in-Some-latest.ensures)
     ∙ ap (λ entries. latest g.T.Named.id entries c.args.id.now) c.self.view_is
 
 pub returns-in-None : goal.returns-in-None
@@ -51,8 +59,5 @@ returns-in-None g c =
     let entries = inside.entries.items in
     let first = inside.first in
     let head = head_of first inside.heads in
-    let is = ap option_copied (sym c.in-Some.is) ∙ c.entry_of.ensures ∙ ap (λ n. slice_get entries (place_of first n)) c.number-number.ensures in
-    let other = head_other g.T.Named.id entries head c.args.id.now c.in-Some.head.now is
-    (λ same. let yes : true ≡ false = sym ((bytes_eq-Decides c.id.result c.args.id.now).1 (c.id.ensures ∙ same)) ∙ sym c.eq.ensures ∙ c.if-eq.false in absurd cc) in
-    sym (missing_number g.T.Named.id entries first head (concat inside.table.rows) c.args.id.now c.self.invariant.index other c.in-None.ensures)
+    sym (missing_number g.T.Named.id entries first head (concat inside.table.rows) c.args.id.now c.self.invariant.index (other g (goal.at.returns-in-None g c).Else-eq) c.in-None.ensures)
     ∙ ap (λ entries. latest g.T.Named.id entries c.args.id.now) c.self.view_is
