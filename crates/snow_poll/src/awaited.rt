@@ -1,10 +1,13 @@
 ghost use Rattle.std.specs.Prelude.{◌≡◌, ℕ, ◌+◌, ◌^◌, ◌<◌, ◌≤◌, List, [], ◌∷◌, ◌++◌, length, map, None, Some, bytes_eq, if◌then◌else◌, true, vec_capacity, IfOk, OnOk};
 ghost use Rattle.std.specs.Option.{is_some};
+ghost use Rattle.snow_sample.specs.Sampling.{AreOfDistinctNodes};
 ghost use Rattle.snow_poll.specs.Awaited.{counts_at, draw_of, word_at, spread_of, class_of, AreWaits, IsNumberOf};
+ghost use Rattle.snow_poll.specs.Kept.{HasTimes};
 
 use snow_base::NodeId;
-use snow_sample::zeros;
+use snow_sample::{Draw, zeros};
 use std::alloc::{AllocError, Global};
+use std::mem;
 
 // So many classes at most are told apart by a node's spread bytes.
 const MOST_CLASSES: usize = 65_536;
@@ -71,24 +74,22 @@ impl Awaited {
         self.lasts.fill(0);
     }
 
-    // Awaits a node, drawn so often, for which there is room.
-    #[inline(always)]
-    pub(crate) fn insert(&mut self, node: &NodeId, count: u32)
-        requires few { length self.old.waits.items + 1 < 2 ^ 32 }
-        requires room { length self.old.waits.items < vec_capacity self.old.waits }
-        ensures counts { (other : List ℕ) → counts_at self.new.waits.items other ≡ (if bytes_eq node.now other then Some count else counts_at self.old.waits.items other) }
-        ensures drawn { map draw_of self.new.waits.items ≡ map draw_of self.old.waits.items ++ record { node = node.now; count = count } ∷ [] }
-        ensures room { vec_capacity self.new.waits ≡ vec_capacity self.old.waits }
+    // Awaits the nodes of these draws, for which there is room, each as often as it was drawn, and no
+    // other. The lists are taken out meanwhile, so that where they stand isn't read anew for each node.
+    pub(crate) fn await_all(&mut self, alloc: Global, draws: &[Draw])
+        requires counts { (node : List ℕ) → counts_at self.old.waits.items node ≡ None }
+        requires none { self.old.waits.items ≡ [] }
+        requires nodes { AreOfDistinctNodes draws.now }
+        requires few { length draws.now < 2 ^ 32 }
+        requires room { length draws.now ≤ vec_capacity self.old.waits }
+        ensures times { HasTimes (counts_at self.new.waits.items) draws.now }
+        ensures drawn { map draw_of self.new.waits.items ≡ draws.now }
     {
-        let class = class(node, self.mask);
-        let before = self.lasts[class];
-        self.waits.push_reserved(Wait {
-            node: *node,
-            count,
-            before,
-            replied: false,
-        });
-        self.lasts[class] = self.waits.len() as u32;
+        let mut waits = mem::replace(&mut self.waits, Vec::new(alloc));
+        let mut lasts = mem::replace(&mut self.lasts, Vec::new(alloc));
+        enter_all(&mut waits, &mut lasts, self.mask, draws);
+        self.waits = waits;
+        self.lasts = lasts;
     }
 
     // Whether a node is awaited.
@@ -133,6 +134,46 @@ impl Awaited {
         }
         0
     }
+}
+
+// Awaits the nodes of these draws, where none is awaited.
+#[inline(always)]
+fn enter_all(waits: &mut Vec<Wait>, lasts: &mut Vec<u32>, mask: u64, draws: &[Draw])
+    requires chained { AreWaits mask waits.old.items lasts.old.items }
+    requires counts { (node : List ℕ) → counts_at waits.old.items node ≡ None }
+    requires none { waits.old.items ≡ [] }
+    requires nodes { AreOfDistinctNodes draws.now }
+    requires few { length draws.now < 2 ^ 32 }
+    requires room { length draws.now ≤ vec_capacity waits.old }
+    ensures chained { AreWaits mask waits.new.items lasts.new.items }
+    ensures times { HasTimes (counts_at waits.new.items) draws.now }
+    ensures drawn { map draw_of waits.new.items ≡ draws.now }
+{
+    for draw in draws {
+        enter(waits, lasts, mask, draw);
+    }
+}
+
+// Awaits the node of a draw, for which there is room, as often as it was drawn.
+#[inline(always)]
+fn enter(waits: &mut Vec<Wait>, lasts: &mut Vec<u32>, mask: u64, draw: &Draw)
+    requires chained { AreWaits mask waits.old.items lasts.old.items }
+    requires few { length waits.old.items + 1 < 2 ^ 32 }
+    requires room { length waits.old.items < vec_capacity waits.old }
+    ensures chained { AreWaits mask waits.new.items lasts.new.items }
+    ensures counts { (other : List ℕ) → counts_at waits.new.items other ≡ (if bytes_eq draw.now.node other then Some draw.now.count else counts_at waits.old.items other) }
+    ensures drawn { map draw_of waits.new.items ≡ map draw_of waits.old.items ++ draw.now ∷ [] }
+    ensures room { vec_capacity waits.new ≡ vec_capacity waits.old }
+{
+    let class = class(&draw.node, mask);
+    let before = lasts[class];
+    waits.push_reserved(Wait {
+        node: draw.node,
+        count: draw.count,
+        before,
+        replied: false,
+    });
+    lasts[class] = waits.len() as u32;
 }
 
 // The class of a node.

@@ -152,7 +152,7 @@ impl Polls {
         ensures unchanged { result ≡ Answered.NotAwaited → self.new ≡ self.old }
     {
         if !self.has_in_front(number) {
-            return self.vote_behind(number, node, id);
+            return self.vote_behind(number, node, &id);
         }
         if !self.polls[0].count(node, &id) {
             return Answered::NotAwaited;
@@ -170,17 +170,18 @@ impl Polls {
         }
     }
 
-    // The same as `vote`, for the poll of any number.
+    // The same as `vote`, for the poll of any number. It looks at what a reply names, so that no copy of
+    // that is made where the poll is in front.
     #[inline(never)]
-    fn vote_behind(&mut self, number: u32, node: &NodeId, id: Option<Id>) -> Answered
+    fn vote_behind(&mut self, number: u32, node: &NodeId, id: &Option<Id>) -> Answered
         ensures answer { result ≡ answer self.old.polls number node.now }
-        ensures table { self.new ≡ voted self.old number node.now id }
+        ensures table { self.new ≡ voted self.old number node.now id.now }
         ensures unchanged { result ≡ Answered.NotAwaited → self.new ≡ self.old }
     {
         let Some(at) = find_place(&self.polls, &self.turns, number) else {
             return Answered::NotAwaited;
         };
-        if !self.polls[at].count(node, &id) {
+        if !self.polls[at].count(node, id) {
             return Answered::NotAwaited;
         }
         Answered::Counted

@@ -62,23 +62,7 @@ impl Nodes {
             self.awaited.grow(alloc, draws.len())?;
         }
         self.awaited.clear();
-        await_all(&mut self.awaited, draws);
+        self.awaited.await_all(alloc, draws);
         Ok(())
-    }
-}
-
-// Awaits the nodes of these draws, for which there is room, each as often as it was drawn, and no
-// other.
-fn await_all(awaited: &mut Awaited, draws: &[Draw])
-    requires counts { (node : List ℕ) → counts_at awaited.old.waits.items node ≡ None }
-    requires none { awaited.old.waits.items ≡ [] }
-    requires nodes { AreOfDistinctNodes draws.now }
-    requires few { length draws.now < 2 ^ 32 }
-    requires room { length draws.now ≤ vec_capacity awaited.old.waits }
-    ensures times { HasTimes (counts_at awaited.new.waits.items) draws.now }
-    ensures drawn { map draw_of awaited.new.waits.items ≡ draws.now }
-{
-    for draw in draws {
-        awaited.insert(&draw.node, draw.count);
     }
 }

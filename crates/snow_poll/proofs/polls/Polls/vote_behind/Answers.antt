@@ -25,9 +25,9 @@ returns-in_default-clause-table c =
     let polls = c.self.inside.polls.items in
     let stood = sym (c.find_place.ensures c.self.invariant.few c.self.invariant.placed) in
     let none = none_awaits polls c.args.number c.args.node.now (unplaced polls c.args.number (stood ∙ c.in_default.is)) in
-    let same = ap (λ (t : Table). voted t c.args.number c.args.node.now c.args.id) c.self.view_is in
+    let same = ap (λ (t : Table). voted t c.args.number c.args.node.now c.args.id.now) c.self.view_is in
     sym c.self.view_is
-    ∙ ap (λ (l : List Poll). to_table c.self.inside.params l) (sym (unchanged polls c.args.number c.args.node.now c.args.id none))
+    ∙ ap (λ (l : List Poll). to_table c.self.inside.params l) (sym (unchanged polls c.args.number c.args.node.now c.args.id.now none))
     ∙ same
 
 pub index_mut-requires : goal.index_mut-requires
@@ -42,8 +42,8 @@ invariant_of-self c =
     let stood = sym (c.find_place.ensures c.self.invariant.few c.self.invariant.placed) in
     let is = stood ∙ c.in-Some.is in
     let noted = ap (set polls c.in-Some.at) c.count.ensures.poll
-    ∙ voted_at polls c.args.number c.in-Some.at c.args.node.now c.args.id c.index_mut.result.now c.self.invariant.distinct is c.index_mut.ensures.value in
-    rw noted (table_voted c.self.inside.params polls c.self.inside.turns.turns c.self.inside.turns.gone c.args.number c.args.node.now c.args.id c.self.invariant)
+    ∙ voted_at polls c.args.number c.in-Some.at c.args.node.now c.args.id.now c.index_mut.result.now c.self.invariant.distinct is c.index_mut.ensures.value in
+    rw noted (table_voted c.self.inside.params polls c.self.inside.turns.turns c.self.inside.turns.gone c.args.number c.args.node.now c.args.id.now c.self.invariant)
 
 pub invariant_of-self-2 : goal.invariant_of-self-2
 invariant_of-self-2 c =
@@ -51,8 +51,8 @@ invariant_of-self-2 c =
     let stood = sym (c.find_place.ensures c.self.invariant.few c.self.invariant.placed) in
     let is = stood ∙ c.in-Some.is in
     let noted = ap (set polls c.in-Some.at) c.count.ensures.poll
-    ∙ voted_at polls c.args.number c.in-Some.at c.args.node.now c.args.id c.index_mut.result.now c.self.invariant.distinct is c.index_mut.ensures.value in
-    rw noted (table_voted c.self.inside.params polls c.self.inside.turns.turns c.self.inside.turns.gone c.args.number c.args.node.now c.args.id c.self.invariant)
+    ∙ voted_at polls c.args.number c.in-Some.at c.args.node.now c.args.id.now c.index_mut.result.now c.self.invariant.distinct is c.index_mut.ensures.value in
+    rw noted (table_voted c.self.inside.params polls c.self.inside.turns.turns c.self.inside.turns.gone c.args.number c.args.node.now c.args.id.now c.self.invariant)
 
 pub returns-clause-answer : goal.returns-clause-answer
 returns-clause-answer c =
@@ -69,8 +69,8 @@ returns-clause-table c =
     let stood = sym (c.find_place.ensures c.self.invariant.few c.self.invariant.placed) in
     let is = stood ∙ c.in-Some.is in
     let noted = ap (set polls c.in-Some.at) c.count.ensures.poll
-    ∙ voted_at polls c.args.number c.in-Some.at c.args.node.now c.args.id c.index_mut.result.now c.self.invariant.distinct is c.index_mut.ensures.value in
-    let same = ap (λ (t : Table). voted t c.args.number c.args.node.now c.args.id) c.self.view_is in
+    ∙ voted_at polls c.args.number c.in-Some.at c.args.node.now c.args.id.now c.index_mut.result.now c.self.invariant.distinct is c.index_mut.ensures.value in
+    let same = ap (λ (t : Table). voted t c.args.number c.args.node.now c.args.id.now) c.self.view_is in
     ap (λ (l : List Poll). to_table c.self.inside.params l) noted ∙ same
 
 pub returns-then-not-count-clause-answer : goal.returns-then-not-count-clause-answer
@@ -88,8 +88,8 @@ returns-then-not-count-clause-table c =
     let stood = sym (c.find_place.ensures c.self.invariant.few c.self.invariant.placed) in
     let is = stood ∙ c.in-Some.is in
     let noted = ap (set polls c.in-Some.at) c.count.ensures.poll
-    ∙ voted_at polls c.args.number c.in-Some.at c.args.node.now c.args.id c.index_mut.result.now c.self.invariant.distinct is c.index_mut.ensures.value in
-    let same = ap (λ (t : Table). voted t c.args.number c.args.node.now c.args.id) c.self.view_is in
+    ∙ voted_at polls c.args.number c.in-Some.at c.args.node.now c.args.id.now c.index_mut.result.now c.self.invariant.distinct is c.index_mut.ensures.value in
+    let same = ap (λ (t : Table). voted t c.args.number c.args.node.now c.args.id.now) c.self.view_is in
     ap (λ (l : List Poll). to_table c.self.inside.params l) noted ∙ same
 
 pub returns-then-not-count-clause-unchanged : goal.returns-then-not-count-clause-unchanged
@@ -99,6 +99,6 @@ returns-then-not-count-clause-unchanged c _ =
     let is = stood ∙ c.in-Some.is in
     let one = awaited_at polls c.args.number c.in-Some.at c.args.node.now c.index_mut.result.now c.self.invariant.distinct is c.index_mut.ensures.value in
     let noted = ap (set polls c.in-Some.at) c.count.ensures.poll
-    ∙ voted_at polls c.args.number c.in-Some.at c.args.node.now c.args.id c.index_mut.result.now c.self.invariant.distinct is c.index_mut.ensures.value in
+    ∙ voted_at polls c.args.number c.in-Some.at c.args.node.now c.args.id.now c.index_mut.result.now c.self.invariant.distinct is c.index_mut.ensures.value in
     let none = sym one ∙ sym c.count.ensures.awaited ∙ c.if-not-count.true in
-    ap (λ (l : List Poll). to_table c.self.inside.params l) (noted ∙ unchanged polls c.args.number c.args.node.now c.args.id none) ∙ c.self.view_is
+    ap (λ (l : List Poll). to_table c.self.inside.params l) (noted ∙ unchanged polls c.args.number c.args.node.now c.args.id.now none) ∙ c.self.view_is
