@@ -26,6 +26,7 @@ use Rattle.snow_issue.proofs.Idle.{next_unknown}
 use Rattle.snow_node.specs.Closing.{all_gone}
 use Rattle.snow_node.specs.Kept.{AreAtMost, AreOff, IsApart, IsKept, MayWork}
 use Rattle.snow_node.specs.Matching.{IsSteady}
+use Rattle.snow_node.specs.Running.{Running}
 use Rattle.snow_node.specs.Telling.{with_decision, with_decisions}
 use Rattle.snow_node.proofs.Following.{begun_steady, holds, holds_with, holds_without}
 use Rattle.snow_node.proofs.Working.{work_gets, work_out}
@@ -112,6 +113,10 @@ kept_new p last height state board held table queue number good a b c d small =
       gets = tt;
       waiting = tt;
     })
+
+-- where a queue shows the lists that it showed, the node is as it was
+pub same_lists : {node old : Running} {queue : Lists} → queue ≡ node.queue → node ≡ old → record node { queue = queue } ≡ old
+same_lists {node = node} same is = ap (λ (q : Lists). record node { queue = q }) same ∙ is
 
 module _ (p : Parameters) (board : Board) (held : Held) (table : Table) (queue : Lists) (last : ℕ) (kept : IsKept p board held table queue last) where
   -- a number was asked for

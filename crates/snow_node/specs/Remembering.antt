@@ -31,26 +31,22 @@ when_woken known.Calm = known.Calm
 when_woken known.Idle = known.Calm
 when_woken (known.Ready id) = known.True
 
--- once nothing is to be done, where it is true
-abbrev pub when_rested : Remembered → Remembered
-when_rested known.Nothing = known.Nothing
-when_rested known.True = known.Idle
-when_rested known.Calm = known.Idle
-when_rested known.Idle = known.Idle
-when_rested (known.Ready id) = known.Idle
+-- this, where what was known is true of the board
+abbrev pub if_true : Remembered → Remembered → Remembered
+if_true known.Nothing now = known.Nothing
+if_true known.True now = now
+if_true known.Calm now = now
+if_true known.Idle now = now
+if_true (known.Ready id) now = now
 
 -- once some were looked at, and whether it is plain that nothing is to be done
 abbrev pub when_looked : Remembered → Bool → Remembered
-when_looked k true = when_rested k
+when_looked k true = if_true k known.Idle
 when_looked k false = when_woken k
 
 -- once nothing is remembered of the children of this block, which may then be issued
 abbrev pub when_next : Remembered → List ℕ → Remembered
-when_next known.Nothing id = known.Nothing
-when_next known.True id = known.Ready id
-when_next known.Calm id = known.Ready id
-when_next known.Idle id = known.Ready id
-when_next (known.Ready ready) id = known.Ready id
+when_next k id = if_true k (known.Ready id)
 
 -- once this block was issued
 abbrev pub when_issued : Remembered → List ℕ → Remembered

@@ -16,6 +16,7 @@ ghost use Rattle.snow_node.specs.Stepping.{Tells, Turns};
 ghost use Rattle.snow_node.specs.Turning as model;
 
 mod closing;
+mod fetching;
 mod hearing;
 mod querying;
 mod remembering;

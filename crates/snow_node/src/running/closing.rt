@@ -35,7 +35,9 @@ impl<C: Chain, B: Board> Running<C, B> {
         self.close_polls(log)
     }
 
-    /// A peer's vote is counted where it is awaited, or that it gives none; whether it was.
+    /// A peer's vote is counted where it is awaited, or that it gives none; whether it was. It is put in
+    /// place, so that the vote isn't copied once more.
+    #[inline(always)]
     pub(super) fn enter(&mut self, number: u32, peer: &NodeId, vote: Option<Id>) -> Answered
         ensures answer { result ≡ answer self.old.polls.polls number peer.now }
         ensures node { self.new ≡ model.with_vote self.old number peer.now vote }

@@ -1,10 +1,8 @@
-ghost use Rattle.std.specs.Prelude.{◌≡◌, None, true, false, IfSome, OnOk};
+ghost use Rattle.std.specs.Prelude.{◌≡◌, Some, true, false, IfSome};
 ghost use Rattle.snow_lines.specs.declared.line.Line.TheVariants as line;
 ghost use Rattle.snow_lines.specs.declared.why.SkipKind.TheVariants as kind;
 ghost use Rattle.snow_issue.specs.declared.work.Waiting.{Waiting as Block};
-ghost use Rattle.snow_issue.specs.Lists.{has_number, holds_in};
-ghost use Rattle.snow_node.specs.Kept.{MayFetch, AreBothOff};
-ghost use Rattle.snow_node.specs.Running.{numbered};
+ghost use Rattle.snow_issue.specs.Lists.{holds_in};
 ghost use Rattle.snow_node.specs.Hearing as model;
 ghost use Rattle.snow_node.specs.Closing.{closed_out};
 ghost use Rattle.snow_node.specs.Outcome.{then_comes, with_line};
@@ -154,60 +152,44 @@ impl<C: Chain, B: Board> Running<C, B> {
         }
     }
 
-    /// A peer is asked for the parent of a block that came last and waits, if it is wanted. Then mostly
-    /// nothing is to be done.
-    fn fetch_parent(
+    /// A vote came. Most are for the block that they name, and are counted as they come.
+    #[inline(always)]
+    pub(super) fn receive_vote(
         &mut self,
+        number: u32,
         peer: &NodeId,
-        id: Option<Id>,
-        block: &Header,
+        id: &Id,
         log: &mut Lines,
     ) -> Result<(), Halt>
-        requires may { IfSome id (λ id. MayFetch self.old.queue id) }
-        requires off { IfSome id (λ _. AreBothOff self.old.board block.now) }
-        ensures answer { Turns result self.new (model.fetched_if self.old peer.now id).1 }
-        ensures lines { Tells result log.old log.new (model.fetched_if self.old peer.now id).0 }
+        ensures answer { Turns result self.new (model.vote_came C.rules B.answer self.old number peer.now id.now).1 }
+        ensures lines { Tells result log.old log.new (model.vote_came C.rules B.answer self.old number peer.now id.now).0 }
     {
-        let Some(id) = id else {
-            return Ok(());
-        };
-        self.fetch(peer, id, log)?;
-        self.rest(block);
-        Ok(())
+        if self.counts_as_named(number, peer, id) {
+            return self.count(number, peer, Some(*id), log);
+        }
+        self.receive_other(number, peer, id, log)
     }
 
-    /// The queue remembers that a block which came last can wait on, and so can its child if that came
-    /// right before it.
-    fn rest(&mut self, block: &Header)
-        requires { AreBothOff self.old.board block.now }
-        ensures { self.new ≡ self.old }
+    /// Whether a reply isn't held, and would be the first thing to do and a vote for the block that it
+    /// names if it is awaited.
+    #[inline(always)]
+    fn counts_as_named(&self, number: u32, peer: &NodeId, id: &Id) -> bool
+        ensures first { result ≡ true → model.IsFirst self.now id.now (Some id.now) }
+        ensures free { result ≡ true → holds_in self.now.queue.held number peer.now ≡ false }
     {
-        let rests = self.queue.rest(block);
-        self.remembered = self.remembered.looked(rests);
+        if self.queue.holds(number, peer) {
+            return false;
+        }
+        match self.remembered {
+            Remembered::Idle => self.queue.is_own_vote(id, &self.board),
+            _ => false,
+        }
     }
 
-    #[tactic(auto, using(crate::proofs::Logs::logs_nothing))]
-    /// A peer is asked for a block, by a number of its own.
-    fn fetch(&mut self, peer: &NodeId, id: Id, log: &mut Lines) -> Result<(), Halt>
-        requires { MayFetch self.old.queue id }
-        ensures answer { Turns result self.new (numbered self.old (model.fetched peer.now id)).1 }
-        ensures lines { Tells result log.old log.new (numbered self.old (model.fetched peer.now id)).0 }
-        ensures board { OnOk result (self.new.board ≡ self.old.board) }
-    {
-        let Some(number) = self.numbers.draw() else {
-            return Err(Halt::Requests);
-        };
-        self.queue.asked(number, *peer, id)?;
-        log.push(Line::Get {
-            number,
-            node: *peer,
-            id,
-        })?;
-        Ok(())
-    }
-
-    /// A vote came.
-    pub(super) fn receive_vote(
+    /// The same for any vote. It stands apart, so that a vote for the block that it names doesn't pay for
+    /// the room of another.
+    #[inline(never)]
+    fn receive_other(
         &mut self,
         number: u32,
         peer: &NodeId,
@@ -240,6 +222,7 @@ impl<C: Chain, B: Board> Running<C, B> {
 
     /// A vote is counted where it is awaited, and all that it brings is done. So its poll and its node
     /// are found once.
+    #[inline(always)]
     fn count(
         &mut self,
         number: u32,
@@ -257,6 +240,7 @@ impl<C: Chain, B: Board> Running<C, B> {
     }
 
     /// Closed polls leave, and all that this brings is done.
+    #[inline(always)]
     fn close_and_settle(&mut self, log: &mut Lines) -> Result<(), Halt>
         ensures answer { Turns result self.new (then_comes (closed_out B.answer self.old) (settled C.rules B.answer)).1 }
         ensures lines { Tells result log.old log.new (then_comes (closed_out B.answer self.old) (settled C.rules B.answer)).0 }
@@ -316,18 +300,6 @@ impl<C: Chain, B: Board> Running<C, B> {
         self.fetch_unknown(peer, id, log)
     }
 
-    /// A peer is asked for a block, if nothing is known of it.
-    fn fetch_unknown(&mut self, peer: &NodeId, id: Id, log: &mut Lines) -> Result<(), Halt>
-        ensures answer { Turns result self.new (model.fetched_unknown self.old peer.now id).1 }
-        ensures lines { Tells result log.old log.new (model.fetched_unknown self.old peer.now id).0 }
-    {
-        if self.queue.wants(&id, &self.board) {
-            self.fetch(peer, id, log)
-        } else {
-            Ok(())
-        }
-    }
-
     /// A get is closed, or a vote lost; then all that this brings is done.
     pub(super) fn time_out(
         &mut self,
@@ -362,36 +334,6 @@ impl<C: Chain, B: Board> Running<C, B> {
             return Ok(());
         }
         self.tally(number, peer, None, log)
-    }
-
-    /// An open get is closed; the block that it asked for. Where no get has the number, what is known
-    /// of the queue stays known, so that nothing is looked for.
-    fn close_get(&mut self, number: u32, peer: &NodeId) -> Option<Id>
-        ensures found { result ≡ model.asked_by self.old.queue number peer.now }
-        ensures node { self.new ≡ model.without_get self.old number peer.now }
-        ensures none { result ≡ None → self.new ≡ self.old }
-    {
-        if self.has_get(number) {
-            return self.close_numbered(number, peer);
-        }
-        None
-    }
-
-    /// Whether a get with this number is open.
-    fn has_get(&self, number: u32) -> bool
-        ensures { result ≡ has_number self.now.queue.gets number }
-    {
-        self.queue.has_number(number)
-    }
-
-    /// The same, whatever number it has.
-    fn close_numbered(&mut self, number: u32, peer: &NodeId) -> Option<Id>
-        ensures found { result ≡ model.asked_by self.old.queue number peer.now }
-        ensures node { self.new ≡ model.without_get self.old number peer.now }
-        ensures none { result ≡ None → self.new ≡ self.old }
-    {
-        self.remembered = self.remembered.woken();
-        self.queue.close_get(number, peer)
     }
 }
 

@@ -1,10 +1,10 @@
 -- A get is closed, or there is none.
-use Rattle.std.proofs.Common.{◌∙◌, sym, ap, subst}
-use Rattle.snow_issue.specs.Lists.{Lists, after_closed}
+use Rattle.std.proofs.Common.{◌∙◌, sym, subst}
+use Rattle.snow_issue.specs.Lists.{after_closed}
 use Rattle.snow_issue.specs.Known.{lists_of}
 use Rattle.snow_node.specs.declared.running.remembering.Remembered.{Remembered}
 use Rattle.snow_node.specs.Remembering.{Remembers}
-use Rattle.snow_node.proofs.Keeping.{kept_queue_as}
+use Rattle.snow_node.proofs.Keeping.{kept_queue_as, same_lists}
 use Rattle.snow_node.proofs.Remembering.{kept_woken}
 use Rattle.snow_node.proofs.Working.{none_closed, closed_gets}
 use Rattle.snow_node.proofs.running.Running.close_numbered.Goals as goal
@@ -21,15 +21,4 @@ invariant_of-self g c = (
 
 pub returns-clause-none : goal.returns-clause-none
 returns-clause-none g c = λ none.
-    ap (λ (queue : Lists). record {
-      board = g.B.Board.board c.self.inside.board;
-      chain = g.C.Chain.held c.self.inside.chain;
-      served = c.self.inside.served;
-      roster = c.self.inside.roster;
-      polls = c.self.inside.polls;
-      queue = queue;
-      words = c.self.inside.words;
-      last = c.self.inside.numbers;
-      recorded = c.self.inside.recorded;
-    }) (c.close_get.ensures.lists ∙ none_closed (lists_of c.self.inside.queue) c.args.number c.args.peer.now (sym none ∙ c.close_get.ensures.answer))
-    ∙ c.self.view_is
+    same_lists (c.close_get.ensures.lists ∙ none_closed (lists_of c.self.inside.queue) c.args.number c.args.peer.now (sym none ∙ c.close_get.ensures.answer)) c.self.view_is

@@ -1,12 +1,11 @@
 -- The lists stay, and what is remembered of them stays true.
-use Rattle.std.proofs.Common.{◌∙◌, sym, ap, subst}
-use Rattle.snow_issue.specs.Lists.{Lists}
+use Rattle.std.proofs.Common.{sym, subst}
 use Rattle.snow_issue.specs.Known.{lists_of}
 use Rattle.snow_node.specs.declared.running.remembering.Remembered.{Remembered}
 use Rattle.snow_node.specs.Running.{Running}
 use Rattle.snow_node.specs.Kept.{AreBothOff}
 use Rattle.snow_node.specs.Remembering.{Remembers}
-use Rattle.snow_node.proofs.Keeping.{kept_same}
+use Rattle.snow_node.proofs.Keeping.{kept_same, same_lists}
 use Rattle.snow_node.proofs.Remembering.{kept_looked}
 use Rattle.snow_node.proofs.running.Running.rest.Goals as goal
 
@@ -22,16 +21,4 @@ invariant_of-self g c =
     )
 
 pub returns : goal.returns
-returns g c =
-    ap (λ (queue : Lists). record {
-      board = g.B.Board.board c.self.inside.board;
-      chain = g.C.Chain.held c.self.inside.chain;
-      served = c.self.inside.served;
-      roster = c.self.inside.roster;
-      polls = c.self.inside.polls;
-      queue = queue;
-      words = c.self.inside.words;
-      last = c.self.inside.numbers;
-      recorded = c.self.inside.recorded;
-    }) c.rest-rests.ensures.lists
-    ∙ c.self.view_is
+returns g c = same_lists c.rest-rests.ensures.lists c.self.view_is

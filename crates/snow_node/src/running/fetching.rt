@@ -1,0 +1,116 @@
+//! Blocks that are asked for by a node that runs.
+
+ghost use Rattle.std.specs.Prelude.{◌≡◌, None, IfSome, OnOk};
+ghost use Rattle.snow_issue.specs.Lists.{has_number};
+ghost use Rattle.snow_node.specs.Kept.{MayFetch, AreBothOff};
+ghost use Rattle.snow_node.specs.Running.{numbered};
+ghost use Rattle.snow_node.specs.Hearing as model;
+ghost use Rattle.snow_node.specs.Stepping.{Tells, Turns};
+
+use crate::running::Running;
+use crate::stop::Halt;
+use snow_base::{Header, Id, NodeId};
+use snow_chain::Chain;
+use snow_lines::{Line, Lines};
+use snow_plain::Board;
+
+impl<C: Chain, B: Board> Running<C, B> {
+    /// A peer is asked for the parent of a block that came last and waits, if it is wanted. Then mostly
+    /// nothing is to be done.
+    pub(super) fn fetch_parent(
+        &mut self,
+        peer: &NodeId,
+        id: Option<Id>,
+        block: &Header,
+        log: &mut Lines,
+    ) -> Result<(), Halt>
+        requires may { IfSome id (λ id. MayFetch self.old.queue id) }
+        requires off { IfSome id (λ _. AreBothOff self.old.board block.now) }
+        ensures answer { Turns result self.new (model.fetched_if self.old peer.now id).1 }
+        ensures lines { Tells result log.old log.new (model.fetched_if self.old peer.now id).0 }
+    {
+        let Some(id) = id else {
+            return Ok(());
+        };
+        self.fetch(peer, id, log)?;
+        self.rest(block);
+        Ok(())
+    }
+
+    /// The queue remembers that a block which came last can wait on, and so can its child if that came
+    /// right before it.
+    fn rest(&mut self, block: &Header)
+        requires { AreBothOff self.old.board block.now }
+        ensures { self.new ≡ self.old }
+    {
+        let rests = self.queue.rest(block);
+        self.remembered = self.remembered.looked(rests);
+    }
+
+    #[tactic(auto, using(crate::proofs::Logs::logs_nothing))]
+    /// A peer is asked for a block, by a number of its own.
+    fn fetch(&mut self, peer: &NodeId, id: Id, log: &mut Lines) -> Result<(), Halt>
+        requires { MayFetch self.old.queue id }
+        ensures answer { Turns result self.new (numbered self.old (model.fetched peer.now id)).1 }
+        ensures lines { Tells result log.old log.new (numbered self.old (model.fetched peer.now id)).0 }
+        ensures board { OnOk result (self.new.board ≡ self.old.board) }
+    {
+        let Some(number) = self.numbers.draw() else {
+            return Err(Halt::Requests);
+        };
+        self.queue.asked(number, *peer, id)?;
+        log.push(Line::Get {
+            number,
+            node: *peer,
+            id,
+        })?;
+        Ok(())
+    }
+
+    /// A peer is asked for a block, if nothing is known of it.
+    pub(super) fn fetch_unknown(
+        &mut self,
+        peer: &NodeId,
+        id: Id,
+        log: &mut Lines,
+    ) -> Result<(), Halt>
+        ensures answer { Turns result self.new (model.fetched_unknown self.old peer.now id).1 }
+        ensures lines { Tells result log.old log.new (model.fetched_unknown self.old peer.now id).0 }
+    {
+        if self.queue.wants(&id, &self.board) {
+            self.fetch(peer, id, log)
+        } else {
+            Ok(())
+        }
+    }
+
+    /// An open get is closed; the block that it asked for. Where no get has the number, what is known
+    /// of the queue stays known, so that nothing is looked for.
+    pub(super) fn close_get(&mut self, number: u32, peer: &NodeId) -> Option<Id>
+        ensures found { result ≡ model.asked_by self.old.queue number peer.now }
+        ensures node { self.new ≡ model.without_get self.old number peer.now }
+        ensures none { result ≡ None → self.new ≡ self.old }
+    {
+        if self.has_get(number) {
+            return self.close_numbered(number, peer);
+        }
+        None
+    }
+
+    /// Whether a get with this number is open.
+    fn has_get(&self, number: u32) -> bool
+        ensures { result ≡ has_number self.now.queue.gets number }
+    {
+        self.queue.has_number(number)
+    }
+
+    /// The same, whatever number it has.
+    fn close_numbered(&mut self, number: u32, peer: &NodeId) -> Option<Id>
+        ensures found { result ≡ model.asked_by self.old.queue number peer.now }
+        ensures node { self.new ≡ model.without_get self.old number peer.now }
+        ensures none { result ≡ None → self.new ≡ self.old }
+    {
+        self.remembered = self.remembered.woken();
+        self.queue.close_get(number, peer)
+    }
+}
