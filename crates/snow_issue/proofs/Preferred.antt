@@ -1,11 +1,11 @@
 -- The preference is on the board.
-use Rattle.std.proofs.Common.{◌≡◌, ℕ, Bool, true, false, ◌||◌, ◌&&◌, cond, List, [], ◌∷◌, bytes_eq, Option, Some, None, refl, ap, ◌∙◌}
+use Rattle.std.proofs.Common.{◌≡◌, ℕ, Bool, true, false, ◌||◌, ◌&&◌, cond, List, [], ◌∷◌, bytes_eq, Option, Some, None, refl, sym, ap, ◌∙◌}
 use Rattle.std.specs.Option.{is_some, option_map}
 use Rattle.std.proofs.lemmas.Bool.{or_left, or_right}
 use Rattle.snow_flake.specs.Rule.{Answer}
 use Rattle.snow_plain.specs.declared.pending.Pending.{Pending}
 use Rattle.snow_plain.specs.Conflict.{Counters, leads_to}
-use Rattle.snow_plain.specs.Board.{Board, block_of}
+use Rattle.snow_plain.specs.Board.{Board, block_of, is_pending}
 use Rattle.snow_plain.specs.Preference.{path_from, end_of, preferred}
 use Rattle.snow_plain.proofs.Cases.{split_on}
 use Rattle.snow_issue.specs.Offering.{is_on}
@@ -39,3 +39,9 @@ pub preference_on : (answer : Answer) (board : Board) (id : List ℕ) → bytes_
 preference_on answer board id h =
     either_on (bytes_eq board.last id) board.height (block_of board id)
     (ap (λ b. bytes_eq board.last id || b) (named_is_some id_of board.pending id) ∙ ends_within answer board.last board.counters board.pending id h)
+
+-- and where it isn't the last accepted block, it is pending
+pub preference_pending : (answer : Answer) (board : Board) (id : List ℕ) → bytes_eq (preferred answer board) id ≡ true → bytes_eq board.last id ≡ false → is_pending board id ≡ true
+preference_pending answer board id h other =
+    ap (λ b. b || is_pending board id) (sym other)
+    ∙ ap (λ b. bytes_eq board.last id || b) (named_is_some id_of board.pending id) ∙ ends_within answer board.last board.counters board.pending id h

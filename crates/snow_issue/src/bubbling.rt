@@ -1,9 +1,30 @@
 ghost use Rattle.std.specs.Prelude.{◌≡◌};
+ghost use Rattle.snow_plain.specs.Board.{is_pending};
 ghost use Rattle.snow_issue.specs.Bubbling.{bubbled_in};
 
 use crate::gone::GoneList;
 use snow_base::Id;
 use snow_plain::Board;
+
+/// Whether a block is pending. Mostly it is the preference, which is told in place.
+#[inline(always)]
+#[tactic(auto, using(crate::proofs::Preferred::preference_pending))]
+pub(crate) fn is_pending<B: Board>(board: &B, id: &Id) -> bool
+    ensures { result ≡ is_pending (B.board board.now) id.now }
+{
+    if board.preference() == *id && board.last() != *id {
+        return true;
+    }
+    is_found(board, id)
+}
+
+// The same by a look-up.
+#[inline(never)]
+fn is_found<B: Board>(board: &B, id: &Id) -> bool
+    ensures { result ≡ is_pending (B.board board.now) id.now }
+{
+    board.is_pending(id)
+}
 
 /// The vote that a reply gives. Mostly its block is pending, and so is itself the vote.
 pub(crate) fn bubble<B: Board>(gone: &GoneList, board: &B, id: &Id) -> Option<Id>

@@ -371,7 +371,7 @@ impl Queue {
         if self.gets.asks_for(id) || self.waiting.waits(id) {
             return false;
         }
-        board.is_pending(id)
+        bubbling::is_pending(board, id)
     }
 
     /// The vote of a reply that may be counted as it comes, where nothing else is to be done. None
