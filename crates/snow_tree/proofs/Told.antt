@@ -275,12 +275,13 @@ module _ {V : Type 0} where
       split_on (hint_of slots e.0 == first)
       (λ t.
       let told : hint_of slots e.0 ≡ first = eqb-true (hint_of slots e.0) first t in
-      let set : to ≡ slice_set slots (slot_of (length slots) e.0) n = slots_are ∙ rw t refl in
-      (subst (λ l. IsNumbered entries gone l (number_at first 1)) (sym set)
-      (slot_moved entries gone slots (number_at first 1) e.0 n left some
-      (λ q h. last_free entries first small few q (h ∙ ap Some told))
-      (λ q h. next_free entries (number_at first 1) few q (h ∙ ap Some next))),
-      omega (arith, some, ap length set, length-set slots (slot_of (length slots) e.0) n)))
+      let set : to ≡ slice_set slots (slot_of (length slots) e.0) n = slots_are ∙ rw t refl in (
+        subst (λ l. IsNumbered entries gone l (number_at first 1)) (sym set)
+            (slot_moved entries gone slots (number_at first 1) e.0 n left some
+            (λ q h. last_free entries first small few q (h ∙ ap Some told))
+            (λ q h. next_free entries (number_at first 1) few q (h ∙ ap Some next))),
+        omega (arith, some, ap length set, length-set slots (slot_of (length slots) e.0) n),
+      ))
       (λ t.
       let same : to ≡ slots = slots_are ∙ rw t refl in
       (subst (λ l. IsNumbered entries gone l (number_at first 1)) (sym same) left, omega (arith, some, ap length same)))

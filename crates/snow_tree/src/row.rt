@@ -177,6 +177,7 @@ impl<V> Row<V> {
     }
 
     /// Appends an entry, for which there is room.
+    #[inline(always)]
     pub(crate) fn push(&mut self, id: Id, value: V)
         requires new { lookup (bytes_eq id) self.old.entries ≡ None }
         requires room { 0 < self.old.spare }
@@ -200,6 +201,7 @@ impl<V> Row<V> {
     }
 
     /// Takes the first entry out. No other is touched.
+    #[inline(always)]
     pub(crate) fn pop_first(&mut self) -> Option<(Id, V)>
         ensures first { result ≡ slice_get self.old.entries 0 }
         ensures rest { self.new.entries ≡ drop 1 self.old.entries }
