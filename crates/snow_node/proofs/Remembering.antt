@@ -101,11 +101,3 @@ kept_taken board before seen None e l knows rests = (knows, rests, ap (λ (q : L
 kept_taken board before seen (Some (work.Hopeless w)) e l knows rests = knows
 kept_taken board before seen (Some (work.Ready w)) e l knows rests = (knows, rests)
 kept_taken board before seen (Some (work.Vote h)) e l knows rests = (knows, rests)
-
--- what is known of anything but nothing is true
-pub known_true : (board : Board) (seen : Seen) (k : Remembered) → Remembers board seen k → (k ≡ known.Nothing → ⊥) → Knows seen board
-known_true board seen known.Nothing r other = absurd (other refl)
-known_true board seen known.True r other = r
-known_true board seen known.Calm r other = r.0
-known_true board seen known.Idle r other = r.0
-known_true board seen (known.Ready id) r other = r.0

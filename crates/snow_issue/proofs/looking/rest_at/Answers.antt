@@ -1,8 +1,6 @@
 -- The block at the place is quiet, by what is asked of it.
-use Rattle.std.proofs.Common.{◌≡◌, true, ◌||◌, get_or, set, Some, sym, ap, ◌∙◌}
+use Rattle.std.proofs.Common.{◌≡◌, true, ◌||◌, sym, ap, ◌∙◌}
 use Rattle.std.proofs.lemmas.Bool.{or_left}
-use Rattle.snow_issue.specs.declared.work.Waiting.{Waiting}
-use Rattle.snow_lineup.specs.declared.marks.Mark.{Mark}
 use Rattle.snow_lineup.specs.declared.marks.Mark.TheVariants.{Quiet}
 use Rattle.snow_issue.specs.Lists.{asked_in, waits_below}
 use Rattle.snow_issue.specs.Known.{items_of, sight}

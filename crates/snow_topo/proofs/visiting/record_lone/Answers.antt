@@ -1,4 +1,4 @@
-use Rattle.std.proofs.Common.{◌≡◌, ◌∷◌, [], ◌∙◌, List, All, Contains, IfSome, slice_get, refl, sym, ap, subst}
+use Rattle.std.proofs.Common.{◌≡◌, ◌∷◌, [], ◌∙◌, All, Contains, IfSome, slice_get, refl, sym, ap, subst}
 use Rattle.snow_base.specs.declared.vote.Vote.{Vote}
 use Rattle.snow_plain.specs.Conflict.{all_polled, votes_on}
 use Rattle.snow_plain.specs.Cursors.{votes_at}

@@ -1,7 +1,7 @@
-use Rattle.std.proofs.Common.{◌≡◌, ◌+◌, ◌*◌, ◌≤◌, ◌∷◌, [], nat_le, true, All, IfSome, length, slice_get, refl, sym, subst, ◌∙◌, arith, if◌then◌else◌}
+use Rattle.std.proofs.Common.{◌≡◌, ◌+◌, ◌*◌, ◌≤◌, ◌∷◌, [], nat_le, true, length, slice_get, refl, sym, subst, ◌∙◌, arith, if◌then◌else◌}
 use Rattle.snow_plain.specs.Cursors.{votes_at}
-use Rattle.snow_tree.specs.Held.{blocks_in, children_of}
-use Rattle.snow_topo.specs.Kept.{ids_in, IsFit}
+use Rattle.snow_tree.specs.Held.{blocks_in}
+use Rattle.snow_topo.specs.Kept.{ids_in}
 use Rattle.snow_climb.specs.Climbing.{cursors_of}
 use Rattle.snow_climb.proofs.Climbers.{same_total}
 use Rattle.snow_topo.proofs.Costing.{no_quorum}

@@ -1,5 +1,5 @@
 -- The one block of which nothing is remembered has its parent on the board.
-use Rattle.std.proofs.Common.{◌≡◌, ◌<◌, ◌+◌, true, List, get_or, length, sym, ap, ◌∙◌, subst}
+use Rattle.std.proofs.Common.{◌≡◌, ◌<◌, true, get_or, length, sym, ap, ◌∙◌, subst}
 use Rattle.snow_issue.specs.declared.work.Waiting.{Waiting}
 use Rattle.snow_lineup.specs.declared.marks.Mark.{Mark}
 use Rattle.snow_lineup.specs.declared.marks.Mark.TheVariants.{New}
