@@ -12,6 +12,8 @@ mod plain;
 #[cfg(test)]
 mod rules;
 #[cfg(test)]
+mod slots;
+#[cfg(test)]
 mod tools;
 #[cfg(test)]
 mod tree;

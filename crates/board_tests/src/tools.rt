@@ -10,6 +10,15 @@ pub(crate) fn named(number: u16) -> Id {
     Id::from_bytes(bytes)
 }
 
+// The identifier that has the bytes of a number in its middle. Where a guess looks they are all alike.
+pub(crate) fn alike(number: u16) -> Id {
+    let mut bytes = [0; 32];
+    let [a, b] = number.to_be_bytes();
+    bytes[15] = a;
+    bytes[16] = b;
+    Id::from_bytes(bytes)
+}
+
 // The identifier with this first byte and 31 zero bytes.
 pub(crate) fn first(byte: u8) -> Id {
     named(u16::from_be_bytes([byte, 0]))

@@ -4,29 +4,41 @@ use snow_tree::Tree;
 use std::alloc::{AllocError, Global};
 use std::test::Fail;
 
-// Issues the block of a number, with the number as its load, where that may be.
-fn offer(tree: &mut Tree<u16>, number: u16, parent: u16) -> Result<(), AllocError> {
-    let (id, above) = (named(number), named(parent));
+// Issues a block, with a number as its height and its load, where that may be.
+pub(crate) fn issue(
+    tree: &mut Tree<u16>,
+    id: Id,
+    parent: Id,
+    number: u16,
+) -> Result<(), AllocError> {
     if tree.last() == id || tree.place_of(&id).is_some() {
         return Ok(());
     }
-    if tree.last() != above && tree.place_of(&above).is_none() {
+    if tree.last() != parent && tree.place_of(&parent).is_none() {
         return Ok(());
     }
-    match tree.insert(id, above, u64::from(number), number) {
+    match tree.insert(id, parent, u64::from(number), number) {
         Ok(()) => Ok(()),
         Err(_) => Err(AllocError),
     }
 }
 
-// Accepts the block of a number, and answers its load, where that may be.
-fn accept(tree: &mut Tree<u16>, number: u16) -> Option<u16> {
-    let id = named(number);
-    let header = tree.header_of(&id)?;
+// Accepts a block, and answers its load, where that may be.
+pub(crate) fn promote(tree: &mut Tree<u16>, id: &Id) -> Option<u16> {
+    let header = tree.header_of(id)?;
     if header.parent != tree.last() {
         return None;
     }
-    Some(tree.promote(&id))
+    Some(tree.promote(id))
+}
+
+// The same by numbers.
+fn offer(tree: &mut Tree<u16>, number: u16, parent: u16) -> Result<(), AllocError> {
+    issue(tree, named(number), named(parent), number)
+}
+
+fn accept(tree: &mut Tree<u16>, number: u16) -> Option<u16> {
+    promote(tree, &named(number))
 }
 
 // A tree above the block 0 with these blocks, each beside its parent.
