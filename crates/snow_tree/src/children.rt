@@ -1,19 +1,27 @@
 use snow_base::Id;
 use std::alloc::{AllocError, Global};
 use std::marker::Model;
+use std::slice;
 
 /// The children of a block, in order of issue.
+///
+/// Most blocks have one, which stands here itself, so that it takes no memory; several are in a list.
 #[derive(Debug, Drop)]
 pub(crate) struct Children {
-    ids: Vec<Id>,
+    alone: Option<Id>,
+    several: Vec<Id>,
 }
 
 impl Model for Children {
-    ghost use Rattle.std.specs.Prelude.{ℕ, List};
+    ghost use Rattle.std.specs.Prelude.{◌≡◌, ◌++◌, [], ℕ, List, IfSome};
+    ghost use Rattle.std.specs.Option.{option_to_list};
 
     ghost Value = { List (List ℕ) };
 
-    ghost view = { λ a. a.ids.items };
+    ghost view = { λ a. option_to_list a.alone ++ a.several.items };
+
+    // Where one stands alone, the list is empty.
+    ghost invariant = { λ a. IfSome a.alone (λ _. a.several.items ≡ []) };
 }
 
 impl Children {
@@ -24,7 +32,8 @@ impl Children {
         ensures { result ≡ [] }
     {
         Children {
-            ids: Vec::new(alloc),
+            alone: None,
+            several: Vec::new(alloc),
         }
     }
 
@@ -33,7 +42,16 @@ impl Children {
         ensures ok { OnOk result (self.new ≡ self.old ++ id ∷ []) }
         ensures err { OnErr result (self.new ≡ self.old) }
     {
-        self.ids.push(id)?;
+        match self.alone {
+            Some(first) => {
+                self.several.reserve(2)?;
+                self.several.push_reserved(first);
+                self.several.push_reserved(id);
+                self.alone = None;
+            }
+            None if self.several.is_empty() => self.alone = Some(id),
+            None => self.several.push(id)?,
+        }
         Ok(())
     }
 
@@ -41,24 +59,33 @@ impl Children {
     pub(crate) fn pop(&mut self)
         ensures { self.new ≡ take (length self.old - 1) self.old }
     {
-        let len = self.ids.len();
-        self.ids.truncate(len.saturating_sub(1));
+        if self.alone.is_some() {
+            self.alone = None;
+            return;
+        }
+        let len = self.several.len();
+        self.several.truncate(len.saturating_sub(1));
     }
 
-    /// These take the place of others. Where there are none, the room of the others is kept.
+    /// These take the place of others. Where they are in no list, the room of the others' is kept.
     pub(crate) fn replace(&mut self, by: Children)
         ensures { self.new ≡ by }
     {
-        if by.ids.is_empty() {
-            self.ids.clear();
+        let Children { alone, several } = by;
+        self.alone = alone;
+        if several.is_empty() {
+            self.several.clear();
         } else {
-            self.ids = by.ids;
+            self.several = several;
         }
     }
 
     pub(crate) fn list(&self) -> &[Id]
         ensures { result.now ≡ self.now }
     {
-        self.ids.as_slice()
+        match &self.alone {
+            Some(id) => slice::from_ref(id),
+            None => self.several.as_slice(),
+        }
     }
 }
