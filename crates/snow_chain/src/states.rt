@@ -2,9 +2,13 @@ ghost use Rattle.std.specs.Prelude.{◌≡◌, ◌↔◌, IsTrue, IfOk, OnOk, On
 ghost use Rattle.std.specs.Option.{option_copied};
 
 use snow_base::{Id, Nums};
+use snow_map::IdMap;
 use std::alloc::{AllocError, Global};
-use std::collections::HashMap;
 use std::marker::Model;
+
+// For how many states there is a seat. Mostly few are held at a time, the last accepted block's and those
+// of pending blocks, so that nearly each finds its own seat free.
+const SEATS: usize = 1_024;
 
 /// The last accepted block, and states by identifier: what any chain can be built on. A state is a
 /// list of numbers, and what they mean is the chain's own.
@@ -12,7 +16,7 @@ use std::marker::Model;
 pub struct States {
     alloc: Global,
     last: Id,
-    states: HashMap<Id, Nums>,
+    states: IdMap<Nums, SEATS>,
 }
 
 impl Model for States {
@@ -24,7 +28,7 @@ impl Model for States {
 
     ghost coded = { coded_held };
 
-    ghost view = { λ a. record { last = a.last; states = from_entries a.states.entries } };
+    ghost view = { λ a. record { last = a.last; states = from_entries a.states } };
 }
 
 impl States {
@@ -34,7 +38,7 @@ impl States {
     pub fn begin(alloc: Global, last: Id, state: Nums) -> Result<Self, AllocError>
         ensures { IfOk result (λ made. made ≡ begun last state) }
     {
-        let mut states = HashMap::new(alloc);
+        let mut states = IdMap::new(alloc);
         states.insert(last, state)?;
         Ok(States {
             alloc,

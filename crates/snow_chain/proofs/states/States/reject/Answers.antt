@@ -3,4 +3,4 @@ use Rattle.snow_chain.proofs.Maps.{after_reject}
 use Rattle.snow_chain.proofs.states.States.reject.Goals as goal
 
 pub returns : goal.returns
-returns c = after_reject c.self.inside.last c.self.inside.states.entries c.remove.new.self.entries c.args.id.now c.args.self.now c.self.view_is c.remove.ensures.updates.0
+returns c = after_reject c.self.inside.last c.self.inside.states c.remove.new.self c.args.id.now c.args.self.now c.self.view_is c.remove.ensures.updates
