@@ -36,7 +36,6 @@ pub(crate) struct Slot<T> {
 /// Items in order of arrival, each with what is remembered of it, and an index by what they wait for.
 #[derive(Drop)]
 pub struct Lineup<T: Keyed> {
-    pub(crate) alloc: Global,
     pub(crate) slots: Vec<Slot<T>>,
     pub(crate) rows: Rows,
     pub(crate) next: u64,
@@ -62,7 +61,6 @@ impl<T: Keyed> Lineup<T> {
         ensures { result ≡ [] }
     {
         Lineup {
-            alloc,
             slots: Vec::new(alloc),
             rows: Rows::new(alloc),
             next: 0,
@@ -89,7 +87,7 @@ impl<T: Keyed> Lineup<T> {
             return Err(AllocError);
         }
         self.slots.reserve(1)?;
-        let alone = self.rows.note(self.alloc, item.key(), self.next)?;
+        let alone = self.rows.note(item.key(), self.next)?;
         self.windows = self.windows.marked(self.slots.len(), Mark::New);
         self.slots.push_reserved(Slot {
             place: self.next,

@@ -1,13 +1,16 @@
-ghost use Rattle.std.specs.Prelude.{◌≡◌, ◌==◌, ℕ, List, [], ◌∷◌, ◌++◌, true, not, IfOk, OnOk, OnErr, bytes_eq, if◌then◌else◌};
+ghost use Rattle.std.specs.Prelude.{◌≡◌, ◌==◌, ℕ, List, [], ◌∷◌, ◌++◌, true, not, Some, IsSome, IfOk, OnOk, OnErr, bytes_eq, if◌then◌else◌};
 ghost use Rattle.std.specs.Bool.{OnTrue};
 ghost use Rattle.std.specs.Option.{option_to_list};
 ghost use Rattle.snow_lineup.specs.Index.{row_of, left_by};
+ghost use Rattle.snow_map.specs.Entries.{value_of};
 
 use snow_base::Id;
+use snow_map::IdMap;
 use std::alloc::{AllocError, Global};
-use std::collections::HashMap;
-use std::collections::hash_map::Entry;
 use std::marker::Model;
+
+// Seats of the index. At most 4,096 items wait, so that at most every second seat is taken.
+const SEATS: usize = 8_192;
 
 /// Places, in the order in which they came. The last one stands apart, so that a row of one place
 /// takes no memory.
@@ -27,6 +30,16 @@ impl Model for Row {
 }
 
 impl Row {
+    // No place.
+    fn empty(alloc: Global) -> Row
+        ensures { result ≡ [] }
+    {
+        Row {
+            before: Vec::new(alloc),
+            last: None,
+        }
+    }
+
     // One place.
     fn of(alloc: Global, place: u64) -> Row
         ensures { result ≡ place ∷ [] }
@@ -93,7 +106,8 @@ fn other_than(place: Option<u64>, other: u64) -> Option<u64>
 /// At which places the items of each key stand.
 #[derive(Drop)]
 pub(crate) struct Rows {
-    pub(crate) rows: HashMap<Id, Row>,
+    alloc: Global,
+    pub(crate) rows: IdMap<Row, SEATS>,
 }
 
 impl Rows {
@@ -102,47 +116,66 @@ impl Rows {
         ensures { (key : List ℕ) → row_of result.rows key ≡ [] }
     {
         Rows {
-            rows: HashMap::new(alloc),
+            alloc,
+            rows: IdMap::new(alloc),
         }
     }
 
     /// One place more of a key, and whether it is the first one. After want of memory the rows are as
     /// before.
     #[inline(never)]
-    pub(crate) fn note(&mut self, alloc: Global, key: Id, place: u64) -> Result<bool, AllocError>
+    pub(crate) fn note(&mut self, key: Id, place: u64) -> Result<bool, AllocError>
         ensures ok { OnOk result ((q : List ℕ) → row_of self.new.rows q ≡ (if bytes_eq key q then row_of self.old.rows q ++ place ∷ [] else row_of self.old.rows q)) }
         ensures first { IfOk result (λ first. first ≡ true → row_of self.old.rows key ≡ []) }
         ensures err { OnErr result ((q : List ℕ) → row_of self.new.rows q ≡ row_of self.old.rows q) }
     {
-        match self.rows.entry(key)? {
-            Entry::Occupied(entry) => {
-                entry.into_mut().push(place)?;
+        match self.rows.insert(key, Row::of(self.alloc, place))? {
+            None => Ok(true),
+            Some(row) => {
+                self.extend(key, row, place)?;
                 Ok(false)
-            }
-            Entry::Vacant(entry) => {
-                let _ = entry.insert(Row::of(alloc, place));
-                Ok(true)
             }
         }
     }
 
-    /// A place of a key goes. It takes no memory where the key has one, and one look-up.
+    // A row stands at its key again, with one place more, and without it after want of memory.
+    #[inline(never)]
+    fn extend(&mut self, key: Id, mut row: Row, place: u64) -> Result<(), AllocError>
+        requires { IsSome (value_of self.old.rows key) }
+        ensures ok { OnOk result ((q : List ℕ) → row_of self.new.rows q ≡ (if bytes_eq key q then row ++ place ∷ [] else row_of self.old.rows q)) }
+        ensures err { OnErr result ((q : List ℕ) → row_of self.new.rows q ≡ (if bytes_eq key q then row else row_of self.old.rows q)) }
+    {
+        let pushed = row.push(place);
+        let _ = self.rows.insert(key, row);
+        pushed
+    }
+
+    /// A place of a key goes. It takes no memory where the key has one.
     #[inline(never)]
     pub(crate) fn leave(&mut self, key: &Id, place: u64)
         ensures { (q : List ℕ) → row_of self.new.rows q ≡ (if bytes_eq key.now q then left_by place (row_of self.old.rows q) else row_of self.old.rows q) }
     {
-        match self.rows.entry(*key) {
-            Ok(Entry::Occupied(entry)) => {
-                if entry.get().is_left_empty(place) {
-                    let _ = entry.remove();
+        match self.rows.get(key) {
+            Some(row) => {
+                if row.is_left_empty(place) {
+                    let _ = self.rows.remove(key);
                 } else {
-                    entry.into_mut().leave(place);
+                    self.thin(key, place);
                 }
             }
-            Ok(Entry::Vacant(entry)) => {
-                let _ = entry.into_key();
-            }
-            Err(_) => (),
+            None => (),
+        }
+    }
+
+    // The same where a place is left in the row of the key.
+    #[inline(never)]
+    fn thin(&mut self, key: &Id, place: u64)
+        requires { IsSome (value_of self.old.rows key.now) }
+        ensures { (q : List ℕ) → row_of self.new.rows q ≡ (if bytes_eq key.now q then left_by place (row_of self.old.rows q) else row_of self.old.rows q) }
+    {
+        if let Ok(Some(mut row)) = self.rows.insert(*key, Row::empty(self.alloc)) {
+            row.leave(place);
+            let _ = self.rows.insert(*key, row);
         }
     }
 
