@@ -9,10 +9,11 @@ use Rattle.std.specs.Str.{bytes_eq}
 use Rattle.std.proofs.lemmas.Bool.{cond-true, cond-false, lt-ltb, le-ltb, ne_eqb, eq-eqb, eqb-true, cases_order}
 use Rattle.std.proofs.lemmas.List.Elements.{filter-append, All-from_recursion, recursion_from_All}
 use Rattle.std.proofs.lemmas.List.Folds.{find-append}
-use Rattle.std.proofs.lemmas.List.Sorted.{All-permutation}
-use Rattle.std.proofs.lemmas.Map.{NonePasses, lookup-none}
+use Rattle.std.proofs.lemmas.List.Sorted.{All-permutation, IsPermutation-map}
+use Rattle.std.proofs.lemmas.Map.{NonePasses, lookup-none, none_passes_from_lookup}
 use Rattle.std.proofs.lemmas.Map.Entries.{none_past_head}
-use Rattle.std.proofs.lemmas.Map.Keys.{IsDistinct-tail}
+use Rattle.std.proofs.lemmas.Map.Views.{All-map-remove_entry}
+use Rattle.std.proofs.lemmas.Map.Keys.{IsDistinct-head, IsDistinct-tail, IsDistinct-cons, IsDistinct-IsPermutation}
 use Rattle.snow_getter.specs.declared.served.Served.{Served}
 use Rattle.snow_getter.specs.declared.pending.Issued.{Issued}
 use Rattle.snow_getter.specs.Serving.{is_block, without}
@@ -125,10 +126,10 @@ below_all next None low = refl
 below_all next (Some v) low = rw (lt-ltb v.number next low) refl
 
 -- the block of an identifier is the one that the map has
-pub block_found : (next : ℕ) (id : List ℕ) (es : Entries) → AreIssued next es → AreDistinct es
+pub block_found : (next : ℕ) (id : List ℕ) (es : Entries) → AreIssued next es
     → find (is_block id) (issued_before next es) ≡ option_map block_of (lookup (by_id id) es)
-block_found next id es is unique =
-    found_before next next id es is.each unique ∙ below_all next (lookup (by_id id) es) (number_found next id es is.each)
+block_found next id es is =
+    found_before next next id es is.each is.unique ∙ below_all next (lookup (by_id id) es) (number_found next id es is.each)
 
 -- ---- entries that change places
 
@@ -148,6 +149,10 @@ apart_moved es fs moved apart n =
 each_moved : (next : ℕ) (es fs : Entries) → IsPermutation es fs → Each next es → Each next fs
 each_moved next es fs moved each =
     recursion_from_All (IsIssued next) fs (All-permutation (IsIssued next) es fs moved (All-from_recursion (IsIssued next) es each))
+
+distinct_moved : (es fs : Entries) → IsPermutation es fs → AreDistinct es → AreDistinct fs
+distinct_moved es fs moved unique =
+    IsDistinct-IsPermutation bytes_eq nat_list_eq_equiv.symm (keys_of es) (keys_of fs) (IsPermutation-map (λ e. e.0) es fs moved) unique
 
 -- ---- a block is issued
 
@@ -181,6 +186,14 @@ apart_put es k v is apart n =
       | false ↦ λ e. few
     ]) refl
 
+-- no key is this identifier where no entry is that of it
+no_key : (id : List ℕ) (es : Entries) → NonePasses (by_id id) es → AllByRecursion (λ key. bytes_eq id key ≡ false) (keys_of es)
+no_key id [] none = tt
+no_key id (e ∷ es) none = (none.0, no_key id es none.1)
+
+distinct_put : (es : Entries) (k : List ℕ) (v : Issued) → AreDistinct es → lookup (by_id k) es ≡ None → AreDistinct ((k, v) ∷ es)
+distinct_put es k v unique none = IsDistinct-cons bytes_eq k (keys_of es) (no_key k es (none_passes_from_lookup (by_id k) es none)) unique
+
 -- a block with the next number stands behind all others
 pub block_pushed : (es fs : Entries) (k : List ℕ) (v : Issued) → AreIssued v.number es → IsPermutation ((k, v) ∷ es) fs
     → issued_before (suc v.number) fs ≡ issued_before v.number es ++ v.block ∷ []
@@ -191,12 +204,14 @@ later : (next : ℕ) (es : Entries) → Each next es → Each (suc next) es
 later next [] is = tt
 later next (e ∷ es) is = let low : e.1.number < next = is.0.1 in ((is.0.0, omega (arith, low)), later next es is.1)
 
-pub issued_pushed : (es fs : Entries) (v : Issued) → AreIssued v.number es → IsPermutation ((v.block.id, v) ∷ es) fs → AreIssued (suc v.number) fs
-issued_pushed es fs v is moved =
+pub issued_pushed : (es fs : Entries) (v : Issued) → AreIssued v.number es → lookup (by_id v.block.id) es ≡ None → IsPermutation ((v.block.id, v) ∷ es) fs
+    → AreIssued (suc v.number) fs
+issued_pushed es fs v is none moved =
     let all : Entries = (v.block.id, v) ∷ es in
     record {
       each = each_moved (suc v.number) all fs moved ((refl, omega arith), later v.number es is.each);
       apart = apart_moved all fs moved (apart_put es v.block.id v is.each is.apart);
+      unique = distinct_moved all fs moved (distinct_put es v.block.id v is.unique none);
     }
 
 -- ---- a block goes
@@ -271,16 +286,36 @@ each_left next id (e ∷ es) is =
       | false ↦ (is.0, each_left next id es is.1)
     ]
 
+-- what is said of all keys stays said of those that are left
+keys_left : (P : List ℕ → Type 0) (id : List ℕ) (es : Entries) → AllByRecursion P (keys_of es) → AllByRecursion P (keys_of (remove_entry (by_id id) es))
+keys_left P id es all =
+    recursion_from_All P (keys_of (remove_entry (by_id id) es)) (All-map-remove_entry (by_id id) (λ e. e.0) P es (All-from_recursion P (keys_of es) all))
+
+distinct_left : (id : List ℕ) (es : Entries) → AreDistinct es → AreDistinct (remove_entry (by_id id) es)
+distinct_left id [] unique = unique
+distinct_left id (e ∷ es) unique =
+    let later = IsDistinct-tail bytes_eq e.0 (keys_of es) unique in
+    elim (by_id id e.0) as (λ b. AreDistinct (cond b es (e ∷ remove_entry (by_id id) es))) [
+      | true ↦ later
+      | false ↦
+          IsDistinct-cons bytes_eq e.0 (keys_of (remove_entry (by_id id) es))
+          (keys_left (λ key. bytes_eq e.0 key ≡ false) id es (IsDistinct-head bytes_eq e.0 (keys_of es) unique)) (distinct_left id es later)
+    ]
+
 -- without its entry the block of an identifier is gone
-pub block_left : (next : ℕ) (id : List ℕ) (es fs : Entries) → AreIssued next es → AreDistinct es → IsPermutation (remove_entry (by_id id) es) fs
+pub block_left : (next : ℕ) (id : List ℕ) (es fs : Entries) → AreIssued next es → IsPermutation (remove_entry (by_id id) es) fs
     → issued_before next fs ≡ without id (issued_before next es)
-block_left next id es fs is unique moved =
-    same_before next (remove_entry (by_id id) es) fs moved (apart_left id es is.apart) ∙ left_before next next id es is.each unique
+block_left next id es fs is moved =
+    same_before next (remove_entry (by_id id) es) fs moved (apart_left id es is.apart) ∙ left_before next next id es is.each is.unique
 
 pub issued_left : (next : ℕ) (id : List ℕ) (es fs : Entries) → AreIssued next es → IsPermutation (remove_entry (by_id id) es) fs → AreIssued next fs
 issued_left next id es fs is moved =
     let left = remove_entry (by_id id) es in
-    record { each = each_moved next left fs moved (each_left next id es is.each); apart = apart_moved left fs moved (apart_left id es is.apart) }
+    record {
+      each = each_moved next left fs moved (each_left next id es is.each);
+      apart = apart_moved left fs moved (apart_left id es is.apart);
+      unique = distinct_moved left fs moved (distinct_left id es is.unique);
+    }
 
 -- ---- a block that isn't there
 
@@ -289,6 +324,6 @@ none_of None none = refl
 none_of (Some v) none = absurd cc
 
 -- the map has none either
-pub missing : (next : ℕ) (id : List ℕ) (es : Entries) → AreIssued next es → AreDistinct es → is_some (find (is_block id) (issued_before next es)) ≡ false
+pub missing : (next : ℕ) (id : List ℕ) (es : Entries) → AreIssued next es → is_some (find (is_block id) (issued_before next es)) ≡ false
     → lookup (by_id id) es ≡ None
-missing next id es is unique none = none_of (lookup (by_id id) es) (ap is_some (sym (block_found next id es is unique)) ∙ none)
+missing next id es is none = none_of (lookup (by_id id) es) (ap is_some (sym (block_found next id es is)) ∙ none)

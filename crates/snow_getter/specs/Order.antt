@@ -1,6 +1,7 @@
 -- The pending blocks by identifier, each with the number of its issue: the list of them in order of issue.
-use Rattle.std.specs.Prelude.{◌≡◌, ℕ, zero, suc, ◌<◌, ◌≤◌, ◌==◌, List, [], ◌++◌, length, map, filter}
-use Rattle.std.specs.List.{AllByRecursion}
+use Rattle.std.specs.Prelude.{◌≡◌, ℕ, zero, suc, ◌<◌, ◌≤◌, ◌==◌, List, [], ◌++◌, length, map, filter, bytes_eq}
+use Rattle.std.specs.List.{AllByRecursion, IsDistinct}
+use Rattle.std.specs.Map.{keys_of}
 use Rattle.snow_getter.specs.declared.served.Served.{Served}
 use Rattle.snow_getter.specs.declared.pending.Issued.{Issued}
 
@@ -17,7 +18,8 @@ issued_before (suc n) entries = issued_before n entries ++ map (λ e. e.1.block)
 abbrev pub IsIssued : ℕ → List ℕ × Issued → Type 0
 IsIssued next e = (e.0 ≡ e.1.block.id) × (e.1.number < next)
 
--- all do, and no two have one number
+-- all do, and no two have one number, or one identifier
 pub record AreIssued (next : ℕ) (entries : List (List ℕ × Issued)) : Type 0 where
   pub each : AllByRecursion (IsIssued next) entries
   pub apart : (n : ℕ) → length (numbered n entries) ≤ 1
+  pub unique : IsDistinct bytes_eq (keys_of entries)

@@ -4,9 +4,13 @@ ghost use Rattle.snow_getter.specs.Serving.{is_block, without};
 
 use crate::served::Served;
 use snow_base::Id;
+use snow_map::IdMap;
 use std::alloc::{AllocError, Global};
-use std::collections::HashMap;
 use std::marker::Model;
+
+// For how many pending blocks there is a seat. Mostly fewer are pending at a time, so that nearly each
+// finds its own seat free.
+const SEATS: usize = 1_024;
 
 /// A pending block, with the number of its issue.
 #[derive(Drop)]
@@ -19,7 +23,7 @@ pub(crate) struct Issued {
 /// their numbers keep.
 #[derive(Drop)]
 pub(crate) struct Pending {
-    blocks: HashMap<Id, Issued>,
+    blocks: IdMap<Issued, SEATS>,
     next: u64,
 }
 
@@ -30,9 +34,9 @@ impl Model for Pending {
 
     ghost Value = { List Served };
 
-    ghost view = { λ a. issued_before a.next a.blocks.entries };
+    ghost view = { λ a. issued_before a.next a.blocks };
 
-    ghost invariant = { λ a. AreIssued a.next a.blocks.entries };
+    ghost invariant = { λ a. AreIssued a.next a.blocks };
 }
 
 impl Pending {
@@ -41,7 +45,7 @@ impl Pending {
         ensures { result ≡ [] }
     {
         Pending {
-            blocks: HashMap::new(alloc),
+            blocks: IdMap::new(alloc),
             next: 0,
         }
     }
@@ -50,8 +54,6 @@ impl Pending {
     pub(crate) fn block(&self, id: &Id) -> Option<&Served>
         ensures { option_copied result ≡ find (is_block id.now) self.now }
     {
-        // No other block has its identifier.
-        let _unique = self.blocks.len();
         match self.blocks.get(id) {
             Some(issued) => Some(&issued.block),
             None => None,
@@ -69,7 +71,6 @@ impl Pending {
             return Err(AllocError);
         }
         let number = self.next;
-        let _unique = self.blocks.len();
         self.blocks.insert(block.id, Issued { number, block })?;
         self.next += 1;
         Ok(())
@@ -80,7 +81,6 @@ impl Pending {
         ensures taken { result ≡ find (is_block id.now) self.old }
         ensures left { self.new ≡ without id.now self.old }
     {
-        let _unique = self.blocks.len();
         match self.blocks.remove(id) {
             Some(issued) => Some(issued.block),
             None => None,

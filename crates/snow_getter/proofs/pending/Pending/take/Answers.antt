@@ -8,12 +8,12 @@ use Rattle.snow_getter.proofs.pending.Pending.take.Goals as goal
 
 pub invariant_of-self : goal.invariant_of-self
 invariant_of-self c =
-    issued_left c.self.inside.next c.args.id.now c.self.inside.blocks.entries c.remove.new.self.entries c.self.invariant c.remove.ensures.entries
+    issued_left c.self.inside.next c.args.id.now c.self.inside.blocks c.remove.new.self c.self.invariant c.remove.ensures.left
 
 pub returns-clause-taken : goal.returns-clause-taken
 returns-clause-taken c =
     let found = ap (option_map block_of) c.remove.ensures.value
-    ∙ sym (block_found c.self.inside.next c.args.id.now c.self.inside.blocks.entries c.self.invariant c.len-unique.ensures.unique)
+    ∙ sym (block_found c.self.inside.next c.args.id.now c.self.inside.blocks c.self.invariant)
     ∙ ap (find (is_block c.args.id.now)) c.self.view_is in
     elim c.match-remove.branch [
       | in-Some w ↦ w.result-is ∙ ap (option_map block_of) (sym w.in-Some.is) ∙ found
@@ -22,5 +22,5 @@ returns-clause-taken c =
 
 pub returns-clause-left : goal.returns-clause-left
 returns-clause-left c =
-    block_left c.self.inside.next c.args.id.now c.self.inside.blocks.entries c.remove.new.self.entries c.self.invariant c.len-unique.ensures.unique c.remove.ensures.entries
+    block_left c.self.inside.next c.args.id.now c.self.inside.blocks c.remove.new.self c.self.invariant c.remove.ensures.left
     ∙ ap (without c.args.id.now) c.self.view_is
