@@ -8,9 +8,13 @@ ghost use Rattle.snow_lineup.specs.Index.{woken, forgotten};
 use crate::work::Waiting;
 use snow_base::{Header, Id};
 use snow_lineup::{Keyed, Lineup, Mark};
+use snow_map::IdMap;
 use std::alloc::{AllocError, Global};
-use std::collections::HashMap;
 use std::marker::Model;
+
+// Seats of the index by identifier. At most 4,096 blocks wait, so that at most every second seat is
+// taken.
+const SEATS: usize = 8_192;
 
 impl Keyed for Waiting {
     ghost key = { λ w. w.header.parent };
@@ -25,24 +29,24 @@ impl Keyed for Waiting {
 #[derive(Drop)]
 pub(crate) struct WaitingList {
     lineup: Lineup<Waiting>,
-    heights: HashMap<Id, u64>,
+    heights: IdMap<u64, SEATS>,
     /// Whether it is plain that no other block has the parent of the one that came last.
     alone: bool,
 }
 
 impl Model for WaitingList {
-    ghost use Rattle.std.specs.Prelude.{List, bytes_eq};
-    ghost use Rattle.std.specs.HashMap.{get};
+    ghost use Rattle.std.specs.Prelude.{List};
     ghost use Rattle.snow_issue.specs.declared.work.Waiting.{Waiting};
     ghost use Rattle.snow_lineup.specs.declared.marks.Mark.{Mark};
     ghost use Rattle.snow_issue.specs.Known.{items_of};
     ghost use Rattle.snow_issue.specs.Index.{HasHeights, LastIsAlone};
+    ghost use Rattle.snow_map.specs.Entries.{value_of};
 
     ghost Value = { List (Waiting × Mark) };
 
     ghost view = { λ a. a.lineup };
 
-    ghost invariant = { λ a. HasHeights (get bytes_eq a.heights) (items_of a.lineup) × LastIsAlone a.alone (items_of a.lineup) };
+    ghost invariant = { λ a. HasHeights (value_of a.heights) (items_of a.lineup) × LastIsAlone a.alone (items_of a.lineup) };
 }
 
 impl WaitingList {
@@ -54,7 +58,7 @@ impl WaitingList {
     {
         WaitingList {
             lineup: Lineup::new(alloc),
-            heights: HashMap::new(alloc),
+            heights: IdMap::new(alloc),
             alone: false,
         }
     }

@@ -1,6 +1,5 @@
 use Rattle.std.proofs.Common.{ap, ◌∙◌}
-use Rattle.std.specs.HashMap.{get}
-use Rattle.std.specs.Str.{bytes_eq}
+use Rattle.snow_map.specs.Entries.{value_of}
 use Rattle.snow_issue.specs.Lists.{waits_among}
 use Rattle.snow_issue.specs.Known.{items_of}
 use Rattle.snow_issue.proofs.Heights.{waits_known}
@@ -8,5 +7,5 @@ use Rattle.snow_issue.proofs.waiting.WaitingList.has_height.Goals as goal
 
 pub returns : goal.returns
 returns c =
-    c.contains_key.ensures ∙ waits_known (λ q. get bytes_eq c.self.inside.heights q) (items_of c.self.inside.lineup) c.args.id.now c.self.invariant.0
+    c.contains_key.ensures ∙ waits_known (λ q. value_of c.self.inside.heights q) (items_of c.self.inside.lineup) c.args.id.now c.self.invariant.0
     ∙ ap (λ l. waits_among (items_of l) c.args.id.now) c.self.view_is

@@ -1,7 +1,6 @@
 use Rattle.std.proofs.Common.{◌<◌, List, length, sym, ap, ◌∙◌, subst, arith}
 use Rattle.std.proofs.lemmas.List.{length-map}
-use Rattle.std.specs.HashMap.{get}
-use Rattle.std.specs.Str.{bytes_eq}
+use Rattle.snow_map.specs.Entries.{value_of}
 use Rattle.snow_issue.specs.declared.work.Waiting.{Waiting}
 use Rattle.snow_lineup.specs.declared.marks.Mark.{Mark}
 use Rattle.snow_issue.specs.Known.{items_of}
@@ -16,8 +15,8 @@ invariant_of-self c =
     let at = c.args.at in
     let w = c.item.result.now in
     let there : at < length seats = subst (λ l. at < length l) (sym c.self.view_is) c.requires in (
-      subst (λ (l : List Waiting). HasHeights (λ q. get bytes_eq c.remove.new.self q) l) (sym (ap items_of c.take.ensures.rest ∙ items_removed seats at))
-          (heights_removed (λ q. get bytes_eq c.self.inside.heights q) (λ q. get bytes_eq c.remove.new.self q) (items_of seats) at w c.self.invariant.0 (omega (arith, there, length-map seats (λ (s : Waiting × Mark). s.0)))
-          (item_is seats at w there c.item.ensures) c.remove.ensures.updates.0),
+      subst (λ (l : List Waiting). HasHeights (λ q. value_of c.remove.new.self q) l) (sym (ap items_of c.take.ensures.rest ∙ items_removed seats at))
+          (heights_removed (λ q. value_of c.self.inside.heights q) (λ q. value_of c.remove.new.self q) (items_of seats) at w c.self.invariant.0 (omega (arith, there, length-map seats (λ (s : Waiting × Mark). s.0)))
+          (item_is seats at w there c.item.ensures) c.remove.ensures.updates),
       tt,
     )

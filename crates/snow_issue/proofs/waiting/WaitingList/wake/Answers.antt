@@ -1,6 +1,5 @@
 use Rattle.std.proofs.Common.{◌≡◌, suc, ◌-◌, ◌<◌, Bool, List, map, length, sym, ap, ◌∙◌, subst, arith}
-use Rattle.std.specs.HashMap.{get}
-use Rattle.std.specs.Str.{bytes_eq}
+use Rattle.snow_map.specs.Entries.{value_of}
 use Rattle.snow_issue.specs.declared.work.Waiting.{Waiting}
 use Rattle.snow_lineup.specs.declared.marks.Mark.{Mark}
 use Rattle.snow_lineup.specs.declared.marks.Mark.TheVariants.{New}
@@ -27,13 +26,13 @@ invariant_of-self c =
     let at = c.len-len.result - 1 in
     let there : at < length seats = omega (arith, c.len-len.ensures, c.if-len-gt0.true) in
     let same = sym (items_after_set seats c.set.new.self at New there c.set.ensures) in (
-      subst (λ (l : List Waiting). HasHeights (λ q. get bytes_eq c.self.inside.heights q) l) same c.self.invariant.0,
+      subst (λ (l : List Waiting). HasHeights (λ q. value_of c.self.inside.heights q) l) same c.self.invariant.0,
       subst (λ (l : List Waiting). LastIsAlone c.self.inside.alone l) same c.self.invariant.1,
     )
 
 pub invariant_of-self-2 : goal.invariant_of-self-2
 invariant_of-self-2 c =
     let same = sym (ap items_of c.wake.ensures ∙ items_woken (λ w. w.header.parent) c.args.parent.now c.self.inside.lineup) in (
-      subst (λ (l : List Waiting). HasHeights (λ q. get bytes_eq c.self.inside.heights q) l) same c.self.invariant.0,
+      subst (λ (l : List Waiting). HasHeights (λ q. value_of c.self.inside.heights q) l) same c.self.invariant.0,
       subst (λ (l : List Waiting). LastIsAlone c.self.inside.alone l) same c.self.invariant.1,
     )
