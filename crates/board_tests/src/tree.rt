@@ -29,7 +29,9 @@ pub(crate) fn promote(tree: &mut Tree<u16>, id: &Id) -> Option<u16> {
     if header.parent != tree.last() {
         return None;
     }
-    Some(tree.promote(id))
+    let mut load = 0;
+    tree.promote(id, &mut load);
+    Some(load)
 }
 
 // The same by numbers.

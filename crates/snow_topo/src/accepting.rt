@@ -56,7 +56,7 @@ fn accept<R: Rule>(
     ensures room { vec_capacity decisions.new ≡ vec_capacity decisions.old }
 {
     let _last = tree.last();
-    *root = tree.promote(child);
+    tree.promote(child, root);
     tell(decisions, child, tree.rejected());
 }
 

@@ -1,5 +1,5 @@
 -- Lemmas on the nodes that stay when a child of the last accepted block is accepted.
-use Rattle.std.proofs.Common.{◌≡◌, ℕ, ◌<◌, Bool, true, false, not, ◌&&◌, List, [], ◌∷◌, length, get_or, drop, reverse, map, filter, cond, bytes_eq, All, Some, None, slice_get, find, refl, sym, ap, subst, ◌∙◌, arith}
+use Rattle.std.proofs.Common.{◌≡◌, ℕ, ◌<◌, Bool, true, false, not, ◌&&◌, List, [], ◌∷◌, length, get_or, drop, reverse, map, filter, cond, bytes_eq, All, Some, None, IfSome, slice_get, find, refl, sym, ap, subst, ◌∙◌, arith}
 use Rattle.std.specs.List.{list_any, AllByRecursion, IsDistinct}
 use Rattle.std.specs.Map.{lookup, remove_entry, keys_of}
 use Rattle.std.specs.Option.{option_map}
@@ -291,6 +291,13 @@ module _ {T : Type 0} where
       → option_map (λ e. e.1) (slice_get nodes 0) ≡ lookup (bytes_eq child) nodes
   alone_found last child [] g only = absurd cc
   alone_found last child (e ∷ nodes) g only = rw (issued_first last child e nodes g only) refl
+
+  -- so what holds of the first node holds of it
+  pub alone_first : (last child : List ℕ) (nodes : List (List ℕ × Node T)) (P : Node T → Type 0) → IsGrown last (reverse (blocks_of nodes))
+      → children_of (blocks_of nodes) last ≡ child ∷ [] → ((e : List ℕ × Node T) (later : List (List ℕ × Node T)) → nodes ≡ e ∷ later → P e.1)
+      → IfSome (lookup (bytes_eq child) nodes) P
+  alone_first last child [] P g only first = absurd cc
+  alone_first last child (e ∷ nodes) P g only first = subst (λ o. IfSome o P) (alone_found last child (e ∷ nodes) g only) (first e nodes refl)
 
   -- and none is rejected
   pub alone_told : (last child : List ℕ) (nodes : List (List ℕ × Node T)) → IsGrown last (reverse (blocks_of nodes)) → children_of (blocks_of nodes) last ≡ child ∷ []

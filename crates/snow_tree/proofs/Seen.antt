@@ -112,6 +112,11 @@ module _ {T : Type 0} where
       let rest = found_back nodes child parent k in
       (rest.0, rw (differs_back child e.0 t) rest.1, rest.2))
 
+  -- a node that was looked up, by its parent
+  pub found_child : (o : Option (Node T)) (parent : List ℕ) → option_map (λ n. n.parent) o ≡ Some parent → (n : Node T) × (o ≡ Some n) × (n.parent ≡ parent)
+  found_child None parent h = absurd (none-some parent h)
+  found_child (Some n) parent h = (n, refl, cc)
+
   -- a child of a block is among its children
   listed : (nodes : List (List ℕ × Node T)) (child parent : List ℕ) (n : Node T) → lookup (bytes_eq child) nodes ≡ Some n → n.parent ≡ parent
       → list_any (λ x. bytes_eq x child) (children_of (blocks_of nodes) parent) ≡ true
@@ -188,10 +193,6 @@ module _ {T : Type 0} where
         below = all_written Below nodes i n m h (λ k p. p) (λ k d l. kept.below k d l ∙ ap (λ x. children_of x (get_or nodes k d).0) (sym same));
         room = omega (arith, length-set_value_at nodes i m, kept.room);
       }
-
--- a number that is found to be one
-pub one_is : (n : ℕ) → nat_eq n 1 ≡ true → n ≡ 1
-one_is n h = grind (arith, common_steps)
 
 -- ---- where the parent of a block stands
 

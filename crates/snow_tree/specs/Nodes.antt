@@ -90,6 +90,12 @@ module _ {T : Type 0} where
   taken_by None child e taken = if bytes_eq child e.0 then Some e.1 else taken
   taken_by (Some back) child e taken = taken
 
+  -- the children and the load of a node, and its height
+  pub record IsTakenOver (n : Node T) (given : List (List ℕ)) (value : T) (number : ℕ) : Type 0 where
+    pub children : given ≡ n.children
+    pub load : value ≡ n.load
+    pub height : number ≡ n.height
+
   -- the nodes that stay when a child is accepted
   abbrev pub left : List (List ℕ × Node T) → List ℕ → List (List ℕ × Node T)
   left nodes child = filter (λ e. descends (blocks_of nodes) child e.0 && not (bytes_eq e.0 child)) nodes

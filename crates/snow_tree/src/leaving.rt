@@ -1,15 +1,17 @@
-ghost use Rattle.std.specs.Prelude.{◌≡◌, ℕ, ◌+◌, ◌<◌, ◌≤◌, List, ◌∷◌, ◌++◌, [], true, drop, length, map, reverse, slice_get, bytes_eq, Some, vec_len, vec_capacity, if◌then◌else◌};
+ghost use Rattle.std.specs.Prelude.{◌≡◌, ℕ, ◌+◌, ◌<◌, ◌≤◌, List, ◌∷◌, ◌++◌, [], IfSome, drop, length, map, reverse, slice_get, bytes_eq, Some, vec_len, vec_capacity, if◌then◌else◌};
 ghost use Rattle.std.specs.Map.{lookup, values_of};
 ghost use Rattle.std.specs.Option.{option_map};
 ghost use Rattle.snow_plain.specs.Grown.{IsGrown};
 ghost use Rattle.snow_tree.specs.declared.node.Node.{Node};
 ghost use Rattle.snow_tree.specs.Held.{children_of};
-ghost use Rattle.snow_tree.specs.Nodes.{blocks_of, edges_of, ArePlaced, unplaced, left, outsiders, back_at_end, turned, told_by, taken_by};
+ghost use Rattle.snow_tree.specs.Nodes.{IsTakenOver, blocks_of, edges_of, ArePlaced, unplaced, left, outsiders, back_at_end, turned, told_by, taken_by};
 ghost use Rattle.snow_tree.specs.Row.{set_value_at};
 
+use crate::children::Children;
 use crate::looking::place_of;
 use crate::node::{Node, Nodes};
 use snow_base::Id;
+use std::mem;
 
 // How far behind its parent a block of the first node stands once that is the last: 0 where the parent is the
 // child. Nothing where the block leaves: its parent is the last accepted block, or left before.
@@ -151,31 +153,74 @@ fn sweep<T: Drop>(
     with_id(child, taken)
 }
 
+// The only child, which was issued first, leaves: what is known of its children and its load take the place of
+// others where those stand, so that the entry isn't moved. The answer is its height.
+#[inline(always)]
+fn take_first<T: Drop>(nodes: &mut Nodes<T>, children: &mut Children, load: &mut T) -> u64
+    ensures node { (e : List ℕ × Node T) (later : List (List ℕ × Node T)) → nodes.old.entries ≡ e ∷ later → IsTakenOver e.1 children.new load.new result }
+    ensures rest { nodes.new.entries ≡ drop 1 nodes.old.entries }
+{
+    let height = hand_over(nodes, children, load);
+    drop(nodes.pop_first());
+    height
+}
+
+// What the first node has of its children and its load is given for others. The answer is its height.
+#[inline(always)]
+fn hand_over<T>(nodes: &mut Nodes<T>, children: &mut Children, load: &mut T) -> u64
+    ensures node { (e : List ℕ × Node T) (later : List (List ℕ × Node T)) → nodes.old.entries ≡ e ∷ later → IsTakenOver e.1 children.new load.new result }
+    ensures rest { drop 1 nodes.new.entries ≡ drop 1 nodes.old.entries }
+{
+    match nodes.get_index_mut(0) {
+        Some(node) => {
+            children.take_over(&mut node.children);
+            mem::swap(load, &mut node.load);
+            node.height
+        }
+        None => 0,
+    }
+}
+
+// What a node that went out has of its children and its load takes the place of others. The answer is its
+// height.
+fn unpack<T: Drop>(taken: Option<(Id, Node<T>)>, children: &mut Children, load: &mut T) -> u64
+    ensures { IfSome taken (λ e. IsTakenOver e.1 children.new load.new result) }
+{
+    let Some((_, node)) = taken else {
+        return 0;
+    };
+    children.replace(node.children);
+    *load = node.load;
+    node.height
+}
+
 /// Takes the child out that is accepted, and all that don't descend from it. These are told in order
-/// of issue. Where it is the only child it was issued first, and no other block is touched: a child of it
+/// of issue. What is known of its children and its load take the place of others, and the answer is its
+/// height. Where it is the only child it was issued first, and no other block is touched: a child of it
 /// stood so far back that this leads beyond the first place now. It takes no memory.
 #[inline(always)]
 pub(crate) fn take_accepted<T: Drop>(
     nodes: &mut Nodes<T>,
     last: &Id,
     child: &Id,
-    is_alone: bool,
     rejected: &mut Vec<Id>,
-) -> Option<(Id, Node<T>)>
+    children: &mut Children,
+    load: &mut T,
+) -> u64
     requires grown { IsGrown last.now (reverse (blocks_of nodes.old.entries)) }
     requires placed { ArePlaced (edges_of nodes.old.entries) }
     requires child { option_map (λ n. n.parent) (lookup (bytes_eq child.now) nodes.old.entries) ≡ Some last.now }
-    requires alone { is_alone ≡ true → children_of (blocks_of nodes.old.entries) last.now ≡ child.now ∷ [] }
+    requires children { children.old ≡ children_of (blocks_of nodes.old.entries) last.now }
     requires room { vec_len rejected.old + length nodes.old.entries ≤ vec_capacity rejected.old }
-    ensures node { option_map (λ e. e.1) result ≡ lookup (bytes_eq child.now) nodes.old.entries }
+    ensures node { IfSome (lookup (bytes_eq child.now) nodes.old.entries) (λ n. IsTakenOver n children.new load.new result) }
     ensures left { map unplaced nodes.new.entries ≡ map unplaced (left nodes.old.entries child.now) }
     ensures placed { ArePlaced (edges_of nodes.new.entries) }
     ensures told { rejected.new.items ≡ rejected.old.items ++ outsiders nodes.old.entries child.now }
     ensures room { vec_capacity rejected.new ≡ vec_capacity rejected.old }
 {
     let _len = nodes.len();
-    if is_alone {
-        return nodes.pop_first();
+    if children.list().len() == 1 {
+        return take_first(nodes, children, load);
     }
-    sweep(nodes, last, child, rejected)
+    unpack(sweep(nodes, last, child, rejected), children, load)
 }

@@ -246,36 +246,26 @@ impl<T: Drop> Tree<T> {
         ancestor(&self.nodes, &self.last, id)
     }
 
-    /// A child of the last accepted block becomes the last accepted one, and its load is the answer.
-    /// All that don't descend from it go, with their loads. It takes no memory. Where the child is the
-    /// only one it is one look-up, whatever is pending; where others leave, one pass over the pending
-    /// blocks, with two look-ups for each that stays.
+    /// A child of the last accepted block becomes the last accepted one, and its load takes the place of
+    /// another. All that don't descend from it go, with their loads. It takes no memory. Where the child is
+    /// the only one no other block is touched, whatever is pending; where others leave, it is one pass over
+    /// the pending blocks, with two look-ups for each that stays.
     #[inline(always)]
-    pub fn promote(&mut self, child: &Id) -> T
+    pub fn promote(&mut self, child: &Id, load: &mut T)
         requires child { option_map (λ e. e.block.parent) (entry_in (self.old).pending child.now) ≡ Some (self.old).last }
-        ensures load { IfSome (entry_in (self.old).pending child.now) (λ e. result ≡ e.load) }
+        ensures load { IfSome (entry_in (self.old).pending child.now) (λ e. load.new ≡ e.load) }
         ensures tree { IfSome (entry_in (self.old).pending child.now) (λ e. self.new ≡ promoted self.old e.block) }
     {
         self.rejected.clear();
-        let is_alone = self.children.list().len() == 1;
-        let taken = take_accepted(
+        self.height = take_accepted(
             &mut self.nodes,
             &self.last,
             child,
-            is_alone,
             &mut self.rejected,
-        );
-        let (_, node) = taken.unwrap();
-        let Node {
-            height,
-            children,
+            &mut self.children,
             load,
-            ..
-        } = node;
+        );
         self.last = *child;
-        self.height = height;
-        self.children.replace(children);
-        load
     }
 
     /// The blocks that the last call of `promote` rejected, in order of issue; none after an issue.
