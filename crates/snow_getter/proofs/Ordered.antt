@@ -17,7 +17,7 @@ use Rattle.std.proofs.lemmas.Map.Keys.{IsDistinct-head, IsDistinct-tail, IsDisti
 use Rattle.snow_getter.specs.declared.served.Served.{Served}
 use Rattle.snow_getter.specs.declared.pending.Issued.{Issued}
 use Rattle.snow_getter.specs.Serving.{is_block, without}
-use Rattle.snow_getter.specs.Order.{issued_before, numbered, IsIssued, AreIssued}
+use Rattle.snow_getter.specs.Order.{block_of, issued_before, numbered, IsIssued, AreIssued}
 use Rattle.snow_getter.proofs.Permuted.{only_one_stays}
 
 abbrev pub Entries : Type 0
@@ -26,9 +26,6 @@ Entries = List (List ℕ × Issued)
 -- whether a key is this identifier
 abbrev pub by_id : List ℕ → List ℕ → Bool
 by_id id = bytes_eq id
-
-abbrev pub block_of : Issued → Served
-block_of v = v.block
 
 abbrev has_number : ℕ → List ℕ × Issued → Bool
 has_number n e = e.1.number == n

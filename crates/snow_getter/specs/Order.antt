@@ -5,6 +5,10 @@ use Rattle.std.specs.Map.{keys_of}
 use Rattle.snow_getter.specs.declared.served.Served.{Served}
 use Rattle.snow_getter.specs.declared.pending.Issued.{Issued}
 
+-- the block that was issued
+abbrev pub block_of : Issued → Served
+block_of v = v.block
+
 -- the entries of a number
 abbrev pub numbered : ℕ → List (List ℕ × Issued) → List (List ℕ × Issued)
 numbered n entries = filter (λ e. e.1.number == n) entries

@@ -1,5 +1,6 @@
 ghost use Rattle.std.specs.Prelude.{◌≡◌, [], ◌∷◌, ◌++◌, false, find, is_some, OnOk, OnErr};
-ghost use Rattle.std.specs.Option.{option_copied};
+ghost use Rattle.std.specs.Option.{option_copied, option_map};
+ghost use Rattle.snow_getter.specs.Order.{block_of};
 ghost use Rattle.snow_getter.specs.Serving.{is_block, without};
 
 use crate::served::Served;
@@ -16,7 +17,7 @@ const SEATS: usize = 1_024;
 #[derive(Drop)]
 pub(crate) struct Issued {
     number: u64,
-    block: Served,
+    pub(crate) block: Served,
 }
 
 /// The pending blocks, found by identifier. Contracts see the list of them in order of issue, which
@@ -76,14 +77,11 @@ impl Pending {
         Ok(())
     }
 
-    /// Takes the block of an identifier out. It takes no memory.
-    pub(crate) fn take(&mut self, id: &Id) -> Option<Served>
-        ensures taken { result ≡ find (is_block id.now) self.old }
+    /// Takes the block of an identifier out, with its number, so that it is moved once. It takes no memory.
+    pub(crate) fn take(&mut self, id: &Id) -> Option<Issued>
+        ensures taken { option_map block_of result ≡ find (is_block id.now) self.old }
         ensures left { self.new ≡ without id.now self.old }
     {
-        match self.blocks.remove(id) {
-            Some(issued) => Some(issued.block),
-            None => None,
-        }
+        self.blocks.remove(id)
     }
 }

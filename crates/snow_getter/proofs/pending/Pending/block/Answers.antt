@@ -2,7 +2,8 @@
 use Rattle.std.proofs.Common.{find, sym, ap, ◌∙◌}
 use Rattle.std.specs.Option.{option_map}
 use Rattle.snow_getter.specs.Serving.{is_block}
-use Rattle.snow_getter.proofs.Ordered.{block_of, block_found}
+use Rattle.snow_getter.specs.Order.{block_of}
+use Rattle.snow_getter.proofs.Ordered.{block_found}
 use Rattle.snow_getter.proofs.pending.Pending.block.Goals as goal
 
 pub returns-in-Some : goal.returns-in-Some

@@ -2,8 +2,8 @@
 use Rattle.std.proofs.Common.{find, sym, ap, ◌∙◌}
 use Rattle.std.specs.Option.{option_map}
 use Rattle.snow_getter.specs.Serving.{is_block, without}
-use Rattle.snow_getter.proofs.Ordered.{block_of, block_found, block_left, issued_left}
-use Rattle.snow_getter.proofs.pending.Pending.take.Goals.{in-Some, in-None}
+use Rattle.snow_getter.specs.Order.{block_of}
+use Rattle.snow_getter.proofs.Ordered.{block_found, block_left, issued_left}
 use Rattle.snow_getter.proofs.pending.Pending.take.Goals as goal
 
 pub invariant_of-self : goal.invariant_of-self
@@ -12,13 +12,9 @@ invariant_of-self c =
 
 pub returns-clause-taken : goal.returns-clause-taken
 returns-clause-taken c =
-    let found = ap (option_map block_of) c.remove.ensures.value
+    ap (option_map block_of) c.remove.ensures.value
     ∙ sym (block_found c.self.inside.next c.args.id.now c.self.inside.blocks c.self.invariant)
-    ∙ ap (find (is_block c.args.id.now)) c.self.view_is in
-    elim c.match-remove.branch [
-      | in-Some w ↦ w.result-is ∙ ap (option_map block_of) (sym w.in-Some.is) ∙ found
-      | in-None w ↦ w.result-is ∙ ap (option_map block_of) (sym w.in-None.is) ∙ found
-    ]
+    ∙ ap (find (is_block c.args.id.now)) c.self.view_is
 
 pub returns-clause-left : goal.returns-clause-left
 returns-clause-left c =
