@@ -219,7 +219,8 @@ pub(crate) fn take_accepted<T: Drop>(
     ensures room { vec_capacity rejected.new ≡ vec_capacity rejected.old }
 {
     let _len = nodes.len();
-    if children.list().len() == 1 {
+    let is_alone = children.list().len() == 1;
+    if is_alone {
         return take_first(nodes, children, load);
     }
     unpack(sweep(nodes, last, child, rejected), children, load)

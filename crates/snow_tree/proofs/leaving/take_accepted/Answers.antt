@@ -7,33 +7,33 @@ use Rattle.snow_tree.proofs.Left.{alone_left, alone_first, alone_told}
 use Rattle.snow_tree.proofs.Seen.{found_child, only_child}
 use Rattle.snow_tree.proofs.leaving.take_accepted.Goals as goal
 
-pub returns-then-list-eq1-clause-node : goal.returns-then-list-eq1-clause-node
-returns-then-list-eq1-clause-node g c =
+pub returns-then-is_alone-clause-node : goal.returns-then-is_alone-clause-node
+returns-then-is_alone-clause-node g c =
     let nodes = c.args.nodes.now.entries in
     let child = c.args.child.now in
     let last = c.args.last.now in
     let found = found_child (lookup (bytes_eq child) nodes) last c.requires.child in
-    let only = only_child nodes child last found.0 found.1 found.2 (ap length (sym c.requires.children ∙ sym c.list.ensures) ∙ c.if-list-eq1.true) in
+    let only = only_child nodes child last found.0 found.1 found.2 (ap length (sym c.requires.children ∙ sym c.list.ensures) ∙ c.if-is_alone.true) in
     alone_first last child nodes (λ n. IsTakenOver n c.take_first.new.children c.take_first.new.load c.take_first.result) c.requires.grown only c.take_first.ensures.node
 
-pub returns-then-list-eq1-clause-left : goal.returns-then-list-eq1-clause-left
-returns-then-list-eq1-clause-left g c =
+pub returns-then-is_alone-clause-left : goal.returns-then-is_alone-clause-left
+returns-then-is_alone-clause-left g c =
     let nodes = c.args.nodes.now.entries in
     let child = c.args.child.now in
     let last = c.args.last.now in
     let found = found_child (lookup (bytes_eq child) nodes) last c.requires.child in
-    let only = only_child nodes child last found.0 found.1 found.2 (ap length (sym c.requires.children ∙ sym c.list.ensures) ∙ c.if-list-eq1.true) in
+    let only = only_child nodes child last found.0 found.1 found.2 (ap length (sym c.requires.children ∙ sym c.list.ensures) ∙ c.if-is_alone.true) in
     ap (map unplaced) (c.take_first.ensures.rest ∙ alone_left last child nodes c.requires.grown c.len-len.ensures.unique only)
 
-pub returns-then-list-eq1-clause-placed : goal.returns-then-list-eq1-clause-placed
-returns-then-list-eq1-clause-placed g c =
+pub returns-then-is_alone-clause-placed : goal.returns-then-is_alone-clause-placed
+returns-then-is_alone-clause-placed g c =
     subst (λ l. ArePlaced (edges_of l)) (sym c.take_first.ensures.rest) (placed_drop c.args.nodes.now.entries c.len-len.ensures.unique c.requires.placed)
 
-pub returns-then-list-eq1-clause-told : goal.returns-then-list-eq1-clause-told
-returns-then-list-eq1-clause-told g c =
+pub returns-then-is_alone-clause-told : goal.returns-then-is_alone-clause-told
+returns-then-is_alone-clause-told g c =
     let nodes = c.args.nodes.now.entries in
     let child = c.args.child.now in
     let last = c.args.last.now in
     let found = found_child (lookup (bytes_eq child) nodes) last c.requires.child in
-    let only = only_child nodes child last found.0 found.1 found.2 (ap length (sym c.requires.children ∙ sym c.list.ensures) ∙ c.if-list-eq1.true) in
+    let only = only_child nodes child last found.0 found.1 found.2 (ap length (sym c.requires.children ∙ sym c.list.ensures) ∙ c.if-is_alone.true) in
     sym (ap (λ l. c.args.rejected.now.items ++ l) (alone_told last child nodes c.requires.grown only) ∙ append-nil c.args.rejected.now.items)
