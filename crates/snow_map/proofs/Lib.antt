@@ -1,0 +1,7 @@
+mod Cases
+mod Seated
+mod Kept
+mod Counted
+mod Others
+mod Edited
+mod Distinct

@@ -5,23 +5,28 @@ ghost use Rattle.std.specs.Map.{keys_of, remove_entry};
 ghost use Rattle.std.specs.Option.{option_copied};
 ghost use Rattle.snow_map.specs.Entries.{value_of, HasAt};
 
+use crate::table::Table;
 use snow_base::Id;
 use std::alloc::{AllocError, Global};
-use std::collections::HashMap;
 use std::marker::Model;
 
-/// Values by identifier, at most one for each. Contracts see the entries, in no order that is told.
+/// Values by identifier, at most one for each. Contracts see the entries, in no order that is told. An
+/// identifier is looked for at its seat first, of which there are so many from the first entry on: few
+/// entries share one where there are several times as many.
 #[derive(Drop)]
 pub struct IdMap<V, const SEATS: usize> {
-    others: HashMap<Id, V>,
+    table: Table<V, SEATS>,
 }
 
 impl<V, const SEATS: usize> Model for IdMap<V, SEATS> {
     ghost use Rattle.std.specs.Prelude.{ℕ, List};
+    ghost use Rattle.snow_map.specs.Seats.{IsKept, entries_of};
 
     ghost Value = { List (List ℕ × V) };
 
-    ghost view = { λ a. a.others.entries };
+    ghost view = { λ a. entries_of a.table.seats.items a.table.others.entries };
+
+    ghost invariant = { λ a. IsKept SEATS a.table.seats.items a.table.others.entries };
 }
 
 impl<V: Drop, const SEATS: usize> IdMap<V, SEATS> {
@@ -30,20 +35,22 @@ impl<V: Drop, const SEATS: usize> IdMap<V, SEATS> {
         ensures { result ≡ [] }
     {
         IdMap {
-            others: HashMap::new(alloc),
+            table: Table::new(alloc),
         }
     }
 
     /// The value at an identifier. No identifier stands twice.
+    #[inline(always)]
     pub fn get(&self, id: &Id) -> Option<&V>
         ensures value { option_copied result ≡ value_of self.now id.now }
         ensures unique { IsDistinct bytes_eq (keys_of self.now) }
     {
-        let _unique = self.others.len();
-        self.others.get(id)
+        let _unique = self.table.others.len();
+        self.table.get(id)
     }
 
     /// Whether there is a value at an identifier.
+    #[inline(always)]
     pub fn contains_key(&self, id: &Id) -> bool
         ensures { result ≡ is_some (value_of self.now id.now) }
     {
@@ -52,6 +59,7 @@ impl<V: Drop, const SEATS: usize> IdMap<V, SEATS> {
 
     /// Puts a value at an identifier, and gives the one that was there. It takes no memory where there was
     /// one. After want of memory all is as before.
+    #[inline(always)]
     pub fn insert(&mut self, id: Id, value: V) -> Result<Option<V>, AllocError>
         ensures before { IfOk result (λ before. before ≡ value_of self.old id) }
         ensures updates { OnOk result (HasAt self.old self.new id (Some value)) }
@@ -59,16 +67,19 @@ impl<V: Drop, const SEATS: usize> IdMap<V, SEATS> {
         ensures err { OnErr result (self.new ≡ self.old) }
         ensures succeeds { IsSome (value_of self.old id) → IsOk result }
     {
-        let before = self.others.insert(id, value)?;
-        Ok(before)
+        if SEATS > 0 && self.table.seats.is_empty() {
+            self.table.begin()?;
+        }
+        self.table.insert(id, value)
     }
 
     /// Takes the value at an identifier out. It takes no memory.
+    #[inline(always)]
     pub fn remove(&mut self, id: &Id) -> Option<V>
         ensures value { result ≡ value_of self.old id.now }
         ensures updates { HasAt self.old self.new id.now None }
         ensures left { IsPermutation (remove_entry (bytes_eq id.now) self.old) self.new }
     {
-        self.others.remove(id)
+        self.table.remove(id)
     }
 }

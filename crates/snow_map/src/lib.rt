@@ -2,5 +2,8 @@
 #![tactic(auto)]
 
 mod id_map;
+mod seat;
+mod table;
 
 pub use id_map::IdMap;
+pub use seat::seat_of;
