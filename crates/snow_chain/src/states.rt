@@ -6,9 +6,9 @@ use snow_map::IdMap;
 use std::alloc::{AllocError, Global};
 use std::marker::Model;
 
-// For how many states there is a seat. Mostly few are held at a time, the last accepted block's and those
-// of pending blocks, so that nearly each finds its own seat free.
-const SEATS: usize = 1_024;
+// Seats of the states. A node holds those of the last accepted block and of at most 4,096 pending ones, so
+// that about every second seat is taken at most.
+const SEATS: usize = 8_192;
 
 /// The last accepted block, and states by identifier: what any chain can be built on. A state is a
 /// list of numbers, and what they mean is the chain's own.

@@ -9,9 +9,8 @@ use snow_map::IdMap;
 use std::alloc::{AllocError, Global};
 use std::marker::Model;
 
-// For how many pending blocks there is a seat. Mostly fewer are pending at a time, so that nearly each
-// finds its own seat free.
-const SEATS: usize = 1_024;
+// Seats of the pending blocks. There are at most 4,096 of these, so that at most every second seat is taken.
+const SEATS: usize = 8_192;
 
 /// A pending block, with the number of its issue.
 #[derive(Drop)]
