@@ -1,9 +1,10 @@
-ghost use Rattle.std.specs.Prelude.{◌≡◌, ℕ, ◌+◌, ◌<◌, ◌^◌, ◌≤◌, ◌==◌, true, false, IfOk, IfSome, All, bytes_eq, [], ◌∷◌, ◌++◌, List, map, length, nat_lt, slice_set, HoldsAt, OnOk, OnErr};
+ghost use Rattle.std.specs.Prelude.{◌≡◌, ℕ, ◌+◌, ◌-◌, ◌<◌, ◌^◌, ◌≤◌, ◌==◌, true, false, IfOk, IfSome, All, bytes_eq, [], ◌∷◌, ◌++◌, List, map, take, length, nat_lt, slice_set, HoldsAt, IsErr, OnOk, OnErr, vec_len, vec_capacity, if◌then◌else◌};
 ghost use Rattle.std.specs.List.{AllPairs, position_or_len, remove};
 ghost use Rattle.std.specs.Option.{option_to_list};
 ghost use Rattle.snow_lineup.specs.Marks.{has, IsOnlyAt};
-ghost use Rattle.snow_lineup.specs.Index.{seat_of, woken, woken_at, forgotten, reset};
+ghost use Rattle.snow_lineup.specs.Index.{seat_of, row_of, woken, woken_at, forgotten, reset};
 ghost use Rattle.snow_lineup.specs.Windows.{IsWithin, AreWithin};
+ghost use Rattle.snow_lineup.specs.declared.lineup.Slot.{Slot};
 ghost use Rattle.snow_lineup.specs.declared.marks.Mark.TheVariants.{New, Ripe};
 
 use crate::marks::Mark;
@@ -28,9 +29,10 @@ pub trait Keyed: Drop {
 /// An item with its place, a number that never comes again, and what is remembered of it.
 #[derive(Drop)]
 pub(crate) struct Slot<T> {
+    // First, so that it is moved whole.
+    pub(crate) item: T,
     pub(crate) place: u64,
     pub(crate) mark: Mark,
-    pub(crate) item: T,
 }
 
 /// Items in order of arrival, each with what is remembered of it, and an index by what they wait for.
@@ -84,16 +86,33 @@ impl<T: Keyed> Lineup<T> {
     {
         // Places never come again, and there are more than a node lives to use.
         if self.next == u64::MAX {
+            return refused(item);
+        }
+        if self.slots.len() >= self.slots.capacity() {
+            return self.grow(item);
+        }
+        let at = self.slots.len();
+        let alone = put(&mut self.slots, &mut self.rows, item, self.next)?;
+        self.windows = self.windows.marked(at, Mark::New);
+        self.next += 1;
+        Ok(alone)
+    }
+
+    // The same where there is no room yet. A call, so that an item for which there is room is moved
+    // once.
+    #[inline(never)]
+    fn grow(&mut self, item: T) -> Result<bool, AllocError>
+        ensures ok { OnOk result (self.new ≡ self.old ++ (item, New) ∷ []) }
+        ensures alone { IfOk result (λ alone. alone ≡ true → All (λ s. bytes_eq (T.key item) (T.key s.0) ≡ false) self.old) }
+        ensures err { OnErr result (self.new ≡ self.old) }
+    {
+        if self.next == u64::MAX {
             return Err(AllocError);
         }
         self.slots.reserve(1)?;
-        let alone = self.rows.note(item.key(), self.next)?;
-        self.windows = self.windows.marked(self.slots.len(), Mark::New);
-        self.slots.push_reserved(Slot {
-            place: self.next,
-            mark: Mark::New,
-            item,
-        });
+        let at = self.slots.len();
+        let alone = put(&mut self.slots, &mut self.rows, item, self.next)?;
+        self.windows = self.windows.marked(at, Mark::New);
         self.next += 1;
         Ok(alone)
     }
@@ -153,8 +172,7 @@ impl<T: Keyed> Lineup<T> {
         let slot = &self.slots[at];
         self.rows.leave(&slot.item.key(), slot.place);
         self.windows = self.windows.without(at);
-        let Slot { item, .. } = self.slots.remove(at);
-        item
+        take_slot(&mut self.slots, at)
     }
 
     /// Forgets what is remembered of the items that wait for a block.
@@ -175,6 +193,87 @@ impl<T: Keyed> Lineup<T> {
         forget_all(&mut self.slots);
         self.windows = Windows::all_fresh(self.slots.len());
     }
+}
+
+// An item that can't be taken in goes. A call, so that an item that is taken in is moved once.
+#[inline(never)]
+fn refused<T: Drop>(_item: T) -> Result<bool, AllocError>
+    ensures { IsErr result }
+{
+    Err(AllocError)
+}
+
+// Puts an item with its place behind the others and into the row of its key, and tells whether it is
+// the first one there. After want of memory all is as before.
+fn put<T: Keyed>(
+    slots: &mut Vec<Slot<T>>,
+    rows: &mut Rows,
+    item: T,
+    place: u64,
+) -> Result<bool, AllocError>
+    requires { vec_len slots.old < vec_capacity slots.old }
+    ensures slots { let new : Slot T = record { item = item; place = place; mark = New } in OnOk result (slots.new.items ≡ slots.old.items ++ new ∷ []) }
+    ensures ok { OnOk result ((q : List ℕ) → row_of rows.new.rows q ≡ (if bytes_eq (T.key item) q then row_of rows.old.rows q ++ place ∷ [] else row_of rows.old.rows q)) }
+    ensures first { IfOk result (λ first. first ≡ true → row_of rows.old.rows (T.key item) ≡ []) }
+    ensures err { OnErr result ((q : List ℕ) → row_of rows.new.rows q ≡ row_of rows.old.rows q) }
+    ensures same { OnErr result (slots.new.items ≡ slots.old.items) }
+{
+    let key = item.key();
+    slots.push_reserved(Slot {
+        item,
+        place,
+        mark: Mark::New,
+    });
+    match rows.note(key, place) {
+        Ok(first) => Ok(first),
+        Err(error) => {
+            cut_last(slots);
+            Err(error)
+        }
+    }
+}
+
+// The last slot goes.
+#[inline(never)]
+fn cut_last<T: Drop>(slots: &mut Vec<Slot<T>>)
+    ensures { slots.new.items ≡ take (length slots.old.items - 1) slots.old.items }
+{
+    let _ = slots.pop();
+}
+
+// The item at a place goes.
+fn take_slot<T: Drop>(slots: &mut Vec<Slot<T>>, at: usize) -> T
+    requires { at < length slots.old.items }
+    ensures taken { HoldsAt (λ s. result ≡ s.item) slots.old.items at }
+    ensures rest { slots.new.items ≡ remove slots.old.items at }
+{
+    bring_last(slots, at);
+    match slots.pop() {
+        Some(slot) => slot.item,
+        None => unreachable!(),
+    }
+}
+
+// The slot at a place becomes the last one. Mostly it is.
+fn bring_last<T: Drop>(slots: &mut Vec<Slot<T>>, at: usize)
+    requires { at < length slots.old.items }
+    ensures last { HoldsAt (λ s. slots.new.items ≡ remove slots.old.items at ++ s ∷ []) slots.old.items at }
+    ensures some { 0 < vec_len slots.new }
+{
+    if at + 1 != slots.len() {
+        move_last(slots, at);
+    }
+}
+
+// The same where others stand behind it.
+#[inline(never)]
+fn move_last<T: Drop>(slots: &mut Vec<Slot<T>>, at: usize)
+    requires { at < length slots.old.items }
+    ensures last { HoldsAt (λ s. slots.new.items ≡ remove slots.old.items at ++ s ∷ []) slots.old.items at }
+    ensures some { 0 < vec_len slots.new }
+{
+    let slot = slots.remove(at);
+    slots.push_reserved(slot);
 }
 
 // The first slot with this mark in the window, or how many slots there are.

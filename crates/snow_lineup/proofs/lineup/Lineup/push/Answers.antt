@@ -4,17 +4,16 @@ use Rattle.std.proofs.lemmas.List.{map_push}
 use Rattle.snow_lineup.specs.declared.lineup.Slot.{Slot}
 use Rattle.snow_lineup.specs.declared.marks.Mark.{Mark}
 use Rattle.snow_lineup.specs.declared.marks.Mark.TheVariants.{New}
-use Rattle.snow_lineup.specs.Index.{row_of, tag_of, seat_of}
+use Rattle.snow_lineup.specs.Index.{tag_of, seat_of}
 use Rattle.snow_lineup.proofs.Tagged.{indexed_push, indexed_same, none_keyed}
 use Rattle.snow_lineup.proofs.Windowed.{within_pushed}
 use Rattle.snow_lineup.proofs.lineup.Lineup.push.Goals as goal
 
-pub invariant_of-self-in_err-alone : goal.invariant_of-self-in_err-alone
-invariant_of-self-in_err-alone g c =
+pub invariant_of-self : goal.invariant_of-self
+invariant_of-self g c =
     let inside = c.self.inside in
-    let items = inside.slots.items in
-    rw c.reserve.ensures.items
-    (indexed_same (map (tag_of g.T.Keyed.key) items) inside.rows.rows c.note.new.self.rows inside.next c.self.invariant.0 c.in_err-alone.ensures.err, c.self.invariant.1)
+    rw (c.in_err-alone.ensures.same)
+    (indexed_same (map (tag_of g.T.Keyed.key) inside.slots.items) inside.rows.rows c.put.new.rows.rows inside.next c.self.invariant.0 c.in_err-alone.ensures.err, c.self.invariant.1)
 
 pub invariant_of-self-2 : goal.invariant_of-self-2
 invariant_of-self-2 g c =
@@ -22,9 +21,9 @@ invariant_of-self-2 g c =
     let items = inside.slots.items in
     let key = g.T.Keyed.key in
     let new : Slot _ = record { place = inside.next; mark = New; item = c.args.item } in
-    let len : c.len.result ≡ length (map seat_of items) = grind (arith, common_steps) in
-    rw (c.push_reserved.ensures.items, c.reserve.ensures.items, map_push (tag_of key) items new, map_push seat_of items new, c.marked-self-inside.ensures, len) (
-      indexed_push (map (tag_of key) items) inside.rows.rows c.note.new.self.rows inside.next (key c.args.item) c.self.invariant.0 (rw c.key.ensures at c.in_ok-alone.ensures.ok),
+    let len : c.len-at.result ≡ length (map seat_of items) = grind (arith, common_steps) in
+    rw (c.in_ok-alone.ensures.slots, map_push (tag_of key) items new, map_push seat_of items new, c.marked-self-inside.ensures, len) (
+      indexed_push (map (tag_of key) items) inside.rows.rows c.put.new.rows.rows inside.next (key c.args.item) c.self.invariant.0 c.in_ok-alone.ensures.ok,
       within_pushed (map seat_of items) inside.windows c.args.item c.self.invariant.1,
     )
 
@@ -33,5 +32,4 @@ returns-clause-alone g c alone =
     let inside = c.self.inside in
     let key = g.T.Keyed.key in
     subst (λ (l : List (_ × Mark)). All (λ s. bytes_eq (key c.args.item) (key s.0) ≡ false) l) c.self.view_is
-    (none_keyed key inside.slots.items inside.rows.rows inside.next (key c.args.item) c.self.invariant.0
-    (subst (λ (k : List ℕ). row_of inside.rows.rows k ≡ []) c.key.ensures (c.in_ok-alone.ensures.first alone)))
+    (none_keyed key inside.slots.items inside.rows.rows inside.next (key c.args.item) c.self.invariant.0 (c.in_ok-alone.ensures.first alone))

@@ -16,12 +16,12 @@ invariant_of-self g c =
     let there : at < length (map seat_of items) = subst (λ l. at < length l) (sym c.self.view_is) c.requires in
     let here : at < length items = omega (arith, there, length-map items seat_of) in
     let is_gone = ap (tag_of key) c.index-slot.ensures ∙ sym (get_or-map (tag_of key) items at gone (tag_of key gone) here) in (
-      rw (c.remove-item.ensures.items, map_remove (tag_of key) items at)
+      rw (c.take_slot.ensures.rest, map_remove (tag_of key) items at)
           (indexed_remove (map (tag_of key) items) at (tag_of key gone) inside.rows.rows c.leave.new.self.rows inside.next (omega (arith, here, length-map items (tag_of key))) is_gone c.self.invariant.0
           (rw c.key.ensures at c.leave.ensures)),
-      rw (c.remove-item.ensures.items, map_remove seat_of items at, c.without-self-inside.ensures) (within_removed (map seat_of items) inside.windows at there c.self.invariant.1),
+      rw (c.take_slot.ensures.rest, map_remove seat_of items at, c.without-self-inside.ensures) (within_removed (map seat_of items) inside.windows at there c.self.invariant.1),
     )
 
 pub returns-clause-rest : goal.returns-clause-rest
 returns-clause-rest g c =
-    ap (map seat_of) c.remove-item.ensures.items ∙ map_remove seat_of c.self.inside.slots.items c.args.at ∙ ap (λ l. remove l c.args.at) c.self.view_is
+    ap (map seat_of) c.take_slot.ensures.rest ∙ map_remove seat_of c.self.inside.slots.items c.args.at ∙ ap (λ l. remove l c.args.at) c.self.view_is
