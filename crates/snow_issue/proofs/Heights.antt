@@ -7,8 +7,7 @@ use Rattle.snow_base.specs.declared.header.Header.{Header}
 use Rattle.snow_issue.specs.declared.work.Waiting.{Waiting}
 use Rattle.snow_issue.specs.Lists.{waits_among, waits_below}
 use Rattle.snow_issue.specs.Index.{HasHeights}
-use Rattle.snow_lineup.proofs.Noted.{same_id}
-use Rattle.snow_issue.proofs.Named.{named, named_pushed, apart_pushed, named_removed, named_at, apart_removed, named_is_some, none_named, any_named}
+use Rattle.snow_issue.proofs.Named.{named, named_pushed, apart_pushed, named_removed, named_at, apart_removed, named_is_some, any_named}
 
 -- what finds a height by identifier
 abbrev Finder : Type 0
@@ -82,22 +81,4 @@ heights_removed before now waiting at w is there is_w change = record {
       ∙ none_cond (bytes_eq w.header.id id) (named id_of_block waiting id)
       ∙ ap (option_map (λ (w : Waiting). w.header.height)) (sym (named_removed id_of_block waiting at w id there is_w is.apart));
   apart = apart_removed id_of_block waiting at is.apart;
-}
-
--- a height that came and went
-undone : (b : Bool) (h : ℕ) (o : Option ℕ) → (b ≡ true → o ≡ None) → cond b None (cond b (Some h) o) ≡ o
-undone true h o none = sym (none refl)
-undone false h o none = refl
-
-pub heights_undone : (before mid now : Finder) (waiting : List Waiting) (id : List ℕ) (h : ℕ) → HasHeights before waiting → waits_among waiting id ≡ false
-    → ((q : List ℕ) → mid q ≡ cond (bytes_eq id q) (Some h) (before q))
-    → ((q : List ℕ) → now q ≡ cond (bytes_eq id q) None (mid q))
-    → HasHeights now waiting
-heights_undone before mid now waiting id h is new came went = record {
-  known = λ q.
-      went q ∙ ap (λ o. cond (bytes_eq id q) None o) (came q)
-      ∙ undone (bytes_eq id q) h (before q)
-      (λ e. is.known q ∙ ap (option_map (λ (w : Waiting). w.header.height)) (ap (named id_of_block waiting) (sym (same_id id q e)) ∙ none_named id_of_block waiting id new))
-      ∙ is.known q;
-  apart = is.apart;
 }

@@ -1,4 +1,4 @@
-ghost use Rattle.std.specs.Prelude.{◌≡◌, ◌+◌, ◌==◌, IfSome, ◌<◌, ◌∷◌, ◌++◌, [], List, map, true, false, length, slice_set, HoldsAt, OnOk, OnErr};
+ghost use Rattle.std.specs.Prelude.{◌≡◌, ◌+◌, ◌-◌, ◌==◌, IfSome, ◌<◌, ◌∷◌, ◌++◌, [], List, map, true, false, length, slice_set, HoldsAt, OnOk, OnErr};
 ghost use Rattle.std.specs.List.{position_or_len, remove};
 ghost use Rattle.snow_issue.specs.Known.{items_of, NoneNew, NoneRipe};
 ghost use Rattle.snow_issue.specs.Lists.{waits_among, waits_below};
@@ -123,14 +123,15 @@ impl WaitingList {
     {
         let header = &block.header;
         let (id, height) = (header.id, header.height);
-        self.heights.insert(id, height)?;
-        match self.lineup.push(block) {
-            Ok(alone) => {
+        // The block first, so that it is moved once.
+        let alone = self.lineup.push(block)?;
+        match self.heights.insert(id, height) {
+            Ok(_) => {
                 self.alone = alone;
                 Ok(())
             }
             Err(error) => {
-                let _ = self.heights.remove(&id);
+                cut_last(&mut self.lineup);
                 Err(error)
             }
         }
@@ -207,6 +208,16 @@ impl WaitingList {
     {
         self.lineup.forget_marks();
     }
+}
+
+// The block that came last goes.
+#[inline(never)]
+fn cut_last(lineup: &mut Lineup<Waiting>)
+    requires { 0 < length lineup.old }
+    ensures { lineup.new ≡ remove lineup.old (length lineup.old - 1) }
+{
+    let last = lineup.len() - 1;
+    let _ = lineup.take(last);
 }
 
 // Whether a height is the one right below another. Heights are whole numbers: none is above the last.
