@@ -1,5 +1,5 @@
 //! Where entries stand: each at its identifier's seat, or among others where that is taken.
-ghost use Rattle.std.specs.Prelude.{◌≡◌, ℕ, ◌+◌, ◌-◌, ◌==◌, ◌<◌, ◌≤◌, ◌^◌, true, false, [], None, Some, List, IfOk, OnOk, OnErr, length, not, is_some, replicate, slice_get, slice_set, vec_capacity};
+ghost use Rattle.std.specs.Prelude.{◌≡◌, ◌+◌, ◌-◌, ◌==◌, ◌<◌, ◌^◌, true, false, [], None, Some, OnOk, OnErr, length, not, is_some, replicate, slice_get, slice_set};
 ghost use Rattle.std.specs.Option.{option_copied};
 ghost use Rattle.snow_map.specs.Entries.{value_of};
 ghost use Rattle.snow_map.specs.declared.seat.Seat.{Seat};
