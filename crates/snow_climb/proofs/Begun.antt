@@ -52,7 +52,7 @@ module _ {T : Type 0} where
       (omega (arith, far, reach_within bs id), same_id (get_or bs at d).id id (at_reach bs id at d far))
 
   -- or there is none
-  block_off : (pending : List (Entry T)) (id : List ℕ) → place_in pending id ≡ None → has_block (blocks_in pending) id ≡ false
+  pub block_off : (pending : List (Entry T)) (id : List ℕ) → place_in pending id ≡ None → has_block (blocks_in pending) id ≡ false
   block_off pending id none =
       let far : reach (blocks_in pending) id ≡ 0 = sym (reach_seen pending id) ∙ ap above none in
       reaches_none (blocks_in pending) id (omega (arith, far))

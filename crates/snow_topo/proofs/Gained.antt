@@ -6,7 +6,7 @@ use Rattle.std.proofs.lemmas.Bool.{or_parts}
 use Rattle.std.proofs.lemmas.Grind.{common_steps}
 use Rattle.std.proofs.lemmas.List.{get_or-map, length-map, map-append}
 use Rattle.std.proofs.lemmas.List.Elements.{All-append, All-map, All-cons, All-nil}
-use Rattle.std.proofs.lemmas.Option.{slice_get-map, slice_get_within, get_or_from_slice_get}
+use Rattle.std.proofs.lemmas.Option.{none-some, slice_get-map, slice_get_within, get_or_from_slice_get}
 use Rattle.snow_base.specs.declared.header.Header.{Header}
 use Rattle.snow_base.specs.Identifier.{bits}
 use Rattle.snow_flake.specs.Parameters.{Parameters, AreGood}
@@ -19,6 +19,8 @@ use Rattle.snow_plain.proofs.Failing.{fails_or_adds}
 use Rattle.snow_plain.proofs.Grown.{has_block-reverse}
 use Rattle.snow_tree.specs.Held.{Entry, Held, blocks_in, children_of, inserted, place_in, set_load}
 use Rattle.snow_tree.proofs.Listed.{children_push, no_children}
+use Rattle.snow_plain.proofs.Kept.{has_own}
+use Rattle.snow_tree.proofs.Descending.{last_off}
 use Rattle.snow_tree.proofs.Placed.{either_way}
 use Rattle.snow_topo.specs.Kept.{Contest, Kept, bare, joined, gained, counters_in, ids_in, shown, IsFit}
 use Rattle.snow_topo.specs.View.{pending_of, all_pending, view, AreFit}
@@ -67,6 +69,32 @@ elsewhere last pending at j e x g here there other =
     split_on (bytes_eq x.block.id e.block.id)
     (λ t. absurd (other (omega (arith, entry_reach last pending at e g here, entry_reach last pending j x g there, ap (reach (blocks_in pending)) (same_id x.block.id e.block.id t)))))
     (λ t. t)
+
+-- where the parent of the last entry's block stands
+pub parent_of_last : (pending : List (Entry Kept)) (child : Header) (o : Option (Entry Kept)) (r : Option ℕ) → option_map (λ e. e.block) o ≡ Some child
+    → IfSome o (λ e. r ≡ place_in pending e.block.parent) → r ≡ place_in pending child.parent
+parent_of_last pending child None r is found = absurd (none-some child is)
+parent_of_last pending child (Some e) r is found = let same : e.block ≡ child = cc in found ∙ ap (λ (b : Header). place_in pending b.parent) same
+
+-- a block that has a place is pending
+placed_on : (pending : List (Entry Kept)) (id : List ℕ) (at : ℕ) → place_in pending id ≡ Some at → has_block (blocks_in pending) id ≡ true
+placed_on pending id at h =
+    let found = placed pending id at h in
+    let bs = blocks_in pending in
+    let within : at < length bs = omega (arith, slice_get_within pending at found.0 found.1, length-map pending (λ x. x.block)) in
+    subst (λ q. has_block bs q ≡ true) (ap (λ (b : Header). b.id) (block_there pending at found.0 found.1) ∙ found.2) (has_own bs at found.0.block within)
+
+-- so it isn't the last accepted one
+pub placed_away : (last : List ℕ) (pending : List (Entry Kept)) (id : List ℕ) (at : ℕ) → IsGrown last (reverse (blocks_in pending)) → place_in pending id ≡ Some at
+    → bytes_eq last id ≡ false
+placed_away last pending id at g h =
+    split_on (bytes_eq last id)
+    (λ t. clash (has_block (blocks_in pending) id) (placed_on pending id at h) (ap (has_block (blocks_in pending)) (sym (same_id last id t)) ∙ last_off last (blocks_in pending) g))
+    (λ t. t)
+
+-- a block on the board that isn't pending is the last accepted one
+pub is_last : (last : List ℕ) (blocks : List Header) (id : List ℕ) → is_on last blocks id ≡ true → has_block blocks id ≡ false → bytes_eq last id ≡ true
+is_last last blocks id on off = split_on (bytes_eq last id) (λ t. t) (λ t. clash (is_on last blocks id) on (ap (λ b. b || has_block blocks id) t ∙ off))
 
 -- ---- the write
 

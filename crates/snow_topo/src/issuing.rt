@@ -1,4 +1,5 @@
-ghost use Rattle.std.specs.Prelude.{◌≡◌, ℕ, true, false, IfSome, OnOk, OnErr, slice_get};
+ghost use Rattle.std.specs.Prelude.{◌≡◌, ◌-◌, ℕ, true, false, Some, IfSome, OnOk, OnErr, length, slice_get};
+ghost use Rattle.std.specs.Option.{option_map};
 ghost use Rattle.snow_plain.specs.Board.{issued};
 ghost use Rattle.snow_plain.specs.Grown.{is_on};
 ghost use Rattle.snow_tree.specs.Held.{blocks_in, inserted, taken_back, with_load};
@@ -29,7 +30,8 @@ fn add_at<R: Rule>(
     }
 }
 
-// A block was issued: its parent has one child more. After want of memory all is as before.
+// A block was issued, and is the last pending one: its parent has one child more. No identifier is looked up
+// for that. After want of memory all is as before.
 fn add_below<R: Rule>(
     alloc: Global,
     params: &Params,
@@ -37,17 +39,17 @@ fn add_below<R: Rule>(
     tree: &mut Tree<Load<R>>,
     child: &Header,
 ) -> Result<(), AllocError>
+    requires issued { option_map (λ e. e.block) (slice_get (tree.old).pending (length (tree.old).pending - 1)) ≡ Some child.now }
+    requires follows { is_on (tree.old).last (blocks_in (tree.old).pending) (child.now).parent ≡ true }
     ensures root { OnOk result (root.new ≡ gained_by params.now child.now (tree.old).last root.old) }
     ensures tree { OnOk result (tree.new ≡ all_gained params.now child.now tree.old) }
     ensures root_stays { OnErr result (root.new ≡ root.old) }
     ensures tree_stays { OnErr result (tree.new ≡ tree.old) }
 {
-    if tree.last() == child.parent {
-        return root.add(alloc, params, &child.id);
-    }
-    match tree.place_of(&child.parent) {
+    let _last = tree.last();
+    match tree.parent_place(tree.len().saturating_sub(1)) {
         Some(at) => add_at(alloc, params, tree, at, &child.id),
-        None => Ok(()),
+        None => root.add(alloc, params, &child.id),
     }
 }
 

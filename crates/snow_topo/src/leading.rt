@@ -15,6 +15,7 @@ use snow_flake::{Params, Rule};
 use snow_tree::Tree;
 
 /// What is kept of a block on the board.
+#[inline(always)]
 pub(crate) fn kept_of<'a, R: Rule>(
     root: &'a Load<R>,
     tree: &'a Tree<Load<R>>,
