@@ -323,6 +323,7 @@ fn likely_place<T>(slots: &[Slot<T>], place: u64) -> usize {
 }
 
 // The same, wherever it stands.
+#[inline(never)]
 fn search_place<T>(slots: &[Slot<T>], place: u64) -> usize
     requires { AllPairs (λ s t. s.place < t.place) slots.now }
     ensures { result ≡ position_or_len (λ s. s.place == place) slots.now }
@@ -355,8 +356,21 @@ fn wake_one<T>(slots: &mut [Slot<T>], windows: &mut Windows, place: u64)
     }
 }
 
-// Forgets what is remembered of the items with these places.
+// Forgets what is remembered of the items with these places. Mostly there are none.
 fn wake_all<T>(slots: &mut [Slot<T>], windows: &mut Windows, places: &[u64])
+    requires rising { AllPairs (λ s t. s.place < t.place) slots.old }
+    requires within { AreWithin (map seat_of slots.old) windows.old }
+    ensures slots { slots.new ≡ map (woken_at places.now) slots.old }
+    ensures within { AreWithin (map seat_of slots.new) windows.new }
+{
+    if !places.is_empty() {
+        wake_each(slots, windows, places);
+    }
+}
+
+// The same, one after the other.
+#[inline(never)]
+fn wake_each<T>(slots: &mut [Slot<T>], windows: &mut Windows, places: &[u64])
     requires rising { AllPairs (λ s t. s.place < t.place) slots.old }
     requires within { AreWithin (map seat_of slots.old) windows.old }
     ensures slots { slots.new ≡ map (woken_at places.now) slots.old }

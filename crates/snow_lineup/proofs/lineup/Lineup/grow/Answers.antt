@@ -1,4 +1,4 @@
-use Rattle.std.proofs.Common.{◌≡◌, ℕ, false, List, [], All, bytes_eq, map, length, subst, arith}
+use Rattle.std.proofs.Common.{◌≡◌, false, List, All, bytes_eq, map, length, subst, arith}
 use Rattle.std.proofs.lemmas.Grind.{common_steps}
 use Rattle.std.proofs.lemmas.List.{map_push}
 use Rattle.snow_lineup.specs.declared.lineup.Slot.{Slot}
