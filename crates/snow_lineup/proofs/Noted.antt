@@ -1,7 +1,9 @@
 -- Lemmas on rows: the places of each key.
-use Rattle.std.proofs.Common.{◌≡◌, ℕ, ◌==◌, Bool, true, false, not, ◌||◌, cond, List, [], ◌∷◌, ◌++◌, refl, sym, ap, ◌∙◌}
+use Rattle.std.proofs.Common.{◌≡◌, ℕ, ◌==◌, Bool, true, false, not, ◌||◌, cond, List, [], ◌∷◌, ◌++◌, Option, Some, refl, sym, ap, ◌∙◌}
+use Rattle.std.specs.Option.{option_to_list}
 use Rattle.std.specs.Str.{bytes_eq}
 use Rattle.std.proofs.lemmas.Bool.{ne_eqb, eqb-true, false_from_ne_true}
+use Rattle.std.proofs.lemmas.List.{append_assoc}
 use Rattle.std.proofs.lemmas.List.Folds.{list_any-append}
 use Rattle.std.proofs.lemmas.Slice.Eq.{bytes_eq-Decides}
 use Rattle.snow_lineup.specs.Index.{has_place, left_by}
@@ -52,3 +54,12 @@ none_left (p ∷ row) place other h =
       | true ↦ λ k. rest (p == other) k
       | false ↦ λ k. part (p == other) k
     ] h
+
+-- what was the last place of a row stands before the one that came
+pub row_extended : (b : Bool) (before row : List ℕ) (old mid : Option ℕ) (last place : ℕ) → (b ≡ true → Some last ≡ old) → mid ≡ cond b (Some place) old
+    → row ≡ cond b (before ++ last ∷ option_to_list mid) (before ++ option_to_list mid)
+    → row ≡ cond b ((before ++ option_to_list old) ++ place ∷ []) (before ++ option_to_list old)
+row_extended true before row old mid last place was came is =
+    is ∙ ap (λ o. before ++ last ∷ option_to_list o) came ∙ sym (append_assoc before (last ∷ []) (place ∷ []))
+    ∙ ap (λ o. (before ++ option_to_list o) ++ place ∷ []) (was refl)
+row_extended false before row old mid last place was came is = is ∙ ap (λ o. before ++ option_to_list o) came

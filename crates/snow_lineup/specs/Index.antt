@@ -1,18 +1,28 @@
 -- The index of a lineup: at which places the items of a key stand.
-use Rattle.std.specs.Prelude.{◌≡◌, ℕ, ◌<◌, ◌≤◌, Bool, true, false, ◌==◌, List, [], filter, not, All, unwrap_or, bytes_eq, if◌then◌else◌}
+use Rattle.std.specs.Prelude.{◌≡◌, ℕ, ◌<◌, ◌≤◌, Bool, true, false, ◌==◌, List, [], ◌++◌, filter, not, All, unwrap_or, bytes_eq, if◌then◌else◌}
 use Rattle.std.specs.List.{list_any, AllPairs}
+use Rattle.std.specs.HashMap as hash
+use Rattle.std.specs.HashMap.{HashMap}
+use Rattle.std.specs.declared.hash.BuildHasherDefault.{BuildHasherDefault}
+use Rattle.std.specs.declared.hash.FoldHasher.{FoldHasher}
+use Rattle.std.specs.Option.{option_to_list}
 use Rattle.snow_map.specs.Entries.{value_of}
+use Rattle.snow_lineup.specs.declared.rows.Places.{Places}
 use Rattle.snow_lineup.specs.declared.lineup.Slot.{Slot}
 use Rattle.snow_lineup.specs.declared.marks.Mark.{Mark}
 use Rattle.snow_lineup.specs.declared.marks.Mark.TheVariants.{New}
 
--- the rows of a lineup: places by key
+-- the rows of a lineup: places by key, the last one of each apart
 abbrev pub RowMap : Type 0
-RowMap = List (List ℕ × List ℕ)
+RowMap = Places
 
--- the places of the items of a key
+-- the places of the items of a key but the last one
+abbrev pub row_before : HashMap (List ℕ) (List ℕ) (BuildHasherDefault FoldHasher) → List ℕ → List ℕ
+row_before before key = unwrap_or (hash.get bytes_eq before key) []
+
+-- all of them
 abbrev pub row_of : RowMap → List ℕ → List ℕ
-row_of rows key = unwrap_or (value_of rows key) []
+row_of rows key = row_before rows.before key ++ option_to_list (value_of rows.last key)
 
 abbrev pub has_place : ℕ → List ℕ → Bool
 has_place place row = list_any (λ p. p == place) row

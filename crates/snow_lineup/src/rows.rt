@@ -1,113 +1,84 @@
 ghost use Rattle.std.specs.Prelude.{◌≡◌, ◌==◌, ℕ, List, [], ◌∷◌, ◌++◌, true, not, Some, IsSome, IfOk, OnOk, OnErr, bytes_eq, if◌then◌else◌};
 ghost use Rattle.std.specs.Bool.{OnTrue};
 ghost use Rattle.std.specs.Option.{option_to_list};
-ghost use Rattle.snow_lineup.specs.Index.{row_of, left_by};
+ghost use Rattle.snow_lineup.specs.Index.{row_of, row_before, left_by};
 ghost use Rattle.snow_map.specs.Entries.{value_of};
 
 use snow_base::Id;
 use snow_map::IdMap;
 use std::alloc::{AllocError, Global};
+use std::collections::HashMap;
+use std::collections::hash_map::Entry;
 use std::marker::Model;
 
 // Seats of the index. At most 4,096 items wait, so that at most every second seat is taken.
 const SEATS: usize = 8_192;
 
-/// Places, in the order in which they came. The last one stands apart, so that a row of one place
-/// takes no memory.
+/// Places of a key, in the order in which they came.
 #[derive(Drop)]
 pub(crate) struct Row {
-    before: Vec<u64>,
-    last: Option<u64>,
+    places: Vec<u64>,
 }
 
 impl Model for Row {
-    ghost use Rattle.std.specs.Prelude.{ℕ, List, ◌++◌};
-    ghost use Rattle.std.specs.Option.{option_to_list};
+    ghost use Rattle.std.specs.Prelude.{ℕ, List};
 
     ghost Value = { List ℕ };
 
-    ghost view = { λ a. a.before.items ++ option_to_list a.last };
+    ghost view = { λ a. a.places.items };
 }
 
 impl Row {
-    // No place.
-    fn empty(alloc: Global) -> Row
-        ensures { result ≡ [] }
-    {
-        Row {
-            before: Vec::new(alloc),
-            last: None,
-        }
-    }
-
     // One place.
-    fn of(alloc: Global, place: u64) -> Row
-        ensures { result ≡ place ∷ [] }
+    fn of(alloc: Global, place: u64) -> Result<Row, AllocError>
+        ensures { IfOk result (λ row. row ≡ place ∷ []) }
     {
-        Row {
-            before: Vec::new(alloc),
-            last: Some(place),
-        }
+        let mut places = Vec::new(alloc);
+        places.push(place)?;
+        Ok(Row { places })
     }
 
     fn push(&mut self, place: u64) -> Result<(), AllocError>
         ensures ok { OnOk result (self.new ≡ self.old ++ place ∷ []) }
         ensures err { OnErr result (self.new ≡ self.old) }
     {
-        if let Some(last) = self.last {
-            self.before.push(last)?;
-        }
-        self.last = Some(place);
+        self.places.push(place)?;
         Ok(())
     }
 
-    // Whether none is left where this place goes.
-    fn is_left_empty(&self, place: u64) -> bool
-        ensures { OnTrue result (left_by place self.now ≡ []) }
+    // A place goes. Whether none is left.
+    fn leave(&mut self, place: u64) -> bool
+        ensures left { self.new ≡ left_by place self.old }
+        ensures none { OnTrue result (self.new ≡ []) }
     {
-        self.before.is_empty() && other_than(self.last, place).is_none()
-    }
-
-    // A place goes.
-    fn leave(&mut self, place: u64)
-        ensures { self.new ≡ left_by place self.old }
-    {
-        self.before.retain(
+        self.places.retain(
             |other: &u64| -> bool
                 ensures { result ≡ not (other.now == place) }
             { *other != place },
         );
-        self.last = other_than(self.last, place);
+        self.places.is_empty()
     }
 
-    // All but the last place, and the last one.
-    fn parts(&self) -> (&[u64], Option<u64>)
-        ensures { result.0.now ++ option_to_list result.1 ≡ self.now }
+    fn as_slice(&self) -> &[u64]
+        ensures { result.now ≡ self.now }
     {
-        (self.before.as_slice(), self.last)
+        self.places.as_slice()
     }
 }
 
-// A place, unless it is the other one.
-fn other_than(place: Option<u64>, other: u64) -> Option<u64>
-    ensures { option_to_list result ≡ left_by other (option_to_list place) }
-{
-    match place {
-        Some(place) => {
-            if place == other {
-                return None;
-            }
-            Some(place)
-        }
-        None => None,
-    }
+/// The places of each key. The last one of a key stands apart from those that came before it, since
+/// mostly there are none.
+#[derive(Drop)]
+pub(crate) struct Places {
+    pub(crate) last: IdMap<u64, SEATS>,
+    pub(crate) before: HashMap<Id, Row>,
 }
 
 /// At which places the items of each key stand.
 #[derive(Drop)]
 pub(crate) struct Rows {
     alloc: Global,
-    pub(crate) rows: IdMap<Row, SEATS>,
+    pub(crate) rows: Places,
 }
 
 impl Rows {
@@ -117,37 +88,45 @@ impl Rows {
     {
         Rows {
             alloc,
-            rows: IdMap::new(alloc),
+            rows: Places {
+                last: IdMap::new(alloc),
+                before: HashMap::new(alloc),
+            },
         }
     }
 
-    /// One place more of a key, and whether it is the first one. After want of memory the rows are as
-    /// before.
+    /// One place more of a key, and whether it is plain that it is the first one. After want of memory
+    /// the rows are as before.
     #[inline(never)]
     pub(crate) fn note(&mut self, key: Id, place: u64) -> Result<bool, AllocError>
         ensures ok { OnOk result ((q : List ℕ) → row_of self.new.rows q ≡ (if bytes_eq key q then row_of self.old.rows q ++ place ∷ [] else row_of self.old.rows q)) }
         ensures first { IfOk result (λ first. first ≡ true → row_of self.old.rows key ≡ []) }
         ensures err { OnErr result ((q : List ℕ) → row_of self.new.rows q ≡ row_of self.old.rows q) }
     {
-        match self.rows.insert(key, Row::of(self.alloc, place))? {
-            None => Ok(true),
-            Some(row) => {
-                self.extend(key, row, place)?;
+        match self.rows.last.insert(key, place)? {
+            None => Ok(self.rows.before.is_empty()),
+            Some(last) => {
+                self.extend(key, last)?;
                 Ok(false)
             }
         }
     }
 
-    // A row stands at its key again, with one place more, and without it after want of memory.
+    // What was the last place of a key comes to those before it. After want of memory it is the last one
+    // again.
     #[inline(never)]
-    fn extend(&mut self, key: Id, mut row: Row, place: u64) -> Result<(), AllocError>
-        requires { IsSome (value_of self.old.rows key) }
-        ensures ok { OnOk result ((q : List ℕ) → row_of self.new.rows q ≡ (if bytes_eq key q then row ++ place ∷ [] else row_of self.old.rows q)) }
-        ensures err { OnErr result ((q : List ℕ) → row_of self.new.rows q ≡ (if bytes_eq key q then row else row_of self.old.rows q)) }
+    fn extend(&mut self, key: Id, last: u64) -> Result<(), AllocError>
+        requires { IsSome (value_of self.old.rows.last key) }
+        ensures ok { OnOk result ((q : List ℕ) → row_of self.new.rows q ≡ (if bytes_eq key q then row_before self.old.rows.before q ++ last ∷ option_to_list (value_of self.old.rows.last q) else row_of self.old.rows q)) }
+        ensures err { OnErr result ((q : List ℕ) → row_of self.new.rows q ≡ (if bytes_eq key q then row_before self.old.rows.before q ++ last ∷ [] else row_of self.old.rows q)) }
     {
-        let pushed = row.push(place);
-        let _ = self.rows.insert(key, row);
-        pushed
+        match append(&mut self.rows.before, self.alloc, key, last) {
+            Ok(()) => Ok(()),
+            Err(error) => {
+                let _ = self.rows.last.insert(key, last);
+                Err(error)
+            }
+        }
     }
 
     /// A place of a key goes. It takes no memory where the key has one.
@@ -155,37 +134,94 @@ impl Rows {
     pub(crate) fn leave(&mut self, key: &Id, place: u64)
         ensures { (q : List ℕ) → row_of self.new.rows q ≡ (if bytes_eq key.now q then left_by place (row_of self.old.rows q) else row_of self.old.rows q) }
     {
-        match self.rows.get(key) {
-            Some(row) => {
-                if row.is_left_empty(place) {
-                    let _ = self.rows.remove(key);
-                } else {
-                    self.thin(key, place);
-                }
-            }
-            None => (),
+        if self.rows.before.is_empty() {
+            leave_last(&mut self.rows.last, key, place);
+        } else {
+            self.thin(key, place);
         }
     }
 
-    // The same where a place is left in the row of the key.
+    // The same where a key has several places.
     #[inline(never)]
     fn thin(&mut self, key: &Id, place: u64)
-        requires { IsSome (value_of self.old.rows key.now) }
         ensures { (q : List ℕ) → row_of self.new.rows q ≡ (if bytes_eq key.now q then left_by place (row_of self.old.rows q) else row_of self.old.rows q) }
     {
-        if let Ok(Some(mut row)) = self.rows.insert(*key, Row::empty(self.alloc)) {
-            row.leave(place);
-            let _ = self.rows.insert(*key, row);
-        }
+        leave_before(&mut self.rows.before, key, place);
+        leave_last(&mut self.rows.last, key, place);
     }
 
     /// The places of a key: all but the last, and the last.
     pub(crate) fn of(&self, key: &Id) -> (&[u64], Option<u64>)
         ensures { result.0.now ++ option_to_list result.1 ≡ row_of self.now.rows key.now }
     {
-        match self.rows.get(key) {
-            Some(row) => row.parts(),
-            None => (&[], None),
+        (
+            places_before(&self.rows.before, key),
+            self.rows.last.get(key).copied(),
+        )
+    }
+}
+
+// The places of a key but the last.
+fn places_before<'a>(before: &'a HashMap<Id, Row>, key: &Id) -> &'a [u64]
+    ensures { result.now ≡ row_before before.now key.now }
+{
+    if before.is_empty() {
+        return &[];
+    }
+    row_at(before, key)
+}
+
+// The same where a key has several places.
+#[inline(never)]
+fn row_at<'a>(before: &'a HashMap<Id, Row>, key: &Id) -> &'a [u64]
+    ensures { result.now ≡ row_before before.now key.now }
+{
+    match before.get(key) {
+        Some(row) => row.as_slice(),
+        None => &[],
+    }
+}
+
+// One place more of a key. After want of memory the rows are as before.
+fn append(
+    before: &mut HashMap<Id, Row>,
+    alloc: Global,
+    key: Id,
+    place: u64,
+) -> Result<(), AllocError>
+    ensures ok { OnOk result ((q : List ℕ) → row_before before.new q ≡ (if bytes_eq key q then row_before before.old q ++ place ∷ [] else row_before before.old q)) }
+    ensures err { OnErr result ((q : List ℕ) → row_before before.new q ≡ row_before before.old q) }
+{
+    match before.entry(key)? {
+        Entry::Occupied(entry) => entry.into_mut().push(place),
+        Entry::Vacant(entry) => {
+            let row = Row::of(alloc, place)?;
+            let _ = entry.insert(row);
+            Ok(())
+        }
+    }
+}
+
+// A place of a key goes, unless it is the last one. It takes no memory where the key has one.
+fn leave_before(before: &mut HashMap<Id, Row>, key: &Id, place: u64)
+    ensures { (q : List ℕ) → row_before before.new q ≡ (if bytes_eq key.now q then left_by place (row_before before.old q) else row_before before.old q) }
+{
+    let is_empty = match before.get_mut(key) {
+        Some(row) => row.leave(place),
+        None => false,
+    };
+    if is_empty {
+        let _ = before.remove(key);
+    }
+}
+
+// A place of a key goes, if it is the last one.
+fn leave_last(last: &mut IdMap<u64, SEATS>, key: &Id, place: u64)
+    ensures { (q : List ℕ) → option_to_list (value_of last.new q) ≡ (if bytes_eq key.now q then left_by place (option_to_list (value_of last.old q)) else option_to_list (value_of last.old q)) }
+{
+    if let Some(there) = last.get(key) {
+        if *there == place {
+            let _ = last.remove(key);
         }
     }
 }
