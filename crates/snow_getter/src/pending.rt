@@ -9,8 +9,8 @@ use snow_map::IdMap;
 use std::alloc::{AllocError, Global};
 use std::marker::Model;
 
-// Seats of the pending blocks. There are at most 4,096 of these, so that at most every second seat is taken.
-const SEATS: usize = 8_192;
+// Seats of the pending blocks. There are at most 4,096 of these, so that at most every fourth seat is taken.
+const SEATS: usize = 16_384;
 
 /// A pending block, with the number of its issue.
 #[derive(Drop)]

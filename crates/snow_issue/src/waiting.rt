@@ -12,9 +12,9 @@ use snow_map::IdMap;
 use std::alloc::{AllocError, Global};
 use std::marker::Model;
 
-// Seats of the index by identifier. At most 4,096 blocks wait, so that at most every second seat is
+// Seats of the index by identifier. At most 4,096 blocks wait, so that at most every fourth seat is
 // taken.
-const SEATS: usize = 8_192;
+const SEATS: usize = 16_384;
 
 impl Keyed for Waiting {
     ghost key = { λ w. w.header.parent };

@@ -218,7 +218,9 @@ pub fn put_three<A: Part, B: Part, C: Part, G: Gather, K: Sink>(
     put_two(out, b, c, sink)
 }
 
-/// Appends one part and then three.
+/// Appends one part and then three. It is put in place, so that the word of a line is known where it is
+/// written.
+#[inline(always)]
 pub fn put_four<A: Part, B: Part, C: Part, D: Part, G: Gather, K: Sink>(
     out: &mut G,
     a: &A,

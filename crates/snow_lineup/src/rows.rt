@@ -11,8 +11,8 @@ use std::collections::HashMap;
 use std::collections::hash_map::Entry;
 use std::marker::Model;
 
-// Seats of the index. At most 4,096 items wait, so that at most every second seat is taken.
-const SEATS: usize = 8_192;
+// Seats of the index. At most 4,096 items wait, so that at most every fourth seat is taken.
+const SEATS: usize = 16_384;
 
 /// Places of a key, in the order in which they came.
 #[derive(Drop)]
