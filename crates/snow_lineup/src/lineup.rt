@@ -203,8 +203,8 @@ fn refused<T: Drop>(_item: T) -> Result<bool, AllocError>
     Err(AllocError)
 }
 
-// Puts an item with its place behind the others and into the row of its key, and tells whether it is
-// the first one there. After want of memory all is as before.
+// Puts an item behind the others and its place into the row of its key, and tells where it is plain
+// that none stands there yet. After want of memory all is as before.
 fn put<T: Keyed>(
     slots: &mut Vec<Slot<T>>,
     rows: &mut Rows,
