@@ -161,7 +161,7 @@ fn take_first<T: Drop>(nodes: &mut Nodes<T>, children: &mut Children, load: &mut
     ensures rest { nodes.new.entries ≡ drop 1 nodes.old.entries }
 {
     let height = hand_over(nodes, children, load);
-    drop(nodes.pop_first());
+    let _gone = nodes.pop_first();
     height
 }
 
