@@ -6,7 +6,7 @@ ghost use Rattle.snow_wire.specs.declared.event.Event.TheVariants as event;
 use crate::event::Event;
 use crate::field::{read_counted, read_ids};
 use crate::reader::{Reader, id_of};
-use crate::sent::{read_block, read_vote};
+use crate::sent::{read_block, read_timeout, read_vote};
 use crate::skip::Skip;
 use snow_base::{Bytes, NodeId};
 use std::alloc::Global;
@@ -48,18 +48,20 @@ pub(crate) fn chits(behind: &[u8]) -> Result<Event, Skip>
 }
 
 #[inline(never)]
-#[tactic(auto, unfolding(crate::specs::Reading::sender_at))]
 pub(crate) fn timeout(behind: &[u8]) -> Result<Event, Skip>
     ensures { Gives result (to_end (sender_at event.Timeout behind.now)) }
 {
     let mut reader = Reader::new(behind);
-    let node = reader.node()?;
-    let request = reader.u32()?;
-    reader.end()?;
-    Ok(Event::Timeout {
-        node: NodeId::from_bytes(*node),
-        request,
-    })
+    match read_timeout(&mut reader) {
+        Ok(timeout) => {
+            reader.end()?;
+            Ok(Event::Timeout {
+                node: NodeId::from_bytes(*timeout.node),
+                request: timeout.request,
+            })
+        }
+        Err(skip) => Err(skip),
+    }
 }
 
 #[inline(never)]

@@ -1,6 +1,6 @@
-ghost use Rattle.std.specs.Prelude.{◌≡◌, ◌≢◌, ℕ, List, [], true, false, Ok, IfSome, IfNone};
-ghost use Rattle.snow_wire.specs.Reading.{ReadsAs, TakesNoMemory, block_at, counted_at, event_of, id_at, message_at, single_at};
-ghost use Rattle.snow_wire.specs.Sent.{as_event, as_poll, as_vote};
+ghost use Rattle.std.specs.Prelude.{◌≡◌, ◌≢◌, ℕ, List, [], length, true, false, Ok, IfSome, IfNone};
+ghost use Rattle.snow_wire.specs.Reading.{ReadsAs, TakesNoMemory, block_at, counted_at, event_of, id_at, message_at, number_at, sender_at, single_at};
+ghost use Rattle.snow_wire.specs.Sent.{as_event, as_poll, as_timeout, as_vote};
 ghost use Rattle.snow_wire.specs.declared.event.Event.{Event};
 ghost use Rattle.snow_wire.specs.declared.event.Event.TheVariants as event;
 
@@ -32,8 +32,20 @@ pub struct SentVote<'a> {
     pub id: &'a [u8; 32],
 }
 
+/// A timeout that came: a peer won't reply. Its bytes still stand in the payload of its frame.
+#[derive(Clone, Copy, Debug, PartialEq, Eq)]
+pub struct SentTimeout<'a> {
+    /// The peer that won't reply.
+    pub node: &'a [u8; 20],
+    /// The number of the request that it belongs to.
+    pub request: u32,
+}
+
 /// The length of each payload that spells a vote.
 const VOTE: usize = 57;
+
+/// The length of each payload that spells a timeout.
+const TIMEOUT: usize = 25;
 
 /// The block that a payload brings, where it spells a Block: the event that `decode` gives, and no
 /// byte of the block is copied. It takes no memory. None for all other payloads.
@@ -93,19 +105,27 @@ pub fn vote_in(payload: &[u8]) -> Option<SentVote<'_>>
     ensures none { IfNone result ((node : List ℕ) (request : ℕ) (id : List ℕ)
         → event_of payload.now ≢ Ok (event.Chits node request id)) }
 {
+    match behind(payload, 5, VOTE) {
+        Some(mut reader) => only_vote(&mut reader),
+        None => None,
+    }
+}
+
+/// What stands behind this tag, where a payload begins with it and is this long.
+#[inline(always)]
+fn behind(payload: &[u8], tag: u8, long: usize) -> Option<Reader<'_>>
+    ensures found { IfSome result (λ rest. number_at 1 payload.now ≡ Ok (tag, rest)) }
+    ensures none { IfNone result ((rest : List ℕ) → length payload.now ≡ long → number_at 1 payload.now ≢ Ok (tag, rest)) }
+{
     // (one test here makes all those of the fields needless)
-    if payload.len() != VOTE {
+    if payload.len() != long {
         return None;
     }
     let mut reader = Reader::new(payload);
-    let Ok(tag) = reader.u8() else {
+    let Ok(first) = reader.u8() else {
         return None;
     };
-    if tag == 5 {
-        only_vote(&mut reader)
-    } else {
-        None
-    }
+    if first == tag { Some(reader) } else { None }
 }
 
 /// The fields of a Chits behind its tag, where no bytes are behind them.
@@ -136,6 +156,48 @@ pub(crate) fn read_vote<'a>(reader: &mut Reader<'a>) -> Result<SentVote<'a>, Ski
     let request = reader.u32()?;
     let id = reader.id()?;
     Ok(SentVote { node, request, id })
+}
+
+/// The timeout that a payload brings, where it spells a Timeout: the event that `decode` gives, and no byte
+/// is copied. It takes no memory. None for all other payloads.
+#[inline(always)]
+pub fn timeout_in(payload: &[u8]) -> Option<SentTimeout<'_>>
+    ensures found { IfSome result (λ timeout. event_of payload.now ≡ Ok (as_timeout timeout)) }
+    ensures none { IfNone result ((node : List ℕ) (request : ℕ) → event_of payload.now ≢ Ok (event.Timeout node request)) }
+{
+    match behind(payload, 6, TIMEOUT) {
+        Some(mut reader) => only_timeout(&mut reader),
+        None => None,
+    }
+}
+
+/// The fields of a Timeout behind its tag, where no bytes are behind them.
+#[inline(always)]
+fn only_timeout<'a>(reader: &mut Reader<'a>) -> Option<SentTimeout<'a>>
+    ensures found { IfSome result (λ timeout. sender_at event.Timeout reader.old ≡ Ok (as_timeout timeout, [])) }
+    ensures none { IfNone result ((e : Event) → sender_at event.Timeout reader.old ≢ Ok (e, [])) }
+{
+    match read_timeout(reader) {
+        Ok(timeout) => {
+            if reader.rest_len() > 0 {
+                return None;
+            }
+            Some(timeout)
+        }
+        Err(_) => None,
+    }
+}
+
+/// The fields of a Timeout behind its tag.
+#[tactic(auto, unfolding(crate::specs::Reading::sender_at))]
+#[inline(always)]
+pub(crate) fn read_timeout<'a>(reader: &mut Reader<'a>) -> Result<SentTimeout<'a>, Skip>
+    ensures read { ReadsAs (λ timeout. as_timeout timeout) result reader.new (sender_at event.Timeout reader.old) }
+    ensures memory { TakesNoMemory result }
+{
+    let node = reader.node()?;
+    let request = reader.u32()?;
+    Ok(SentTimeout { node, request })
 }
 
 /// Puts the votes of a Poll into a list, in place of what it held, where a payload spells one: then it is

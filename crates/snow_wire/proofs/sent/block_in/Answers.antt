@@ -2,7 +2,7 @@
 use Rattle.std.proofs.Common.{◌≡◌, ℕ, List, Ok, ap, sym, subst, ◌∙◌, arith}
 use Rattle.snow_wire.specs.Reading.{Refuses, number_at}
 use Rattle.snow_wire.proofs.Fields.{ok_is}
-use Rattle.snow_wire.proofs.Events.{block_absent, block_found, block_lost, refused_apart}
+use Rattle.snow_wire.proofs.Standing.{block_absent, block_found, block_lost, refused_apart}
 use Rattle.snow_wire.proofs.sent.block_in.Goals as goal
 
 pub returns-in_default-clause-none : goal.returns-in_default-clause-none

@@ -1,31 +1,13 @@
 -- The vote behind its tag, or none.
-use Rattle.std.proofs.Common.{◌≡◌, ℕ, List, Ok, ap, sym, subst, ◌∙◌, arith}
-use Rattle.snow_wire.specs.Reading.{Refuses, number_at}
-use Rattle.snow_wire.proofs.Fields.{ok_is}
-use Rattle.snow_wire.proofs.Events.{vote_absent, vote_found, vote_lost, vote_wrong, refused_apart}
+use Rattle.std.proofs.Common.{arith}
+use Rattle.snow_wire.proofs.Standing.{vote_absent, vote_found, vote_lost}
 use Rattle.snow_wire.proofs.sent.vote_in.Goals as goal
 
-pub returns-then-payload-ne-VOTE-clause-none : goal.returns-then-payload-ne-VOTE-clause-none
-returns-then-payload-ne-VOTE-clause-none c = vote_wrong c.args.payload.now (λ i. omega (arith, c.type_inv.payload i)) c.if-payload-ne-VOTE.true
+pub returns-in-Some-clause-found : goal.returns-in-Some-clause-found
+returns-in-Some-clause-found c = vote_found c.args.payload.now c.in-Some.reader c.only_vote.result c.in-Some.ensures.found c.only_vote.ensures.found
 
-pub returns-in_default-clause-none : goal.returns-in_default-clause-none
-returns-in_default-clause-none c =
-    let refuses = subst (λ (b : List ℕ). Refuses c.in_default.field-0 (number_at 1 b)) c.new-reader.ensures c.in_default.ensures.read in
-    vote_absent c.args.payload.now (λ i. omega (arith, c.type_inv.payload i))
-    (λ rest. refused_apart c.in_default.field-0 (number_at 1 c.args.payload.now) (5, rest) refuses c.in_default.ensures.memory)
+pub returns-in-Some-clause-none : goal.returns-in-Some-clause-none
+returns-in-Some-clause-none c = vote_lost c.args.payload.now c.in-Some.reader c.only_vote.result c.in-Some.ensures.found c.only_vote.ensures.none
 
-pub returns-then-tag-eq5-clause-found : goal.returns-then-tag-eq5-clause-found
-returns-then-tag-eq5-clause-found c =
-    let tag : number_at 1 c.new-reader.result ≡ Ok (5, c.u8.new.self) = c.in-Ok.ensures.read ∙ ap (λ (t : ℕ). Ok (t, c.u8.new.self)) c.if-tag-eq5.true in
-    vote_found c.args.payload.now c.u8.new.self c.only_vote.result (ap (number_at 1) (sym c.new-reader.ensures) ∙ tag) c.only_vote.ensures.found
-
-pub returns-then-tag-eq5-clause-none : goal.returns-then-tag-eq5-clause-none
-returns-then-tag-eq5-clause-none c =
-    let tag : number_at 1 c.new-reader.result ≡ Ok (5, c.u8.new.self) = c.in-Ok.ensures.read ∙ ap (λ (t : ℕ). Ok (t, c.u8.new.self)) c.if-tag-eq5.true in
-    vote_lost c.args.payload.now c.u8.new.self c.only_vote.result (ap (number_at 1) (sym c.new-reader.ensures) ∙ tag) c.only_vote.ensures.none
-
-pub returns-else-tag-eq5-clause-none : goal.returns-else-tag-eq5-clause-none
-returns-else-tag-eq5-clause-none c =
-    vote_absent c.args.payload.now (λ i. omega (arith, c.type_inv.payload i)) (λ rest e.
-    let same = ok_is (c.in-Ok.tag, c.u8.new.self) (5, rest) (sym c.in-Ok.ensures.read ∙ ap (number_at 1) c.new-reader.ensures ∙ e) in
-    c.if-tag-eq5.false (ap (λ (p : ℕ × List ℕ). p.0) same))
+pub returns-in-None-clause-none : goal.returns-in-None-clause-none
+returns-in-None-clause-none c = vote_absent c.args.payload.now (λ i. omega (arith, c.type_inv.payload i)) c.in-None.ensures.none

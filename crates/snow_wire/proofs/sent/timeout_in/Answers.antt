@@ -1,0 +1,13 @@
+-- The timeout behind its tag, or none.
+use Rattle.std.proofs.Common.{arith}
+use Rattle.snow_wire.proofs.Standing.{timeout_absent, timeout_found, timeout_lost}
+use Rattle.snow_wire.proofs.sent.timeout_in.Goals as goal
+
+pub returns-in-Some-clause-found : goal.returns-in-Some-clause-found
+returns-in-Some-clause-found c = timeout_found c.args.payload.now c.in-Some.reader c.only_timeout.result c.in-Some.ensures.found c.only_timeout.ensures.found
+
+pub returns-in-Some-clause-none : goal.returns-in-Some-clause-none
+returns-in-Some-clause-none c = timeout_lost c.args.payload.now c.in-Some.reader c.only_timeout.result c.in-Some.ensures.found c.only_timeout.ensures.none
+
+pub returns-in-None-clause-none : goal.returns-in-None-clause-none
+returns-in-None-clause-none c = timeout_absent c.args.payload.now (λ i. omega (arith, c.type_inv.payload i)) c.in-None.ensures.none
