@@ -156,7 +156,7 @@ impl<C: Chain, B: Board> Running<C, B> {
             Event::Chits { node, request, id } => {
                 self.hear_vote(*request, node.as_bytes(), id.as_bytes(), log)
             }
-            Event::Timeout { node, request } => self.lapse(*request, node, log),
+            Event::Timeout { node, request } => self.lapse(*request, node.as_bytes(), log),
             Event::Words { words } => self.take_words(frame, words, log),
             Event::Validators { nodes } => self.take_nodes(frame, nodes, log),
             Event::Frontier { .. } | Event::Accepted { .. } | Event::Ancestors { .. } => Ok(()),
@@ -228,8 +228,18 @@ impl<C: Chain, B: Board> Running<C, B> {
         self.round(log)
     }
 
+    /// A peer won't answer, whose bytes may stand where they came. It stands apart, as the vote does.
+    #[inline(never)]
+    pub fn lapse(&mut self, number: u32, peer: &[u8; 20], log: &mut Lines) -> Result<(), Halt>
+        ensures answer { Turns result self.new (then_comes (hearing.timed_out C.rules B.answer self.old number peer.now) (model.rounded B.answer)).1 }
+        ensures lines { Tells result log.old log.new (then_comes (hearing.timed_out C.rules B.answer self.old number peer.now) (model.rounded B.answer)).0 }
+    {
+        let peer = NodeId::from_bytes(*peer);
+        self.take_timeout(number, &peer, log)
+    }
+
     /// A peer won't answer, and the event ends.
-    fn lapse(&mut self, number: u32, peer: &NodeId, log: &mut Lines) -> Result<(), Halt>
+    fn take_timeout(&mut self, number: u32, peer: &NodeId, log: &mut Lines) -> Result<(), Halt>
         ensures answer { Turns result self.new (then_comes (hearing.timed_out C.rules B.answer self.old number peer.now) (model.rounded B.answer)).1 }
         ensures lines { Tells result log.old log.new (then_comes (hearing.timed_out C.rules B.answer self.old number peer.now) (model.rounded B.answer)).0 }
     {

@@ -4,7 +4,7 @@ use Rattle.snow_node.specs.Running.{Running}
 use Rattle.snow_node.specs.Hearing.{timed_out}
 use Rattle.snow_node.specs.Turning.{rounded}
 use Rattle.snow_node.proofs.Sequel.{lines_first, lines_then}
-use Rattle.snow_node.proofs.running.Running.lapse.Goals as goal
+use Rattle.snow_node.proofs.running.Running.take_timeout.Goals as goal
 
 pub returns-in_err-time_out-clause-lines : goal.returns-in_err-time_out-clause-lines
 returns-in_err-time_out-clause-lines g c =
