@@ -2,7 +2,7 @@ ghost use Rattle.std.specs.Prelude.{◌≡◌, true, IfOk};
 ghost use Rattle.snow_flake.specs.Parameters.{AreGood, checked};
 ghost use Rattle.snow_sample.specs.Roster.{first_fault};
 ghost use Rattle.snow_chain.specs.Chain.{begun};
-ghost use Rattle.snow_wire.specs.Sent.{as_event, as_vote};
+ghost use Rattle.snow_wire.specs.Sent.{as_event, as_timeout, as_vote};
 ghost use Rattle.snow_wire.specs.declared.event.Event.TheVariants as event;
 ghost use Rattle.snow_engine.specs.Node as model;
 ghost use Rattle.snow_node.specs.Stepping.{Starts, Tells, Turns};
@@ -13,14 +13,14 @@ use crate::booting::Booting;
 use crate::deciding::Deciding;
 use crate::stage::{Node, Stage};
 use crate::task::Task;
-use snow_base::{Ids, Numbers};
+use snow_base::{Ids, NodeId, Numbers};
 use snow_chain::Chain;
 use snow_flake::{ParamFault, Params};
 use snow_lines::{Line, Lines, SkipKind};
 use snow_node::{EngineStop, Halt, Running, roster_of, write};
 use snow_plain::Board;
 use snow_sample::{Draws, Roster, Words};
-use snow_wire::{Event, SentBlock, SentVote, Start};
+use snow_wire::{Event, SentBlock, SentTimeout, SentVote, Start};
 use std::alloc::Global;
 use std::marker::Model;
 use std::mem;
@@ -170,6 +170,34 @@ impl<C: Chain, B: Board> Engine<C, B> {
         }
     }
 
+    /// The same at a Timeout whose bytes stand where they came. It counts for who bootstraps too, where a
+    /// stop may have more to tell than a word.
+    #[inline(always)]
+    #[tactic(auto, unfolding(crate::specs::Deciding::decides_on, snow_node::specs::Turning::runs_on), using(crate::proofs::Staged::turned, crate::proofs::Staged::stopped, crate::proofs::Staged::told))]
+    pub(crate) fn lapse(
+        &mut self,
+        frame: u64,
+        timeout: &SentTimeout,
+        log: &mut Lines,
+        kept: &mut EngineStop,
+    ) -> Result<(), Halt>
+        ensures answer { Steps (stops_by kept.new result) self.new (model.step C.rules B.answer self.old frame (as_timeout timeout.now)).1 }
+        ensures lines { Logs (stops_by kept.new result) log.old log.new (model.step C.rules B.answer self.old frame (as_timeout timeout.now)).0 }
+    {
+        match &mut self.stage {
+            Stage::Deciding(_) => write(
+                Line::Skip {
+                    frame,
+                    kind: SkipKind::Task,
+                },
+                log,
+            ),
+            Stage::Booting(_) => self.give_up(frame, timeout, log, kept),
+            Stage::Running(node) => node.lapse(timeout.request, timeout.node, log),
+            Stage::Ended => Ok(()),
+        }
+    }
+
     /// The same at a Poll whose votes stand in a list that is used again.
     #[inline(always)]
     #[tactic(auto, unfolding(crate::specs::Deciding::decides_on, crate::specs::Catching::boots_on, snow_node::specs::Turning::runs_on), using(crate::proofs::Staged::turned))]
@@ -198,6 +226,29 @@ impl<C: Chain, B: Board> Engine<C, B> {
             Stage::Running(node) => node.take_back(draws),
             _ => drop(draws),
         }
+    }
+
+    /// A timeout for a node that bootstraps. It stands apart, so that no other node's pays for the room of
+    /// an event.
+    #[inline(never)]
+    fn give_up(
+        &mut self,
+        frame: u64,
+        timeout: &SentTimeout,
+        log: &mut Lines,
+        kept: &mut EngineStop,
+    ) -> Result<(), Halt>
+        requires { model.is_booting self.old ≡ true }
+        ensures answer { Steps (stops_by kept.new result) self.new (model.step C.rules B.answer self.old frame (as_timeout timeout.now)).1 }
+        ensures lines { Logs (stops_by kept.new result) log.old log.new (model.step C.rules B.answer self.old frame (as_timeout timeout.now)).0 }
+    {
+        let event = Event::Timeout {
+            node: NodeId::from_bytes(*timeout.node),
+            request: timeout.request,
+        };
+        let caught_up = self.catch_up(frame, &event, log, kept);
+        drop(event);
+        caught_up
     }
 
     /// One event for a node that bootstraps. At a stop, which is kept aside, the node is let go. It

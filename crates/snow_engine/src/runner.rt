@@ -15,7 +15,7 @@ use snow_lines::{Line, Lines, SkipKind};
 use snow_node::{EngineStop, Halt};
 use snow_plain::Board;
 use snow_sample::Draws;
-use snow_wire::{Event, Skip, block_in, decode, poll_in, vote_in};
+use snow_wire::{Event, Skip, block_in, decode, poll_in, timeout_in, vote_in};
 use std::alloc::{AllocError, Global};
 
 /// An engine, once a Start came, and the lines of the frame that was worked last.
@@ -244,11 +244,35 @@ fn follow_block<C: Chain, B: Board>(
             Ok(()) => Ok(None),
             Err(halt) => Err(halt),
         },
+        None => follow_timeout(alloc, engine, frame, payload, ids, log, kept),
+    }
+}
+
+/// The same for a payload that is no block either. A timeout is looked at where its bytes stand.
+#[tactic(auto, using(crate::proofs::Stopped::stands_in, crate::proofs::Stopped::logs_in))]
+fn follow_timeout<C: Chain, B: Board>(
+    alloc: Global,
+    engine: &mut Engine<C, B>,
+    frame: u64,
+    payload: &[u8],
+    ids: &mut Ids,
+    log: &mut Lines,
+    kept: &mut EngineStop,
+) -> Result<Option<SkipKind>, Halt>
+    requires { log.old ≡ [] }
+    ensures stand { Stands (ends_in frame (stops_by kept.new result)) (Some engine.new) (model.followed C.rules B.answer engine.old frame (model.read payload.now)).1 }
+    ensures lines { LogsFrame (ends_in frame (stops_by kept.new result)) [] (told frame result log.new) (model.followed C.rules B.answer engine.old frame (model.read payload.now)).0 }
+{
+    match timeout_in(payload) {
+        Some(timeout) => match engine.lapse(frame, &timeout, log, kept) {
+            Ok(()) => Ok(None),
+            Err(halt) => Err(halt),
+        },
         None => follow_poll(alloc, engine, frame, payload, ids, log, kept),
     }
 }
 
-/// The same for a payload that is no block either. The votes of a poll are put into room that is kept.
+/// The same for a payload that is no timeout either. The votes of a poll are put into room that is kept.
 #[tactic(auto, using(snow_node::proofs::Logs::logs_nothing, crate::proofs::Staged::stopped, crate::proofs::Staged::told, crate::proofs::Stopped::stands_in, crate::proofs::Stopped::logs_in))]
 fn follow_poll<C: Chain, B: Board>(
     alloc: Global,
