@@ -1,6 +1,8 @@
 use crate::tools::is;
 use snow_base::{Ids, NodeId};
-use snow_wire::{Decoder, Event, Skip, Start, TooLong, block_in, decode, encode, poll_in, vote_in};
+use snow_wire::{
+    Decoder, Event, Skip, Start, TooLong, block_in, decode, encode, poll_in, timeout_in, vote_in,
+};
 use std::alloc::{AllocError, Global};
 use std::test::Fail;
 
@@ -337,6 +339,27 @@ fn a_vote_is_found_where_it_stands(rt: HostRuntime) {
     assert!(rt; vote_in(&[5; 57]).is_some());
     for payload in [&[], &CHITS[..56], &[5; 58], &FRONTIER, &ASK_BLOCK] {
         assert!(rt; vote_in(payload).is_none());
+    }
+}
+
+/// Whether a payload has the timeout of `TIMEOUT`.
+fn has_timeout(payload: &[u8]) -> bool {
+    match timeout_in(payload) {
+        Some(timeout) => {
+            let node = timeout.node;
+            is(node, &TIMEOUT[1..21]) && timeout.request == 4_294_967_294
+        }
+        None => false,
+    }
+}
+
+/// A timeout too short, one with a byte behind it, and another event of its length.
+#[test]
+fn a_timeout_is_found_where_it_stands(rt: HostRuntime) {
+    assert!(rt; has_timeout(&TIMEOUT));
+    assert!(rt; timeout_in(&[6; 25]).is_some());
+    for payload in [&[], &TIMEOUT[..24], &[6; 26], &ASK_QUERY, &CHITS] {
+        assert!(rt; timeout_in(payload).is_none());
     }
 }
 
