@@ -1,14 +1,13 @@
 -- Each event in range is read back from its spelling, and what is read is spelled so.
-use Rattle.std.proofs.Common.{◌≡◌, ◌≢◌, ℕ, zero, suc, ◌+◌, ◌%◌, ◌^◌, ◌<◌, ◌≤◌, cond, ◌==◌, get_or, List, [], ◌∷◌, ◌++◌, length, All, Option, Some, None, Result, Ok, Err, Bor, refl, sym, ap, subst, ◌∙◌, append-nil, arith}
-use Rattle.std.specs.Prelude.{IfOk, IfSome, IfNone}
+use Rattle.std.proofs.Common.{◌≡◌, ℕ, zero, suc, ◌+◌, ◌%◌, ◌^◌, ◌<◌, ◌≤◌, cond, ◌==◌, get_or, List, [], ◌∷◌, ◌++◌, length, All, Result, Ok, Err, refl, sym, ap, subst, ◌∙◌, append-nil, arith}
+use Rattle.std.specs.Prelude.{IfOk}
 use Rattle.std.proofs.lemmas.Bool.{eqb-true}
-use Rattle.std.proofs.lemmas.List.{length-append, nil_from_length}
+use Rattle.std.proofs.lemmas.List.{nil_from_length}
 use Rattle.snow_wire.specs.declared.event.Event.{Event}
 use Rattle.snow_wire.specs.declared.event.Event.TheVariants as event
 use Rattle.snow_wire.specs.declared.skip.Skip.{Skip}
-use Rattle.snow_wire.specs.declared.skip.Skip.TheVariants as skip
-use Rattle.snow_wire.specs.Spelling.{number, sender, spelling, start, sized, counted, weighed, IsId, IsWeighed, IsBlock, IsInRange}
-use Rattle.snow_wire.specs.Reading.{Extra, Fault, Gives, IsBytes, Read, Refuses, TakesNoMemory, ◌>>=◌, number_at, id_at, block_at, sized_at, counted_at, weighed_at, single_at, sender_at, message_at, unknown_at, tags, fields_at, event_of}
+use Rattle.snow_wire.specs.Spelling.{number, spelling, start, sized, counted, weighed, IsId, IsWeighed, IsBlock, IsInRange}
+use Rattle.snow_wire.specs.Reading.{Extra, Gives, IsBytes, Read, number_at, id_at, block_at, sized_at, counted_at, weighed_at, single_at, sender_at, message_at, unknown_at, tags, fields_at, event_of}
 use Rattle.snow_wire.proofs.Numbers.{width1, width8}
 use Rattle.snow_wire.proofs.Fields.{IsField, by_step, again_then, bind_ok, when, bytes_field, number_field, sized_field, counted_field, weighed_field}
 use Rattle.snow_wire.proofs.Tagged.{IsTagged, single_tagged, single_again, sender_tagged, sender_again, message_tagged, message_again}
