@@ -1,7 +1,7 @@
 use snow_base::Id;
 use std::alloc::{AllocError, Global};
 use std::marker::Model;
-use std::{mem, slice};
+use std::slice;
 
 /// The children of a block, in order of issue.
 ///
@@ -77,19 +77,6 @@ impl Children {
             self.several.clear();
         } else {
             self.several = several;
-        }
-    }
-
-    /// The same with those of another, which are left open then.
-    #[inline(always)]
-    pub(crate) fn take_over(&mut self, other: &mut Children)
-        ensures { self.new ≡ other.old }
-    {
-        self.alone = other.alone;
-        if other.several.is_empty() {
-            self.several.clear();
-        } else {
-            mem::swap(&mut self.several, &mut other.several);
         }
     }
 

@@ -11,7 +11,6 @@ use crate::children::Children;
 use crate::looking::place_of;
 use crate::node::{Node, Nodes};
 use snow_base::Id;
-use std::mem;
 
 // How far behind its parent a block of the first node stands once that is the last: 0 where the parent is the
 // child. Nothing where the block leaves: its parent is the last accepted block, or left before.
@@ -128,9 +127,7 @@ fn with_id<T>(id: &Id, node: Option<Node<T>>) -> Option<(Id, Node<T>)>
 }
 
 // Takes out the child, and all that don't descend from it, which are told in order of issue. Each node goes
-// past once: to the end, where it notes anew how far before it its parent stands, or out. This stands apart
-// from the usual case, which makes no room ready for it then.
-#[inline(never)]
+// past once: to the end, where it notes anew how far before it its parent stands, or out.
 fn sweep<T: Drop>(
     nodes: &mut Nodes<T>,
     last: &Id,
@@ -153,36 +150,9 @@ fn sweep<T: Drop>(
     with_id(child, taken)
 }
 
-// The only child, which was issued first, leaves: what is known of its children and its load take the place of
-// others where those stand, so that the entry isn't moved. The answer is its height.
-#[inline(always)]
-fn take_first<T: Drop>(nodes: &mut Nodes<T>, children: &mut Children, load: &mut T) -> u64
-    ensures node { (e : List ℕ × Node T) (later : List (List ℕ × Node T)) → nodes.old.entries ≡ e ∷ later → IsTakenOver e.1 children.new load.new result }
-    ensures rest { nodes.new.entries ≡ drop 1 nodes.old.entries }
-{
-    let height = hand_over(nodes, children, load);
-    let _gone = nodes.pop_first();
-    height
-}
-
-// What the first node has of its children and its load is given for others. The answer is its height.
-#[inline(always)]
-fn hand_over<T>(nodes: &mut Nodes<T>, children: &mut Children, load: &mut T) -> u64
-    ensures node { (e : List ℕ × Node T) (later : List (List ℕ × Node T)) → nodes.old.entries ≡ e ∷ later → IsTakenOver e.1 children.new load.new result }
-    ensures rest { drop 1 nodes.new.entries ≡ drop 1 nodes.old.entries }
-{
-    match nodes.get_index_mut(0) {
-        Some(node) => {
-            children.take_over(&mut node.children);
-            mem::swap(load, &mut node.load);
-            node.height
-        }
-        None => 0,
-    }
-}
-
 // What a node that went out has of its children and its load takes the place of others. The answer is its
-// height.
+// height. It is put in place, so that the node goes from where it stood straight to where it is wanted.
+#[inline(always)]
 fn unpack<T: Drop>(taken: Option<(Id, Node<T>)>, children: &mut Children, load: &mut T) -> u64
     ensures { IfSome taken (λ e. IsTakenOver e.1 children.new load.new result) }
 {
@@ -192,6 +162,38 @@ fn unpack<T: Drop>(taken: Option<(Id, Node<T>)>, children: &mut Children, load: 
     children.replace(node.children);
     *load = node.load;
     node.height
+}
+
+// The only child, which was issued first, leaves.
+#[inline(always)]
+fn take_first<T: Drop>(nodes: &mut Nodes<T>, children: &mut Children, load: &mut T) -> u64
+    ensures node { (e : List ℕ × Node T) (later : List (List ℕ × Node T)) → nodes.old.entries ≡ e ∷ later → IsTakenOver e.1 children.new load.new result }
+    ensures rest { nodes.new.entries ≡ drop 1 nodes.old.entries }
+{
+    unpack(nodes.pop_first(), children, load)
+}
+
+// A child that isn't the only one leaves, with all that don't descend from it. This stands apart from the usual
+// case, which makes no room ready for a node then.
+#[inline(never)]
+fn take_among<T: Drop>(
+    nodes: &mut Nodes<T>,
+    last: &Id,
+    child: &Id,
+    rejected: &mut Vec<Id>,
+    children: &mut Children,
+    load: &mut T,
+) -> u64
+    requires grown { IsGrown last.now (reverse (blocks_of nodes.old.entries)) }
+    requires child { option_map (λ n. n.parent) (lookup (bytes_eq child.now) nodes.old.entries) ≡ Some last.now }
+    requires room { vec_len rejected.old + length nodes.old.entries ≤ vec_capacity rejected.old }
+    ensures node { IfSome (lookup (bytes_eq child.now) nodes.old.entries) (λ n. IsTakenOver n children.new load.new result) }
+    ensures left { map unplaced nodes.new.entries ≡ map unplaced (left nodes.old.entries child.now) }
+    ensures placed { ArePlaced (edges_of nodes.new.entries) }
+    ensures told { rejected.new.items ≡ rejected.old.items ++ outsiders nodes.old.entries child.now }
+    ensures room { vec_capacity rejected.new ≡ vec_capacity rejected.old }
+{
+    unpack(sweep(nodes, last, child, rejected), children, load)
 }
 
 /// Takes the child out that is accepted, and all that don't descend from it. These are told in order
@@ -223,5 +225,5 @@ pub(crate) fn take_accepted<T: Drop>(
     if is_alone {
         return take_first(nodes, children, load);
     }
-    unpack(sweep(nodes, last, child, rejected), children, load)
+    take_among(nodes, last, child, rejected, children, load)
 }
