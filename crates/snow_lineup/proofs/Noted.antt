@@ -1,5 +1,5 @@
 -- Lemmas on rows: the places of each key.
-use Rattle.std.proofs.Common.{◌≡◌, ℕ, ◌==◌, Bool, true, false, not, ◌||◌, cond, List, [], ◌∷◌, ◌++◌, Option, Some, refl, sym, ap, ◌∙◌}
+use Rattle.std.proofs.Common.{◌≡◌, ℕ, ◌==◌, Bool, true, false, not, ◌||◌, cond, List, [], ◌∷◌, ◌++◌, Option, Some, None, refl, sym, ap, ◌∙◌}
 use Rattle.std.specs.Option.{option_to_list}
 use Rattle.std.specs.Str.{bytes_eq}
 use Rattle.std.proofs.lemmas.Bool.{ne_eqb, eqb-true, false_from_ne_true}
@@ -63,3 +63,17 @@ row_extended true before row old mid last place was came is =
     is ∙ ap (λ o. before ++ last ∷ option_to_list o) came ∙ sym (append_assoc before (last ∷ []) (place ∷ []))
     ∙ ap (λ o. (before ++ option_to_list o) ++ place ∷ []) (was refl)
 row_extended false before row old mid last place was came is = is ∙ ap (λ o. before ++ option_to_list o) came
+
+-- a row of one place has none left when it goes
+pub one_left : (place : ℕ) (old : Option ℕ) → has_place place (option_to_list old) ≡ true → [] ≡ left_by place (option_to_list old)
+one_left place None h = absurd cc
+one_left place (Some p) h =
+    let Goal : Bool → Type 0 = λ b. (b || false) ≡ true → [] ≡ cond (not b) (p ∷ []) [] in
+    elim (p == place) as Goal [ true ↦ λ _. refl | false ↦ λ k. absurd cc ] h
+
+pub row_taken : (b : Bool) (before : List ℕ) (old now : Option ℕ) (place : ℕ) → before ≡ [] → (b ≡ true → has_place place (before ++ option_to_list old) ≡ true) → now ≡ cond b None old
+    → before ++ option_to_list now ≡ cond b (left_by place (before ++ option_to_list old)) (before ++ option_to_list old)
+row_taken true before old now place none has is =
+    ap (λ l. l ++ option_to_list now) none ∙ ap option_to_list is ∙ one_left place old (ap (λ (l : List ℕ). has_place place (l ++ option_to_list old)) (sym none) ∙ has refl)
+    ∙ ap (λ l. left_by place (l ++ option_to_list old)) (sym none)
+row_taken false before old now place none has is = ap (λ o. before ++ option_to_list o) is

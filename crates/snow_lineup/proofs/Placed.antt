@@ -1,7 +1,8 @@
 -- Lemmas on places: the slot of a place, and what is forgotten of the slots of a row.
-use Rattle.std.proofs.Common.{◌≡◌, ℕ, ◌<◌, ◌≤◌, ◌==◌, ltb, Bool, true, false, not, ◌&&◌, ◌||◌, cond, List, [], ◌∷◌, ◌++◌, map, filter, length, get_or, set, All, refl, sym, ap, ◌∙◌, subst, arith, ⊎_elim}
+use Rattle.std.proofs.Common.{◌≡◌, ℕ, ◌<◌, ◌≤◌, ◌==◌, ltb, Bool, true, false, not, ◌&&◌, ◌||◌, cond, List, [], ◌∷◌, ◌++◌, map, filter, length, get_or, set, All, Option, Some, None, append-nil, refl, sym, ap, ◌∙◌, subst, arith, ⊎_elim}
 use Rattle.std.specs.List.{AllPairs, position_or_len}
 use Rattle.std.specs.List.Sorted.{IsPartitionedBy, IsPartitionPoint}
+use Rattle.std.specs.Option.{option_to_list}
 use Rattle.std.specs.Str.{bytes_eq}
 use Rattle.std.proofs.lemmas.Bool.{cases_eq, cases_lt, eq-eqb, ne_eqb, eqb-true, eqb-false, ltb-true, ltb-false, lt-ltb, both_ways}
 use Rattle.std.proofs.lemmas.List.{length-set, get_or-set_same, get_or-set_other, get_or-map, length-map, get_or_default, same_lists}
@@ -97,6 +98,15 @@ woken_one slots place at s rises first there is =
     get_or-set_other slots at k (reset s) d other ∙ other_place place (get_or slots k d) apart ∙ sym right)
     (cases_eq k at))
 
+-- the same where the one with the place is the first
+pub woken_at_first : {T : Type 0} (slots new : List (Slot T)) (place at : ℕ) → Rises slots → at ≡ position_or_len (λ s. s.place == place) slots
+    → at < length slots → ((d : Slot T) → new ≡ set slots at (reset (get_or slots at d))) → new ≡ map (woken_at (place ∷ [])) slots
+woken_at_first [] new place at rises first there is = absurd (omega (arith, there))
+woken_at_first {T} (x ∷ slots) new place at rises first there is =
+    let all : List (Slot T) = x ∷ slots in
+    let s = get_or all at x in
+    is x ∙ woken_one all place at s rises first there (get_or_default all at x s there)
+
 pub woken_none : {T : Type 0} (slots : List (Slot T)) (place at : ℕ) → at ≡ position_or_len (λ s. s.place == place) slots → length slots ≤ at
     → slots ≡ map (woken_at (place ∷ [])) slots
 woken_none slots place at first past =
@@ -126,6 +136,12 @@ woken_more {T} (s ∷ slots) places place =
 pub woken_by_none : {T : Type 0} (slots : List (Slot T)) → slots ≡ map (woken_at []) slots
 woken_by_none [] = refl
 woken_by_none (s ∷ slots) = ap (λ l. s ∷ l) (woken_by_none slots)
+
+-- the slots of a row whose last place stands apart
+pub woken_row : {T : Type 0} (slots : List (Slot T)) (before : List ℕ) (last : Option ℕ)
+    → map (woken_at (option_to_list last)) (map (woken_at before) slots) ≡ map (woken_at (before ++ option_to_list last)) slots
+woken_row slots before (Some place) = woken_more slots before place
+woken_row slots before None = sym (woken_by_none (map (woken_at before) slots)) ∙ ap (λ (l : List ℕ). map (woken_at l) slots) (sym (append-nil before))
 
 pub rises_woken : {T : Type 0} (slots : List (Slot T)) (places : List ℕ) → Rises slots → Rises (map (woken_at places) slots)
 rises_woken [] places rises i j d less within = absurd (omega (arith, within))

@@ -12,7 +12,7 @@ use Rattle.std.proofs.lemmas.List.Quantifiers.{all_pairs_push, all_pairs_remove}
 use Rattle.snow_lineup.specs.declared.lineup.Slot.{Slot}
 use Rattle.snow_lineup.specs.declared.marks.Mark.{Mark}
 use Rattle.snow_lineup.specs.Index.{RowMap, row_of, has_place, left_by, tag_of, seat_of, IsIndexed, KeepsRows}
-use Rattle.snow_lineup.proofs.Noted.{id_turned, has_pushed, has_left, none_left}
+use Rattle.snow_lineup.proofs.Noted.{id_itself, id_turned, has_pushed, has_left, none_left}
 use Rattle.snow_lineup.proofs.Booleans.{or_false, or_true}
 
 abbrev pub Tag : Type 0
@@ -115,6 +115,13 @@ indexed_nothing rows empty = record {
   found = λ k d within id. absurd (omega (arith, within));
   unused = λ id place high. ap (has_place place) (empty id);
 }
+
+-- the place of an item stands in the row of its key
+pub has_own_place : {T : Type 0} (key : T → List ℕ) (slots : List (Slot T)) (rows : RowMap) (next at : ℕ) (s : Slot T) → at < length slots → s ≡ get_or slots at s
+    → IsIndexed (map (tag_of key) slots) rows next → has_place s.place (row_of rows (key s.item)) ≡ true
+has_own_place {T} key slots rows next at s there is indexed =
+    let found = All_unmap (λ (t : Tag). (q : List ℕ) → has_place t.0 (row_of rows q) ≡ bytes_eq q t.1) (tag_of key) slots indexed.found in
+    ap (λ (s : Slot T). has_place s.place (row_of rows (key s.item))) is ∙ found at s there (key (get_or slots at s).item) ∙ id_itself (key (get_or slots at s).item)
 
 -- ---- one item less
 

@@ -6,6 +6,7 @@ mod leaving;
 mod lineup;
 mod marks;
 mod rows;
+mod waking;
 mod window;
 
 pub use leaving::Grouped;

@@ -170,20 +170,9 @@ impl<T: Keyed> Lineup<T> {
         ensures rest { self.new ≡ remove self.old at }
     {
         let slot = &self.slots[at];
-        self.rows.leave(&slot.item.key(), slot.place);
+        self.rows.take(&slot.item.key(), slot.place);
         self.windows = self.windows.without(at);
         take_slot(&mut self.slots, at)
-    }
-
-    /// Forgets what is remembered of the items that wait for a block.
-    pub fn wake(&mut self, key: &Id)
-        ensures { self.new ≡ map (woken T.key key.now) self.old }
-    {
-        if self.slots.is_empty() {
-            return;
-        }
-        let places = self.rows.of(key);
-        wake_row(&mut self.slots, &mut self.windows, places.0, places.1);
     }
 
     /// Forgets what is remembered of any item.
@@ -296,101 +285,5 @@ fn forget_all<T>(slots: &mut [Slot<T>])
 {
     for slot in slots.iter_mut() {
         slot.mark = Mark::New;
-    }
-}
-
-// The slot with this place, or how many slots there are. It is looked for first where it stands if
-// no place before it is missing.
-fn find_place<T>(slots: &[Slot<T>], place: u64) -> usize
-    requires { AllPairs (λ s t. s.place < t.place) slots.now }
-    ensures { result ≡ position_or_len (λ s. s.place == place) slots.now }
-{
-    let likely = likely_place(slots, place);
-    if let Some(slot) = slots.get(likely) {
-        if slot.place == place {
-            return likely;
-        }
-    }
-    search_place(slots, place)
-}
-
-// How far a place is behind that of the first slot.
-fn likely_place<T>(slots: &[Slot<T>], place: u64) -> usize {
-    match slots.first() {
-        Some(slot) => place.wrapping_sub(slot.place) as usize,
-        None => 0,
-    }
-}
-
-// The same, wherever it stands.
-#[inline(never)]
-fn search_place<T>(slots: &[Slot<T>], place: u64) -> usize
-    requires { AllPairs (λ s t. s.place < t.place) slots.now }
-    ensures { result ≡ position_or_len (λ s. s.place == place) slots.now }
-{
-    let at = slots.partition_point(
-        |slot: &Slot<T>| -> bool
-            ensures { result ≡ nat_lt slot.now.place place }
-        { slot.place < place },
-    );
-    if at >= slots.len() {
-        return slots.len();
-    }
-    if slots[at].place == place {
-        return at;
-    }
-    slots.len()
-}
-
-// Forgets what is remembered of the item with this place, if there is one.
-fn wake_one<T>(slots: &mut [Slot<T>], windows: &mut Windows, place: u64)
-    requires rising { AllPairs (λ s t. s.place < t.place) slots.old }
-    requires within { AreWithin (map seat_of slots.old) windows.old }
-    ensures slots { slots.new ≡ map (woken_at (place ∷ [])) slots.old }
-    ensures within { AreWithin (map seat_of slots.new) windows.new }
-{
-    let at = find_place(slots, place);
-    if at < slots.len() {
-        slots[at].mark = Mark::New;
-        *windows = windows.marked(at, Mark::New);
-    }
-}
-
-// Forgets what is remembered of the items with these places. Mostly there are none.
-fn wake_all<T>(slots: &mut [Slot<T>], windows: &mut Windows, places: &[u64])
-    requires rising { AllPairs (λ s t. s.place < t.place) slots.old }
-    requires within { AreWithin (map seat_of slots.old) windows.old }
-    ensures slots { slots.new ≡ map (woken_at places.now) slots.old }
-    ensures within { AreWithin (map seat_of slots.new) windows.new }
-{
-    if !places.is_empty() {
-        wake_each(slots, windows, places);
-    }
-}
-
-// The same, one after the other.
-#[inline(never)]
-fn wake_each<T>(slots: &mut [Slot<T>], windows: &mut Windows, places: &[u64])
-    requires rising { AllPairs (λ s t. s.place < t.place) slots.old }
-    requires within { AreWithin (map seat_of slots.old) windows.old }
-    ensures slots { slots.new ≡ map (woken_at places.now) slots.old }
-    ensures within { AreWithin (map seat_of slots.new) windows.new }
-{
-    for place in places {
-        wake_one(slots, windows, *place);
-    }
-}
-
-// The same where the last of the places stands apart.
-fn wake_row<T>(slots: &mut [Slot<T>], windows: &mut Windows, before: &[u64], last: Option<u64>)
-    requires rising { AllPairs (λ s t. s.place < t.place) slots.old }
-    requires within { AreWithin (map seat_of slots.old) windows.old }
-    ensures slots { slots.new ≡ map (woken_at (before.now ++ option_to_list last)) slots.old }
-    ensures within { AreWithin (map seat_of slots.new) windows.new }
-{
-    wake_all(slots, windows, before);
-    match last {
-        Some(place) => wake_one(slots, windows, place),
-        None => (),
     }
 }

@@ -1,7 +1,7 @@
 ghost use Rattle.std.specs.Prelude.{◌≡◌, ◌==◌, ℕ, List, [], ◌∷◌, ◌++◌, true, not, Some, IsSome, IfOk, OnOk, OnErr, bytes_eq, if◌then◌else◌};
 ghost use Rattle.std.specs.Bool.{OnTrue};
 ghost use Rattle.std.specs.Option.{option_to_list};
-ghost use Rattle.snow_lineup.specs.Index.{row_of, row_before, left_by};
+ghost use Rattle.snow_lineup.specs.Index.{row_of, row_before, has_place, left_by};
 ghost use Rattle.snow_map.specs.Entries.{value_of};
 
 use snow_base::Id;
@@ -129,8 +129,21 @@ impl Rows {
         }
     }
 
-    /// A place of a key goes. It takes no memory where the key has one.
+    /// A place that a key has goes. It takes no memory where the key has one.
     #[inline(never)]
+    pub(crate) fn take(&mut self, key: &Id, place: u64)
+        requires { has_place place (row_of self.old.rows key.now) ≡ true }
+        ensures { (q : List ℕ) → row_of self.new.rows q ≡ (if bytes_eq key.now q then left_by place (row_of self.old.rows q) else row_of self.old.rows q) }
+    {
+        if self.are_single() {
+            // No key has several places: it is the last one.
+            let _ = self.rows.last.remove(key);
+        } else {
+            self.thin(key, place);
+        }
+    }
+
+    /// A place of a key goes, if the key has it. It takes no memory where the key has one.
     pub(crate) fn leave(&mut self, key: &Id, place: u64)
         ensures { (q : List ℕ) → row_of self.new.rows q ≡ (if bytes_eq key.now q then left_by place (row_of self.old.rows q) else row_of self.old.rows q) }
     {
@@ -150,29 +163,29 @@ impl Rows {
         leave_last(&mut self.rows.last, key, place);
     }
 
+    /// Whether it is plain that no key has several places.
+    pub(crate) fn are_single(&self) -> bool
+        ensures { result ≡ true → (q : List ℕ) → row_before self.now.rows.before q ≡ [] }
+    {
+        self.rows.before.is_empty()
+    }
+
+    /// The last place of a key.
+    pub(crate) fn last(&self, key: &Id) -> Option<u64>
+        ensures { row_before self.now.rows.before key.now ++ option_to_list result ≡ row_of self.now.rows key.now }
+    {
+        self.rows.last.get(key).copied()
+    }
+
     /// The places of a key: all but the last, and the last.
     pub(crate) fn of(&self, key: &Id) -> (&[u64], Option<u64>)
         ensures { result.0.now ++ option_to_list result.1 ≡ row_of self.now.rows key.now }
     {
-        (
-            places_before(&self.rows.before, key),
-            self.rows.last.get(key).copied(),
-        )
+        (row_at(&self.rows.before, key), self.last(key))
     }
 }
 
 // The places of a key but the last.
-fn places_before<'a>(before: &'a HashMap<Id, Row>, key: &Id) -> &'a [u64]
-    ensures { result.now ≡ row_before before.now key.now }
-{
-    if before.is_empty() {
-        return &[];
-    }
-    row_at(before, key)
-}
-
-// The same where a key has several places.
-#[inline(never)]
 fn row_at<'a>(before: &'a HashMap<Id, Row>, key: &Id) -> &'a [u64]
     ensures { result.now ≡ row_before before.now key.now }
 {

@@ -4,7 +4,7 @@ use Rattle.std.proofs.lemmas.List.{get_or_default}
 use Rattle.std.proofs.lemmas.List.Sorted.{IsPartitionPoint-from_clause}
 use Rattle.snow_lineup.specs.declared.lineup.Slot.{Slot}
 use Rattle.snow_lineup.proofs.Placed.{partitioned, found_place, missing_behind}
-use Rattle.snow_lineup.proofs.lineup.search_place.Goals as goal
+use Rattle.snow_lineup.proofs.waking.search_place.Goals as goal
 
 pub returns-then-at-slots : goal.returns-then-at-slots
 returns-then-at-slots g c =

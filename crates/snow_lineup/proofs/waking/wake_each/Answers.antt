@@ -2,7 +2,7 @@ use Rattle.std.proofs.Common.{[], ◌∷◌, map, take, sym, ap, ◌∙◌, subs
 use Rattle.std.proofs.lemmas.List.{take_more}
 use Rattle.snow_lineup.specs.Index.{woken_at}
 use Rattle.snow_lineup.proofs.Placed.{rises_woken, woken_more, woken_by_none, Rises}
-use Rattle.snow_lineup.proofs.lineup.wake_each.Goals as goal
+use Rattle.snow_lineup.proofs.waking.wake_each.Goals as goal
 
 pub loop-place-init : goal.loop-place-init
 loop-place-init g c = (woken_by_none c.args.slots.now, c.requires.within)
