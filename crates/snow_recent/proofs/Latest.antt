@@ -1,7 +1,7 @@
 -- What the index finds is the latest entry.
-use Rattle.std.proofs.Common.{◌≡◌, ℕ, zero, suc, ◌<◌, ◌≤◌, Bool, List, [], ◌∷◌, length, map, get_or, replicate, reverse, Some, None, find, refl, sym, ap, ◌∙◌, arith, inl, inr, subst}
+use Rattle.std.proofs.Common.{◌≡◌, ℕ, zero, suc, ◌<◌, ◌≤◌, Bool, List, [], ◌∷◌, length, map, get_or, replicate, reverse, Option, Some, None, find, refl, sym, ap, ◌∙◌, arith, inl, inr, subst}
 use Rattle.std.specs.List.{slice_get}
-use Rattle.std.specs.Option.{option_or, option_map_or}
+use Rattle.std.specs.Option.{option_or, option_and_then, option_map_or}
 use Rattle.std.specs.Str.{bytes_eq}
 use Rattle.std.proofs.lemmas.Bool.{cond-true, cond-false, false_from_ne_true}
 use Rattle.std.proofs.lemmas.List.{reverse-append, get_or-map, length-map}
@@ -151,3 +151,10 @@ missing_number name entries first head numbers key index other none =
     (λ i h same.
     let within : i < length numbers = omega (arith, length-map numbers (place_of first)) in
     none i 0 within (ap (id_at name entries) (sym (get_or-map (place_of first) numbers i 0 0 within)) ∙ same))
+
+-- what is filed of an identifier that isn't the head of its seat is its latest entry
+pub filed_latest : {T : Type 0} (name : T → List ℕ) (entries : List T) (first : ℕ) (head : ℕ → ℕ) (numbers : List ℕ) (key : List ℕ) (n : Option ℕ) (entry : Option T)
+    → IsIndex name entries head (map (place_of first) numbers) → (id_at name entries (head (seat_of key)) ≡ key → ⊥)
+    → IsLatest (id_of name entries first) numbers key n → entry ≡ option_and_then (λ n. slice_get entries (place_of first n)) n → entry ≡ latest name entries key
+filed_latest name entries first head numbers key None entry index other filed is = is ∙ sym (missing_number name entries first head numbers key index other filed)
+filed_latest name entries first head numbers key (Some n) entry index other filed is = is ∙ sym (found_number name entries first head numbers key n index other filed)

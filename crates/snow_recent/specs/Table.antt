@@ -1,10 +1,10 @@
 -- The numbers of the index, cut into rows: which row an identifier belongs in, and how full the rows are.
 use Rattle.std.specs.Prelude.{◌≡◌, ℕ, zero, suc, ◌+◌, ◌-◌, ◌*◌, ◌<◌, ◌≤◌, Bool, true, List, [], ◌∷◌, ◌++◌, length, take, drop, get_or, set, All, Contains, Option, Some, None}
 use Rattle.std.specs.List.{concat, slice_get}
-use Rattle.std.specs.Option.{option_map_or}
+use Rattle.std.specs.Option.{option_and_then, option_map_or}
 use Rattle.std.specs.Ordering.{is_lt}
 use Rattle.std.specs.declared.cmp.Ordering.TheVariants.{Less, Greater}
-use Rattle.snow_recent.specs.Index.{byte_cmp}
+use Rattle.snow_recent.specs.Index.{byte_cmp, id_of, place_of}
 
 -- rows of numbers, and how many numbers there may be
 pub record Shelf : Type 0 where
@@ -25,6 +25,11 @@ pub record IsRowOf (id : ℕ → List ℕ) (rows : List (List ℕ)) (key : List 
 abbrev pub IsLatest : (ℕ → List ℕ) → List ℕ → List ℕ → Option ℕ → Type 0
 IsLatest id numbers key (Some n) = Contains numbers n × (id n ≡ key)
 IsLatest id numbers key None = All (λ n. id n ≡ key → ⊥) numbers
+
+-- the entry of an identifier's latest number among these, and none where it has none
+abbrev pub IsFiled : {T : Type 0} → (T → List ℕ) → List T → ℕ → List ℕ → List ℕ → Option T → Type 0
+IsFiled id entries first numbers key entry =
+    (n : Option ℕ) × IsLatest (id_of id entries first) numbers key n × (entry ≡ option_and_then (λ n. slice_get entries (place_of first n)) n)
 
 -- the row behind one has a number, and the two have 64 together
 abbrev pub Leads : List ℕ → List (List ℕ) → Type 0

@@ -1,8 +1,10 @@
 ghost use Rattle.std.specs.Prelude.{◌≡◌, ◌<◌, ◌≤◌, ◌^◌, ◌∷◌, ◌++◌, [], None, IfOk, length, drop};
-ghost use Rattle.std.specs.List.{last_or};
+ghost use Rattle.std.specs.List.{concat, last_or};
 ghost use Rattle.std.specs.Option.{option_copied, is_some};
 ghost use Rattle.std.specs.VecDeque.{deque_len, deque_capacity};
+ghost use Rattle.snow_recent.specs.Index.{id_of, IsRising};
 ghost use Rattle.snow_recent.specs.Recent.{with_latest, latest};
+ghost use Rattle.snow_recent.specs.Table.{IsFiled};
 
 use crate::heads::Heads;
 use crate::named::Named;
@@ -78,7 +80,8 @@ impl<T: Named, const MOST: usize> Recent<T, MOST> {
         self.entries.len()
     }
 
-    /// The latest entry of an identifier.
+    /// The latest entry of an identifier. Mostly the head of its seat tells, without a call.
+    #[inline(always)]
     pub fn latest(&self, id: &Id) -> Option<&T>
         ensures { option_copied result ≡ latest T.id self.now id.now }
     {
@@ -90,10 +93,7 @@ impl<T: Named, const MOST: usize> Recent<T, MOST> {
         if head.id() == *id {
             return Some(head);
         }
-        match self.table.latest(&self.entries, self.first, id) {
-            Some(number) => index::entry_of(&self.entries, self.first, number),
-            None => None,
-        }
+        latest_filed(&self.table, &self.entries, self.first, id)
     }
 
     /// The entry that came last.
@@ -131,5 +131,23 @@ impl<T: Named, const MOST: usize> Recent<T, MOST> {
         let number = self.first.wrapping_add(self.entries.len() as u32);
         self.entries.push_back_reserved(entry);
         self.heads.set(&id, number);
+    }
+}
+
+// The latest entry of an identifier that isn't the head of its seat. It stands apart, so that few registers
+// are kept for what the head mostly tells.
+#[inline(never)]
+fn latest_filed<'a, T: Named>(
+    table: &Table,
+    entries: &'a VecDeque<T>,
+    first: u32,
+    id: &Id,
+) -> Option<&'a T>
+    requires { IsRising (id_of T.id entries.now.items first) (concat table.now.rows) }
+    ensures { IsFiled T.id entries.now.items first (concat table.now.rows) id.now (option_copied result) }
+{
+    match table.latest(entries, first, id) {
+        Some(number) => index::entry_of(entries, first, number),
+        None => None,
     }
 }

@@ -5,7 +5,7 @@ use Rattle.std.proofs.lemmas.Slice.Eq.{bytes_eq-Decides}
 use Rattle.snow_recent.specs.Recent.{latest}
 use Rattle.snow_recent.specs.Index.{head_of, id_at, place_of, seat_of}
 use Rattle.snow_recent.proofs.Appended.{rising_before}
-use Rattle.snow_recent.proofs.Latest.{head_found, head_other, headless, found_number, missing_number}
+use Rattle.snow_recent.proofs.Latest.{head_found, head_other, headless, filed_latest}
 use Rattle.snow_recent.proofs.recent.Recent.latest.Goals as goal
 use Rattle.snow_recent.proofs.recent.Recent.latest.Goals.{Else-eq}
 
@@ -28,8 +28,8 @@ returns-then-eq g c =
     head_found g.T.Named.id entries (head_of first inside.heads) _ c.args.id.now c.in-Some.head.now c.self.invariant.index is own
     ∙ ap (λ entries. latest g.T.Named.id entries c.args.id.now) c.self.view_is
 
-pub latest-requires : goal.latest-requires
-latest-requires g c =
+pub latest_filed-requires : goal.latest_filed-requires
+latest_filed-requires g c =
     let inside = c.self.inside in
     rising_before g.T.Named.id inside.entries.items inside.first (head_of inside.first inside.heads) (concat inside.table.rows) c.self.invariant.index
 
@@ -43,21 +43,11 @@ other g c =
     head_other g.T.Named.id entries (head_of first inside.heads) c.args.id.now c.in-Some.head.now is
     (λ same. let yes : true ≡ false = sym ((bytes_eq-Decides c.id.result c.args.id.now).1 (c.id.ensures ∙ same)) ∙ sym c.eq.ensures ∙ c.if-eq.false in absurd cc)
 
-pub returns-in-Some-latest : goal.returns-in-Some-latest
-returns-in-Some-latest g c =
+pub returns : goal.returns
+returns g c =
     let inside = c.self.inside in
     let entries = inside.entries.items in
     let first = inside.first in
-    let head = head_of first inside.heads in
-    c.entry_of-in-Some-latest.ensures
-    ∙ sym (found_number g.T.Named.id entries first head (concat inside.table.rows) c.args.id.now c.in-Some-latest.number c.self.invariant.index (other g (goal.at.returns-in-Some-latest g c).Else-eq) c.in-Some-latest.ensures)
-    ∙ ap (λ entries. latest g.T.Named.id entries c.args.id.now) c.self.view_is
-
-pub returns-in-None : goal.returns-in-None
-returns-in-None g c =
-    let inside = c.self.inside in
-    let entries = inside.entries.items in
-    let first = inside.first in
-    let head = head_of first inside.heads in
-    sym (missing_number g.T.Named.id entries first head (concat inside.table.rows) c.args.id.now c.self.invariant.index (other g (goal.at.returns-in-None g c).Else-eq) c.in-None.ensures)
+    let filed = c.latest_filed.ensures in
+    filed_latest g.T.Named.id entries first (head_of first inside.heads) (concat inside.table.rows) c.args.id.now filed.0 _ c.self.invariant.index (other g (goal.at.returns g c).Else-eq) filed.1 filed.2
     ∙ ap (λ entries. latest g.T.Named.id entries c.args.id.now) c.self.view_is
