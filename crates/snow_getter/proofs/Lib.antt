@@ -1,5 +1,4 @@
 mod Chained
 pub mod Examples
 mod Ordered
-mod Permuted
 mod Seen
