@@ -1,4 +1,5 @@
 mod Chained
 pub mod Examples
 mod Ordered
+mod Permuted
 mod Seen

@@ -1,372 +1,326 @@
--- Lemmas on the places of the pending blocks, and on their numbers.
-use Rattle.std.proofs.Common.{◌≡◌, ℕ, zero, suc, ◌+◌, ◌-◌, ◌<◌, ◌≤◌, ◌^◌, Bool, true, false, not, cond, List, [], ◌∷◌, ◌++◌, find, length, get_or, drop, slice_set, Option, Some, None, refl, sym, ap, subst, ◌∙◌, arith}
+-- Lemmas on the pending blocks by identifier, and the list of them in order of issue.
+use Rattle.std.proofs.Common.{◌≡◌, ℕ, zero, suc, ◌<◌, ◌≤◌, ◌==◌, Bool, true, false, not, ltb, cond, List, [], ◌∷◌, ◌++◌, map, filter, find, length, Option, Some, None, refl, sym, ap, ◌∙◌, arith, ⊎_elim}
 use Rattle.std.specs.Cmp.Lexicographic.{nat_list_eq_equiv}
-use Rattle.std.specs.Option.{is_some, option_map, option_or}
+use Rattle.std.specs.List.{AllByRecursion, IsDistinct}
+use Rattle.std.specs.List.Sorted.{IsPermutation}
+use Rattle.std.specs.Map.{lookup, remove_entry, keys_of}
+use Rattle.std.specs.Option.{IfSome, is_some, option_map, option_or}
 use Rattle.std.specs.Str.{bytes_eq}
-use Rattle.std.proofs.lemmas.List.{length-append, length-set}
-use Rattle.std.proofs.lemmas.Slice.Eq.{bytes_eq-Decides}
-use Rattle.snow_map.specs.Entries.{value_of, HasAt}
+use Rattle.std.proofs.lemmas.Bool.{cond-true, cond-false, lt-ltb, le-ltb, ne_eqb, eq-eqb, eqb-true, cases_order}
+use Rattle.std.proofs.lemmas.List.Elements.{filter-append, All-from_recursion, recursion_from_All}
+use Rattle.std.proofs.lemmas.List.Folds.{find-append}
+use Rattle.std.proofs.lemmas.List.Sorted.{All-permutation, IsPermutation-map}
+use Rattle.std.proofs.lemmas.Map.{NonePasses, lookup-none, none_passes_from_lookup}
+use Rattle.std.proofs.lemmas.Map.Entries.{none_past_head}
+use Rattle.std.proofs.lemmas.Map.Views.{All-map-remove_entry}
+use Rattle.std.proofs.lemmas.Map.Keys.{IsDistinct-head, IsDistinct-tail, IsDistinct-cons, IsDistinct-IsPermutation}
 use Rattle.snow_getter.specs.declared.served.Served.{Served}
+use Rattle.snow_getter.specs.declared.pending.Issued.{Issued}
 use Rattle.snow_getter.specs.Serving.{is_block, without}
-use Rattle.snow_getter.specs.Order.{present, place_of, AreApart, AreNumbered, IsLeft, is_empty_at_front}
+use Rattle.snow_getter.specs.Order.{block_of, issued_before, numbered, IsIssued, AreIssued}
+use Rattle.snow_getter.proofs.Permuted.{only_one_stays}
 
-abbrev pub Places : Type 0
-Places = List (Option Served)
+abbrev pub Entries : Type 0
+Entries = List (List ℕ × Issued)
 
--- what stands at a place that may be
-abbrev pub block_there : Places → Option ℕ → Option Served
-block_there places None = None
-block_there places (Some place) = get_or places place None
+-- whether a key is this identifier
+abbrev pub by_id : List ℕ → List ℕ → Bool
+by_id id = bytes_eq id
 
-abbrev nowhere : Option ℕ
-nowhere = None
+abbrev has_number : ℕ → List ℕ × Issued → Bool
+has_number n e = e.1.number == n
 
-abbrev at_front : Option ℕ
-at_front = Some 0
+abbrev blocks_at : ℕ → Entries → List Served
+blocks_at n es = map (λ e. e.1.block) (numbered n es)
 
-same_id : (a b : List ℕ) → bytes_eq a b ≡ true → a ≡ b
-same_id a b same = (bytes_eq-Decides a b).0 same
+abbrev AreDistinct : Entries → Type 0
+AreDistinct es = IsDistinct bytes_eq (keys_of es)
 
--- ---- places behind the first
+abbrev Each : ℕ → Entries → Type 0
+Each next es = AllByRecursion (IsIssued next) es
 
-not_first : (o : Option ℕ) → option_map suc o ≡ Some 0 → ⊥
-not_first None is = absurd cc
-not_first (Some p) is = let zero_is : suc p ≡ 0 = cc in omega (arith, zero_is)
+abbrev AreApart : Entries → Type 0
+AreApart es = (n : ℕ) → length (numbered n es) ≤ 1
 
-behind_first : (o : Option ℕ) (p : ℕ) → option_map suc o ≡ Some (suc p) → o ≡ Some p
-behind_first None p is = absurd cc
-behind_first (Some q) p is = let same : suc q ≡ suc p = cc in let e : q ≡ p = omega (arith, same) in ap Some e
+-- a block is that of its key
+tells : (next : ℕ) (id : List ℕ) (e : List ℕ × Issued) → IsIssued next e → is_block id e.1.block ≡ by_id id e.0
+tells next id e is = nat_list_eq_equiv.symm e.1.block.id id ∙ ap (bytes_eq id) (sym is.0)
 
-none_behind : (o : Option ℕ) → option_map suc o ≡ None → o ≡ None
-none_behind None is = refl
-none_behind (Some p) is = absurd cc
+-- no later key is that of the first entry
+none_later : (id : List ℕ) (e : List ℕ × Issued) (es : Entries) → AreDistinct (e ∷ es) → by_id id e.0 ≡ true → NonePasses (by_id id) es
+none_later id e es unique same = none_past_head nat_list_eq_equiv id e es unique same
 
 -- ---- a block is found
 
-later_there : (place : Option Served) (later : Places) (o : Option ℕ) → block_there (place ∷ later) (option_map suc o) ≡ block_there later o
-later_there place later None = refl
-later_there place later (Some p) = refl
+abbrev at_number : ℕ → Option Issued → Option Served
+at_number n None = None
+at_number n (Some v) = cond (v.number == n) (Some v.block) None
 
--- the block of an identifier is the one that its first place has
-pub found : (id : List ℕ) (places : Places) → find (is_block id) (present places) ≡ block_there places (place_of id places)
-found id [] = refl
-found id (None ∷ later) = found id later ∙ sym (later_there None later (place_of id later))
-found id (Some b ∷ later) =
-    elim (is_block id b) as
-    (λ t. cond t (Some b) (find (is_block id) (present later)) ≡ block_there (Some b ∷ later) (cond t (Some 0) (option_map suc (place_of id later)))) [
-      | true ↦ refl
-      | false ↦ found id later ∙ sym (later_there (Some b) later (place_of id later))
+abbrev below_number : ℕ → Option Issued → Option Served
+below_number n None = None
+below_number n (Some v) = cond (ltb v.number n) (Some v.block) None
+
+found_at : (n next : ℕ) (id : List ℕ) (es : Entries) → Each next es → AreDistinct es
+    → find (is_block id) (blocks_at n es) ≡ at_number n (lookup (by_id id) es)
+found_at n next id [] is unique = refl
+found_at n next id (e ∷ es) is unique =
+    let same = tells next id e is.0 in
+    let rest = found_at n next id es is.1 (IsDistinct-tail bytes_eq e.0 (keys_of es) unique) in
+    let first : (b : Bool) → by_id id e.0 ≡ b
+    → cond (is_block id e.1.block) (Some e.1.block) (find (is_block id) (blocks_at n es)) ≡ cond b (Some e.1.block) (find (is_block id) (blocks_at n es)) =
+    λ b t. ap (λ x. cond x (Some e.1.block) (find (is_block id) (blocks_at n es))) (same ∙ t) in
+    (elim (by_id id e.0) as (λ b. by_id id e.0 ≡ b → find (is_block id) (blocks_at n (e ∷ es)) ≡ at_number n (cond b (Some e.1) (lookup (by_id id) es))) [
+      | true ↦ λ t.
+          elim (has_number n e) as
+          (λ m. find (is_block id) (map (λ d. d.1.block) (cond m (e ∷ filter (has_number n) es) (numbered n es))) ≡ cond m (Some e.1.block) None) [
+            | true ↦ first true t
+            | false ↦ rest ∙ ap (at_number n) (lookup-none (by_id id) es (none_later id e es unique t))
+          ]
+      | false ↦ λ t.
+          elim (has_number n e) as
+          (λ m. find (is_block id) (map (λ d. d.1.block) (cond m (e ∷ filter (has_number n) es) (numbered n es)))
+          ≡ at_number n (lookup (by_id id) es)) [
+            | true ↦ first false t ∙ rest
+            | false ↦ rest
+          ]
+    ]) refl
+
+joined : (n : ℕ) (o : Option Issued) → option_or (below_number n o) (at_number n o) ≡ below_number (suc n) o
+joined n None = refl
+joined n (Some v) =
+    ⊎_elim
+    (λ (same : v.number ≡ n). rw (le-ltb v.number n (omega (arith, same)), eq-eqb v.number n same, lt-ltb v.number (suc n) (omega (arith, same))) refl)
+    (λ apart. ⊎_elim
+    (λ (less : v.number < n). rw (lt-ltb v.number n less, lt-ltb v.number (suc n) (omega (arith, less))) refl)
+    (λ (more : n < v.number). rw (le-ltb v.number n (omega (arith, more)), ne_eqb v.number n (λ e. omega (arith, e, more)), le-ltb v.number (suc n) (omega (arith, more))) refl)
+    apart)
+    (cases_order v.number n)
+
+none_below : (o : Option Issued) → None ≡ below_number 0 o
+none_below None = refl
+none_below (Some v) = rw (le-ltb v.number 0 (omega arith)) refl
+
+found_before : (n next : ℕ) (id : List ℕ) (es : Entries) → Each next es → AreDistinct es
+    → find (is_block id) (issued_before n es) ≡ below_number n (lookup (by_id id) es)
+unfolding issued_before
+found_before zero next id es is unique = none_below (lookup (by_id id) es)
+found_before (suc n) next id es is unique =
+    find-append (is_block id) (issued_before n es) (blocks_at n es)
+    ∙ ap (λ o. option_or o (find (is_block id) (blocks_at n es))) (found_before n next id es is unique)
+    ∙ ap (option_or (below_number n (lookup (by_id id) es))) (found_at n next id es is unique)
+    ∙ joined n (lookup (by_id id) es)
+
+number_found : (next : ℕ) (id : List ℕ) (es : Entries) → Each next es → IfSome (lookup (by_id id) es) (λ v. v.number < next)
+number_found next id [] is = tt
+number_found next id (e ∷ es) is =
+    elim (by_id id e.0) as (λ b. IfSome (cond b (Some e.1) (lookup (by_id id) es)) (λ v. v.number < next)) [
+      | true ↦ is.0.1
+      | false ↦ number_found next id es is.1
     ]
 
--- where no block is that of an identifier no place has it
-pub missing : (id : List ℕ) (places : Places) → is_some (find (is_block id) (present places)) ≡ false → place_of id places ≡ None
-missing id [] none = refl
-missing id (None ∷ later) none = ap (option_map suc) (missing id later none)
-missing id (Some b ∷ later) none =
-    (elim (is_block id b) as
-    (λ t. is_some (cond t (Some b) (find (is_block id) (present later))) ≡ false → cond t (Some 0) (option_map suc (place_of id later)) ≡ None) [
-      | true ↦ λ none. absurd cc
-      | false ↦ λ none. ap (option_map suc) (missing id later none)
-    ]) none
+below_all : (next : ℕ) (o : Option Issued) → IfSome o (λ v. v.number < next) → below_number next o ≡ option_map block_of o
+below_all next None low = refl
+below_all next (Some v) low = rw (lt-ltb v.number next low) refl
+
+-- the block of an identifier is the one that the map has
+pub block_found : (next : ℕ) (id : List ℕ) (es : Entries) → AreIssued next es
+    → find (is_block id) (issued_before next es) ≡ option_map block_of (lookup (by_id id) es)
+block_found next id es is =
+    found_before next next id es is.each is.unique ∙ below_all next (lookup (by_id id) es) (number_found next id es is.each)
+
+-- ---- entries that change places
+
+same_before : (n : ℕ) (es fs : Entries) → IsPermutation es fs → AreApart es → issued_before n fs ≡ issued_before n es
+unfolding issued_before
+same_before zero es fs moved apart = refl
+same_before (suc n) es fs moved apart =
+    ap (λ l. l ++ blocks_at n fs) (same_before n es fs moved apart)
+    ∙ ap (λ (l : Entries). issued_before n es ++ map (λ e. e.1.block) l) (sym (only_one_stays (has_number n) es fs moved (apart n)))
+
+apart_moved : (es fs : Entries) → IsPermutation es fs → AreApart es → AreApart fs
+apart_moved es fs moved apart n =
+    let same = ap (λ l. length l) (only_one_stays (has_number n) es fs moved (apart n)) in
+    let few = apart n in
+    omega (arith, same, few)
+
+each_moved : (next : ℕ) (es fs : Entries) → IsPermutation es fs → Each next es → Each next fs
+each_moved next es fs moved each =
+    recursion_from_All (IsIssued next) fs (All-permutation (IsIssued next) es fs moved (All-from_recursion (IsIssued next) es each))
+
+distinct_moved : (es fs : Entries) → IsPermutation es fs → AreDistinct es → AreDistinct fs
+distinct_moved es fs moved unique =
+    IsDistinct-IsPermutation bytes_eq nat_list_eq_equiv.symm (keys_of es) (keys_of fs) (IsPermutation-map (λ e. e.0) es fs moved) unique
 
 -- ---- a block is issued
 
-pub present_pushed : (places : Places) (b : Served) → present (places ++ Some b ∷ []) ≡ present places ++ b ∷ []
-present_pushed [] b = refl
-present_pushed (None ∷ later) b = present_pushed later b
-present_pushed (Some c ∷ later) b = ap (λ l. c ∷ l) (present_pushed later b)
+none_at : (n : ℕ) (es : Entries) → Each n es → numbered n es ≡ []
+none_at n [] is = refl
+none_at n (e ∷ es) is =
+    let low : e.1.number < n = is.0.1 in
+    cond-false _ _ _ (ne_eqb e.1.number n (λ same. omega (arith, same, low))) ∙ none_at n es is.1
 
-one_further : (o : Option ℕ) (t : Bool) (n : ℕ)
-    → option_map suc (option_or o (cond t (Some n) None)) ≡ option_or (option_map suc o) (cond t (Some (suc n)) None)
-one_further None true n = refl
-one_further None false n = refl
-one_further (Some p) t n = refl
+before_same : (n : ℕ) (es : Entries) (k : List ℕ) (v : Issued) → n ≤ v.number → issued_before n ((k, v) ∷ es) ≡ issued_before n es
+unfolding issued_before
+before_same zero es k v low = refl
+before_same (suc n) es k v low =
+    ap (λ l. l ++ blocks_at n ((k, v) ∷ es)) (before_same n es k v (omega (arith, low)))
+    ∙ ap (λ (l : Entries). issued_before n es ++ map (λ e. e.1.block) l) (cond-false _ _ _ (ne_eqb v.number n (λ same. omega (arith, same, low))))
 
-place_pushed : (q : List ℕ) (places : Places) (b : Served)
-    → place_of q (places ++ Some b ∷ []) ≡ option_or (place_of q places) (cond (is_block q b) (Some (length places)) None)
-place_pushed q [] b = elim (is_block q b) as (λ t. cond t at_front nowhere ≡ option_or nowhere (cond t at_front nowhere)) [ true ↦ refl | false ↦ refl ]
-place_pushed q (None ∷ later) b =
-    ap (option_map suc) (place_pushed q later b) ∙ one_further (place_of q later) (is_block q b) (length later)
-place_pushed q (Some c ∷ later) b =
-    elim (is_block q c) as
-    (λ t. cond t (Some 0) (option_map suc (place_of q (later ++ Some b ∷ [])))
-    ≡ option_or (cond t (Some 0) (option_map suc (place_of q later))) (cond (is_block q b) (Some (suc (length later))) None)) [
-      | true ↦ refl
-      | false ↦ ap (option_map suc) (place_pushed q later b) ∙ one_further (place_of q later) (is_block q b) (length later)
-    ]
+put_behind : (es : Entries) (k : List ℕ) (v : Issued) → Each v.number es → issued_before (suc v.number) ((k, v) ∷ es) ≡ issued_before v.number es ++ v.block ∷ []
+unfolding issued_before
+put_behind es k v is =
+    ap (λ l. l ++ blocks_at v.number ((k, v) ∷ es)) (before_same v.number es k v (omega arith))
+    ∙ ap (λ (l : Entries). issued_before v.number es ++ map (λ e. e.1.block) l)
+    (cond-true _ _ _ (eq-eqb v.number v.number refl) ∙ ap (λ l. (k, v) ∷ l) (none_at v.number es is))
 
-apart_pushed : (places : Places) (b : Served) → AreApart places → place_of b.id places ≡ None → AreApart (places ++ Some b ∷ [])
-apart_pushed [] b apart none = (refl, tt)
-apart_pushed (None ∷ later) b apart none = (tt, apart_pushed later b apart.1 (none_behind (place_of b.id later) none))
-apart_pushed (Some c ∷ later) b apart none =
-    (elim (is_block b.id c) as
-    (λ t. is_block b.id c ≡ t → cond t (Some 0) (option_map suc (place_of b.id later)) ≡ None → AreApart (Some c ∷ (later ++ Some b ∷ []))) [
-      | true ↦ λ e none. absurd cc
-      | false ↦ λ e none. (
-        place_pushed c.id later b ∙ ap (λ o. option_or o (cond (is_block c.id b) (Some (length later)) None)) apart.0
-            ∙ ap (λ t. cond t (Some (length later)) None) (nat_list_eq_equiv.symm b.id c.id ∙ e),
-        apart_pushed later b apart.1 (none_behind (place_of b.id later) none),
-      )
-    ]) refl none
+apart_put : (es : Entries) (k : List ℕ) (v : Issued) → Each v.number es → AreApart es → AreApart ((k, v) ∷ es)
+apart_put es k v is apart n =
+    let few = apart n in
+    (elim (v.number == n) as (λ b. (v.number == n) ≡ b → length (cond b ((k, v) ∷ numbered n es) (numbered n es)) ≤ 1) [
+      | true ↦ λ e.
+          let none = ap (λ l. length l) (ap (λ m. numbered m es) (sym (eqb-true v.number n e)) ∙ none_at v.number es is) in
+          omega (arith, none)
+      | false ↦ λ e. few
+    ]) refl
 
-or_none : (o : Option ℕ) → option_or o None ≡ o
-or_none None = refl
-or_none (Some p) = refl
+-- no key is this identifier where no entry is that of it
+no_key : (id : List ℕ) (es : Entries) → NonePasses (by_id id) es → AllByRecursion (λ key. bytes_eq id key ≡ false) (keys_of es)
+no_key id [] none = tt
+no_key id (e ∷ es) none = (none.0, no_key id es none.1)
 
--- a block comes to the end, and its number to the others
-pub numbered_pushed : (before now : List (List ℕ × ℕ)) (first number : ℕ) (places : Places) (b : Served) → AreNumbered before first places
-    → is_some (find (is_block b.id) (present places)) ≡ false → number ≡ first + length places → HasAt before now b.id (Some number) → suc number < 2 ^ 64
-    → AreNumbered now first (places ++ Some b ∷ [])
-numbered_pushed before now first number places b is none last has few =
-    let absent = missing b.id places none in
+distinct_put : (es : Entries) (k : List ℕ) (v : Issued) → AreDistinct es → lookup (by_id k) es ≡ None → AreDistinct ((k, v) ∷ es)
+distinct_put es k v unique none = IsDistinct-cons bytes_eq k (keys_of es) (no_key k es (none_passes_from_lookup (by_id k) es none)) unique
+
+-- a block with the next number stands behind all others
+pub block_pushed : (es fs : Entries) (k : List ℕ) (v : Issued) → AreIssued v.number es → IsPermutation ((k, v) ∷ es) fs
+    → issued_before (suc v.number) fs ≡ issued_before v.number es ++ v.block ∷ []
+block_pushed es fs k v is moved =
+    same_before (suc v.number) ((k, v) ∷ es) fs moved (apart_put es k v is.each is.apart) ∙ put_behind es k v is.each
+
+later : (next : ℕ) (es : Entries) → Each next es → Each (suc next) es
+later next [] is = tt
+later next (e ∷ es) is = let low : e.1.number < next = is.0.1 in ((is.0.0, omega (arith, low)), later next es is.1)
+
+pub issued_pushed : (es fs : Entries) (v : Issued) → AreIssued v.number es → lookup (by_id v.block.id) es ≡ None → IsPermutation ((v.block.id, v) ∷ es) fs
+    → AreIssued (suc v.number) fs
+issued_pushed es fs v is none moved =
+    let all : Entries = (v.block.id, v) ∷ es in
     record {
-      each = λ q. has q ∙ ap (λ n. cond (bytes_eq b.id q) (Some n) (value_of before q)) last ∙ told absent q;
-      apart = apart_pushed places b is.apart absent;
-      few = let e = length-append places (Some b ∷ []) in omega (arith, e, last, few);
+      each = each_moved (suc v.number) all fs moved ((refl, omega arith), later v.number es is.each);
+      apart = apart_moved all fs moved (apart_put es v.block.id v is.each is.apart);
+      unique = distinct_moved all fs moved (distinct_put es v.block.id v is.unique none);
     }
-  where
-    told : place_of b.id places ≡ None → (q : List ℕ)
-        → cond (bytes_eq b.id q) (Some (first + length places)) (value_of before q) ≡ option_map (λ p. first + p) (place_of q (places ++ Some b ∷ []))
-    told absent q =
-        (elim (bytes_eq b.id q) as
-        (λ t. bytes_eq b.id q ≡ t
-        → cond t (Some (first + length places)) (value_of before q) ≡ option_map (λ p. first + p) (option_or (place_of q places) (cond t (Some (length places)) None))) [
-          | true ↦ λ e.
-              let none_at : place_of q places ≡ None = subst (λ i. place_of i places ≡ None) (same_id b.id q e) absent in
-              sym (ap (λ o. option_map (λ p. first + p) (option_or o (Some (length places)))) none_at)
-          | false ↦ λ e. is.each q ∙ ap (option_map (λ p. first + p)) (sym (or_none (place_of q places)))
-        ]) refl
-        ∙ ap (option_map (λ p. first + p)) (sym (place_pushed q places b))
 
 -- ---- a block goes
 
-none_left : (id : List ℕ) (places : Places) → place_of id places ≡ None → without id (present places) ≡ present places
-none_left id [] none = refl
-none_left id (None ∷ later) none = none_left id later (none_behind (place_of id later) none)
-none_left id (Some b ∷ later) none =
-    (elim (is_block id b) as
-    (λ t. cond t (Some 0) (option_map suc (place_of id later)) ≡ None → cond (not t) (b ∷ without id (present later)) (without id (present later)) ≡ b ∷ present later) [
-      | true ↦ λ none. absurd cc
-      | false ↦ λ none. ap (λ l. b ∷ l) (none_left id later (none_behind (place_of id later) none))
-    ]) none
+kept_at : (n next : ℕ) (id : List ℕ) (es : Entries) → Each next es → NonePasses (by_id id) es → blocks_at n es ≡ without id (blocks_at n es)
+kept_at n next id [] is none = refl
+kept_at n next id (e ∷ es) is none =
+    let other : not (is_block id e.1.block) ≡ true = ap not (tells next id e is.0 ∙ none.0) in
+    let rest = kept_at n next id es is.1 none.1 in
+    elim (has_number n e) as
+    (λ m. map (λ d. d.1.block) (cond m (e ∷ filter (has_number n) es) (numbered n es))
+    ≡ without id (map (λ d. d.1.block) (cond m (e ∷ filter (has_number n) es) (numbered n es)))) [
+      | true ↦ ap (λ l. e.1.block ∷ l) rest ∙ sym (cond-true _ _ _ other)
+      | false ↦ rest
+    ]
 
--- where its place is emptied the block is gone
-block_left : (id : List ℕ) (places : Places) (p : ℕ) → AreApart places → place_of id places ≡ Some p
-    → present (slice_set places p None) ≡ without id (present places)
-block_left id [] p apart is = absurd cc
-block_left id (None ∷ later) zero apart is = absurd (not_first (place_of id later) is)
-block_left id (None ∷ later) (suc p) apart is = block_left id later p apart.1 (behind_first (place_of id later) p is)
-block_left id (Some b ∷ later) zero apart is =
-    (elim (is_block id b) as
-    (λ t. is_block id b ≡ t → cond t (Some 0) (option_map suc (place_of id later)) ≡ Some 0
-    → present later ≡ cond (not t) (b ∷ without id (present later)) (without id (present later))) [
-      | true ↦ λ e is. sym (none_left id later (subst (λ i. place_of i later ≡ None) (same_id b.id id e) apart.0))
-      | false ↦ λ e is. absurd (not_first (place_of id later) is)
-    ]) refl is
-block_left id (Some b ∷ later) (suc p) apart is =
-    (elim (is_block id b) as
-    (λ t. cond t (Some 0) (option_map suc (place_of id later)) ≡ Some (suc p)
-    → b ∷ present (slice_set later p None) ≡ cond (not t) (b ∷ without id (present later)) (without id (present later))) [
-      | true ↦ λ is. let e : 0 ≡ suc p = cc in absurd (omega (arith, e))
-      | false ↦ λ is. ap (λ l. b ∷ l) (block_left id later p apart.1 (behind_first (place_of id later) p is))
-    ]) is
+left_at : (n next : ℕ) (id : List ℕ) (es : Entries) → Each next es → AreDistinct es
+    → blocks_at n (remove_entry (by_id id) es) ≡ without id (blocks_at n es)
+left_at n next id [] is unique = refl
+left_at n next id (e ∷ es) is unique =
+    let same = tells next id e is.0 in
+    let rest = left_at n next id es is.1 (IsDistinct-tail bytes_eq e.0 (keys_of es) unique) in
+    (elim (by_id id e.0) as
+    (λ b. by_id id e.0 ≡ b → blocks_at n (cond b es (e ∷ remove_entry (by_id id) es)) ≡ without id (blocks_at n (e ∷ es))) [
+      | true ↦ λ t.
+          let kept = kept_at n next id es is.1 (none_later id e es unique t) in
+          elim (has_number n e) as
+          (λ m. blocks_at n es ≡ without id (map (λ d. d.1.block) (cond m (e ∷ filter (has_number n) es) (numbered n es)))) [
+            | true ↦ kept ∙ sym (cond-false _ _ _ (ap not (same ∙ t)))
+            | false ↦ kept
+          ]
+      | false ↦ λ t.
+          elim (has_number n e) as
+          (λ m. map (λ d. d.1.block) (cond m (e ∷ filter (has_number n) (remove_entry (by_id id) es)) (numbered n (remove_entry (by_id id) es)))
+          ≡ without id (map (λ d. d.1.block) (cond m (e ∷ filter (has_number n) es) (numbered n es)))) [
+            | true ↦ ap (λ l. e.1.block ∷ l) rest ∙ sym (cond-true _ _ _ (ap not (same ∙ t)))
+            | false ↦ rest
+          ]
+    ]) refl
 
-mapped : (t : Bool) (o : Option ℕ) → option_map suc (cond t None o) ≡ cond t None (option_map suc o)
-mapped true o = refl
-mapped false o = refl
+left_before : (n next : ℕ) (id : List ℕ) (es : Entries) → Each next es → AreDistinct es
+    → issued_before n (remove_entry (by_id id) es) ≡ without id (issued_before n es)
+unfolding issued_before
+left_before zero next id es is unique = refl
+left_before (suc n) next id es is unique =
+    ap (λ l. l ++ blocks_at n (remove_entry (by_id id) es)) (left_before n next id es is unique)
+    ∙ ap (λ l. without id (issued_before n es) ++ l) (left_at n next id es is unique)
+    ∙ sym (filter-append (λ b. not (is_block id b)) (issued_before n es) (blocks_at n es))
 
-place_left : (id q : List ℕ) (places : Places) (p : ℕ) → AreApart places → place_of id places ≡ Some p
-    → place_of q (slice_set places p None) ≡ cond (bytes_eq id q) None (place_of q places)
-place_left id q [] p apart is = absurd cc
-place_left id q (None ∷ later) zero apart is = absurd (not_first (place_of id later) is)
-place_left id q (None ∷ later) (suc p) apart is =
-    ap (option_map suc) (place_left id q later p apart.1 (behind_first (place_of id later) p is)) ∙ mapped (bytes_eq id q) (place_of q later)
-place_left id q (Some b ∷ later) zero apart is =
-    (elim (is_block id b) as
-    (λ t. is_block id b ≡ t → cond t (Some 0) (option_map suc (place_of id later)) ≡ Some 0
-    → option_map suc (place_of q later) ≡ cond (bytes_eq id q) None (place_of q (Some b ∷ later))) [
-      | true ↦ λ e is. subst (λ i. option_map suc (place_of q later) ≡ cond (bytes_eq i q) None (place_of q (Some b ∷ later))) (same_id b.id id e) own
-      | false ↦ λ e is. absurd (not_first (place_of id later) is)
-    ]) refl is
+apart_left : (id : List ℕ) (es : Entries) → AreApart es → AreApart (remove_entry (by_id id) es)
+apart_left id es apart n = let few = apart n in let fewer = fewer_left n id es in omega (arith, few, fewer)
   where
-    own : option_map suc (place_of q later) ≡ cond (bytes_eq b.id q) None (cond (bytes_eq b.id q) (Some 0) (option_map suc (place_of q later)))
-    own =
-        (elim (bytes_eq b.id q) as
-        (λ t. bytes_eq b.id q ≡ t → option_map suc (place_of q later) ≡ cond t None (cond t (Some 0) (option_map suc (place_of q later)))) [
-          | true ↦ λ e. ap (option_map suc) (subst (λ i. place_of i later ≡ None) (same_id b.id q e) apart.0)
-          | false ↦ λ e. refl
-        ]) refl
-place_left id q (Some b ∷ later) (suc p) apart is =
-    (elim (is_block id b) as
-    (λ t. is_block id b ≡ t → cond t (Some 0) (option_map suc (place_of id later)) ≡ Some (suc p)
-    → place_of q (Some b ∷ slice_set later p None) ≡ cond (bytes_eq id q) None (place_of q (Some b ∷ later))) [
-      | true ↦ λ e is. let z : 0 ≡ suc p = cc in absurd (omega (arith, z))
-      | false ↦ λ e is. other e (place_left id q later p apart.1 (behind_first (place_of id later) p is))
-    ]) refl is
-  where
-    other : is_block id b ≡ false → place_of q (slice_set later p None) ≡ cond (bytes_eq id q) None (place_of q later)
-        → place_of q (Some b ∷ slice_set later p None) ≡ cond (bytes_eq id q) None (place_of q (Some b ∷ later))
-    other differs rest =
-        (elim (is_block q b) as
-        (λ t. is_block q b ≡ t → cond t (Some 0) (option_map suc (place_of q (slice_set later p None)))
-        ≡ cond (bytes_eq id q) None (cond t (Some 0) (option_map suc (place_of q later)))) [
-          | true ↦ λ e.
-              let apart_from : bytes_eq id q ≡ false = ap (bytes_eq id) (sym (same_id b.id q e)) ∙ nat_list_eq_equiv.symm id b.id ∙ differs in
-              sym (ap (λ t. cond t None (Some 0)) apart_from)
-          | false ↦ λ e. ap (option_map suc) rest ∙ mapped (bytes_eq id q) (place_of q later)
-        ]) refl
+    fewer_left : (n : ℕ) (id : List ℕ) (es : Entries) → length (numbered n (remove_entry (by_id id) es)) ≤ length (numbered n es)
+    fewer_left n id [] = omega arith
+    fewer_left n id (e ∷ es) =
+        let rest = fewer_left n id es in
+        elim (by_id id e.0) as (λ b. length (numbered n (cond b es (e ∷ remove_entry (by_id id) es))) ≤ length (cond (has_number n e) (e ∷ numbered n es) (numbered n es))) [
+          | true ↦ elim (has_number n e) as (λ m. length (numbered n es) ≤ length (cond m (e ∷ numbered n es) (numbered n es))) [ true ↦ omega arith | false ↦ omega arith ]
+          | false ↦
+              elim (has_number n e) as
+              (λ m. length (cond m (e ∷ numbered n (remove_entry (by_id id) es)) (numbered n (remove_entry (by_id id) es))) ≤ length (cond m (e ∷ numbered n es) (numbered n es))) [
+                | true ↦ omega (arith, rest)
+                | false ↦ rest
+              ]
+        ]
 
-none_either : (t : Bool) → cond t nowhere nowhere ≡ nowhere
-none_either true = refl
-none_either false = refl
+each_left : (next : ℕ) (id : List ℕ) (es : Entries) → Each next es → Each next (remove_entry (by_id id) es)
+each_left next id [] is = tt
+each_left next id (e ∷ es) is =
+    elim (by_id id e.0) as (λ b. Each next (cond b es (e ∷ remove_entry (by_id id) es))) [
+      | true ↦ is.1
+      | false ↦ (is.0, each_left next id es is.1)
+    ]
 
-apart_left : (id : List ℕ) (places : Places) (p : ℕ) → AreApart places → place_of id places ≡ Some p → AreApart (slice_set places p None)
-apart_left id [] p apart is = absurd cc
-apart_left id (None ∷ later) zero apart is = absurd (not_first (place_of id later) is)
-apart_left id (None ∷ later) (suc p) apart is = (tt, apart_left id later p apart.1 (behind_first (place_of id later) p is))
-apart_left id (Some b ∷ later) zero apart is = (tt, apart.1)
-apart_left id (Some b ∷ later) (suc p) apart is =
-    (elim (is_block id b) as (λ t. cond t (Some 0) (option_map suc (place_of id later)) ≡ Some (suc p) → AreApart (Some b ∷ slice_set later p None)) [
-      | true ↦ λ is. let z : 0 ≡ suc p = cc in absurd (omega (arith, z))
-      | false ↦ λ is.
-          let there = behind_first (place_of id later) p is in (
-            place_left id b.id later p apart.1 there ∙ ap (cond (bytes_eq id b.id) None) apart.0 ∙ none_either (bytes_eq id b.id),
-            apart_left id later p apart.1 there,
-          )
-    ]) is
+-- what is said of all keys stays said of those that are left
+keys_left : (P : List ℕ → Type 0) (id : List ℕ) (es : Entries) → AllByRecursion P (keys_of es) → AllByRecursion P (keys_of (remove_entry (by_id id) es))
+keys_left P id es all =
+    recursion_from_All P (keys_of (remove_entry (by_id id) es)) (All-map-remove_entry (by_id id) (λ e. e.0) P es (All-from_recursion P (keys_of es) all))
 
--- ---- empty places leave
+distinct_left : (id : List ℕ) (es : Entries) → AreDistinct es → AreDistinct (remove_entry (by_id id) es)
+distinct_left id [] unique = unique
+distinct_left id (e ∷ es) unique =
+    let later = IsDistinct-tail bytes_eq e.0 (keys_of es) unique in
+    elim (by_id id e.0) as (λ b. AreDistinct (cond b es (e ∷ remove_entry (by_id id) es))) [
+      | true ↦ later
+      | false ↦
+          IsDistinct-cons bytes_eq e.0 (keys_of (remove_entry (by_id id) es))
+          (keys_left (λ key. bytes_eq e.0 key ≡ false) id es (IsDistinct-head bytes_eq e.0 (keys_of es) unique)) (distinct_left id es later)
+    ]
 
-popped_numbers : (first : ℕ) (o : Option ℕ) → option_map (λ p. first + p) (option_map suc o) ≡ option_map (λ p. first + 1 + p) o
-popped_numbers first None = refl
-popped_numbers first (Some p) = let e : first + suc p ≡ first + 1 + p = omega arith in ap Some e
+-- without its entry the block of an identifier is gone
+pub block_left : (next : ℕ) (id : List ℕ) (es fs : Entries) → AreIssued next es → IsPermutation (remove_entry (by_id id) es) fs
+    → issued_before next fs ≡ without id (issued_before next es)
+block_left next id es fs is moved =
+    same_before next (remove_entry (by_id id) es) fs moved (apart_left id es is.apart) ∙ left_before next next id es is.each is.unique
 
-numbered_popped : (numbers : List (List ℕ × ℕ)) (first : ℕ) (later : Places) → AreNumbered numbers first (None ∷ later) → AreNumbered numbers (first + 1) later
-numbered_popped numbers first later is =
+pub issued_left : (next : ℕ) (id : List ℕ) (es fs : Entries) → AreIssued next es → IsPermutation (remove_entry (by_id id) es) fs → AreIssued next fs
+issued_left next id es fs is moved =
+    let left = remove_entry (by_id id) es in
     record {
-      each = λ q. is.each q ∙ popped_numbers first (place_of q later);
-      apart = is.apart.1;
-      few = let few = is.few in omega (arith, few);
+      each = each_moved next left fs moved (each_left next id es is.each);
+      apart = apart_moved left fs moved (apart_left id es is.apart);
+      unique = distinct_moved left fs moved (distinct_left id es is.unique);
     }
 
-pub one_leaves : (start first : ℕ) (old places : Places) → IsLeft start old first places → is_empty_at_front places ≡ true
-    → (now : Places) → now ≡ drop 1 places → IsLeft start old (first + 1) now
-one_leaves start first old [] left empty now is = absurd cc
-one_leaves start first old (Some b ∷ later) left empty now is = absurd cc
-one_leaves start first old (None ∷ later) left empty now is =
-    subst (λ l. IsLeft start old (first + 1) l) (sym is)
-    (record { blocks = left.blocks; numbers = λ numbers are. numbered_popped numbers first later (left.numbers numbers are) })
+-- ---- a block that isn't there
 
-pub one_less : (places : Places) → is_empty_at_front places ≡ true → suc (length (drop 1 places)) ≡ length places
-one_less [] empty = absurd cc
-one_less (place ∷ later) empty = refl
+none_of : (o : Option Issued) → is_some (option_map block_of o) ≡ false → o ≡ None
+none_of None none = refl
+none_of (Some v) none = absurd cc
 
--- ---- a number leads to its place
-
-abbrev pub Blocks : Type 0
-Blocks = List Served
-
-abbrev pub Numbers : Type 0
-Numbers = List (List ℕ × ℕ)
-
--- it is that of the first place, and the place's number
-pub record IsPlaceOf (first : ℕ) (places : Places) (id : List ℕ) (number : ℕ) : Type 0 where
-  pub above : first ≤ number
-  pub within : number - first < length places
-  pub place : place_of id places ≡ Some (number - first)
-
-within : (id : List ℕ) (places : Places) (p : ℕ) → place_of id places ≡ Some p → p < length places
-within id [] p is = absurd cc
-within id (place ∷ later) zero is = omega arith
-within id (None ∷ later) (suc p) is = let less = within id later p (behind_first (place_of id later) p is) in omega (arith, less)
-within id (Some b ∷ later) (suc p) is =
-    (elim (is_block id b) as (λ t. cond t (Some 0) (option_map suc (place_of id later)) ≡ Some (suc p) → suc p < suc (length later)) [
-      | true ↦ λ is. let z : 0 ≡ suc p = cc in absurd (omega (arith, z))
-      | false ↦ λ is. let less = within id later p (behind_first (place_of id later) p is) in omega (arith, less)
-    ]) is
-
-number_place : (first : ℕ) (places : Places) (id : List ℕ) (number : ℕ) (o : Option ℕ) → place_of id places ≡ o → Some number ≡ option_map (λ p. first + p) o
-    → IsPlaceOf first places id number
-number_place first places id number None at is = absurd cc
-number_place first places id number (Some p) at is =
-    let e : number ≡ first + p = cc in
-    let back : p ≡ number - first = omega (arith, e) in
-    record {
-      above = omega (arith, e);
-      within = subst (λ n. n < length places) back (within id places p at);
-      place = at ∙ ap Some back;
-    }
-
-pub place_of_number : (numbers : Numbers) (first : ℕ) (places : Places) (id : List ℕ) (number : ℕ) → AreNumbered numbers first places
-    → value_of numbers id ≡ Some number → IsPlaceOf first places id number
-place_of_number numbers first places id number is at = number_place first places id number (place_of id places) refl (sym at ∙ is.each id)
-
-pub block_of_number : (numbers : Numbers) (first : ℕ) (places : Places) (id : List ℕ) (number : ℕ) → AreNumbered numbers first places
-    → value_of numbers id ≡ Some number → get_or places (number - first) None ≡ find (is_block id) (present places)
-block_of_number numbers first places id number is at =
-    let there = (place_of_number numbers first places id number is at).place in
-    sym (found id places ∙ ap (block_there places) there)
-
-no_place : (first : ℕ) (o : Option ℕ) → None ≡ option_map (λ p. first + p) o → o ≡ None
-no_place first None is = refl
-no_place first (Some p) is = absurd cc
-
-pub none_of_number : (numbers : Numbers) (first : ℕ) (places : Places) (id : List ℕ) → AreNumbered numbers first places
-    → value_of numbers id ≡ None → None ≡ find (is_block id) (present places)
-none_of_number numbers first places id is at =
-    sym (found id places ∙ ap (block_there places) (no_place first (place_of id places) (sym at ∙ is.each id)))
-
--- nor is anything taken out then
-pub none_taken : (numbers : Numbers) (first : ℕ) (places : Places) (id : List ℕ) → AreNumbered numbers first places
-    → value_of numbers id ≡ None → present places ≡ without id (present places)
-none_taken numbers first places id is at = sym (none_left id places (no_place first (place_of id places) (sym at ∙ is.each id)))
-
--- ---- a block is taken out
-
-pub block_taken : (numbers : Numbers) (first : ℕ) (places : Places) (id : List ℕ) (number : ℕ) → AreNumbered numbers first places
-    → value_of numbers id ≡ Some number → present (slice_set places (number - first) None) ≡ without id (present places)
-block_taken numbers first places id number is at = block_left id places (number - first) is.apart (place_of_number numbers first places id number is at).place
-
-told_left : (first : ℕ) (t : Bool) (o : Option ℕ) → cond t None (option_map (λ p. first + p) o) ≡ option_map (λ p. first + p) (cond t None o)
-told_left first true o = refl
-told_left first false o = refl
-
-pub numbered_taken : (before now : Numbers) (first : ℕ) (places : Places) (id : List ℕ) (number : ℕ) → AreNumbered before first places
-    → value_of before id ≡ Some number → HasAt before now id None → AreNumbered now first (slice_set places (number - first) None)
-numbered_taken before now first places id number is at has =
-    let there = (place_of_number before first places id number is at).place in
-    record {
-      each = λ q.
-          has q ∙ ap (cond (bytes_eq id q) None) (is.each q) ∙ told_left first (bytes_eq id q) (place_of q places)
-          ∙ ap (option_map (λ p. first + p)) (sym (place_left id q places (number - first) is.apart there));
-      apart = apart_left id places (number - first) is.apart there;
-      few = let few = is.few in let e = length-set places (number - first) None in omega (arith, few, e);
-    }
-
--- ---- the block at the first place is taken out
-
-opened : (places : Places) → 0 < length places → slice_set places 0 None ≡ None ∷ drop 1 places
-opened [] some = absurd (omega (arith, some))
-opened (place ∷ later) some = refl
-
-module _ (before : Numbers) (first : ℕ) (places : Places) (id : List ℕ) (number : ℕ) (is : AreNumbered before first places)
-    (at : value_of before id ≡ Some number) (same : number ≡ first) where
-  at_zero : number - first ≡ 0
-  at_zero = omega (arith, same)
-
-  pub first_there : 0 < length places
-  first_there = subst (λ n. n < length places) at_zero (place_of_number before first places id number is at).within
-
-  emptied : slice_set places (number - first) None ≡ None ∷ drop 1 places
-  emptied = ap (λ n. slice_set places n None) at_zero ∙ opened places first_there
-
-  pub first_found : get_or places 0 None ≡ find (is_block id) (present places)
-  first_found = ap (λ n. get_or places n None) (sym at_zero) ∙ block_of_number before first places id number is at
-
-  pub first_taken : present (drop 1 places) ≡ without id (present places)
-  first_taken = sym (ap present emptied) ∙ block_taken before first places id number is at
-
-  pub numbered_after_first : (now : Numbers) → HasAt before now id None → AreNumbered now (first + 1) (drop 1 places)
-  numbered_after_first now has =
-      numbered_popped now first (drop 1 places)
-      (subst (λ l. AreNumbered now first l) emptied (numbered_taken before now first places id number is at has))
+-- the map has none either
+pub missing : (next : ℕ) (id : List ℕ) (es : Entries) → AreIssued next es → is_some (find (is_block id) (issued_before next es)) ≡ false
+    → lookup (by_id id) es ≡ None
+missing next id es is none = none_of (lookup (by_id id) es) (ap is_some (sym (block_found next id es is)) ∙ none)

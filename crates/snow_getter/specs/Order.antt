@@ -1,40 +1,29 @@
--- The pending blocks in order of issue: a row of places, each of which has a block, or had one that went.
-use Rattle.std.specs.Prelude.{◌≡◌, ℕ, suc, ◌+◌, ◌<◌, ◌^◌, Bool, false, not, List, [], ◌∷◌, ◌++◌, length, Option, None, Some, is_some, if◌then◌else◌}
-use Rattle.std.specs.Option.{IfSome, option_map, option_map_or, option_to_list}
-use Rattle.snow_map.specs.Entries.{value_of}
+-- The pending blocks by identifier, each with the number of its issue: the list of them in order of issue.
+use Rattle.std.specs.Prelude.{◌≡◌, ℕ, zero, suc, ◌<◌, ◌≤◌, ◌==◌, List, [], ◌++◌, length, map, filter, bytes_eq}
+use Rattle.std.specs.List.{AllByRecursion, IsDistinct}
+use Rattle.std.specs.Map.{keys_of}
 use Rattle.snow_getter.specs.declared.served.Served.{Served}
-use Rattle.snow_getter.specs.Serving.{is_block}
+use Rattle.snow_getter.specs.declared.pending.Issued.{Issued}
 
--- the blocks that are there, in order
-abbrev pub present : List (Option Served) → List Served
-present [] = []
-present (place ∷ later) = option_to_list place ++ present later
+-- the block that was issued
+abbrev pub block_of : Issued → Served
+block_of v = v.block
 
--- whether a place has the block of an identifier
-abbrev pub has : List ℕ → Option Served → Bool
-has id place = option_map_or (is_block id) place false
+-- the entries of a number
+abbrev pub numbered : ℕ → List (List ℕ × Issued) → List (List ℕ × Issued)
+numbered n entries = filter (λ e. e.1.number == n) entries
 
--- the first place that has it
-abbrev pub place_of : List ℕ → List (Option Served) → Option ℕ
-place_of id [] = None
-place_of id (place ∷ later) = if has id place then Some 0 else option_map suc (place_of id later)
+-- the blocks whose numbers are below this one, in order of their numbers
+unfoldable pub issued_before : ℕ → List (List ℕ × Issued) → List Served
+issued_before zero entries = []
+issued_before (suc n) entries = issued_before n entries ++ map (λ e. e.1.block) (numbered n entries)
 
--- no two blocks have one identifier
-abbrev pub AreApart : List (Option Served) → Type 0
-AreApart [] = Unit {0}
-AreApart (place ∷ later) = IfSome place (λ b. place_of b.id later ≡ None) × AreApart later
+-- each block stands at its identifier, with a number below the next one
+abbrev pub IsIssued : ℕ → List ℕ × Issued → Type 0
+IsIssued next e = (e.0 ≡ e.1.block.id) × (e.1.number < next)
 
--- the number of each block's place stands at its identifier, and no other number does
-pub record AreNumbered (numbers : List (List ℕ × ℕ)) (first : ℕ) (places : List (Option Served)) : Type 0 where
-  pub each : (id : List ℕ) → value_of numbers id ≡ option_map (λ place. first + place) (place_of id places)
-  pub apart : AreApart places
-  pub few : first + length places < 2 ^ 64
-
-abbrev pub is_empty_at_front : List (Option Served) → Bool
-is_empty_at_front [] = false
-is_empty_at_front (place ∷ later) = not (is_some place)
-
--- empty places left at the front: the blocks are the same, and so are their numbers
-pub record IsLeft (first : ℕ) (places : List (Option Served)) (first_now : ℕ) (places_now : List (Option Served)) : Type 0 where
-  pub blocks : present places_now ≡ present places
-  pub numbers : (numbers : List (List ℕ × ℕ)) → AreNumbered numbers first places → AreNumbered numbers first_now places_now
+-- all do, and no two have one number, or one identifier
+pub record AreIssued (next : ℕ) (entries : List (List ℕ × Issued)) : Type 0 where
+  pub each : AllByRecursion (IsIssued next) entries
+  pub apart : (n : ℕ) → length (numbered n entries) ≤ 1
+  pub unique : IsDistinct bytes_eq (keys_of entries)

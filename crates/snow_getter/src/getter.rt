@@ -61,8 +61,8 @@ impl Getter {
     pub fn accepted(&mut self, id: &Id)
         ensures { self.new ≡ after_accepted self.old id.now }
     {
-        if let Some(block) = self.pending.take(id) {
-            self.accepted.push(block);
+        if let Some(issued) = self.pending.take(id) {
+            self.accepted.push(issued.block);
         }
     }
 

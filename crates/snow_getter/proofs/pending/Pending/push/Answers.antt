@@ -1,25 +1,42 @@
--- A block comes to the end.
-use Rattle.std.proofs.Common.{◌≡◌, suc, ◌+◌, ◌<◌, ◌^◌, length, [], ◌∷◌, ◌++◌, Some, find, arith, sym, ap, subst, ◌∙◌}
+-- A block with the next number stands behind all others.
+use Rattle.std.proofs.Common.{◌≡◌, ◌+◌, suc, List, ◌∷◌, [], ◌++◌, find, arith, ap, ◌∙◌, None, subst}
+use Rattle.std.specs.List.Sorted.{IsPermutation}
 use Rattle.std.specs.Option.{is_some}
+use Rattle.snow_map.specs.Entries.{value_of}
+use Rattle.snow_getter.specs.declared.served.Served.{Served}
+use Rattle.snow_getter.specs.declared.pending.Issued.{Issued}
 use Rattle.snow_getter.specs.Serving.{is_block}
-use Rattle.snow_getter.specs.Order.{present, AreNumbered}
-use Rattle.snow_getter.proofs.Ordered.{Places, Blocks, present_pushed, numbered_pushed}
+use Rattle.snow_getter.specs.Order.{AreIssued, issued_before}
+use Rattle.snow_getter.proofs.Ordered.{block_pushed, issued_pushed, missing}
+use Rattle.snow_getter.proofs.pending.Pending.push.Goals.{In_ok-insert}
 use Rattle.snow_getter.proofs.pending.Pending.push.Goals as goal
+
+-- no entry is that of the block's identifier
+absent : (c : In_ok-insert) → value_of c.self.inside.blocks c.args.block.id ≡ None
+absent c =
+    missing c.self.inside.next c.args.block.id c.self.inside.blocks c.self.invariant
+    (ap (λ l. is_some (find (is_block c.args.block.id) l)) c.self.view_is ∙ c.requires)
+
+-- the block's entry comes in somewhere
+put : (c : In_ok-insert) → let v : Issued = record { number = c.self.inside.next; block = c.args.block } in
+    IsPermutation ((c.args.block.id, v) ∷ c.self.inside.blocks) c.insert.new.self
+put c = c.in_ok-insert.ensures.added (absent c)
 
 pub invariant_of-self-2 : goal.invariant_of-self-2
 invariant_of-self-2 c =
-    let s = c.self.inside in
-    let same = c.reserve.ensures.items in
-    let more = c.push_back_reserved.ensures.items ∙ ap (λ (l : Places). l ++ Some c.args.block ∷ []) same in
-    let none = ap (λ (l : Blocks). is_some (find (is_block c.args.block.id) l)) c.self.view_is ∙ c.requires in
-    let len : c.len.result ≡ length s.places.items = c.len.ensures ∙ s.places.ok.0 in
-    let few : suc (s.first + c.len.result) < 2 ^ 64 = omega (arith, c.if-number.false, c.self.invariant.few, len) in
-    subst (λ l. AreNumbered c.insert.new.self s.first l) (sym more)
-    (numbered_pushed s.numbers c.insert.new.self s.first (s.first + c.len.result) s.places.items c.args.block c.self.invariant none (ap (λ n. s.first + n) len)
-    c.in_ok-insert.ensures.updates few)
+    let next = c.self.inside.next in
+    let v : Issued = record { number = next; block = c.args.block } in
+    let at = (goal.at.invariant_of-self-2 c).In_ok-insert in
+    let step : suc next ≡ next + 1 = omega arith in
+    subst (λ n. AreIssued n c.insert.new.self) step
+    (issued_pushed c.self.inside.blocks c.insert.new.self v c.self.invariant (absent at) (put at))
 
 pub returns-clause-ok : goal.returns-clause-ok
 returns-clause-ok c =
-    let s = c.self.inside in
-    let more = c.push_back_reserved.ensures.items ∙ ap (λ (l : Places). l ++ Some c.args.block ∷ []) c.reserve.ensures.items in
-    ap present more ∙ present_pushed s.places.items c.args.block ∙ ap (λ (l : Blocks). l ++ c.args.block ∷ []) c.self.view_is
+    let next = c.self.inside.next in
+    let es = c.self.inside.blocks in
+    let v : Issued = record { number = next; block = c.args.block } in
+    let step : next + 1 ≡ suc next = omega arith in
+    ap (λ n. issued_before n c.insert.new.self) step
+    ∙ block_pushed es c.insert.new.self c.args.block.id v c.self.invariant (put (goal.at.returns-clause-ok c).In_ok-insert)
+    ∙ ap (λ (l : List Served). l ++ c.args.block ∷ []) c.self.view_is
