@@ -1,4 +1,5 @@
 -- The index of the entries: for each seat the number of its latest entry, and a table of those that left their seats to others, identifiers rising.
+pub use Rattle.snow_map.specs.Seats.{seat_of}
 use Rattle.std.specs.Prelude.{◌≡◌, ℕ, ◌+◌, ◌-◌, ◌*◌, ◌%◌, ◌^◌, ◌<◌, ◌≤◌, ◌⊎◌, Bool, false, not, ◌&&◌, get_or, bytes_eq, if◌then◌else◌, List, [], ◌∷◌, length, map, replicate, ◌==◌, All, HoldsAt, Result, Ok, Err}
 use Rattle.std.specs.Cmp.Lexicographic.{slice_cmp}
 use Rattle.std.specs.List.{AllPairs, filter, slice_get}
@@ -47,10 +48,6 @@ unfoldable pub filed : (ℕ → List ℕ) → List ℕ → ℕ → List ℕ
 filed id [] number = number ∷ []
 filed id (n ∷ numbers) number =
     match_ordering (byte_cmp (id n) (id number)) (n ∷ filed id numbers number) (number ∷ numbers) (number ∷ n ∷ numbers)
-
--- the seat of an identifier: its first two bytes and its last two, as numbers that are added
-abbrev pub seat_of : List ℕ → ℕ
-seat_of id = (get_or id 0 0 + get_or id 1 0 * 256 + (get_or id 30 0 + get_or id 31 0 * 256)) % 65536
 
 -- the place of the entry whose number stands at a seat
 abbrev pub head_of : ℕ → List ℕ → ℕ → ℕ

@@ -3,6 +3,7 @@ ghost use Rattle.std.specs.Prelude.{◌≡◌, ◌<◌, get_or, length, slice_se
 ghost use Rattle.snow_recent.specs.Index.{seat_of};
 
 use snow_base::Id;
+use snow_map::seat_of;
 use std::alloc::{AllocError, Global};
 use std::marker::Model;
 
@@ -54,16 +55,4 @@ fn filled(alloc: Global, count: usize) -> Result<Vec<u32>, AllocError>
     ensures { IfOk result (λ list. length list.items ≡ count) }
 {
     vec![in alloc; u32::MAX; count]
-}
-
-/// The seat of an identifier, by its ends, so that numbers in place of hashes don't share one: its first
-/// two bytes and its last two, added.
-pub(crate) fn seat_of(id: &Id) -> usize
-    ensures seat { result ≡ seat_of id.now }
-    ensures small { result < 65536 }
-{
-    let bytes = id.as_bytes();
-    let first = u16::from_le_bytes([bytes[0], bytes[1]]);
-    let last = u16::from_le_bytes([bytes[30], bytes[31]]);
-    usize::from(first.wrapping_add(last))
 }

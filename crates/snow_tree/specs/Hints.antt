@@ -1,9 +1,6 @@
 -- Which number an identifier is told: that of a slot, of which those share one that have the same seat modulo the number of slots.
-use Rattle.std.specs.Prelude.{◌≡◌, ℕ, ◌+◌, ◌*◌, ◌%◌, ◌^◌, ◌<◌, List, get_or, length}
-
--- the seat of an identifier: its first two bytes and its last two, as numbers that are added
-abbrev pub seat_of : List ℕ → ℕ
-seat_of id = (get_or id 0 0 + get_or id 1 0 * 256 + (get_or id 31 0 + get_or id 30 0 * 256)) % 65536
+pub use Rattle.snow_map.specs.Seats.{seat_of}
+use Rattle.std.specs.Prelude.{◌≡◌, ℕ, ◌%◌, ◌^◌, ◌<◌, List, get_or, length}
 
 -- its slot among so many
 abbrev pub slot_of : ℕ → List ℕ → ℕ

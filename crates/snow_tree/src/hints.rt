@@ -1,8 +1,9 @@
 //! Which number an identifier is told.
 ghost use Rattle.std.specs.Prelude.{◌≡◌, ◌==◌, ◌<◌, ◌≤◌, ℕ, List, [], length, slice_set, OnOk};
-ghost use Rattle.snow_tree.specs.Hints.{seat_of, slot_of, hint_of};
+ghost use Rattle.snow_tree.specs.Hints.{slot_of, hint_of};
 
 use snow_base::Id;
+use snow_map::seat_of;
 use std::alloc::{AllocError, Global};
 use std::marker::Model;
 
@@ -89,14 +90,4 @@ impl Hints {
     {
         seat_of(id) & self.numbers.len().wrapping_sub(1)
     }
-}
-
-// The seat of an identifier, by its ends, so that numbers in place of hashes don't share one.
-fn seat_of(id: &Id) -> usize
-    ensures { result ≡ seat_of id.now }
-{
-    let bytes = id.as_bytes();
-    let first = u16::from_le_bytes([bytes[0], bytes[1]]);
-    let last = u16::from_be_bytes([bytes[30], bytes[31]]);
-    usize::from(first.wrapping_add(last))
 }
