@@ -80,16 +80,17 @@ impl<V: Drop> Seat<V> {
     }
 }
 
-/// The seat of an identifier among 65,536, by its ends, so that numbers in place of hashes don't share one.
+/// The seat of an identifier among 2^32, by its ends, so that numbers in place of hashes don't share one.
+/// Where there are fewer seats, it is taken modulo their number.
 #[inline(always)]
 pub fn seat_of(id: &Id) -> usize
     ensures seat { result ≡ seat_of id.now }
-    ensures small { result < 65536 }
+    ensures small { result < 4294967296 }
 {
     let bytes = id.as_bytes();
-    let first = u16::from_le_bytes([bytes[0], bytes[1]]);
-    let last = u16::from_be_bytes([bytes[30], bytes[31]]);
-    usize::from(first.wrapping_add(last))
+    let first = u32::from_le_bytes([bytes[0], bytes[1], bytes[2], bytes[3]]);
+    let last = u32::from_be_bytes([bytes[28], bytes[29], bytes[30], bytes[31]]);
+    first.wrapping_add(last) as usize
 }
 
 /// Its seat among so many.

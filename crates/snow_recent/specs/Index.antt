@@ -1,5 +1,4 @@
 -- The index of the entries: for each seat the number of its latest entry, and a table of those that left their seats to others, identifiers rising.
-pub use Rattle.snow_map.specs.Seats.{seat_of}
 use Rattle.std.specs.Prelude.{◌≡◌, ℕ, ◌+◌, ◌-◌, ◌*◌, ◌%◌, ◌^◌, ◌<◌, ◌≤◌, ◌⊎◌, Bool, false, not, ◌&&◌, get_or, bytes_eq, if◌then◌else◌, List, [], ◌∷◌, length, map, replicate, ◌==◌, All, HoldsAt, Result, Ok, Err}
 use Rattle.std.specs.Cmp.Lexicographic.{slice_cmp}
 use Rattle.std.specs.List.{AllPairs, filter, slice_get}
@@ -8,6 +7,7 @@ use Rattle.std.specs.Option.{option_map_or}
 use Rattle.std.specs.Ordering.{nat_cmp, match_ordering}
 use Rattle.std.specs.declared.cmp.Ordering.{Ordering}
 use Rattle.std.specs.declared.cmp.Ordering.TheVariants.{Less, Equal, Greater}
+use Rattle.snow_map.specs.Seats.{place_of as seat_among}
 
 -- the identifier of the entry at a place of the list, and 32 zeros past its end
 abbrev pub id_at : {T : Type 0} → (T → List ℕ) → List T → ℕ → List ℕ
@@ -48,6 +48,10 @@ unfoldable pub filed : (ℕ → List ℕ) → List ℕ → ℕ → List ℕ
 filed id [] number = number ∷ []
 filed id (n ∷ numbers) number =
     match_ordering (byte_cmp (id n) (id number)) (n ∷ filed id numbers number) (number ∷ numbers) (number ∷ n ∷ numbers)
+
+-- the seat of an identifier
+abbrev pub seat_of : List ℕ → ℕ
+seat_of id = seat_among 262144 id
 
 -- the place of the entry whose number stands at a seat
 abbrev pub head_of : ℕ → List ℕ → ℕ → ℕ

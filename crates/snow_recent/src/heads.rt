@@ -3,12 +3,11 @@ ghost use Rattle.std.specs.Prelude.{◌≡◌, ◌<◌, get_or, length, slice_se
 ghost use Rattle.snow_recent.specs.Index.{seat_of};
 
 use snow_base::Id;
-use snow_map::seat_of;
 use std::alloc::{AllocError, Global};
 use std::marker::Model;
 
 // How many seats there are.
-const SEATS: usize = 65_536;
+const SEATS: usize = 262_144;
 
 /// For each seat a number: where there is an entry of the seat, that of the one which came last.
 /// Contracts see the numbers.
@@ -24,7 +23,7 @@ impl Model for Heads {
 
     ghost view = { λ a. a.numbers.items };
 
-    ghost invariant = { λ a. length a.numbers.items ≡ 65536 };
+    ghost invariant = { λ a. length a.numbers.items ≡ 262144 };
 }
 
 impl Heads {
@@ -48,6 +47,15 @@ impl Heads {
     {
         self.numbers[seat_of(id)] = number;
     }
+}
+
+/// The seat of an identifier.
+#[inline(always)]
+pub(crate) fn seat_of(id: &Id) -> usize
+    ensures seat { result ≡ seat_of id.now }
+    ensures there { result < 262144 }
+{
+    snow_map::seat_of(id) % SEATS
 }
 
 // So many times the highest number.

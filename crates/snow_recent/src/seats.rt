@@ -3,12 +3,11 @@ ghost use Rattle.std.specs.Prelude.{◌≡◌, ◌==◌, ◌<◌, ◌&&◌, not,
 ghost use Rattle.std.specs.List.{concat};
 ghost use Rattle.snow_recent.specs.Index.{id_of, IsRising, gives_way, seated, seat_of, HasNoSeated, without_oldest};
 
-use crate::heads::Heads;
+use crate::heads::{Heads, seat_of};
 use crate::index;
 use crate::named::Named;
 use crate::table::Table;
 use snow_base::Id;
-use snow_map::seat_of;
 use std::collections::VecDeque;
 
 // Whether the entry of a number has another identifier of the same seat.
