@@ -7,7 +7,6 @@ pub mod Idle
 mod Lone
 mod Looked
 mod Named
-mod Newest
 mod Preferred
 pub mod Remembered
 mod Replied

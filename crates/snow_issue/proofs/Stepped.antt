@@ -1,21 +1,18 @@
 -- Lemmas on one step: a block is taken out at a place, and which step applies.
-use Rattle.std.proofs.Common.{◌≡◌, ℕ, ◌<◌, ◌≤◌, Bool, List, map, length, get_or, find, Some, None, refl, sym, ap, ◌∙◌, arith}
+use Rattle.std.proofs.Common.{◌≡◌, ℕ, ◌<◌, ◌≤◌, Bool, List, map, length, get_or, find, Some, None, refl, ap, ◌∙◌, arith}
 use Rattle.std.specs.List.{remove, position_or_len}
 use Rattle.std.specs.Option.{option_map, option_or}
-use Rattle.std.proofs.lemmas.List.{get_or-map, length-map}
-use Rattle.snow_base.specs.declared.header.Header.{Header}
+use Rattle.std.proofs.lemmas.List.{length-map}
 use Rattle.snow_plain.specs.Board.{Board}
 use Rattle.snow_issue.specs.declared.work.Waiting.{Waiting}
 use Rattle.snow_issue.specs.declared.work.Work.TheVariants as work
 use Rattle.snow_lineup.specs.declared.marks.Mark.{Mark}
-use Rattle.snow_lineup.specs.declared.marks.Mark.TheVariants.{New}
 use Rattle.snow_issue.specs.Lists.{Lists, without}
 use Rattle.snow_issue.specs.Settling.{work_of, after, is_hopeless, is_ready, is_free, gone_with}
 use Rattle.snow_issue.specs.Known.{Seen, Knows, items_of, lists_of}
 use Rattle.snow_lineup.specs.Index.{woken}
 use Rattle.snow_issue.proofs.Looked.{found_first, found_none, within_length}
 use Rattle.snow_issue.proofs.Settled.{lists_by, knows_from, items_left}
-use Rattle.snow_lineup.proofs.Tagged.{map_remove}
 use Rattle.snow_issue.proofs.Taken.{item_is, tells_left}
 
 abbrev pub parent_of_block : Waiting → List ℕ
@@ -27,25 +24,6 @@ parent_of_block w = w.header.parent
 pub record IsLeft (before now : List (Waiting × Mark)) (at : ℕ) (w : Waiting) : Type 0 where
   pub taken : (d : Waiting × Mark) → w ≡ (get_or before at d).0
   pub left : now ≡ map (woken parent_of_block w.header.id) (remove before at)
-
--- the children may be woken before
-pub woken_left : (before mid now : List (Waiting × Mark)) (at : ℕ) (head : Header) (w : Waiting) → at < length before
-    → ((d : Waiting × Mark) → head ≡ (get_or before at d).0.header)
-    → mid ≡ map (woken parent_of_block head.id) before
-    → ((d : Waiting × Mark) → w ≡ (get_or mid at d).0) → now ≡ remove mid at
-    → (head ≡ w.header) × IsLeft before now at w
-woken_left before mid now at head w there is_head is_mid is_w is_now =
-    let taken : (d : Waiting × Mark) → w ≡ (get_or before at d).0 =
-    λ d. is_w d ∙ ap (λ (l : List (Waiting × Mark)). (get_or l at d).0) is_mid ∙ ap (λ (s : Waiting × Mark). s.0) (get_or-map (woken parent_of_block head.id) before at d d there) in
-    let d : Waiting × Mark = (w, New) in
-    let same : head ≡ w.header = is_head d ∙ ap (λ (w : Waiting). w.header) (sym (taken d)) in (
-      same,
-      record {
-        taken = taken;
-        left = is_now ∙ ap (λ (l : List (Waiting × Mark)). remove l at) is_mid ∙ sym (map_remove (woken parent_of_block head.id) before at)
-            ∙ ap (λ (h : Header). map (woken parent_of_block h.id) (remove before at)) same;
-      },
-    )
 
 -- the same of a queue
 pub record IsTaken (before now : Seen) (at : ℕ) (w : Waiting) : Type 0 where

@@ -1,5 +1,5 @@
 -- The indexes of a queue: heights by identifier, gets by number and by identifier, held replies by poll and node.
-use Rattle.std.specs.Prelude.{◌≡◌, ℕ, ◌+◌, ◌-◌, ◌<◌, length, get_or, Bool, true, false, List, [], ◌∷◌, find, Option, Some, None, bytes_eq}
+use Rattle.std.specs.Prelude.{◌≡◌, ℕ, Bool, false, List, [], ◌∷◌, find, Option, Some, None, bytes_eq}
 use Rattle.std.specs.List.{list_any}
 use Rattle.std.specs.BTreeMap.{BTreeMap, get}
 use Rattle.std.specs.BTreeSet.{BTreeSet, contains}
@@ -25,12 +25,6 @@ AreNamedApart name (x ∷ items) = (list_any (λ y. bytes_eq (name y) (name x)) 
 pub record HasHeights (height : List ℕ → Option ℕ) (waiting : List Waiting) : Type 0 where
   pub known : (id : List ℕ) → height id ≡ height_among waiting id
   pub apart : AreNamedApart (λ w. w.header.id) waiting
-
--- no other waiting block has the parent of the one that came last
-abbrev pub LastIsAlone : Bool → List Waiting → Type 0
-LastIsAlone false waiting = Unit {0}
-LastIsAlone true waiting =
-    (k : ℕ) (d : Waiting) → k + 1 < length waiting → bytes_eq (get_or waiting (length waiting - 1) d).header.parent (get_or waiting k d).header.parent ≡ false
 
 -- the gets of a map by number
 abbrev pub get_of : ℕ × Asked → Get

@@ -99,10 +99,11 @@ impl Queue {
         ensures gone { self.new.gone ≡ self.old.gone }
         ensures limits { AreWithinLimits (lists_of self.new) }
     {
-        let id = self.waiting.header(at).id;
-        self.waiting.wake(&id);
-        self.replies.wake(&id);
-        self.waiting.take(at)
+        // (when it is gone, its child is mostly the last)
+        let block = self.waiting.take(at);
+        self.waiting.wake(&block.header.id);
+        self.replies.wake(&block.header.id);
+        block
     }
 
     // Enters a hopeless block in the gone list, where its parent was found invalid.

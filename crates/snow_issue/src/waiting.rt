@@ -30,8 +30,6 @@ impl Keyed for Waiting {
 pub(crate) struct WaitingList {
     lineup: Lineup<Waiting>,
     heights: IdMap<u64, SEATS>,
-    /// Whether it is plain that no other block has the parent of the one that came last.
-    alone: bool,
 }
 
 impl Model for WaitingList {
@@ -39,14 +37,14 @@ impl Model for WaitingList {
     ghost use Rattle.snow_issue.specs.declared.work.Waiting.{Waiting};
     ghost use Rattle.snow_lineup.specs.declared.marks.Mark.{Mark};
     ghost use Rattle.snow_issue.specs.Known.{items_of};
-    ghost use Rattle.snow_issue.specs.Index.{HasHeights, LastIsAlone};
+    ghost use Rattle.snow_issue.specs.Index.{HasHeights};
     ghost use Rattle.snow_map.specs.Entries.{value_of};
 
     ghost Value = { List (Waiting × Mark) };
 
     ghost view = { λ a. a.lineup };
 
-    ghost invariant = { λ a. HasHeights (value_of a.heights) (items_of a.lineup) × LastIsAlone a.alone (items_of a.lineup) };
+    ghost invariant = { λ a. HasHeights (value_of a.heights) (items_of a.lineup) };
 }
 
 impl WaitingList {
@@ -59,7 +57,6 @@ impl WaitingList {
         WaitingList {
             lineup: Lineup::new(alloc),
             heights: IdMap::new(alloc),
-            alone: false,
         }
     }
 
@@ -124,12 +121,9 @@ impl WaitingList {
         let header = &block.header;
         let (id, height) = (header.id, header.height);
         // The block first, so that it is moved once.
-        let alone = self.lineup.push(block)?;
+        self.lineup.push(block)?;
         match self.heights.insert(id, height) {
-            Ok(_) => {
-                self.alone = alone;
-                Ok(())
-            }
+            Ok(_) => Ok(()),
             Err(error) => {
                 cut_last(&mut self.lineup);
                 Err(error)
@@ -186,19 +180,13 @@ impl WaitingList {
         ensures rest { self.new ≡ remove self.old at }
     {
         let _ = self.heights.remove(&self.lineup.item(at).header.id);
-        self.alone = false;
         self.lineup.take(at)
     }
 
-    /// Forgets what is remembered of a block's children. Mostly that is the block that came last alone.
+    /// Forgets what is remembered of a block's children.
     pub(crate) fn wake(&mut self, parent: &Id)
         ensures { self.new ≡ map (woken (λ w. w.header.parent) parent.now) self.old }
     {
-        let len = self.lineup.len();
-        if self.alone && len > 0 && self.lineup.item(len - 1).header.parent == *parent {
-            self.lineup.set(len - 1, Mark::New);
-            return;
-        }
         self.lineup.wake(parent);
     }
 

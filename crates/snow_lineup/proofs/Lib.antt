@@ -3,3 +3,4 @@ pub mod Noted
 pub mod Tagged
 mod Placed
 mod Windowed
+mod Newest

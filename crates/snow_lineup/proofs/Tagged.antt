@@ -90,15 +90,6 @@ indexed_push tags before now next key is change =
       unused = λ id place high. ap (has_place place) (change id) ∙ above_pushed (bytes_eq key id) (row_of before id) next place high (is.unused id place (omega (arith, high)));
     }
 
--- where a key has no row, no item has it
-pub none_keyed : {T : Type 0} (key : T → List ℕ) (slots : List (Slot T)) (rows : RowMap) (next : ℕ) (id : List ℕ) → IsIndexed (map (tag_of key) slots) rows next → row_of rows id ≡ []
-    → All (λ s. bytes_eq id (key s.0) ≡ false) (map seat_of slots)
-none_keyed {T = T} key slots rows next id is none =
-    All-map (λ (s : T × Mark). bytes_eq id (key s.0) ≡ false) seat_of slots
-    (λ k d within. let s = get_or slots k d in
-    sym (All_unmap (λ (t : Tag). (q : List ℕ) → has_place t.0 (row_of rows q) ≡ bytes_eq q t.1) (tag_of key) slots is.found k d within id)
-    ∙ ap (has_place s.place) none)
-
 -- rows that are the same by key
 pub indexed_same : (tags : List Tag) (before now : RowMap) (next : ℕ) → IsIndexed tags before next → ((q : List ℕ) → row_of now q ≡ row_of before q) → IsIndexed tags now next
 indexed_same tags before now next is same = record {

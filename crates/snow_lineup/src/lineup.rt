@@ -1,4 +1,4 @@
-ghost use Rattle.std.specs.Prelude.{◌≡◌, ℕ, ◌+◌, ◌-◌, ◌<◌, ◌^◌, ◌≤◌, ◌==◌, true, false, IfOk, IfSome, All, bytes_eq, [], ◌∷◌, ◌++◌, List, map, take, length, nat_lt, slice_set, HoldsAt, IsErr, OnOk, OnErr, vec_len, vec_capacity, if◌then◌else◌};
+ghost use Rattle.std.specs.Prelude.{◌≡◌, ℕ, ◌+◌, ◌-◌, ◌<◌, ◌^◌, ◌≤◌, ◌==◌, true, false, IfSome, All, bytes_eq, [], ◌∷◌, ◌++◌, List, map, take, length, nat_lt, slice_set, HoldsAt, IsErr, OnOk, OnErr, vec_len, vec_capacity, if◌then◌else◌};
 ghost use Rattle.std.specs.List.{AllPairs, position_or_len, remove};
 ghost use Rattle.std.specs.Option.{option_to_list};
 ghost use Rattle.snow_lineup.specs.Marks.{has, IsOnlyAt};
@@ -77,11 +77,9 @@ impl<T: Keyed> Lineup<T> {
         self.slots.len()
     }
 
-    /// Appends an item, of which nothing is remembered, and tells where it is plain that no other has
-    /// its key. After want of memory all is as before.
-    pub fn push(&mut self, item: T) -> Result<bool, AllocError>
+    /// Appends an item, of which nothing is remembered. After want of memory all is as before.
+    pub fn push(&mut self, item: T) -> Result<(), AllocError>
         ensures ok { OnOk result (self.new ≡ self.old ++ (item, New) ∷ []) }
-        ensures alone { IfOk result (λ alone. alone ≡ true → All (λ s. bytes_eq (T.key item) (T.key s.0) ≡ false) self.old) }
         ensures err { OnErr result (self.new ≡ self.old) }
     {
         // Places never come again, and there are more than a node lives to use.
@@ -92,18 +90,17 @@ impl<T: Keyed> Lineup<T> {
             return self.grow(item);
         }
         let at = self.slots.len();
-        let alone = put(&mut self.slots, &mut self.rows, item, self.next)?;
+        put(&mut self.slots, &mut self.rows, item, self.next)?;
         self.windows = self.windows.marked(at, Mark::New);
         self.next += 1;
-        Ok(alone)
+        Ok(())
     }
 
     // The same where there is no room yet. A call, so that an item for which there is room is moved
     // once.
     #[inline(never)]
-    fn grow(&mut self, item: T) -> Result<bool, AllocError>
+    fn grow(&mut self, item: T) -> Result<(), AllocError>
         ensures ok { OnOk result (self.new ≡ self.old ++ (item, New) ∷ []) }
-        ensures alone { IfOk result (λ alone. alone ≡ true → All (λ s. bytes_eq (T.key item) (T.key s.0) ≡ false) self.old) }
         ensures err { OnErr result (self.new ≡ self.old) }
     {
         if self.next == u64::MAX {
@@ -111,10 +108,10 @@ impl<T: Keyed> Lineup<T> {
         }
         self.slots.reserve(1)?;
         let at = self.slots.len();
-        let alone = put(&mut self.slots, &mut self.rows, item, self.next)?;
+        put(&mut self.slots, &mut self.rows, item, self.next)?;
         self.windows = self.windows.marked(at, Mark::New);
         self.next += 1;
-        Ok(alone)
+        Ok(())
     }
 
     /// Whether it is plain that something is remembered of each item, and that none is ripe.
@@ -186,24 +183,23 @@ impl<T: Keyed> Lineup<T> {
 
 // An item that can't be taken in goes. A call, so that an item that is taken in is moved once.
 #[inline(never)]
-fn refused<T: Drop>(_item: T) -> Result<bool, AllocError>
+fn refused<T: Drop>(_item: T) -> Result<(), AllocError>
     ensures { IsErr result }
 {
     Err(AllocError)
 }
 
-// Puts an item behind the others and its place into the row of its key, and tells where it is plain
-// that none stands there yet. After want of memory all is as before.
+// Puts an item behind the others and its place into the row of its key. After want of memory all is as
+// before.
 fn put<T: Keyed>(
     slots: &mut Vec<Slot<T>>,
     rows: &mut Rows,
     item: T,
     place: u64,
-) -> Result<bool, AllocError>
+) -> Result<(), AllocError>
     requires { vec_len slots.old < vec_capacity slots.old }
     ensures slots { let new : Slot T = record { item = item; place = place; mark = New } in OnOk result (slots.new.items ≡ slots.old.items ++ new ∷ []) }
     ensures ok { OnOk result ((q : List ℕ) → row_of rows.new.rows q ≡ (if bytes_eq (T.key item) q then row_of rows.old.rows q ++ place ∷ [] else row_of rows.old.rows q)) }
-    ensures first { IfOk result (λ first. first ≡ true → row_of rows.old.rows (T.key item) ≡ []) }
     ensures err { OnErr result ((q : List ℕ) → row_of rows.new.rows q ≡ row_of rows.old.rows q) }
     ensures same { OnErr result (slots.new.items ≡ slots.old.items) }
 {
@@ -214,7 +210,7 @@ fn put<T: Keyed>(
         mark: Mark::New,
     });
     match rows.note(key, place) {
-        Ok(first) => Ok(first),
+        Ok(()) => Ok(()),
         Err(error) => {
             cut_last(slots);
             Err(error)

@@ -11,7 +11,8 @@ use std::collections::HashMap;
 use std::collections::hash_map::Entry;
 use std::marker::Model;
 
-// Seats of the index. At most 4,096 items wait, so that at most every fourth seat is taken.
+// Seats of the index. At most 4,096 blocks wait, so that at most every fourth seat is taken. Held replies
+// may name 8,192.
 const SEATS: usize = 16_384;
 
 /// Places of a key, in the order in which they came.
@@ -95,19 +96,17 @@ impl Rows {
         }
     }
 
-    /// One place more of a key, and whether it is plain that it is the first one. After want of memory
-    /// the rows are as before.
+    /// One place more of a key. After want of memory the rows are as before.
     #[inline(never)]
-    pub(crate) fn note(&mut self, key: Id, place: u64) -> Result<bool, AllocError>
+    pub(crate) fn note(&mut self, key: Id, place: u64) -> Result<(), AllocError>
         ensures ok { OnOk result ((q : List ℕ) → row_of self.new.rows q ≡ (if bytes_eq key q then row_of self.old.rows q ++ place ∷ [] else row_of self.old.rows q)) }
-        ensures first { IfOk result (λ first. first ≡ true → row_of self.old.rows key ≡ []) }
         ensures err { OnErr result ((q : List ℕ) → row_of self.new.rows q ≡ row_of self.old.rows q) }
     {
         match self.rows.last.insert(key, place)? {
-            None => Ok(self.rows.before.is_empty()),
+            None => Ok(()),
             Some(last) => {
                 self.extend(key, last)?;
-                Ok(false)
+                Ok(())
             }
         }
     }

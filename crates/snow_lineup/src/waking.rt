@@ -1,8 +1,9 @@
-ghost use Rattle.std.specs.Prelude.{◌≡◌, ◌<◌, ◌==◌, [], ◌∷◌, ◌++◌, map, length, nat_lt, slice_set, HoldsAt};
+ghost use Rattle.std.specs.Prelude.{◌≡◌, ◌<◌, ◌-◌, ◌==◌, [], ◌∷◌, ◌++◌, true, map, length, nat_lt, slice_set, HoldsAt};
 ghost use Rattle.std.specs.List.{AllPairs, position_or_len};
 ghost use Rattle.std.specs.Option.{option_to_list};
 ghost use Rattle.snow_lineup.specs.Index.{seat_of, woken, woken_at, reset};
 ghost use Rattle.snow_lineup.specs.Windows.{AreWithin};
+ghost use Rattle.snow_lineup.specs.declared.marks.Mark.TheVariants.{New};
 
 use crate::lineup::{Keyed, Lineup, Slot};
 use crate::marks::Mark;
@@ -10,16 +11,40 @@ use crate::window::Windows;
 use snow_base::Id;
 
 impl<T: Keyed> Lineup<T> {
-    /// Forgets what is remembered of the items that wait for a block.
+    /// Forgets what is remembered of the items that wait for a block. Mostly that is the last item
+    /// alone, of which no index is asked.
+    #[inline(always)]
     pub fn wake(&mut self, key: &Id)
         ensures { self.new ≡ map (woken T.key key.now) self.old }
     {
-        if !self.slots.is_empty() {
+        let len = self.slots.len();
+        if len == 0 {
+            return;
+        }
+        if self.is_of_newest(key) {
+            self.set(len - 1, Mark::New);
+        } else {
             self.wake_key(key);
         }
     }
 
-    // The same where something waits. A call, so that it costs little where nothing does.
+    // Whether it is plain that the last item waits for a block, and no other.
+    #[inline(always)]
+    fn is_of_newest(&self, key: &Id) -> bool
+        ensures there { result ≡ true → 0 < length self.now }
+        ensures alone { result ≡ true → HoldsAt (λ s. map (woken T.key key.now) self.now ≡ slice_set self.now (length self.now - 1) (s.0, New)) self.now (length self.now - 1) }
+    {
+        let len = self.slots.len();
+        if len == 0 {
+            return false;
+        }
+        if !self.rows.are_single() {
+            return false;
+        }
+        self.slots[len - 1].item.key() == *key
+    }
+
+    // The same wherever they stand.
     #[inline(never)]
     fn wake_key(&mut self, key: &Id)
         ensures { self.new ≡ map (woken T.key key.now) self.old }

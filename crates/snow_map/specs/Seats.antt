@@ -7,11 +7,11 @@ use Rattle.snow_map.specs.declared.seat.Seat.{Seat}
 use Rattle.snow_map.specs.Entries.{value_of, HasAt}
 
 -- the number that the first four bytes spell, the lowest first
-abbrev pub first_of : List ℕ → ℕ
+unfoldable pub first_of : List ℕ → ℕ
 first_of id = get_or id 0 0 + get_or id 1 0 * 256 + get_or id 2 0 * 65536 + get_or id 3 0 * 16777216
 
 -- the number that the last four bytes spell, the highest first
-abbrev pub last_of : List ℕ → ℕ
+unfoldable pub last_of : List ℕ → ℕ
 last_of id = get_or id 31 0 + get_or id 30 0 * 256 + get_or id 29 0 * 65536 + get_or id 28 0 * 16777216
 
 -- the seat of an identifier: its first four bytes and its last four, as numbers that are added

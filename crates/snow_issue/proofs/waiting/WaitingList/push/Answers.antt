@@ -6,15 +6,12 @@ use Rattle.snow_issue.specs.Lists.{waits_among}
 use Rattle.snow_issue.specs.Known.{items_of}
 use Rattle.snow_issue.specs.Index.{HasHeights}
 use Rattle.snow_issue.proofs.Heights.{heights_pushed}
-use Rattle.snow_issue.proofs.Newest.{last_pushed}
 use Rattle.snow_issue.proofs.Taken.{items_pushed}
 use Rattle.snow_issue.proofs.waiting.WaitingList.push.Goals as goal
 
 pub invariant_of-self-in-Ok : goal.invariant_of-self-in-Ok
 invariant_of-self-in-Ok c =
     let seats = c.self.inside.lineup in
-    let new = subst (λ l. waits_among (items_of l) c.args.block.header.id ≡ false) (sym c.self.view_is) c.requires in (
-      subst (λ (l : List Waiting). HasHeights (λ q. value_of c.insert.new.self q) l) (sym (ap items_of c.in_ok-alone.ensures.ok ∙ items_pushed seats c.args.block New))
-          (heights_pushed (λ q. value_of c.self.inside.heights q) (λ q. value_of c.insert.new.self q) (items_of seats) c.args.block c.self.invariant.0 new c.in-Ok.ensures.updates),
-      last_pushed c.in_ok-alone.alone seats c.push.new.self c.args.block c.in_ok-alone.ensures.ok c.in_ok-alone.ensures.alone,
-    )
+    let new = subst (λ l. waits_among (items_of l) c.args.block.header.id ≡ false) (sym c.self.view_is) c.requires in
+    subst (λ (l : List Waiting). HasHeights (λ q. value_of c.insert.new.self q) l) (sym (ap items_of c.in_ok-push.ensures.ok ∙ items_pushed seats c.args.block New))
+    (heights_pushed (λ q. value_of c.self.inside.heights q) (λ q. value_of c.insert.new.self q) (items_of seats) c.args.block c.self.invariant new c.in-Ok.ensures.updates)

@@ -14,9 +14,7 @@ invariant_of-self c =
     let seats = c.self.inside.lineup in
     let at = c.args.at in
     let w = c.item.result.now in
-    let there : at < length seats = subst (λ l. at < length l) (sym c.self.view_is) c.requires in (
-      subst (λ (l : List Waiting). HasHeights (λ q. value_of c.remove.new.self q) l) (sym (ap items_of c.take.ensures.rest ∙ items_removed seats at))
-          (heights_removed (λ q. value_of c.self.inside.heights q) (λ q. value_of c.remove.new.self q) (items_of seats) at w c.self.invariant.0 (omega (arith, there, length-map seats (λ (s : Waiting × Mark). s.0)))
-          (item_is seats at w there c.item.ensures) c.remove.ensures.updates),
-      tt,
-    )
+    let there : at < length seats = subst (λ l. at < length l) (sym c.self.view_is) c.requires in
+    subst (λ (l : List Waiting). HasHeights (λ q. value_of c.remove.new.self q) l) (sym (ap items_of c.take.ensures.rest ∙ items_removed seats at))
+    (heights_removed (λ q. value_of c.self.inside.heights q) (λ q. value_of c.remove.new.self q) (items_of seats) at w c.self.invariant (omega (arith, there, length-map seats (λ (s : Waiting × Mark). s.0)))
+    (item_is seats at w there c.item.ensures) c.remove.ensures.updates)

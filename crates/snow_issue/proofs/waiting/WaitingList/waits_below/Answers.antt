@@ -17,6 +17,6 @@ returns-then-eq c =
     let w = c.item.result.now in
     let there : at < length seats = omega (arith, c.len-len.ensures, c.if-len-eq0.false) in
     c.is_right_below.ensures
-    ∙ below_at (λ q. value_of c.self.inside.heights q) (items_of seats) c.args.child.now at w c.self.invariant.0
+    ∙ below_at (λ q. value_of c.self.inside.heights q) (items_of seats) c.args.child.now at w c.self.invariant
     (omega (arith, there, length-map seats (λ (s : Waiting × Mark). s.0))) (item_is seats at w there c.item.ensures) (sym c.eq.ensures ∙ c.if-eq.true)
     ∙ ap (λ l. waits_below (items_of l) c.args.child.now) c.self.view_is
