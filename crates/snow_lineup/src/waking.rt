@@ -38,7 +38,9 @@ impl<T: Keyed> Lineup<T> {
         if len == 0 {
             return false;
         }
-        if !self.rows.are_single() {
+        // (no key has several places then)
+        let single = self.rows.are_single();
+        if !single {
             return false;
         }
         self.slots[len - 1].item.key() == *key

@@ -14,7 +14,7 @@ returns-clause-alone g c told d =
     let there : at < length slots = omega (arith, c.if-len-eq0.false, c.len-len.ensures) in
     let same = ap (λ k. bytes_eq k c.args.key.now) (sym c.key.ensures) ∙ sym c.eq.ensures ∙ told in
     let whole = wakes_one key slots c.self.inside.rows.rows c.self.inside.next at c.index.result.now c.args.key.now c.self.invariant.0
-    (c.are_single.ensures c.if-not-are_single.false c.args.key.now) there c.index.ensures same d in
+    (c.are_single-single.ensures c.if-not-single.false c.args.key.now) there c.index.ensures same d in
     let seats : List (_ × Mark) = c.args.self.now in
     let last : at ≡ length seats - 1 = omega (arith, c.len-len.ensures, length-map slots seat_of, ap length c.self.view_is) in
     subst (λ n. map (woken key c.args.key.now) seats ≡ set seats n ((get_or seats n d).0, New)) last
