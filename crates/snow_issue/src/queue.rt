@@ -82,7 +82,12 @@ impl Queue {
         if let Some(answer) = offering::refusal(&self.waiting, &self.gone, board, &block.header) {
             return Ok(answer);
         }
-        self.wait(block, board)
+        let Waiting {
+            node,
+            header,
+            bytes,
+        } = block;
+        self.wait(node, &header, bytes, board)
     }
 
     /// Offers a block whose bytes stand elsewhere, as `offer` does. They are copied only where it
@@ -91,45 +96,52 @@ impl Queue {
         &mut self,
         alloc: Global,
         node: NodeId,
-        header: Header,
+        header: &Header,
         bytes: &[u8],
         board: &B,
     ) -> Result<Offered, AllocError>
-        ensures answer { let block : Waiting = record { node = node; header = header; bytes = bytes.now } in
+        ensures answer { let block : Waiting = record { node = node; header = header.now; bytes = bytes.now } in
             IfOk result (λ answer. answer ≡ offered (lists_of self.old) (B.board board.now) block) }
-        ensures lists { let block : Waiting = record { node = node; header = header; bytes = bytes.now } in
+        ensures lists { let block : Waiting = record { node = node; header = header.now; bytes = bytes.now } in
             IfOk result (λ answer. lists_of self.new ≡ after_offer (lists_of self.old) block answer) }
         ensures err { OnErr result (self.new ≡ self.old) }
         ensures knows { (b : model.Board) → Knows self.old b → Knows self.new b }
         ensures ripe { NoneRipe self.old.seats → NoneRipe self.new.seats }
         ensures limits { AreWithinLimits (lists_of self.new) }
     {
-        if let Some(answer) = offering::refusal(&self.waiting, &self.gone, board, &header) {
+        if let Some(answer) = offering::refusal(&self.waiting, &self.gone, board, header) {
             return Ok(answer);
         }
         let bytes = Bytes::from_slice(alloc, bytes)?;
-        let block = Waiting {
-            node,
-            header,
-            bytes,
-        };
-        self.wait(block, board)
+        self.wait(node, header, bytes, board)
     }
 
-    // A block waits that nothing stands against.
-    fn wait<B: Board>(&mut self, block: Waiting, board: &B) -> Result<Offered, AllocError>
-        requires { refusal (lists_of self.old) (B.board board.now) block.header ≡ None }
-        ensures answer { IfOk result (λ answer. answer ≡ offered (lists_of self.old) (B.board board.now) block) }
-        ensures lists { IfOk result (λ answer. lists_of self.new ≡ after_offer (lists_of self.old) block answer) }
+    // A block waits that nothing stands against. It is put together here, so that its header is copied
+    // once.
+    fn wait<B: Board>(
+        &mut self,
+        node: NodeId,
+        header: &Header,
+        bytes: Bytes,
+        board: &B,
+    ) -> Result<Offered, AllocError>
+        requires { refusal (lists_of self.old) (B.board board.now) header.now ≡ None }
+        ensures answer { let block : Waiting = record { node = node; header = header.now; bytes = bytes } in
+            IfOk result (λ answer. answer ≡ offered (lists_of self.old) (B.board board.now) block) }
+        ensures lists { let block : Waiting = record { node = node; header = header.now; bytes = bytes } in
+            IfOk result (λ answer. lists_of self.new ≡ after_offer (lists_of self.old) block answer) }
         ensures err { OnErr result (self.new ≡ self.old) }
         ensures knows { (b : model.Board) → Knows self.old b → Knows self.new b }
         ensures ripe { NoneRipe self.old.seats → NoneRipe self.new.seats }
         ensures limits { AreWithinLimits (lists_of self.new) }
     {
-        let header = block.header;
-        self.waiting.push(block)?;
+        self.waiting.push(Waiting {
+            node,
+            header: *header,
+            bytes,
+        })?;
         Ok(Offered::Waits {
-            ask: offering::ask(&self.waiting, &self.gets, &self.gone, board, &header),
+            ask: offering::ask(&self.waiting, &self.gets, &self.gone, board, header),
         })
     }
 

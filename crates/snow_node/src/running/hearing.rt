@@ -142,7 +142,7 @@ impl<C: Chain, B: Board> Running<C, B> {
         self.remembered = self.remembered.woken();
         match self
             .queue
-            .bring(self.alloc, *peer, header, bytes, &self.board)?
+            .bring(self.alloc, *peer, &header, bytes, &self.board)?
         {
             Offered::Known => Ok(()),
             Offered::Invalid => drop_block(id, DropWhy::Invalid, log),
