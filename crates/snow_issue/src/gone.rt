@@ -1,4 +1,5 @@
 ghost use Rattle.std.specs.Prelude.{◌≡◌, [], IfOk};
+ghost use Rattle.std.specs.Option.{option_copied};
 ghost use Rattle.snow_issue.specs.Gone.{with_gone, latest, stands_for, holds};
 
 use snow_base::Id;
@@ -60,17 +61,21 @@ impl GoneList {
     }
 
     /// The latest entry of a block.
-    pub fn latest(&self, id: &Id) -> Option<Gone>
-        ensures { result ≡ latest self.now id.now }
+    #[inline(always)]
+    pub fn latest(&self, id: &Id) -> Option<&Gone>
+        ensures { option_copied result ≡ latest self.now id.now }
     {
-        self.entries.latest(id).copied()
+        self.entries.latest(id)
     }
 
     /// The block that stands for one that is gone: the parent of its latest entry, if it has one.
     pub fn stands_for(&self, id: &Id) -> Option<Id>
         ensures { result ≡ stands_for self.now id.now }
     {
-        self.latest(id)?.parent
+        match self.latest(id) {
+            Some(entry) => entry.parent,
+            None => None,
+        }
     }
 
     /// Whether a block is in the list.

@@ -1,5 +1,5 @@
 ghost use Rattle.std.specs.Prelude.{◌≡◌, ◌||◌, [], is_some, nat_le};
-ghost use Rattle.std.specs.Option.{option_and_then};
+ghost use Rattle.std.specs.Option.{option_and_then, option_copied};
 ghost use Rattle.snow_issue.specs.Offering.{is_on, is_unknown, wanted, is_high, asks, refusal};
 ghost use Rattle.snow_issue.specs.Lists.{waits};
 ghost use Rattle.snow_issue.specs.Keeping.{parts};
@@ -38,6 +38,7 @@ fn is_unknown<B: Board>(
 }
 
 /// Whether a block that a reply names is to be asked for.
+#[inline(always)]
 pub(crate) fn is_wanted<B: Board>(
     waiting: &WaitingList,
     gets: &Gets,
@@ -85,8 +86,8 @@ fn is_known<B: Board>(waiting: &WaitingList, board: &B, id: &Id) -> bool
 }
 
 // Whether this entry of a block has a parent.
-fn has_parent(entry: &Option<Gone>) -> bool
-    ensures { result ≡ is_some (option_and_then (λ e. e.parent) entry.now) }
+fn has_parent(entry: Option<&Gone>) -> bool
+    ensures { result ≡ is_some (option_and_then (λ e. e.parent) (option_copied entry.entry)) }
 {
     match entry {
         Some(entry) => entry.parent.is_some(),
@@ -95,13 +96,14 @@ fn has_parent(entry: &Option<Gone>) -> bool
 }
 
 // Whether a block went, by its latest entry, or is too low to be issued.
-fn is_old<B: Board>(latest: &Option<Gone>, board: &B, block: &Header) -> bool
-    ensures { result ≡ (is_some latest.now || nat_le block.now.height (B.board board.now).height) }
+fn is_old<B: Board>(latest: Option<&Gone>, board: &B, block: &Header) -> bool
+    ensures { result ≡ (is_some (option_copied latest.entry) || nat_le block.now.height (B.board board.now).height) }
 {
     latest.is_some() || block.height <= board.last_height()
 }
 
 /// The first reason, if there is one, for which an offered block doesn't wait.
+#[inline(always)]
 pub(crate) fn refusal<B: Board>(
     waiting: &WaitingList,
     gone: &GoneList,
@@ -114,10 +116,10 @@ pub(crate) fn refusal<B: Board>(
         return Some(Offered::Known);
     }
     let latest = gone.latest(&block.id);
-    if has_parent(&latest) {
+    if has_parent(latest) {
         return Some(Offered::Invalid);
     }
-    if is_old(&latest, board, block) {
+    if is_old(latest, board, block) {
         return Some(Offered::Old);
     }
     if waiting.len() < 4096 {

@@ -307,7 +307,9 @@ impl Queue {
         self.next_step(board)
     }
 
-    // The same, whatever is remembered of the waiting blocks.
+    // The same, whatever is remembered of the waiting blocks. A call, so that what is taken goes straight
+    // to where it is wanted.
+    #[inline(never)]
     fn next_step<B: Board>(&mut self, board: &B) -> Option<Work>
         requires { Knows self.old (B.board board.now) }
         ensures { TakesStep self.old self.new (B.board board.now) result }

@@ -90,6 +90,7 @@ impl Queue {
     }
 
     // Takes the block at a place out. Its children and the replies that name it are to be looked at.
+    #[inline(always)]
     fn take_block(&mut self, at: usize) -> Waiting
         requires { at < length self.old.seats }
         ensures taken { HoldsAt (λ s. result ≡ s.0) self.old.seats at }

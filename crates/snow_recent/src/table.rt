@@ -86,6 +86,7 @@ impl Table {
     }
 
     /// Takes the number of the oldest entry out, if it is there.
+    #[inline(never)]
     pub(crate) fn take_oldest<T: Named>(&mut self, entries: &VecDeque<T>, first: u32)
         requires { IsRising (id_of T.id entries.now.items first) (concat self.old.rows) }
         ensures numbers { concat self.new.rows ≡ without_oldest first (concat self.old.rows) }
@@ -99,6 +100,7 @@ impl Table {
     }
 
     /// Files the number of a new entry: it replaces the number of an older entry of the identifier.
+    #[inline(never)]
     pub(crate) fn file<T: Named>(&mut self, entries: &VecDeque<T>, first: u32, number: u32)
         requires order { IsRising (id_of T.id entries.now.items first) (concat self.old.rows) }
         requires room { length (concat self.old.rows) < self.old.most }
