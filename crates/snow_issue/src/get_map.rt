@@ -79,6 +79,8 @@ impl GetMap {
     }
 
     /// Opens a get. After want of memory all is as before.
+    // A call, as is the next one, so that a get that stands alone costs little.
+    #[inline(never)]
     pub(crate) fn open(&mut self, get: Get) -> Result<(), AllocError>
         requires number { has_number self.old get.number ≡ false }
         requires id { asked_in self.old get.id ≡ false }
@@ -95,6 +97,7 @@ impl GetMap {
     }
 
     /// Closes the get of a number and node, and gives the block that was asked for.
+    #[inline(never)]
     pub(crate) fn close(&mut self, number: u32, node: &NodeId) -> Option<Id>
         ensures answer { result ≡ option_map (λ g. g.id) (find (is_get number node.now) self.old) }
         ensures left { self.new ≡ without (is_get number node.now) self.old }

@@ -74,6 +74,7 @@ impl Gets {
     }
 
     /// Opens a get. After want of memory all is as before.
+    #[inline(always)]
     pub fn open(&mut self, get: Get) -> Result<(), AllocError>
         requires number { has_number self.old get.number ≡ false }
         requires id { asked_in self.old get.id ≡ false }
@@ -89,6 +90,7 @@ impl Gets {
     }
 
     /// Closes the get of a number and node, and gives the block that was asked for.
+    #[inline(always)]
     pub fn close(&mut self, number: u32, node: &NodeId) -> Option<Id>
         ensures answer { result ≡ option_map (λ g. g.id) (find (is_get number node.now) self.old) }
         ensures left { self.new ≡ without (is_get number node.now) self.old }
@@ -106,6 +108,7 @@ impl Gets {
 }
 
 // A get that stood alone goes to the others. After want of memory all is as before.
+#[inline(never)]
 fn join(alone: &mut Option<Get>, others: &mut GetMap) -> Result<(), AllocError>
     requires { StandsAlone alone.old others.old }
     ensures none { OnOk result (alone.new ≡ None) }
