@@ -1,6 +1,6 @@
 -- Cases on tests, on identifiers, and on lists of entries by their keys.
 use Rattle.std.proofs.Common.{◌≡◌, ℕ, zero, suc, Bool, true, false, not, cond, ◌&&◌, List, [], ◌∷◌, ◌++◌, length, Option, None, Some, Result, Ok, Err, bytes_eq, slice_get, slice_set, get_or, refl, sym, ap, ◌∙◌, arith}
-use Rattle.std.specs.Map.{lookup, remove_entry}
+use Rattle.std.specs.Map.{lookup, remove_entry, keys_of}
 use Rattle.std.specs.Option.{option_map_or, option_or, is_some}
 use Rattle.std.specs.Result.{OnOk, OnErr}
 use Rattle.std.proofs.lemmas.Slice.Eq.{bytes_eq-Decides}
@@ -75,6 +75,11 @@ module _ {X : Type 0} where
   set_elsewhere (z ∷ xs) zero (suc j) x apart = refl
   set_elsewhere (z ∷ xs) (suc k) zero x apart = refl
   set_elsewhere (z ∷ xs) (suc k) (suc j) x apart = set_elsewhere xs k j x (λ e. apart (ap suc e))
+
+-- the keys of two lists
+pub appended_keys : {V : Type 0} (xs ys : List (List ℕ × V)) → keys_of (xs ++ ys) ≡ keys_of xs ++ keys_of ys
+appended_keys [] ys = refl
+appended_keys (x ∷ xs) ys = ap (λ l. x.0 ∷ l) (appended_keys xs ys)
 
 module _ {V : Type 0} (test : List ℕ → Bool) where
   -- an identifier in two lists

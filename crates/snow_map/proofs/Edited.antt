@@ -4,13 +4,13 @@ use Rattle.std.specs.List.Sorted.{IsPermutation}
 use Rattle.std.specs.Map.{remove_entry, keys_of}
 use Rattle.std.specs.Option.{is_some}
 use Rattle.std.specs.Result.{IsErr}
-use Rattle.std.proofs.lemmas.List.Sorted.{IsPermutation-refl}
+use Rattle.std.proofs.lemmas.List.Sorted.{IsPermutation-refl, length_permutation}
 use Rattle.snow_map.specs.declared.seat.Seat.{Seat}
 use Rattle.snow_map.specs.Entries.{value_of}
 use Rattle.snow_map.specs.Seats.{place_of, is_at, has_at, with_behind, entries_of, behind, IsKept, IsInserted, IsTaken}
-use Rattle.snow_map.proofs.Cases.{split_on, clash, same_id, removed_none}
+use Rattle.snow_map.proofs.Cases.{split_on, clash, same_id, none_long, removed_none}
 use Rattle.snow_map.proofs.Counted.{few_behind, moved, one_first, one_out, just_at, not_at}
-use Rattle.snow_map.proofs.Others.{ChangedAt, IsCounted, counted, counted_same, take_other}
+use Rattle.snow_map.proofs.Behind.{ChangedAt, IsCounted, counted, counted_same, take_other}
 
 module _ {V : Type 0} (count : ℕ) (seats : List (Seat V)) (others : List (List ℕ × V)) (at : ℕ) (id : List ℕ) where
   -- the others have this at the identifier now, and the rest as before
@@ -93,17 +93,24 @@ module _ {V : Type 0} (count : ℕ) (seats : List (Seat V)) (others : List (List
       recounts.0 recounts.1
       (λ some none. absurd (clash (is_some (value_of others id)) is (ap (λ l. is_some (value_of l id)) (kept.begun some none))))
 
-  pub none_left : (others' : List (List ℕ × V)) → IsKept count seats others → at ≡ place_of count id → has_at seats at id ≡ false → others' ≡ others → IsCounted count seats seats others'
-  none_left others' kept here other same =
-      counted_same count seats others others' at id kept here other (λ q f. ap (λ l. value_of l q) same)
-      (λ place. ap (λ l. behind count place l) same)
-      (λ some none. same ∙ kept.begun some none)
+  pub none_left : (others' : List (List ℕ × V)) → IsKept count seats others → at ≡ place_of count id → has_at seats at id ≡ false → value_of others id ≡ None
+      → Updated others' None → IsPermutation (remove_entry (bytes_eq id) others) others' → IsCounted count seats seats others'
+  none_left others' kept here other none updates left =
+      let same : IsPermutation others others' = subst (λ l. IsPermutation l others') (removed_none (bytes_eq id) others none) left in
+      counted_same count seats others others' at id kept here other (changed others' None updates)
+      (λ place. moved count place others others' same)
+      (λ some empty. none_long others' (length_permutation others others' same ∙ ap length (kept.begun some empty)))
 
   pub nothing_left : IsKept count seats others → at ≡ place_of count id → has_at seats at id ≡ false → value_of others id ≡ None → IsTaken (entries_of seats others) (entries_of seats others) id None
   nothing_left kept here other none =
       subst (IsTaken (entries_of seats others) (entries_of seats others) id) none
-      (take_other count seats seats others others at id kept here other (none_left others kept here other refl)
-      (λ q. split_on (bytes_eq id q)
-      (λ t. ap (value_of others) (sym (same_id id q t)) ∙ none ∙ ap (λ b. cond b None (value_of others q)) (sym t))
-      (λ f. ap (λ b. cond b None (value_of others q)) (sym f)))
-      (subst (IsPermutation (remove_entry (bytes_eq id) others)) (removed_none (bytes_eq id) others none) (IsPermutation-refl (remove_entry (bytes_eq id) others))))
+      (take_other count seats seats others others at id kept here other (none_left others kept here other none updates left) updates left)
+    where
+      updates : Updated others None
+      updates q =
+          split_on (bytes_eq id q)
+          (λ t. ap (value_of others) (sym (same_id id q t)) ∙ none ∙ ap (λ b. cond b None (value_of others q)) (sym t))
+          (λ f. ap (λ b. cond b None (value_of others q)) (sym f))
+
+      left : IsPermutation (remove_entry (bytes_eq id) others) others
+      left = subst (IsPermutation (remove_entry (bytes_eq id) others)) (removed_none (bytes_eq id) others none) (IsPermutation-refl (remove_entry (bytes_eq id) others))

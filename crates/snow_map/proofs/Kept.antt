@@ -9,8 +9,8 @@ use Rattle.std.proofs.lemmas.Option.{MatchOption-at_some, same_Some}
 use Rattle.snow_map.specs.declared.seat.Seat.{Seat}
 use Rattle.snow_map.specs.Entries.{value_of, HasAt}
 use Rattle.snow_map.specs.Seats.{place_of, is_at, is_there, is_free, has_at, value_in, has, with_entry, seated, entries_of, behind, IsPlaced, IsSeat, IsKept, IsPut, IsTaken}
-use Rattle.snow_map.proofs.Cases.{split_on, clash, same_id, id_itself, differs_back, apart_ids, appended, removed_left, both, some_there, none_there, read_there, set_here, set_elsewhere}
-use Rattle.snow_map.proofs.Seated.{seat_gives, AreFrom, found_from, one_more, one_less}
+use Rattle.snow_map.proofs.Cases.{split_on, clash, same_id, id_itself, differs_back, apart_ids, appended, appended_keys, removed_left, both, some_there, none_there, read_there, set_here, set_elsewhere}
+use Rattle.snow_map.proofs.Seated.{seat_gives, AreFrom, found_from, one_more, one_less, same_keys}
 
 module _ {V : Type 0} where
   pub from_start : (count : ℕ) (seats : List (Seat V)) (others : List (List ℕ × V)) → IsKept count seats others → AreFrom count 0 seats
@@ -169,6 +169,7 @@ module _ {V : Type 0} where
           told = sym (ap (λ o. value_in o id) empty) ∙ told count seats others at was id kept there place alone;
           updates = given count seats others at was id value kept there place alone (λ q f. ap (λ o. value_in o q) empty);
           added = λ none. IsPermutation-append_left others ((id, value) ∷ seated seats) (seated (slice_set seats at (holding was id value))) (one_more seats at was (holding was id value) (id, value) there empty refl);
+          stays = λ some. absurd (clash (is_some (value_of (entries_of seats others) id)) some (ap is_some (sym (told count seats others at was id kept there place alone) ∙ ap (λ o. value_in o id) empty)));
         },
       )
 
@@ -188,6 +189,10 @@ module _ {V : Type 0} where
           told = gave ∙ tells;
           updates = given count seats others at was id value kept there alone.0 alone.1 (λ q f. gives_no_other was.entry held.0 id q held.1 held.2 f);
           added = λ none. absurd (clash (is_some (value_in was.entry id)) has_it (ap is_some (tells ∙ none)));
+          stays = λ some.
+              appended_keys (seated (slice_set seats at (holding was id value))) others
+              ∙ ap (λ l. l ++ keys_of others) (same_keys seats at was (holding was id value) held.0 (id, value) there held.1 refl (same_id id held.0.0 held.2))
+              ∙ sym (appended_keys (seated seats) others);
         },
       )
 

@@ -2,6 +2,6 @@ mod Cases
 mod Seated
 mod Kept
 mod Counted
-mod Others
+mod Behind
 mod Edited
 mod Distinct

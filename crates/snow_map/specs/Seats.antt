@@ -1,5 +1,5 @@
 -- Where the entries of a map stand: each at its identifier's seat, or among others where that was taken.
-use Rattle.std.specs.Prelude.{◌≡◌, ℕ, ◌+◌, ◌*◌, ◌%◌, ◌<◌, ◌==◌, Bool, false, not, ◌&&◌, List, [], ◌∷◌, ◌++◌, length, filter, get_or, slice_get, Option, Some, None, Result, Ok, Err, IfSome, is_some, bytes_eq}
+use Rattle.std.specs.Prelude.{◌≡◌, ℕ, ◌+◌, ◌*◌, ◌%◌, ◌<◌, ◌==◌, Bool, true, false, not, ◌&&◌, List, [], ◌∷◌, ◌++◌, length, filter, get_or, slice_get, Option, Some, None, Result, Ok, Err, IfSome, is_some, bytes_eq}
 use Rattle.std.specs.List.Sorted.{IsPermutation}
 use Rattle.std.specs.Map.{keys_of, remove_entry}
 use Rattle.std.specs.Option.{option_map_or, option_to_list}
@@ -86,6 +86,7 @@ module _ {V : Type 0} where
     pub told : result ≡ value_of before id
     pub updates : HasAt before now id (Some value)
     pub added : value_of before id ≡ None → IsPermutation ((id, value) ∷ before) now
+    pub stays : is_some (value_of before id) ≡ true → keys_of now ≡ keys_of before
 
   -- and after want of memory all is as before, which is only where it had none
   abbrev pub IsInserted : {E : Type 0} → List (List ℕ × V) → List (List ℕ × V) → List ℕ → V → Result (Option V) E → Type 0

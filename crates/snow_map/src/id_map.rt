@@ -5,6 +5,7 @@ ghost use Rattle.std.specs.Map.{keys_of, remove_entry};
 ghost use Rattle.std.specs.Option.{option_copied};
 ghost use Rattle.snow_map.specs.Entries.{value_of, HasAt};
 
+use crate::shelf::Shelf;
 use crate::table::Table;
 use snow_base::Id;
 use std::alloc::{AllocError, Global};
@@ -15,7 +16,7 @@ use std::marker::Model;
 /// entries share one where there are several times as many.
 #[derive(Drop)]
 pub struct IdMap<V, const SEATS: usize> {
-    table: Table<V, SEATS>,
+    table: Table<V, Shelf<V, SEATS>, SEATS>,
 }
 
 impl<V, const SEATS: usize> Model for IdMap<V, SEATS> {
@@ -24,9 +25,9 @@ impl<V, const SEATS: usize> Model for IdMap<V, SEATS> {
 
     ghost Value = { List (List ℕ × V) };
 
-    ghost view = { λ a. entries_of a.table.seats.items a.table.others.entries };
+    ghost view = { λ a. entries_of a.table.seats.items a.table.others };
 
-    ghost invariant = { λ a. IsKept SEATS a.table.seats.items a.table.others.entries };
+    ghost invariant = { λ a. IsKept SEATS a.table.seats.items a.table.others };
 }
 
 impl<V: Drop, const SEATS: usize> IdMap<V, SEATS> {
@@ -45,7 +46,7 @@ impl<V: Drop, const SEATS: usize> IdMap<V, SEATS> {
         ensures value { option_copied result ≡ value_of self.now id.now }
         ensures unique { IsDistinct bytes_eq (keys_of self.now) }
     {
-        let _unique = self.table.others.len();
+        self.table.facts();
         self.table.get(id)
     }
 
@@ -67,9 +68,6 @@ impl<V: Drop, const SEATS: usize> IdMap<V, SEATS> {
         ensures err { OnErr result (self.new ≡ self.old) }
         ensures succeeds { IsSome (value_of self.old id) → IsOk result }
     {
-        if SEATS > 0 && self.table.seats.is_empty() {
-            self.table.begin()?;
-        }
         self.table.insert(id, value)
     }
 

@@ -2,7 +2,9 @@
 #![tactic(auto)]
 
 mod id_map;
+mod others;
 mod seat;
+mod shelf;
 mod table;
 
 pub use id_map::IdMap;

@@ -1,42 +1,44 @@
 //! Where entries stand: each at its identifier's seat, or among others where that is taken.
-ghost use Rattle.std.specs.Prelude.{◌≡◌, ◌+◌, ◌-◌, ◌==◌, ◌<◌, ◌^◌, true, false, [], None, Some, OnOk, OnErr, length, not, is_some, replicate, slice_get, slice_set};
+ghost use Rattle.std.specs.Prelude.{◌≡◌, ◌+◌, ◌-◌, ◌==◌, ◌<◌, ◌≤◌, ◌^◌, true, false, [], None, Some, OnOk, OnErr, length, not, is_some, replicate, slice_get, slice_set, bytes_eq};
+ghost use Rattle.std.specs.List.{IsDistinct};
+ghost use Rattle.std.specs.Map.{keys_of};
 ghost use Rattle.std.specs.Option.{option_copied};
 ghost use Rattle.snow_map.specs.Entries.{value_of};
 ghost use Rattle.snow_map.specs.declared.seat.Seat.{Seat};
 ghost use Rattle.snow_map.specs.Seats.{place_of, has_at, is_there, is_free, with_behind, empty_seat, entries_of, IsKept, IsPut, IsInserted, IsTaken};
 
+use crate::others::Others;
 use crate::seat::{Seat, place_of};
 use snow_base::Id;
 use std::alloc::{AllocError, Global};
-use std::collections::HashMap;
 
 /// So many seats, and the entries that came when theirs was taken.
 #[derive(Drop)]
-pub(crate) struct Table<V, const SEATS: usize> {
+pub(crate) struct Table<V, O, const SEATS: usize> {
     pub(crate) seats: Vec<Seat<V>>,
-    pub(crate) others: HashMap<Id, V>,
+    pub(crate) others: O,
 }
 
-impl<V: Drop, const SEATS: usize> Table<V, SEATS> {
+impl<V: Drop, O: Others<V>, const SEATS: usize> Table<V, O, SEATS> {
     /// No seat yet. It takes no memory.
     pub(crate) fn new(alloc: Global) -> Self
         ensures seats { result.seats.items ≡ [] }
-        ensures others { result.others.entries ≡ [] }
+        ensures others { O.entries result.others ≡ [] }
     {
         Table {
             seats: Vec::new(alloc),
-            others: HashMap::new(alloc),
+            others: O::new(alloc),
         }
     }
 
-    /// Makes all seats, of which there are none yet.
+    // Makes all seats, of which there are none yet.
     #[inline(never)]
-    pub(crate) fn begin(&mut self) -> Result<(), AllocError>
-        requires kept { IsKept SEATS self.old.seats.items self.old.others.entries }
+    fn begin(&mut self) -> Result<(), AllocError>
+        requires kept { IsKept SEATS self.old.seats.items (O.entries self.old.others) }
         requires some { 0 < SEATS }
         requires none { length self.old.seats.items ≡ 0 }
-        ensures kept { IsKept SEATS self.new.seats.items self.new.others.entries }
-        ensures entries { entries_of self.new.seats.items self.new.others.entries ≡ entries_of self.old.seats.items self.old.others.entries }
+        ensures kept { IsKept SEATS self.new.seats.items (O.entries self.new.others) }
+        ensures entries { entries_of self.new.seats.items (O.entries self.new.others) ≡ entries_of self.old.seats.items (O.entries self.old.others) }
         ensures begun { OnOk result (0 < length self.new.seats.items) }
     {
         make_seats(&mut self.seats, SEATS)
@@ -45,8 +47,8 @@ impl<V: Drop, const SEATS: usize> Table<V, SEATS> {
     /// The value at an identifier. Most that aren't there have a seat behind which nothing stands.
     #[inline(always)]
     pub(crate) fn get(&self, id: &Id) -> Option<&V>
-        requires { IsKept SEATS self.now.seats.items self.now.others.entries }
-        ensures { option_copied result ≡ value_of (entries_of self.now.seats.items self.now.others.entries) id.now }
+        requires { IsKept SEATS self.now.seats.items (O.entries self.now.others) }
+        ensures { option_copied result ≡ value_of (entries_of self.now.seats.items (O.entries self.now.others)) id.now }
     {
         if let Some(seat) = self.seat(place_of::<SEATS>(id)) {
             if let Some(value) = seat.value(id) {
@@ -59,24 +61,44 @@ impl<V: Drop, const SEATS: usize> Table<V, SEATS> {
         self.value_behind(id)
     }
 
+    /// Does nothing, and tells what is always so of the entries.
+    #[inline(always)]
+    pub(crate) fn facts(&self)
+        requires { IsKept SEATS self.now.seats.items (O.entries self.now.others) }
+        ensures unique { IsDistinct bytes_eq (keys_of (entries_of self.now.seats.items (O.entries self.now.others))) }
+        ensures few { length (entries_of self.now.seats.items (O.entries self.now.others)) ≤ 65536 + length (O.entries self.now.others) }
+    {
+        self.others.facts();
+    }
+
     // The value at an identifier among the others.
     #[inline(never)]
     fn value_behind(&self, id: &Id) -> Option<&V>
-        ensures { option_copied result ≡ value_of self.now.others.entries id.now }
+        ensures { option_copied result ≡ value_of (O.entries self.now.others) id.now }
     {
-        if self.others.is_empty() {
-            return None;
-        }
         self.others.get(id)
     }
 
-    /// Puts a value at an identifier.
+    /// Puts a value at an identifier. All seats are made with the first one.
     #[inline(always)]
     pub(crate) fn insert(&mut self, id: Id, value: V) -> Result<Option<V>, AllocError>
-        requires kept { IsKept SEATS self.old.seats.items self.old.others.entries }
+        requires { IsKept SEATS self.old.seats.items (O.entries self.old.others) }
+        ensures kept { IsKept SEATS self.new.seats.items (O.entries self.new.others) }
+        ensures inserted { IsInserted (entries_of self.old.seats.items (O.entries self.old.others)) (entries_of self.new.seats.items (O.entries self.new.others)) id value result }
+    {
+        if SEATS > 0 && self.seats.is_empty() {
+            self.begin()?;
+        }
+        self.insert_seated(id, value)
+    }
+
+    // The same once the seats are made.
+    #[inline(always)]
+    fn insert_seated(&mut self, id: Id, value: V) -> Result<Option<V>, AllocError>
+        requires kept { IsKept SEATS self.old.seats.items (O.entries self.old.others) }
         requires begun { 0 < SEATS → 0 < length self.old.seats.items }
-        ensures kept { IsKept SEATS self.new.seats.items self.new.others.entries }
-        ensures inserted { IsInserted (entries_of self.old.seats.items self.old.others.entries) (entries_of self.new.seats.items self.new.others.entries) id value result }
+        ensures kept { IsKept SEATS self.new.seats.items (O.entries self.new.others) }
+        ensures inserted { IsInserted (entries_of self.old.seats.items (O.entries self.old.others)) (entries_of self.new.seats.items (O.entries self.new.others)) id value result }
     {
         let at = place_of::<SEATS>(&id);
         if self.is_free(at) {
@@ -92,12 +114,12 @@ impl<V: Drop, const SEATS: usize> Table<V, SEATS> {
     // The same where the seat is taken, or entries of its identifiers stand elsewhere.
     #[inline(never)]
     fn insert_behind(&mut self, at: usize, id: Id, value: V) -> Result<Option<V>, AllocError>
-        requires kept { IsKept SEATS self.old.seats.items self.old.others.entries }
+        requires kept { IsKept SEATS self.old.seats.items (O.entries self.old.others) }
         requires begun { 0 < SEATS → 0 < length self.old.seats.items }
         requires place { at ≡ place_of SEATS id }
         requires other { has_at self.old.seats.items at id ≡ false }
-        ensures kept { IsKept SEATS self.new.seats.items self.new.others.entries }
-        ensures inserted { IsInserted (entries_of self.old.seats.items self.old.others.entries) (entries_of self.new.seats.items self.new.others.entries) id value result }
+        ensures kept { IsKept SEATS self.new.seats.items (O.entries self.new.others) }
+        ensures inserted { IsInserted (entries_of self.old.seats.items (O.entries self.old.others)) (entries_of self.new.seats.items (O.entries self.new.others)) id value result }
     {
         if self.is_empty(at) && self.value_behind(&id).is_none() {
             self.put(at, id, value);
@@ -108,18 +130,18 @@ impl<V: Drop, const SEATS: usize> Table<V, SEATS> {
 
     // Puts a value at an identifier whose seat hasn't it, among the others.
     fn insert_other(&mut self, at: usize, id: Id, value: V) -> Result<Option<V>, AllocError>
-        requires kept { IsKept SEATS self.old.seats.items self.old.others.entries }
+        requires kept { IsKept SEATS self.old.seats.items (O.entries self.old.others) }
         requires begun { 0 < SEATS → 0 < length self.old.seats.items }
         requires place { at ≡ place_of SEATS id }
         requires other { has_at self.old.seats.items at id ≡ false }
-        ensures kept { IsKept SEATS self.new.seats.items self.new.others.entries }
-        ensures inserted { IsInserted (entries_of self.old.seats.items self.old.others.entries) (entries_of self.new.seats.items self.new.others.entries) id value result }
+        ensures kept { IsKept SEATS self.new.seats.items (O.entries self.new.others) }
+        ensures inserted { IsInserted (entries_of self.old.seats.items (O.entries self.old.others)) (entries_of self.new.seats.items (O.entries self.new.others)) id value result }
     {
         let before = self.others.insert(id, value)?;
         if before.is_some() {
             return Ok(before);
         }
-        let _few = self.others.len();
+        self.others.facts();
         count_up(&mut self.seats, at);
         Ok(before)
     }
@@ -127,12 +149,12 @@ impl<V: Drop, const SEATS: usize> Table<V, SEATS> {
     // Puts an entry at its seat, which is empty, where the others haven't it.
     #[inline(always)]
     fn put(&mut self, at: usize, id: Id, value: V)
-        requires kept { IsKept SEATS self.old.seats.items self.old.others.entries }
+        requires kept { IsKept SEATS self.old.seats.items (O.entries self.old.others) }
         requires place { at ≡ place_of SEATS id }
         requires empty { is_there (λ s. not (is_some s.entry)) self.old.seats.items at ≡ true }
-        requires alone { value_of self.old.others.entries id ≡ None }
-        ensures kept { IsKept SEATS self.new.seats.items self.new.others.entries }
-        ensures put { IsPut (entries_of self.old.seats.items self.old.others.entries) (entries_of self.new.seats.items self.new.others.entries) id value None }
+        requires alone { value_of (O.entries self.old.others) id ≡ None }
+        ensures kept { IsKept SEATS self.new.seats.items (O.entries self.new.others) }
+        ensures put { IsPut (entries_of self.old.seats.items (O.entries self.old.others)) (entries_of self.new.seats.items (O.entries self.new.others)) id value None }
     {
         self.seats[at].put(id, value);
     }
@@ -140,10 +162,10 @@ impl<V: Drop, const SEATS: usize> Table<V, SEATS> {
     // Gives the entry of a seat another value.
     #[inline(always)]
     fn replace(&mut self, at: usize, id: &Id, value: V) -> Option<V>
-        requires kept { IsKept SEATS self.old.seats.items self.old.others.entries }
+        requires kept { IsKept SEATS self.old.seats.items (O.entries self.old.others) }
         requires has { has_at self.old.seats.items at id.now ≡ true }
-        ensures kept { IsKept SEATS self.new.seats.items self.new.others.entries }
-        ensures put { IsPut (entries_of self.old.seats.items self.old.others.entries) (entries_of self.new.seats.items self.new.others.entries) id.now value result }
+        ensures kept { IsKept SEATS self.new.seats.items (O.entries self.new.others) }
+        ensures put { IsPut (entries_of self.old.seats.items (O.entries self.old.others)) (entries_of self.new.seats.items (O.entries self.new.others)) id.now value result }
     {
         self.seats[at].replace(id, value)
     }
@@ -151,9 +173,9 @@ impl<V: Drop, const SEATS: usize> Table<V, SEATS> {
     /// Takes the value at an identifier out.
     #[inline(always)]
     pub(crate) fn remove(&mut self, id: &Id) -> Option<V>
-        requires kept { IsKept SEATS self.old.seats.items self.old.others.entries }
-        ensures kept { IsKept SEATS self.new.seats.items self.new.others.entries }
-        ensures taken { IsTaken (entries_of self.old.seats.items self.old.others.entries) (entries_of self.new.seats.items self.new.others.entries) id.now result }
+        requires kept { IsKept SEATS self.old.seats.items (O.entries self.old.others) }
+        ensures kept { IsKept SEATS self.new.seats.items (O.entries self.new.others) }
+        ensures taken { IsTaken (entries_of self.old.seats.items (O.entries self.old.others)) (entries_of self.new.seats.items (O.entries self.new.others)) id.now result }
     {
         let at = place_of::<SEATS>(id);
         if self.has(at, id) {
@@ -168,10 +190,10 @@ impl<V: Drop, const SEATS: usize> Table<V, SEATS> {
     // Takes the entry of a seat out.
     #[inline(always)]
     fn take(&mut self, at: usize, id: &Id) -> Option<V>
-        requires kept { IsKept SEATS self.old.seats.items self.old.others.entries }
+        requires kept { IsKept SEATS self.old.seats.items (O.entries self.old.others) }
         requires has { has_at self.old.seats.items at id.now ≡ true }
-        ensures kept { IsKept SEATS self.new.seats.items self.new.others.entries }
-        ensures taken { IsTaken (entries_of self.old.seats.items self.old.others.entries) (entries_of self.new.seats.items self.new.others.entries) id.now result }
+        ensures kept { IsKept SEATS self.new.seats.items (O.entries self.new.others) }
+        ensures taken { IsTaken (entries_of self.old.seats.items (O.entries self.old.others)) (entries_of self.new.seats.items (O.entries self.new.others)) id.now result }
     {
         self.seats[at].take(id)
     }
@@ -179,11 +201,11 @@ impl<V: Drop, const SEATS: usize> Table<V, SEATS> {
     // Takes the value at an identifier whose seat hasn't it out of the others.
     #[inline(never)]
     fn take_behind(&mut self, at: usize, id: &Id) -> Option<V>
-        requires kept { IsKept SEATS self.old.seats.items self.old.others.entries }
+        requires kept { IsKept SEATS self.old.seats.items (O.entries self.old.others) }
         requires place { at ≡ place_of SEATS id.now }
         requires other { has_at self.old.seats.items at id.now ≡ false }
-        ensures kept { IsKept SEATS self.new.seats.items self.new.others.entries }
-        ensures taken { IsTaken (entries_of self.old.seats.items self.old.others.entries) (entries_of self.new.seats.items self.new.others.entries) id.now result }
+        ensures kept { IsKept SEATS self.new.seats.items (O.entries self.new.others) }
+        ensures taken { IsTaken (entries_of self.old.seats.items (O.entries self.old.others)) (entries_of self.new.seats.items (O.entries self.new.others)) id.now result }
     {
         let value = self.others.remove(id);
         if value.is_some() {

@@ -6,7 +6,7 @@ use Rattle.snow_map.proofs.table.Table.begin.Goals as goal
 
 pub returns-clause-entries : goal.returns-clause-entries
 returns-clause-entries g c =
-    let others = c.args.self.now.others.entries in
+    let others = g.O.Others.entries c.args.self.now.others in
     let before = none_long c.args.self.now.seats.items c.requires.none in
     on_result c.make_seats.result c.make_seats.ensures.ok c.make_seats.ensures.err
     (λ made. ap (λ l. seated l ++ others) made ∙ ap (λ l. l ++ others) (none_seated g.row.SEATS) ∙ ap (λ l. seated l ++ others) (sym before))

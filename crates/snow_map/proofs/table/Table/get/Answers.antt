@@ -7,7 +7,7 @@ use Rattle.snow_map.proofs.table.Table.get.Goals.{in-Some+in_default-value+else-
 
 pub returns-in-Some-value : goal.returns-in-Some-value
 returns-in-Some-value g c =
-    let others = c.args.self.now.others.entries in
+    let others = g.O.Others.entries c.args.self.now.others in
     let id = c.args.id.now in
     let at = sym c.seat.ensures ∙ ap option_copied c.in-Some.is in
     sym (value_at_seat g.row.SEATS c.args.self.now.seats.items others c.requires c.place_of.result id (Some c.in-Some.seat.now) c.place_of.ensures at
@@ -16,7 +16,7 @@ returns-in-Some-value g c =
 pub returns-then-seat-eq0 : goal.returns-then-seat-eq0
 returns-then-seat-eq0 g c =
     let seats = c.args.self.now.seats.items in
-    let others = c.args.self.now.others.entries in
+    let others = g.O.Others.entries c.args.self.now.others in
     let id = c.args.id.now in
     let seat = c.in-Some.seat.now in
     let at = sym c.seat.ensures ∙ ap option_copied c.in-Some.is in
@@ -26,7 +26,7 @@ returns-then-seat-eq0 g c =
 pub returns : goal.returns
 returns g c =
     let seats = c.args.self.now.seats.items in
-    let others = c.args.self.now.others.entries in
+    let others = g.O.Others.entries c.args.self.now.others in
     let id = c.args.id.now in
     elim c.match-seat.branch [
       | in-Some+in_default-value+else-seat-eq0 w ↦

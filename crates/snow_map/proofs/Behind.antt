@@ -1,8 +1,8 @@
 -- What a map has once the others have one more entry, one less, or another value.
-use Rattle.std.proofs.Common.{◌≡◌, ℕ, zero, suc, ◌<◌, ◌≤◌, ◌==◌, false, cond, List, [], ◌∷◌, ◌++◌, length, Option, None, Some, bytes_eq, slice_get, slice_set, refl, sym, ap, subst, ◌∙◌, arith, length-set, eq-eqb, eqb-true}
+use Rattle.std.proofs.Common.{◌≡◌, ℕ, zero, suc, ◌<◌, ◌≤◌, ◌==◌, true, false, cond, List, [], ◌∷◌, ◌++◌, length, Option, None, Some, bytes_eq, slice_get, slice_set, refl, sym, ap, ap₂, subst, ◌∙◌, arith, length-set, eq-eqb, eqb-true}
 use Rattle.std.specs.Bool.{⊤}
 use Rattle.std.specs.List.Sorted.{IsPermutation}
-use Rattle.std.specs.Map.{remove_entry}
+use Rattle.std.specs.Map.{remove_entry, keys_of}
 use Rattle.std.specs.Option.{option_or, option_map_or, option_to_list, is_some, IfSome}
 use Rattle.std.proofs.lemmas.List.Sorted.{IsPermutation-trans, IsPermutation-sym, IsPermutation-middle, IsPermutation-append_right}
 use Rattle.std.proofs.lemmas.Nat.{mod_below}
@@ -10,7 +10,7 @@ use Rattle.std.proofs.lemmas.Option.{MatchOption-at_some, same_Some, none-some, 
 use Rattle.snow_map.specs.declared.seat.Seat.{Seat}
 use Rattle.snow_map.specs.Entries.{value_of}
 use Rattle.snow_map.specs.Seats.{seat_of, place_of, has_at, value_in, has, with_behind, seated, entries_of, behind, IsPlaced, IsSeat, IsKept, IsPut, IsTaken}
-use Rattle.snow_map.proofs.Cases.{split_on, clash, id_itself, removed_right, set_here, set_elsewhere}
+use Rattle.snow_map.proofs.Cases.{split_on, clash, id_itself, removed_right, appended_keys, set_here, set_elsewhere}
 use Rattle.snow_map.proofs.Kept.{from_start, value_at_seat, held_alone, gives_same, has_now}
 use Rattle.snow_map.proofs.Seated.{seat_gives, found_from}
 
@@ -161,8 +161,9 @@ module _ {V : Type 0} where
 
   pub put_other : (count : ℕ) (seats seats' : List (Seat V)) (others others' : List (List ℕ × V)) (at : ℕ) (id : List ℕ) (value : V) → IsKept count seats others → at ≡ place_of count id
       → has_at seats at id ≡ false → IsCounted count seats seats' others' → ((q : List ℕ) → value_of others' q ≡ cond (bytes_eq id q) (Some value) (value_of others q))
-      → (value_of others id ≡ None → IsPermutation ((id, value) ∷ others) others') → IsPut (entries_of seats others) (entries_of seats' others') id value (value_of others id)
-  put_other count seats seats' others others' at id value kept here other counts updates added =
+      → (value_of others id ≡ None → IsPermutation ((id, value) ∷ others) others') → (is_some (value_of others id) ≡ true → keys_of others' ≡ keys_of others)
+      → IsPut (entries_of seats others) (entries_of seats' others') id value (value_of others id)
+  put_other count seats seats' others others' at id value kept here other counts updates added stays =
       let tells = others_tell count seats others at id kept here other in
       record {
         told = sym tells;
@@ -175,6 +176,10 @@ module _ {V : Type 0} where
             (IsPermutation-trans ((id, value) ∷ entries_of seats others) (seated seats ++ (id, value) ∷ others) (seated seats ++ others')
             (IsPermutation-sym (seated seats ++ (id, value) ∷ others) ((id, value) ∷ entries_of seats others) (IsPermutation-middle (seated seats) (id, value) others))
             (IsPermutation-append_right (seated seats) ((id, value) ∷ others) others' (added (sym tells ∙ none))));
+        stays = λ is.
+            appended_keys (seated seats') others'
+            ∙ ap₂ (λ front back. front ++ back) (ap keys_of counts.same) (stays (ap is_some (sym tells) ∙ is))
+            ∙ sym (appended_keys (seated seats) others);
       }
 
   pub take_other : (count : ℕ) (seats seats' : List (Seat V)) (others others' : List (List ℕ × V)) (at : ℕ) (id : List ℕ) → IsKept count seats others → at ≡ place_of count id
