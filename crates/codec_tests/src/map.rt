@@ -113,6 +113,95 @@ fn there_are_more_entries_than_seats(rt: HostRuntime) -> Result<(), Fail> {
     Ok(())
 }
 
+// Those that begin so share a first seat, of any number up to 4,096, and a second one of 4,096.
+fn twin(number: u8) -> Id {
+    let mut bytes = [0; 32];
+    bytes[1] = number.wrapping_mul(16);
+    Id::from_bytes(bytes)
+}
+
+// The value of a twin, or 0.
+fn value_of_twin<const SEATS: usize>(map: &IdMap<u8, SEATS>, number: u8) -> u8 {
+    match map.get(&twin(number)) {
+        Some(value) => *value,
+        None => 0,
+    }
+}
+
+// The values of the three twins, each of which is a bit of its own.
+fn twins<const SEATS: usize>(map: &IdMap<u8, SEATS>) -> u8 {
+    value_of_twin(map, 1) | value_of_twin(map, 2) | value_of_twin(map, 4)
+}
+
+// A twin comes, or gets its value anew. Twice the value that it had is told, or 0.
+fn twin_comes<const SEATS: usize>(
+    map: &mut IdMap<u8, SEATS>,
+    number: u8,
+) -> Result<u8, AllocError> {
+    let before = map.insert(twin(number), number)?;
+    Ok(before.unwrap_or(0).wrapping_mul(2))
+}
+
+// A twin goes, if it is there: which values are left.
+fn twin_goes<const SEATS: usize>(map: &mut IdMap<u8, SEATS>, number: u8) -> u8 {
+    map.remove(&twin(number));
+    twins(map)
+}
+
+// Three twins come, so that one stands at the first seat, one at the second and one behind both. One
+// goes, another gets its value anew and goes, and goes once more. The first one comes again; the last
+// one goes, and then that one.
+fn come_and_go<const SEATS: usize>(
+    map: &mut IdMap<u8, SEATS>,
+    order: [u8; 3],
+) -> Result<[u8; 7], AllocError> {
+    twin_comes(map, 1)?;
+    twin_comes(map, 2)?;
+    twin_comes(map, 4)?;
+    let first = twin_goes(map, order[0]);
+    let anew = twin_comes(map, order[1])?;
+    let second = twin_goes(map, order[1]);
+    let none = twin_goes(map, order[1]);
+    twin_comes(map, order[0])?;
+    let again = twins(map);
+    let third = twin_goes(map, order[2]);
+    Ok([first, anew, second, none, again, third, twin_goes(map, order[0])])
+}
+
+// They do so in each order.
+fn in_each_order<const SEATS: usize>(alloc: Global) -> Result<[[u8; 7]; 6], AllocError> {
+    let mut map: IdMap<u8, SEATS> = IdMap::new(alloc);
+    let a = come_and_go(&mut map, [1, 2, 4])?;
+    let b = come_and_go(&mut map, [1, 4, 2])?;
+    let c = come_and_go(&mut map, [2, 1, 4])?;
+    let d = come_and_go(&mut map, [2, 4, 1])?;
+    let e = come_and_go(&mut map, [4, 1, 2])?;
+    let f = come_and_go(&mut map, [4, 2, 1])?;
+    drop(map);
+    Ok([a, b, c, d, e, f])
+}
+
+const LEFT_IN_EACH_ORDER: [[u8; 7]; 6] = [
+    [6, 4, 4, 4, 5, 1, 0],
+    [6, 8, 2, 2, 3, 1, 0],
+    [5, 2, 4, 4, 6, 2, 0],
+    [5, 8, 1, 1, 3, 2, 0],
+    [3, 2, 2, 2, 6, 4, 0],
+    [3, 4, 1, 1, 5, 4, 0],
+];
+
+#[test]
+fn three_that_share_both_seats_come_and_go_in_each_order(rt: HostRuntime) -> Result<(), Fail> {
+    assert_eq!(rt; in_each_order::<4>(rt.alloc())?, LEFT_IN_EACH_ORDER);
+    Ok(())
+}
+
+#[test]
+fn so_they_do_where_there_are_second_seats_alone(rt: HostRuntime) -> Result<(), Fail> {
+    assert_eq!(rt; in_each_order::<0>(rt.alloc())?, LEFT_IN_EACH_ORDER);
+    Ok(())
+}
+
 // The seat of an identifier with these two bytes in front, these two at its end, and others between.
 fn seat(first: [u8; 2], last: [u8; 2]) -> usize {
     let mut bytes = [7; 32];

@@ -1,5 +1,5 @@
 -- The seats count what the others have, once one came, left or has another value.
-use Rattle.std.proofs.Common.{◌≡◌, ℕ, ◌+◌, ◌-◌, ◌<◌, true, false, cond, List, ◌∷◌, length, filter, Option, None, Some, Result, Ok, Err, bytes_eq, slice_get, slice_set, refl, sym, ap, subst, ◌∙◌, arith}
+use Rattle.std.proofs.Common.{◌≡◌, ℕ, ◌+◌, ◌-◌, ◌<◌, true, false, cond, List, ◌∷◌, length, filter, Option, None, Some, Result, Ok, Err, bytes_eq, slice_get, slice_set, sym, ap, subst, ◌∙◌, arith}
 use Rattle.std.specs.List.Sorted.{IsPermutation}
 use Rattle.std.specs.Map.{remove_entry, keys_of}
 use Rattle.std.specs.Option.{is_some}
@@ -7,7 +7,7 @@ use Rattle.std.specs.Result.{IsErr}
 use Rattle.std.proofs.lemmas.List.Sorted.{IsPermutation-refl, length_permutation}
 use Rattle.snow_map.specs.declared.seat.Seat.{Seat}
 use Rattle.snow_map.specs.Entries.{value_of}
-use Rattle.snow_map.specs.Seats.{place_of, is_at, has_at, with_behind, entries_of, behind, IsKept, IsInserted, IsTaken}
+use Rattle.snow_map.specs.Seats.{place_of, is_at, has_at, with_behind, entries_of, IsKept, IsInserted, IsTaken}
 use Rattle.snow_map.proofs.Cases.{split_on, clash, same_id, none_long, removed_none}
 use Rattle.snow_map.proofs.Counted.{few_behind, moved, one_first, one_out, just_at, not_at}
 use Rattle.snow_map.proofs.Behind.{ChangedAt, IsCounted, counted, counted_same, take_other}

@@ -11,12 +11,17 @@ use snow_base::Id;
 use std::alloc::{AllocError, Global};
 use std::marker::Model;
 
+/// How many second seats there are, whatever the number of the first ones. A quarter of what maps have as
+/// first ones: as few entries come there, hardly more share one than if there were a second one for each.
+const SECOND_SEATS: usize = 4096;
+
 /// Values by identifier, at most one for each. Contracts see the entries, in no order that is told. An
 /// identifier is looked for at its seat first, of which there are so many from the first entry on: few
-/// entries share one where there are several times as many.
+/// entries share one where there are several times as many. An entry whose seat is taken stands at its
+/// second seat, or in the kit's map where that is taken too.
 #[derive(Drop)]
 pub struct IdMap<V, const SEATS: usize> {
-    table: Table<V, Shelf<V, SEATS>, SEATS>,
+    table: Table<V, Shelf<V, SECOND_SEATS>, SEATS>,
 }
 
 impl<V, const SEATS: usize> Model for IdMap<V, SEATS> {

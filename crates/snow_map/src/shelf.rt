@@ -1,4 +1,4 @@
-//! A second row of seats, with the kit's map behind it.
+//! Second seats, with the kit's map behind them.
 ghost use Rattle.std.specs.Prelude.{◌≡◌, []};
 
 use crate::others::Others;
@@ -8,8 +8,8 @@ use std::alloc::{AllocError, Global};
 use std::collections::HashMap;
 use std::marker::Model;
 
-/// Entries whose first seat is taken: one stands at the second seat of the same place, and the next ones
-/// in the kit's map.
+/// Entries whose first seat is taken: each stands at its second seat, of which there are so many from the
+/// first one on, or in the kit's map where that is taken.
 #[derive(Drop)]
 pub(crate) struct Shelf<V, const SEATS: usize> {
     table: Table<V, HashMap<Id, V>, SEATS>,

@@ -1,4 +1,4 @@
-use Rattle.std.proofs.Common.{◌≡◌, is_some, sym, ap, subst, ◌∙◌}
+use Rattle.std.proofs.Common.{is_some, sym, ap, subst, ◌∙◌}
 use Rattle.snow_map.specs.Seats.{entries_of, IsTaken}
 use Rattle.snow_map.proofs.Behind.{none_of, take_other}
 use Rattle.snow_map.proofs.Edited.{some_behind, one_left, none_left}
