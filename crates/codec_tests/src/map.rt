@@ -165,7 +165,15 @@ fn come_and_go<const SEATS: usize>(
     twin_comes(map, order[0])?;
     let again = twins(map);
     let third = twin_goes(map, order[2]);
-    Ok([first, anew, second, none, again, third, twin_goes(map, order[0])])
+    Ok([
+        first,
+        anew,
+        second,
+        none,
+        again,
+        third,
+        twin_goes(map, order[0]),
+    ])
 }
 
 // They do so in each order.
@@ -202,13 +210,17 @@ fn so_they_do_where_there_are_second_seats_alone(rt: HostRuntime) -> Result<(), 
     Ok(())
 }
 
-// The seat of an identifier with these two bytes in front, these two at its end, and others between.
-fn seat(first: [u8; 2], last: [u8; 2]) -> usize {
+// The seat of an identifier with these four bytes in front, these four at its end, and others between.
+fn seat(first: [u8; 4], last: [u8; 4]) -> usize {
     let mut bytes = [7; 32];
     bytes[0] = first[0];
     bytes[1] = first[1];
-    bytes[30] = last[0];
-    bytes[31] = last[1];
+    bytes[2] = first[2];
+    bytes[3] = first[3];
+    bytes[28] = last[0];
+    bytes[29] = last[1];
+    bytes[30] = last[2];
+    bytes[31] = last[3];
     seat_of(&Id::from_bytes(bytes))
 }
 
@@ -230,11 +242,11 @@ fn a_value_is_there_until_it_is_taken_out(rt: HostRuntime) -> Result<(), Fail> {
     Ok(())
 }
 
-// The two first bytes are a number whose lowest byte is the first, the two last one whose lowest is the
-// last: 513 and 772; and 65,535 and 2.
+// The four first bytes are a number whose lowest byte is the first, the four last one whose lowest is the
+// last: 67,305,985 and 84,281,096; and 2^32-1 and 2.
 #[test]
 fn a_seat_is_told_by_both_ends(rt: HostRuntime) -> Result<(), Fail> {
-    assert_eq!(rt; seat([1, 2], [3, 4]), 1285);
-    assert_eq!(rt; seat([255, 255], [0, 2]), 1);
+    assert_eq!(rt; seat([1, 2, 3, 4], [5, 6, 7, 8]), 151_587_081);
+    assert_eq!(rt; seat([255, 255, 255, 255], [0, 0, 0, 2]), 1);
     Ok(())
 }

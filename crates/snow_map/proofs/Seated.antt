@@ -1,5 +1,5 @@
 -- What the entries of all seats give an identifier, and what they are once a seat has another.
-use Rattle.std.proofs.Common.{◌≡◌, ℕ, zero, suc, ◌+◌, ◌-◌, ◌*◌, ◌<◌, ◌≤◌, true, false, cond, List, [], ◌∷◌, ◌++◌, length, Option, None, Some, bytes_eq, slice_get, slice_set, get_or, replicate, refl, sym, ap, subst, ◌∙◌, arith}
+use Rattle.std.proofs.Common.{◌≡◌, ℕ, zero, suc, ◌+◌, ◌-◌, ◌<◌, ◌≤◌, true, false, cond, List, [], ◌∷◌, ◌++◌, length, Option, None, Some, bytes_eq, slice_get, slice_set, replicate, refl, sym, ap, subst, ◌∙◌, arith}
 use Rattle.std.specs.List.Sorted.{IsPermutation}
 use Rattle.std.specs.Map.{remove_entry, keys_of}
 use Rattle.std.specs.Option.{option_or, option_to_list}
@@ -8,17 +8,17 @@ use Rattle.std.proofs.Math.Nat.{mod-le}
 use Rattle.std.proofs.lemmas.Nat.{mod_below}
 use Rattle.snow_map.specs.declared.seat.Seat.{Seat}
 use Rattle.snow_map.specs.Entries.{value_of}
-use Rattle.snow_map.specs.Seats.{seat_of, place_of, value_in, empty_seat, seated}
+use Rattle.snow_map.specs.Seats.{first_of, last_of, seat_of, place_of, value_in, empty_seat, seated}
 use Rattle.snow_map.proofs.Cases.{same_id, apart_ids, appended, appended_keys, removed_right}
 
 -- an entry at another place is another identifier's
 elsewhere : (count : ℕ) (id key : List ℕ) (place : ℕ) → place_of count key ≡ place → (place_of count id ≡ place → ⊥) → bytes_eq id key ≡ false
 elsewhere count id key place at apart = apart_ids id key (λ e. apart (ap (place_of count) e ∙ at))
 
--- a place is one of 65,536
-place_small : (count : ℕ) (id : List ℕ) → place_of count id < 65536
+-- a place is one of 2^32
+place_small : (count : ℕ) (id : List ℕ) → place_of count id < 4294967296
 place_small count id =
-    let small : seat_of id < 65536 = mod_below (get_or id 0 0 + get_or id 1 0 * 256 + (get_or id 31 0 + get_or id 30 0 * 256)) 65536 (omega arith) in
+    let small : seat_of id < 4294967296 = mod_below (first_of id + last_of id) 4294967296 (omega arith) in
     let low = mod-le (seat_of id) count in
     omega (arith, small, low)
 
@@ -128,12 +128,12 @@ module _ {V : Type 0} where
       ∙ ap (λ l. keys_of (option_to_list seat.entry) ++ l) (same_keys later place was is e f at some now same)
       ∙ sym (appended_keys (option_to_list seat.entry) (seated later))
 
-  -- identifiers tell 65,536 places
-  pub few_seated : (count first : ℕ) (seats : List (Seat V)) → AreFrom count first seats → length (seated seats) ≤ 65536 - first
+  -- identifiers tell 2^32 places
+  pub few_seated : (count first : ℕ) (seats : List (Seat V)) → AreFrom count first seats → length (seated seats) ≤ 4294967296 - first
   few_seated count first [] from = omega arith
   few_seated count first (seat ∷ later) from = by seat.entry refl (few_seated count (suc first) later (next count first seat later from))
     where
-      by : (entry : Option (List ℕ × V)) → seat.entry ≡ entry → length (seated later) ≤ 65536 - suc first → length (option_to_list entry ++ seated later) ≤ 65536 - first
+      by : (entry : Option (List ℕ × V)) → seat.entry ≡ entry → length (seated later) ≤ 4294967296 - suc first → length (option_to_list entry ++ seated later) ≤ 4294967296 - first
       by None none rest = omega (arith, rest)
       by (Some e) some rest =
           let here = first_of_all count first seat later from e some in

@@ -36,7 +36,7 @@ pub(crate) trait Others<V>: Sized + Drop {
     /// Does nothing, and tells what is always so: no identifier stands twice, and entries can be counted.
     fn facts(&self)
         ensures unique { IsDistinct bytes_eq (keys_of (entries self.now)) }
-        ensures few { length (entries self.now) < 2 ^ 63 + 65536 };
+        ensures few { length (entries self.now) < 2 ^ 63 + 2 ^ 32 };
 }
 
 impl<V: Drop> Others<V> for HashMap<Id, V> {

@@ -66,7 +66,7 @@ impl<V: Drop, O: Others<V>, const SEATS: usize> Table<V, O, SEATS> {
     pub(crate) fn facts(&self)
         requires { IsKept SEATS self.now.seats.items (O.entries self.now.others) }
         ensures unique { IsDistinct bytes_eq (keys_of (entries_of self.now.seats.items (O.entries self.now.others))) }
-        ensures few { length (entries_of self.now.seats.items (O.entries self.now.others)) ≤ 65536 + length (O.entries self.now.others) }
+        ensures few { length (entries_of self.now.seats.items (O.entries self.now.others)) ≤ 2 ^ 32 + length (O.entries self.now.others) }
     {
         self.others.facts();
     }
