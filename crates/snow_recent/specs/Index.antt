@@ -1,5 +1,5 @@
 -- The index of the entries: for each seat the number of its latest entry, and a table of those that left their seats to others, identifiers rising.
-use Rattle.std.specs.Prelude.{◌≡◌, ℕ, ◌+◌, ◌-◌, ◌*◌, ◌%◌, ◌^◌, ◌<◌, ◌≤◌, ◌⊎◌, Bool, false, not, ◌&&◌, get_or, bytes_eq, if◌then◌else◌, List, [], ◌∷◌, length, map, replicate, ◌==◌, All, HoldsAt, Result, Ok, Err}
+use Rattle.std.specs.Prelude.{◌≡◌, ℕ, ◌+◌, ◌-◌, ◌%◌, ◌^◌, ◌<◌, ◌≤◌, ◌⊎◌, Bool, false, not, ◌&&◌, get_or, bytes_eq, if◌then◌else◌, List, [], ◌∷◌, length, map, replicate, ◌==◌, All, HoldsAt, Result, Ok, Err}
 use Rattle.std.specs.Cmp.Lexicographic.{slice_cmp}
 use Rattle.std.specs.List.{AllPairs, filter, slice_get}
 use Rattle.std.specs.List.Sorted.{IsPartitionPoint}

@@ -1,5 +1,4 @@
 -- One unit is chosen among all.
-use Rattle.std.proofs.Common.{ap, ◌∙◌, arith}
 use Rattle.std.proofs.lemmas.Result.{err_from_is_err_and}
 use Rattle.snow_sample.proofs.Drawing.{one_draw, one_fails}
 use Rattle.snow_sample.proofs.sampling.draw_one.Goals as goal
