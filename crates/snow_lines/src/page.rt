@@ -1,4 +1,4 @@
-ghost use Rattle.std.specs.Prelude.{◌≡◌, [], ◌++◌, IfOk, OnOk, OnErr};
+ghost use Rattle.std.specs.Prelude.{◌≡◌, ◌≤◌, ◌+◌, [], ◌++◌, length, vec_len, IfOk, OnOk, OnErr};
 ghost use Rattle.std.specs.Io.KnownBytes.{Appends};
 ghost use Rattle.snow_base.specs.Outside.{AppendsFront, HasCause};
 ghost use Rattle.snow_lines.specs.Gathered.{Gathers};
@@ -15,20 +15,22 @@ use std::marker::Model;
 const ROOM: usize = 65_536;
 
 /// Text of lines that waits to be written, of at most 65,536 bytes. A new page takes the memory for
-/// all of them, and no later call takes any. Contracts see the bytes that wait.
+/// all of them, and no later call takes any: it is filled once, so that bytes are only put over others.
+/// Contracts see the bytes that wait.
 #[derive(Drop)]
 pub struct Page {
     bytes: Vec<u8>,
+    len: usize,
 }
 
 impl Model for Page {
-    ghost use Rattle.std.specs.Prelude.{ℕ, List, ◌≤◌, vec_len, vec_capacity};
+    ghost use Rattle.std.specs.Prelude.{ℕ, List, ◌≡◌, ◌≤◌, take, vec_len};
 
     ghost Value = { List ℕ };
 
-    ghost view = { λ a. a.bytes.items };
+    ghost view = { λ a. take a.len a.bytes.items };
 
-    ghost invariant = { λ a. (vec_len a.bytes ≤ 65536) × (65536 ≤ vec_capacity a.bytes) };
+    ghost invariant = { λ a. (a.len ≤ 65536) × (vec_len a.bytes ≡ 65536) };
 }
 
 impl Page {
@@ -36,8 +38,8 @@ impl Page {
     pub fn new(alloc: Global) -> Result<Self, AllocError>
         ensures { IfOk result (λ page. page ≡ []) }
     {
-        let bytes = Vec::with_capacity(alloc, ROOM)?;
-        Ok(Page { bytes })
+        let bytes = filled(alloc, ROOM)?;
+        Ok(Page { bytes, len: 0 })
     }
 
     /// Appends a line. Where there is no room for a word of it, what waits is written first, as one
@@ -74,26 +76,45 @@ impl Page {
         ensures uncalled { self.old ≡ [] → sink.new ≡ sink.old }
         ensures cause { HasCause (K.faults sink.old) (K.faults sink.new) result }
     {
-        if self.bytes.is_empty() {
+        if self.len == 0 {
             return Ok(());
         }
-        write_whole(sink, self.bytes.as_slice())?;
-        self.bytes.clear();
+        write_whole(sink, &self.bytes[..self.len])?;
+        self.len = 0;
         Ok(())
     }
+
+    /// Appends a piece for which there is room.
+    #[inline(always)]
+    fn append(&mut self, piece: &[u8])
+        requires { length self.old + length piece.now ≤ 65536 }
+        ensures { self.new ≡ self.old ++ piece.now }
+    {
+        let end = self.len + piece.len();
+        self.bytes[self.len..end].copy_from_slice(piece);
+        self.len = end;
+    }
+}
+
+/// So many bytes.
+fn filled(alloc: Global, len: usize) -> Result<Vec<u8>, AllocError>
+    ensures { IfOk result (λ bytes. vec_len bytes ≡ len) }
+{
+    let mut bytes = Vec::new(alloc);
+    bytes.resize(len, 0)?;
+    Ok(bytes)
 }
 
 impl Gather for Page {
     ghost waiting = { λ page. page };
 
     #[tactic(auto, using(crate::proofs::Waiting::gathers_waiting, crate::proofs::Waiting::gathers_written, snow_base::proofs::Known::front_of_more))]
+    #[inline(always)]
     fn put<K: Sink>(&mut self, piece: &[u8], sink: &mut K) -> Result<(), Failed> {
-        if piece.len() > ROOM - self.bytes.len() {
+        if piece.len() > ROOM - self.len {
             self.flush(sink)?;
         }
-        let taken = self.bytes.extend_from_slice(piece);
-        prove!(taken.is_ok());
-        let _ = taken;
+        self.append(piece);
         Ok(())
     }
 }
