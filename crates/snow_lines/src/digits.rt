@@ -1,4 +1,4 @@
-ghost use Rattle.std.specs.Prelude.{◌≡◌, ◌*◌, ◌<◌, ◌≤◌, ◌∷◌, length, slice_index, decimal};
+ghost use Rattle.std.specs.Prelude.{◌≡◌, ◌*◌, ◌^◌, ◌<◌, ◌≤◌, ◌∷◌, length, take, slice_index, decimal};
 ghost use Rattle.hex.specs.Hex.{encode_lower, lower_digits};
 
 use crate::lanes::{write_last_four, write_sixteen};
@@ -85,4 +85,19 @@ pub fn marked(mark: u8, number: u64, buffer: &mut [u8; 21]) -> &[u8]
     let start = itoa::write_digits(number, buffer, 21);
     buffer[start - 1] = mark;
     &buffer[start - 1..]
+}
+
+/// A mark and a number in decimal behind it, at the front of a piece whose length is known, and how long
+/// they are.
+#[tactic(auto, using(crate::proofs::Figures::decimal_shorter))]
+#[inline(always)]
+pub fn marked_short(mark: u8, number: u64, buffer: &mut [u8; 32]) -> (&[u8], usize)
+    requires { number < 2 ^ 32 }
+    ensures text { take result.1 result.0.now ≡ mark ∷ decimal number }
+    ensures piece { length result.0.now ≡ 16 }
+    ensures length { result.1 ≤ 16 }
+{
+    let start = itoa::write_digits(number, buffer, 16);
+    buffer[start - 1] = mark;
+    (&buffer[start - 1..start + 15], 17 - start)
 }

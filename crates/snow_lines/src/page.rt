@@ -1,4 +1,4 @@
-ghost use Rattle.std.specs.Prelude.{◌≡◌, ◌≤◌, ◌+◌, [], ◌++◌, length, vec_len, IfOk, OnOk, OnErr};
+ghost use Rattle.std.specs.Prelude.{◌≡◌, ◌≤◌, ◌+◌, ◌-◌, [], ◌++◌, length, take, vec_len, IfOk, OnOk, OnErr};
 ghost use Rattle.std.specs.Io.KnownBytes.{Appends};
 ghost use Rattle.snow_base.specs.Outside.{AppendsFront, HasCause};
 ghost use Rattle.snow_lines.specs.Gathered.{Gathers};
@@ -94,6 +94,27 @@ impl Page {
         self.bytes[self.len..end].copy_from_slice(piece);
         self.len = end;
     }
+
+    /// Takes so many bytes off the end.
+    #[inline(always)]
+    fn shorten(&mut self, n: usize)
+        requires { n ≤ length self.old }
+        ensures { self.new ≡ take (length self.old - n) self.old }
+    {
+        self.len -= n;
+    }
+
+    /// Appends the first bytes of a piece, for all of which there is room.
+    #[tactic(auto, using(crate::proofs::Placed::shortened))]
+    #[inline(always)]
+    fn append_front(&mut self, piece: &[u8], len: usize)
+        requires room { length self.old + length piece.now ≤ 65536 }
+        requires len { len ≤ length piece.now }
+        ensures { self.new ≡ self.old ++ take len piece.now }
+    {
+        self.append(piece);
+        self.shorten(piece.len() - len);
+    }
 }
 
 /// So many bytes.
@@ -115,6 +136,16 @@ impl Gather for Page {
             self.flush(sink)?;
         }
         self.append(piece);
+        Ok(())
+    }
+
+    #[tactic(auto, using(crate::proofs::Waiting::gathers_waiting, crate::proofs::Waiting::gathers_written, snow_base::proofs::Known::front_of_more))]
+    #[inline(always)]
+    fn put_front<K: Sink>(&mut self, piece: &[u8], len: usize, sink: &mut K) -> Result<(), Failed> {
+        if piece.len() > ROOM - self.len {
+            self.flush(sink)?;
+        }
+        self.append_front(piece, len);
         Ok(())
     }
 }

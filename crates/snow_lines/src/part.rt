@@ -1,13 +1,14 @@
-ghost use Rattle.std.specs.Prelude.{◌≡◌, ◌<◌, ◌≤◌, ℕ, List, ◌∷◌, ◌++◌, length, flat_map, decimal, OnOk, OnErr};
+ghost use Rattle.std.specs.Prelude.{◌≡◌, ◌<◌, ◌≤◌, ℕ, List, [], ◌∷◌, ◌++◌, length, flat_map, decimal, OnOk, OnErr};
 ghost use Rattle.hex.specs.Hex.{encode_lower};
 ghost use Rattle.snow_base.specs.Outside.{AppendsFront, HasCause};
 ghost use Rattle.snow_lines.specs.Gathered.{Gathers};
 ghost use Rattle.snow_lines.specs.Names.{line_name};
 ghost use Rattle.snow_lines.specs.Text.{spaced, draw_word, block_word, kind_word, query_word, restart_word, why_word};
 
-use crate::digits::{marked, write_hex, write_id, write_node};
+use crate::digits::{marked, marked_short, write_hex, write_id, write_node};
 use crate::gathering::Gather;
 use crate::kind::Kind;
+use crate::whole::node_and_id;
 use crate::why::{DropWhy, QueryWhy, RestartWhy, SkipKind};
 use snow_base::{Bytes, Failed, Id, NodeId, Sink};
 use snow_sample::Draw;
@@ -77,7 +78,7 @@ impl Part for u32 {
     ghost text = { λ number. spaced (decimal number) };
 
     fn put_into<G: Gather, K: Sink>(&self, out: &mut G, sink: &mut K) -> Result<(), Failed> {
-        u64::from(*self).put_into(out, sink)
+        put_number(out, b' ', *self, sink)
     }
 }
 
@@ -89,9 +90,25 @@ impl Part for Times {
     ghost text = { λ times. 42 ∷ decimal times.0 };
 
     fn put_into<G: Gather, K: Sink>(&self, out: &mut G, sink: &mut K) -> Result<(), Failed> {
-        let mut buffer = [0; 21];
-        out.put(marked(b'*', u64::from(self.0), &mut buffer), sink)
+        put_number(out, b'*', self.0, sink)
     }
+}
+
+/// Appends a mark and a number in decimal behind it.
+#[inline(always)]
+pub fn put_number<G: Gather, K: Sink>(
+    out: &mut G,
+    mark: u8,
+    number: u32,
+    sink: &mut K,
+) -> Result<(), Failed>
+    ensures ok { OnOk result (Gathers (K.written sink.old) (G.waiting out.old) (K.written sink.new) (G.waiting out.new) (mark ∷ decimal number)) }
+    ensures err { OnErr result (AppendsFront (K.written sink.old) (K.written sink.new) (G.waiting out.old ++ (mark ∷ decimal number))) }
+    ensures cause { HasCause (K.faults sink.old) (K.faults sink.new) result }
+{
+    let mut buffer = [0; 32];
+    let (piece, len) = marked_short(mark, u64::from(number), &mut buffer);
+    out.put_front(piece, len, sink)
 }
 
 impl Part for Id {
@@ -101,6 +118,19 @@ impl Part for Id {
         let mut word = [b' '; 65];
         write_id(self, &mut word[1..]);
         out.put(&word, sink)
+    }
+}
+
+/// A node and an identifier, which are the last words of a line, with its newline.
+#[derive(Drop)]
+pub struct NodeAndId<'a>(pub &'a NodeId, pub &'a Id);
+
+impl<'a> Part for NodeAndId<'a> {
+    ghost text = { λ words. spaced (encode_lower words.0.now) ++ (spaced (encode_lower words.1.now) ++ 10 ∷ []) };
+
+    #[inline(always)]
+    fn put_into<G: Gather, K: Sink>(&self, out: &mut G, sink: &mut K) -> Result<(), Failed> {
+        out.put(&node_and_id(self.0, self.1), sink)
     }
 }
 

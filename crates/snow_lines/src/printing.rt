@@ -3,12 +3,15 @@ ghost use Rattle.std.specs.List.{join_with_byte};
 ghost use Rattle.std.specs.Io.KnownBytes.{Appends};
 ghost use Rattle.snow_base.specs.Outside.{AppendsFront, HasCause};
 ghost use Rattle.snow_lines.specs.Gathered.{Gathers};
+ghost use Rattle.snow_lines.specs.declared.line.Line.TheVariants as line;
 ghost use Rattle.snow_lines.specs.Text.{fields, listed, name, spaced, text, texts};
 
 use crate::gathering::{AtOnce, Gather};
 use crate::kind::Kind;
 use crate::line::Line;
-use crate::part::{Part, put_all, put_five, put_four, put_three, put_two};
+use crate::part::{NodeAndId, Part, put_all, put_five, put_four, put_three, put_two};
+use crate::whole::word_and_id;
+use crate::why::QueryWhy;
 use snow_base::{Failed, Sink};
 
 /// Writes a line, a word at a time. At `Failed` a front of it was written. It takes no memory.
@@ -34,8 +37,48 @@ pub fn print_all<K: Sink>(lines: &[Line], sink: &mut K) -> Result<(), Failed>
     Ok(())
 }
 
-/// Appends a line to the bytes that wait. At `Failed` a front of both was written.
+/// Appends a line to the bytes that wait. At `Failed` a front of both was written. Those that come most
+/// often are few pieces.
+#[tactic(auto, unfolding(crate::specs::Text::text))]
 pub fn put_line<G: Gather, K: Sink>(out: &mut G, line: &Line, sink: &mut K) -> Result<(), Failed>
+    ensures ok { OnOk result (Gathers (K.written sink.old) (G.waiting out.old) (K.written sink.new) (G.waiting out.new) (text line.now)) }
+    ensures err { OnErr result (AppendsFront (K.written sink.old) (K.written sink.new) (G.waiting out.old ++ text line.now)) }
+    ensures cause { HasCause (K.faults sink.old) (K.faults sink.new) result }
+{
+    match line {
+        Line::Accept { id } => out.put(&word_and_id(b"accept", id), sink),
+        Line::Reject { id } => out.put(&word_and_id(b"reject", id), sink),
+        Line::Prefer { id } => out.put(&word_and_id(b"prefer", id), sink),
+        Line::Get { number, node, id } => {
+            put_three(out, &Kind::Get, number, &NodeAndId(node, id), sink)
+        }
+        Line::DropQuery { why } => put_dropped_query(out, *why, sink),
+        _ => put_words(out, line, sink),
+    }
+}
+
+/// Appends the line of a query that isn't sent.
+#[tactic(auto, unfolding(crate::specs::Text::text))]
+#[inline(always)]
+fn put_dropped_query<G: Gather, K: Sink>(
+    out: &mut G,
+    why: QueryWhy,
+    sink: &mut K,
+) -> Result<(), Failed>
+    ensures ok { OnOk result (Gathers (K.written sink.old) (G.waiting out.old) (K.written sink.new) (G.waiting out.new) (text (line.DropQuery why))) }
+    ensures err { OnErr result (AppendsFront (K.written sink.old) (K.written sink.new) (G.waiting out.old ++ text (line.DropQuery why))) }
+    ensures cause { HasCause (K.faults sink.old) (K.faults sink.new) result }
+{
+    match why {
+        QueryWhy::Full => out.put(b"drop-query full\n", sink),
+        QueryWhy::Units => out.put(b"drop-query units\n", sink),
+        QueryWhy::Words => out.put(b"drop-query words\n", sink),
+    }
+}
+
+/// Appends a line word by word.
+#[inline(never)]
+fn put_words<G: Gather, K: Sink>(out: &mut G, line: &Line, sink: &mut K) -> Result<(), Failed>
     ensures ok { OnOk result (Gathers (K.written sink.old) (G.waiting out.old) (K.written sink.new) (G.waiting out.new) (text line.now)) }
     ensures err { OnErr result (AppendsFront (K.written sink.old) (K.written sink.new) (G.waiting out.old ++ text line.now)) }
     ensures cause { HasCause (K.faults sink.old) (K.faults sink.new) result }
