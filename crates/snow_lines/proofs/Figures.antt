@@ -2,8 +2,7 @@
 use Rattle.std.proofs.Common.{◌≡◌, ℕ, zero, suc, ◌+◌, ◌-◌, ◌^◌, ◌<◌, ◌≤◌, ◌==◌, ◌&&◌, Bool, true, List, ◌∷◌, ◌++◌, length, take, drop, slice_index, slice_set, decimal, if◌then◌else◌, nat_lt, refl, ap, ◌∙◌, append-nil, inl, inr, arith}
 use Rattle.std.proofs.lemmas.Bool.{and_parts, cases_lt, eqb-true}
 use Rattle.std.proofs.lemmas.Fmt.{length-decimal-le}
-use Rattle.std.proofs.lemmas.List.{drop-set, drop_all, take_all, take-take}
-use Rattle.std.proofs.Math.Seq.{take-append_seam}
+use Rattle.std.proofs.lemmas.List.{drop-set, drop_all, take_all}
 use Rattle.hex.specs.Hex.{lower_digits}
 
 -- the digit of a number below sixteen, as a sum
@@ -42,15 +41,6 @@ decimal_short n h = length-decimal-le 20 n (omega arith) (omega (arith, h)) h
 -- and one of 32 bits
 pub decimal_shorter : (n : ℕ) → n < 2 ^ 32 → length (decimal n) ≤ 10
 decimal_shorter n h = length-decimal-le 10 n (omega arith) (omega (arith, h)) (omega (arith, h))
-
--- a mark was written before digits that end within a buffer, of which a piece of k bytes is taken
-pub mark_within : (old buf digits : List ℕ) (start end mark k : ℕ) → 0 < start → start + length digits ≡ end → start - 1 < length buf → 1 + length digits ≤ k
-    → drop start buf ≡ digits ++ drop end old → take (1 + end - start) (take k (drop (start - 1) (slice_set buf (start - 1) mark))) ≡ mark ∷ digits
-mark_within old buf digits start end mark k some len within fits e =
-    let next : start - 1 + 1 ≡ start = omega arith in
-    let both : drop (start - 1) (slice_set buf (start - 1) mark) ≡ mark ∷ (digits ++ drop end old) = drop-set buf (start - 1) mark within ∙ ap (λ n. mark ∷ drop n buf) next ∙ ap (λ l. mark ∷ l) e in
-    let long : 1 + end - start ≡ length (mark ∷ digits) = omega arith in
-    take-take (1 + end - start) k _ (omega arith) ∙ ap (take (1 + end - start)) both ∙ ap (λ n. take n ((mark ∷ digits) ++ drop end old)) long ∙ take-append_seam (mark ∷ digits) (drop end old)
 
 -- a mark was written before the digits that end a buffer of n bytes
 pub mark_before : (old buf digits : List ℕ) (n start mark k : ℕ) → 0 < start → start + length digits ≡ n → length buf ≡ n → length old ≡ n → n ≤ start - 1 + k

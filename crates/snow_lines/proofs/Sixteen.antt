@@ -1,5 +1,5 @@
 -- Digits of sixteen bytes at a time: looked up in the table, and put in order.
-use Rattle.std.proofs.Common.{◌≡◌, ℕ, zero, suc, ◌+◌, ◌*◌, ◌/◌, ◌%◌, ◌^◌, ◌<◌, List, [], ◌∷◌, ◌++◌, map, length, get_or, slice_index, replicate, bit_and, refl, sym, ap, ◌∙◌, arith, w8, Fits}
+use Rattle.std.proofs.Common.{◌≡◌, ℕ, zero, suc, ◌+◌, ◌*◌, ◌/◌, ◌%◌, ◌^◌, ◌<◌, List, [], ◌∷◌, ◌++◌, map, length, drop, get_or, slice_index, replicate, bit_and, refl, sym, ap, ◌∙◌, arith, w8, Fits}
 use Rattle.std.specs.Simd.Lanes.{zip2, pick_l, chunk, Each1}
 use Rattle.std.proofs.lemmas.List.{get_or-map, length-map, ext_get_or, take_all}
 use Rattle.std.proofs.lemmas.Nat.{and_le_r, and_mask}
@@ -65,6 +65,11 @@ pub in_turn : (v : List ℕ) → length v ≡ 16
 unfolding encode_with
 in_turn (a ∷ b ∷ c ∷ d ∷ e ∷ f ∷ g ∷ h ∷ i ∷ j ∷ k ∷ l ∷ m ∷ n ∷ o ∷ p ∷ []) long = refl
 in_turn v long = absurd (omega arith)
+
+-- the last eight of sixteen lanes, at their places
+pub last_eight : (v : List ℕ) → length v ≡ 16 → pick_l 0 (v ++ v) (8 ∷ 9 ∷ 10 ∷ 11 ∷ 12 ∷ 13 ∷ 14 ∷ 15 ∷ []) ≡ drop 8 v
+last_eight (a ∷ b ∷ c ∷ d ∷ e ∷ f ∷ g ∷ h ∷ i ∷ j ∷ k ∷ l ∷ m ∷ n ∷ o ∷ p ∷ []) long = refl
+last_eight v long = absurd (omega arith)
 
 -- a vector that was taken from a slice of its length
 pub whole : (xs : List ℕ) → length xs ≡ 16 → chunk 0 16 xs ≡ xs

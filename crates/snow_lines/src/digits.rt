@@ -1,4 +1,4 @@
-ghost use Rattle.std.specs.Prelude.{◌≡◌, ◌*◌, ◌^◌, ◌<◌, ◌≤◌, ◌∷◌, length, take, slice_index, decimal};
+ghost use Rattle.std.specs.Prelude.{◌≡◌, ◌*◌, ◌^◌, ◌<◌, ◌≤◌, ◌∷◌, ◌++◌, length, take, slice_index, decimal};
 ghost use Rattle.hex.specs.Hex.{encode_lower, lower_digits};
 
 use crate::lanes::{write_last_four, write_sixteen};
@@ -87,17 +87,22 @@ pub fn marked(mark: u8, number: u64, buffer: &mut [u8; 21]) -> &[u8]
     &buffer[start - 1..]
 }
 
-/// A mark and a number in decimal behind it, at the front of a piece whose length is known, and how long
-/// they are.
+/// A mark and a number in decimal behind it, at the front of a piece of a known length, and how long they
+/// are.
 #[tactic(auto, using(crate::proofs::Figures::decimal_shorter))]
 #[inline(always)]
-pub fn marked_short(mark: u8, number: u64, buffer: &mut [u8; 32]) -> (&[u8], usize)
-    requires { number < 2 ^ 32 }
-    ensures text { take result.1 result.0.now ≡ mark ∷ decimal number }
+pub fn marked_short<'a, const M: usize>(
+    mark: &[u8; M],
+    number: u64,
+    buffer: &'a mut [u8; 32],
+) -> (&'a [u8], usize)
+    requires mark { M ≤ 6 }
+    requires number { number < 2 ^ 32 }
+    ensures text { take result.1 result.0.now ≡ mark.now ++ decimal number }
     ensures piece { length result.0.now ≡ 16 }
     ensures length { result.1 ≤ 16 }
 {
     let start = itoa::write_digits(number, buffer, 16);
-    buffer[start - 1] = mark;
-    (&buffer[start - 1..start + 15], 17 - start)
+    buffer[start - M..start].copy_from_slice(mark);
+    (&buffer[start - M..start - M + 16], 16 - start + M)
 }

@@ -74,7 +74,8 @@ fn put_last(lanes: u8x16, place: &mut [u8])
     requires { length place.old ≡ 8 }
     ensures { place.new ≡ drop 8 lanes }
 {
-    place.copy_from_slice(&lanes.to_array()[8..]);
+    let last: u8x8 = lanes.extract::<8, 8>();
+    last.copy_to_slice(place);
 }
 
 /// Writes the digits of the last four of sixteen bytes over a slice of just their length.

@@ -1,4 +1,4 @@
-ghost use Rattle.std.specs.Prelude.{◌≡◌, ◌<◌, ◌≤◌, ℕ, List, [], ◌∷◌, ◌++◌, length, flat_map, decimal, OnOk, OnErr};
+ghost use Rattle.std.specs.Prelude.{◌≡◌, ◌<◌, ◌≤◌, ℕ, List, [], ◌∷◌, ◌++◌, length, flat_map, codes, decimal, OnOk, OnErr};
 ghost use Rattle.hex.specs.Hex.{encode_lower};
 ghost use Rattle.snow_base.specs.Outside.{AppendsFront, HasCause};
 ghost use Rattle.snow_lines.specs.Gathered.{Gathers};
@@ -78,7 +78,7 @@ impl Part for u32 {
     ghost text = { λ number. spaced (decimal number) };
 
     fn put_into<G: Gather, K: Sink>(&self, out: &mut G, sink: &mut K) -> Result<(), Failed> {
-        put_number(out, b' ', *self, sink)
+        put_number(out, b" ", *self, sink)
     }
 }
 
@@ -90,20 +90,34 @@ impl Part for Times {
     ghost text = { λ times. 42 ∷ decimal times.0 };
 
     fn put_into<G: Gather, K: Sink>(&self, out: &mut G, sink: &mut K) -> Result<(), Failed> {
-        put_number(out, b'*', self.0, sink)
+        put_number(out, b"*", self.0, sink)
+    }
+}
+
+/// The first word of a line that asks a node for a block, and the number of the get.
+#[derive(Drop)]
+pub struct Get(pub u32);
+
+impl Part for Get {
+    ghost text = { λ get. codes "get " ++ decimal get.0 };
+
+    #[inline(always)]
+    fn put_into<G: Gather, K: Sink>(&self, out: &mut G, sink: &mut K) -> Result<(), Failed> {
+        put_number(out, b"get ", self.0, sink)
     }
 }
 
 /// Appends a mark and a number in decimal behind it.
 #[inline(always)]
-pub fn put_number<G: Gather, K: Sink>(
+fn put_number<const M: usize, G: Gather, K: Sink>(
     out: &mut G,
-    mark: u8,
+    mark: &[u8; M],
     number: u32,
     sink: &mut K,
 ) -> Result<(), Failed>
-    ensures ok { OnOk result (Gathers (K.written sink.old) (G.waiting out.old) (K.written sink.new) (G.waiting out.new) (mark ∷ decimal number)) }
-    ensures err { OnErr result (AppendsFront (K.written sink.old) (K.written sink.new) (G.waiting out.old ++ (mark ∷ decimal number))) }
+    requires { M ≤ 6 }
+    ensures ok { OnOk result (Gathers (K.written sink.old) (G.waiting out.old) (K.written sink.new) (G.waiting out.new) (mark.now ++ decimal number)) }
+    ensures err { OnErr result (AppendsFront (K.written sink.old) (K.written sink.new) (G.waiting out.old ++ (mark.now ++ decimal number))) }
     ensures cause { HasCause (K.faults sink.old) (K.faults sink.new) result }
 {
     let mut buffer = [0; 32];

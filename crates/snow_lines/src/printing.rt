@@ -9,7 +9,7 @@ ghost use Rattle.snow_lines.specs.Text.{fields, listed, name, spaced, text, text
 use crate::gathering::{AtOnce, Gather};
 use crate::kind::Kind;
 use crate::line::Line;
-use crate::part::{NodeAndId, Part, put_all, put_five, put_four, put_three, put_two};
+use crate::part::{Get, NodeAndId, Part, put_all, put_five, put_four, put_three, put_two};
 use crate::whole::word_and_id;
 use crate::why::QueryWhy;
 use snow_base::{Failed, Sink};
@@ -50,7 +50,7 @@ pub fn put_line<G: Gather, K: Sink>(out: &mut G, line: &Line, sink: &mut K) -> R
         Line::Reject { id } => out.put(&word_and_id(b"reject", id), sink),
         Line::Prefer { id } => out.put(&word_and_id(b"prefer", id), sink),
         Line::Get { number, node, id } => {
-            put_three(out, &Kind::Get, number, &NodeAndId(node, id), sink)
+            put_two(out, &Get(*number), &NodeAndId(node, id), sink)
         }
         Line::DropQuery { why } => put_dropped_query(out, *why, sink),
         _ => put_words(out, line, sink),
@@ -70,9 +70,18 @@ fn put_dropped_query<G: Gather, K: Sink>(
     ensures cause { HasCause (K.faults sink.old) (K.faults sink.new) result }
 {
     match why {
-        QueryWhy::Full => out.put(b"drop-query full\n", sink),
-        QueryWhy::Units => out.put(b"drop-query units\n", sink),
-        QueryWhy::Words => out.put(b"drop-query words\n", sink),
+        QueryWhy::Full => {
+            let line = *b"drop-query full\n";
+            out.put(&line, sink)
+        }
+        QueryWhy::Units => {
+            let line = *b"drop-query units\n";
+            out.put(&line, sink)
+        }
+        QueryWhy::Words => {
+            let line = *b"drop-query words\n";
+            out.put(&line, sink)
+        }
     }
 }
 
