@@ -2,15 +2,10 @@ use crate::why::{DropWhy, QueryWhy, RestartWhy, SkipKind};
 use snow_base::{Blocks, Bytes, Id, Ids, Items, NodeId};
 use snow_sample::Draws;
 
-/// A line of output.
+/// A line of output. Those that hold a list stand last, so that one test tells that a line has nothing to
+/// let go.
 #[derive(Drop)]
 pub enum Line {
-    /// Nodes are asked for their preference, each as often as it was drawn.
-    Query {
-        number: u32,
-        id: Id,
-        draws: Draws,
-    },
     /// A node is asked for a block.
     Get {
         number: u32,
@@ -20,11 +15,6 @@ pub enum Line {
     /// All nodes are asked for their accepted frontier.
     Frontier {
         number: u32,
-    },
-    /// All nodes are asked which of these they hold accepted.
-    Accepted {
-        number: u32,
-        ids: Ids,
     },
     /// A node is asked for a block and its ancestors.
     Ancestors {
@@ -79,6 +69,17 @@ pub enum Line {
         node: NodeId,
         number: u32,
         id: Id,
+    },
+    /// Nodes are asked for their preference, each as often as it was drawn.
+    Query {
+        number: u32,
+        id: Id,
+        draws: Draws,
+    },
+    /// All nodes are asked which of these they hold accepted.
+    Accepted {
+        number: u32,
+        ids: Ids,
     },
     /// A node is told which of its blocks are accepted.
     ToAccepted {
