@@ -106,3 +106,21 @@ pub fn marked_short<'a, const M: usize>(
     buffer[start - M..start].copy_from_slice(mark);
     (&buffer[start - M..start - M + 16], 16 - start + M)
 }
+
+/// The same of a number of 64 bits.
+#[tactic(auto, using(crate::proofs::Figures::decimal_short))]
+#[inline(always)]
+pub fn marked_long<'a, const M: usize>(
+    mark: &[u8; M],
+    number: u64,
+    buffer: &'a mut [u8; 64],
+) -> (&'a [u8], usize)
+    requires { M ≤ 12 }
+    ensures text { take result.1 result.0.now ≡ mark.now ++ decimal number }
+    ensures piece { length result.0.now ≡ 32 }
+    ensures length { result.1 ≤ 32 }
+{
+    let start = itoa::write_digits(number, buffer, 32);
+    buffer[start - M..start].copy_from_slice(mark);
+    (&buffer[start - M..start - M + 32], 32 - start + M)
+}

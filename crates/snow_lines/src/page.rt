@@ -68,6 +68,7 @@ impl Page {
 
     /// Writes what waits, so that nothing waits any more. Where nothing waits the sink isn't called.
     /// At `Failed` a front of it was written, and the page is as before.
+    #[inline(never)]
     pub fn flush<K: Sink>(&mut self, sink: &mut K) -> Result<(), Failed>
         ensures ok { OnOk result (Appends (K.written sink.old) (K.written sink.new) self.old) }
         ensures empty { OnOk result (self.new ≡ []) }
@@ -129,14 +130,9 @@ fn filled(alloc: Global, len: usize) -> Result<Vec<u8>, AllocError>
 impl Gather for Page {
     ghost waiting = { λ page. page };
 
-    #[tactic(auto, using(crate::proofs::Waiting::gathers_waiting, crate::proofs::Waiting::gathers_written, snow_base::proofs::Known::front_of_more))]
     #[inline(always)]
     fn put<K: Sink>(&mut self, piece: &[u8], sink: &mut K) -> Result<(), Failed> {
-        if piece.len() > ROOM - self.len {
-            self.flush(sink)?;
-        }
-        self.append(piece);
-        Ok(())
+        self.put_front(piece, piece.len(), sink)
     }
 
     #[tactic(auto, using(crate::proofs::Waiting::gathers_waiting, crate::proofs::Waiting::gathers_written, snow_base::proofs::Known::front_of_more))]

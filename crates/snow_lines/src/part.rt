@@ -5,7 +5,7 @@ ghost use Rattle.snow_lines.specs.Gathered.{Gathers};
 ghost use Rattle.snow_lines.specs.Names.{line_name};
 ghost use Rattle.snow_lines.specs.Text.{spaced, draw_word, block_word, kind_word, query_word, restart_word, why_word};
 
-use crate::digits::{marked, marked_short, write_hex, write_id, write_node};
+use crate::digits::{marked, marked_long, marked_short, write_hex, write_id, write_node};
 use crate::gathering::Gather;
 use crate::kind::Kind;
 use crate::whole::node_and_id;
@@ -104,6 +104,35 @@ impl Part for Get {
     #[inline(always)]
     fn put_into<G: Gather, K: Sink>(&self, out: &mut G, sink: &mut K) -> Result<(), Failed> {
         put_number(out, b"get ", self.0, sink)
+    }
+}
+
+/// The first word of a line of a frame that is passed over, and the number of the frame.
+#[derive(Drop)]
+pub struct Skipped(pub u64);
+
+impl Part for Skipped {
+    ghost text = { λ skipped. codes "skip " ++ decimal skipped.0 };
+
+    #[inline(always)]
+    fn put_into<G: Gather, K: Sink>(&self, out: &mut G, sink: &mut K) -> Result<(), Failed> {
+        let mut buffer = [0; 64];
+        let (piece, len) = marked_long(b"skip ", self.0, &mut buffer);
+        out.put_front(piece, len, sink)
+    }
+}
+
+/// Why a frame is passed over, which is the last word of its line, with its newline.
+#[derive(Drop)]
+pub struct LastKind(pub SkipKind);
+
+impl Part for LastKind {
+    ghost text = { λ last. spaced (kind_word last.0) ++ 10 ∷ [] };
+
+    #[inline(always)]
+    fn put_into<G: Gather, K: Sink>(&self, out: &mut G, sink: &mut K) -> Result<(), Failed> {
+        let (piece, len) = self.0.line_end();
+        out.put_front(piece, len, sink)
     }
 }
 

@@ -9,7 +9,9 @@ ghost use Rattle.snow_lines.specs.Text.{fields, listed, name, spaced, text, text
 use crate::gathering::{AtOnce, Gather};
 use crate::kind::Kind;
 use crate::line::Line;
-use crate::part::{Get, NodeAndId, Part, put_all, put_five, put_four, put_three, put_two};
+use crate::part::{
+    Get, LastKind, NodeAndId, Part, Skipped, put_all, put_five, put_four, put_three, put_two,
+};
 use crate::whole::word_and_id;
 use crate::why::QueryWhy;
 use snow_base::{Failed, Sink};
@@ -52,6 +54,7 @@ pub fn put_line<G: Gather, K: Sink>(out: &mut G, line: &Line, sink: &mut K) -> R
         Line::Get { number, node, id } => {
             put_two(out, &Get(*number), &NodeAndId(node, id), sink)
         }
+        Line::Skip { frame, kind } => put_two(out, &Skipped(*frame), &LastKind(*kind), sink),
         Line::DropQuery { why } => put_dropped_query(out, *why, sink),
         _ => put_words(out, line, sink),
     }
