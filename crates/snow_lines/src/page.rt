@@ -45,6 +45,7 @@ impl Page {
     /// Appends a line. Where there is no room for a word of it, what waits is written first, as one
     /// piece. At `Failed` a front of what waited and of the line was written, and what then waits is
     /// left open.
+    #[inline(always)]
     pub fn print<K: Sink>(&mut self, line: &Line, sink: &mut K) -> Result<(), Failed>
         ensures ok { OnOk result (Gathers (K.written sink.old) self.old (K.written sink.new) self.new (text line.now)) }
         ensures err { OnErr result (AppendsFront (K.written sink.old) (K.written sink.new) (self.old ++ text line.now)) }

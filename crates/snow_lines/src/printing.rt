@@ -42,6 +42,7 @@ pub fn print_all<K: Sink>(lines: &[Line], sink: &mut K) -> Result<(), Failed>
 /// Appends a line to the bytes that wait. At `Failed` a front of both was written. Those that come most
 /// often are few pieces.
 #[tactic(auto, unfolding(crate::specs::Text::text))]
+#[inline(always)]
 pub fn put_line<G: Gather, K: Sink>(out: &mut G, line: &Line, sink: &mut K) -> Result<(), Failed>
     ensures ok { OnOk result (Gathers (K.written sink.old) (G.waiting out.old) (K.written sink.new) (G.waiting out.new) (text line.now)) }
     ensures err { OnErr result (AppendsFront (K.written sink.old) (K.written sink.new) (G.waiting out.old ++ text line.now)) }

@@ -48,7 +48,9 @@ impl<C: Chain, B: Board> Running<C, B> {
     }
 
     #[tactic(auto, using(crate::proofs::Logs::logs_nothing))]
-    /// A peer is asked for a block, by a number of its own.
+    /// A peer is asked for a block, by a number of its own. It is put in place, since most blocks that wait
+    /// ask for their parent.
+    #[inline(always)]
     fn fetch(&mut self, peer: &NodeId, id: Id, log: &mut Lines) -> Result<(), Halt>
         requires { MayFetch self.old.queue id }
         ensures answer { Turns result self.new (numbered self.old (model.fetched peer.now id)).1 }
@@ -68,6 +70,7 @@ impl<C: Chain, B: Board> Running<C, B> {
     }
 
     /// A peer is asked for a block, if nothing is known of it.
+    #[inline(never)]
     pub(super) fn fetch_unknown(
         &mut self,
         peer: &NodeId,

@@ -1,4 +1,4 @@
-ghost use Rattle.std.specs.Prelude.{◌≡◌, Some, true, false, IfSome};
+ghost use Rattle.std.specs.Prelude.{◌≡◌, Some, None, true, false, IfSome};
 ghost use Rattle.snow_lines.specs.declared.line.Line.TheVariants as line;
 ghost use Rattle.snow_lines.specs.declared.why.SkipKind.TheVariants as kind;
 ghost use Rattle.snow_issue.specs.declared.work.Waiting.{Waiting as Block};
@@ -34,30 +34,48 @@ impl<C: Chain, B: Board> Running<C, B> {
         ensures lines { Tells result log.old log.new (model.block_came C.rules B.answer self.old frame peer.now number bytes.now).0 }
     {
         if number == 0 {
-            return self.read_block(frame, peer, bytes, None, log);
+            return self.read_unasked(frame, peer, bytes, log);
         }
-        match self.close_get(number, peer) {
-            None => Ok(()),
-            asked => self.read_block(frame, peer, bytes, asked, log),
+        let asked = self.close_get(number, peer);
+        if asked.is_none() {
+            return Ok(());
         }
+        self.read_block(frame, peer, bytes, &asked, log)
+    }
+
+    /// Bytes of a block came for which nobody asked. It stands apart, so that the bytes of a block that was
+    /// asked for are read in place.
+    #[inline(never)]
+    fn read_unasked(
+        &mut self,
+        frame: u64,
+        peer: &NodeId,
+        bytes: &[u8],
+        log: &mut Lines,
+    ) -> Result<(), Halt>
+        ensures answer { Turns result self.new (model.block_read C.rules B.answer self.old frame peer.now bytes.now None).1 }
+        ensures lines { Tells result log.old log.new (model.block_read C.rules B.answer self.old frame peer.now bytes.now None).0 }
+    {
+        self.read_block(frame, peer, bytes, &None, log)
     }
 
     /// Bytes of a block came, where this one was asked for, and all that it brings is done.
+    #[inline(always)]
     fn read_block(
         &mut self,
         frame: u64,
         peer: &NodeId,
         bytes: &[u8],
-        asked: Option<Id>,
+        asked: &Option<Id>,
         log: &mut Lines,
     ) -> Result<(), Halt>
-        ensures answer { Turns result self.new (model.block_read C.rules B.answer self.old frame peer.now bytes.now asked).1 }
-        ensures lines { Tells result log.old log.new (model.block_read C.rules B.answer self.old frame peer.now bytes.now asked).0 }
+        ensures answer { Turns result self.new (model.block_read C.rules B.answer self.old frame peer.now bytes.now asked.now).1 }
+        ensures lines { Tells result log.old log.new (model.block_read C.rules B.answer self.old frame peer.now bytes.now asked.now).0 }
     {
         let Some(header) = self.chain.parse(bytes) else {
             return self.skip_block(frame, log);
         };
-        if is_other(&asked, &header.id) {
+        if is_other(asked, &header.id) {
             return self.settle(log);
         }
         self.bring(peer, header, bytes, log)

@@ -24,7 +24,8 @@ impl<C: Chain, B: Board> Running<C, B> {
         self.spare = draws;
     }
 
-    /// A query for the preference; whether it was sent.
+    /// A query for the preference; whether it was sent. It is put in place up to where nodes are drawn.
+    #[inline(always)]
     pub(super) fn query(&mut self, log: &mut Lines) -> Result<bool, Halt>
         ensures answer { Answers result self.new (model.queried B.answer self.old).1 }
         ensures lines { Tells result log.old log.new (model.queried B.answer self.old).0 }
@@ -36,6 +37,17 @@ impl<C: Chain, B: Board> Running<C, B> {
         if lacks_words(&self.params, &self.roster, &self.words) {
             return self.drop_query(QueryWhy::Words, log);
         }
+        self.draw_and_send(log)
+    }
+
+    /// Nodes are drawn, and asked for the preference; whether they were. It stands apart, so that a query
+    /// that isn't sent for want of words doesn't pay for the room of a sample.
+    #[inline(never)]
+    fn draw_and_send(&mut self, log: &mut Lines) -> Result<bool, Halt>
+        requires { length self.old.polls.polls < 1024 }
+        ensures answer { Answers result self.new (model.queried B.answer self.old).1 }
+        ensures lines { Tells result log.old log.new (model.queried B.answer self.old).0 }
+    {
         let mut draws = mem::replace(&mut self.spare, Draws::new(self.alloc));
         match self
             .roster

@@ -121,7 +121,9 @@ impl<C: Chain, B: Board> Running<C, B> {
         self.settle(log)
     }
 
-    /// A block whose parent is on the board is issued, unless something stands against it.
+    /// A block whose parent is on the board is issued, unless something stands against it. It is put in place,
+    /// so that nothing is moved to it.
+    #[inline(always)]
     fn place(&mut self, block: &Header, bytes: Bytes, log: &mut Lines) -> Result<(), Halt>
         requires { IsApart self.old.board self.old.queue.waiting block.now.id }
         ensures answer { Turns result self.new (model.placed_by B.answer self.old block.now bytes (next_on C.rules self.old.chain block.now.parent bytes)
