@@ -35,6 +35,10 @@ bits_agree a b h =
     (λ k d l. let small : k < 256 = omega (arith, l, length-bits a) in
     get_or-bits a k d small ∙ h k (omega arith) small ∙ sym (get_or-bits b k d small)))
 
+-- so have those that are the same
+pub bits_same : (a b : List ℕ) → a ≡ b → pointwise beq (bits a) (bits b) ≡ true
+bits_same a b e = (slice_eq-Decides booleans_Decides (bits a) (bits b) (pointwise beq (bits a) (bits b)) refl).1 (ap bits e)
+
 -- those that differ somewhere have not
 pub bits_differ : (a b : List ℕ) (i : ℕ) → FirstDiffers 0 256 a b (Some i) → pointwise beq (bits a) (bits b) ≡ false
 bits_differ a b i h =

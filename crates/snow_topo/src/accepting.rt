@@ -56,7 +56,9 @@ fn accept<R: Rule>(
     ensures room { vec_capacity decisions.new ≡ vec_capacity decisions.old }
 {
     let _last = tree.last();
+    let left = root.take_tree();
     tree.promote(child, root);
+    root.keep_spare(left);
     tell(decisions, child, tree.rejected());
 }
 

@@ -7,7 +7,7 @@ ghost use Rattle.snow_topo.specs.Kept.{bare, gained};
 ghost use Rattle.snow_topo.specs.View.{view, AreFit};
 ghost use Rattle.snow_topo.specs.Gaining.{gained_by, all_gained};
 
-use crate::load::Load;
+use crate::load::{Contest, Load};
 use snow_base::{Header, Id};
 use snow_flake::{Params, Rule};
 use snow_tree::Tree;
@@ -20,12 +20,13 @@ fn add_at<R: Rule>(
     tree: &mut Tree<Load<R>>,
     at: usize,
     id: &Id,
+    spare: Contest<R>,
 ) -> Result<(), AllocError>
     ensures ok { IfSome (slice_get (tree.old).pending at) (λ e. OnOk result (tree.new ≡ with_load tree.old at (gained params.now id.now e.load))) }
     ensures err { OnErr result (tree.new ≡ tree.old) }
 {
     match tree.load_mut(at) {
-        Some(load) => load.add(alloc, params, id),
+        Some(load) => load.add(alloc, params, id, spare),
         None => Ok(()),
     }
 }
@@ -47,9 +48,10 @@ fn add_below<R: Rule>(
     ensures tree_stays { OnErr result (tree.new ≡ tree.old) }
 {
     let _last = tree.last();
+    let spare = root.take_spare();
     match tree.parent_place(tree.len().saturating_sub(1)) {
-        Some(at) => add_at(alloc, params, tree, at, &child.id),
-        None => root.add(alloc, params, &child.id),
+        Some(at) => add_at(alloc, params, tree, at, &child.id, spare),
+        None => root.add(alloc, params, &child.id, spare),
     }
 }
 

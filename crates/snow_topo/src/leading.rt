@@ -137,7 +137,8 @@ pub(crate) fn is_top<R: Rule>(
 ) -> bool
     requires fit { AreFit params.now polls root.now tree.now }
     requires preference { preference.now ≡ preferred R.answer (view params.now polls root.now tree.now) }
-    ensures { result ≡ true → IsTop R.answer (view params.now polls root.now tree.now) }
+    ensures top { result ≡ true → IsTop R.answer (view params.now polls root.now tree.now) }
+    ensures same { result ≡ true → preference.now ≡ id.now }
 {
     let _last = tree.last();
     if *preference != *id {
@@ -152,48 +153,45 @@ pub(crate) fn is_top<R: Rule>(
     }
 }
 
-/// The preference after a child was issued, where this one was it before. Nothing is walked where no block
-/// stood above it, or the child doesn't.
-pub(crate) fn preference_after<R: Rule>(
+/// The preference follows a child that was issued: at once where no block stood above its parent, which was
+/// the preference then. Nothing is walked where the child doesn't stand above the preference.
+pub(crate) fn follow_child<R: Rule>(
     params: &Params,
     polls: u64,
     root: &Load<R>,
     tree: &Tree<Load<R>>,
-    preference: &Id,
+    preference: &mut Id,
     is_top: bool,
     child: &Header,
-) -> Id
+)
     requires named { AreNamed (blocks_in (tree.now).pending) }
     requires fit { AreFit params.now polls root.now tree.now }
-    ensures { let leading : Leading = record { block = preference.now; is_top = is_top } in
-        result ≡ (leading_after R.answer leading (view params.now polls root.now tree.now) child.now).block }
+    requires top { is_top ≡ true → preference.old ≡ (child.now).parent }
+    ensures { let leading : Leading = record { block = preference.old; is_top = is_top } in
+        preference.new ≡ (leading_after R.answer leading (view params.now polls root.now tree.now) child.now).block }
 {
-    if child.parent != *preference {
-        return *preference;
-    }
     if is_top {
-        return child.id;
+        *preference = child.id;
+    } else if child.parent == *preference {
+        *preference = preference_of(params, polls, root, tree);
     }
-    preference_of(params, polls, root, tree)
 }
 
-/// The preference after a poll, where this one was it before, and is still where the poll moved none.
-pub(crate) fn preference_kept<R: Rule>(
+/// The preference follows a poll; where this moved none it stays.
+pub(crate) fn follow_poll<R: Rule>(
     params: &Params,
     polls: u64,
     root: &Load<R>,
     tree: &Tree<Load<R>>,
-    preference: &Id,
+    preference: &mut Id,
     moved: bool,
-) -> Id
+)
     requires named { AreNamed (blocks_in (tree.now).pending) }
     requires fit { AreFit params.now polls root.now tree.now }
-    requires steady { moved ≡ false → preference.now ≡ preferred R.answer (view params.now polls root.now tree.now) }
-    ensures { result ≡ preferred R.answer (view params.now polls root.now tree.now) }
+    requires steady { moved ≡ false → preference.old ≡ preferred R.answer (view params.now polls root.now tree.now) }
+    ensures { preference.new ≡ preferred R.answer (view params.now polls root.now tree.now) }
 {
     if moved {
-        preference_of(params, polls, root, tree)
-    } else {
-        *preference
+        *preference = preference_of(params, polls, root, tree);
     }
 }

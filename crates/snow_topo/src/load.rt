@@ -1,8 +1,8 @@
-ghost use Rattle.std.specs.Prelude.{◌≡◌, ◌+◌, ◌≤◌, All, Contains, None, IfSome, false, if◌then◌else◌};
+ghost use Rattle.std.specs.Prelude.{◌≡◌, ◌+◌, ◌≤◌, All, Contains, None, IfSome, IfOk, false, if◌then◌else◌};
 ghost use Rattle.snow_base.specs.Votes.{IsInBitOrder, total_count};
 ghost use Rattle.snow_plain.specs.Conflict.{all_polled, votes_on, chosen};
 ghost use Rattle.snow_plain.specs.FailingLaw.{failed};
-ghost use Rattle.snow_trie.specs.Whole.{HasFewNodes};
+ghost use Rattle.snow_trie.specs.Whole.{HasFewNodes, begun};
 ghost use Rattle.snow_topo.specs.Leading.{HasDecided};
 
 use snow_base::{Id, Steps, Vote};
@@ -17,9 +17,14 @@ use std::sync::ledger::Ledger;
 /// Contracts see the children with their counters, and that number.
 #[derive(Debug, Drop)]
 pub struct Load<R: Rule> {
-    trie: Option<Trie<R>>,
+    trie: Contest<R>,
+    // The tree of a block that isn't on the board any more: the next one is made in its place.
+    spare: Contest<R>,
     recorded: u64,
 }
+
+// A tree stands apart, so that the blocks, of which most have none, are small.
+pub(crate) type Contest<R> = Option<Box<Trie<R>>>;
 
 impl<R: Rule> Model for Load<R> {
     ghost use Rattle.std.specs.Prelude.{IfSome};
@@ -32,9 +37,9 @@ impl<R: Rule> Model for Load<R> {
 
     ghost coded = { coded_kept };
 
-    ghost view = { λ a. record { contest = option_map contest_of a.trie; recorded = a.recorded } };
+    ghost view = { λ a. record { contest = option_map (λ t. contest_of t.value) a.trie; recorded = a.recorded } };
 
-    ghost invariant = { λ a. IfSome a.trie HasFewNodes };
+    ghost invariant = { λ a. IfSome a.trie (λ t. HasFewNodes t.value) };
 }
 
 // A tree takes a poll with these votes, after it has failed where it didn't record the last poll. The
@@ -65,6 +70,34 @@ fn catch_up<R: Rule, L: Ledger>(
     if choices == 1 { false } else { moved }
 }
 
+// The tree of one child, in the place of another where there is one.
+#[inline(always)]
+fn begin<R: Rule>(
+    alloc: Global,
+    params: &Params,
+    id: &Id,
+    spare: Contest<R>,
+) -> Result<Box<Trie<R>>, AllocError>
+    ensures { IfOk result (λ tree. tree.value ≡ begun params.now id.now) }
+{
+    match spare {
+        Some(mut tree) => {
+            tree.begin_anew(params, id);
+            Ok(tree)
+        }
+        None => make(alloc, params, id),
+    }
+}
+
+// The tree of one child, in a place of its own.
+#[inline(never)]
+fn make<R: Rule>(alloc: Global, params: &Params, id: &Id) -> Result<Box<Trie<R>>, AllocError>
+    ensures { IfOk result (λ tree. tree.value ≡ begun params.now id.now) }
+{
+    let tree = Trie::new(alloc, *params, *id)?;
+    Ok(Box::new(alloc, tree)?)
+}
+
 // The identifier to which decided counters alone lead.
 fn decided_in<R: Rule>(trie: &Trie<R>) -> Option<Id>
     ensures { HasDecided (trie.now).counters result }
@@ -90,6 +123,7 @@ impl<R: Rule> Load<R> {
     {
         Load {
             trie: None,
+            spare: None,
             recorded: 0,
         }
     }
@@ -105,20 +139,47 @@ impl<R: Rule> Load<R> {
         }
     }
 
-    /// A child was issued: it is added to the tree, which is made for the first one. After want of
-    /// memory all is as before.
-    pub(crate) fn add(&mut self, alloc: Global, params: &Params, id: &Id) -> Result<(), AllocError>
+    /// A child was issued: it is added to the tree, which is made for the first one, in the place of a
+    /// spare one where there is one. After want of memory all is as before.
+    pub(crate) fn add(
+        &mut self,
+        alloc: Global,
+        params: &Params,
+        id: &Id,
+        spare: Contest<R>,
+    ) -> Result<(), AllocError>
         ensures ok { OnOk result (self.new ≡ gained params.now id.now self.old) }
         ensures err { OnErr result (self.new ≡ self.old) }
     {
         match &mut self.trie {
             Some(trie) => trie.add(*id),
             None => {
-                let trie = Trie::new(alloc, *params, *id)?;
+                let trie = begin(alloc, params, id, spare)?;
                 self.trie = Some(trie);
                 Ok(())
             }
         }
+    }
+
+    /// The tree, which isn't needed here any more.
+    pub(crate) fn take_tree(&mut self) -> Contest<R> {
+        self.trie.take()
+    }
+
+    /// The next tree is to be made in the place of this one.
+    #[inline(always)]
+    pub(crate) fn keep_spare(&mut self, tree: Contest<R>)
+        ensures { self.new ≡ self.old }
+    {
+        self.spare = tree;
+    }
+
+    /// The tree in whose place the next one is to be made.
+    #[inline(always)]
+    pub(crate) fn take_spare(&mut self) -> Contest<R>
+        ensures { self.new ≡ self.old }
+    {
+        self.spare.take()
     }
 
     /// Whether decided counters alone lead anywhere.

@@ -8,7 +8,7 @@ ghost use Rattle.snow_climb.specs.Starting.{HaveBegun, IsLoaded};
 ghost use Rattle.snow_topo.specs.View.{view};
 
 use crate::applying::apply;
-use crate::leading::preference_kept;
+use crate::leading::follow_poll;
 use crate::load::Load;
 use crate::renewing::renew;
 use snow_base::{Bag, Id, Steps};
@@ -18,30 +18,30 @@ use snow_plain::Decision;
 use snow_tree::Tree;
 use std::sync::ledger::Ledger;
 
-/// A whole poll, whose votes have begun to climb. The answer is how many polls there were, as they are
-/// counted from here on, and the preference. It takes no memory where the board stood and there is room
+/// A whole poll, whose votes have begun to climb. The preference follows it. The answer is how many polls
+/// there were, as they are counted from here on. It takes no memory where the board stood and there is room
 /// for the votes by child.
 pub(crate) fn record<R: Rule, L: Ledger>(
     params: &Params,
     polls: u64,
     root: &mut Load<R>,
     tree: &mut Tree<Load<R>>,
-    preference: &Id,
+    preference: &mut Id,
     ladder: &mut Ladder,
     children: &mut Bag,
     decisions: &mut Vec<Decision>,
     steps: &mut Steps<L>,
-) -> (u64, Id)
-    requires standing { (ready : Rungs) × IsStanding R.answer params.now polls root.old tree.old preference.now ready (vec_capacity decisions.old) (children.old.room + length children.old.list)
+) -> u64
+    requires standing { (ready : Rungs) × IsStanding R.answer params.now polls root.old tree.old preference.old ready (vec_capacity decisions.old) (children.old.room + length children.old.list)
         × KeepsRoom ready ladder.old }
     requires begun { (votes : List Vote) × HaveBegun params.now votes (tree.old).pending ladder.old }
     requires loaded { IsLoaded (tree.old).pending ladder.old }
     requires places { length (ladder.old).climbers ≤ children.old.room + length children.old.list }
     ensures board { (votes : List Vote) → HaveBegun params.now votes (tree.old).pending ladder.old
-        → view params.now result.0 root.new tree.new ≡ (poll (view params.now polls root.old tree.old) votes).0 }
+        → view params.now result root.new tree.new ≡ (poll (view params.now polls root.old tree.old) votes).0 }
     ensures decided { (votes : List Vote) → HaveBegun params.now votes (tree.old).pending ladder.old
         → decisions.new.items ≡ (poll (view params.now polls root.old tree.old) votes).1 }
-    ensures standing { IsStanding R.answer params.now result.0 root.new tree.new result.1 ladder.new (vec_capacity decisions.new) (children.new.room + length children.new.list) }
+    ensures standing { IsStanding R.answer params.now result root.new tree.new preference.new ladder.new (vec_capacity decisions.new) (children.new.room + length children.new.list) }
     ensures steps { (votes : List Vote) → HaveBegun params.now votes (tree.old).pending ladder.old
         → steps.new ≤ steps.old + most_steps (view params.now polls root.old tree.old) votes }
 {
@@ -50,6 +50,6 @@ pub(crate) fn record<R: Rule, L: Ledger>(
         params, before, root, tree, ladder, children, decisions, steps,
     );
     let after = before + 1;
-    let kept = preference_kept(params, after, root, tree, preference, moved);
-    (after, kept)
+    follow_poll(params, after, root, tree, preference, moved);
+    after
 }

@@ -31,6 +31,6 @@ pub(crate) fn settle<R: Rule>(
     let _k = params.k();
     let mut more = root.is_decided();
     while more {
-        more = accept_next(params, polls, root, tree, decisions);
+        more = accept_next(params, polls, root, tree, decisions) && root.is_decided();
     }
 }

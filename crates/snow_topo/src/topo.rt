@@ -10,7 +10,7 @@ ghost use Rattle.snow_topo.specs.Costs.{most_steps};
 ghost use Rattle.snow_topo.specs.Standing.{AreKept};
 
 use crate::issuing::issue;
-use crate::leading::{is_preferred, is_top, kept_of, preference_after};
+use crate::leading::{follow_child, is_preferred, is_top, kept_of};
 use crate::load::Load;
 use crate::polling::record;
 use snow_base::{Bag, Header, Id, Steps};
@@ -95,19 +95,18 @@ impl<R: Rule> Topo<R> {
         ensures steps { steps.new ≤ steps.old + most_steps (self.old).board votes.now.list }
     {
         start_votes(&self.tree, &mut self.ladder, votes.entries());
-        let (polls, preference) = record(
+        let polls = record(
             &self.params,
             self.polls,
             &mut self.root,
             &mut self.tree,
-            &self.preference,
+            &mut self.preference,
             &mut self.ladder,
             &mut self.children,
             &mut self.decisions,
             steps,
         );
         self.polls = polls;
-        self.preference = preference;
     }
 
     /// `apply_votes` with its steps counted. It takes no memory.
@@ -119,19 +118,18 @@ impl<R: Rule> Topo<R> {
     {
         let _k = self.params.k();
         start_ids(&self.params, &self.tree, &mut self.ladder, ids);
-        let (polls, preference) = record(
+        let polls = record(
             &self.params,
             self.polls,
             &mut self.root,
             &mut self.tree,
-            &self.preference,
+            &mut self.preference,
             &mut self.ladder,
             &mut self.children,
             &mut self.decisions,
             steps,
         );
         self.polls = polls;
-        self.preference = preference;
     }
 
     /// The tree of a block's children; none where the block isn't on the board or has no child there.
@@ -193,12 +191,12 @@ impl<R: Rule> Board for Topo<R> {
             &mut self.tree,
             &child,
         )?;
-        self.preference = preference_after(
+        follow_child(
             &self.params,
             self.polls,
             &self.root,
             &self.tree,
-            &self.preference,
+            &mut self.preference,
             on_top,
             &child,
         );

@@ -87,6 +87,21 @@ impl<R: Rule> Trie<R> {
         })
     }
 
+    /// One identifier stands alone anew, whatever stood before. The room for others is kept. It takes no
+    /// memory.
+    #[inline(always)]
+    pub fn begin_anew(&mut self, params: &Params, id: &Id)
+        ensures { self.new ≡ begun params.now id.now }
+    {
+        self.params = *params;
+        self.first = *id;
+        self.more.clear();
+        self.polls = 0;
+        self.decided = 0;
+        self.leader = *id;
+        self.root = node::branch(id, 0);
+    }
+
     /// Adds an identifier: fresh counters for its bits where none stood, up to a decided counter of
     /// the other bit. At most three nodes are made, and they are made first: after want of memory all
     /// is as before.

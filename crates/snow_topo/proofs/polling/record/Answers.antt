@@ -70,15 +70,15 @@ names g c board same =
     (names_polled before votes
     (subst (λ (b : Board). AreNamed (blocks_of b.pending)) (sym board) (names_seen p c.args.polls first c.requires.standing.1.named)))
 
-pub preference_kept-kept-requires-clause-named : goal.preference_kept-kept-requires-clause-named
-preference_kept-kept-requires-clause-named g c =
-    let first = (goal.at.preference_kept-kept-requires-clause-named g c).After-renew-before in
-    names g (goal.at.preference_kept-kept-requires-clause-named g c).After-apply-moved (anew g first) (blocks g first)
+pub follow_poll-requires-clause-named : goal.follow_poll-requires-clause-named
+follow_poll-requires-clause-named g c =
+    let first = (goal.at.follow_poll-requires-clause-named g c).After-renew-before in
+    names g (goal.at.follow_poll-requires-clause-named g c).After-apply-moved (anew g first) (blocks g first)
 
-pub preference_kept-kept-requires-clause-steady : goal.preference_kept-kept-requires-clause-steady
-preference_kept-kept-requires-clause-steady g c =
+pub follow_poll-requires-clause-steady : goal.follow_poll-requires-clause-steady
+follow_poll-requires-clause-steady g c =
     λ s.
-    let at = (goal.at.preference_kept-kept-requires-clause-steady g c).After-renew-before in
+    let at = (goal.at.follow_poll-requires-clause-steady g c).After-renew-before in
     c.requires.standing.1.preference ∙ ap (preferred g.R.Rule.answer) (sym (anew g at)) ∙ sym (c.apply-moved.ensures.steady s)
 
 pub returns-clause-board : goal.returns-clause-board
@@ -108,7 +108,7 @@ returns-clause-standing g c =
     record {
       fit = c.apply-moved.ensures.fit;
       named = names g (goal.at.returns-clause-standing g c).After-apply-moved (anew g first) (blocks g first);
-      preference = c.preference_kept-kept.ensures;
+      preference = c.follow_poll.ensures;
       room = record {
         decides =
             omega (

@@ -27,16 +27,16 @@ issue-requires-clause-follows g c =
     let may : MayIssue (view a.params a.polls a.root a.tree) child = subst (λ (s : Shown). MayIssue s.board child) (sym c.self.view_is) c.requires in
     issue_follows a.params a.polls a.root a.tree c.args.parent may.follows.0 may.follows.1
 
-pub preference_after-self-inside-requires-clause-named : goal.preference_after-self-inside-requires-clause-named
-preference_after-self-inside-requires-clause-named g c =
+pub follow_child-requires-clause-named : goal.follow_child-requires-clause-named
+follow_child-requires-clause-named g c =
     let a = c.self.inside in
     let child : Header = record { id = c.args.id; parent = c.args.parent; height = c.args.height } in
     let old = view a.params a.polls a.root a.tree in
     names_kept a.params a.polls c.issue.new.root c.issue.new.tree (issued old child) (c.in_ok-issue.ensures.board a.polls)
     (names_issued old child (names_seen a.params a.polls a.tree c.self.invariant.named) c.named.ensures)
 
-pub preference_after-self-inside-requires-clause-fit : goal.preference_after-self-inside-requires-clause-fit
-preference_after-self-inside-requires-clause-fit g c = c.in_ok-issue.ensures.fit c.self.inside.polls c.self.invariant.fit
+pub follow_child-requires-clause-fit : goal.follow_child-requires-clause-fit
+follow_child-requires-clause-fit g c = c.in_ok-issue.ensures.fit c.self.inside.polls c.self.invariant.fit
 
 pub invariant_of-self-2 : goal.invariant_of-self-2
 invariant_of-self-2 g c =
@@ -47,7 +47,7 @@ invariant_of-self-2 g c =
     let new : view a.params a.polls c.issue.new.root c.issue.new.tree ≡ issued old child = c.in_ok-issue.ensures.board a.polls in
     let may : MayIssue old child = subst (λ (s : Shown). MayIssue s.board child) (sym c.self.view_is) c.requires in
     let leading : Leading = record { block = a.preference; is_top = c.is_top-on_top.result } in
-    let was : IsLeading answer old leading = record { block = c.self.invariant.preference; top = c.is_top-on_top.ensures } in
+    let was : IsLeading answer old leading = record { block = c.self.invariant.preference; top = c.is_top-on_top.ensures.top } in
     let alone = latest_alone old child may (grown_seen a.params a.polls a.tree.last a.tree c.last-last.ensures.grown) in
     let after = leading_issued answer g.met.R.Rule.agrees old child leading may.unknown alone was in
     let longer = ap (λ (b : Board). length b.pending) new ∙ issued_length old child in
@@ -56,7 +56,7 @@ invariant_of-self-2 g c =
       named =
           names_kept a.params a.polls c.issue.new.root c.issue.new.tree (issued old child) new
           (names_issued old child (names_seen a.params a.polls a.tree c.self.invariant.named) c.named.ensures);
-      preference = c.preference_after-self-inside.ensures ∙ ap (λ b. (leading_after answer leading b child).block) new ∙ after.block ∙ ap (preferred answer) (sym new);
+      preference = c.follow_child.ensures ∙ ap (λ b. (leading_after answer leading b child).block) new ∙ after.block ∙ ap (preferred answer) (sym new);
       room = record {
         decides = let before = view_length a.params a.polls a.root a.tree in grind (arith, common_steps);
         counts = omega (arith, c.make_room.ensures.votes, c.self.invariant.room.counts);
