@@ -6,7 +6,7 @@ use Rattle.std.proofs.lemmas.Bool.{or_parts}
 use Rattle.std.proofs.lemmas.Grind.{common_steps}
 use Rattle.std.proofs.lemmas.List.{get_or-map, length-map, map-append}
 use Rattle.std.proofs.lemmas.List.Elements.{All-append, All-map, All-cons, All-nil}
-use Rattle.std.proofs.lemmas.Option.{none-some, slice_get-map, slice_get_within, get_or_from_slice_get}
+use Rattle.std.proofs.lemmas.Option.{slice_get-map, slice_get_within, get_or_from_slice_get}
 use Rattle.snow_base.specs.declared.header.Header.{Header}
 use Rattle.snow_base.specs.Identifier.{bits}
 use Rattle.snow_flake.specs.Parameters.{Parameters, AreGood}
@@ -70,12 +70,6 @@ elsewhere last pending at j e x g here there other =
     (λ t. absurd (other (omega (arith, entry_reach last pending at e g here, entry_reach last pending j x g there, ap (reach (blocks_in pending)) (same_id x.block.id e.block.id t)))))
     (λ t. t)
 
--- where the parent of the last entry's block stands
-pub parent_of_last : (pending : List (Entry Kept)) (child : Header) (o : Option (Entry Kept)) (r : Option ℕ) → option_map (λ e. e.block) o ≡ Some child
-    → IfSome o (λ e. r ≡ place_in pending e.block.parent) → r ≡ place_in pending child.parent
-parent_of_last pending child None r is found = absurd (none-some child is)
-parent_of_last pending child (Some e) r is found = let same : e.block ≡ child = cc in found ∙ ap (λ (b : Header). place_in pending b.parent) same
-
 -- a block that has a place is pending
 placed_on : (pending : List (Entry Kept)) (id : List ℕ) (at : ℕ) → place_in pending id ≡ Some at → has_block (blocks_in pending) id ≡ true
 placed_on pending id at h =
@@ -91,6 +85,14 @@ placed_away last pending id at g h =
     split_on (bytes_eq last id)
     (λ t. clash (has_block (blocks_in pending) id) (placed_on pending id at h) (ap (has_block (blocks_in pending)) (sym (same_id last id t)) ∙ last_off last (blocks_in pending) g))
     (λ t. t)
+
+-- the last accepted block has none
+pub no_place : (last : List ℕ) (pending : List (Entry Kept)) (id : List ℕ) → IsGrown last (reverse (blocks_in pending)) → bytes_eq last id ≡ true → place_in pending id ≡ None
+no_place last pending id grown is = by (place_in pending id) refl
+  where
+    by : (o : Option ℕ) → place_in pending id ≡ o → place_in pending id ≡ None
+    by None e = e
+    by (Some at) e = clash (bytes_eq last id) is (placed_away last pending id at grown e)
 
 -- a block on the board that isn't pending is the last accepted one
 pub is_last : (last : List ℕ) (blocks : List Header) (id : List ℕ) → is_on last blocks id ≡ true → has_block blocks id ≡ false → bytes_eq last id ≡ true

@@ -9,7 +9,7 @@ ghost use Rattle.snow_climb.specs.Starting.{HaveBegun, IsLoaded};
 ghost use Rattle.snow_topo.specs.View.{view, AreFit};
 
 use crate::counting::count;
-use crate::load::Load;
+use crate::load::{Contest, Load};
 use crate::settling::settle;
 use snow_base::{Bag, Steps};
 use snow_climb::Ladder;
@@ -30,6 +30,7 @@ pub(crate) fn apply<R: Rule, L: Ledger>(
     ladder: &mut Ladder,
     children: &mut Bag,
     decisions: &mut Vec<Decision>,
+    spare: &mut Contest<R>,
     steps: &mut Steps<L>,
 ) -> bool
     requires room { polls + 1 < 2 ^ 64 }
@@ -55,6 +56,6 @@ pub(crate) fn apply<R: Rule, L: Ledger>(
     let moved = count(params, root, tree, polls, ladder, children, steps);
     let _last = tree.last();
     decisions.clear();
-    settle(params, polls + 1, root, tree, decisions);
+    settle(params, polls + 1, root, tree, decisions, spare);
     moved
 }

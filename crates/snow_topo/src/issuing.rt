@@ -1,8 +1,7 @@
-ghost use Rattle.std.specs.Prelude.{◌≡◌, ◌-◌, ℕ, true, false, Some, IfSome, OnOk, OnErr, length, slice_get};
-ghost use Rattle.std.specs.Option.{option_map};
+ghost use Rattle.std.specs.Prelude.{◌≡◌, ℕ, true, false, IfSome, OnOk, OnErr, slice_get};
 ghost use Rattle.snow_plain.specs.Board.{issued};
 ghost use Rattle.snow_plain.specs.Grown.{is_on};
-ghost use Rattle.snow_tree.specs.Held.{blocks_in, inserted, taken_back, with_load};
+ghost use Rattle.snow_tree.specs.Held.{blocks_in, place_in, inserted, taken_back, with_load};
 ghost use Rattle.snow_topo.specs.Kept.{bare, gained};
 ghost use Rattle.snow_topo.specs.View.{view, AreFit};
 ghost use Rattle.snow_topo.specs.Gaining.{gained_by, all_gained};
@@ -20,7 +19,7 @@ fn add_at<R: Rule>(
     tree: &mut Tree<Load<R>>,
     at: usize,
     id: &Id,
-    spare: Contest<R>,
+    spare: &mut Contest<R>,
 ) -> Result<(), AllocError>
     ensures ok { IfSome (slice_get (tree.old).pending at) (λ e. OnOk result (tree.new ≡ with_load tree.old at (gained params.now id.now e.load))) }
     ensures err { OnErr result (tree.new ≡ tree.old) }
@@ -31,16 +30,18 @@ fn add_at<R: Rule>(
     }
 }
 
-// A block was issued, and is the last pending one: its parent has one child more. No identifier is looked up
-// for that. After want of memory all is as before.
+// A block was issued: its parent has one child more, which stands at this place. No identifier is looked up for
+// that. After want of memory all is as before.
 fn add_below<R: Rule>(
     alloc: Global,
     params: &Params,
     root: &mut Load<R>,
     tree: &mut Tree<Load<R>>,
+    at: Option<usize>,
     child: &Header,
+    spare: &mut Contest<R>,
 ) -> Result<(), AllocError>
-    requires issued { option_map (λ e. e.block) (slice_get (tree.old).pending (length (tree.old).pending - 1)) ≡ Some child.now }
+    requires place { at ≡ place_in (tree.old).pending (child.now).parent }
     requires follows { is_on (tree.old).last (blocks_in (tree.old).pending) (child.now).parent ≡ true }
     ensures root { OnOk result (root.new ≡ gained_by params.now child.now (tree.old).last root.old) }
     ensures tree { OnOk result (tree.new ≡ all_gained params.now child.now tree.old) }
@@ -48,21 +49,26 @@ fn add_below<R: Rule>(
     ensures tree_stays { OnErr result (tree.new ≡ tree.old) }
 {
     let _last = tree.last();
-    let spare = root.take_spare();
-    match tree.parent_place(tree.len().saturating_sub(1)) {
+    match at {
         Some(at) => add_at(alloc, params, tree, at, &child.id, spare),
         None => root.add(alloc, params, &child.id, spare),
     }
 }
 
-// A block becomes the last pending one, without children. After want of memory all is as before.
-fn insert<R: Rule>(tree: &mut Tree<Load<R>>, child: &Header) -> Result<(), AllocError>
+// A block becomes the last pending one, without children. Its parent stands at this place. After want of memory
+// all is as before.
+fn insert<R: Rule>(
+    tree: &mut Tree<Load<R>>,
+    at: Option<usize>,
+    child: &Header,
+) -> Result<(), AllocError>
     requires unknown { is_on (tree.old).last (blocks_in (tree.old).pending) (child.now).id ≡ false }
     requires follows { is_on (tree.old).last (blocks_in (tree.old).pending) (child.now).parent ≡ true }
+    requires place { at ≡ place_in (tree.old).pending (child.now).parent }
     ensures ok { OnOk result (tree.new ≡ inserted tree.old child.now bare) }
     ensures err { OnErr result (tree.new ≡ tree.old) }
 {
-    match tree.insert(child.id, child.parent, child.height, Load::new()) {
+    match tree.insert(child.id, child.parent, at, child.height, Load::new()) {
         Ok(()) => Ok(()),
         Err(_) => Err(AllocError),
     }
@@ -83,10 +89,13 @@ pub(crate) fn issue<R: Rule>(
     params: &Params,
     root: &mut Load<R>,
     tree: &mut Tree<Load<R>>,
+    at: Option<usize>,
     child: &Header,
+    spare: &mut Contest<R>,
 ) -> Result<(), AllocError>
     requires unknown { is_on (tree.old).last (blocks_in (tree.old).pending) (child.now).id ≡ false }
     requires follows { is_on (tree.old).last (blocks_in (tree.old).pending) (child.now).parent ≡ true }
+    requires place { at ≡ place_in (tree.old).pending (child.now).parent }
     ensures board { OnOk result ((polls : ℕ) → view params.now polls root.new tree.new ≡ issued (view params.now polls root.old tree.old) child.now) }
     ensures fit { OnOk result ((polls : ℕ) → AreFit params.now polls root.old tree.old → AreFit params.now polls root.new tree.new) }
     ensures root_stays { OnErr result (root.new ≡ root.old) }
@@ -94,8 +103,8 @@ pub(crate) fn issue<R: Rule>(
 {
     let _k = params.k();
     let _last = tree.last();
-    insert(tree, child)?;
-    let added = add_below(alloc, params, root, tree, child);
+    insert(tree, at, child)?;
+    let added = add_below(alloc, params, root, tree, at, child, spare);
     if added.is_err() {
         take_back(tree);
         return added;

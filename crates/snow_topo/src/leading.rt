@@ -3,8 +3,9 @@ ghost use Rattle.std.specs.List.{list_any};
 ghost use Rattle.std.specs.Option.{option_copied};
 ghost use Rattle.snow_plain.specs.declared.leading.Leading.{Leading};
 ghost use Rattle.snow_plain.specs.Ending.{IsTop, leading_after};
+ghost use Rattle.snow_plain.specs.Grown.{is_on};
 ghost use Rattle.snow_plain.specs.Preference.{path_from, preferred_path, preferred, is_preferred};
-ghost use Rattle.snow_tree.specs.Held.{blocks_in, children_of};
+ghost use Rattle.snow_tree.specs.Held.{blocks_in, children_of, place_in};
 ghost use Rattle.snow_topo.specs.Kept.{shown, IsFit};
 ghost use Rattle.snow_topo.specs.View.{all_pending, view, AllFit, AreFit};
 ghost use Rattle.snow_topo.specs.Walking.{AreNamed, kept_of};
@@ -13,6 +14,34 @@ use crate::load::Load;
 use snow_base::{Header, Id};
 use snow_flake::{Params, Rule};
 use snow_tree::Tree;
+
+/// Where a block on the board stands; nothing for the last accepted one, which is told without looking it up.
+pub(crate) fn place_on<R: Rule>(tree: &Tree<Load<R>>, id: &Id) -> Option<usize>
+    ensures { result ≡ place_in (tree.now).pending id.now }
+{
+    if tree.last() == *id {
+        return None;
+    }
+    tree.place_of(id)
+}
+
+// What is kept of a block on the board, which stands at this place.
+fn kept_at<'a, R: Rule>(
+    root: &'a Load<R>,
+    tree: &'a Tree<Load<R>>,
+    id: &Id,
+    at: Option<usize>,
+) -> Option<&'a Load<R>>
+    requires on { is_on (tree.now).last (blocks_in (tree.now).pending) id.now ≡ true }
+    requires place { at ≡ place_in (tree.now).pending id.now }
+    ensures { option_copied result ≡ kept_of root.now tree.now id.now }
+{
+    let _last = tree.last();
+    match at {
+        Some(at) => tree.load(at),
+        None => Some(root),
+    }
+}
 
 /// What is kept of a block on the board.
 #[inline(always)]
@@ -126,7 +155,8 @@ pub(crate) fn is_preferred<R: Rule>(
     }
 }
 
-/// Whether a block is the preference, and no block stands above it: it has no tree of children.
+/// Whether a block on the board, which stands at this place, is the preference, and no block stands above it: it
+/// has no tree of children.
 pub(crate) fn is_top<R: Rule>(
     params: &Params,
     polls: u64,
@@ -134,9 +164,12 @@ pub(crate) fn is_top<R: Rule>(
     tree: &Tree<Load<R>>,
     preference: &Id,
     id: &Id,
+    at: Option<usize>,
 ) -> bool
     requires fit { AreFit params.now polls root.now tree.now }
     requires preference { preference.now ≡ preferred R.answer (view params.now polls root.now tree.now) }
+    requires on { is_on (tree.now).last (blocks_in (tree.now).pending) id.now ≡ true }
+    requires place { at ≡ place_in (tree.now).pending id.now }
     ensures top { result ≡ true → IsTop R.answer (view params.now polls root.now tree.now) }
     ensures same { result ≡ true → preference.now ≡ id.now }
 {
@@ -144,7 +177,7 @@ pub(crate) fn is_top<R: Rule>(
     if *preference != *id {
         return false;
     }
-    let Some(load) = kept_of(root, tree, id) else {
+    let Some(load) = kept_at(root, tree, id, at) else {
         return false;
     };
     match load.trie() {

@@ -18,12 +18,10 @@ use std::sync::ledger::Ledger;
 #[derive(Debug, Drop)]
 pub struct Load<R: Rule> {
     trie: Contest<R>,
-    // The tree of a block that isn't on the board any more: the next one is made in its place.
-    spare: Contest<R>,
     recorded: u64,
 }
 
-// A tree stands apart, so that the blocks, of which most have none, are small.
+/// The tree of a block's children. It stands apart, so that the blocks, of which many have none, are small.
 pub(crate) type Contest<R> = Option<Box<Trie<R>>>;
 
 impl<R: Rule> Model for Load<R> {
@@ -123,7 +121,6 @@ impl<R: Rule> Load<R> {
     {
         Load {
             trie: None,
-            spare: None,
             recorded: 0,
         }
     }
@@ -146,7 +143,7 @@ impl<R: Rule> Load<R> {
         alloc: Global,
         params: &Params,
         id: &Id,
-        spare: Contest<R>,
+        spare: &mut Contest<R>,
     ) -> Result<(), AllocError>
         ensures ok { OnOk result (self.new ≡ gained params.now id.now self.old) }
         ensures err { OnErr result (self.new ≡ self.old) }
@@ -154,7 +151,7 @@ impl<R: Rule> Load<R> {
         match &mut self.trie {
             Some(trie) => trie.add(*id),
             None => {
-                let trie = begin(alloc, params, id, spare)?;
+                let trie = begin(alloc, params, id, spare.take())?;
                 self.trie = Some(trie);
                 Ok(())
             }
@@ -162,24 +159,9 @@ impl<R: Rule> Load<R> {
     }
 
     /// The tree, which isn't needed here any more.
+    #[inline(always)]
     pub(crate) fn take_tree(&mut self) -> Contest<R> {
         self.trie.take()
-    }
-
-    /// The next tree is to be made in the place of this one.
-    #[inline(always)]
-    pub(crate) fn keep_spare(&mut self, tree: Contest<R>)
-        ensures { self.new ≡ self.old }
-    {
-        self.spare = tree;
-    }
-
-    /// The tree in whose place the next one is to be made.
-    #[inline(always)]
-    pub(crate) fn take_spare(&mut self) -> Contest<R>
-        ensures { self.new ≡ self.old }
-    {
-        self.spare.take()
     }
 
     /// Whether decided counters alone lead anywhere.

@@ -9,7 +9,7 @@ ghost use Rattle.snow_topo.specs.View.{view};
 
 use crate::applying::apply;
 use crate::leading::follow_poll;
-use crate::load::Load;
+use crate::load::{Contest, Load};
 use crate::renewing::renew;
 use snow_base::{Bag, Id, Steps};
 use snow_climb::Ladder;
@@ -30,6 +30,7 @@ pub(crate) fn record<R: Rule, L: Ledger>(
     ladder: &mut Ladder,
     children: &mut Bag,
     decisions: &mut Vec<Decision>,
+    spare: &mut Contest<R>,
     steps: &mut Steps<L>,
 ) -> u64
     requires standing { (ready : Rungs) × IsStanding R.answer params.now polls root.old tree.old preference.old ready (vec_capacity decisions.old) (children.old.room + length children.old.list)
@@ -47,7 +48,7 @@ pub(crate) fn record<R: Rule, L: Ledger>(
 {
     let before = renew(polls, root, tree);
     let moved = apply(
-        params, before, root, tree, ladder, children, decisions, steps,
+        params, before, root, tree, ladder, children, decisions, spare, steps,
     );
     let after = before + 1;
     follow_poll(params, after, root, tree, preference, moved);

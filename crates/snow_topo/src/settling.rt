@@ -3,7 +3,7 @@ ghost use Rattle.snow_plain.specs.Poll.{settled};
 ghost use Rattle.snow_topo.specs.View.{view, AreFit};
 
 use crate::accepting::accept_next;
-use crate::load::Load;
+use crate::load::{Contest, Load};
 use snow_flake::{Params, Rule};
 use snow_plain::Decision;
 use snow_tree::Tree;
@@ -16,6 +16,7 @@ pub(crate) fn settle<R: Rule>(
     root: &mut Load<R>,
     tree: &mut Tree<Load<R>>,
     decisions: &mut Vec<Decision>,
+    spare: &mut Contest<R>,
 )
     requires fit { AreFit params.now polls root.old tree.old }
     requires room { length decisions.old.items + length (tree.old).pending ≤ vec_capacity decisions.old }
@@ -31,6 +32,6 @@ pub(crate) fn settle<R: Rule>(
     let _k = params.k();
     let mut more = root.is_decided();
     while more {
-        more = accept_next(params, polls, root, tree, decisions) && root.is_decided();
+        more = accept_next(params, polls, root, tree, decisions, spare) && root.is_decided();
     }
 }

@@ -10,8 +10,8 @@ ghost use Rattle.snow_topo.specs.Costs.{most_steps};
 ghost use Rattle.snow_topo.specs.Standing.{AreKept};
 
 use crate::issuing::issue;
-use crate::leading::{follow_child, is_preferred, is_top, kept_of};
-use crate::load::Load;
+use crate::leading::{follow_child, is_preferred, is_top, kept_of, place_on};
+use crate::load::{Contest, Load};
 use crate::polling::record;
 use snow_base::{Bag, Header, Id, Steps};
 use snow_climb::{Ladder, named, start_ids, start_votes};
@@ -35,6 +35,8 @@ pub struct Topo<R: Rule> {
     // What is kept of the last accepted block, and of those above it.
     root: Load<R>,
     tree: Tree<Load<R>>,
+    // The tree of the children of a block that isn't on the board any more. The next one is made in its place.
+    spare: Contest<R>,
     preference: Id,
     decisions: Vec<Decision>,
     // Room for the votes of a poll, and for those that came to one block, by its children.
@@ -104,6 +106,7 @@ impl<R: Rule> Topo<R> {
             &mut self.ladder,
             &mut self.children,
             &mut self.decisions,
+            &mut self.spare,
             steps,
         );
         self.polls = polls;
@@ -127,6 +130,7 @@ impl<R: Rule> Topo<R> {
             &mut self.ladder,
             &mut self.children,
             &mut self.decisions,
+            &mut self.spare,
             steps,
         );
         self.polls = polls;
@@ -161,6 +165,7 @@ impl<R: Rule> Board for Topo<R> {
             polls: 0,
             root: Load::new(),
             tree: Tree::new(alloc, last, height),
+            spare: None,
             preference: last,
             decisions: Vec::new(alloc),
             ladder,
@@ -176,6 +181,7 @@ impl<R: Rule> Board for Topo<R> {
         self.decisions.reserve(pending)?;
         self.ladder.make_room(pending)?;
         let child = Header { id, parent, height };
+        let at = place_on(&self.tree, &parent);
         let on_top = is_top(
             &self.params,
             self.polls,
@@ -183,13 +189,16 @@ impl<R: Rule> Board for Topo<R> {
             &self.tree,
             &self.preference,
             &parent,
+            at,
         );
         issue(
             self.alloc,
             &self.params,
             &mut self.root,
             &mut self.tree,
+            at,
             &child,
+            &mut self.spare,
         )?;
         follow_child(
             &self.params,

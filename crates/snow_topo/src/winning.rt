@@ -60,7 +60,7 @@ pub(crate) fn next_child<R: Rule>(
 {
     let _k = params.k();
     match root.decided() {
-        Some(id) => first_alike(tree.child_ids(&tree.last()), &id),
+        Some(id) => first_alike(tree.first_ids(), &id),
         None => None,
     }
 }

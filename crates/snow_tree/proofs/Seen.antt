@@ -17,7 +17,6 @@ use Rattle.snow_plain.proofs.Grown.{grown_parent, grown_rest, no_line, has_block
 use Rattle.snow_tree.specs.declared.node.Node.{Node}
 use Rattle.snow_tree.specs.Held.{children_of, set_load}
 use Rattle.snow_tree.specs.Nodes.{block_of, blocks_of, ArePlaced, edge_of, entry_of, with_children, IsKept}
-use Rattle.snow_tree.proofs.Placed.{off_place}
 use Rattle.snow_tree.proofs.Listed.{no_children}
 use Rattle.snow_tree.proofs.Linked.{no_block}
 use Rattle.snow_tree.proofs.Numbered.{length-set_value_at}
@@ -198,10 +197,6 @@ module _ {T : Type 0} where
 module _ {T : Type 0} where
   one_seen : (x e : List ℕ × Node T) (o : Option (List ℕ × Node T)) → o ≡ Some x → o ≡ Some e → x ≡ e
   one_seen x e o h at = let both : Some x ≡ Some e = sym h ∙ at in cc
-
-  -- a parent that is the last accepted block has none
-  pub parent_off : (nodes : List (List ℕ × Node T)) (last parent : List ℕ) → has_block (blocks_of nodes) last ≡ false → last ≡ parent → None ≡ position (λ e. bytes_eq e.0 parent) nodes
-  parent_off nodes last parent off is = sym (off_place nodes parent (ap (has_block (blocks_of nodes)) (sym is) ∙ off))
 
   -- the parent was looked for
   pub parent_found : (nodes : List (List ℕ × Node T)) (place : ℕ) (x : List ℕ × Node T) (r : Option ℕ) → slice_get nodes place ≡ Some x → r ≡ position (λ y. bytes_eq y.0 x.1.parent) nodes

@@ -37,8 +37,22 @@ impl Children {
         }
     }
 
-    /// Appends a child. After want of memory all is as before.
+    /// Appends a child. After want of memory all is as before. The first one stands here at once.
+    #[inline(always)]
     pub(crate) fn push(&mut self, id: Id) -> Result<(), AllocError>
+        ensures ok { OnOk result (self.new ≡ self.old ++ id ∷ []) }
+        ensures err { OnErr result (self.new ≡ self.old) }
+    {
+        if self.alone.is_none() && self.several.is_empty() {
+            self.alone = Some(id);
+            return Ok(());
+        }
+        self.push_beside(id)
+    }
+
+    // Appends a child beside another.
+    #[inline(never)]
+    fn push_beside(&mut self, id: Id) -> Result<(), AllocError>
         ensures ok { OnOk result (self.new ≡ self.old ++ id ∷ []) }
         ensures err { OnErr result (self.new ≡ self.old) }
     {
@@ -49,7 +63,6 @@ impl Children {
                 self.several.push_reserved(id);
                 self.alone = None;
             }
-            None if self.several.is_empty() => self.alone = Some(id),
             None => self.several.push(id)?,
         }
         Ok(())

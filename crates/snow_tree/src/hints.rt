@@ -40,7 +40,22 @@ impl Hints {
 
     /// Makes slots for one more entry than so many: sixteen for each, so that few share one. What an
     /// identifier was told it is still told then.
+    #[inline(always)]
     pub(crate) fn make_room(&mut self, entries: usize) -> Result<(), AllocError>
+        ensures told { (id : List ℕ) → hint_of self.new id ≡ hint_of self.old id }
+        ensures some { OnOk result (0 < length self.new) }
+        ensures more { length self.old ≤ length self.new }
+    {
+        let slots = self.numbers.len();
+        if entries < slots / 16 || slots >= MOST_SLOTS {
+            return Ok(());
+        }
+        self.make_slots()
+    }
+
+    // Makes the first slots, or as many again as there are.
+    #[inline(never)]
+    fn make_slots(&mut self) -> Result<(), AllocError>
         ensures told { (id : List ℕ) → hint_of self.new id ≡ hint_of self.old id }
         ensures some { OnOk result (0 < length self.new) }
         ensures more { length self.old ≤ length self.new }
@@ -48,9 +63,6 @@ impl Hints {
         let slots = self.numbers.len();
         if slots == 0 {
             return self.numbers.resize(64, 0);
-        }
-        if entries < slots / 16 || slots >= MOST_SLOTS {
-            return Ok(());
         }
         self.numbers.extend_from_within(..)
     }

@@ -1,8 +1,8 @@
-ghost use Rattle.std.specs.Prelude.{◌≡◌, ◌<◌, ℕ, List, false, Some, IfSome, reverse, slice_get, bytes_eq};
+ghost use Rattle.std.specs.Prelude.{◌≡◌, ◌<◌, ℕ, List, Some, IfSome, reverse, slice_get, bytes_eq};
 ghost use Rattle.std.specs.List.{position};
 ghost use Rattle.std.specs.Option.{option_map};
 ghost use Rattle.snow_base.specs.Ancestry.{child_on};
-ghost use Rattle.snow_plain.specs.Grown.{IsGrown, has_block};
+ghost use Rattle.snow_plain.specs.Grown.{IsGrown};
 ghost use Rattle.snow_tree.specs.declared.node.Node.{Node};
 ghost use Rattle.snow_tree.specs.Nodes.{block_of, blocks_of, edges_of, place_before, ArePlaced};
 
@@ -16,16 +16,12 @@ pub(crate) fn place_of<T>(nodes: &Nodes<T>, id: &Id) -> Option<usize>
     nodes.get_index_of(id)
 }
 
-/// How far before a place a parent stands; 0 where it isn't pending.
-pub(crate) fn back_to<T>(nodes: &Nodes<T>, last: &Id, place: usize, parent: &Id) -> usize
-    requires off { has_block (blocks_of nodes.now.entries) last.now ≡ false }
-    requires earlier { (at : ℕ) → position (λ e. bytes_eq e.0 parent.now) nodes.now.entries ≡ Some at → at < place }
-    ensures { position (λ e. bytes_eq e.0 parent.now) nodes.now.entries ≡ place_before place result }
+/// How far before a place another stands; 0 where there is none.
+pub(crate) fn back_to(place: usize, at: Option<usize>) -> usize
+    requires { IfSome at (λ n. n < place) }
+    ensures { at ≡ place_before place result }
 {
-    if *last == *parent {
-        return 0;
-    }
-    match place_of(nodes, parent) {
+    match at {
         Some(at) => place - at,
         None => 0,
     }

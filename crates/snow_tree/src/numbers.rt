@@ -33,6 +33,7 @@ impl Numbers {
     }
 
     /// Makes room for one more entry than so many. No number changes, nor what is told.
+    #[inline(always)]
     pub(crate) fn reserve_one(&mut self, entries: usize) -> Result<(), AllocError>
         ensures map { (id : List ℕ) → get bytes_eq self.new.map id ≡ get bytes_eq self.old.map id }
         ensures told { (id : List ℕ) → hint_of self.new.hints id ≡ hint_of self.old.hints id }

@@ -72,18 +72,27 @@ impl<T: Drop> Tree<T> {
         }
     }
 
-    /// A block is issued, with a load. After want of memory all is as before, and the load comes back.
+    /// A block is issued, with a load; whoever issues it says where its parent stands. After want of memory
+    /// all is as before, and the load comes back.
     #[inline(always)]
-    pub fn insert(&mut self, id: Id, parent: Id, height: u64, load: T) -> Result<(), TreeFull<T>>
+    pub fn insert(
+        &mut self,
+        id: Id,
+        parent: Id,
+        at: Option<usize>,
+        height: u64,
+        load: T,
+    ) -> Result<(), TreeFull<T>>
         requires unknown { is_on (self.old).last (blocks_in (self.old).pending) id ≡ false }
         requires follows { is_on (self.old).last (blocks_in (self.old).pending) parent ≡ true }
+        requires place { at ≡ place_in (self.old).pending parent }
         ensures ok { let block : Header = record { id = id; parent = parent; height = height } in
             OnOk result (self.new ≡ inserted self.old block load) }
         ensures err { OnErr result (self.new ≡ self.old) }
         ensures load { IfErr result (λ full. full.load ≡ load) }
     {
         let block = Header { id, parent, height };
-        let back = back_to(&self.nodes, &self.last, self.nodes.len(), &parent);
+        let back = back_to(self.nodes.len(), at);
         let room = make_room(
             &mut self.children,
             &mut self.nodes,
@@ -201,6 +210,13 @@ impl<T: Drop> Tree<T> {
         ensures { IfSome (slice_get (self.now).pending place) (λ e. result ≡ place_in (self.now).pending e.block.parent) }
     {
         parent_of(&self.nodes, place)
+    }
+
+    /// The children of the last accepted block in order of issue.
+    pub fn first_ids(&self) -> &[Id]
+        ensures { result.now ≡ children_of (blocks_in (self.now).pending) (self.now).last }
+    {
+        self.children.list()
     }
 
     /// The children of a block in order of issue; none where it isn't on the board or has none.

@@ -5,6 +5,7 @@ use crate::narrowing::{narrowed, total};
 use crate::node::{self, Node};
 use crate::peeling::peel;
 use crate::polling::{poll, ready};
+use crate::run::Run;
 use snow_base::{Id, Steps, Vote};
 use snow_flake::{Params, Rule};
 use std::alloc::{AllocError, Global};
@@ -99,7 +100,7 @@ impl<R: Rule> Trie<R> {
         self.polls = 0;
         self.decided = 0;
         self.leader = *id;
-        self.root = node::branch(id, 0);
+        self.root = Node::Last(Run::fresh(id));
     }
 
     /// Adds an identifier: fresh counters for its bits where none stood, up to a decided counter of

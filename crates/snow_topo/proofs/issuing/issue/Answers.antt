@@ -1,12 +1,22 @@
-use Rattle.std.proofs.Common.{◌≡◌, sym, ap, subst, ◌∙◌}
-use Rattle.snow_tree.specs.Held.{Held, blocks_in, inserted, taken_back}
+use Rattle.std.proofs.Common.{◌≡◌, bytes_eq, sym, ap, subst, ◌∙◌}
+use Rattle.snow_tree.specs.Held.{Held, blocks_in, place_in, inserted, taken_back}
 use Rattle.snow_tree.proofs.Linked.{all_but_last}
+use Rattle.snow_tree.proofs.Numbered.{place_kept}
 use Rattle.snow_tree.proofs.Seen.{ok_after}
 use Rattle.snow_topo.specs.Kept.{Kept, bare}
 use Rattle.snow_topo.specs.View.{view, AreFit}
 use Rattle.snow_topo.specs.Gaining.{gained_by, all_gained}
 use Rattle.snow_topo.proofs.Gained.{err_after, on_err, not_own, issued_view, all_fit_gained}
 use Rattle.snow_topo.proofs.issuing.issue.Goals as goal
+
+pub add_below-added-requires-clause-place : goal.add_below-added-requires-clause-place
+add_below-added-requires-clause-place g c =
+    let old = c.args.tree.now in
+    let child = c.args.child.now in
+    let other = not_own old.last (blocks_in old.pending) child c.requires.unknown c.requires.follows in
+    c.requires.place
+    ∙ sym (place_kept (λ e. bytes_eq e.block.id child.parent) old.pending (record { block = child; load = bare }) other)
+    ∙ ap (λ (h : Held Kept). place_in h.pending child.parent) (sym c.in_ok-insert.ensures.ok)
 
 pub returns-then-is_err-clause-tree_stays : goal.returns-then-is_err-clause-tree_stays
 returns-then-is_err-clause-tree_stays g c =

@@ -2,7 +2,6 @@ use Rattle.std.proofs.Common.{find, sym, ap, ◌∙◌}
 use Rattle.std.specs.Bool.{beq}
 use Rattle.std.specs.Cmp.Lexicographic.{pointwise}
 use Rattle.snow_base.specs.Identifier.{bits}
-use Rattle.snow_tree.specs.Held.{blocks_in, children_of}
 use Rattle.snow_topo.proofs.Won.{none_wins, child_wins}
 use Rattle.snow_topo.proofs.winning.next_child.Goals as goal
 
@@ -10,8 +9,7 @@ pub returns-in-Some : goal.returns-in-Some
 returns-in-Some g c =
     λ polls.
     child_wins c.args.params.now polls c.args.root.now c.args.tree.now c.in-Some.id c.k-k.ensures.good c.in-Some.ensures
-    ∙ ap (λ last. find (λ id. pointwise beq (bits c.in-Some.id) (bits id)) (children_of (blocks_in c.args.tree.now.pending) last)) (sym c.last.ensures.last)
-    ∙ ap (find (λ id. pointwise beq (bits c.in-Some.id) (bits id))) (sym c.child_ids.ensures)
+    ∙ ap (find (λ id. pointwise beq (bits c.in-Some.id) (bits id))) (sym c.first_ids.ensures)
     ∙ sym c.first_alike.ensures
 
 pub returns-in-None : goal.returns-in-None

@@ -1,17 +1,21 @@
-use Rattle.std.proofs.Common.{◌≡◌, ◌+◌, length, sym, ap, subst, ◌∙◌, arith}
+use Rattle.std.proofs.Common.{◌≡◌, ◌+◌, true, length, sym, ap, subst, ◌∙◌, arith}
 use Rattle.std.proofs.lemmas.Grind.{common_steps}
 use Rattle.snow_base.specs.declared.header.Header.{Header}
 use Rattle.snow_plain.specs.declared.leading.Leading.{Leading}
 use Rattle.snow_plain.specs.Board.{Board, issued}
+use Rattle.snow_plain.specs.Grown.{is_on}
 use Rattle.snow_plain.specs.Ending.{IsLeading, leading_after}
 use Rattle.snow_plain.specs.Preference.{preferred}
 use Rattle.snow_plain.specs.Reached.{MayIssue}
 use Rattle.snow_plain.specs.Shown.{Shown}
 use Rattle.snow_plain.proofs.Ended.{latest_alone, leading_issued}
+use Rattle.snow_tree.specs.Held.{blocks_in}
 use Rattle.snow_climb.specs.Ladder.{IsReady}
 use Rattle.snow_topo.specs.View.{view}
 use Rattle.snow_topo.proofs.Standings.{issue_unknown, issue_follows, grown_seen, issued_length, view_length, names_issued, names_seen, names_kept}
+use Rattle.snow_topo.proofs.topo.TopoBoard.issue.Given as given
 use Rattle.snow_topo.proofs.topo.TopoBoard.issue.Goals as goal
+use Rattle.snow_topo.proofs.topo.TopoBoard.issue.Goals.{After-last-last}
 
 pub issue-requires-clause-unknown : goal.issue-requires-clause-unknown
 issue-requires-clause-unknown g c =
@@ -20,12 +24,19 @@ issue-requires-clause-unknown g c =
     let may : MayIssue (view a.params a.polls a.root a.tree) child = subst (λ (s : Shown). MayIssue s.board child) (sym c.self.view_is) c.requires in
     issue_unknown a.params a.polls a.root a.tree c.args.id may.unknown
 
-pub issue-requires-clause-follows : goal.issue-requires-clause-follows
-issue-requires-clause-follows g c =
+-- the parent is on the board
+parent_on : (g : given.Over) (c : After-last-last g) → is_on c.self.inside.tree.last (blocks_in c.self.inside.tree.pending) c.args.parent ≡ true
+parent_on g c =
     let a = c.self.inside in
     let child : Header = record { id = c.args.id; parent = c.args.parent; height = c.args.height } in
     let may : MayIssue (view a.params a.polls a.root a.tree) child = subst (λ (s : Shown). MayIssue s.board child) (sym c.self.view_is) c.requires in
     issue_follows a.params a.polls a.root a.tree c.args.parent may.follows.0 may.follows.1
+
+pub is_top-on_top-requires-clause-on : goal.is_top-on_top-requires-clause-on
+is_top-on_top-requires-clause-on g c = parent_on g (goal.at.is_top-on_top-requires-clause-on g c).After-last-last
+
+pub issue-requires-clause-follows : goal.issue-requires-clause-follows
+issue-requires-clause-follows g c = parent_on g (goal.at.issue-requires-clause-follows g c).After-last-last
 
 pub follow_child-requires-clause-named : goal.follow_child-requires-clause-named
 follow_child-requires-clause-named g c =

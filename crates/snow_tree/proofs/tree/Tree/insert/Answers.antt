@@ -1,33 +1,33 @@
-use Rattle.std.proofs.Common.{◌≡◌, ℕ, List, ◌∷◌, ◌++◌, [], true, false, map, sym, ap, ◌∙◌, arith}
+use Rattle.std.proofs.Common.{◌≡◌, ℕ, List, ◌∷◌, ◌++◌, [], true, false, map, bytes_eq, position, sym, ap, ◌∙◌, arith}
 use Rattle.std.proofs.lemmas.Bool.{or_parts}
 use Rattle.std.proofs.lemmas.List.{map-append}
 use Rattle.snow_base.specs.declared.header.Header.{Header}
 use Rattle.snow_plain.specs.Grown.{has_block, is_on}
 use Rattle.snow_tree.specs.declared.node.Node.{Node}
-use Rattle.snow_tree.specs.Held.{blocks_in}
+use Rattle.snow_tree.specs.Held.{Held, blocks_in, place_in}
 use Rattle.snow_tree.specs.Nodes.{blocks_of, place_before, entry_of, linked, with_children}
 use Rattle.snow_tree.proofs.Descending.{last_off}
-use Rattle.snow_tree.proofs.Placed.{place_within}
+use Rattle.snow_tree.proofs.Placed.{earlier}
 use Rattle.snow_tree.proofs.Left.{same_blocks}
 use Rattle.snow_tree.proofs.Linked.{kept_issued, not_found, blocks_changed}
-use Rattle.snow_tree.proofs.Seen.{ok_after, seen_changed}
+use Rattle.snow_tree.proofs.Seen.{ok_after, place_seen, seen_changed}
+use Rattle.snow_tree.proofs.tree.Tree.insert.Given as given
 use Rattle.snow_tree.proofs.tree.Tree.insert.Goals as goal
-use Rattle.snow_tree.proofs.tree.Tree.insert.Goals.{After-push, After-new}
+use Rattle.snow_tree.proofs.tree.Tree.insert.Goals.{After-len}
 
-pub back_to-back-requires-clause-off : goal.back_to-back-requires-clause-off
-back_to-back-requires-clause-off g c = last_off c.self.inside.last (blocks_of c.self.inside.nodes.entries) c.self.invariant.grown
+-- where the parent stands among the nodes
+found : (g : given.Over) (c : After-len g) → position (λ e. bytes_eq e.0 c.args.parent) c.self.inside.nodes.entries ≡ c.args.at
+found g c = place_seen c.self.inside.nodes.entries c.args.parent ∙ ap (λ (h : Held g.row.T.Denot). place_in h.pending c.args.parent) c.self.view_is ∙ sym c.requires.place
 
-pub back_to-back-requires-clause-earlier : goal.back_to-back-requires-clause-earlier
-back_to-back-requires-clause-earlier g c =
-    λ at found.
-    let within = place_within c.self.inside.nodes.entries c.args.parent at found in
-    omega (arith, within, c.len.ensures.len)
+pub back_to-back-requires : goal.back_to-back-requires
+back_to-back-requires g c =
+    earlier c.self.inside.nodes.entries c.args.parent c.args.at c.len.result (found g (goal.at.back_to-back-requires g c).After-len) c.len.ensures.len
 
 pub make_room-room-requires-clause-off : goal.make_room-room-requires-clause-off
 make_room-room-requires-clause-off g c = last_off c.self.inside.last (blocks_of c.self.inside.nodes.entries) c.self.invariant.grown
 
 pub make_room-room-requires-clause-exact : goal.make_room-room-requires-clause-exact
-make_room-room-requires-clause-exact g c = c.back_to-back.ensures ∙ ap (λ m. place_before m c.back_to-back.result) c.len.ensures.len
+make_room-room-requires-clause-exact g c = found g (goal.at.make_room-room-requires-clause-exact g c).After-len ∙ c.back_to-back.ensures ∙ ap (λ m. place_before m c.back_to-back.result) c.len.ensures.len
 
 pub push-requires-clause-new : goal.push-requires-clause-new
 push-requires-clause-new g c =
@@ -54,7 +54,7 @@ invariant_of-self-2 g c =
     (ap (λ l. is_on last l c.args.id) (sym (same_blocks nodes)) ∙ unknown)
     (ap (λ l. is_on last l c.args.parent) (sym (same_blocks nodes)) ∙ follows)
     (omega (arith, (ok_after c.make_room-room.result went c.make_room-room.ensures.room).1, c.clear.ensures.capacity))
-    (c.back_to-back.ensures ∙ ap (λ m. place_before m c.back_to-back.result) c.len.ensures.len))
+    (found g (goal.at.invariant_of-self-2 g c).After-len ∙ c.back_to-back.ensures ∙ ap (λ m. place_before m c.back_to-back.result) c.len.ensures.len))
 
 pub returns-clause-ok : goal.returns-clause-ok
 returns-clause-ok g c =

@@ -2,7 +2,7 @@ use Rattle.std.proofs.Common.{◌<◌, length, length-append, is_ok, sym, subst,
 use Rattle.snow_plain.proofs.Cases.{split_on}
 use Rattle.snow_tree.specs.Hints.{hint_of, IsPower}
 use Rattle.snow_tree.proofs.Slots.{twice_power, told_twice, whole}
-use Rattle.snow_tree.proofs.hints.Hints.make_room.Goals as goal
+use Rattle.snow_tree.proofs.hints.Hints.make_slots.Goals as goal
 
 pub invariant_of-self : goal.invariant_of-self
 invariant_of-self c some =
