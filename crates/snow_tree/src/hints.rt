@@ -7,7 +7,7 @@ use snow_map::seat_of;
 use std::alloc::{AllocError, Global};
 use std::marker::Model;
 
-// More slots have no use: 16 bits tell one.
+// There are no more slots than these: that is sixteen for each of 4,096 blocks, and 512 KB.
 const MOST_SLOTS: usize = 1 << 16;
 
 /// A number for each slot, which all identifiers of the slot are told: that of the entry that was put
