@@ -46,11 +46,20 @@ fn newest(recent: &Recent<Marked, 3>) -> u8 {
     }
 }
 
+// The mark of the entry that is given back for one more, or 0.
+fn exchange(recent: &mut Recent<Marked, 3>, number: u8, mark: u8) -> u8 {
+    let id = named(number);
+    match recent.exchange(Marked { id, mark }) {
+        Some(entry) => entry.mark,
+        None => 0,
+    }
+}
+
 // What is told of the last three entries, before there are more and then.
-fn told(recent: &mut Recent<Marked, 3>) -> [u8; 6] {
+fn told(recent: &mut Recent<Marked, 3>) -> [u8; 8] {
     enter(recent, 5, 1);
     enter(recent, 4, 2);
-    enter(recent, 5, 3);
+    let before_three = exchange(recent, 5, 3);
     let of_three = (latest(recent, 5), latest(recent, 4));
     enter(recent, 6, 4);
     enter(recent, 7, 5);
@@ -61,11 +70,13 @@ fn told(recent: &mut Recent<Marked, 3>) -> [u8; 6] {
         latest(recent, 4),
         newest(recent),
         recent.len() as u8,
+        before_three,
+        exchange(recent, 8, 6),
     ]
 }
 
 // The list is let go by a call: that is many steps, which are proved once then.
-fn told_from_new(alloc: Global) -> Result<[u8; 6], AllocError> {
+fn told_from_new(alloc: Global) -> Result<[u8; 8], AllocError> {
     let mut recent = Recent::new(alloc)?;
     let told = told(&mut recent);
     drop(recent);
@@ -74,6 +85,6 @@ fn told_from_new(alloc: Global) -> Result<[u8; 6], AllocError> {
 
 #[test]
 fn the_latest_entry_of_an_identifier_counts(rt: HostRuntime) -> Result<(), Fail> {
-    assert_eq!(rt; told_from_new(rt.alloc())?, [3, 2, 3, 0, 5, 3]);
+    assert_eq!(rt; told_from_new(rt.alloc())?, [3, 2, 3, 0, 5, 3, 0, 3]);
     Ok(())
 }

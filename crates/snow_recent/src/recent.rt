@@ -1,6 +1,6 @@
-ghost use Rattle.std.specs.Prelude.{◌≡◌, ◌<◌, ◌≤◌, ◌^◌, ◌∷◌, ◌++◌, [], None, IfOk, length, drop};
+ghost use Rattle.std.specs.Prelude.{◌≡◌, ◌<◌, ◌≤◌, ◌^◌, ◌∷◌, ◌++◌, [], None, IfOk, length, drop, nat_lt, if◌then◌else◌};
 ghost use Rattle.std.specs.List.{concat, last_or};
-ghost use Rattle.std.specs.Option.{option_copied, is_some};
+ghost use Rattle.std.specs.Option.{option_copied, option_to_list, is_some};
 ghost use Rattle.std.specs.VecDeque.{deque_len, deque_capacity};
 ghost use Rattle.snow_recent.specs.Index.{id_of, IsRising};
 ghost use Rattle.snow_recent.specs.Recent.{with_latest, latest};
@@ -64,10 +64,31 @@ impl<T: Named, const MOST: usize> Recent<T, MOST> {
     pub fn push(&mut self, entry: T)
         ensures { self.new ≡ with_latest MOST self.old entry }
     {
-        if self.len() == MOST {
-            self.forget_oldest();
-        }
+        let _forgotten = self.exchange(entry);
+    }
+
+    /// Appends an entry, and gives the oldest one back where it is forgotten. It takes no memory.
+    #[inline(always)]
+    pub fn exchange(&mut self, entry: T) -> Option<T>
+        ensures list { self.new ≡ with_latest MOST self.old entry }
+        ensures all { option_to_list result ++ self.new ≡ self.old ++ entry ∷ [] }
+    {
+        let forgotten = self.make_room();
         self.append(entry);
+        forgotten
+    }
+
+    // Forgets the oldest entry where `MOST` entries are there.
+    #[inline(always)]
+    fn make_room(&mut self) -> Option<T>
+        ensures rest { self.new ≡ (if nat_lt (length self.old) MOST then self.old else drop 1 self.old) }
+        ensures all { option_to_list result ++ self.new ≡ self.old }
+        ensures room { length self.new < MOST }
+    {
+        if self.len() == MOST {
+            return self.forget_oldest();
+        }
+        None
     }
 
     /// How many entries there are: at most `MOST`.
@@ -110,14 +131,17 @@ impl<T: Named, const MOST: usize> Recent<T, MOST> {
         self.latest(id).is_some()
     }
 
-    // Forgets the oldest entry.
-    fn forget_oldest(&mut self)
+    // Forgets the oldest entry, and gives it back.
+    #[inline(always)]
+    fn forget_oldest(&mut self) -> Option<T>
         requires { 0 < length self.old }
-        ensures { self.new ≡ drop 1 self.old }
+        ensures rest { self.new ≡ drop 1 self.old }
+        ensures all { option_to_list result ++ self.new ≡ self.old }
     {
         seats::forget_oldest(&mut self.table, &self.heads, &self.entries, self.first);
-        let _oldest = self.entries.pop_front();
+        let oldest = self.entries.pop_front();
         self.first = self.first.wrapping_add(1);
+        oldest
     }
 
     // Appends an entry to a list that isn't full.
