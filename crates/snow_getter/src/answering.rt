@@ -109,7 +109,7 @@ impl Getter {
         let Some(block) = self.held(id) else {
             return Ok(());
         };
-        let bytes = Bytes::from_slice(self.alloc, block.bytes.list())?;
+        let bytes = Bytes::from_slice(self.alloc, block.bytes)?;
         log.push(Line::ToBlock {
             node,
             number,
@@ -154,7 +154,7 @@ impl Getter {
             let Some(block) = self.held(&next) else {
                 return Ok(blocks);
             };
-            let bytes = block.bytes.list();
+            let bytes = block.bytes;
             if bytes.len() > room {
                 return Ok(blocks);
             }

@@ -1,9 +1,10 @@
 ghost use Rattle.std.specs.Prelude.{◌≡◌, false, IfOk, OnOk, OnErr};
-ghost use Rattle.std.specs.Option.{option_copied};
-ghost use Rattle.snow_getter.specs.Serving.{serving_from, is_pending, is_accepted, last_accepted, held, after_issued, after_accepted, after_rejected};
+ghost use Rattle.std.specs.Option.{option_map};
+ghost use Rattle.snow_getter.specs.Order.{as_served};
+ghost use Rattle.snow_getter.specs.Serving.{serving_from, is_pending, is_accepted, last_accepted, held, pending_block, accepted_block, after_issued, after_accepted, after_rejected};
 
 use crate::pending::Pending;
-use crate::served::Served;
+use crate::served::{Held, Served};
 use snow_base::{Bytes, Id};
 use snow_recent::Recent;
 use std::alloc::{AllocError, Global};
@@ -53,25 +54,39 @@ impl Getter {
         ensures ok { OnOk result (self.new ≡ after_issued self.old (record { id = id; parent = parent; bytes = bytes })) }
         ensures err { OnErr result (self.new ≡ self.old) }
     {
-        self.pending.push(Served { id, parent, bytes })
+        self.pending.push(id, parent, bytes)
     }
 
     /// A pending block is accepted: from now on it is one of the accepted blocks, of which the oldest
-    /// is forgotten where 4,096 are there. One that isn't pending changes nothing. It takes no memory.
-    pub fn accepted(&mut self, id: &Id)
+    /// is forgotten where 4,096 are there. One that isn't pending changes nothing. It gives the bytes
+    /// of the forgotten block back, for their room, and takes no memory.
+    pub fn accepted(&mut self, id: &Id) -> Option<Bytes>
         ensures { self.new ≡ after_accepted self.old id.now }
     {
-        if let Some(issued) = self.pending.take(id) {
-            self.accepted.push(issued.block);
+        // (written out, so that what is taken is moved once)
+        let Some(issued) = self.pending.take(id) else {
+            return None;
+        };
+        let forgotten = self.accepted.exchange(Served {
+            id: *id,
+            parent: issued.parent,
+            bytes: issued.bytes,
+        });
+        match forgotten {
+            Some(forgotten) => Some(forgotten.bytes),
+            None => None,
         }
     }
 
     /// A pending block is rejected, and served no more. One that isn't pending changes nothing. It
-    /// takes no memory.
-    pub fn rejected(&mut self, id: &Id)
+    /// gives the bytes of the block back, for their room, and takes no memory.
+    pub fn rejected(&mut self, id: &Id) -> Option<Bytes>
         ensures { self.new ≡ after_rejected self.old id.now }
     {
-        let _rejected = self.pending.take(id);
+        match self.pending.take(id) {
+            Some(rejected) => Some(rejected.bytes),
+            None => None,
+        }
     }
 
     /// Whether a block is pending.
@@ -92,12 +107,40 @@ impl Getter {
     }
 
     // The block that is served for an identifier.
-    pub(crate) fn held(&self, id: &Id) -> Option<&Served>
-        ensures { option_copied result ≡ held self.now id.now }
+    pub(crate) fn held(&self, id: &Id) -> Option<Held<'_>>
+        ensures { option_map as_served result ≡ held self.now id.now }
+    {
+        match self.pending_block(id) {
+            Some(block) => Some(block),
+            None => self.accepted_block(id),
+        }
+    }
+
+    // The pending block of an identifier.
+    fn pending_block(&self, id: &Id) -> Option<Held<'_>>
+        ensures { option_map as_served result ≡ pending_block self.now id.now }
     {
         match self.pending.block(id) {
-            Some(block) => Some(block),
-            None => self.accepted.latest(id),
+            Some(issued) => Some(Held {
+                id: *id,
+                parent: issued.parent,
+                bytes: issued.bytes.list(),
+            }),
+            None => None,
+        }
+    }
+
+    // The latest accepted block of an identifier.
+    fn accepted_block(&self, id: &Id) -> Option<Held<'_>>
+        ensures { option_map as_served result ≡ accepted_block self.now id.now }
+    {
+        match self.accepted.latest(id) {
+            Some(block) => Some(Held {
+                id: block.id,
+                parent: block.parent,
+                bytes: block.bytes.list(),
+            }),
+            None => None,
         }
     }
 

@@ -1,10 +1,9 @@
 ghost use Rattle.std.specs.Prelude.{◌≡◌, [], ◌∷◌, ◌++◌, false, find, is_some, OnOk, OnErr};
 ghost use Rattle.std.specs.Option.{option_copied, option_map};
-ghost use Rattle.snow_getter.specs.Order.{block_of};
+ghost use Rattle.snow_getter.specs.Order.{block_at};
 ghost use Rattle.snow_getter.specs.Serving.{is_block, without};
 
-use crate::served::Served;
-use snow_base::Id;
+use snow_base::{Bytes, Id};
 use snow_map::IdMap;
 use std::alloc::{AllocError, Global};
 use std::marker::Model;
@@ -12,11 +11,12 @@ use std::marker::Model;
 // Seats of the pending blocks. There are at most 4,096 of these, so that at most every fourth seat is taken.
 const SEATS: usize = 16_384;
 
-/// A pending block, with the number of its issue.
+/// What is kept of a pending block beside its identifier, and the number of its issue.
 #[derive(Drop)]
 pub(crate) struct Issued {
+    pub(crate) parent: Id,
+    pub(crate) bytes: Bytes,
     number: u64,
-    pub(crate) block: Served,
 }
 
 /// The pending blocks, found by identifier. Contracts see the list of them in order of issue, which
@@ -51,19 +51,16 @@ impl Pending {
     }
 
     /// The block of an identifier.
-    pub(crate) fn block(&self, id: &Id) -> Option<&Served>
-        ensures { option_copied result ≡ find (is_block id.now) self.now }
+    pub(crate) fn block(&self, id: &Id) -> Option<&Issued>
+        ensures { option_map (block_at id.now) (option_copied result) ≡ find (is_block id.now) self.now }
     {
-        match self.blocks.get(id) {
-            Some(issued) => Some(&issued.block),
-            None => None,
-        }
+        self.blocks.get(id)
     }
 
     /// Appends a block that isn't there. After want of memory all is as before.
-    pub(crate) fn push(&mut self, block: Served) -> Result<(), AllocError>
-        requires { is_some (find (is_block block.id) self.old) ≡ false }
-        ensures ok { OnOk result (self.new ≡ self.old ++ block ∷ []) }
+    pub(crate) fn push(&mut self, id: Id, parent: Id, bytes: Bytes) -> Result<(), AllocError>
+        requires { is_some (find (is_block id) self.old) ≡ false }
+        ensures ok { OnOk result (self.new ≡ self.old ++ record { id = id; parent = parent; bytes = bytes } ∷ []) }
         ensures err { OnErr result (self.new ≡ self.old) }
     {
         // Numbers never come again, and there are more than a node lives to use.
@@ -71,14 +68,22 @@ impl Pending {
             return Err(AllocError);
         }
         let number = self.next;
-        self.blocks.insert(block.id, Issued { number, block })?;
+        self.blocks.insert(
+            id,
+            Issued {
+                parent,
+                bytes,
+                number,
+            },
+        )?;
         self.next += 1;
         Ok(())
     }
 
-    /// Takes the block of an identifier out, with its number, so that it is moved once. It takes no memory.
+    /// Takes the block of an identifier out. It takes no memory.
+    #[inline(always)]
     pub(crate) fn take(&mut self, id: &Id) -> Option<Issued>
-        ensures taken { option_map block_of result ≡ find (is_block id.now) self.old }
+        ensures taken { option_map (block_at id.now) result ≡ find (is_block id.now) self.old }
         ensures left { self.new ≡ without id.now self.old }
     {
         self.blocks.remove(id)

@@ -19,3 +19,11 @@ impl Named for Served {
         self.id
     }
 }
+
+/// A block that is held, its bytes where they stand.
+#[derive(Clone, Copy)]
+pub(crate) struct Held<'a> {
+    pub(crate) id: Id,
+    pub(crate) parent: Id,
+    pub(crate) bytes: &'a [u8],
+}

@@ -1,5 +1,6 @@
-use Rattle.std.proofs.Common.{◌≡◌, ◌-◌, ◌+◌, ◌∷◌, ◌++◌, [], suc, ap, ◌∙◌, arith, length}
+use Rattle.std.proofs.Common.{◌≡◌, ◌-◌, ◌+◌, ◌∷◌, ◌++◌, [], suc, ap, ◌∙◌, arith, refl}
 use Rattle.snow_getter.specs.Chain.{chain, chain_within}
+use Rattle.snow_getter.specs.Order.{as_served}
 use Rattle.snow_getter.proofs.Chained.{bytes_of, ends_there, ends_before, taken_all, one_taken}
 use Rattle.snow_getter.proofs.getter.Getter.chain.Goals as goal
 
@@ -17,8 +18,8 @@ returns-then-bytes-room c =
     let l = c.loop-count in
     let s = c.args.self.now in
     taken_all l.blocks (bytes_of (chain s c.args.id.now)) (chain_within (64 - l._count) l.room s l.next)
-    (ends_before (64 - l._count) l.room s l.next c.in-Some.block.now c.in-Some.ensures
-    (omega (arith, c.if-bytes-room.true, ap length c.list-bytes.ensures))) l.invariant
+    (ends_before (64 - l._count) l.room s l.next (as_served c.in-Some.block) c.in-Some.ensures
+    (omega (arith, c.if-bytes-room.true))) l.invariant
 
 -- it is taken
 pub loop-count-preserved : goal.loop-count-preserved
@@ -26,10 +27,10 @@ loop-count-preserved c =
     let l = c.loop-count in
     let s = c.args.self.now in
     let left : 64 - l._count ≡ suc (64 - (l._count + 1)) = omega (arith, c.loop-count-test.true) in
-    let bytes = c.list-bytes.result.now in
+    let bytes = c.in-Some.block.bytes.now in
     let pushed = c.in_ok-push.ensures.ok ∙ ap (λ b. l.blocks ++ b ∷ []) c.in_ok-from_slice.ensures in
-    rw pushed (one_taken l.blocks (bytes_of (chain s c.args.id.now)) (64 - l._count) (64 - (l._count + 1)) l.room s l.next c.in-Some.block.now bytes
-    left c.list-bytes.ensures c.in-Some.ensures (omega (arith, c.if-bytes-room.false)) l.invariant)
+    rw pushed (one_taken l.blocks (bytes_of (chain s c.args.id.now)) (64 - l._count) (64 - (l._count + 1)) l.room s l.next (as_served c.in-Some.block) bytes
+    left refl c.in-Some.ensures (omega (arith, c.if-bytes-room.false)) l.invariant)
 
 -- there are 64
 pub returns : goal.returns

@@ -2,7 +2,7 @@
 use Rattle.std.proofs.Common.{find, sym, ap, ◌∙◌}
 use Rattle.std.specs.Option.{option_map}
 use Rattle.snow_getter.specs.Serving.{is_block, without}
-use Rattle.snow_getter.specs.Order.{block_of}
+use Rattle.snow_getter.specs.Order.{block_at}
 use Rattle.snow_getter.proofs.Ordered.{block_found, block_left, issued_left}
 use Rattle.snow_getter.proofs.pending.Pending.take.Goals as goal
 
@@ -12,7 +12,7 @@ invariant_of-self c =
 
 pub returns-clause-taken : goal.returns-clause-taken
 returns-clause-taken c =
-    ap (option_map block_of) c.remove.ensures.value
+    ap (option_map (block_at c.args.id.now)) c.remove.ensures.value
     ∙ sym (block_found c.self.inside.next c.args.id.now c.self.inside.blocks c.self.invariant)
     ∙ ap (find (is_block c.args.id.now)) c.self.view_is
 
