@@ -9,3 +9,5 @@ mod calls;
 mod polls;
 #[cfg(test)]
 mod queue;
+#[cfg(test)]
+mod spare;

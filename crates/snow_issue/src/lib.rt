@@ -12,6 +12,7 @@ mod offering;
 mod queue;
 mod replies;
 mod settling;
+mod spare;
 mod waiting;
 mod work;
 
@@ -19,4 +20,5 @@ pub use gets::Gets;
 pub use gone::Gone;
 pub use laws::{issue_stays_known_law, poll_stays_known_law};
 pub use queue::Queue;
+pub use spare::SpareBytes;
 pub use work::{Get, Held, Offered, Waiting, Work};

@@ -14,6 +14,7 @@ ghost use Rattle.snow_issue.specs.Known.{lists_of, Knows, ForgetsChildren, NoneR
 use crate::gets::Gets;
 use crate::gone::{Gone, GoneList};
 use crate::replies::Replies;
+use crate::spare::SpareBytes;
 use crate::waiting::WaitingList;
 use crate::work::{Get, Held, Offered, Waiting, Work};
 use crate::{bubbling, looking, offering};
@@ -91,10 +92,10 @@ impl Queue {
     }
 
     /// Offers a block whose bytes stand elsewhere, as `offer` does. They are copied only where it
-    /// waits.
+    /// waits, into room that is kept, if there is such.
     pub fn bring<B: Board>(
         &mut self,
-        alloc: Global,
+        spare: &mut SpareBytes,
         node: NodeId,
         header: &Header,
         bytes: &[u8],
@@ -112,7 +113,7 @@ impl Queue {
         if let Some(answer) = offering::refusal(&self.waiting, &self.gone, board, header) {
             return Ok(answer);
         }
-        let bytes = Bytes::from_slice(alloc, bytes)?;
+        let bytes = spare.list(bytes)?;
         self.wait(node, header, bytes, board)
     }
 

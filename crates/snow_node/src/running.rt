@@ -30,7 +30,7 @@ use snow_base::{Id, NodeId, Nodes, Numbers, Nums};
 use snow_chain::Chain;
 use snow_flake::Params;
 use snow_getter::Getter;
-use snow_issue::Queue;
+use snow_issue::{Queue, SpareBytes};
 use snow_lines::{Line, Lines, SkipKind};
 use snow_plain::Board;
 use snow_poll::Polls;
@@ -57,6 +57,8 @@ pub struct Running<C: Chain, B: Board> {
     words: Words,
     /// Draws that came back. Only their room counts.
     spare: Draws,
+    /// Room of bytes of blocks that went.
+    room: SpareBytes,
     numbers: Numbers,
     /// Whether a poll was recorded since the event began.
     recorded: bool,
@@ -125,6 +127,7 @@ impl<C: Chain, B: Board> Running<C, B> {
                 queue,
                 words,
                 spare: Draws::new(alloc),
+                room: SpareBytes::none(alloc),
                 numbers,
                 recorded: false,
                 remembered: Remembered::Nothing,

@@ -83,7 +83,7 @@ impl<C: Chain, B: Board> Running<C, B> {
         let before = self.board.preference();
         apply(&mut self.board, &mut self.chain, votes);
         bury(&mut self.queue, self.board.decisions());
-        follow(&mut self.served, self.board.decisions());
+        follow(&mut self.served, &mut self.room, self.board.decisions());
         self.recorded = true;
         self.remembered = self.remembered.polled();
         tell(&self.board, &before, log)?;

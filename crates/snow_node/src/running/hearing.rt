@@ -1,4 +1,4 @@
-ghost use Rattle.std.specs.Prelude.{◌≡◌, Some, None, true, false, IfSome};
+ghost use Rattle.std.specs.Prelude.{◌≡◌, Some, None, true, false, IfOk, IfSome};
 ghost use Rattle.snow_lines.specs.declared.line.Line.TheVariants as line;
 ghost use Rattle.snow_lines.specs.declared.why.SkipKind.TheVariants as kind;
 ghost use Rattle.snow_issue.specs.declared.work.Waiting.{Waiting as Block};
@@ -19,6 +19,7 @@ use snow_issue::{Held, Offered};
 use snow_lines::{DropWhy, Line, Lines, SkipKind};
 use snow_plain::Board;
 use snow_poll::Answered;
+use std::alloc::AllocError;
 
 impl<C: Chain, B: Board> Running<C, B> {
     /// A block of no request came, or the answer to a get; one that no get awaits is passed over.
@@ -129,9 +130,18 @@ impl<C: Chain, B: Board> Running<C, B> {
         ensures answer { Turns result self.new (then_comes (placed C.rules B.answer self.old block.now bytes.now) (settled C.rules B.answer)).1 }
         ensures lines { Tells result log.old log.new (then_comes (placed C.rules B.answer self.old block.now bytes.now) (settled C.rules B.answer)).0 }
     {
-        let bytes = Bytes::from_slice(self.alloc, bytes)?;
+        let bytes = self.own(bytes)?;
         self.forget_children(&block.id);
         self.place_and_settle(block, bytes, log)
+    }
+
+    /// The bytes of a block that came as the node's own, in room that is kept, if there is such.
+    #[inline(always)]
+    fn own(&mut self, bytes: &[u8]) -> Result<Bytes, AllocError>
+        ensures bytes { IfOk result (λ own. own ≡ bytes.now) }
+        ensures same { self.new ≡ self.old }
+    {
+        self.room.list(bytes)
     }
 
     /// The queue forgets what it remembers of a block's children, so that the block may be issued.
@@ -160,7 +170,7 @@ impl<C: Chain, B: Board> Running<C, B> {
         self.remembered = self.remembered.woken();
         match self
             .queue
-            .bring(self.alloc, *peer, &header, bytes, &self.board)?
+            .bring(&mut self.room, *peer, &header, bytes, &self.board)?
         {
             Offered::Known => Ok(()),
             Offered::Invalid => drop_block(id, DropWhy::Invalid, log),

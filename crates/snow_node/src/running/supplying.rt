@@ -14,6 +14,7 @@ use crate::stop::Halt;
 use snow_base::{Bytes, Header};
 use snow_chain::Chain;
 use snow_getter::Getter;
+use snow_issue::SpareBytes;
 use snow_lines::Lines;
 use snow_plain::{Board, Decision};
 use snow_wire::Event;
@@ -83,28 +84,32 @@ fn seat<B: Board>(
 {
     served.issued(block.id, block.parent, bytes)?;
     if let Err(error) = board.issue(block.id, block.parent, block.height) {
-        served.rejected(&block.id);
+        let _taken_back = served.rejected(&block.id);
         return Err(error);
     }
     Ok(())
 }
 
-/// What peers are served follows the decisions. It takes no memory.
-pub(super) fn follow(served: &mut Getter, decisions: &[Decision])
+/// What peers are served follows the decisions. The room of bytes that aren't served any more is kept. It
+/// needs no memory.
+pub(super) fn follow(served: &mut Getter, room: &mut SpareBytes, decisions: &[Decision])
     ensures { served.new ≡ model.with_decisions served.old decisions.now }
 {
     for decision in decisions {
-        follow_one(served, decision);
+        if let Some(bytes) = follow_one(served, decision) {
+            room.keep(bytes);
+        }
     }
 }
 
-/// What peers are served follows one decision.
-fn follow_one(served: &mut Getter, decision: &Decision)
+/// What peers are served follows one decision. It gives bytes back that aren't served any more.
+#[inline(always)]
+fn follow_one(served: &mut Getter, decision: &Decision) -> Option<Bytes>
     ensures { served.new ≡ model.with_decision served.old decision.now }
 {
     if decision.accepted {
-        served.accepted(&decision.id);
+        served.accepted(&decision.id)
     } else {
-        served.rejected(&decision.id);
+        served.rejected(&decision.id)
     }
 }

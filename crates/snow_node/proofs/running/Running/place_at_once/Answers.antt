@@ -1,5 +1,5 @@
 -- A block that is ready as it comes is apart from all that waits.
-use Rattle.std.proofs.Common.{sym, subst}
+use Rattle.std.proofs.Common.{◌∙◌, sym, subst}
 use Rattle.snow_node.specs.Kept.{IsApart}
 use Rattle.snow_node.specs.Running.{Running}
 use Rattle.snow_node.proofs.Keeping.{next_apart}
@@ -7,5 +7,5 @@ use Rattle.snow_node.proofs.running.Running.place_at_once.Goals as goal
 
 pub place_and_settle-requires : goal.place_and_settle-requires
 place_and_settle-requires g c =
-    subst (λ (n : Running). IsApart n.board n.queue.waiting c.args.block.now.id) (sym c.forget_children.ensures)
+    subst (λ (n : Running). IsApart n.board n.queue.waiting c.args.block.now.id) (sym (c.forget_children.ensures ∙ c.own.ensures.same))
     (next_apart c.args.self.now.queue c.args.self.now.board c.args.block.now c.requires.1)
