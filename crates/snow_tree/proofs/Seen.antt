@@ -1,5 +1,5 @@
 -- Lemmas on what is seen of the nodes.
-use Rattle.std.proofs.Common.{◌≡◌, ℕ, zero, suc, ◌+◌, ◌-◌, Bool, true, false, not, cond, nat_lt, nat_eq, ◌||◌, List, [], ◌∷◌, ◌++◌, length, get_or, reverse, map, find, bytes_eq, All, Option, Some, None, IfSome, is_some, slice_get, Result, Ok, Err, is_err, OnOk, refl, sym, ap, subst, ◌∙◌, arith, length-append}
+use Rattle.std.proofs.Common.{◌≡◌, ℕ, zero, suc, ◌+◌, ◌-◌, Bool, true, false, not, cond, nat_lt, ◌||◌, List, [], ◌∷◌, ◌++◌, length, get_or, reverse, map, find, bytes_eq, All, Option, Some, None, IfSome, is_some, slice_get, Result, Ok, Err, is_err, OnOk, refl, sym, ap, subst, ◌∙◌, arith, length-append}
 use Rattle.std.specs.List.{list_any, position, prefix_len}
 use Rattle.std.specs.Map.{lookup}
 use Rattle.std.specs.Option.{option_map}

@@ -1,7 +1,6 @@
-use Rattle.std.proofs.Common.{◌≡◌, ◌++◌, ◌∷◌, [], map, length, sym, ap, subst, ◌∙◌, append-nil, bytes_eq}
+use Rattle.std.proofs.Common.{◌++◌, map, length, sym, ap, subst, ◌∙◌, append-nil, bytes_eq}
 use Rattle.std.specs.Map.{lookup}
-use Rattle.snow_tree.specs.Held.{children_of}
-use Rattle.snow_tree.specs.Nodes.{ArePlaced, IsTakenOver, blocks_of, edges_of, unplaced}
+use Rattle.snow_tree.specs.Nodes.{ArePlaced, IsTakenOver, edges_of, unplaced}
 use Rattle.snow_tree.proofs.Edges.{placed_drop}
 use Rattle.snow_tree.proofs.Left.{alone_left, alone_first, alone_told}
 use Rattle.snow_tree.proofs.Seen.{found_child, only_child}

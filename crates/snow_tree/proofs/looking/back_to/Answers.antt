@@ -1,4 +1,4 @@
-use Rattle.std.proofs.Common.{◌<◌, IfSome, sym, subst, ap, ◌∙◌, arith}
+use Rattle.std.proofs.Common.{◌<◌, IfSome, sym, subst, ◌∙◌, arith}
 use Rattle.snow_tree.proofs.Edges.{before_at}
 use Rattle.snow_tree.proofs.looking.back_to.Goals as goal
 
