@@ -54,9 +54,25 @@ impl Page {
         put_line(self, line, sink)
     }
 
-    /// Appends lines, one after another, as `print` does.
+    /// Appends lines, one after another, as `print` does. It is put in place up to where there is a line, since
+    /// most frames have none.
     #[tactic(auto, using(crate::proofs::Waiting::gathers_none))]
+    #[inline(always)]
     pub fn print_all<K: Sink>(&mut self, lines: &[Line], sink: &mut K) -> Result<(), Failed>
+        ensures ok { OnOk result (Gathers (K.written sink.old) self.old (K.written sink.new) self.new (texts lines.now)) }
+        ensures err { OnErr result (AppendsFront (K.written sink.old) (K.written sink.new) (self.old ++ texts lines.now)) }
+        ensures cause { HasCause (K.faults sink.old) (K.faults sink.new) result }
+    {
+        if lines.is_empty() {
+            return Ok(());
+        }
+        self.print_some(lines, sink)
+    }
+
+    /// The same, whether or not there are lines.
+    #[tactic(auto, using(crate::proofs::Waiting::gathers_none))]
+    #[inline(never)]
+    fn print_some<K: Sink>(&mut self, lines: &[Line], sink: &mut K) -> Result<(), Failed>
         ensures ok { OnOk result (Gathers (K.written sink.old) self.old (K.written sink.new) self.new (texts lines.now)) }
         ensures err { OnErr result (AppendsFront (K.written sink.old) (K.written sink.new) (self.old ++ texts lines.now)) }
         ensures cause { HasCause (K.faults sink.old) (K.faults sink.new) result }
