@@ -79,7 +79,7 @@ impl<C: Chain, B: Board> Running<C, B> {
         if is_other(asked, &header.id) {
             return self.settle(log);
         }
-        self.bring(peer, header, bytes, log)
+        self.bring(peer, &header, bytes, log)
     }
 
     /// Bytes of no block are passed over, and all that is to do is done.
@@ -97,17 +97,17 @@ impl<C: Chain, B: Board> Running<C, B> {
     fn bring(
         &mut self,
         peer: &NodeId,
-        header: Header,
+        header: &Header,
         bytes: &[u8],
         log: &mut Lines,
     ) -> Result<(), Halt>
-        ensures answer { let block : Block = record { node = peer.now; header = header; bytes = bytes.now } in
+        ensures answer { let block : Block = record { node = peer.now; header = header.now; bytes = bytes.now } in
             Turns result self.new (model.block_brings C.rules B.answer self.old block).1 }
-        ensures lines { let block : Block = record { node = peer.now; header = header; bytes = bytes.now } in
+        ensures lines { let block : Block = record { node = peer.now; header = header.now; bytes = bytes.now } in
             Tells result log.old log.new (model.block_brings C.rules B.answer self.old block).0 }
     {
-        if self.is_next(&header) {
-            return self.place_at_once(&header, bytes, log);
+        if self.is_next(header) {
+            return self.place_at_once(header, bytes, log);
         }
         self.offer(peer, header, bytes, log)?;
         self.settle(log)
@@ -157,26 +157,25 @@ impl<C: Chain, B: Board> Running<C, B> {
     fn offer(
         &mut self,
         peer: &NodeId,
-        header: Header,
+        header: &Header,
         bytes: &[u8],
         log: &mut Lines,
     ) -> Result<(), Halt>
-        ensures answer { let block : Block = record { node = peer.now; header = header; bytes = bytes.now } in
+        ensures answer { let block : Block = record { node = peer.now; header = header.now; bytes = bytes.now } in
             Turns result self.new (model.brought self.old block).1 }
-        ensures lines { let block : Block = record { node = peer.now; header = header; bytes = bytes.now } in
+        ensures lines { let block : Block = record { node = peer.now; header = header.now; bytes = bytes.now } in
             Tells result log.old log.new (model.brought self.old block).0 }
     {
-        let id = header.id;
         self.remembered = self.remembered.woken();
         match self
             .queue
-            .bring(&mut self.room, *peer, &header, bytes, &self.board)?
+            .bring(&mut self.room, *peer, header, bytes, &self.board)?
         {
             Offered::Known => Ok(()),
-            Offered::Invalid => drop_block(id, DropWhy::Invalid, log),
-            Offered::Old => drop_block(id, DropWhy::Old, log),
-            Offered::Full => drop_block(id, DropWhy::Full, log),
-            Offered::Waits { ask } => self.fetch_parent(peer, ask, &header, log),
+            Offered::Invalid => drop_block(header.id, DropWhy::Invalid, log),
+            Offered::Old => drop_block(header.id, DropWhy::Old, log),
+            Offered::Full => drop_block(header.id, DropWhy::Full, log),
+            Offered::Waits { ask } => self.fetch_parent(peer, ask, header, log),
         }
     }
 

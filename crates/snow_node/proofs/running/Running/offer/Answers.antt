@@ -11,7 +11,7 @@ use Rattle.snow_node.proofs.running.Running.offer.Goals as goal
 
 pub invariant_of-self-in-Waits : goal.invariant_of-self-in-Waits
 invariant_of-self-in-Waits g c =
-    let block : Waiting = record { node = c.args.peer.now; header = c.args.header; bytes = c.args.bytes.now } in
+    let block : Waiting = record { node = c.args.peer.now; header = c.args.header.now; bytes = c.args.bytes.now } in
     let queue = lists_of c.self.inside.queue in (
       kept_waiting c.self.inside.params (g.B.Board.board c.self.inside.board) (g.C.Chain.held c.self.inside.chain) c.self.inside.polls (lists_of c.self.inside.queue) c.self.inside.numbers c.self.invariant.0 block (lists_of c.bring.new.self)
           (offered_apart queue (g.B.Board.board c.self.inside.board) block c.in-Waits.ask (sym c.in-Waits.is ∙ c.in_ok-bring.ensures.answer))
@@ -23,7 +23,7 @@ invariant_of-self-in-Waits g c =
 
 pub invariant_of-self-in-Known : goal.invariant_of-self-in-Known
 invariant_of-self-in-Known g c =
-    let block : Waiting = record { node = c.args.peer.now; header = c.args.header; bytes = c.args.bytes.now } in
+    let block : Waiting = record { node = c.args.peer.now; header = c.args.header.now; bytes = c.args.bytes.now } in
     let queue = lists_of c.self.inside.queue in (
       kept_same c.self.inside.params (g.B.Board.board c.self.inside.board) (g.C.Chain.held c.self.inside.chain) c.self.inside.polls (lists_of c.self.inside.queue) c.self.inside.numbers c.self.invariant.0 (lists_of c.bring.new.self) (c.in_ok-bring.ensures.lists ∙ ap (after_offer queue block) c.in-Known.is),
       subst (λ (k : Remembered). Remembers (g.B.Board.board c.self.inside.board) c.bring.new.self k) (sym c.woken-self-inside.ensures)
@@ -33,7 +33,7 @@ invariant_of-self-in-Known g c =
 
 pub invariant_of-self-in-Invalid : goal.invariant_of-self-in-Invalid
 invariant_of-self-in-Invalid g c =
-    let block : Waiting = record { node = c.args.peer.now; header = c.args.header; bytes = c.args.bytes.now } in
+    let block : Waiting = record { node = c.args.peer.now; header = c.args.header.now; bytes = c.args.bytes.now } in
     let queue = lists_of c.self.inside.queue in (
       kept_same c.self.inside.params (g.B.Board.board c.self.inside.board) (g.C.Chain.held c.self.inside.chain) c.self.inside.polls (lists_of c.self.inside.queue) c.self.inside.numbers c.self.invariant.0 (lists_of c.bring.new.self) (c.in_ok-bring.ensures.lists ∙ ap (after_offer queue block) c.in-Invalid.is),
       subst (λ (k : Remembered). Remembers (g.B.Board.board c.self.inside.board) c.bring.new.self k) (sym c.woken-self-inside.ensures)
@@ -43,7 +43,7 @@ invariant_of-self-in-Invalid g c =
 
 pub invariant_of-self-in-Old : goal.invariant_of-self-in-Old
 invariant_of-self-in-Old g c =
-    let block : Waiting = record { node = c.args.peer.now; header = c.args.header; bytes = c.args.bytes.now } in
+    let block : Waiting = record { node = c.args.peer.now; header = c.args.header.now; bytes = c.args.bytes.now } in
     let queue = lists_of c.self.inside.queue in (
       kept_same c.self.inside.params (g.B.Board.board c.self.inside.board) (g.C.Chain.held c.self.inside.chain) c.self.inside.polls (lists_of c.self.inside.queue) c.self.inside.numbers c.self.invariant.0 (lists_of c.bring.new.self) (c.in_ok-bring.ensures.lists ∙ ap (after_offer queue block) c.in-Old.is),
       subst (λ (k : Remembered). Remembers (g.B.Board.board c.self.inside.board) c.bring.new.self k) (sym c.woken-self-inside.ensures)
@@ -53,7 +53,7 @@ invariant_of-self-in-Old g c =
 
 pub invariant_of-self-in-Full : goal.invariant_of-self-in-Full
 invariant_of-self-in-Full g c =
-    let block : Waiting = record { node = c.args.peer.now; header = c.args.header; bytes = c.args.bytes.now } in
+    let block : Waiting = record { node = c.args.peer.now; header = c.args.header.now; bytes = c.args.bytes.now } in
     let queue = lists_of c.self.inside.queue in (
       kept_same c.self.inside.params (g.B.Board.board c.self.inside.board) (g.C.Chain.held c.self.inside.chain) c.self.inside.polls (lists_of c.self.inside.queue) c.self.inside.numbers c.self.invariant.0 (lists_of c.bring.new.self) (c.in_ok-bring.ensures.lists ∙ ap (after_offer queue block) c.in-Full.is),
       subst (λ (k : Remembered). Remembers (g.B.Board.board c.self.inside.board) c.bring.new.self k) (sym c.woken-self-inside.ensures)
