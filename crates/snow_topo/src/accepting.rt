@@ -6,7 +6,8 @@ ghost use Rattle.snow_tree.specs.Held.{entry_in, promoted};
 ghost use Rattle.snow_topo.specs.Told.{rejection, told};
 ghost use Rattle.snow_topo.specs.View.{view, AreFit};
 
-use crate::load::{Contest, Load};
+use crate::load::Load;
+use crate::spare::SpareTrees;
 use crate::winning::next_child;
 use snow_base::Id;
 use snow_flake::{Params, Rule};
@@ -42,13 +43,13 @@ fn tell(decisions: &mut Vec<Decision>, child: &Id, rejected: &[Id])
 
 // A child of the last accepted block is accepted: what is kept of its children takes the place of what
 // was kept of its brothers and itself, and the blocks that don't descend from it go. The tree that goes is
-// spared for the next one that is begun.
+// kept for one that is begun.
 fn accept<R: Rule>(
     root: &mut Load<R>,
     tree: &mut Tree<Load<R>>,
     child: &Id,
     decisions: &mut Vec<Decision>,
-    spare: &mut Contest<R>,
+    spare: &mut SpareTrees<R>,
 )
     requires child { option_map (λ e. e.block.parent) (entry_in (tree.old).pending child.now) ≡ Some (tree.old).last }
     requires room { length decisions.old.items + length (tree.old).pending ≤ vec_capacity decisions.old }
@@ -58,7 +59,7 @@ fn accept<R: Rule>(
     ensures room { vec_capacity decisions.new ≡ vec_capacity decisions.old }
 {
     let _last = tree.last();
-    *spare = root.take_tree();
+    spare.keep(root.take_tree());
     tree.promote(child, root);
     tell(decisions, child, tree.rejected());
 }
@@ -73,7 +74,7 @@ pub(crate) fn accept_next<R: Rule>(
     root: &mut Load<R>,
     tree: &mut Tree<Load<R>>,
     decisions: &mut Vec<Decision>,
-    spare: &mut Contest<R>,
+    spare: &mut SpareTrees<R>,
 ) -> bool
     requires fit { AreFit params.now polls root.old tree.old }
     requires room { length decisions.old.items + length (tree.old).pending ≤ vec_capacity decisions.old }

@@ -9,8 +9,9 @@ ghost use Rattle.snow_climb.specs.Starting.{HaveBegun, IsLoaded};
 ghost use Rattle.snow_topo.specs.View.{view, AreFit};
 
 use crate::counting::count;
-use crate::load::{Contest, Load};
+use crate::load::Load;
 use crate::settling::settle;
+use crate::spare::SpareTrees;
 use snow_base::{Bag, Steps};
 use snow_climb::Ladder;
 use snow_flake::{Params, Rule};
@@ -30,7 +31,7 @@ pub(crate) fn apply<R: Rule, L: Ledger>(
     ladder: &mut Ladder,
     children: &mut Bag,
     decisions: &mut Vec<Decision>,
-    spare: &mut Contest<R>,
+    spare: &mut SpareTrees<R>,
     steps: &mut Steps<L>,
 ) -> bool
     requires room { polls + 1 < 2 ^ 64 }

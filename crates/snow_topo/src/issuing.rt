@@ -6,7 +6,8 @@ ghost use Rattle.snow_topo.specs.Kept.{bare, gained};
 ghost use Rattle.snow_topo.specs.View.{view, AreFit};
 ghost use Rattle.snow_topo.specs.Gaining.{gained_by, all_gained};
 
-use crate::load::{Contest, Load};
+use crate::load::Load;
+use crate::spare::SpareTrees;
 use snow_base::{Header, Id};
 use snow_flake::{Params, Rule};
 use snow_tree::Tree;
@@ -19,7 +20,7 @@ fn add_at<R: Rule>(
     tree: &mut Tree<Load<R>>,
     at: usize,
     id: &Id,
-    spare: &mut Contest<R>,
+    spare: &mut SpareTrees<R>,
 ) -> Result<(), AllocError>
     ensures ok { IfSome (slice_get (tree.old).pending at) (λ e. OnOk result (tree.new ≡ with_load tree.old at (gained params.now id.now e.load))) }
     ensures err { OnErr result (tree.new ≡ tree.old) }
@@ -39,7 +40,7 @@ fn add_below<R: Rule>(
     tree: &mut Tree<Load<R>>,
     at: Option<usize>,
     child: &Header,
-    spare: &mut Contest<R>,
+    spare: &mut SpareTrees<R>,
 ) -> Result<(), AllocError>
     requires place { at ≡ place_in (tree.old).pending (child.now).parent }
     requires follows { is_on (tree.old).last (blocks_in (tree.old).pending) (child.now).parent ≡ true }
@@ -91,7 +92,7 @@ pub(crate) fn issue<R: Rule>(
     tree: &mut Tree<Load<R>>,
     at: Option<usize>,
     child: &Header,
-    spare: &mut Contest<R>,
+    spare: &mut SpareTrees<R>,
 ) -> Result<(), AllocError>
     requires unknown { is_on (tree.old).last (blocks_in (tree.old).pending) (child.now).id ≡ false }
     requires follows { is_on (tree.old).last (blocks_in (tree.old).pending) (child.now).parent ≡ true }

@@ -12,6 +12,7 @@ mod polling;
 mod renewing;
 mod replaying;
 mod settling;
+mod spare;
 mod topo;
 mod visiting;
 mod winning;

@@ -5,6 +5,7 @@ ghost use Rattle.snow_plain.specs.FailingLaw.{failed};
 ghost use Rattle.snow_trie.specs.Whole.{HasFewNodes, begun};
 ghost use Rattle.snow_topo.specs.Leading.{HasDecided};
 
+use crate::spare::SpareTrees;
 use snow_base::{Id, Steps, Vote};
 use snow_flake::{Params, Rule};
 use snow_trie::Trie;
@@ -143,7 +144,7 @@ impl<R: Rule> Load<R> {
         alloc: Global,
         params: &Params,
         id: &Id,
-        spare: &mut Contest<R>,
+        spare: &mut SpareTrees<R>,
     ) -> Result<(), AllocError>
         ensures ok { OnOk result (self.new ≡ gained params.now id.now self.old) }
         ensures err { OnErr result (self.new ≡ self.old) }

@@ -9,8 +9,9 @@ ghost use Rattle.snow_topo.specs.View.{view};
 
 use crate::applying::apply;
 use crate::leading::follow_poll;
-use crate::load::{Contest, Load};
+use crate::load::Load;
 use crate::renewing::renew;
+use crate::spare::SpareTrees;
 use snow_base::{Bag, Id, Steps};
 use snow_climb::Ladder;
 use snow_flake::{Params, Rule};
@@ -30,7 +31,7 @@ pub(crate) fn record<R: Rule, L: Ledger>(
     ladder: &mut Ladder,
     children: &mut Bag,
     decisions: &mut Vec<Decision>,
-    spare: &mut Contest<R>,
+    spare: &mut SpareTrees<R>,
     steps: &mut Steps<L>,
 ) -> u64
     requires standing { (ready : Rungs) × IsStanding R.answer params.now polls root.old tree.old preference.old ready (vec_capacity decisions.old) (children.old.room + length children.old.list)

@@ -3,7 +3,8 @@ ghost use Rattle.snow_plain.specs.Poll.{settled};
 ghost use Rattle.snow_topo.specs.View.{view, AreFit};
 
 use crate::accepting::accept_next;
-use crate::load::{Contest, Load};
+use crate::load::Load;
+use crate::spare::SpareTrees;
 use snow_flake::{Params, Rule};
 use snow_plain::Decision;
 use snow_tree::Tree;
@@ -16,7 +17,7 @@ pub(crate) fn settle<R: Rule>(
     root: &mut Load<R>,
     tree: &mut Tree<Load<R>>,
     decisions: &mut Vec<Decision>,
-    spare: &mut Contest<R>,
+    spare: &mut SpareTrees<R>,
 )
     requires fit { AreFit params.now polls root.old tree.old }
     requires room { length decisions.old.items + length (tree.old).pending ≤ vec_capacity decisions.old }

@@ -11,8 +11,9 @@ ghost use Rattle.snow_topo.specs.Standing.{AreKept};
 
 use crate::issuing::issue;
 use crate::leading::{follow_child, is_preferred, is_top, kept_of, place_on};
-use crate::load::{Contest, Load};
+use crate::load::Load;
 use crate::polling::record;
+use crate::spare::SpareTrees;
 use snow_base::{Bag, Header, Id, Steps};
 use snow_climb::{Ladder, named, start_ids, start_votes};
 use snow_flake::{Params, Rule};
@@ -35,8 +36,8 @@ pub struct Topo<R: Rule> {
     // What is kept of the last accepted block, and of those above it.
     root: Load<R>,
     tree: Tree<Load<R>>,
-    // The tree of the children of a block that isn't on the board any more. The next one is made in its place.
-    spare: Contest<R>,
+    // The trees of blocks that aren't on the board any more. The next ones are made in their places.
+    spare: SpareTrees<R>,
     preference: Id,
     decisions: Vec<Decision>,
     // Room for the votes of a poll, and for those that came to one block, by its children.
@@ -165,7 +166,7 @@ impl<R: Rule> Board for Topo<R> {
             polls: 0,
             root: Load::new(),
             tree: Tree::new(alloc, last, height),
-            spare: None,
+            spare: SpareTrees::none(alloc),
             preference: last,
             decisions: Vec::new(alloc),
             ladder,
@@ -180,6 +181,7 @@ impl<R: Rule> Board for Topo<R> {
         let pending = self.tree.len() + 1;
         self.decisions.reserve(pending)?;
         self.ladder.make_room(pending)?;
+        self.spare.make_room(pending)?;
         let child = Header { id, parent, height };
         let at = place_on(&self.tree, &parent);
         let on_top = is_top(
