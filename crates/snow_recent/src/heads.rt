@@ -7,7 +7,7 @@ use std::alloc::{AllocError, Global};
 use std::marker::Model;
 
 // How many seats there are.
-const SEATS: usize = 262_144;
+const SEATS: usize = 131_072;
 
 /// For each seat a number: where there is an entry of the seat, that of the one which came last.
 /// Contracts see the numbers.
@@ -23,7 +23,7 @@ impl Model for Heads {
 
     ghost view = { λ a. a.numbers.items };
 
-    ghost invariant = { λ a. length a.numbers.items ≡ 262144 };
+    ghost invariant = { λ a. length a.numbers.items ≡ 131072 };
 }
 
 impl Heads {
@@ -53,7 +53,7 @@ impl Heads {
 #[inline(always)]
 pub(crate) fn seat_of(id: &Id) -> usize
     ensures seat { result ≡ seat_of id.now }
-    ensures there { result < 262144 }
+    ensures there { result < 131072 }
 {
     snow_map::seat_of(id) % SEATS
 }
