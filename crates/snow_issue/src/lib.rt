@@ -13,6 +13,7 @@ mod queue;
 mod replies;
 mod settling;
 mod spare;
+mod voting;
 mod waiting;
 mod work;
 

@@ -8,7 +8,6 @@ ghost use Rattle.snow_issue.specs.Lists.{begun, has_number, is_asked, is_get, ho
 ghost use Rattle.snow_issue.specs.Offering.{is_on, offered, after_offer, refusal, is_next, wanted};
 ghost use Rattle.snow_issue.specs.Settling.{work_of, after, is_free, IsIdle};
 ghost use Rattle.snow_issue.specs.declared.work.Work.TheVariants as work;
-ghost use Rattle.snow_issue.specs.Bubbling.{bubbled, vote_at_once, is_own_vote};
 ghost use Rattle.snow_issue.specs.Known.{lists_of, Knows, ForgetsChildren, NoneRipe, RestsAfter, TakesStep};
 
 use crate::gets::Gets;
@@ -17,7 +16,7 @@ use crate::replies::Replies;
 use crate::spare::SpareBytes;
 use crate::waiting::WaitingList;
 use crate::work::{Get, Held, Offered, Waiting, Work};
-use crate::{bubbling, looking, offering};
+use crate::{looking, offering};
 use snow_base::{Bytes, Header, Id, NodeId};
 use snow_plain::Board;
 use std::alloc::{AllocError, Global};
@@ -365,57 +364,5 @@ impl Queue {
         ensures limits { AreWithinLimits (lists_of self.new) }
     {
         self.gone.enter(Gone { id, parent });
-    }
-
-    /// The vote that a reply gives: a pending block is itself, the last accepted one gives none, and
-    /// a gone one is replaced by the parent of its latest entry, at most 8,192 times. None where
-    /// this leads to no pending block.
-    pub fn bubble<B: Board>(&self, id: &Id, board: &B) -> Option<Id>
-        ensures { result ≡ bubbled (lists_of self.now) (B.board board.now) id.now }
-    {
-        bubbling::bubble(&self.gone, board, id)
-    }
-
-    /// Whether a reply gives the very block that it names as its vote, and may be counted as it comes:
-    /// the block is pending, and neither waits nor is asked for. Mostly that is so.
-    #[inline(always)]
-    pub fn is_own_vote<B: Board>(&self, id: &Id, board: &B) -> bool
-        ensures is { result ≡ is_own_vote (lists_of self.now) (B.board board.now) id.now }
-        ensures vote { result ≡ true → vote_at_once (lists_of self.now) (B.board board.now) id.now ≡ Some (Some id.now) }
-    {
-        if self.gets.asks_for(id) || self.waiting.waits(id) {
-            return false;
-        }
-        bubbling::is_pending(board, id)
-    }
-
-    /// The vote of a reply that may be counted as it comes, where nothing else is to be done. None
-    /// where its block waits, is asked for, or is to be asked for: such a reply is to be held.
-    #[inline(always)]
-    pub fn vote_at_once<B: Board>(&self, id: &Id, board: &B) -> Option<Option<Id>>
-        ensures { result ≡ vote_at_once (lists_of self.now) (B.board board.now) id.now }
-    {
-        if self.is_own_vote(id, board) {
-            return Some(Some(*id));
-        }
-        self.vote_found(id, board)
-    }
-
-    // The same, whatever its block is.
-    #[inline(never)]
-    fn vote_found<B: Board>(&self, id: &Id, board: &B) -> Option<Option<Id>>
-        ensures { result ≡ vote_at_once (lists_of self.now) (B.board board.now) id.now }
-    {
-        if self.gets.asks_for(id) || self.waiting.waits(id) {
-            return None;
-        }
-        // A block that gives a vote is pending or gone, so that it needn't be asked for.
-        if let Some(vote) = self.bubble(id, board) {
-            return Some(Some(vote));
-        }
-        if self.wants(id, board) {
-            return None;
-        }
-        Some(None)
     }
 }

@@ -42,8 +42,8 @@ impl Page {
         Ok(Page { bytes, len: 0 })
     }
 
-    /// Appends a line. Where there is no room for a word of it, what waits is written first, as one
-    /// piece. At `Failed` a front of what waited and of the line was written, and what then waits is
+    /// Appends a line. Where there is no room for a piece of it, what waits is written first, all at
+    /// once. At `Failed` a front of what waited and of the line was written, and what then waits is
     /// left open.
     #[inline(always)]
     pub fn print<K: Sink>(&mut self, line: &Line, sink: &mut K) -> Result<(), Failed>

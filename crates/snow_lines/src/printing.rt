@@ -16,7 +16,7 @@ use crate::whole::word_and_id;
 use crate::why::QueryWhy;
 use snow_base::{Failed, Sink};
 
-/// Writes a line, a word at a time. At `Failed` a front of it was written. It takes no memory.
+/// Writes a line, a piece at a time. At `Failed` a front of it was written. It takes no memory.
 #[tactic(auto, using(crate::proofs::Waiting::gathers_whole))]
 pub fn print<K: Sink>(line: &Line, sink: &mut K) -> Result<(), Failed>
     ensures ok { OnOk result (Appends (K.written sink.old) (K.written sink.new) (text line.now)) }
