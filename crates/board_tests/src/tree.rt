@@ -14,11 +14,10 @@ pub(crate) fn issue(
     if tree.last() == id || tree.place_of(&id).is_some() {
         return Ok(());
     }
-    let at = tree.place_of(&parent);
-    if tree.last() != parent && at.is_none() {
+    if tree.last() != parent && tree.place_of(&parent).is_none() {
         return Ok(());
     }
-    match tree.insert(id, parent, at, u64::from(number), number) {
+    match tree.insert(id, parent, u64::from(number), number) {
         Ok(()) => Ok(()),
         Err(_) => Err(AllocError),
     }

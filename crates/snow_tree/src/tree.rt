@@ -72,10 +72,22 @@ impl<T: Drop> Tree<T> {
         }
     }
 
-    /// A block is issued, with a load; whoever issues it says where its parent stands. After want of memory
-    /// all is as before, and the load comes back.
+    /// A block is issued, with a load. After want of memory all is as before, and the load comes back.
+    pub fn insert(&mut self, id: Id, parent: Id, height: u64, load: T) -> Result<(), TreeFull<T>>
+        requires unknown { is_on (self.old).last (blocks_in (self.old).pending) id ≡ false }
+        requires follows { is_on (self.old).last (blocks_in (self.old).pending) parent ≡ true }
+        ensures ok { let block : Header = record { id = id; parent = parent; height = height } in
+            OnOk result (self.new ≡ inserted self.old block load) }
+        ensures err { OnErr result (self.new ≡ self.old) }
+        ensures load { IfErr result (λ full. full.load ≡ load) }
+    {
+        let at = self.place_of(&parent);
+        self.insert_at(id, parent, at, height, load)
+    }
+
+    /// The same where it is known at which place the parent stands, or that it is the last accepted block.
     #[inline(always)]
-    pub fn insert(
+    pub fn insert_at(
         &mut self,
         id: Id,
         parent: Id,

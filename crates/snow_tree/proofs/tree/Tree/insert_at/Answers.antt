@@ -11,9 +11,9 @@ use Rattle.snow_tree.proofs.Placed.{earlier}
 use Rattle.snow_tree.proofs.Left.{same_blocks}
 use Rattle.snow_tree.proofs.Linked.{kept_issued, not_found, blocks_changed}
 use Rattle.snow_tree.proofs.Seen.{ok_after, place_seen, seen_changed}
-use Rattle.snow_tree.proofs.tree.Tree.insert.Given as given
-use Rattle.snow_tree.proofs.tree.Tree.insert.Goals as goal
-use Rattle.snow_tree.proofs.tree.Tree.insert.Goals.{After-len}
+use Rattle.snow_tree.proofs.tree.Tree.insert_at.Given as given
+use Rattle.snow_tree.proofs.tree.Tree.insert_at.Goals as goal
+use Rattle.snow_tree.proofs.tree.Tree.insert_at.Goals.{After-len}
 
 -- where the parent stands among the nodes
 found : (g : given.Over) (c : After-len g) → position (λ e. bytes_eq e.0 c.args.parent) c.self.inside.nodes.entries ≡ c.args.at
