@@ -1,24 +1,13 @@
 -- Where the entries of a map stand: each under its identifier's seat, or in order where another has that seat.
-use Rattle.std.specs.Prelude.{◌≡◌, ℕ, ◌+◌, ◌*◌, ◌%◌, Bool, false, not, cond, List, ◌++◌, map, get_or, nat_eq, Option, Some, None, is_some, bytes_eq}
+use Rattle.std.specs.Prelude.{◌≡◌, ℕ, Bool, false, not, cond, List, ◌++◌, map, nat_eq, Option, Some, None, is_some, bytes_eq}
 use Rattle.std.specs.List.{IsDistinct}
 use Rattle.std.specs.Map.{keys_of, lookup}
 use Rattle.snow_map.specs.Entries.{value_of}
-
--- the number that the first four bytes spell, the lowest first
-unfoldable pub first_of : List ℕ → ℕ
-first_of id = get_or id 0 0 + get_or id 1 0 * 256 + get_or id 2 0 * 65536 + get_or id 3 0 * 16777216
-
--- the number that the last four bytes spell, the highest first
-unfoldable pub last_of : List ℕ → ℕ
-last_of id = get_or id 31 0 + get_or id 30 0 * 256 + get_or id 29 0 * 65536 + get_or id 28 0 * 16777216
-
--- the seat of an identifier: its first four bytes and its last four, as numbers that are added
-abbrev pub seat_of : List ℕ → ℕ
-seat_of id = (first_of id + last_of id) % 4294967296
+use Rattle.snow_map.specs.Seats.{place_of as among}
 
 -- its seat among 65,536
 abbrev pub place_of : List ℕ → ℕ
-place_of id = seat_of id % 65536
+place_of id = among 65536 id
 
 module _ {V : Type 0} where
   -- what the entry under its seat gives an identifier
