@@ -2,7 +2,7 @@
 use Rattle.std.proofs.Common.{bit_and}
 use Rattle.std.proofs.lemmas.List.{get_or_read}
 use Rattle.snow_sample.proofs.Moves.{within_classes, walk_to, walk_past, walk_finds, walk_ends}
-use Rattle.snow_sample.proofs.shuffle.Shuffle.unit.Goals as goal
+use Rattle.snow_sample.proofs.shuffle.Shuffle.walk.Goals as goal
 
 pub loop-number-init : goal.loop-number-init
 loop-number-init c =

@@ -3,7 +3,7 @@ use Rattle.std.proofs.Common.{◌≡◌, ◌-◌, get_or, ap, sym, ◌∙◌}
 use Rattle.std.proofs.lemmas.List.{get_or_read}
 use Rattle.snow_poll.specs.Awaited.{class_of}
 use Rattle.snow_poll.proofs.Waiting.{is_of, within_classes, read_at, nowhere, walk_for, walk_past, walk_ends}
-use Rattle.snow_poll.proofs.awaited.Awaited.find.Goals as goal
+use Rattle.snow_poll.proofs.awaited.Awaited.walk.Goals as goal
 
 pub loop-number-init : goal.loop-number-init
 loop-number-init c =
