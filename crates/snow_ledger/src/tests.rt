@@ -1,6 +1,7 @@
 use crate::{LedgerChain, Transfer, transfer};
 use snow_base::Id;
 use snow_chain::{Chain, ChainFault};
+use std::process::Abort;
 use std::test::Fail;
 
 /// A transfer, its numbers below 256.
@@ -47,7 +48,7 @@ fn block_of_two(parent: Id, height: u8, first: Move, second: Move) -> [u8; 82] {
 }
 
 /// Verifies a block on its parent, and gives its identifier where it is valid.
-fn verified(rt: &HostRuntime, chain: &mut LedgerChain, bytes: &[u8]) -> Result<Option<Id>, Fail> {
+fn verified(rt: &impl Abort, chain: &mut LedgerChain, bytes: &[u8]) -> Result<Option<Id>, Fail> {
     let header = chain.parse(bytes).ok_or("a block")?;
     assert!(rt; chain.states().may_verify(&header.parent, &header.id));
     let valid = chain.verify(&header.parent, &header.id, bytes)?;
