@@ -2,8 +2,10 @@
 #![tactic(auto)]
 
 mod far;
+mod hashing;
 mod id_map;
 mod near;
 
+pub use hashing::IdHashing;
 pub use id_map::IdMap;
 pub use near::seat_of;
