@@ -9,6 +9,7 @@ ghost use Rattle.snow_tree.specs.Row.{place_at, untold, retold, gives_way};
 
 use crate::hints::Hints;
 use snow_base::Id;
+use snow_map::IdHashing;
 use std::alloc::{AllocError, Global};
 use std::collections::{HashMap, VecDeque};
 
@@ -16,7 +17,7 @@ use std::collections::{HashMap, VecDeque};
 /// later: so a block that comes and goes mostly leaves it alone.
 #[derive(Debug, Drop)]
 pub(crate) struct Numbers {
-    pub(crate) map: HashMap<Id, usize>,
+    pub(crate) map: HashMap<Id, usize, IdHashing>,
     pub(crate) hints: Hints,
 }
 
@@ -27,7 +28,7 @@ impl Numbers {
         ensures hints { result.hints ≡ [] }
     {
         Numbers {
-            map: HashMap::new(alloc),
+            map: HashMap::with_hasher(alloc, IdHashing::new()),
             hints: Hints::new(alloc),
         }
     }
