@@ -77,6 +77,28 @@ impl Shuffle {
         ensures moves { length self.new.moved.items ≤ length self.old.moved.items + 1 }
         ensures kept { vec_capacity self.new.moved ≡ vec_capacity self.old.moved }
     {
+        if !self.later.is_empty() {
+            return self.draw_later(at, r);
+        }
+        let own = self.walk(at);
+        let unit = self.walk(at + r);
+        self.keep(at + r, own)?;
+        Ok(unit)
+    }
+
+    // The same where the map has moves. It stands apart, since few samples need it.
+    #[inline(never)]
+    fn draw_later(&mut self, at: u64, r: u64) -> Result<u64, AllocError>
+        requires chained { AreMoves self.old.mask self.old.moved.items self.old.lasts.items }
+        requires within { at + r < 2 ^ 64 }
+        requires few { length self.old.moved.items + 1 < 2 ^ 32 }
+        requires room { length self.old.moved.items < vec_capacity self.old.moved }
+        ensures unit { IfOk result (λ unit. unit ≡ unit_at self.old.moved.items self.old.later (at + r)) }
+        ensures chained { OnOk result (AreMoves self.new.mask self.new.moved.items self.new.lasts.items) }
+        ensures behind { OnOk result ((p : ℕ) → at < p → unit_at self.new.moved.items self.new.later p ≡ swapped (unit_at self.old.moved.items self.old.later) (at + r) at p) }
+        ensures moves { length self.new.moved.items ≤ length self.old.moved.items + 1 }
+        ensures kept { vec_capacity self.new.moved ≡ vec_capacity self.old.moved }
+    {
         let own = self.unit(at);
         let unit = self.unit(at + r);
         self.keep(at + r, own)?;
@@ -84,7 +106,6 @@ impl Shuffle {
     }
 
     // The unit at a position.
-    #[inline(always)]
     fn unit(&self, place: u64) -> u64
         requires { AreMoves self.now.mask self.now.moved.items self.now.lasts.items }
         ensures { result ≡ unit_at self.now.moved.items self.now.later place }
