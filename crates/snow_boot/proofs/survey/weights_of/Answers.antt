@@ -1,5 +1,5 @@
 -- One node more in front.
-use Rattle.std.proofs.Common.{◌≡◌, ◌+◌, ◌-◌, ◌∷◌, drop, sym, ap, subst, ◌∙◌, arith}
+use Rattle.std.proofs.Common.{◌≡◌, ◌+◌, ◌-◌, ◌∷◌, length, drop, sym, ap, subst, ◌∙◌, arith}
 use Rattle.std.proofs.lemmas.List.{drop_all}
 use Rattle.snow_boot.specs.Surveying.{HasWeights}
 use Rattle.snow_store.proofs.Cases.{next_of}
@@ -9,8 +9,8 @@ use Rattle.snow_boot.proofs.survey.weights_of.Goals as goal
 pub loop-at-init : goal.loop-at-init
 loop-at-init c =
     let nodes = c.args.nodes.now in (
-      omega (arith, c.len-at.ensures),
-      subst (HasWeights c.new-weights.result) (sym (drop_all c.len-at.result nodes (omega (arith, c.len-at.ensures)))) (none_weigh c.new-weights.result c.new-weights.ensures.empty),
+      omega arith,
+      subst (HasWeights c.new-weights.result) (sym (drop_all (length nodes) nodes (omega arith))) (none_weigh c.new-weights.result c.new-weights.ensures.empty),
     )
 
 pub loop-at-preserved : goal.loop-at-preserved
