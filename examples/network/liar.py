@@ -1,0 +1,121 @@
+"""Nodes that lie. No process stands behind them: they answer what the others ask, and make blocks."""
+
+import random
+from dataclasses import dataclass, field
+from typing import Optional
+
+import frames
+from frames import Block
+from messages import Kind, Message
+from node import World
+
+
+@dataclass
+class Plot:
+    """What liars know together: the blocks that they saw, and, where they split the others, the two chains."""
+
+    blocks: dict[bytes, Block] = field(default_factory=dict)
+    newest: Optional[Block] = None
+    half_of: dict[bytes, int] = field(default_factory=dict)
+    tips: list[Optional[Block]] = field(default_factory=lambda: [None, None])
+
+    def see(self, block: Block) -> None:
+        """Learns a block. A child of a block of one half's chain belongs to that chain; the highest is its tip."""
+        self.blocks[block.id] = block
+        if not self.newest or block.height > self.newest.height:
+            self.newest = block
+        half = self.half_of.get(block.parent)
+        if half is not None and block.id not in self.half_of:
+            self.join(block, half)
+
+    def join(self, block: Block, half: int) -> None:
+        """Puts a block into the chain that one half of the nodes is shown."""
+        self.half_of[block.id] = half
+        tip = self.tips[half]
+        if not tip or block.height > tip.height:
+            self.tips[half] = block
+
+
+class Liar:
+    """A node that lies at random: unknown blocks, old ones, the newest one, or no answer; and blocks that no
+    honest node would make."""
+
+    def __init__(self, index: int, world: World, plot: Plot) -> None:
+        self.index = index
+        self._world = world
+        self._plot = plot
+        self._rng = random.Random(f"{world.options.seed}/liar/{index}")
+
+    def receive(self, message: Message) -> None:
+        """Looks at a block that is shown; answers a question as it likes."""
+        if message.kind is Kind.BLOCK:
+            block = frames.read_block(message.blocks[0])
+            if block:
+                self._plot.see(block)
+            return
+        answer = self._answer(message)
+        if answer:
+            self._world.router.send(answer)
+
+    def _some_id(self) -> bytes:
+        known = list(self._plot.blocks)
+        return self._rng.choice(known) if known and self._rng.random() < 0.5 else self._rng.randbytes(32)
+
+    def _some_block(self) -> bytes:
+        known = list(self._plot.blocks.values())
+        return self._rng.choice(known).data if known and self._rng.random() < 0.5 else self._rng.randbytes(60)
+
+    def _answer(self, message: Message) -> Optional[Message]:
+        if self._rng.random() < 0.2:
+            return None
+        if message.kind in (Kind.ASK_QUERY, Kind.ASK_FRONTIER):
+            return message.answer(ids=(self._some_id(), self._some_id()))
+        if message.kind is Kind.ASK_ACCEPTED:
+            named = [id for id in message.ids if self._rng.random() < 0.5]
+            return message.answer(ids=(*named, self._rng.randbytes(32)))
+        return message.answer(blocks=(self._some_block(),))
+
+    def propose(self) -> None:
+        """Makes a block of one of four kinds, and shows it to some: a rival of a known one, one above the cap, one
+        at a wrong height, one without a parent."""
+        known = self._plot.newest or frames.genesis()
+        note = self._world.names[self.index] + self._rng.randbytes(4)
+        block = self._rng.choice((
+            frames.tally_block(known.parent, max(1, known.height), 1, note),
+            frames.tally_block(known.id, known.height + 1, frames.CAP + 1, note),
+            frames.tally_block(known.id, known.height + 3, 1, note),
+            frames.tally_block(self._rng.randbytes(32), known.height + 1, 1, note)))
+        self._plot.see(block)
+        self._world.history.propose(block, self.index, self._world.schedule.now)
+        for peer in range(len(self._world.names)):
+            if self._rng.random() < 0.5:
+                self._show(block, peer)
+
+    def _show(self, block: Block, peer: int) -> None:
+        if peer != self.index:
+            self._world.router.send(Message(Kind.BLOCK, self.index, peer, 0, 0, blocks=(block.data,)))
+
+
+class Splitter(Liar):
+    """A liar that shows one chain to the nodes at even places and another to those at odd ones."""
+
+    def propose(self) -> None:
+        """Makes the first block of both chains; what the halves build on them they make themselves."""
+        if self._plot.tips[0]:
+            return
+        for half in (0, 1):
+            block = frames.tally_block(frames.GENESIS, 1, 1 + half, self._world.names[self.index])
+            self._plot.see(block)
+            self._plot.join(block, half)
+            self._world.history.propose(block, self.index, self._world.schedule.now)
+            for peer in range(half, len(self._world.names), 2):
+                self._show(block, peer)
+
+    def _answer(self, message: Message) -> Optional[Message]:
+        tip = self._plot.tips[message.source % 2]
+        if message.kind is Kind.ASK_BLOCK:
+            block = self._plot.blocks.get(message.ids[0])
+            return message.answer(blocks=(block.data,)) if block else None
+        if message.kind is Kind.ASK_QUERY and tip:
+            return message.answer(ids=(tip.id, tip.id))
+        return None
