@@ -91,7 +91,7 @@ class Tree:
     def _edge(self, canvas: Canvas, place: Place, y: float, first: bool) -> None:
         """The line from a block up to its parent in the row above."""
         parent = self.places.get(place.block.parent)
-        if not parent and place.block.parent != frames.GENESIS:
+        if not parent and place.block.parent != frames.GENESIS.id:
             return
         x, above = 48 + place.column * COLUMN + BOX[0] / 2, 48 + (parent.column if parent else 0) * COLUMN + BOX[0] / 2
         start = y - ROW + BOX[1] if not first else y - 8
@@ -137,7 +137,7 @@ def _moments(result: Result, plot: Plot) -> None:
     if result.history.changes:
         rows.append((result.history.changes[0], "first with new validators"))
     for row, (time, text) in enumerate(sorted(rows)):
-        plot.mark(_seconds(time), text, row)
+        plot.mark(_seconds(time), text, row % 24)
 
 
 def heights(result: Result) -> str:

@@ -10,9 +10,6 @@ from typing import Iterable, NamedTuple, Optional, Sequence
 Roster = Sequence[tuple[bytes, int]]
 """The nodes that a node samples, each with its weight."""
 
-GENESIS = bytes(32)
-"""The block at height 0, which all nodes hold accepted from the beginning. It has no bytes."""
-
 CAP = 1_000_000_000
 """No block may bring the sum of amounts above this."""
 
@@ -159,6 +156,6 @@ def read_block(data: bytes) -> Optional[Block]:
     return Block(hashlib.sha256(data).digest(), data[:32], height, amount, data)
 
 
-def genesis() -> Block:
-    """The block at height 0."""
-    return Block(GENESIS, GENESIS, 0, 0, b"")
+GENESIS = tally_block(bytes(32), 0, 0, b"a network of nodes")
+"""The block at height 0, which all nodes hold accepted from the beginning. It is a block with bytes, as any other: a
+node that comes back asks for it where most of its peers have accepted nothing yet, and goes on asking until it came."""

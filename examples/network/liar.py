@@ -78,10 +78,10 @@ class Liar:
     def propose(self) -> None:
         """Makes a block of one of four kinds, and shows it to some: a rival of a known one, one above the cap, one
         at a wrong height, one without a parent."""
-        known = self._plot.newest or frames.genesis()
+        known = self._plot.newest or frames.GENESIS
         note = self._world.names[self.index] + self._rng.randbytes(4)
         block = self._rng.choice((
-            frames.tally_block(known.parent, max(1, known.height), 1, note),
+            frames.tally_block(known.parent, known.height, 1, note),
             frames.tally_block(known.id, known.height + 1, frames.CAP + 1, note),
             frames.tally_block(known.id, known.height + 3, 1, note),
             frames.tally_block(self._rng.randbytes(32), known.height + 1, 1, note)))
@@ -104,7 +104,7 @@ class Splitter(Liar):
         if self._plot.tips[0]:
             return
         for half in (0, 1):
-            block = frames.tally_block(frames.GENESIS, 1, 1 + half, self._world.names[self.index])
+            block = frames.tally_block(frames.GENESIS.id, 1, 1 + half, self._world.names[self.index])
             self._plot.see(block)
             self._plot.join(block, half)
             self._world.history.propose(block, self.index, self._world.schedule.now)

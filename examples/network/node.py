@@ -266,7 +266,7 @@ class Node:
         """Shows the preferred block to another node: one that missed it and has nothing pending asks nobody."""
         peer = self._rng.randrange(len(self._world.names))
         block = self._block(self.preference)
-        if self.running and block.data and peer != self.index:
+        if self.running and peer != self.index:
             self._show(block, peer)
         self._later(self._world.options.gossip, self._gossip)
 

@@ -35,7 +35,8 @@ rect.split { fill: #fbdcd8; stroke: #b3261e; }
 .dot.killed { fill: #b3261e; fill-opacity: .6; }
 .legend span { margin-right: 18px; white-space: nowrap; } .legend i { display: inline-block; width: 12px; height: 12px;
   border-radius: 2px; margin-right: 6px; vertical-align: -2px; }
-@media print { body { padding: 0; max-width: none; font-size: 11px; } svg, tr, dl { break-inside: avoid; }
+@media print { body { padding: 0; max-width: none; font-size: 11px; } table { font-size: 10px; }
+  svg, tr, dl { break-inside: avoid; }
   h2 { break-after: avoid; } * { print-color-adjust: exact; -webkit-print-color-adjust: exact; } @page { margin: 14mm; } }
 """
 

@@ -3,7 +3,6 @@
 import random
 import time
 from dataclasses import dataclass
-from functools import partial
 from pathlib import Path
 from typing import Callable
 
@@ -56,8 +55,7 @@ class Simulation:
         self._world = _world(options, folder)
         self._tell = tell
         self._rng = random.Random(f"{options.seed}/scenario")
-        self._highest = 0
-        self._waiting: list[tuple[int, Callable[[], None]]] = []
+        self._waiting: list[tuple[Node, int, Callable[[Node], None]]] = []
         plot = Plot()
         liar = Splitter if options.lie == "split" else Liar
         self._liars = {place: liar(place, self._world, plot) for place in options.liar_nodes()}
@@ -72,9 +70,9 @@ class Simulation:
         for place, node in self._nodes.items():
             if place not in options.late_nodes():
                 node.start(boot=False)
-        self._waiting = [(max(1, options.heights // 3), partial(self._join, self._nodes[place]))
+        self._waiting = [(self._nodes[place], max(1, options.heights // 3), self._join)
                          for place in options.late_nodes()]
-        self._waiting += [(max(1, options.heights // 4), partial(self._kill, self._nodes[place]))
+        self._waiting += [(self._nodes[place], max(1, options.heights // 4), self._kill)
                           for place in options.killed_nodes()]
         self._world.schedule.after(options.interval, self._propose, None)
         self._world.schedule.after(PROGRESS, self._progress, None)
@@ -103,12 +101,18 @@ class Simulation:
         self._world.schedule.after(self._options.interval, self._propose, None)
 
     def _befall(self) -> None:
-        """Does what waits for a height, once the first honest node has accepted it."""
-        self._highest = max(node.store.last.height for node in self._nodes.values())
-        due = [act for height, act in self._waiting if height <= self._highest]
-        self._waiting = [(height, act) for height, act in self._waiting if height > self._highest]
-        for act in due:
-            act()
+        """Does what waits for a height: a node is killed once it has got there itself, and one joins once another
+        has."""
+        highest = max(node.store.last.height for node in self._nodes.values())
+
+        def is_due(node: Node, height: int) -> bool:
+            return (node.store.last.height if node.life else highest) >= height
+
+        due = [(node, act) for node, height, act in self._waiting if is_due(node, height)]
+        if due:
+            self._waiting = [entry for entry in self._waiting if not is_due(entry[0], entry[1])]
+        for node, act in due:
+            act(node)
 
     def _progress(self, _: None) -> None:
         running = [node for node in self._nodes.values() if node.running]

@@ -19,9 +19,9 @@ class Store:
 
     def __init__(self, path: Path) -> None:
         self._path = path
-        self.last = frames.genesis()
+        self.last = frames.GENESIS
         self.total = 0
-        self._blocks: dict[bytes, Block] = {}
+        self._blocks = {self.last.id: self.last}
         data = path.read_bytes() if path.exists() else b""
         while data:
             end = 4 + int.from_bytes(data[:4], "big")
@@ -52,15 +52,15 @@ class Store:
 
     def holds(self, id: bytes) -> bool:
         """Whether the block is accepted."""
-        return id == frames.GENESIS or id in self._blocks
+        return id in self._blocks
 
     def block(self, id: bytes) -> Optional[Block]:
         """An accepted block."""
         return self._blocks.get(id)
 
     def blocks(self) -> list[Block]:
-        """All accepted blocks, upwards."""
-        return list(self._blocks.values())
+        """The accepted blocks from height 1 upwards."""
+        return list(self._blocks.values())[1:]
 
     def ancestors(self, id: bytes) -> tuple[bytes, ...]:
         """The bytes of an accepted block, its parent and so on, within what one answer may hold."""

@@ -23,7 +23,7 @@ class Disagreement:
 
 def _broken_chain(node: Node) -> Optional[str]:
     """Whether a node's accepted blocks, over all its lives, aren't each the parent of the next one."""
-    last = frames.genesis()
+    last = frames.GENESIS
     for block in node.store.blocks():
         if block.parent != last.id or block.height != last.height + 1:
             return f"node {node.index + 1} accepted a block at height {block.height} that isn't on the one before"
