@@ -7,7 +7,7 @@ from typing import Optional
 import frames
 from frames import Block
 from messages import Kind, Message
-from node import World
+from world import World
 
 
 @dataclass

@@ -5,50 +5,20 @@ that comes; and it supplies what the engine has not: time, random words, a store
 """
 
 import random
-from dataclasses import dataclass
-from pathlib import Path
 from typing import Callable, Optional, Sequence
 
 import frames
+import translation
 from engine import Engine, Recorder
 from frames import Block
-from history import Decision, History, Note, Tally
+from history import Decision, Note, Tally
 from messages import ANSWER, Kind, Message
-from options import Options
-from router import Router
-from schedule import Schedule
+from questions import Requests
 from store import Store
+from world import World
 
 MOST_WORDS = 4096
 MOST_PAYLOAD = 2_097_152
-
-
-@dataclass
-class World:
-    """What all nodes share."""
-
-    options: Options
-    schedule: Schedule
-    router: Router
-    history: History
-    names: list[bytes]
-    rosters: tuple[frames.Roster, frames.Roster]
-    change_height: Optional[int]
-    folder: Path
-
-    def roster_at(self, height: int) -> frames.Roster:
-        """The validators in force above a block of this height."""
-        return self.rosters[self.change_height is not None and height >= self.change_height]
-
-
-@dataclass
-class Request:
-    """A question that was sent, and who hasn't answered it."""
-
-    kind: Kind
-    ids: tuple[bytes, ...]
-    waiting: list[int]
-    tries: int
 
 
 class Node:
@@ -63,6 +33,7 @@ class Node:
         self.recorders: list[Recorder] = []
         self.complaint: Optional[str] = None
         self._world = world
+        self._options = world.options
         self._places = {name.hex(): place for place, name in enumerate(world.names)}
         self._rng = random.Random(f"{world.options.seed}/node/{index}")
         self._made = 0
@@ -76,24 +47,27 @@ class Node:
         self.running = False
         self.preference = self.store.last.id
         self._blocks: dict[bytes, Block] = {}
-        self._requests: dict[int, Request] = {}
+        self._requests = Requests(self._options.tries, self._options.timeout, self._ask, self._later, self._give_up)
         self._inbox: list[tuple[bytes, Optional[Message]]] = []
         self._handed: list[Optional[Message]] = []
         self._words = 0
         self._roster = self._world.roster_at(self.store.last.height)
 
+    def open_queries(self) -> int:
+        """How many queries aren't answered in full."""
+        return self._requests.queries()
+
     def start(self, boot: bool) -> None:
         """Starts the engine on what the store holds; with `boot` it first catches up with its peers."""
-        options = self._world.options
         self.life += 1
         self._forget()
         recorder = Recorder(self._world.folder, f"node-{self.index + 1}.{self.life}")
         self.recorders.append(recorder)
-        self._engine = Engine(options.program, recorder)
+        self._engine = Engine(self._options.program, recorder)
         self.running = not boot
-        self._hand_in(frames.start(options.params, boot, self.store.last, self.store.total, self._roster))
+        self._hand_in(frames.start(self._options.params, boot, self.store.last, self.store.total, self._roster))
         self._give_words()
-        self._later(self._rng.randint(1, options.gossip), self._gossip)
+        self._later(self._rng.randint(1, self._options.gossip), self._gossip)
 
     def kill(self) -> None:
         """Kills the process; what isn't in the store's file is gone."""
@@ -125,10 +99,11 @@ class Node:
 
     # ------------------------------------------------------------ frames in, lines out
 
-    def _hand_in(self, frame: bytes, message: Optional[Message] = None) -> None:
-        """Puts a frame behind those that are to be handed in; one that is too long would end the run."""
+    def _hand_in(self, frame: bytes, question: Optional[Message] = None) -> None:
+        """Puts a frame behind those that are to be handed in, with the question of a peer that it is, if it is one.
+        A frame that is too long would end the run."""
         if len(frame) <= 4 + MOST_PAYLOAD:
-            self._inbox.append((frame, message))
+            self._inbox.append((frame, question))
 
     def flush(self) -> bool:
         """Hands the engine what came in this step, and returns whether there was anything."""
@@ -146,7 +121,7 @@ class Node:
             for line in lines:
                 word, *rest = line.split(" ")
                 DEEDS[word](self, message, rest)
-            if message and not lines and message.kind in ANSWER:
+            if message and not lines:
                 self._answer_from_store(message)
 
     # ------------------------------------------------------------ messages in
@@ -168,42 +143,22 @@ class Node:
         if not self.running:
             self._answer_from_store(message)
             return
-        peer, request = self._world.names[message.source], message.request
-        if message.kind is Kind.ASK_QUERY:
-            frame = frames.ask_query(peer, request)
-        elif message.kind is Kind.ASK_FRONTIER:
-            frame = frames.ask_frontier(peer, request)
-        elif message.kind is Kind.ASK_ACCEPTED:
-            frame = frames.ask_accepted(peer, request, message.ids)
-        elif message.kind is Kind.ASK_ANCESTORS:
-            frame = frames.ask_ancestors(peer, request, message.ids[0])
-        else:
-            frame = frames.ask_block(peer, request, message.ids[0])
-        self._hand_in(frame, message)
+        self._hand_in(translation.question(message, self._world.names[message.source]), message)
 
     def _hear_block(self, message: Message) -> None:
         """With a number of no open get a block would be passed over, so it is handed in as one that came unasked."""
-        awaited = message.life == self.life and self._close(message)
+        awaited = message.life == self.life and self._requests.close(message)
         self._remember(message.blocks[0])
         if self.running:
-            request = message.request if awaited else 0
-            self._hand_in(frames.block(self._world.names[message.source], request, message.blocks[0]), message)
+            message = message if awaited else message._replace(request=0)
+            self._hand_in(translation.answer(message, self._world.names[message.source]))
 
     def _hear_answer(self, message: Message) -> None:
         """The engine knows which answers it awaits, so all are handed in."""
-        self.tally.late += not self._close(message)
-        peer, request = self._world.names[message.source], message.request
-        if message.kind is Kind.CHITS:
-            frame = frames.chits(peer, request, message.ids[0])
-        elif message.kind is Kind.FRONTIER:
-            frame = frames.frontier(peer, request, message.ids[0])
-        elif message.kind is Kind.ACCEPTED:
-            frame = frames.accepted(peer, request, message.ids)
-        else:
-            for data in message.blocks:
-                self._remember(data)
-            frame = frames.ancestors(peer, request, message.blocks)
-        self._hand_in(frame, message)
+        self.tally.late += not self._requests.close(message)
+        for data in message.blocks:
+            self._remember(data)
+        self._hand_in(translation.answer(message, self._world.names[message.source]))
 
     def _remember(self, data: bytes) -> None:
         """Keeps a block's bytes until it is accepted or too low: `accept` names it, and the store wants its bytes."""
@@ -211,54 +166,26 @@ class Node:
         if block and block.height > self.store.last.height:
             self._blocks[block.id] = block
 
-    # ------------------------------------------------------------ questions and their time
-
-    def _ask(self, number: int, kind: Kind, peers: Sequence[int], ids: tuple[bytes, ...] = ()) -> None:
-        """Sends a question of the engine. Each peer is answered for at last, if only by a Timeout: an engine waits
-        for as long as it takes."""
-        self._requests[number] = Request(kind, ids, list(peers), self._world.options.tries)
-        self._try(number)
-
-    def _try(self, number: int) -> None:
-        """Asks those that haven't answered, and gives them up where that was tried often enough."""
-        request = self._requests.get(number)
-        if not request:
-            return
-        if request.tries == 0:
-            del self._requests[number]
-            self.tally.timeouts += len(request.waiting)
-            for peer in request.waiting:
-                self._hand_in(frames.timeout(self._world.names[peer], number))
-            return
-        request.tries -= 1
-        for peer in request.waiting:
-            self._send(Message(request.kind, self.index, peer, self.life, number, request.ids))
-        self._later(self._world.options.timeout, lambda: self._try(number))
-
-    def _close(self, message: Message) -> bool:
-        """Notes that a peer answered, and returns whether its answer was awaited."""
-        request = self._requests.get(message.request)
-        if not request or ANSWER[request.kind] is not message.kind or message.source not in request.waiting:
-            return False
-        request.waiting.remove(message.source)
-        if not request.waiting:
-            del self._requests[message.request]
-        return True
-
-    def open_queries(self) -> int:
-        """How many queries aren't answered in full."""
-        return sum(request.kind is Kind.ASK_QUERY for request in self._requests.values())
+    # ------------------------------------------------------------ messages out
 
     def _send(self, message: Message) -> None:
         self.tally.sent += 1
         self._world.router.send(message)
+
+    def _ask(self, kind: Kind, peer: int, number: int, ids: tuple[bytes, ...]) -> None:
+        self._send(Message(kind, self.index, peer, self.life, number, ids))
+
+    def _give_up(self, peer: int, number: int) -> None:
+        """No answer came, and none is awaited any more."""
+        self.tally.timeouts += 1
+        self._hand_in(frames.timeout(self._world.names[peer], number))
 
     # ------------------------------------------------------------ what the engine has not
 
     def _give_words(self) -> None:
         """Hands in random words for some queries ahead. Here they follow from the seed; a validator takes them from
         a secure generator, since whoever knows them knows whom it asks."""
-        count = min(MOST_WORDS, 8 * self._world.options.params.k)
+        count = min(MOST_WORDS, 8 * self._options.params.k)
         self._words += count
         self._hand_in(frames.words([self._rng.getrandbits(64) for _ in range(count)]))
 
@@ -268,7 +195,7 @@ class Node:
         block = self._block(self.preference)
         if self.running and peer != self.index:
             self._show(block, peer)
-        self._later(self._world.options.gossip, self._gossip)
+        self._later(self._options.gossip, self._gossip)
 
     def _show(self, block: Block, peer: int) -> None:
         self._send(Message(Kind.BLOCK, self.index, peer, 0, 0, blocks=(block.data,)))
@@ -276,7 +203,7 @@ class Node:
     def propose(self) -> None:
         """Makes a block on the preference, hands it in as any other and shows it to all."""
         parent = self._block(self.preference)
-        if not self.running or parent.height >= self._world.options.heights:
+        if not self.running or parent.height >= self._options.heights:
             return
         self._made += 1
         note = self.name + self._made.to_bytes(4, "big")
@@ -311,18 +238,18 @@ class Node:
     def _on_query(self, _: Optional[Message], rest: list[str]) -> None:
         peers = [self._places[word.partition("*")[0]] for word in rest[2:]]
         self.tally.polls += 1
-        self._words -= self._world.options.params.k
-        if self._words < 4 * self._world.options.params.k:
+        self._words -= self._options.params.k
+        if self._words < 4 * self._options.params.k:
             self._give_words()
-        self._ask(int(rest[0]), Kind.ASK_QUERY, peers)
+        self._requests.ask(int(rest[0]), Kind.ASK_QUERY, peers)
 
     def _on_get(self, _: Optional[Message], rest: list[str]) -> None:
         self.tally.gets += 1
-        self._ask(int(rest[0]), Kind.ASK_BLOCK, [self._places[rest[1]]], (bytes.fromhex(rest[2]),))
+        self._requests.ask(int(rest[0]), Kind.ASK_BLOCK, [self._places[rest[1]]], (bytes.fromhex(rest[2]),))
 
     def _ask_all(self, number: str, kind: Kind, ids: Sequence[str]) -> None:
         peers = [self._places[name.hex()] for name, _ in self._roster]
-        self._ask(int(number), kind, peers, tuple(map(bytes.fromhex, ids)))
+        self._requests.ask(int(number), kind, peers, tuple(map(bytes.fromhex, ids)))
 
     def _on_frontier(self, _: Optional[Message], rest: list[str]) -> None:
         self._ask_all(rest[0], Kind.ASK_FRONTIER, [])
@@ -331,7 +258,7 @@ class Node:
         self._ask_all(rest[0], Kind.ASK_ACCEPTED, rest[1:])
 
     def _on_ancestors(self, _: Optional[Message], rest: list[str]) -> None:
-        self._ask(int(rest[0]), Kind.ASK_ANCESTORS, [self._places[rest[1]]], (bytes.fromhex(rest[2]),))
+        self._requests.ask(int(rest[0]), Kind.ASK_ANCESTORS, [self._places[rest[1]]], (bytes.fromhex(rest[2]),))
 
     def _on_accept(self, _: Optional[Message], rest: list[str]) -> None:
         block = self._blocks[bytes.fromhex(rest[0])]

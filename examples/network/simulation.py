@@ -9,10 +9,11 @@ from typing import Callable
 from engine import EngineEnded
 from history import History, Note
 from liar import Liar, Plot, Splitter
-from node import Node, World
+from node import Node
 from options import Options
 from router import Router
 from schedule import Schedule
+from world import World
 
 PROGRESS = 1000
 
