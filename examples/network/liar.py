@@ -17,7 +17,7 @@ class Plot:
     blocks: dict[bytes, Block] = field(default_factory=dict)
     newest: Optional[Block] = None
     half_of: dict[bytes, int] = field(default_factory=dict)
-    tips: list[Optional[Block]] = field(default_factory=lambda: [None, None])
+    tips: list[Block] = field(default_factory=lambda: [frames.GENESIS, frames.GENESIS])
 
     def see(self, block: Block) -> None:
         """Learns a block. A child of a block of one half's chain belongs to that chain; the highest is its tip."""
@@ -26,14 +26,18 @@ class Plot:
             self.newest = block
         half = self.half_of.get(block.parent)
         if half is not None and block.id not in self.half_of:
-            self.join(block, half)
+            self.half_of[block.id] = half
+            if block.height > self.tips[half].height:
+                self.tips[half] = block
 
-    def join(self, block: Block, half: int) -> None:
-        """Puts a block into the chain that one half of the nodes is shown."""
+    def split(self, block: Block, half: int) -> None:
+        """Begins the chain that one half of the nodes is shown."""
         self.half_of[block.id] = half
-        tip = self.tips[half]
-        if not tip or block.height > tip.height:
-            self.tips[half] = block
+        self.tips[half] = block
+
+    def is_whole(self) -> bool:
+        """Whether the nodes aren't split: they never were, or one half's chain stays behind."""
+        return abs(self.tips[0].height - self.tips[1].height) > 2 or frames.GENESIS in self.tips
 
 
 class Liar:
@@ -99,14 +103,21 @@ class Liar:
 class Splitter(Liar):
     """A liar that shows one chain to the nodes at even places and another to those at odd ones."""
 
+    def __init__(self, index: int, world: World, plot: Plot) -> None:
+        super().__init__(index, world, plot)
+        self._made = 0
+
     def propose(self) -> None:
-        """Makes the first block of both chains; what the halves build on them they make themselves."""
-        if self._plot.tips[0]:
+        """Makes two blocks on the highest one, for the halves to build on, and again once one half follows no more."""
+        if not self._plot.is_whole():
             return
+        base = self._plot.newest or frames.GENESIS
+        self._made += 1
         for half in (0, 1):
-            block = frames.tally_block(frames.GENESIS.id, 1, 1 + half, self._world.names[self.index])
+            note = self._world.names[self.index] + self._made.to_bytes(4, "big")
+            block = frames.tally_block(base.id, base.height + 1, 1 + half, note)
             self._plot.see(block)
-            self._plot.join(block, half)
+            self._plot.split(block, half)
             self._world.history.propose(block, self.index, self._world.schedule.now)
             for peer in range(half, len(self._world.names), 2):
                 self._show(block, peer)
@@ -116,6 +127,6 @@ class Splitter(Liar):
         if message.kind is Kind.ASK_BLOCK:
             block = self._plot.blocks.get(message.ids[0])
             return message.answer(blocks=(block.data,)) if block else None
-        if message.kind is Kind.ASK_QUERY and tip:
+        if message.kind is Kind.ASK_QUERY and tip is not frames.GENESIS:
             return message.answer(ids=(tip.id, tip.id))
         return None

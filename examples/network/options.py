@@ -10,6 +10,8 @@ from typing import Optional, Sequence
 import router
 from frames import Params
 
+SWEPT = [0.0, 0.05, 0.1, 0.2, 0.3]
+
 
 @dataclass(frozen=True)
 class Options:
@@ -41,7 +43,7 @@ class Options:
     streams: Optional[Path]
     report: Optional[Path]
     audit: Optional[str]
-    sweep: bool
+    sweep: Sequence[float]
     quiet: bool
 
     def late_nodes(self) -> range:
@@ -94,6 +96,10 @@ class Options:
 def _span(text: str) -> tuple[int, int]:
     low, _, high = text.partition(":")
     return int(low), int(high or low)
+
+
+def _shares(text: str) -> list[float]:
+    return [float(word) for word in text.split(",")]
 
 
 def _parser() -> argparse.ArgumentParser:
@@ -151,7 +157,9 @@ def _add_output(parser: argparse.ArgumentParser) -> None:
     output.add_argument("--streams", type=Path, metavar="FOLDER", help="keep the nodes' streams here")
     output.add_argument("--report", type=Path, metavar="FILE.html", help="write a page about the run")
     output.add_argument("--audit", metavar="PROGRAM", help="audit each node's stream with this program")
-    output.add_argument("--sweep", action="store_true", help="run over loss and liars, and print one table")
+    output.add_argument("--sweep", type=_shares, nargs="?", default=[], const=SWEPT, metavar="LOSS,LOSS..",
+                        help="run over these losses (0 to 30 %% where none are named) and over liars of up to a third "
+                             "of the weight, and print one table")
     output.add_argument("--quiet", action="store_true", help="no lines of progress")
 
 
@@ -169,7 +177,7 @@ def _complaint(given: argparse.Namespace) -> Optional[str]:
         return "there are at most 4,096 nodes"
     if not 0 <= given.delay[0] <= given.delay[1]:
         return "a delay is LEAST:MOST"
-    if not all(0 <= share <= 1 for share in (given.loss, given.conflicts, given.fault_rate)):
+    if not all(0 <= share <= 1 for share in (given.loss, given.conflicts, given.fault_rate, *given.sweep)):
         return "shares are from 0 to 1"
     if given.weights != "random" and not all(w.isdigit() and int(w) for w in given.weights.split(",")):
         return "weights are numbers above 0 with commas between, or 'random'"

@@ -13,7 +13,6 @@ from history import percentile
 from options import Options
 from simulation import Simulation
 
-LOSSES = (0.0, 0.05, 0.1, 0.2, 0.3)
 SHARES = (0.0, 1 / 12, 1 / 6, 1 / 4, 1 / 3)
 SEEDS = 3
 
@@ -49,7 +48,7 @@ def _row(options: Options, loss: float, share: float, samples: list[Sample]) -> 
     polls = sum(sample.polls for sample in samples) // len(samples)
     words = (f"{loss:.0%}", f"{share:.0%}", f"{sum(sample.finished for sample in samples)} of {len(samples)}", heights,
              _seconds(percentile(waited, 50)), _seconds(percentile(waited, 99)),
-             str(polls), str(sum(sample.parted for sample in samples)))
+             str(polls), f"{sum(sample.parted > 0 for sample in samples)} of {len(samples)}")
     return "| " + " | ".join(words) + " |"
 
 
@@ -58,7 +57,7 @@ def cases(options: Options) -> list[tuple[float, float, list[Options]]]:
     calm = replace(options, late=0, kill=0, change=False, streams=None, report=None, audit=None)
     return [(loss, calm_liars.liars_share(), [replace(calm_liars, loss=loss, seed=options.seed + i)
                                               for i in range(SEEDS)])
-            for loss in LOSSES
+            for loss in options.sweep
             for calm_liars in (replace(calm, liars=int(options.nodes * share)) for share in SHARES)]
 
 
@@ -67,8 +66,8 @@ def sweep(options: Options) -> int:
     print(f"{datetime.date.today()}, {platform.machine()}, {options.nodes} nodes, {options.heights} heights, "
           f"parameters {', '.join(map(str, options.params))}, liars {options.lie}, {options.tries} tries, at most "
           f"{options.limit / 1000:g} s of simulated time, seeds {options.seed} to {options.seed + SEEDS - 1}\n")
-    print("| loss | liars' weight | runs that accepted all | heights accepted by all nodes | median s | 99 of 100 s "
-          "| polls a node | disagreements |")
+    print("| loss | liars' weight | runs that accepted all | heights accepted by every node | median s | 99 of 100 s "
+          "| polls a node | runs that disagreed |")
     print("|---" * 8 + "|", flush=True)
     bad = 0
     with ProcessPoolExecutor() as pool:
