@@ -193,4 +193,7 @@ def read(words: Sequence[str]) -> Options:
         parser.error(complaint)
     values = vars(given)
     params = Params(*(values.pop(name) for name in Params._fields))
-    return Options(params=params, **values)
+    options = Options(params=params, **values)
+    if params.k > sum(options.first_weights()):
+        parser.error("k is above the weight of all nodes that have one at the beginning")
+    return options
