@@ -76,6 +76,8 @@ def main(given: Sequence[str]) -> int:
         return sweep.sweep(options)
     if options.streams:
         options.streams.mkdir(parents=True, exist_ok=True)
+        for kept in options.streams.glob("node-*.*"):
+            kept.unlink()  # of an earlier run; a node would begin with what its store has
         return run(options, options.streams)
     folder = Path(tempfile.mkdtemp(prefix="network-"))
     status = run(options, folder)
