@@ -9,6 +9,7 @@ at the limit, or a process ended badly; 4 where an audit says otherwise.
 """
 
 import shutil
+import signal
 import sys
 import tempfile
 from pathlib import Path
@@ -89,4 +90,5 @@ def main(given: Sequence[str]) -> int:
 
 
 if __name__ == "__main__":
+    signal.signal(signal.SIGTERM, lambda *_: sys.exit(128 + signal.SIGTERM))  # so that no process stays behind
     sys.exit(main(sys.argv[1:]))

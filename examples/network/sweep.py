@@ -42,7 +42,7 @@ def _seconds(value: Optional[int]) -> str:
     return "-" if value is None else f"{value / 1000:.2f}"
 
 
-def _row(options: Options, loss: float, share: float, samples: list[Sample]) -> str:
+def _row(loss: float, share: float, samples: list[Sample]) -> str:
     waited = sorted(time for sample in samples for time in sample.waited)
     heights = "/".join(str(sample.height) for sample in samples)
     polls = sum(sample.polls for sample in samples) // len(samples)
@@ -70,10 +70,13 @@ def sweep(options: Options) -> int:
           "| polls a node | runs that disagreed |")
     print("|---" * 8 + "|", flush=True)
     bad = 0
-    with ProcessPoolExecutor() as pool:
+    pool = ProcessPoolExecutor()
+    try:
         rows = [(loss, share, [pool.submit(_run, one) for one in runs]) for loss, share, runs in cases(options)]
         for loss, share, futures in rows:
             samples = [future.result() for future in futures]
             bad += sum(sample.parted + sample.complaints for sample in samples)
-            print(_row(options, loss, share, samples), flush=True)
+            print(_row(loss, share, samples), flush=True)
+    finally:
+        pool.shutdown(cancel_futures=True)
     return int(bad > 0)
