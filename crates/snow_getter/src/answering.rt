@@ -122,8 +122,7 @@ impl Getter {
     fn accepted_among(&self, ids: &[Id]) -> Result<Ids, AllocError>
         ensures { IfOk result (λ told. told ≡ accepted_among self.now ids.now) }
     {
-        let mut told: IndexSet<Id, IdHashing> =
-            IndexSet::with_hasher(self.alloc, IdHashing::new());
+        let mut told: IndexSet<Id, IdHashing> = IndexSet::with_hasher(self.alloc, IdHashing::new());
         for id in ids {
             if self.is_accepted(id) {
                 told.insert(*id)?;

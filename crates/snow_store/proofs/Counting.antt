@@ -31,10 +31,6 @@ of_some : (n m : ℕ) → Some n ≡ counted m → n ≡ m
 of_some n zero e = none_not n (sym e)
 of_some n (suc m) e = same_some n (suc m) e
 
-of_none : (m : ℕ) → None ≡ counted m → m ≡ 0
-of_none zero e = refl
-of_none (suc m) e = none_not (suc m) e
-
 none_counted : (m : ℕ) → m ≡ 0 → None ≡ counted m
 none_counted m e = ap counted (sym e)
 
@@ -46,9 +42,6 @@ some_there needs count id n counts is =
     positive : (m : ℕ) → Some n ≡ counted m → n ≡ m → 0 < n
     positive zero e same = none_not n (sym e)
     positive (suc m) e same = omega (arith, same)
-
-pub none_there : (needs : Table) (count : List ℕ → ℕ) (id : List ℕ) → Counts needs count → None ≡ get (slice_cmp nat_cmp) needs id → 0 ≡ count id
-none_there needs count id counts is = sym (of_none (count id) (is ∙ counts id))
 
 pub counts_same : (needs : Table) (a b : List ℕ → ℕ) → Counts needs a → ((q : List ℕ) → a q ≡ b q) → Counts needs b
 counts_same needs a b counts same q = counts q ∙ ap counted (same q)
@@ -92,13 +85,6 @@ removed before now id count change counts q = set_at before now id None change q
     by : (t : Bool) → cond t None (get (slice_cmp nat_cmp) before q) ≡ counted (if t then 0 else count q)
     by true = refl
     by false = counts q
-
-pub has_removed : (before now : Table) (id : List ℕ) → IsSet before id None now → (q : List ℕ) → has_need now q ≡ true → has_need before q ≡ true
-has_removed before now id change q e = by (bytes_eq id q) (get (slice_cmp nat_cmp) before q) (sym (ap is_some (set_at before now id None change q)) ∙ e)
-  where
-    by : (t : Bool) (o : Option ℕ) → is_some (cond t None o) ≡ true → is_some o ≡ true
-    by true o e = clash true refl (sym e)
-    by false o e = e
 
 -- one of more than one is left
 pub lessened : (before now : Table) (id : List ℕ) (n : ℕ) (count : List ℕ → ℕ) → IsSet before id (Some (n - 1)) now → n ≡ count id → 1 < n → Counts before count

@@ -1,7 +1,7 @@
 -- What is missed is known from one block to the next, and what is due covers what is newly missed.
-use Rattle.std.proofs.Common.{◌≡◌, ◌<◌, ℕ, Bool, true, false, ◌&&◌, ◌||◌, not, List, [], ◌∷◌, ◌++◌, Option, bytes_eq, if◌then◌else◌, refl, sym, ap, ◌∙◌, arith}
+use Rattle.std.proofs.Common.{◌≡◌, ◌<◌, ℕ, Bool, true, false, List, Option, bytes_eq, if◌then◌else◌, refl, sym, ap, ◌∙◌, arith}
 use Rattle.std.specs.BTreeMap.{BTreeMap}
-use Rattle.std.specs.List.{list_any, IsDistinct}
+use Rattle.std.specs.List.{IsDistinct}
 use Rattle.std.specs.Prelude.{is_some, Result, Ok, Err, OnOk, IfOk}
 use Rattle.snow_base.specs.declared.header.Header.{Header}
 use Rattle.snow_store.specs.declared.block.KeptBlock.{KeptBlock}
@@ -9,13 +9,13 @@ use Rattle.snow_store.specs.declared.due.Due.{Due}
 use Rattle.snow_store.specs.declared.due.Due.TheVariants as due
 use Rattle.snow_store.specs.declared.verdict.Verdict.{Verdict}
 use Rattle.snow_store.specs.declared.verdict.Verdict.TheVariants as verdict
-use Rattle.snow_store.specs.Coming.{noted, after_verdict}
+use Rattle.snow_store.specs.Coming.{after_verdict}
 use Rattle.snow_store.specs.Keeping.{Store, taken, keeping, after_taking}
 use Rattle.snow_store.specs.Linking.{IsLinked, held_heights}
-use Rattle.snow_store.specs.Needing.{need_at, names, is_missed, missing, counted, Counts, has_need, HasNeeds, with_more, with_less, with_none, passed_on, is_due, Covers}
+use Rattle.snow_store.specs.Needing.{need_at, names, is_missed, missing, counted, Counts, has_need, HasNeeds, with_more, with_less, with_none, passed_on, Covers}
 use Rattle.snow_store.specs.Paths.{Fetch, has_id, missed}
 use Rattle.snow_store.specs.Renewing.{fetch_by, MayRenew, IsRenewed}
-use Rattle.snow_store.proofs.Cases.{split_on, clash, same_id, any_turned}
+use Rattle.snow_store.proofs.Cases.{split_on, clash, same_id}
 use Rattle.snow_store.proofs.Holding.{held_first}
 use Rattle.snow_store.proofs.Counting.{counts_same, has_missed, missing_kept, missing_moved, missing_low}
 use Rattle.snow_store.proofs.Needed.{with_kept, with_found}
@@ -86,16 +86,6 @@ low_renewed f b needs more before itself may change = record { has = has; due = 
         by true e = clash true refl (sym e)
         by false e = e
 
--- a target that is inserted where it isn't yet is noted once
-pub noted_once : (targets found : List (List ℕ)) (id : List ℕ) → has_id targets id ≡ true → (if list_any (bytes_eq id) found then found else found ++ id ∷ []) ≡ noted targets found id
-noted_once targets found id among =
-    ap (λ (t : Bool). if t then found else found ++ id ∷ []) (any_turned found id) ∙ by_tests (has_id targets id) (has_id found id) among
-  where
-    by_tests : (u v : Bool) → u ≡ true → (if v then found else found ++ id ∷ []) ≡ (if u && not v then found ++ id ∷ [] else found)
-    by_tests true true e = refl
-    by_tests true false e = refl
-    by_tests false v e = clash true refl (sym e)
-
 -- it was kept before
 pub same_renewed : (f : Fetch) (needs : BTreeMap (List ℕ) ℕ) (before : Due) → HasNeeds needs f → IsRenewed f f before before needs
 same_renewed f needs before has = record { has = has; due = λ q is free. (is, free) }
@@ -109,27 +99,6 @@ covers_fewer before was is fewer q e free = (fewer q e, free)
 -- one after another
 pub covers_on : (a b c : Due) (x y z : List ℕ → Bool) → Covers a x b y → Covers b y c z → Covers a x c z
 covers_on a b c x y z one more q e free = let m = more q e free in one q m.0 m.1
-
--- one identifier more is missed and due
-pub covers_joined : (before after : Due) (id : List ℕ) (was is : List ℕ → Bool) → is_due after id ≡ true → ((q : List ℕ) → was q ≡ true → is_due after q ≡ false → is_due before q ≡ false)
-    → ((q : List ℕ) → is q ≡ (was q || bytes_eq id q)) → Covers before was after is
-covers_joined before after id was is at others grown q e free =
-    let there = or_other (was q) (bytes_eq id q) (sym (grown q) ∙ e) apart in (there, others q there free)
-  where
-    or_other : (u v : Bool) → (u || v) ≡ true → v ≡ false → u ≡ true
-    or_other true v e f = refl
-    or_other false v e f = clash v e f
-
-    apart : bytes_eq id q ≡ false
-    apart = split_on (bytes_eq id q) (λ same. clash (is_due after q) (ap (is_due after) (sym (same_id id q same)) ∙ at) free) (λ other. other)
-
--- an identifier that is missed already, or none
-pub covers_had : (before : Due) (missed : Option (List ℕ)) (was is : List ℕ → Bool) → ((q : List ℕ) → names missed q ≡ true → was q ≡ true) → ((q : List ℕ) → is q ≡ (was q || names missed q)) → Covers before was before is
-covers_had before missed was is had grown q e free = (by (was q) (names missed q) refl (sym (grown q) ∙ e) (had q), free)
-  where
-    by : (u v : Bool) → was q ≡ u → (u || v) ≡ true → (v ≡ true → was q ≡ true) → was q ≡ true
-    by true v is e there = is
-    by false v is e there = there e
 
 -- one that isn't missed any more is another than those that are
 pub other_due : (needs : BTreeMap (List ℕ) ℕ) (x q : List ℕ) → has_need needs x ≡ false → has_need needs q ≡ true → bytes_eq x q ≡ false

@@ -74,11 +74,7 @@ pub fn gather<H: Kept>(
 }
 
 // So many targets more miss this.
-fn add(
-    needs: &mut BTreeMap<Id, u64>,
-    missed: &Option<Id>,
-    targets: u64,
-) -> Result<(), AllocError>
+fn add(needs: &mut BTreeMap<Id, u64>, missed: &Option<Id>, targets: u64) -> Result<(), AllocError>
     ensures counts { OnOk result ((count : List ℕ → ℕ) → 0 < targets → Counts needs.old count → Counts needs.new (with_more missed.now targets count)) }
     ensures has { OnOk result ((q : List ℕ) → has_need needs.new q ≡ (has_need needs.old q || names missed.now q)) }
 {
