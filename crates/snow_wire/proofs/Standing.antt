@@ -11,8 +11,8 @@ use Rattle.snow_wire.specs.declared.sent.SentVote.{SentVote}
 use Rattle.snow_wire.specs.declared.skip.Skip.{Skip}
 use Rattle.snow_wire.specs.declared.skip.Skip.TheVariants as skip
 use Rattle.snow_wire.specs.Spelling.{number, sender, spelling, sized, counted}
-use Rattle.snow_wire.specs.Reading.{Extra, Fault, IsBytes, Read, Refuses, TakesNoMemory, ◌>>=◌, number_at, id_at, block_at, counted_at, single_at, sender_at, message_at, fields_at, event_of}
-use Rattle.snow_wire.specs.Sent.{as_event, as_poll, as_timeout, as_vote}
+use Rattle.snow_wire.specs.Reading.{Extra, Fault, IsBytes, Read, Refuses, TakesNoMemory, ◌>>=◌, number_at, id_at, block_at, counted_at, sized_at, single_at, sender_at, message_at, fields_at, event_of}
+use Rattle.snow_wire.specs.Sent.{as_event, as_line, as_poll, as_timeout, as_vote}
 use Rattle.snow_wire.proofs.Numbers.{width1}
 use Rattle.snow_wire.proofs.Fields.{bind_ok, when, number_field}
 use Rattle.snow_wire.proofs.Events.{event_taken, one_byte}
@@ -168,3 +168,25 @@ pub poll_absent : (bytes : List ℕ) → IsBytes bytes → ((rest : List ℕ) �
     → (ids : List (List ℕ)) → event_of bytes ≢ Ok (event.Poll ids)
 unfolding spelling
 poll_absent bytes fits other ids = sent_absent 3 (counted (λ id. id) ids) (event.Poll ids) refl (omega arith) bytes fits other
+
+-- ---- a line
+
+line_fields : fields_at 17 ≡ single_at (sized_at 1100000) event.Line
+unfolding fields_at
+line_fields = refl
+
+pub line_found : (bytes rest : List ℕ) (found : Option (Bor (List ℕ))) → number_at 1 bytes ≡ Ok (17, rest)
+    → IfSome found (λ text. single_at (sized_at 1100000) event.Line rest ≡ Ok (as_line text, []))
+    → IfSome found (λ text. event_of bytes ≡ Ok (as_line text))
+line_found bytes rest found r only = sent_found as_line 17 (single_at (sized_at 1100000) event.Line) bytes rest found line_fields r only
+
+pub line_lost : (bytes rest : List ℕ) (found : Option (Bor (List ℕ))) → number_at 1 bytes ≡ Ok (17, rest)
+    → IfNone found ((e : Event) → single_at (sized_at 1100000) event.Line rest ≢ Ok (e, []))
+    → IfNone found ((text : List ℕ) → event_of bytes ≢ Ok (event.Line text))
+line_lost bytes rest (Some text) r none = tt
+line_lost bytes rest None r none = λ text. sent_lost 17 (single_at (sized_at 1100000) event.Line) bytes rest line_fields r none (event.Line text)
+
+pub line_absent : (bytes : List ℕ) → IsBytes bytes → ((rest : List ℕ) → number_at 1 bytes ≢ Ok (17, rest))
+    → (text : List ℕ) → event_of bytes ≢ Ok (event.Line text)
+unfolding spelling
+line_absent bytes fits other text = sent_absent 17 (sized text) (event.Line text) refl (omega arith) bytes fits other

@@ -1,4 +1,4 @@
--- A block, a vote, a timeout and a poll whose bytes stand where they came.
+-- A block, a vote, a timeout, a poll and a line whose bytes stand where they came.
 use Rattle.std.specs.Prelude.{ℕ, ◌/◌, List, length}
 use Rattle.std.specs.Borrow.{Bor}
 use Rattle.std.specs.Simd.{first_chunks}
@@ -20,3 +20,6 @@ as_timeout timeout = event.Timeout timeout.node.now timeout.request
 
 abbrev pub as_poll : Bor (List ℕ) → Event
 as_poll bytes = event.Poll (first_chunks 32 (length bytes.now / 32) bytes.now)
+
+abbrev pub as_line : Bor (List ℕ) → Event
+as_line text = event.Line text.now

@@ -22,5 +22,5 @@ pub use encoding::encode;
 pub use event::{Event, Start};
 pub use frame::{Frame, TooLong, first_frame};
 pub use laws::{one_reading, one_spelling};
-pub use sent::{SentBlock, SentTimeout, SentVote, block_in, poll_in, timeout_in, vote_in};
+pub use sent::{SentBlock, SentTimeout, SentVote, block_in, line_in, poll_in, timeout_in, vote_in};
 pub use skip::Skip;

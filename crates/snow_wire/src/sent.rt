@@ -1,11 +1,12 @@
 ghost use Rattle.std.specs.Prelude.{◌≡◌, ◌≢◌, ℕ, List, [], length, true, false, Ok, IfSome, IfNone};
-ghost use Rattle.snow_wire.specs.Reading.{ReadsAs, TakesNoMemory, block_at, counted_at, event_of, id_at, message_at, number_at, sender_at, single_at};
-ghost use Rattle.snow_wire.specs.Sent.{as_event, as_poll, as_timeout, as_vote};
+ghost use Rattle.snow_wire.specs.Reading.{ReadsAs, TakesNoMemory, block_at, counted_at, event_of, id_at, message_at, number_at, sender_at, single_at, sized_at};
+ghost use Rattle.snow_wire.specs.Sent.{as_event, as_line, as_poll, as_timeout, as_vote};
 ghost use Rattle.snow_wire.specs.declared.event.Event.{Event};
 ghost use Rattle.snow_wire.specs.declared.event.Event.TheVariants as event;
 
 use crate::field::MAX_BLOCK;
 use crate::reader::{Reader, put_ids};
+use crate::setup::MAX_LINE;
 use crate::skip::Skip;
 use snow_base::{Ids, NodeId};
 use std::alloc::AllocError;
@@ -121,6 +122,18 @@ fn behind(payload: &[u8], tag: u8, long: usize) -> Option<Reader<'_>>
     if payload.len() != long {
         return None;
     }
+    let mut reader = Reader::new(payload);
+    let Ok(first) = reader.u8() else {
+        return None;
+    };
+    if first == tag { Some(reader) } else { None }
+}
+
+/// What stands behind this tag, where a payload begins with it.
+fn behind_tag(payload: &[u8], tag: u8) -> Option<Reader<'_>>
+    ensures found { IfSome result (λ rest. number_at 1 payload.now ≡ Ok (tag, rest)) }
+    ensures none { IfNone result ((rest : List ℕ) → number_at 1 payload.now ≢ Ok (tag, rest)) }
+{
     let mut reader = Reader::new(payload);
     let Ok(first) = reader.u8() else {
         return None;
@@ -260,4 +273,42 @@ fn read_votes<'a>(reader: &mut Reader<'a>) -> Result<&'a [u8], Skip>
     let count = reader.count(1024)?;
     let bytes = reader.id_bytes(count)?;
     Ok(bytes)
+}
+
+/// The text of the line that a payload records, where it spells a Line: the event that `decode` gives,
+/// and no byte is copied. It takes no memory. None for all other payloads.
+pub fn line_in(payload: &[u8]) -> Option<&[u8]>
+    ensures found { IfSome result (λ text. event_of payload.now ≡ Ok (as_line text)) }
+    ensures none { IfNone result ((text : List ℕ) → event_of payload.now ≢ Ok (event.Line text)) }
+{
+    match behind_tag(payload, 17) {
+        Some(mut reader) => only_line(&mut reader),
+        None => None,
+    }
+}
+
+/// The field of a Line behind its tag, where no bytes are behind it.
+fn only_line<'a>(reader: &mut Reader<'a>) -> Option<&'a [u8]>
+    ensures found { IfSome result (λ text. single_at (sized_at 1100000) event.Line reader.old ≡ Ok (as_line text, [])) }
+    ensures none { IfNone result ((e : Event) → single_at (sized_at 1100000) event.Line reader.old ≢ Ok (e, [])) }
+{
+    match read_line(reader) {
+        Ok(text) => {
+            if reader.rest_len() > 0 {
+                return None;
+            }
+            Some(text)
+        }
+        Err(_) => None,
+    }
+}
+
+/// The field of a Line behind its tag.
+#[tactic(auto, unfolding(crate::specs::Reading::single_at))]
+fn read_line<'a>(reader: &mut Reader<'a>) -> Result<&'a [u8], Skip>
+    ensures read { ReadsAs (λ text. as_line text) result reader.new (single_at (sized_at 1100000) event.Line reader.old) }
+    ensures memory { TakesNoMemory result }
+{
+    let text = reader.slice(MAX_LINE)?;
+    Ok(text)
 }

@@ -10,7 +10,7 @@ use crate::skip::Skip;
 use std::alloc::Global;
 
 /// The greatest length of a line.
-const MAX_LINE: u32 = 1_100_000;
+pub(crate) const MAX_LINE: u32 = 1_100_000;
 
 #[inline(never)]
 #[tactic(auto, unfolding(crate::specs::Reading::start_at))]

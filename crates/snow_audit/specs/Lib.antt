@@ -1,0 +1,5 @@
+pub mod Answering
+pub mod Auditing
+pub mod Following
+pub mod Recording
+pub mod Sheet

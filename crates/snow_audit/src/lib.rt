@@ -1,0 +1,8 @@
+//! The audit of a run: whether the lines that a run wrote are those of the model.
+#![tactic(auto)]
+
+mod auditing;
+mod following;
+mod sheet;
+
+pub use auditing::{AuditEnd, audit};
