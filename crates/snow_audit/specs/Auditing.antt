@@ -94,14 +94,18 @@ opened_first (Some e) answer = audit.Stopped e
 opened_first None answer = answer
 
 abbrev pub answer_of : List Compared → End → AuditEnd
-answer_of [] stream = audit.Stopped stream
+answer_of [] stream = ends_as 0 None stream
 answer_of (first ∷ later) stream = opened_first first.stop (through 0 stream None (first ∷ later))
 
 -- ---- the whole
 
--- how a stream ends that no frame stops: behind these frames comes this rest, and nothing more is looked at
+-- a stream that no frame stops is done behind whole frames, of which there has to be one
+abbrev pub behind_frames : ℕ → Stand
+behind_frames frames = if frames == 0 then Fresh else Stopped end.Done
+
+-- how a stream ends that no frame stops: behind so many frames comes this rest, and nothing more is looked at
 abbrev pub stream_end : ℕ → List ℕ → Bool → End
-stream_end frames rest is_full = if frames == 0 then end_after Fresh 0 rest is_full else end_after (Stopped end.Done) frames rest is_full
+stream_end frames rest is_full = end_after (behind_frames frames) frames rest is_full
 
 -- a stream that ends otherwise than behind whole frames breaks off
 abbrev pub breaks_off : End → Bool

@@ -1,5 +1,7 @@
 -- An audit as its frames come: what is kept between two of them, and what a frame makes of it.
-use Rattle.std.specs.Prelude.{◌≡◌, ℕ, ◌+◌, Bool, true, false, ◌||◌, if◌then◌else◌, List, [], ◌∷◌, map, drop, Option, Some, None, Result, Ok, Err, bytes_eq, ⊤}
+use Rattle.std.specs.Prelude.{◌≡◌, ℕ, ◌+◌, Bool, true, false, if◌then◌else◌, List, [], ◌∷◌, ◌++◌, map, drop, length, Option, Some, None, Result, Ok, Err, bytes_eq, ⊤}
+use Rattle.snow_wire.specs.Frame.{frames_of}
+use Rattle.snow_wire.specs.Stream.{Intake}
 use Rattle.snow_lines.specs.declared.line.Line.{Line}
 use Rattle.snow_lines.specs.Text.{text}
 use Rattle.snow_engine.specs.declared.end.End.{End}
@@ -11,7 +13,7 @@ use Rattle.snow_engine.specs.Serving.{stand_of}
 use Rattle.snow_audit.specs.declared.auditing.AuditEnd.{AuditEnd}
 use Rattle.snow_audit.specs.declared.auditing.AuditEnd.TheVariants as audit
 use Rattle.snow_audit.specs.Recording.{line_in}
-use Rattle.snow_audit.specs.Auditing.{Steps, at_frame, breaks_off, ends_as}
+use Rattle.snow_audit.specs.Auditing.{Steps, at_frame, breaks_off, ends_as, stream_end}
 
 -- where the run stands, how many events and how many recorded lines came, and the texts of the last event's lines that are still
 -- to be recorded
@@ -50,11 +52,12 @@ standing_at frame (Stopped e) = Stopped (at_frame e frame)
 standing_at frame Fresh = Fresh
 standing_at frame (Going node) = Going node
 
--- the run took its next event
+-- the run took its next event, of which this came
+abbrev pub stepped_to : Between → ℕ → List Line × Stand → Between
+stepped_to b frame now = record { stand = standing_at frame now.1; events = b.events + 1; lines = b.lines; owed = map text now.0 }
+
 abbrev pub stepped : Steps → Between → ℕ → List ℕ → Between
-stepped steps b frame payload =
-    let now = steps b.stand (b.events + 1) payload in
-    record { stand = standing_at frame now.1; events = b.events + 1; lines = b.lines; owed = map text now.0 }
+stepped steps b frame payload = stepped_to b frame (steps b.stand (b.events + 1) payload)
 
 -- an event comes: behind a stop there is none
 abbrev pub event_then : Between → Stand → Between → Result Between AuditEnd
@@ -85,15 +88,16 @@ frame_comes steps b frame payload =
 
 -- ---- the end
 
--- no frame comes any more
-abbrev pub stood_at_end : ℕ → Stand → End → AuditEnd
-stood_at_end lines Fresh stream = audit.Stopped stream
-stood_at_end lines (Going node) stream = ends_as lines None stream
-stood_at_end lines (Stopped e) stream = audit.Stopped e
+-- the stop where a run stands
+abbrev pub stop_of : Stand → Option End
+stop_of Fresh = None
+stop_of (Going node) = None
+stop_of (Stopped e) = Some e
 
+-- no frame comes any more
 abbrev pub at_end : Between → List (List ℕ) → End → AuditEnd
-at_end b [] stream = stood_at_end b.lines b.stand stream
-at_end b (first ∷ others) stream = if breaks_off stream then stood_at_end b.lines b.stand stream else audit.Differs (b.lines + 1)
+at_end b [] stream = ends_as b.lines (stop_of b.stand) stream
+at_end b (first ∷ others) stream = if breaks_off stream then ends_as b.lines (stop_of b.stand) stream else audit.Differs (b.lines + 1)
 
 -- ---- all frames
 
@@ -107,6 +111,12 @@ unfoldable pub follows : Steps → End → ℕ → List (List ℕ) → Between �
 follows steps stream frame [] b = at_end b b.owed stream
 follows steps stream frame (payload ∷ payloads) b = goes_on (frame_comes steps b frame payload) (follows steps stream (frame + 1) payloads)
 
+-- the frames among these bytes and those that follow
+abbrev pub finish : Steps → Intake → List ℕ → Bool → Between → AuditEnd
+finish steps intake more is_full b =
+    let frames = frames_of (intake.rest ++ more) in
+    follows steps (stream_end (intake.given + length frames.0) frames.1 is_full) (intake.given + 1) frames.0 b
+
 -- ---- what is kept in code
 
 -- where a run stands that stopped so, or has this node, or none yet
@@ -117,6 +127,14 @@ stands None engine = stand_of engine
 -- the texts of lines of which so many were recorded
 abbrev pub owed_of : ℕ → List Line → List (List ℕ)
 owed_of at log = map text (drop at log)
+
+abbrev pub between : Option End → Option Node → ℕ → ℕ → ℕ → List Line → Between
+between stop engine events lines at log = record { stand = stands stop engine; events = events; lines = lines; owed = owed_of at log }
+
+-- how a run stopped, if it did, is told by one of its frames
+abbrev pub IsKept : Option End → Type 0
+IsKept None = ⊤
+IsKept (Some e) = is_stop e ≡ true
 
 -- an answer that frames give: no fault, and never that all is done
 abbrev pub is_found : AuditEnd → Bool
@@ -129,3 +147,9 @@ abbrev pub Moves : {T : Type 0} → Result T AuditEnd → Between → Result Bet
 Moves (Ok x) now expected = expected ≡ Ok now
 Moves (Err (audit.Stopped end.Memory)) now expected = ⊤
 Moves (Err answer) now expected = (is_found answer ≡ true) × (expected ≡ Err answer)
+
+-- frames came: what is left to do is the same from there, or the audit has its answer, or memory ran out
+abbrev pub Took : {T : Type 0} → Result T AuditEnd → Steps → Intake → Between → Intake → Between → Type 0
+Took (Ok x) steps intake b next now = (more : List ℕ) (is_full : Bool) → finish steps intake more is_full b ≡ finish steps next more is_full now
+Took (Err (audit.Stopped end.Memory)) steps intake b next now = ⊤
+Took (Err answer) steps intake b next now = (is_found answer ≡ true) × ((more : List ℕ) (is_full : Bool) → finish steps intake more is_full b ≡ answer)

@@ -2,6 +2,7 @@
 #![tactic(auto)]
 
 mod auditing;
+mod auditor;
 mod following;
 mod sheet;
 
