@@ -35,6 +35,7 @@ use std::alloc::Global;
 /// `SinkFault` and `Memory` end a run behind a front of its lines. The line on `err` tells how it ended,
 /// unless it is `Done` or `Differs`. The words, the formats and the statuses are this project's own; what is decided
 /// is what AvalancheGo's package `snow` decides with one-bit counters of the Snow family paper.
+#[tactic(auto, using(crate::proofs::Finished::answered, crate::proofs::Finished::no_usage))]
 pub fn top<S: Source, O: Sink, E: Sink>(
     alloc: Global,
     words: &Vec<String>,
@@ -73,7 +74,7 @@ pub fn top<S: Source, O: Sink, E: Sink>(
 }
 
 /// The run of a command.
-#[tactic(auto, using(crate::proofs::Finished::played_finish, crate::proofs::Finished::ended_wrote, crate::proofs::Finished::ended_fault, crate::proofs::Finished::source_fault_is, crate::proofs::Finished::done_is))]
+#[tactic(auto, using(crate::proofs::Finished::ended_finish, crate::proofs::Finished::ended_wrote, crate::proofs::Finished::ended_fault, crate::proofs::Finished::source_fault_is, crate::proofs::Finished::done_is))]
 fn perform<S: Source, O: Sink>(
     alloc: Global,
     command: Command,
