@@ -1,6 +1,8 @@
 -- How a command ends, by how a run ended and by what an audit found.
 use Rattle.std.proofs.Common.{◌≡◌, ℕ, List, [], ◌++◌, Option, Some, None, refl, sym, ap, subst, ◌∙◌, append-nil}
+use Rattle.std.specs.Prelude.{IfSome}
 use Rattle.std.specs.Io.KnownBytes.{Appends}
+use Rattle.std.proofs.lemmas.Option.{IfSome_then}
 use Rattle.snow_base.specs.Outside.{AppendsFront}
 use Rattle.snow_engine.specs.declared.end.End.{End}
 use Rattle.snow_engine.specs.declared.end.End.TheVariants as end
@@ -111,7 +113,7 @@ tells_finish : (f : Finish) (found expected : AuditEnd) (before after : Option (
 tells_finish f found expected before after fb fa same (Whole is whole) = told_whole f found expected same is
 tells_finish f found expected before after fb fa same (Front is front rose) = failed_finish f (audit_finish expected) is
 
-pub told_finish : (f : Finish) (found expected : AuditEnd) (before after : Option (List ℕ)) (fb fa : ℕ) → auditing.IsAnswer found expected
+told_finish : (f : Finish) (found expected : AuditEnd) (before after : Option (List ℕ)) (fb fa : ℕ) → auditing.IsAnswer found expected
     → Told f found before after fb fa → IsFinish f (audit_finish expected)
 told_finish f (audit.Same lines) expected before after fb fa same told = tells_finish f (audit.Same lines) expected before after fb fa same told
 told_finish f (audit.Differs line) expected before after fb fa same told = tells_finish f (audit.Differs line) expected before after fb fa same told
@@ -141,7 +143,7 @@ tells_wrote : (f g : Finish) (before after : Option (List ℕ)) (fb fa : ℕ) (l
 tells_wrote f g before after fb fa line enough (Whole is whole) = subst (λ (h : Finish). WroteBy h before after line) (sym is) (enough whole)
 tells_wrote f g before after fb fa line enough (Front is front rose) = subst (λ (h : Finish). WroteBy h before after line) (sym is) front
 
-pub told_wrote : (f : Finish) (found expected : AuditEnd) (before after : Option (List ℕ)) (fb fa : ℕ) → auditing.IsAnswer found expected
+told_wrote : (f : Finish) (found expected : AuditEnd) (before after : Option (List ℕ)) (fb fa : ℕ) → auditing.IsAnswer found expected
     → Told f found before after fb fa → Wrote (status_of (Some f)) before after (audit_text expected)
 told_wrote f (audit.Same lines) expected before after fb fa same told =
     subst (λ (x : AuditEnd). WroteBy f before after (audit_text x)) same
@@ -226,3 +228,14 @@ told_fault f (audit.Differs line) before after sb sa fb fa not h told =
     tells_fault f finish.Differs before after sb sa fb fa (audit_text (audit.Differs line)) tt told
 told_fault f (audit.Stopped e) before after sb sa fb fa not h told =
     subst (λ (g : Finish). HasFault (status_of (Some g)) sb sa fb fa) (sym told.0) (stopped_fault e sb sa fb fa not h)
+
+-- ---- the same where the source tells its bytes
+
+module _ (left : Option (List ℕ)) (model : List ℕ → AuditEnd) (f : Finish) (found : AuditEnd) (before after : Option (List ℕ)) (fb fa : ℕ) where
+  pub finish_known : IfSome left (λ bytes. auditing.IsAnswer found (model bytes)) → Told f found before after fb fa
+      → IfSome left (λ bytes. IsFinish f (audit_finish (model bytes)))
+  finish_known answer told = IfSome_then left {P = λ bytes. auditing.IsAnswer found (model bytes)} {Q = λ bytes. IsFinish f (audit_finish (model bytes))} answer (λ bytes is. told_finish f found (model bytes) before after fb fa is told)
+
+  pub wrote_known : IfSome left (λ bytes. auditing.IsAnswer found (model bytes)) → Told f found before after fb fa
+      → IfSome left (λ bytes. Wrote (status_of (Some f)) before after (audit_text (model bytes)))
+  wrote_known answer told = IfSome_then left {P = λ bytes. auditing.IsAnswer found (model bytes)} {Q = λ bytes. Wrote (status_of (Some f)) before after (audit_text (model bytes))} answer (λ bytes is. told_wrote f found (model bytes) before after fb fa is told)
