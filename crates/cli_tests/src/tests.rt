@@ -7,6 +7,7 @@ mod drills;
 mod faults;
 mod idle;
 mod inputs;
+mod ledgers;
 mod runs;
 mod scarce;
 mod streams;

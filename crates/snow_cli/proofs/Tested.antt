@@ -20,7 +20,7 @@ abbrev pub task_names : List Text
 task_names = codes "decide" ∷ codes "run" ∷ codes "drill" ∷ []
 
 abbrev pub chain_names : List Text
-chain_names = codes "plain" ∷ codes "tally" ∷ []
+chain_names = codes "plain" ∷ codes "tally" ∷ codes "ledger" ∷ []
 
 abbrev pub rule_names : List Text
 rule_names = codes "snowball" ∷ codes "snowflake" ∷ []
@@ -51,9 +51,14 @@ ChainIs v = chain_named v ≡ cond (is_one chain_names v) (Some (chain_read (Som
 chain_is : (v : Text) → ChainIs v
 chain_is v = at_plain (bytes_eq v (codes "plain")) refl
   where
+    at_ledger : (is : Bool) → bytes_eq v (codes "ledger") ≡ is → bytes_eq v (codes "tally") ≡ false → bytes_eq v (codes "plain") ≡ false → ChainIs v
+    at_ledger true e tally plain = subst ChainIs (sym (same v (codes "ledger") e)) refl
+    at_ledger false e tally plain =
+        rw (plain, tally, e, turned v (codes "plain") plain, turned v (codes "tally") tally, turned v (codes "ledger") e) refl
+
     at_tally : (is : Bool) → bytes_eq v (codes "tally") ≡ is → bytes_eq v (codes "plain") ≡ false → ChainIs v
     at_tally true e plain = subst ChainIs (sym (same v (codes "tally") e)) refl
-    at_tally false e plain = rw (plain, e, turned v (codes "plain") plain, turned v (codes "tally") e) refl
+    at_tally false e plain = at_ledger (bytes_eq v (codes "ledger")) refl e plain
 
     at_plain : (is : Bool) → bytes_eq v (codes "plain") ≡ is → ChainIs v
     at_plain true e = subst ChainIs (sym (same v (codes "plain") e)) refl

@@ -41,6 +41,10 @@ pub another_rule : command_of (codes "decide" ∷ codes "--rule" ∷ codes "snow
 unfolding command_of items
 another_rule = refl
 
+pub the_third_chain : command_of (codes "run" ∷ codes "--chain=ledger" ∷ []) ≡ Some (command.Serve task.Run chain.Ledger rule.Snowball)
+unfolding command_of items
+the_third_chain = refl
+
 pub a_running_task : command_of (codes "run" ∷ []) ≡ Some (command.Serve task.Run chain.Plain rule.Snowball)
 unfolding command_of items
 a_running_task = refl
@@ -141,7 +145,7 @@ pub second_equals : command_of (codes "--chain==plain" ∷ codes "decide" ∷ []
 unfolding command_of items
 second_equals = refl
 
-pub another_value : command_of (codes "decide" ∷ codes "--chain" ∷ codes "ledger" ∷ []) ≡ None
+pub another_value : command_of (codes "decide" ∷ codes "--chain" ∷ codes "book" ∷ []) ≡ None
 unfolding command_of items
 another_value = refl
 

@@ -13,6 +13,7 @@ use Rattle.snow_store.specs.declared.stop.BootStop.TheVariants as boot
 use Rattle.snow_chain.specs.Chain.{Rules}
 use Rattle.snow_chain.specs.Plain.{plain_rules}
 use Rattle.snow_chain.specs.Tally.{tally_rules}
+use Rattle.snow_ledger.specs.Ledger.{ledger_rules}
 use Rattle.snow_lines.specs.Text.{texts}
 use Rattle.snow_engine.specs.declared.task.Task.TheVariants as task
 use Rattle.snow_engine.specs.Node.{started, step}
@@ -39,6 +40,7 @@ use Rattle.snow_cli.specs.declared.status.Status.TheVariants as status
 abbrev pub rules_of : ChainName → Rules
 rules_of chain.Plain = plain_rules
 rules_of chain.Tally = tally_rules
+rules_of chain.Ledger = ledger_rules
 
 -- the rule that a name chooses
 abbrev pub answer_of : RuleName → Answer

@@ -87,7 +87,10 @@ ordered r = in_order r.task r
 -- the chain of a tested name, or the default
 abbrev pub chain_read : Option Text → ChainName
 chain_read None = chain.Plain
-chain_read (Some value) = if bytes_eq value (codes "tally") then chain.Tally else chain.Plain
+chain_read (Some value) =
+    if bytes_eq value (codes "tally") then chain.Tally
+    else if bytes_eq value (codes "ledger") then chain.Ledger
+    else chain.Plain
 
 -- the rule of a tested name, or the default
 abbrev pub rule_read : Option Text → RuleName

@@ -149,6 +149,7 @@ abbrev pub chain_named : List ℕ → Option ChainName
 chain_named value =
     if bytes_eq value (codes "plain") then Some chain.Plain
     else if bytes_eq value (codes "tally") then Some chain.Tally
+    else if bytes_eq value (codes "ledger") then Some chain.Ledger
     else None
 
 -- the rule of a name

@@ -7,6 +7,9 @@ pub enum ChainName {
     Plain,
     /// `tally`: blocks known by their SHA-256, each with an amount that may not lift a sum above a cap.
     Tally,
+    /// `ledger`: blocks known by their SHA-256, each with transfers between accounts that their senders'
+    /// balances have to cover.
+    Ledger,
 }
 
 /// How a counter that isn't decided answers, as a word of the command line names it.

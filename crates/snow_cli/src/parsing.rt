@@ -15,7 +15,7 @@ use std::alloc::{AllocError, Global};
 static TASKS: [&str; 3] = ["decide", "run", "drill"];
 
 /// The names of the chains.
-static CHAINS: [&str; 2] = ["plain", "tally"];
+static CHAINS: [&str; 3] = ["plain", "tally", "ledger"];
 
 /// The names of the rules.
 static RULES: [&str; 2] = ["snowball", "snowflake"];
@@ -179,6 +179,7 @@ fn chain_of(name: Option<&str>) -> ChainName
 {
     match name {
         Some("tally") => ChainName::Tally,
+        Some("ledger") => ChainName::Ledger,
         _ => ChainName::Plain,
     }
 }

@@ -15,6 +15,7 @@ use snow_chain::{Chain, PlainChain, TallyChain};
 use snow_drill::drill;
 use snow_engine::{End, Task, serve};
 use snow_flake::{Snowball, Snowflake};
+use snow_ledger::LedgerChain;
 use snow_topo::Topo;
 use std::alloc::Global;
 
@@ -76,6 +77,7 @@ fn perform<S: Source, O: Sink>(alloc: Global, command: Command, source: &mut S, 
         Command::Serve { task, chain, rule } => match chain {
             ChainName::Plain => run::<PlainChain, S, O>(alloc, task, rule, source, out),
             ChainName::Tally => run::<TallyChain, S, O>(alloc, task, rule, source, out),
+            ChainName::Ledger => run::<LedgerChain, S, O>(alloc, task, rule, source, out),
         },
         Command::Drill { rule, seed, blocks } => play(alloc, rule, seed, blocks, out),
     }

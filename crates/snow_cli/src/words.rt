@@ -7,8 +7,9 @@ use crate::parsing::command_of_ordered;
 use std::alloc::{AllocError, Global};
 
 /// What the words of the command line, without the program's name, ask for: the task `decide` or `run` with
-/// `--chain plain` or `--chain tally`, and `--rule snowball` or `--rule snowflake`, where the first of
-/// each is the default. There is none where a word has no place, or an option stands twice.
+/// `--chain plain`, `--chain tally` or `--chain ledger`, and `--rule snowball` or `--rule snowflake`,
+/// where the first of each is the default. There is none where a word has no place, or an option stands
+/// twice.
 #[tactic(auto, using(crate::proofs::Whole::none_in_order, crate::proofs::Whole::asks))]
 pub fn read_words(alloc: Global, words: &Vec<String>) -> Result<Option<Command>, AllocError>
     ensures { IfOk result (λ command. command ≡ command_of (map string_bytes words.now.items)) }

@@ -24,7 +24,7 @@ fn answers(rt: HostRuntime) -> Result<(), Fail> {
         rule: RuleName::Snowflake,
     };
     assert!(rt; command == Some(expected));
-    let words = collect(alloc, &["decide", "--chain", "ledger"])?;
+    let words = collect(alloc, &["decide", "--chain", "book"])?;
     assert!(rt; read_words(alloc, &words)?.is_none());
     Ok(())
 }

@@ -1,0 +1,138 @@
+ghost use Rattle.std.specs.Prelude.{◌≡◌, IfOk};
+ghost use Rattle.std.specs.Option.{option_map};
+ghost use Rattle.snow_chain.specs.Chain.{next_on};
+ghost use Rattle.snow_ledger.specs.Ledger.{ledger_rules};
+
+use crate::block::header_of;
+use crate::state::{is_state, next, numbers};
+use snow_base::{Header, Id, Nums};
+use snow_chain::{Chain, ChainFault, States};
+use std::alloc::{AllocError, Global};
+use std::marker::Model;
+
+/// The ledger chain. A block is its parent of 32 bytes, its height of 8, a count of 2, and so many
+/// transfers of 20 bytes; its identifier is the SHA-256 digest of all its bytes. A state is the balance
+/// and the next sequence of each account, whose balances add up to at most 2^64-1, and a block is valid
+/// where each of its transfers is good after those before it. The kind is this project's own, and the
+/// digest that of FIPS 180-4.
+#[derive(Drop)]
+pub struct LedgerChain {
+    states: States,
+}
+
+impl Model for LedgerChain {
+    ghost use Rattle.snow_chain.specs.Chain.{Held};
+    ghost use Rattle.snow_chain.specs.Coded.{coded_held};
+
+    ghost Value = { Held };
+
+    ghost coded = { coded_held };
+
+    ghost view = { λ a. a.states };
+}
+
+impl LedgerChain {
+    ghost use Rattle.std.specs.Prelude.{◌≡◌, ℕ, ◌<◌, List, None, Some, true, nat_lt, if◌then◌else◌};
+    ghost use Rattle.snow_chain.specs.Alone.{last_state};
+    ghost use Rattle.snow_ledger.specs.Ledger as ledger;
+    ghost use Rattle.snow_ledger.specs.Law.{followed, transfers_along};
+
+    /// The states that it holds.
+    pub fn states(&self) -> &States
+        ensures { result.now ≡ self.now }
+    {
+        &self.states
+    }
+
+    /// How many accounts the state of the last accepted block has.
+    pub fn accounts(&self) -> usize
+        ensures { result ≡ ledger.accounts (last_state self.now) }
+    {
+        self.last_state().len() / 2
+    }
+
+    /// The balance of an account, counted from 0, in the state of the last accepted block. There is none
+    /// exactly where there is no such account.
+    pub fn balance(&self, account: usize) -> Option<u64>
+        ensures held { result ≡ (if nat_lt account (ledger.accounts (last_state self.now)) then Some (ledger.held (last_state self.now) account) else None) }
+        // After a path of valid blocks it is what all their transfers leave of the first balance.
+        ensures path { (first : List ℕ) (blocks : List (List ℕ)) → ledger.takes first ≡ true → followed first blocks ≡ Some (last_state self.now)
+            → account < ledger.accounts first → result ≡ Some (ledger.balance first (transfers_along blocks) account) }
+    {
+        if account >= self.accounts() {
+            return None;
+        }
+        Some(self.last_state()[2 * account])
+    }
+
+    /// The next sequence of an account, counted from 0, in the state of the last accepted block. There is
+    /// none exactly where there is no such account.
+    pub fn sequence(&self, account: usize) -> Option<u64>
+        ensures next { result ≡ (if nat_lt account (ledger.accounts (last_state self.now)) then Some (ledger.next_in (last_state self.now) account) else None) }
+        // After a path of valid blocks it is what all their transfers make of the first sequence.
+        ensures path { (first : List ℕ) (blocks : List (List ℕ)) → ledger.takes first ≡ true → followed first blocks ≡ Some (last_state self.now)
+            → account < ledger.accounts first → result ≡ Some (ledger.sequence first (transfers_along blocks) account) }
+    {
+        if account >= self.accounts() {
+            return None;
+        }
+        Some(self.last_state()[2 * account + 1])
+    }
+
+    // The state of the last accepted block.
+    fn last_state(&self) -> &[u64]
+        ensures { result.now ≡ last_state self.now }
+    {
+        self.states
+            .state_of(&self.states.last())
+            .unwrap_or_default()
+    }
+}
+
+impl Chain for LedgerChain {
+    ghost use Rattle.snow_ledger.specs.Ledger.{ledger_needs_header};
+
+    ghost rules = { ledger_rules };
+
+    ghost held = { λ chain. chain };
+
+    fn begin(alloc: Global, last: Id, state: &[u64]) -> Result<Self, ChainFault> {
+        if !is_state(state) {
+            return Err(ChainFault::State);
+        }
+        let states = States::begin(alloc, last, numbers(alloc, state)?)?;
+        Ok(LedgerChain { states })
+    }
+
+    fn parse(&self, bytes: &[u8]) -> Option<Header> {
+        header_of(bytes)
+    }
+
+    fn verify(&mut self, parent: &Id, id: &Id, bytes: &[u8]) -> Result<bool, AllocError> {
+        let Some(state) = next_on(&self.states, parent, bytes)? else {
+            return Ok(false);
+        };
+        self.states.hold(*id, state)?;
+        Ok(true)
+    }
+
+    fn accept(&mut self, id: &Id) {
+        self.states.accept(id);
+    }
+
+    fn reject(&mut self, id: &Id) {
+        self.states.reject(id);
+    }
+
+    ghost needs_header = { ledger_needs_header };
+}
+
+// The state of a block with these bytes on a parent, where the parent's is held and the block is valid.
+fn next_on(states: &States, parent: &Id, bytes: &[u8]) -> Result<Option<Nums>, AllocError>
+    ensures { IfOk result (λ made. made ≡ next_on ledger_rules states.now parent.now bytes.now) }
+{
+    match states.state_of(parent) {
+        Some(state) => next(states.alloc(), state, bytes),
+        None => Ok(None),
+    }
+}
