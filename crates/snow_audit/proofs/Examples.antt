@@ -1,5 +1,7 @@
 -- Worked examples: what audits find, computed on the definitions.
 use Rattle.std.proofs.Common.{◌≡◌, ℕ, ◌-◌, ◌==◌, cond, List, [], ◌∷◌, ◌++◌, length, replicate, take, refl}
+use Rattle.std.specs.Fmt.{digits}
+use Rattle.hex.specs.Hex.{encode_with}
 use Rattle.snow_flake.specs.Rule.{by_preference}
 use Rattle.snow_chain.specs.Plain.{plain_rules}
 use Rattle.snow_wire.specs.Spelling.{number, sized}
@@ -70,20 +72,20 @@ a_start_is_all = refl
 
 -- frames are told by their numbers among all, though the lines tell those among the events
 pub a_start_comes_again : audit_on (start_frame ++ four 1 ++ unknown ++ skip_frame 2 ++ four 1 ++ unknown ++ skip_frame 3 ++ start_frame) ≡ audit.Stopped (end.BadInput 6 kind.SecondStart)
-unfolding number text frames_of frames_in first_of entries_from compared_from through after_frame opened started runs_on event_of fields_at single_at sized_at start_at number_at limited_at flag_at bytes_at counted_at items_at weighed_at
+unfolding number text digits encode_with frames_of frames_in first_of entries_from compared_from through after_frame opened started runs_on event_of fields_at single_at sized_at start_at number_at limited_at flag_at bytes_at counted_at items_at weighed_at
 a_start_comes_again = refl
 
 pub a_line_is_missing : audit_on (start_frame ++ four 1 ++ unknown) ≡ audit.Differs 1
-unfolding number text frames_of frames_in first_of entries_from compared_from through after_frame opened started event_of fields_at start_at number_at limited_at flag_at bytes_at counted_at items_at weighed_at
+unfolding number text digits encode_with frames_of frames_in first_of entries_from compared_from through after_frame opened started event_of fields_at start_at number_at limited_at flag_at bytes_at counted_at items_at weighed_at
 a_line_is_missing = refl
 
 pub a_line_comes_twice : audit_on (start_frame ++ four 1 ++ unknown ++ skip_frame 2 ++ skip_frame 2) ≡ audit.Differs 2
-unfolding number text frames_of frames_in first_of entries_from compared_from through after_frame opened started event_of fields_at single_at sized_at start_at number_at limited_at flag_at bytes_at counted_at items_at weighed_at
+unfolding number text digits encode_with frames_of frames_in first_of entries_from compared_from through after_frame opened started event_of fields_at single_at sized_at start_at number_at limited_at flag_at bytes_at counted_at items_at weighed_at
 a_line_comes_twice = refl
 
 -- before the end of a stream that is cut a line may be missing
 pub it_is_cut_before_a_line : audit_on (start_frame ++ four 1 ++ unknown ++ four 15) ≡ audit.Stopped (end.BadInput 3 kind.Cut)
-unfolding number text frames_of frames_in first_of entries_from compared_from through after_frame opened started event_of fields_at start_at number_at limited_at flag_at bytes_at counted_at items_at weighed_at
+unfolding number text digits encode_with frames_of frames_in first_of entries_from compared_from through after_frame opened started event_of fields_at start_at number_at limited_at flag_at bytes_at counted_at items_at weighed_at
 it_is_cut_before_a_line = refl
 
 -- ---- lines that are given: three for the third event and the fourth
@@ -111,46 +113,46 @@ abbrev stream_of : List (List ℕ) → List (List ℕ) → List (List ℕ)
 stream_of third last = start ∷ unknown ∷ unknown ∷ third ++ unknown ∷ last
 
 pub all_lines_are_there : audited_frames writes (stream_of (line_of preferred ∷ line_of dropped ∷ []) (line_of queried ∷ [])) end.Done ≡ audit.Same 3
-unfolding number text entries_from compared_from through event_of fields_at single_at sized_at limited_at start_at number_at flag_at bytes_at counted_at items_at weighed_at
+unfolding number text digits encode_with entries_from compared_from through event_of fields_at single_at sized_at limited_at start_at number_at flag_at bytes_at counted_at items_at weighed_at
 all_lines_are_there = refl
 
 pub the_last_line_is_missing : audited_frames writes (stream_of (line_of preferred ∷ line_of dropped ∷ []) []) end.Done ≡ audit.Differs 3
-unfolding number text entries_from compared_from through event_of fields_at single_at sized_at limited_at start_at number_at flag_at bytes_at counted_at items_at weighed_at
+unfolding number text digits encode_with entries_from compared_from through event_of fields_at single_at sized_at limited_at start_at number_at flag_at bytes_at counted_at items_at weighed_at
 the_last_line_is_missing = refl
 
 pub another_block_is_preferred : audited_frames writes (stream_of (line_of (line.Prefer (id_of 2)) ∷ line_of dropped ∷ []) (line_of queried ∷ [])) end.Done ≡ audit.Differs 1
-unfolding number text entries_from compared_from through event_of fields_at single_at sized_at limited_at start_at number_at flag_at bytes_at counted_at items_at weighed_at
+unfolding number text digits encode_with entries_from compared_from through event_of fields_at single_at sized_at limited_at start_at number_at flag_at bytes_at counted_at items_at weighed_at
 another_block_is_preferred = refl
 
 pub the_last_line_is_cut : audited_frames writes (stream_of (line_of preferred ∷ line_of dropped ∷ []) []) (end.BadInput 7 kind.Cut) ≡ audit.Stopped (end.BadInput 7 kind.Cut)
-unfolding number text entries_from compared_from through event_of fields_at single_at sized_at limited_at start_at number_at flag_at bytes_at counted_at items_at weighed_at
+unfolding number text digits encode_with entries_from compared_from through event_of fields_at single_at sized_at limited_at start_at number_at flag_at bytes_at counted_at items_at weighed_at
 the_last_line_is_cut = refl
 
 -- the order of lines counts
 pub lines_change_places : audited_frames writes (stream_of (line_of dropped ∷ line_of preferred ∷ []) (line_of queried ∷ [])) end.Done ≡ audit.Differs 1
-unfolding number text entries_from compared_from through event_of fields_at single_at sized_at limited_at start_at number_at flag_at bytes_at counted_at items_at weighed_at
+unfolding number text digits encode_with entries_from compared_from through event_of fields_at single_at sized_at limited_at start_at number_at flag_at bytes_at counted_at items_at weighed_at
 lines_change_places = refl
 
 -- and an event's lines end with it
 pub a_line_comes_late : audited_frames writes (stream_of (line_of preferred ∷ []) (line_of dropped ∷ line_of queried ∷ [])) end.Done ≡ audit.Differs 2
-unfolding number text entries_from compared_from through event_of fields_at single_at sized_at limited_at start_at number_at flag_at bytes_at counted_at items_at weighed_at
+unfolding number text digits encode_with entries_from compared_from through event_of fields_at single_at sized_at limited_at start_at number_at flag_at bytes_at counted_at items_at weighed_at
 a_line_comes_late = refl
 
 -- two lines in one frame are none
 pub two_lines_in_one : audited_frames writes (stream_of (recorded (text preferred ++ take 16 (text dropped)) ∷ []) (line_of queried ∷ [])) end.Done ≡ audit.Differs 1
-unfolding number text entries_from compared_from through event_of fields_at single_at sized_at limited_at start_at number_at flag_at bytes_at counted_at items_at weighed_at
+unfolding number text digits encode_with entries_from compared_from through event_of fields_at single_at sized_at limited_at start_at number_at flag_at bytes_at counted_at items_at weighed_at
 two_lines_in_one = refl
 
 -- a stop of the run comes behind its lines, and before what follows
 pub the_run_stops : audited_frames stops (stream_of (line_of preferred ∷ line_of dropped ∷ []) (line_of queried ∷ [])) end.Done ≡ audit.Stopped end.RequestLimit
-unfolding number text entries_from compared_from through event_of fields_at single_at sized_at limited_at start_at number_at flag_at bytes_at counted_at items_at weighed_at
+unfolding number text digits encode_with entries_from compared_from through event_of fields_at single_at sized_at limited_at start_at number_at flag_at bytes_at counted_at items_at weighed_at
 the_run_stops = refl
 
 pub a_line_is_missing_at_a_stop : audited_frames stops (stream_of (line_of preferred ∷ []) []) end.Done ≡ audit.Differs 2
-unfolding number text entries_from compared_from through event_of fields_at single_at sized_at limited_at start_at number_at flag_at bytes_at counted_at items_at weighed_at
+unfolding number text digits encode_with entries_from compared_from through event_of fields_at single_at sized_at limited_at start_at number_at flag_at bytes_at counted_at items_at weighed_at
 a_line_is_missing_at_a_stop = refl
 
 -- the weaker test is that of the last event alone
 pub a_line_is_missing_before_the_last_event : audited_frames writes (stream_of (line_of preferred ∷ []) []) (end.BadInput 7 kind.Cut) ≡ audit.Differs 2
-unfolding number text entries_from compared_from through event_of fields_at single_at sized_at limited_at start_at number_at flag_at bytes_at counted_at items_at weighed_at
+unfolding number text digits encode_with entries_from compared_from through event_of fields_at single_at sized_at limited_at start_at number_at flag_at bytes_at counted_at items_at weighed_at
 a_line_is_missing_before_the_last_event = refl

@@ -23,7 +23,7 @@ none_is_some n = grind (arith, nat_tests)
 one_more : (s a : ℕ) → (1 + s == suc a) ≡ (s == a)
 one_more s a = grind (arith, nat_tests)
 
-plus_none : (n : ℕ) → n + 0 ≡ n
+pub plus_none : (n : ℕ) → n + 0 ≡ n
 plus_none n = omega arith
 
 and_false : (b c : Bool) → b ≡ false → (b && c) ≡ false
@@ -38,7 +38,7 @@ and_never : (b : Bool) → (b && false) ≡ false
 and_never true = refl
 and_never false = refl
 
-test_false : {A : Type 0} (b : Bool) (x y : A) → b ≡ false → cond b x y ≡ y
+pub test_false : {A : Type 0} (b : Bool) (x y : A) → b ≡ false → cond b x y ≡ y
 test_false true x y e = absurd cc
 test_false false x y e = refl
 

@@ -1,5 +1,5 @@
 -- An audit while the bytes of its stream come.
-use Rattle.std.proofs.Common.{◌≡◌, ℕ, suc, ◌*◌, ◌+◌, ◌-◌, ◌^◌, ◌<◌, ◌≤◌, ◌==◌, Bool, true, false, cond, nat_le, List, [], ◌∷◌, ◌++◌, take, length, append_assoc, append-nil, Option, Some, None, Result, Ok, Err, refl, sym, ap, ◌∙◌, subst, arith}
+use Rattle.std.proofs.Common.{◌≡◌, ℕ, zero, suc, ◌*◌, ◌+◌, ◌-◌, ◌^◌, ◌<◌, ◌≤◌, ◌==◌, Bool, true, false, cond, nat_le, List, [], ◌∷◌, ◌++◌, take, length, append_assoc, append-nil, Option, Some, None, Result, Ok, Err, refl, sym, ap, ◌∙◌, subst, arith}
 use Rattle.std.proofs.lemmas.Bool.Decides.{nat_tests}
 use Rattle.std.specs.Prelude.{IfSome}
 use Rattle.std.specs.Io.KnownBytes.{Consumes, IsAtEnd}
@@ -14,10 +14,12 @@ use Rattle.snow_engine.specs.declared.end.BadKind.TheVariants as kind
 use Rattle.snow_engine.specs.declared.end.End.{End}
 use Rattle.snow_engine.specs.declared.end.End.TheVariants as end
 use Rattle.snow_engine.specs.Run.{seen, end_behind}
+use Rattle.snow_lines.specs.declared.line.Line.{Line}
+use Rattle.snow_engine.specs.Staging.{Node}
 use Rattle.snow_engine.proofs.Ended.{of_all, of_whole}
 use Rattle.snow_audit.specs.declared.auditing.AuditEnd.{AuditEnd}
 use Rattle.snow_audit.specs.Auditing.{Steps, audited, behind_frames, stream_end}
-use Rattle.snow_audit.specs.Following.{Between, beginning, frame_comes, at_end, goes_on, follows, finish}
+use Rattle.snow_audit.specs.Following.{Between, beginning, between, frame_comes, at_end, goes_on, owed_of, follows, finish}
 use Rattle.snow_audit.proofs.Followed.{Begins, follows_audit}
 
 -- the frames of a stream behind so many
@@ -111,6 +113,22 @@ smaller intake payload behind first =
     let rest : length behind ≡ length intake.rest - (4 + length payload) = ap length placed.0 ∙ length-drop (4 + length payload) intake.rest in
     omega (arith, room, rest)
 
+-- ---- how much room is left
+
+none_taken : (l : List ℕ) → take 0 l ≡ []
+none_taken [] = refl
+none_taken (x ∷ l) = refl
+
+take_nothing : (n : ℕ) → take n (let l : List ℕ = [] in l) ≡ []
+take_nothing zero = refl
+take_nothing (suc n) = refl
+
+always_full : (n : ℕ) → nat_le 0 n ≡ true
+always_full n = grind (arith, nat_tests)
+
+not_full : (n : ℕ) → 0 < n → nat_le n 0 ≡ false
+not_full n some = grind (arith, nat_tests)
+
 -- ---- an audit between two pieces
 
 -- what is known: the bytes that came, and that what is left to do gives the answer of all
@@ -124,6 +142,21 @@ pub record Audited (steps : Steps) (left_before left_now : Option (List ℕ)) (i
 pub nothing_came : (steps : Steps) → Begins steps → (left : Option (List ℕ)) → Audited steps left left fresh beginning (2 ^ 40)
 nothing_came steps begun left = record { gone = []; consumed = consumes_none left; count = refl; whole = starts steps begun }
 
+-- no byte holds no frame
+pub none_first : first_of [] ≡ None
+unfolding first_of
+none_first = refl
+
+-- the same for an auditor as it begins
+pub begun_so : (steps : Steps) → Begins steps → (left : Option (List ℕ)) (intake : Intake) (stop : Option End) (engine : Option Node) (events lines at : ℕ) (log : List Line)
+    → intake ≡ fresh → stop ≡ None → engine ≡ None → events ≡ 0 → lines ≡ 0 → log ≡ [] → Audited steps left left intake (between stop engine events lines at log) (2 ^ 40)
+begun_so steps begun left intake stop engine events lines at log new none fresh_engine no_event no_line no_log =
+    rw (new, none, fresh_engine, no_event, no_line, no_log) (rw (nothing_owed at) (nothing_came steps begun left))
+  where
+    nothing_owed : (at : ℕ) → owed_of at [] ≡ []
+    nothing_owed zero = refl
+    nothing_owed (suc at) = refl
+
 module _ (steps : Steps) (left_before left_now : Option (List ℕ)) (intake : Intake) (b : Between) (room : ℕ) (so_far : Audited steps left_before left_now intake b room) where
   -- all was taken that may be
   pub limited : room ≡ 0 → first_of intake.rest ≡ None → is_too_long intake.rest ≡ false → IfSome left_before (λ bytes. audited steps bytes ≡ at_end b b.owed end.InputLimit)
@@ -131,6 +164,8 @@ module _ (steps : Steps) (left_before left_now : Option (List ℕ)) (intake : In
       of_all (λ bytes. audited steps bytes ≡ at_end b b.owed end.InputLimit) left_before left_now so_far.gone so_far.consumed
       (λ left. so_far.whole left
       ∙ ap (λ (n : ℕ). finish steps intake (take n left) (nat_le n (length left)) b) none
+      ∙ ap (λ (l : List ℕ). finish steps intake l (nat_le 0 (length left)) b) (none_taken left)
+      ∙ ap (λ (t : Bool). finish steps intake [] t b) (always_full (length left))
       ∙ no_frame steps intake whole true b
       ∙ ap (at_end b b.owed) (ends_full intake.given intake.rest calm))
 
@@ -141,11 +176,9 @@ module _ (steps : Steps) (left_before left_now : Option (List ℕ)) (intake : In
       let consumed = consumes_then left_before left_now left_next so_far.gone [] so_far.gone so_far.consumed took (append-nil so_far.gone) in
       of_whole (λ bytes. audited steps bytes ≡ at_end b b.owed (stream_end intake.given intake.rest false)) left_before left_next so_far.gone consumed ended
       (ap (audited steps) (sym (append-nil so_far.gone)) ∙ so_far.whole []
+      ∙ ap (λ (l : List ℕ). finish steps intake l (nat_le room 0) b) (take_nothing room)
       ∙ ap (λ (t : Bool). finish steps intake [] t b) (not_full room some)
       ∙ no_frame steps intake whole false b)
-    where
-      not_full : (n : ℕ) → 0 < n → nat_le n 0 ≡ false
-      not_full n some = grind (arith, nat_tests)
 
   -- a piece came
   module _ (left_next : Option (List ℕ)) (piece : List ℕ) (took : Consumes left_now left_next piece) (few : length piece ≤ room) where

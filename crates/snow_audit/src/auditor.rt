@@ -119,10 +119,12 @@ impl<C: Chain, B: Board> Auditor<C, B> {
                 Ok(true)
             }
             Ok(None) => Ok(false),
-            Err(long) => Err(self.follower.at_end(End::BadInput {
-                frame: long.number,
-                kind: BadKind::Length,
-            })),
+            Err(long) => Err(
+                self.follower.at_end(End::BadInput {
+                    frame: long.number,
+                    kind: BadKind::Length,
+                }),
+            ),
         }
     }
 

@@ -1,11 +1,11 @@
-ghost use Rattle.std.specs.Prelude.{◌≡◌, ◌+◌, ◌-◌, ◌^◌, ◌<◌, ◌≤◌, ◌∷◌, ◌++◌, [], None, Some, Ok, Err, OnOk, OnErr, true, false, length};
+ghost use Rattle.std.specs.Prelude.{◌≡◌, ◌+◌, ◌-◌, ◌^◌, ◌<◌, ◌≤◌, ◌∷◌, ◌++◌, [], None, Some, Ok, Err, OnOk, OnErr, true, false, length, if◌then◌else◌};
 ghost use Rattle.snow_lines.specs.declared.line.Line.TheVariants as line;
 ghost use Rattle.snow_engine.specs.Run.{after_frame};
 ghost use Rattle.snow_engine.specs.declared.task.Task.TheVariants as task;
 ghost use Rattle.snow_engine.specs.declared.end.End.TheVariants as end;
 ghost use Rattle.snow_audit.specs.declared.auditing.AuditEnd.TheVariants as audit;
-ghost use Rattle.snow_audit.specs.Auditing.{at_frame};
-ghost use Rattle.snow_audit.specs.Following.{IsKept, Moves, at_end, between, event_comes, first_then, frame_comes, is_fresh, line_comes, owed_of, stands, stepped};
+ghost use Rattle.snow_audit.specs.Auditing.{at_frame, breaks_off, ends_as};
+ghost use Rattle.snow_audit.specs.Following.{IsKept, Moves, at_end, between, event_comes, first_then, frame_comes, is_fresh, line_comes, owed_of, stands, stepped, stop_of};
 
 use crate::auditing::AuditEnd;
 use crate::sheet::Sheet;
@@ -214,6 +214,7 @@ impl<C: Chain, B: Board> Follower<C, B> {
     fn stops(&mut self, frame: u64) -> Result<(), AuditEnd>
         ensures stop { OnOk result (self.new.stop ≡ Some (at_frame self.old.runner.end frame)) }
         ensures memory { OnErr result ((result ≡ Err (audit.Stopped end.Memory)) × (self.old.runner.end ≡ end.Memory)) }
+        ensures other { OnOk result (self.old.runner.end ≡ end.Memory → ⊥) }
         ensures kept { OnErr result (self.new.stop ≡ self.old.stop) }
         ensures log { self.new.runner.log ≡ self.old.runner.log }
         ensures task { self.new.runner.task ≡ self.old.runner.task }
@@ -236,13 +237,43 @@ impl<C: Chain, B: Board> Follower<C, B> {
         ensures { result ≡ at_end (between self.now.stop self.now.runner.engine self.now.events self.now.lines self.now.at self.now.runner.log)
             (owed_of self.now.at self.now.runner.log) stream }
     {
-        if self.is_owing() && stream == End::Done {
-            return self.differs();
+        if self.is_owing() {
+            return self.at_end_owing(stream);
         }
-        match (self.stop, stream) {
-            (Some(end), _) => AuditEnd::Stopped(end),
-            (None, End::Done) => AuditEnd::Same { lines: self.lines },
-            (None, stream) => AuditEnd::Stopped(stream),
+        self.at_last_line(stream)
+    }
+
+    /// The same where a line of the last event isn't recorded: that is a difference, unless the stream
+    /// breaks off.
+    fn at_end_owing(&self, stream: End) -> AuditEnd
+        requires { self.now.lines < 2 ^ 64 - 1 }
+        ensures { result ≡ (if breaks_off stream then ends_as self.now.lines (stop_of (stands self.now.stop self.now.runner.engine)) stream
+            else audit.Differs (self.now.lines + 1)) }
+    {
+        match stream {
+            End::Done => self.differs(),
+            _ => self.at_last_line(stream),
+        }
+    }
+
+    /// The same where all lines are recorded, or no more is asked for.
+    #[tactic(auto, using(crate::proofs::Owing::stop_where))]
+    fn at_last_line(&self, stream: End) -> AuditEnd
+        ensures { result ≡ ends_as self.now.lines (stop_of (stands self.now.stop self.now.runner.engine)) stream }
+    {
+        match self.stop {
+            Some(end) => AuditEnd::Stopped(end),
+            None => self.at_stream_end(stream),
+        }
+    }
+
+    /// The same where the run goes on.
+    fn at_stream_end(&self, stream: End) -> AuditEnd
+        ensures { result ≡ ends_as self.now.lines None stream }
+    {
+        match stream {
+            End::Done => AuditEnd::Same { lines: self.lines },
+            _ => AuditEnd::Stopped(stream),
         }
     }
 }

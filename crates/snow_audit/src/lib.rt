@@ -4,6 +4,8 @@
 mod auditing;
 mod auditor;
 mod following;
+mod law;
 mod sheet;
 
 pub use auditing::{AuditEnd, audit};
+pub use law::audit_law;

@@ -41,11 +41,29 @@ impl Sheet {
         if print(line, self).is_err() {
             return Err(AllocError);
         }
-        match self.bytes.list().split_last() {
-            Some((last, front)) => Ok(*last == b'\n' && front == recorded),
-            None => Ok(false),
-        }
+        Ok(is_printed(self.bytes.list(), recorded))
     }
+}
+
+/// Whether these bytes are the recorded ones with a newline behind them.
+fn is_printed(bytes: &[u8], recorded: &[u8]) -> bool
+    ensures { result ≡ bytes_eq (recorded.now ++ 10 ∷ []) bytes.now }
+{
+    match bytes.split_last() {
+        Some(parts) => is_ended(*parts.0, parts.1, recorded),
+        None => false,
+    }
+}
+
+/// Whether this front of bytes is the recorded ones, and the last byte a newline.
+#[tactic(auto, using(crate::proofs::Printed::newline, crate::proofs::Printed::other))]
+fn is_ended(last: u8, front: &[u8], recorded: &[u8]) -> bool
+    ensures { result ≡ bytes_eq (recorded.now ++ 10 ∷ []) (front.now ++ last ∷ []) }
+{
+    if last == b'\n' {
+        return recorded == front;
+    }
+    false
 }
 
 impl Sink for Sheet {

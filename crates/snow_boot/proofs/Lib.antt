@@ -2,6 +2,7 @@ mod Accepted
 pub mod Alone
 mod Asked
 mod Concluded
+mod Elected
 mod Ended
 mod Examples
 mod Executed
@@ -17,3 +18,4 @@ mod Requested
 mod Started
 mod Surveyed
 mod Underway
+mod Weighed

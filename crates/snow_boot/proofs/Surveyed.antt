@@ -1,9 +1,9 @@
 -- How much weight may back a candidate while the nodes answer.
-use Rattle.std.proofs.Common.{◌≡◌, ℕ, ◌+◌, ◌-◌, ◌^◌, ◌<◌, ◌≤◌, Bool, true, false, not, List, [], ◌∷◌, ◌++◌, Some, bytes_eq, if◌then◌else◌, sym, subst, ◌∙◌, arith}
+use Rattle.std.proofs.Common.{◌≡◌, ℕ, ◌+◌, ◌-◌, ◌^◌, ◌<◌, ◌≤◌, Bool, true, false, not, List, [], ◌∷◌, ◌++◌, length, None, Some, bytes_eq, if◌then◌else◌, refl, sym, ap, subst, ◌∙◌, arith}
 use Rattle.std.specs.Option.{option_map}
 use Rattle.std.proofs.lemmas.List.Sums.{sum_by-cons}
 use Rattle.snow_sample.specs.declared.roster.Node.{Node}
-use Rattle.snow_sample.specs.Roster.{total_weight}
+use Rattle.snow_sample.specs.Roster.{total_weight, first_fault}
 use Rattle.snow_boot.specs.declared.question.Candidate.{Candidate}
 use Rattle.snow_boot.specs.declared.question.Question.TheVariants as question
 use Rattle.snow_boot.specs.Electing.{awaits, still_awaited, is_collected, collected, backed}
@@ -37,6 +37,13 @@ within_backed most weight ids (c ∷ candidates) are = (by_test (has_id ids c.id
     by_test true = omega (arith, are.0)
     by_test false = omega (arith, are.0)
 
+-- by which identifiers doesn't matter, where the same are among them
+pub backed_same : (weight : ℕ) (some others : List (List ℕ)) (candidates : List Candidate) → ((id : List ℕ) → has_id some id ≡ has_id others id) → backed weight some candidates ≡ backed weight others candidates
+backed_same weight some others [] same = refl
+backed_same weight some others (c ∷ candidates) same =
+    ap (λ (t : Bool). (if t then record { id = c.id; weight = c.weight + weight } else c) ∷ backed weight some candidates) (same c.id)
+    ∙ ap (λ l. (if has_id others c.id then record { id = c.id; weight = c.weight + weight } else c) ∷ l) (backed_same weight some others candidates same)
+
 -- the weight of a node and of others
 weighs : (n : Node) (nodes : List Node) → total_weight (n ∷ nodes) ≡ n.weight + total_weight nodes
 weighs n nodes = sum_by-cons (λ (m : Node). m.weight) n nodes
@@ -68,6 +75,37 @@ lighter (n ∷ awaited) node weight e = by_test (bytes_eq n.id node) (fewer awai
 
 abbrev heard : Surveyed → List ℕ → List Candidate → Surveyed
 heard s node candidates = record { nodes = s.nodes; question = s.question; number = s.number; awaited = still_awaited s.awaited node; candidates = candidates }
+
+-- nothing is asked yet
+some_nodes : (nodes : List Node) → first_fault nodes ≡ None → 0 < length nodes
+some_nodes [] good = absurd (bad good)
+  where
+    bad : first_fault [] ≡ None → ⊥
+    bad e = cc
+some_nodes (n ∷ nodes) good = omega arith
+
+pub survey_begun : (nodes : List Node) (total number : ℕ) → first_fault nodes ≡ None → total ≡ total_weight nodes → total < 2 ^ 63
+    → IsSurvey record { nodes = nodes; question = question.Nothing; number = number; awaited = []; candidates = [] } total
+survey_begun nodes total number good is small = record { some = some_nodes nodes good; total = is; small = small; waits = omega arith; backed = tt; fresh = λ e. tt }
+
+-- all nodes are asked for their frontier
+pub survey_frontier : (s : Surveyed) (total number : ℕ) → IsSurvey s total → IsSurvey record { nodes = s.nodes; question = question.Frontier; number = number; awaited = s.nodes; candidates = [] } total
+survey_frontier s total number is = record { some = is.some; total = is.total; small = is.small; waits = (let same = is.total in omega (arith, same)); backed = tt; fresh = λ e. tt }
+
+-- or what they hold accepted
+pub survey_accepted : (s : Surveyed) (total number : ℕ) → s.question ≡ question.Frontier → IsSurvey s total
+    → IsSurvey record { nodes = s.nodes; question = question.Accepted; number = number; awaited = s.nodes; candidates = s.candidates } total
+survey_accepted s total number asks is = record {
+  some = is.some;
+  total = is.total;
+  small = is.small;
+  waits = let same = is.total in omega (arith, same);
+  backed = within_more 0 (total - total_weight s.nodes) s.candidates (omega arith) (is.fresh asks);
+  fresh = λ e. absurd (other e);
+}
+  where
+    other : question.Accepted ≡ question.Frontier → ⊥
+    other e = cc
 
 -- a node has answered
 pub survey_heard : (s : Surveyed) (total : ℕ) (node : List ℕ) → IsSurvey s total → IsSurvey (heard s node s.candidates) total

@@ -3,18 +3,19 @@ ghost use Rattle.snow_boot.specs.Accepting.{higher_one, top_height};
 ghost use Rattle.snow_store.specs.Keeping.{taken, Answers};
 ghost use Rattle.snow_boot.specs.Fetching.{Fetches, FetchesOne};
 ghost use Rattle.snow_store.specs.Needing.{is_missed, Covers};
-ghost use Rattle.snow_store.specs.Renewing.{is_known};
 ghost use Rattle.snow_store.specs.Paths.{missed, is_whole};
 ghost use Rattle.snow_store.specs.declared.due.Due.TheVariants as due;
 ghost use Rattle.snow_store.specs.Coming.{after_verdict};
 ghost use Rattle.snow_boot.specs.Replying.{replied};
 
+use indexmap::IndexSet;
 use snow_base::{Bytes, Header, Id};
 use snow_chain::Chain;
 use snow_interval::Kept;
-use snow_store::{BootStop, Due, IdSet, Store, Verdict, needs};
+use snow_map::IdHashing;
+use snow_store::{BootStop, Due, Store, Verdict, needs};
 use std::alloc::{AllocError, Global};
-use std::collections::BTreeSet;
+use std::collections::BTreeMap;
 use std::marker::Model;
 
 /// The kept blocks, the targets, and those of them that were found at or below the last accepted
@@ -24,9 +25,9 @@ use std::marker::Model;
 #[derive(Drop)]
 pub(crate) struct Fetching<H: Kept> {
     pub(crate) store: Store<H>,
-    pub(crate) targets: IdSet,
-    pub(crate) found: IdSet,
-    pub(crate) needs: BTreeSet<Id>,
+    pub(crate) targets: IndexSet<Id, IdHashing>,
+    pub(crate) found: IndexSet<Id, IdHashing>,
+    pub(crate) needs: BTreeMap<Id, u64>,
     pub(crate) due: Due,
     pub(crate) whole: bool,
 }
@@ -41,9 +42,9 @@ impl<H: Kept> Model for Fetching<H> {
 
     ghost coded = { coded_hunt };
 
-    ghost view = { λ a. record { whole = a.whole; due = a.due; fetch = fetch_by a.store.store a.targets a.found } };
+    ghost view = { λ a. record { whole = a.whole; due = a.due; fetch = fetch_by a.store.store a.targets.keys a.found.keys } };
 
-    ghost invariant = { λ a. a.whole ≡ true → AreKnown a.store a.needs a.targets a.found };
+    ghost invariant = { λ a. a.whole ≡ true → AreKnown a.store a.needs a.targets.keys a.found.keys };
 }
 
 impl<H: Kept> Fetching<H> {
@@ -53,9 +54,9 @@ impl<H: Kept> Fetching<H> {
     {
         Fetching {
             store: Store::begin(alloc, last, height),
-            targets: IdSet::new(alloc),
-            found: IdSet::new(alloc),
-            needs: BTreeSet::new(alloc),
+            targets: IndexSet::with_hasher(alloc, IdHashing::new()),
+            found: IndexSet::with_hasher(alloc, IdHashing::new()),
+            needs: BTreeMap::new(alloc),
             due: Due::Nothing,
             whole: true,
         }
@@ -65,13 +66,13 @@ impl<H: Kept> Fetching<H> {
     pub(crate) fn targets(&self) -> &[Id]
         ensures { result.now ≡ self.now.fetch.targets }
     {
-        self.targets.list()
+        self.targets.as_slice()
     }
 
     /// The targets are these, and none of them is found yet: all that they miss is due.
-    pub(crate) fn aim(&mut self, targets: IdSet) -> Result<(), AllocError>
+    pub(crate) fn aim(&mut self, targets: IndexSet<Id, IdHashing>) -> Result<(), AllocError>
         requires { self.old.whole ≡ true }
-        ensures { OnOk result (self.new ≡ record { whole = true; due = due.All; fetch = record { store = self.old.fetch.store; targets = targets; found = [] } }) }
+        ensures { OnOk result (self.new ≡ record { whole = true; due = due.All; fetch = record { store = self.old.fetch.store; targets = targets.keys; found = [] } }) }
     {
         self.whole = false;
         self.targets = targets;
@@ -103,7 +104,7 @@ impl<H: Kept> Fetching<H> {
         requires { self.now.whole ≡ true }
         ensures { result ≡ (if is_missed self.now.fetch self.now.fetch.targets id then Some id else None) }
     {
-        if self.needs.contains(&id) {
+        if self.needs.contains_key(&id) {
             return Some(id);
         }
         None
@@ -142,16 +143,7 @@ impl<H: Kept> Fetching<H> {
         requires { self.now.whole ≡ true }
         ensures { result ≡ missed self.now.fetch target.now }
     {
-        self.store.missed(target, self.found.has(target))
-    }
-
-    /// Whether a target was kept, found or accepted before, so that another block of it may change
-    /// what it misses, whatever the others miss.
-    fn is_known(&self, id: &Id) -> bool
-        requires { self.now.whole ≡ true }
-        ensures { result ≡ is_known self.now.fetch id.now }
-    {
-        self.targets.has(id) && !needs::names(self.missed(id), id)
+        self.store.missed(target, needs::has(&self.found, target))
     }
 
     /// A block came: it is kept, or noted as found, or it stops the run.
@@ -161,7 +153,7 @@ impl<H: Kept> Fetching<H> {
         ensures fetch { IfOk result (λ verdict. (self.new.whole ≡ true) × (self.new.fetch ≡ after_verdict self.old.fetch record { header = header.now; bytes = bytes.now } verdict)) }
         ensures due { OnOk result (Covers self.old.due (is_missed self.old.fetch self.old.fetch.targets) self.new.due (is_missed self.new.fetch self.new.fetch.targets)) }
     {
-        let known = self.is_known(&header.id);
+        let before = self.missed(&header.id);
         self.store.links();
         self.whole = false;
         let verdict = self.store.take(header, bytes)?;
@@ -173,7 +165,7 @@ impl<H: Kept> Fetching<H> {
             self.due,
             header,
             verdict,
-            known,
+            before,
         )?;
         self.due = due;
         self.whole = true;

@@ -3,6 +3,7 @@
 
 mod asking;
 mod boot;
+mod electing;
 mod executing;
 mod fetching;
 mod following;

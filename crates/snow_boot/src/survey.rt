@@ -1,16 +1,21 @@
-ghost use Rattle.std.specs.Prelude.{◌≡◌, ◌+◌, ◌^◌, ◌<◌, ◌==◌, [], Some, IfOk, OnOk, OnErr, length, map, not, bytes_eq};
+ghost use Rattle.std.specs.Prelude.{◌≡◌, ◌<◌, ◌==◌, List, [], Some, IfOk, OnOk, length, map, not};
 ghost use Rattle.std.specs.Option.{option_map};
 ghost use Rattle.snow_sample.specs.Roster.{total_weight};
 ghost use Rattle.snow_boot.specs.Booting.{asks, awaited_by};
-ghost use Rattle.snow_boot.specs.Electing.{awaits, still_awaited, is_collected, collected, backed_by, backed, is_target, majority};
-ghost use Rattle.snow_boot.specs.Surveying.{AreWithin};
+ghost use Rattle.snow_sample.specs.declared.roster.Node.{Node};
+ghost use Rattle.snow_boot.specs.Electing.{awaits, still_awaited, collected, backed, majority};
+ghost use Rattle.snow_boot.specs.Surveying.{HasWeights};
 ghost use Rattle.snow_boot.specs.declared.question.Question.TheVariants as question;
 
-use crate::question::{Candidate, Question};
+use crate::electing;
+use crate::electing::Candidates;
+use crate::question::Question;
+use indexmap::{IndexMap, IndexSet};
 use snow_base::{Id, Ids, NodeId};
+use snow_map::IdHashing;
 use snow_sample::{Node, Roster};
-use snow_store::IdSet;
 use std::alloc::{AllocError, Global};
+use std::collections::BTreeMap;
 use std::marker::Model;
 
 /// What all nodes are being asked, whose answer is awaited, and which identifiers were named, with the
@@ -21,22 +26,22 @@ pub(crate) struct Survey {
     total: u64,
     question: Question,
     number: u32,
-    awaited: Vec<Node>,
-    candidates: Vec<Candidate>,
+    awaited: BTreeMap<NodeId, u64>,
+    candidates: Candidates,
     alloc: Global,
 }
 
 impl Model for Survey {
     ghost use Rattle.snow_boot.specs.BootCode.{coded_surveyed};
-    ghost use Rattle.snow_boot.specs.Surveying.{Surveyed, IsSurvey};
+    ghost use Rattle.snow_boot.specs.Surveying.{Surveyed, surveyed, IsKnown};
 
     ghost Value = { Surveyed };
 
     ghost coded = { coded_surveyed };
 
-    ghost view = { λ a. record { nodes = a.nodes.items; question = a.question; number = a.number; awaited = a.awaited.items; candidates = a.candidates.items } };
+    ghost view = { λ a. surveyed a.nodes.items a.question a.number a.awaited a.candidates.entries };
 
-    ghost invariant = { λ a. IsSurvey record { nodes = a.nodes.items; question = a.question; number = a.number; awaited = a.awaited.items; candidates = a.candidates.items } a.total };
+    ghost invariant = { λ a. IsKnown a.nodes.items a.question a.number a.awaited a.candidates.entries a.total };
 }
 
 impl Survey {
@@ -51,8 +56,8 @@ impl Survey {
             total,
             question: Question::Nothing,
             number: 0,
-            awaited: Vec::new(alloc),
-            candidates: Vec::new(alloc),
+            awaited: BTreeMap::new(alloc),
+            candidates: IndexMap::with_hasher(alloc, IdHashing::new()),
             alloc,
         })
     }
@@ -88,7 +93,7 @@ impl Survey {
     pub(crate) fn is_heard(&self) -> bool
         ensures { result ≡ (length self.now.awaited == 0) }
     {
-        self.awaited.is_empty()
+        is_none(&self.awaited)
     }
 
     /// The weight of a node whose answer to this question with this number is awaited.
@@ -98,14 +103,15 @@ impl Survey {
         if !asks(self.question, question) || self.number != number {
             return None;
         }
-        weight_of(self.awaited.as_slice(), node)
+        self.awaited.get(node).copied()
     }
 
     /// All nodes are asked for their frontier, and what was collected is forgotten.
     pub(crate) fn ask_frontier(&mut self, number: u32) -> Result<(), AllocError>
         ensures { OnOk result (self.new ≡ record { nodes = self.old.nodes; question = question.Frontier; number = number; awaited = self.old.nodes; candidates = [] }) }
     {
-        self.awaited = Vec::from_slice(self.alloc, self.nodes.as_slice())?;
+        let awaited = weights_of(self.alloc, self.nodes.as_slice())?;
+        self.awaited = awaited;
         self.candidates.clear();
         self.question = Question::Frontier;
         self.number = number;
@@ -117,7 +123,8 @@ impl Survey {
         requires { self.old.question ≡ question.Frontier }
         ensures { OnOk result (self.new ≡ record { nodes = self.old.nodes; question = question.Accepted; number = number; awaited = self.old.nodes; candidates = self.old.candidates }) }
     {
-        self.awaited = Vec::from_slice(self.alloc, self.nodes.as_slice())?;
+        let awaited = weights_of(self.alloc, self.nodes.as_slice())?;
+        self.awaited = awaited;
         self.question = Question::Accepted;
         self.number = number;
         Ok(())
@@ -135,15 +142,15 @@ impl Survey {
     pub(crate) fn hear(&mut self, node: &NodeId)
         ensures { self.new ≡ record { nodes = self.old.nodes; question = self.old.question; number = self.old.number; awaited = still_awaited self.old.awaited node.now; candidates = self.old.candidates } }
     {
-        leave(&mut self.awaited, node);
+        let _ = self.awaited.remove(node);
     }
 
     /// A node has named its frontier.
     pub(crate) fn collect(&mut self, node: &NodeId, id: Id) -> Result<(), AllocError>
         ensures { OnOk result (self.new ≡ record { nodes = self.old.nodes; question = self.old.question; number = self.old.number; awaited = still_awaited self.old.awaited node.now; candidates = collected self.old.candidates id }) }
     {
-        collect(&mut self.candidates, id)?;
-        leave(&mut self.awaited, node);
+        electing::collect(&mut self.candidates, id)?;
+        let _ = self.awaited.remove(node);
         Ok(())
     }
 
@@ -153,10 +160,9 @@ impl Survey {
         requires asked { self.old.question ≡ question.Accepted }
         ensures { OnOk result (self.new ≡ record { nodes = self.old.nodes; question = self.old.question; number = self.old.number; awaited = still_awaited self.old.awaited node.now; candidates = backed weight ids.now self.old.candidates }) }
     {
-        let named = IdSet::from_slice(self.alloc, ids.list())?;
-        let backed = back(self.alloc, self.candidates.as_slice(), weight, &named)?;
-        leave(&mut self.awaited, node);
-        self.candidates = backed;
+        let named = electing::each_once(self.alloc, ids.list())?;
+        electing::back(&mut self.candidates, weight, &named);
+        let _ = self.awaited.remove(node);
         Ok(())
     }
 
@@ -164,24 +170,15 @@ impl Survey {
     pub(crate) fn named(&self) -> Result<Ids, AllocError>
         ensures { IfOk result (λ ids. ids ≡ map (λ c. c.id) self.now.candidates) }
     {
-        let mut ids = Ids::new(self.alloc);
-        for candidate in self.candidates.as_slice() {
-            ids.push(candidate.id)?;
-        }
+        let ids = listed(self.alloc, self.candidates.keys().as_slice())?;
         Ok(ids)
     }
 
     /// Those that more than half of the weight backs, in order.
-    pub(crate) fn targets(&self) -> Result<IdSet, AllocError>
-        ensures { IfOk result (λ ids. ids ≡ majority (total_weight self.now.nodes) self.now.candidates) }
+    pub(crate) fn targets(&self) -> Result<IndexSet<Id, IdHashing>, AllocError>
+        ensures { IfOk result (λ ids. ids.keys ≡ majority (total_weight self.now.nodes) self.now.candidates) }
     {
-        let mut ids = IdSet::new(self.alloc);
-        for candidate in self.candidates.as_slice() {
-            if is_target(self.total, candidate) {
-                ids.push(candidate.id)?;
-            }
-        }
-        Ok(ids)
+        electing::elect(self.alloc, &self.candidates, self.total)
     }
 }
 
@@ -195,88 +192,38 @@ fn asks(question: Question, other: Question) -> bool
     }
 }
 
-// The weight of the first of the nodes that is this one.
-fn weight_of(awaited: &[Node], node: &NodeId) -> Option<u64>
-    ensures { result ≡ option_map (λ n. n.weight) (awaits awaited.now node.now) }
+// The weight of each of these nodes. The last comes first, so that of two with one identifier the first
+// counts.
+fn weights_of(alloc: Global, nodes: &[Node]) -> Result<BTreeMap<NodeId, u64>, AllocError>
+    ensures { IfOk result (λ made. HasWeights made nodes.now) }
 {
-    for other in awaited {
-        if other.id == *node {
-            return Some(other.weight);
-        }
+    let mut weights = BTreeMap::new(alloc);
+    let mut at = nodes.len();
+    while at > 0 {
+        at -= 1;
+        let node = nodes[at];
+        weights.insert(node.id, node.weight)?;
     }
-    None
+    Ok(weights)
 }
 
-// A node's answer isn't awaited any more.
-fn leave(awaited: &mut Vec<Node>, node: &NodeId)
-    ensures { awaited.new.items ≡ still_awaited awaited.old.items node.now }
+// Whether none of the nodes is there whose weights these are.
+fn is_none(weights: &BTreeMap<NodeId, u64>) -> bool
+    ensures { (nodes : List Node) → HasWeights weights.now nodes → result ≡ (length nodes == 0) }
 {
-    awaited.retain(
-        |other: &Node| -> bool
-            ensures { result ≡ not (bytes_eq other.now.id node.entry.now) }
-        { other.id != *node },
-    );
-}
-
-// An identifier is collected, once.
-fn collect(candidates: &mut Vec<Candidate>, id: Id) -> Result<(), AllocError>
-    ensures ok { OnOk result (candidates.new.items ≡ collected candidates.old.items id) }
-    ensures err { OnErr result (candidates.new.items ≡ candidates.old.items) }
-{
-    if is_collected(candidates.as_slice(), &id) {
-        return Ok(());
-    }
-    candidates.push(Candidate { id, weight: 0 })?;
-    Ok(())
-}
-
-// Whether an identifier was collected.
-fn is_collected(candidates: &[Candidate], id: &Id) -> bool
-    ensures { result ≡ is_collected candidates.now id.now }
-{
-    for candidate in candidates {
-        if candidate.id == *id {
-            return true;
-        }
-    }
-    false
-}
-
-// The candidates, once a node of this weight has named some.
-fn back(
-    alloc: Global,
-    candidates: &[Candidate],
-    weight: u64,
-    named: &IdSet,
-) -> Result<Vec<Candidate>, AllocError>
-    requires within { AreWithin (2 ^ 63) candidates.now }
-    requires small { weight < 2 ^ 63 }
-    ensures { IfOk result (λ made. made.items ≡ backed weight named.now candidates.now) }
-{
-    let mut made = Vec::new(alloc);
-    for candidate in candidates {
-        made.push(back_one(weight, named, candidate))?;
-    }
-    Ok(made)
-}
-
-// A candidate, once a node of this weight has named some.
-fn back_one(weight: u64, named: &IdSet, candidate: &Candidate) -> Candidate
-    requires { candidate.now.weight + weight < 2 ^ 64 }
-    ensures { result ≡ backed_by weight named.now candidate.now }
-{
-    if !named.has(&candidate.id) {
-        return *candidate;
-    }
-    Candidate {
-        id: candidate.id,
-        weight: candidate.weight + weight,
+    match weights.first_key_value() {
+        Some(_) => false,
+        None => true,
     }
 }
 
-// Whether more than half of the weight backs a candidate.
-fn is_target(total: u64, candidate: &Candidate) -> bool
-    ensures { result ≡ is_target total candidate.now }
+// The list of these identifiers.
+fn listed(alloc: Global, ids: &[Id]) -> Result<Ids, AllocError>
+    ensures { IfOk result (λ list. list ≡ ids.now) }
 {
-    candidate.weight > total / 2
+    let mut list = Ids::with_capacity(alloc, ids.len())?;
+    for id in ids {
+        list.push(*id)?;
+    }
+    Ok(list)
 }

@@ -6,17 +6,13 @@ use snow_map::IdMap;
 use std::alloc::{AllocError, Global};
 use std::marker::Model;
 
-// Seats of the states. A node holds those of the last accepted block and of at most 4,096 pending ones, so
-// that about every fourth seat is taken at most.
-const SEATS: usize = 16_384;
-
 /// The last accepted block, and states by identifier: what any chain can be built on. A state is a
 /// list of numbers, and what they mean is the chain's own.
 #[derive(Drop)]
 pub struct States {
     alloc: Global,
     last: Id,
-    states: IdMap<Nums, SEATS>,
+    states: IdMap<Nums>,
 }
 
 impl Model for States {

@@ -2,4 +2,3 @@ mod Chained
 pub mod Examples
 mod Ordered
 mod Permuted
-mod Seen

@@ -1,10 +1,7 @@
 -- What a node answers to the questions of its peers.
-use Rattle.std.specs.Prelude.{◌≡◌, ℕ, Bool, true, false, not, ◌&&◌, List, [], ◌∷◌, ◌++◌, map, fold, bytes_eq, if◌then◌else◌}
-use Rattle.std.specs.BTreeSet.{BTreeSet, contains}
-use Rattle.std.specs.Cmp.Lexicographic.{slice_cmp}
+use Rattle.std.specs.Prelude.{ℕ, Bool, true, false, not, ◌&&◌, List, [], ◌∷◌, ◌++◌, map, fold, bytes_eq, if◌then◌else◌}
 use Rattle.std.specs.List.{list_any}
 use Rattle.std.specs.Option.{option_map_or}
-use Rattle.std.specs.Ordering.{nat_cmp}
 use Rattle.snow_wire.specs.declared.event.Event.{Event}
 use Rattle.snow_wire.specs.declared.event.Event.TheVariants as event
 use Rattle.snow_lines.specs.declared.line.Line.{Line}
@@ -23,7 +20,7 @@ is_question (event.AskBlock node request id) = true
 is_question _ = false
 
 abbrev pub has_id : List (List ℕ) → List ℕ → Bool
-has_id ids id = list_any (λ other. bytes_eq other id) ids
+has_id ids id = list_any (bytes_eq id) ids
 
 -- an identifier is told once, and only where it is held accepted
 abbrev pub with_accepted : Serving → List (List ℕ) → List ℕ → List (List ℕ)
@@ -32,10 +29,6 @@ with_accepted s told id = if is_accepted s id && not (has_id told id) then told 
 -- those of the identifiers that are held accepted, in the order named, each once
 abbrev pub accepted_among : Serving → List (List ℕ) → List (List ℕ)
 accepted_among s ids = fold (with_accepted s) [] ids
-
--- a set has just the identifiers of a list
-abbrev pub HasSeen : BTreeSet (List ℕ) → List (List ℕ) → Type 0
-HasSeen set ids = (id : List ℕ) → contains (slice_cmp nat_cmp) set id ≡ has_id ids id
 
 -- the line that gives a chain, if there is one
 abbrev pub chain_told : List ℕ → ℕ → List Served → List Line

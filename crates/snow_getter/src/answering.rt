@@ -4,14 +4,15 @@ ghost use Rattle.std.specs.Option.{option_map_or};
 ghost use Rattle.snow_lines.specs.declared.line.Line.TheVariants as line;
 ghost use Rattle.snow_getter.specs.Serving.{held};
 ghost use Rattle.snow_getter.specs.Chain.{chain};
-ghost use Rattle.snow_getter.specs.Answer.{answer, accepted_among, with_accepted, chain_told, HasSeen};
+ghost use Rattle.snow_getter.specs.Answer.{answer, accepted_among, chain_told};
 
 use crate::getter::Getter;
+use indexmap::IndexSet;
 use snow_base::{Blocks, Bytes, Id, Ids, NodeId};
 use snow_lines::{Line, Lines};
+use snow_map::IdHashing;
 use snow_wire::Event;
-use std::alloc::AllocError;
-use std::collections::BTreeSet;
+use std::alloc::{AllocError, Global};
 
 // How many blocks a chain has.
 const MOST_BLOCKS: usize = 64;
@@ -121,26 +122,13 @@ impl Getter {
     fn accepted_among(&self, ids: &[Id]) -> Result<Ids, AllocError>
         ensures { IfOk result (λ told. told ≡ accepted_among self.now ids.now) }
     {
-        let mut told = Ids::new(self.alloc);
-        let mut seen = BTreeSet::new(self.alloc);
+        let mut told: IndexSet<Id, IdHashing> = IndexSet::with_hasher(self.alloc, IdHashing::new());
         for id in ids {
-            self.tell_once(id, &mut told, &mut seen)?;
+            if self.is_accepted(id) {
+                told.insert(*id)?;
+            }
         }
-        Ok(told)
-    }
-
-    // Appends an identifier, where it is held accepted and isn't there yet.
-    fn tell_once(&self, id: &Id, told: &mut Ids, seen: &mut BTreeSet<Id>) -> Result<(), AllocError>
-        requires { HasSeen seen.old told.old }
-        ensures told { OnOk result (told.new ≡ with_accepted self.now told.old id.now) }
-        ensures seen { OnOk result (HasSeen seen.new told.new) }
-    {
-        if !self.is_accepted(id) || seen.contains(id) {
-            return Ok(());
-        }
-        seen.insert(*id)?;
-        told.push(*id)?;
-        Ok(())
+        listed(self.alloc, told.as_slice())
     }
 
     // The bytes of a block and of its ancestors, as far as they are served.
@@ -164,4 +152,15 @@ impl Getter {
         }
         Ok(blocks)
     }
+}
+
+// The list of these identifiers.
+fn listed(alloc: Global, ids: &[Id]) -> Result<Ids, AllocError>
+    ensures { IfOk result (λ list. list ≡ ids.now) }
+{
+    let mut list = Ids::with_capacity(alloc, ids.len())?;
+    for id in ids {
+        list.push(*id)?;
+    }
+    Ok(list)
 }

@@ -8,9 +8,6 @@ use snow_map::IdMap;
 use std::alloc::{AllocError, Global};
 use std::marker::Model;
 
-// Seats of the pending blocks. There are at most 4,096 of these, so that at most every fourth seat is taken.
-const SEATS: usize = 16_384;
-
 /// What is kept of a pending block beside its identifier, and the number of its issue.
 #[derive(Drop)]
 pub(crate) struct Issued {
@@ -23,7 +20,7 @@ pub(crate) struct Issued {
 /// their numbers keep.
 #[derive(Drop)]
 pub(crate) struct Pending {
-    blocks: IdMap<Issued, SEATS>,
+    blocks: IdMap<Issued>,
     next: u64,
 }
 

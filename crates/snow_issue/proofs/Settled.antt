@@ -13,11 +13,11 @@ use Rattle.snow_issue.specs.declared.gone.Gone.{Gone}
 use Rattle.snow_lineup.specs.declared.marks.Mark.{Mark}
 use Rattle.snow_lineup.specs.declared.marks.Mark.TheVariants.{New}
 use Rattle.snow_issue.specs.Gone.{with_gone}
-use Rattle.snow_issue.specs.Lists.{Lists, with_get, is_get, without, AreWithinLimits}
+use Rattle.snow_issue.specs.Lists.{Lists, with_get, is_get, without, asked_in, AreWithinLimits}
 use Rattle.snow_issue.specs.Known.{Seen, items_of, lists_of, Tells, Knows}
 use Rattle.snow_lineup.specs.Index.{woken, forgotten}
 use Rattle.snow_issue.specs.Keeping.{IsKept, Rests}
-use Rattle.snow_issue.proofs.Taken.{items_woken, items_forgotten, items_pushed, items_removed, item_is, rests_left, rests_closed, rests_asked, rests_pushed}
+use Rattle.snow_issue.proofs.Taken.{items_woken, items_forgotten, items_pushed, items_removed, item_is, rests_left, rests_stay, rests_closed, rests_asked, rests_pushed}
 
 -- ---- lengths
 
@@ -103,6 +103,18 @@ kept_left seats gets replies gone at w there is kept =
       few_gets = kept.few_gets;
       few_gone = kept.few_gone;
     }
+
+-- the same where the block is still asked for, so that nobody is woken
+pub kept_stay : (seats : List (Waiting × Mark)) (gets : List Get) (replies : List (Held × Mark)) (gone : List Gone) (at : ℕ) (w : Waiting) → at < length seats
+    → ((d : Waiting × Mark) → w ≡ (get_or seats at d).0) → asked_in gets w.header.id ≡ true → IsKept seats gets replies gone
+    → IsKept (remove seats at) gets replies gone
+kept_stay seats gets replies gone at w there is asked kept = record {
+  quiet = subst (λ (l : List Waiting). All (Rests l gets) replies) (sym (items_removed seats at))
+      (rests_stay gets (items_of seats) at w replies (omega (arith, there, length-map seats (λ (s : Waiting × Mark). s.0))) (item_is seats at w there is) asked kept.quiet);
+  few_waiting = omega (arith, length-remove seats at there, kept.few_waiting);
+  few_gets = kept.few_gets;
+  few_gone = kept.few_gone;
+}
 
 pub kept_gone : (seats : List (Waiting × Mark)) (gets : List Get) (replies : List (Held × Mark)) (gone : List Gone) (e : Gone) → IsKept seats gets replies gone
     → IsKept seats gets replies (with_gone gone e)

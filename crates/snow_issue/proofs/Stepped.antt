@@ -1,5 +1,5 @@
 -- Lemmas on one step: a block is taken out at a place, and which step applies.
-use Rattle.std.proofs.Common.{◌≡◌, ℕ, ◌<◌, ◌≤◌, Bool, List, map, length, get_or, find, Some, None, refl, ap, ◌∙◌, arith}
+use Rattle.std.proofs.Common.{◌≡◌, ℕ, ◌<◌, ◌≤◌, Bool, true, List, map, length, get_or, find, Some, None, refl, ap, ◌∙◌, arith}
 use Rattle.std.specs.List.{remove, position_or_len}
 use Rattle.std.specs.Option.{option_map, option_or}
 use Rattle.std.proofs.lemmas.List.{length-map}
@@ -7,39 +7,45 @@ use Rattle.snow_plain.specs.Board.{Board}
 use Rattle.snow_issue.specs.declared.work.Waiting.{Waiting}
 use Rattle.snow_issue.specs.declared.work.Work.TheVariants as work
 use Rattle.snow_lineup.specs.declared.marks.Mark.{Mark}
-use Rattle.snow_issue.specs.Lists.{Lists, without}
+use Rattle.snow_issue.specs.Lists.{Lists, without, asked_in}
 use Rattle.snow_issue.specs.Settling.{work_of, after, is_hopeless, is_ready, is_free, gone_with}
 use Rattle.snow_issue.specs.Known.{Seen, Knows, items_of, lists_of}
 use Rattle.snow_lineup.specs.Index.{woken}
 use Rattle.snow_issue.proofs.Looked.{found_first, found_none, within_length}
 use Rattle.snow_issue.proofs.Settled.{lists_by, knows_from, items_left}
-use Rattle.snow_issue.proofs.Taken.{item_is, tells_left}
+use Rattle.snow_issue.proofs.Taken.{item_is, tells_left, tells_stay}
 
 abbrev pub parent_of_block : Waiting → List ℕ
 parent_of_block w = w.header.parent
 
 -- ---- a block is taken out
 
--- the block stood at the place, and the others are left, its children woken
-pub record IsLeft (before now : List (Waiting × Mark)) (at : ℕ) (w : Waiting) : Type 0 where
-  pub taken : (d : Waiting × Mark) → w ≡ (get_or before at d).0
-  pub left : now ≡ map (woken parent_of_block w.header.id) (remove before at)
-
--- the same of a queue
+-- the block stood at the place, and the others are left
 pub record IsTaken (before now : Seen) (at : ℕ) (w : Waiting) : Type 0 where
   pub within : at < length before.seats
-  pub seats : IsLeft before.seats now.seats at w
+  pub taken : (d : Waiting × Mark) → w ≡ (get_or before.seats at d).0
+  pub items : items_of now.seats ≡ remove (items_of before.seats) at
   pub gets : now.gets ≡ before.gets
   pub held : now.held ≡ before.held
 
-pub taken_knows : (board : Board) (before now : Seen) (at : ℕ) (w : Waiting) → IsTaken before now at w → Knows before board → Knows now board
-taken_knows board before now at w is knows =
-    knows_from now board (map (woken parent_of_block w.header.id) (remove before.seats at)) before.gets is.seats.left is.gets
-    (tells_left before.gets board before.seats at w is.within is.seats.taken knows)
+-- its children were woken
+pub left_knows : (board : Board) (before now : Seen) (at : ℕ) (w : Waiting) → at < length before.seats → ((d : Waiting × Mark) → w ≡ (get_or before.seats at d).0)
+    → now.seats ≡ map (woken parent_of_block w.header.id) (remove before.seats at) → now.gets ≡ before.gets → Knows before board → Knows now board
+left_knows board before now at w there taken left gets knows =
+    knows_from now board (map (woken parent_of_block w.header.id) (remove before.seats at)) before.gets left gets
+    (tells_left before.gets board before.seats at w there taken knows)
 
-taken_items : (before now : Seen) (at : ℕ) (w : Waiting) → IsTaken before now at w → items_of now.seats ≡ remove (items_of before.seats) at
-taken_items before now at w is =
-    ap items_of is.seats.left ∙ items_left parent_of_block w.header.id before.seats before.seats at refl
+pub left_items : (before now : Seen) (at : ℕ) (w : Waiting) → now.seats ≡ map (woken parent_of_block w.header.id) (remove before.seats at)
+    → items_of now.seats ≡ remove (items_of before.seats) at
+left_items before now at w left =
+    ap items_of left ∙ items_left parent_of_block w.header.id before.seats before.seats at refl
+
+-- it is still asked for, so that its children wait on
+pub stay_knows : (board : Board) (before now : Seen) (at : ℕ) (w : Waiting) → at < length before.seats → ((d : Waiting × Mark) → w ≡ (get_or before.seats at d).0)
+    → asked_in before.gets w.header.id ≡ true → now.seats ≡ remove before.seats at → now.gets ≡ before.gets → Knows before board → Knows now board
+stay_knows board before now at w there taken asked left gets knows =
+    knows_from now board (remove before.seats at) before.gets left gets
+    (tells_stay before.gets board before.seats at w there taken asked knows)
 
 -- where it stood first of those that pass, it is found
 pub first_taken : (test : Waiting → Bool) (before now : Seen) (at : ℕ) (w : Waiting) → IsTaken before now at w → at ≡ position_or_len test (items_of before.seats)
@@ -47,7 +53,7 @@ pub first_taken : (test : Waiting → Bool) (before now : Seen) (at : ℕ) (w : 
 first_taken test before now at w is first =
     found_first test (items_of before.seats) at w first
     (omega (arith, is.within, length-map before.seats (λ (s : Waiting × Mark). s.0)))
-    (item_is before.seats at w is.within is.seats.taken)
+    (item_is before.seats at w is.within is.taken)
 
 -- and where the first is the end, none is
 pub none_first : (test : Waiting → Bool) (s : Seen) (at : ℕ) → at ≡ position_or_len test (items_of s.seats) → length s.seats ≤ at
@@ -87,7 +93,7 @@ pub after_hopeless : (board : Board) (before now : Seen) (at : ℕ) (w : Waiting
 after_hopeless board before now at w is first gone =
     let items = items_of before.seats in
     lists_by now (without (is_hopeless (lists_of before) board) items) before.gets before.held (gone_with before.gone w.header)
-    (taken_items before now at w is ∙ ap (remove items) first) is.gets is.held gone
+    (is.items ∙ ap (remove items) first) is.gets is.held gone
 
 pub after_ready : (board : Board) (before now : Seen) (at : ℕ) (w : Waiting) → IsTaken before now at w
     → at ≡ position_or_len (is_ready board) (items_of before.seats) → now.gone ≡ before.gone
@@ -95,4 +101,4 @@ pub after_ready : (board : Board) (before now : Seen) (at : ℕ) (w : Waiting) �
 after_ready board before now at w is first gone =
     let items = items_of before.seats in
     lists_by now (without (is_ready board) items) before.gets before.held before.gone
-    (taken_items before now at w is ∙ ap (remove items) first) is.gets is.held gone
+    (is.items ∙ ap (remove items) first) is.gets is.held gone

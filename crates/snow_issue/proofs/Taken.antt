@@ -17,7 +17,7 @@ use Rattle.snow_issue.specs.Offering.{is_on}
 use Rattle.snow_issue.specs.Settling.{is_free_by}
 use Rattle.snow_issue.specs.Known.{items_of, sight, Tells, ForgetsChildren, NoneRipe}
 use Rattle.snow_lineup.specs.Marks.{is_mark, has}
-use Rattle.snow_lineup.proofs.Noted.{id_turned}
+use Rattle.snow_lineup.proofs.Noted.{same_id, id_turned}
 use Rattle.snow_lineup.specs.Index.{woken, forgotten}
 use Rattle.snow_issue.specs.Keeping.{Rests}
 use Rattle.snow_lineup.proofs.Tagged.{All_remove, map_remove}
@@ -108,6 +108,33 @@ tells_left gets board seats at w there is tells =
     All-map (Tells other gets board) (woken key id) (remove seats at)
     (All-weaker (Tells before gets board) (λ s. Tells other gets board (woken key id s)) (λ s h. woken_tells before other gets gets board id s (stays s) h)
     (remove seats at) (All_remove (Tells before gets board) seats at tells))
+
+-- a block was taken out that is still asked for: what a look tells of the others is the same
+sight_asked : (on a b d : Bool) → a ≡ true → cond on (Some Ripe) (cond (a || b) (Some Quiet) None) ≡ cond on (Some Ripe) (cond (a || d) (Some Quiet) None)
+sight_asked on a b d e = rw e refl
+
+pub asked_for_same : (gets : List Get) (id other : List ℕ) → asked_in gets id ≡ true → bytes_eq id other ≡ true → asked_in gets other ≡ true
+asked_for_same gets id other asked e = subst (λ (i : List ℕ). asked_in gets i ≡ true) (same_id id other e) asked
+
+pub tells_stay : (gets : List Get) (board : Board) (seats : List (Waiting × Mark)) (at : ℕ) (w : Waiting) → at < length seats → ((d : Waiting × Mark) → w ≡ (get_or seats at d).0)
+    → asked_in gets w.header.id ≡ true → All (Tells (items_of seats) gets board) seats → All (Tells (items_of (remove seats at)) gets board) (remove seats at)
+tells_stay gets board seats at w there is asked tells =
+    let id = w.header.id in
+    let before = items_of seats in
+    let other = items_of (remove seats at) in
+    let here = item_is seats at w there is in
+    let long : at < length before = omega (arith, there, length-map seats (λ (s : Waiting × Mark). s.0)) in
+    let stays : (s : Waiting × Mark) → sight other gets board s.0.header ≡ sight before gets board s.0.header =
+    λ s. let h = s.0.header in
+    let Goal : Bool → Type 0 = λ b. bytes_eq id h.parent ≡ b → sight other gets board h ≡ sight before gets board h in
+    elim (bytes_eq id h.parent) as Goal [
+      | true ↦ λ e. sight_asked (is_on board h.parent) (asked_in gets h.parent) (waits_below other h) (waits_below before h) (asked_for_same gets id h.parent asked e)
+      | false ↦ λ e. sight_by (is_on board h.parent) (asked_in gets h.parent) (waits_below other h) (asked_in gets h.parent) (waits_below before h) refl
+          (ap (λ l. waits_below l h) (items_removed seats at)
+          ∙ without_other (λ w. bytes_eq w.header.id h.parent && (w.header.height + 1 == h.height)) before at w long here (ap (λ b. b && (w.header.height + 1 == h.height)) e))
+    ] refl in
+    All-weaker (Tells before gets board) (Tells other gets board) (λ s h. tells_same before other gets gets board s.0 s.1 (stays s) h)
+    (remove seats at) (All_remove (Tells before gets board) seats at tells)
 
 -- a block's children were woken
 pub tells_woken : (gets : List Get) (board : Board) (id : List ℕ) (seats : List (Waiting × Mark)) → All (Tells (items_of seats) gets board) seats
@@ -226,6 +253,27 @@ rests_left gets waiting at w replies there is rests =
     (λ s r. woken_rests waiting (remove waiting at) gets gets w.header.id s
     (λ e. ap (λ b. not (b || asked_in gets s.0.id)) (without_other (λ x. bytes_eq x.header.id s.0.id) waiting at w there is e)) r)
     replies rests)
+
+-- a block was taken out that is still asked for: no reply that names it is free
+free_asked : (b d a : Bool) → a ≡ true → not (b || a) ≡ not (d || a)
+free_asked true true a e = refl
+free_asked true false a e = rw e refl
+free_asked false true a e = rw e refl
+free_asked false false a e = refl
+
+pub rests_stay : (gets : List Get) (waiting : List Waiting) (at : ℕ) (w : Waiting) (replies : List (Held × Mark)) → at < length waiting → w ≡ get_or waiting at w
+    → asked_in gets w.header.id ≡ true → All (Rests waiting gets) replies → All (Rests (remove waiting at) gets) replies
+rests_stay gets waiting at w replies there is asked rests =
+    let id = w.header.id in
+    let other = remove waiting at in
+    let stays : (s : Held × Mark) → is_free_by other gets s.0 ≡ is_free_by waiting gets s.0 =
+    λ s.
+    let Goal : Bool → Type 0 = λ b. bytes_eq id s.0.id ≡ b → is_free_by other gets s.0 ≡ is_free_by waiting gets s.0 in
+    elim (bytes_eq id s.0.id) as Goal [
+      | true ↦ λ e. free_asked (waits_among other s.0.id) (waits_among waiting s.0.id) (asked_in gets s.0.id) (asked_for_same gets id s.0.id asked e)
+      | false ↦ λ e. ap (λ b. not (b || asked_in gets s.0.id)) (without_other (λ x. bytes_eq x.header.id s.0.id) waiting at w there is e)
+    ] refl in
+    All-weaker (Rests waiting gets) (Rests other gets) (λ s r. rests_same waiting other gets gets s.0 s.1 (stays s) r) replies rests
 
 -- a get was closed and the replies that name its block woken
 pub rests_closed : (waiting : List Waiting) (gets : List Get) (number : ℕ) (node : List ℕ) (get : Get) (replies : List (Held × Mark)) → find (is_get number node) gets ≡ Some get

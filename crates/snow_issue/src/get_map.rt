@@ -4,6 +4,7 @@ ghost use Rattle.snow_issue.specs.Lists.{asked_in, has_number, is_get, with_get,
 
 use crate::work::Get;
 use snow_base::{Id, NodeId};
+use snow_map::IdHashing;
 use std::alloc::{AllocError, Global};
 use std::collections::{BTreeMap, HashSet};
 use std::marker::Model;
@@ -19,7 +20,7 @@ pub(crate) struct Asked {
 #[derive(Drop)]
 pub(crate) struct GetMap {
     open: BTreeMap<u32, Asked>,
-    ids: HashSet<Id>,
+    ids: HashSet<Id, IdHashing>,
 }
 
 impl Model for GetMap {
@@ -42,7 +43,7 @@ impl GetMap {
     {
         GetMap {
             open: BTreeMap::new(alloc),
-            ids: HashSet::new(alloc),
+            ids: HashSet::with_hasher(alloc, IdHashing::new()),
         }
     }
 

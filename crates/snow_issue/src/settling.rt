@@ -1,9 +1,10 @@
-ghost use Rattle.std.specs.Prelude.{◌≡◌, ◌<◌, ◌≤◌, None, IfSome, find, is_some, map, length, HoldsAt, if◌then◌else◌};
+ghost use Rattle.std.specs.Prelude.{◌≡◌, ◌<◌, ◌≤◌, true, None, IfSome, find, is_some, map, length, HoldsAt, if◌then◌else◌};
 ghost use Rattle.std.specs.List.{position_or_len, remove};
 ghost use Rattle.snow_lineup.specs.declared.marks.Mark.TheVariants.{New};
 ghost use Rattle.snow_issue.specs.Settling.{is_hopeless, is_ready, is_free, gone_with};
-ghost use Rattle.snow_issue.specs.Lists.{without, AreWithinLimits};
-ghost use Rattle.snow_issue.specs.Known.{lists_of, Knows, NoneRipe, TakesStep};
+ghost use Rattle.snow_plain.specs.Board as model;
+ghost use Rattle.snow_issue.specs.Lists.{without, is_asked, AreWithinLimits};
+ghost use Rattle.snow_issue.specs.Known.{items_of, lists_of, Knows, NoneRipe, TakesStep};
 ghost use Rattle.snow_lineup.specs.Marks.{has};
 ghost use Rattle.snow_lineup.specs.Index.{woken};
 
@@ -71,9 +72,29 @@ impl Queue {
         requires knows { Knows self.old (B.board board.now) }
         ensures { TakesStep self.old self.new (B.board board.now) result }
     {
-        let block = self.take_block(at);
+        let block = self.give_up(at);
         self.follow(&block);
         Some(Work::Hopeless(block))
+    }
+
+    // Takes the block at a place out, which nobody can issue. Where it is still asked for, its children
+    // and the replies that name it wait on, and none is to be looked at.
+    fn give_up(&mut self, at: usize) -> Waiting
+        requires { at < length self.old.seats }
+        ensures taken { HoldsAt (λ s. result ≡ s.0) self.old.seats at }
+        ensures items { items_of self.new.seats ≡ remove (items_of self.old.seats) at }
+        ensures asked { is_asked (lists_of self.old) result.header.id ≡ true → self.new.seats ≡ remove self.old.seats at }
+        ensures knows { (b : model.Board) → Knows self.old b → Knows self.new b }
+        ensures gets { self.new.gets ≡ self.old.gets }
+        ensures held { self.new.held ≡ self.old.held }
+        ensures gone { self.new.gone ≡ self.old.gone }
+        ensures limits { AreWithinLimits (lists_of self.new) }
+    {
+        let id = self.waiting.header(at).id;
+        if self.gets.asks_for(&id) {
+            return self.waiting.take(at);
+        }
+        self.take_block(at)
     }
 
     /// Takes the earliest ready block out, which stands at this place, where none is hopeless.

@@ -12,10 +12,6 @@ use snow_map::IdMap;
 use std::alloc::{AllocError, Global};
 use std::marker::Model;
 
-// Seats of the index by identifier. At most 4,096 blocks wait, so that at most every fourth seat is
-// taken.
-const SEATS: usize = 16_384;
-
 impl Keyed for Waiting {
     ghost key = { λ w. w.header.parent };
 
@@ -29,7 +25,7 @@ impl Keyed for Waiting {
 #[derive(Drop)]
 pub(crate) struct WaitingList {
     lineup: Lineup<Waiting>,
-    heights: IdMap<u64, SEATS>,
+    heights: IdMap<u64>,
 }
 
 impl Model for WaitingList {

@@ -11,10 +11,6 @@ use std::collections::HashMap;
 use std::collections::hash_map::Entry;
 use std::marker::Model;
 
-// Seats of the index. At most 4,096 blocks wait, so that at most every fourth seat is taken. Held replies
-// may name 8,192.
-const SEATS: usize = 16_384;
-
 /// Places of a key, in the order in which they came.
 #[derive(Drop)]
 pub(crate) struct Row {
@@ -71,7 +67,7 @@ impl Row {
 /// mostly there are none.
 #[derive(Drop)]
 pub(crate) struct Places {
-    pub(crate) last: IdMap<u64, SEATS>,
+    pub(crate) last: IdMap<u64>,
     pub(crate) before: HashMap<Id, Row>,
 }
 
@@ -228,7 +224,7 @@ fn leave_before(before: &mut HashMap<Id, Row>, key: &Id, place: u64)
 }
 
 // A place of a key goes, if it is the last one.
-fn leave_last(last: &mut IdMap<u64, SEATS>, key: &Id, place: u64)
+fn leave_last(last: &mut IdMap<u64>, key: &Id, place: u64)
     ensures { (q : List ℕ) → option_to_list (value_of last.new q) ≡ (if bytes_eq key.now q then left_by place (option_to_list (value_of last.old q)) else option_to_list (value_of last.old q)) }
 {
     if let Some(there) = last.get(key) {

@@ -1,226 +1,269 @@
--- What a map has whose entries stand where they should, before and after a seat has another entry.
-use Rattle.std.proofs.Common.{◌≡◌, ℕ, ◌==◌, true, false, not, cond, List, [], ◌∷◌, ◌++◌, length, filter, Option, None, Some, bytes_eq, slice_get, slice_set, get_or, refl, sym, ap, ap₂, subst, ◌∙◌, arith, length-set, eq-eqb, eqb-true}
-use Rattle.std.specs.Bool.{⊤}
+-- What a map has once an entry came or went under its seat, or in the order.
+use Rattle.std.proofs.Common.{◌≡◌, ℕ, Bool, true, false, not, cond, nat_eq, List, [], ◌∷◌, Option, None, Some, Result, Ok, Err, bytes_eq, rules, refl, sym, ap, ap₂, subst, ◌∙◌}
+use Rattle.std.specs.List.{IsDistinct}
 use Rattle.std.specs.List.Sorted.{IsPermutation}
-use Rattle.std.specs.Map.{remove_entry, keys_of}
-use Rattle.std.specs.Option.{option_or, option_map_or, is_some}
-use Rattle.std.proofs.lemmas.List.Sorted.{IsPermutation-refl, IsPermutation-append_left}
-use Rattle.std.proofs.lemmas.Option.{MatchOption-at_some, same_Some}
-use Rattle.snow_map.specs.declared.seat.Seat.{Seat}
+use Rattle.std.specs.Map.{lookup, keys_of, remove_entry}
+use Rattle.std.specs.Option.{option_or, option_map, is_some, IsSome}
+use Rattle.std.specs.Result.{OnOk, OnErr, IsOk, IfOk}
+use Rattle.std.specs.Bool.{⊤}
+use Rattle.std.proofs.lemmas.Bool.{eqb-true, eq-eqb, true≢false}
+use Rattle.std.proofs.lemmas.Option.{same_Some}
 use Rattle.snow_map.specs.Entries.{value_of, HasAt}
-use Rattle.snow_map.specs.Seats.{place_of, is_at, is_there, is_free, has_at, value_in, has, with_entry, seated, entries_of, behind, IsPlaced, IsSeat, IsKept, IsPut, IsTaken}
-use Rattle.snow_map.proofs.Cases.{split_on, clash, same_id, id_itself, differs_back, apart_ids, appended, appended_keys, removed_left, both, some_there, none_there, read_there, set_here, set_elsewhere}
-use Rattle.snow_map.proofs.Seated.{seat_gives, AreFrom, found_from, one_more, one_less, same_keys}
+use Rattle.snow_map.specs.Kept.{place_of, gives, entries_of, is_own, is_far_by, IsPlaced, IsKept}
+use Rattle.snow_map.proofs.Lists.{split_on, clash, same_id, id_itself, same_cases, one_added, one_left}
+use Rattle.snow_map.proofs.Seats.{Near, found, all_distinct}
 
-module _ {V : Type 0} where
-  pub from_start : (count : ℕ) (seats : List (Seat V)) (others : List (List ℕ × V)) → IsKept count seats others → AreFrom count 0 seats
-  from_start count seats others kept place seat e at is =
-      let here = (MatchOption-at_some ⊤ (IsPlaced count place others) e is (kept.each place seat at).placed).here in omega (arith, here)
+-- the parts of a map that is changed at an identifier
+pub record IsChanged {V : Type 0} (near near' : Near V) (far far' : List (List ℕ × V)) (id : List ℕ) (value : Option V) : Type 0 where
+  pub kept : IsKept near' far'
+  pub has : HasAt (entries_of near far) (entries_of near' far') id value
 
-  -- the value at an identifier is that of its seat, or else that of the others
-  pub value_found : (count : ℕ) (seats : List (Seat V)) (others : List (List ℕ × V)) → IsKept count seats others → (id : List ℕ)
-      → value_of (entries_of seats others) id ≡ option_or (seat_gives (slice_get seats (place_of count id)) id) (value_of others id)
-  value_found count seats others kept id =
-      appended (bytes_eq id) (seated seats) others
-      ∙ ap (λ o. option_or o (value_of others id)) (found_from count 0 seats (place_of count id) id (from_start count seats others kept) (omega arith))
+-- cases on a result
+on_result : {T E A B P : Type 0} (r : Result T E) → OnOk r A → OnErr r B → (A → P) → (B → P) → P
+on_result (Ok value) ok err holds fails = holds ok
+on_result (Err e) ok err holds fails = fails err
 
-  -- the same by what the seat is
-  pub value_at_seat : (count : ℕ) (seats : List (Seat V)) (others : List (List ℕ × V)) → IsKept count seats others → (at : ℕ) (id : List ℕ) (seat : Option (Seat V))
-      → at ≡ place_of count id → slice_get seats at ≡ seat → value_of (entries_of seats others) id ≡ option_or (seat_gives seat id) (value_of others id)
-  value_at_seat count seats others kept at id seat place there =
-      value_found count seats others kept id ∙ ap (λ o. option_or (seat_gives o id) (value_of others id)) (ap (slice_get seats) (sym place) ∙ there)
+-- what is so where a call succeeded
+pub when_ok : {T E A B : Type 0} (r : Result T E) → OnOk r A → (A → B) → OnOk r B
+when_ok (Ok value) ok f = f ok
+when_ok (Err e) ok f = tt
 
-  none_behind : (count place : ℕ) (others : List (List ℕ × V)) (id : List ℕ) → behind count place others ≡ 0 → place_of count id ≡ place → value_of others id ≡ None
-  none_behind count place [] id none at = refl
-  none_behind count place (e ∷ later) id none at =
-      (elim (is_at count place e.0) as
-      (λ b. is_at count place e.0 ≡ b → length (cond b (e.0 ∷ filter (is_at count place) (keys_of later)) (filter (is_at count place) (keys_of later))) ≡ 0
-      → cond (bytes_eq id e.0) (Some e.1) (value_of later id) ≡ None) [
-        | true ↦ λ t none. absurd (omega (arith, none))
-        | false ↦ λ t none.
-            ap (λ b. cond b (Some e.1) (value_of later id))
-            (apart_ids id e.0 (λ same. clash (is_at count place e.0) (eq-eqb (place_of count e.0) place (ap (place_of count) (sym same) ∙ at)) t))
-            ∙ none_behind count place later id none at
-      ]) refl none
+pub when_ok_with : {T E : Type 0} {P Q : T → Type 0} (r : Result T E) → IfOk r P → ((value : T) → P value → Q value) → IfOk r Q
+when_ok_with (Ok value) ok f = f value ok
+when_ok_with (Err e) ok f = tt
 
-  -- where none of a seat's identifiers stands elsewhere, the others have none of them
-  pub nothing_behind : (count : ℕ) (seats : List (Seat V)) (others : List (List ℕ × V)) → IsKept count seats others → (at : ℕ) (seat : Seat V) (id : List ℕ)
-      → at ≡ place_of count id → slice_get seats at ≡ Some seat → seat.behind ≡ 0 → value_of others id ≡ None
-  nothing_behind count seats others kept at seat id place there none =
-      none_behind count at others id (sym (kept.each at seat there).counted ∙ none) (sym place)
+pub some_within : {X Y : Type 0} (o : Option (X × Y)) → IsSome (option_map (λ e. e.1) o) → IsSome o
+some_within None some = some
+some_within (Some x) some = search (rules)
 
-  pub last_there : (count : ℕ) (seats : List (Seat V)) (others : List (List ℕ × V)) (at : ℕ) (id : List ℕ) → IsKept count seats others → at ≡ place_of count id
-      → is_there (λ s. s.behind == 0) seats at ≡ true → value_of others id ≡ None
-  last_there count seats others at id kept place is =
-      let seat = some_there (λ s. s.behind == 0) (slice_get seats at) is in
-      nothing_behind count seats others kept at seat.0 id place seat.1 (eqb-true seat.0.behind 0 seat.2)
+-- a call that fails only where there is nothing
+pub must_succeed : {T E X : Type 0} (r : Result T E) (o : Option X) → OnErr r (o ≡ None) → IsSome o → IsOk r
+must_succeed (Ok value) o absent some = search (rules)
+must_succeed (Err e) o absent some = search (rules, absent, some)
 
-  pub free_there : (count : ℕ) (seats : List (Seat V)) (others : List (List ℕ × V)) (at : ℕ) (id : List ℕ) → IsKept count seats others → at ≡ place_of count id → is_there is_free seats at ≡ true
-      → (is_there (λ s. not (is_some s.entry)) seats at ≡ true) × (value_of others id ≡ None)
-  free_there count seats others at id kept place is =
-      let seat = some_there is_free (slice_get seats at) is in
-      let parts = both (not (is_some seat.0.entry)) (seat.0.behind == 0) seat.2 in
-      (ap (λ o. option_map_or (λ s. not (is_some s.entry)) o false) seat.1 ∙ parts.0, nothing_behind count seats others kept at seat.0 id place seat.1 (eqb-true seat.0.behind 0 parts.1))
+none_there : {X : Type 0} (o : Option X) → is_some o ≡ false → o ≡ None
+none_there None is = refl
+none_there (Some x) is = absurd (true≢false is)
 
-  -- the entry of a seat that has an identifier
-  pub holder : (seat : Seat V) (id : List ℕ) → has seat id ≡ true → (e : List ℕ × V) × (seat.entry ≡ Some e) × (bytes_eq id e.0 ≡ true)
-  holder seat id is = by seat.entry refl is
+no_value : {X : Type 0} (o : Option X) (b : Bool) → o ≡ None → cond b o o ≡ None
+no_value o true none = none
+no_value o false none = none
+
+or_none : {X : Type 0} (o : Option X) → option_or o None ≡ o
+or_none None = refl
+or_none (Some x) = refl
+
+-- a map without entries
+pub none_kept : {V : Type 0} (near : Near V) (far : List (List ℕ × V)) → near ≡ [] → far ≡ [] → IsKept near far
+unfolding IsDistinct
+none_kept near far none nothing =
+    subst (λ n. IsKept n far) (sym none) (subst (IsKept []) (sym nothing) (record { unique = tt; once = tt; placed = λ place e is. absurd (none_some is) }))
+  where
+    none_some : {X : Type 0} {x : X} → None ≡ Some x → ⊥
+    none_some h = cc
+
+module _ {V : Type 0} (near : Near V) (far : List (List ℕ × V)) (id : List ℕ) (kept : IsKept near far) where
+  -- no entry is in both places
+  pub added : (near' : Near V) (far' : List (List ℕ × V)) (v : V) → IsChanged near near' far far' id (Some v) → value_of (entries_of near far) id ≡ None → IsPermutation ((id, v) ∷ entries_of near far) (entries_of near' far')
+  added near' far' v changed = one_added (entries_of near far) (entries_of near' far') id v (all_distinct near far kept) (all_distinct near' far' changed.kept) changed.has
+
+  pub left : (near' : Near V) (far' : List (List ℕ × V)) → IsChanged near near' far far' id None → IsPermutation (remove_entry (bytes_eq id) (entries_of near far)) (entries_of near' far')
+  left near' far' changed = one_left (entries_of near far) (entries_of near' far') id (all_distinct near far kept) (all_distinct near' far' changed.kept) changed.has
+
+  abbrev seat : Option (List ℕ × V)
+  seat = lookup (nat_eq (place_of id)) near
+
+  -- what stands under the seat is the identifier's own, if there is anything
+  abbrev IsOwn : Option (List ℕ × V) → Type 0
+  IsOwn None = ⊤
+  IsOwn (Some e) = bytes_eq id e.0 ≡ true
+
+  -- so it gives nobody else anything
+  nothing_else : (o : Option (List ℕ × V)) → IsOwn o → (q : List ℕ) → bytes_eq id q ≡ false → gives o q ≡ None
+  nothing_else None own q f = refl
+  nothing_else (Some e) own q f = ap (λ b. cond b (Some e.1) None) (ap (bytes_eq q) (sym (same_id id e.0 own)) ∙ same_cases q id ∙ f)
+
+  own_gives : (o : Option (List ℕ × V)) → IsOwn o → gives o id ≡ option_map (λ e. e.1) o
+  own_gives None own = refl
+  own_gives (Some e) own = ap (λ b. cond b (Some e.1) None) own
+
+  own_alone : (o : Option (List ℕ × V)) → seat ≡ o → IsOwn o → is_far_by o far id ≡ false → value_of far id ≡ None
+  own_alone None is own not_far = none_there (value_of far id) not_far
+  own_alone (Some e) is own not_far = ap (value_of far) (same_id id e.0 own) ∙ (kept.placed (place_of id) e is).alone
+
+  own_near : (o : Option (List ℕ × V)) → is_far_by o far id ≡ false → IsOwn o
+  own_near None not_far = tt
+  own_near (Some e) not_far = split_on (bytes_eq id e.0) (λ t. t) (λ f. clash (not (bytes_eq id e.0)) (ap not f) not_far)
+
+  own_has : (o : Option (List ℕ × V)) → is_own o id ≡ true → IsOwn o
+  own_has None has = absurd (true≢false (sym has))
+  own_has (Some e) has = has
+
+  not_far_has : (o : Option (List ℕ × V)) → is_own o id ≡ true → is_far_by o far id ≡ false
+  not_far_has None has = absurd (true≢false (sym has))
+  not_far_has (Some e) has = ap not has
+
+  far_nothing : (o : Option (List ℕ × V)) → is_far_by o far id ≡ true → gives o id ≡ None
+  far_nothing None is_so = refl
+  far_nothing (Some e) is_so = split_on (bytes_eq id e.0) (λ t. clash (not (bytes_eq id e.0)) is_so (ap not t)) (λ f. ap (λ b. cond b (Some e.1) None) f)
+
+  other_nothing : (o : Option (List ℕ × V)) → is_own o id ≡ false → gives o id ≡ None
+  other_nothing None has = refl
+  other_nothing (Some e) has = ap (λ b. cond b (Some e.1) None) has
+
+  -- the value at the identifier, by where its entry stands
+  pub own_value : is_far_by seat far id ≡ false → value_of (entries_of near far) id ≡ option_map (λ e. e.1) seat
+  own_value not_far =
+      let own = own_near seat not_far in
+      found near far kept id ∙ ap₂ option_or (own_gives seat own) (own_alone seat refl own not_far) ∙ or_none (option_map (λ e. e.1) seat)
+
+  pub near_value : is_own seat id ≡ true → value_of (entries_of near far) id ≡ option_map (λ e. e.1) seat
+  near_value has = own_value (not_far_has seat has)
+
+  in_order_value : gives seat id ≡ None → value_of (entries_of near far) id ≡ value_of far id
+  in_order_value none = found near far kept id ∙ ap (λ o. option_or o (value_of far id)) none
+
+  pub far_value : is_far_by seat far id ≡ true → value_of (entries_of near far) id ≡ value_of far id
+  far_value is_so = in_order_value (far_nothing seat is_so)
+
+  pub other_value : is_own seat id ≡ false → value_of (entries_of near far) id ≡ value_of far id
+  other_value has = in_order_value (other_nothing seat has)
+
+  -- what the map has then, by what stands under each seat and in the order
+  now_has : (near' : Near V) (far' : List (List ℕ × V)) (value : Option V) → IsKept near' far'
+      → ((q : List ℕ) → option_or (gives (lookup (nat_eq (place_of q)) near') q) (value_of far' q) ≡ cond (bytes_eq id q) value (option_or (gives (lookup (nat_eq (place_of q)) near) q) (value_of far q)))
+      → IsChanged near near' far far' id value
+  now_has near' far' value kept' has = record {
+    kept = kept';
+    has = λ q. found near' far' kept' q ∙ has q ∙ ap (λ o. cond (bytes_eq id q) value o) (sym (found near far kept q));
+  }
+
+  -- what another identifier finds where another entry, or none, stands under the seat
+  elsewhere : (near' : Near V) (w : Option (List ℕ × V)) → IsOwn seat → IsOwn w → ((p : ℕ) → lookup (nat_eq p) near' ≡ cond (nat_eq (place_of id) p) w (lookup (nat_eq p) near))
+      → (q : List ℕ) → bytes_eq id q ≡ false → gives (lookup (nat_eq (place_of q)) near') q ≡ gives (lookup (nat_eq (place_of q)) near) q
+  elsewhere near' w own own' puts q f =
+      split_on (nat_eq (place_of id) (place_of q))
+      (λ t.
+      ap (λ o. gives o q) (puts (place_of q) ∙ ap (λ b. cond b w (lookup (nat_eq (place_of q)) near)) t) ∙ nothing_else w own' q f
+      ∙ sym (ap (λ o. gives o q) (ap (λ p. lookup (nat_eq p) near) (sym (eqb-true (place_of id) (place_of q) t))) ∙ nothing_else seat own q f))
+      (λ u. ap (λ o. gives o q) (puts (place_of q) ∙ ap (λ b. cond b w (lookup (nat_eq (place_of q)) near)) u))
+
+  here : (near' : Near V) (w : Option (List ℕ × V)) → ((p : ℕ) → lookup (nat_eq p) near' ≡ cond (nat_eq (place_of id) p) w (lookup (nat_eq p) near)) → lookup (nat_eq (place_of id)) near' ≡ w
+  here near' w puts = puts (place_of id) ∙ ap (λ b. cond b w seat) (eq-eqb (place_of id) (place_of id) refl)
+
+  -- an entry comes to stand under its seat, in place of its own if there was one
+  pub near_put : (near' : Near V) (v : V) → is_far_by seat far id ≡ false → ((p : ℕ) → lookup (nat_eq p) near' ≡ cond (nat_eq (place_of id) p) (Some (id, v)) (lookup (nat_eq p) near))
+      → IsDistinct nat_eq (keys_of near') → IsChanged near near' far far id (Some v)
+  near_put near' v not_far puts unique = now_has near' far (Some v) kept' has
     where
-      by : (entry : Option (List ℕ × V)) → seat.entry ≡ entry → is_some (value_in entry id) ≡ true → (e : List ℕ × V) × (seat.entry ≡ Some e) × (bytes_eq id e.0 ≡ true)
-      by None same is = absurd cc
-      by (Some e) same is = split_on (bytes_eq id e.0) (λ t. (e, same, t)) (λ f. absurd (let none = ap (λ b. is_some (cond b (Some e.1) None)) (sym f) ∙ is in cc))
+      own : IsOwn seat
+      own = own_near seat not_far
 
-  -- the others haven't what a seat has
-  pub held_alone : (count : ℕ) (seats : List (Seat V)) (others : List (List ℕ × V)) → IsKept count seats others → (at : ℕ) (seat : Seat V) (e : List ℕ × V) (id : List ℕ)
-      → slice_get seats at ≡ Some seat → seat.entry ≡ Some e → bytes_eq id e.0 ≡ true → (place_of count id ≡ at) × (value_of others id ≡ None)
-  held_alone count seats others kept at seat e id there some same =
-      let placed = MatchOption-at_some ⊤ (IsPlaced count at others) e some (kept.each at seat there).placed in
-      let key = same_id id e.0 same in
-      (ap (place_of count) key ∙ placed.here, ap (value_of others) key ∙ placed.alone)
+      alone : value_of far id ≡ None
+      alone = own_alone seat refl own not_far
 
-  -- a seat gives nothing to others than the one that it has
-  pub gives_no_other : (entry : Option (List ℕ × V)) (e : List ℕ × V) (id q : List ℕ) → entry ≡ Some e → bytes_eq id e.0 ≡ true → bytes_eq id q ≡ false → value_in entry q ≡ None
-  gives_no_other entry e id q some same other =
-      ap (λ o. value_in o q) some ∙ ap (λ b. cond b (Some e.1) None) (ap (bytes_eq q) (sym (same_id id e.0 same)) ∙ differs_back q id other)
-
-  -- ---- another seat at a place
-
-  pub kept_set : (count : ℕ) (seats : List (Seat V)) (others : List (List ℕ × V)) → IsKept count seats others → (at : ℕ) (was is : Seat V) → slice_get seats at ≡ Some was
-      → IsSeat count at others is → IsKept count (slice_set seats at is) others
-  kept_set count seats others kept at was is there seat =
-      let long = length-set seats at is in
-      record {
-        each = λ place s reads.
-            split_on (place == at)
+      kept' : IsKept near' far
+      kept' = record {
+        unique = unique;
+        once = kept.once;
+        placed = λ p e is. split_on (nat_eq (place_of id) p)
             (λ t.
-            let same : place ≡ at = eqb-true place at t in
-            let found : is ≡ s = same_Some is s (sym (set_here seats at is was there) ∙ ap (slice_get (slice_set seats at is)) (sym same) ∙ reads) in
-            subst (λ p. IsSeat count p others s) (sym same) (subst (IsSeat count at others) found seat))
-            (λ f. kept.each place s (sym (set_elsewhere seats at place is (λ e. clash (place == at) (eq-eqb place at e) f)) ∙ reads));
-        whole = λ some. long ∙ kept.whole (omega (arith, some, long));
-        begun = λ some none. kept.begun some (omega (arith, none, long));
+            let one = same_Some (id, v) e (sym (puts p ∙ ap (λ b. cond b (Some (id, v)) (lookup (nat_eq p) near)) t) ∙ is) in
+            subst (IsPlaced far p) one (record { here = eqb-true (place_of id) p t; alone = alone }))
+            (λ f. kept.placed p e (sym (puts p ∙ ap (λ b. cond b (Some (id, v)) (lookup (nat_eq p) near)) f) ∙ is));
       }
 
-  pub gives_same : (seats : List (Seat V)) (at : ℕ) (was is : Seat V) (q : List ℕ) → slice_get seats at ≡ Some was → value_in is.entry q ≡ value_in was.entry q → (place : ℕ)
-      → seat_gives (slice_get (slice_set seats at is) place) q ≡ seat_gives (slice_get seats place) q
-  gives_same seats at was is q there gives place =
-      split_on (place == at)
-      (λ t.
-      let same : place ≡ at = eqb-true place at t in
-      ap (λ o. seat_gives o q) (ap (slice_get (slice_set seats at is)) same ∙ set_here seats at is was there)
-      ∙ gives
-      ∙ sym (ap (λ o. seat_gives o q) (ap (slice_get seats) same ∙ there)))
-      (λ f. ap (λ o. seat_gives o q) (set_elsewhere seats at place is (λ e. clash (place == at) (eq-eqb place at e) f)))
+      has : (q : List ℕ) → option_or (gives (lookup (nat_eq (place_of q)) near') q) (value_of far q) ≡ cond (bytes_eq id q) (Some v) (option_or (gives (lookup (nat_eq (place_of q)) near) q) (value_of far q))
+      has q =
+          split_on (bytes_eq id q)
+          (λ t.
+          subst (λ x. option_or (gives (lookup (nat_eq (place_of x)) near') x) (value_of far x) ≡ cond (bytes_eq id x) (Some v) (option_or (gives (lookup (nat_eq (place_of x)) near) x) (value_of far x)))
+          (same_id id q t)
+          (ap (λ o. option_or o (value_of far id)) (ap (λ o. gives o id) (here near' (Some (id, v)) puts) ∙ ap (λ b. cond b (Some v) None) (id_itself id))
+          ∙ sym (ap (λ b. cond b (Some v) (option_or (gives seat id) (value_of far id))) (id_itself id))))
+          (λ f.
+          ap (λ o. option_or o (value_of far q)) (elsewhere near' (Some (id, v)) own (id_itself id) puts q f)
+          ∙ sym (ap (λ b. cond b (Some v) (option_or (gives (lookup (nat_eq (place_of q)) near) q) (value_of far q))) f))
 
-  -- what each identifier has, where the seats and the others give one a value and the rest what they gave
-  pub has_now : (count : ℕ) (seats seats' : List (Seat V)) (others others' : List (List ℕ × V)) (id : List ℕ) (value : Option V) → IsKept count seats others → IsKept count seats' others'
-      → option_or (seat_gives (slice_get seats' (place_of count id)) id) (value_of others' id) ≡ value
-      → ((q : List ℕ) → bytes_eq id q ≡ false → seat_gives (slice_get seats' (place_of count q)) q ≡ seat_gives (slice_get seats (place_of count q)) q)
-      → ((q : List ℕ) → bytes_eq id q ≡ false → value_of others' q ≡ value_of others q)
-      → HasAt (entries_of seats others) (entries_of seats' others') id value
-  has_now count seats seats' others others' id value kept kept' here seats_same others_same q =
-      value_found count seats' others' kept' q
-      ∙ split_on (bytes_eq id q)
-      (λ t.
-      subst (λ k. option_or (seat_gives (slice_get seats' (place_of count k)) k) (value_of others' k) ≡ value) (same_id id q t) here
-      ∙ ap (λ b. cond b value (value_of (entries_of seats others) q)) (sym t))
-      (λ f. ap₂ option_or (seats_same q f) (others_same q f) ∙ sym (value_found count seats others kept q) ∙ ap (λ b. cond b value (value_of (entries_of seats others) q)) (sym f))
+  -- whether or not the call succeeded
+  pub near_put_kept : {T E : Type 0} (r : Result T E) (near' : Near V) (v : V) → is_far_by seat far id ≡ false → OnOk r ((p : ℕ) → lookup (nat_eq p) near' ≡ cond (nat_eq (place_of id) p) (Some (id, v)) (lookup (nat_eq p) near))
+      → OnErr r (near' ≡ near) → IsDistinct nat_eq (keys_of near') → IsKept near' far
+  near_put_kept r near' v not_far ok err unique = on_result r ok err (λ puts. (near_put near' v not_far puts unique).kept) (λ same. subst (λ n. IsKept n far) (sym same) kept)
 
-  -- ---- an entry comes to its seat, and leaves it
-
-  abbrev holding : Seat V → List ℕ → V → Seat V
-  holding was id value = with_entry was (Some (id, value))
-
-  kept_given : (count : ℕ) (seats : List (Seat V)) (others : List (List ℕ × V)) (at : ℕ) (was : Seat V) (id : List ℕ) (value : V) → IsKept count seats others → slice_get seats at ≡ Some was
-      → place_of count id ≡ at → value_of others id ≡ None → IsKept count (slice_set seats at (holding was id value)) others
-  kept_given count seats others at was id value kept there place alone =
-      kept_set count seats others kept at was (holding was id value) there (record { placed = record { here = place; alone = alone }; counted = (kept.each at was there).counted })
-
-  given : (count : ℕ) (seats : List (Seat V)) (others : List (List ℕ × V)) (at : ℕ) (was : Seat V) (id : List ℕ) (value : V) → IsKept count seats others → slice_get seats at ≡ Some was
-      → place_of count id ≡ at → value_of others id ≡ None → ((q : List ℕ) → bytes_eq id q ≡ false → value_in was.entry q ≡ None)
-      → HasAt (entries_of seats others) (entries_of (slice_set seats at (holding was id value)) others) id (Some value)
-  given count seats others at was id value kept there place alone no_other =
-      let is : Seat V = holding was id value in
-      has_now count seats (slice_set seats at is) others others id (Some value) kept (kept_given count seats others at was id value kept there place alone)
-      (ap (λ o. option_or (seat_gives o id) (value_of others id)) (ap (slice_get (slice_set seats at is)) place ∙ set_here seats at is was there)
-      ∙ ap (λ b. option_or (cond b (Some value) None) (value_of others id)) (id_itself id))
-      (λ q f. gives_same seats at was is q there (ap (λ b. cond b (Some value) None) (differs_back q id f) ∙ sym (no_other q f)) (place_of count q))
-      (λ q f. refl)
-
-  told : (count : ℕ) (seats : List (Seat V)) (others : List (List ℕ × V)) (at : ℕ) (was : Seat V) (id : List ℕ) → IsKept count seats others → slice_get seats at ≡ Some was
-      → place_of count id ≡ at → value_of others id ≡ None → value_in was.entry id ≡ value_of (entries_of seats others) id
-  told count seats others at was id kept there place alone =
-      sym (value_found count seats others kept id ∙ ap₂ option_or (ap (λ o. seat_gives o id) (ap (slice_get seats) place ∙ there)) alone ∙ or_none (value_in was.entry id))
+  -- an entry under its seat goes
+  pub near_take : (near' : Near V) → is_own seat id ≡ true → ((p : ℕ) → lookup (nat_eq p) near' ≡ cond (nat_eq (place_of id) p) None (lookup (nat_eq p) near)) → IsDistinct nat_eq (keys_of near') → IsChanged near near' far far id None
+  near_take near' has_it puts unique = now_has near' far None kept' has
     where
-      or_none : (o : Option V) → option_or o None ≡ o
-      or_none None = refl
-      or_none (Some v) = refl
+      own : IsOwn seat
+      own = own_has seat has_it
 
-  pub put : (count : ℕ) (seats : List (Seat V)) (others : List (List ℕ × V)) (at : ℕ) (was is : Seat V) (id : List ℕ) (value : V) → IsKept count seats others → was ≡ get_or seats at was
-      → is_there (λ s. not (is_some s.entry)) seats at ≡ true → is ≡ holding was id value → place_of count id ≡ at → value_of others id ≡ None
-      → IsKept count (slice_set seats at is) others × IsPut (entries_of seats others) (entries_of (slice_set seats at is) others) id value None
-  put count seats others at was is id value kept reads is_empty now place alone =
-      let seat = read_there (λ s. not (is_some s.entry)) seats at was is_empty reads in
-      let there = seat.0 in
-      let empty = none_there was.entry seat.1 in
-      subst (λ s. IsKept count (slice_set seats at s) others × IsPut (entries_of seats others) (entries_of (slice_set seats at s) others) id value None) (sym now) (
-        kept_given count seats others at was id value kept there place alone,
-        record {
-          told = sym (ap (λ o. value_in o id) empty) ∙ told count seats others at was id kept there place alone;
-          updates = given count seats others at was id value kept there place alone (λ q f. ap (λ o. value_in o q) empty);
-          added = λ none. IsPermutation-append_left others ((id, value) ∷ seated seats) (seated (slice_set seats at (holding was id value))) (one_more seats at was (holding was id value) (id, value) there empty refl);
-          stays = λ some. absurd (clash (is_some (value_of (entries_of seats others) id)) some (ap is_some (sym (told count seats others at was id kept there place alone) ∙ ap (λ o. value_in o id) empty)));
-        },
-      )
+      alone : value_of far id ≡ None
+      alone = own_alone seat refl own (not_far_has seat has_it)
 
-  pub replaced : (count : ℕ) (seats : List (Seat V)) (others : List (List ℕ × V)) (at : ℕ) (was is : Seat V) (id : List ℕ) (value : V) (result : Option V) → IsKept count seats others
-      → was ≡ get_or seats at was → has_at seats at id ≡ true → is ≡ holding was id value → result ≡ value_in was.entry id
-      → IsKept count (slice_set seats at is) others × IsPut (entries_of seats others) (entries_of (slice_set seats at is) others) id value result
-  replaced count seats others at was is id value result kept reads it_has now gave =
-      let seat = read_there (λ s. has s id) seats at was it_has reads in
-      let there = seat.0 in
-      let has_it = seat.1 in
-      let held = holder was id has_it in
-      let alone = held_alone count seats others kept at was held.0 id there held.1 held.2 in
-      let tells = told count seats others at was id kept there alone.0 alone.1 in
-      subst (λ s. IsKept count (slice_set seats at s) others × IsPut (entries_of seats others) (entries_of (slice_set seats at s) others) id value result) (sym now) (
-        kept_given count seats others at was id value kept there alone.0 alone.1,
-        record {
-          told = gave ∙ tells;
-          updates = given count seats others at was id value kept there alone.0 alone.1 (λ q f. gives_no_other was.entry held.0 id q held.1 held.2 f);
-          added = λ none. absurd (clash (is_some (value_in was.entry id)) has_it (ap is_some (tells ∙ none)));
-          stays = λ some.
-              appended_keys (seated (slice_set seats at (holding was id value))) others
-              ∙ ap (λ l. l ++ keys_of others) (same_keys seats at was (holding was id value) held.0 (id, value) there held.1 refl (same_id id held.0.0 held.2))
-              ∙ sym (appended_keys (seated seats) others);
-        },
-      )
+      none_some : {e : List ℕ × V} → None ≡ Some e → ⊥
+      none_some h = cc
 
-  pub taken : (count : ℕ) (seats : List (Seat V)) (others : List (List ℕ × V)) (at : ℕ) (was is : Seat V) (id : List ℕ) (result : Option V) → IsKept count seats others
-      → was ≡ get_or seats at was → has_at seats at id ≡ true → is ≡ with_entry was None → result ≡ value_in was.entry id
-      → IsKept count (slice_set seats at is) others × IsTaken (entries_of seats others) (entries_of (slice_set seats at is) others) id result
-  taken count seats others at was is id result kept reads it_has now gave =
-      let seat = read_there (λ s. has s id) seats at was it_has reads in
-      let there = seat.0 in
-      let has_it = seat.1 in
-      let held = holder was id has_it in
-      let alone = held_alone count seats others kept at was held.0 id there held.1 held.2 in
-      let left : Seat V = with_entry was None in
-      let kept' = kept_set count seats others kept at was left there (record { placed = tt; counted = (kept.each at was there).counted }) in
-      let found : is_some (value_of (seated seats) id) ≡ true =
-      ap is_some (found_from count 0 seats at id (from_start count seats others kept) (omega (arith, alone.0)) ∙ ap (λ o. seat_gives o id) there) ∙ has_it
-      in
-      subst (λ s. IsKept count (slice_set seats at s) others × IsTaken (entries_of seats others) (entries_of (slice_set seats at s) others) id result) (sym now) (
-        kept',
-        record {
-          told = gave ∙ told count seats others at was id kept there alone.0 alone.1;
-          updates = has_now count seats (slice_set seats at left) others others id None kept kept'
-              (ap (λ o. option_or (seat_gives o id) (value_of others id)) (ap (slice_get (slice_set seats at left)) alone.0 ∙ set_here seats at left was there) ∙ alone.1)
-              (λ q f. gives_same seats at was left q there (sym (gives_no_other was.entry held.0 id q held.1 held.2 f)) (place_of count q))
-              (λ q f. refl);
-          left = subst (IsPermutation (remove_entry (bytes_eq id) (entries_of seats others)))
-              (removed_left (bytes_eq id) (seated seats) others found
-              ∙ ap (λ l. l ++ others) (one_less count 0 seats at was left held.0 id (from_start count seats others kept) there held.1 held.2 refl))
-              (IsPermutation-refl (remove_entry (bytes_eq id) (entries_of seats others)));
-        },
-      )
+      kept' : IsKept near' far
+      kept' = record {
+        unique = unique;
+        once = kept.once;
+        placed = λ p e is. split_on (nat_eq (place_of id) p)
+            (λ t. absurd (none_some (sym (puts p ∙ ap (λ b. cond b None (lookup (nat_eq p) near)) t) ∙ is)))
+            (λ f. kept.placed p e (sym (puts p ∙ ap (λ b. cond b None (lookup (nat_eq p) near)) f) ∙ is));
+      }
+
+      has : (q : List ℕ) → option_or (gives (lookup (nat_eq (place_of q)) near') q) (value_of far q) ≡ cond (bytes_eq id q) None (option_or (gives (lookup (nat_eq (place_of q)) near) q) (value_of far q))
+      has q =
+          split_on (bytes_eq id q)
+          (λ t.
+          subst (λ x. option_or (gives (lookup (nat_eq (place_of x)) near') x) (value_of far x) ≡ cond (bytes_eq id x) None (option_or (gives (lookup (nat_eq (place_of x)) near) x) (value_of far x)))
+          (same_id id q t)
+          (ap₂ option_or (ap (λ o. gives o id) (here near' None puts)) alone
+          ∙ sym (ap (λ b. cond b None (option_or (gives seat id) (value_of far id))) (id_itself id))))
+          (λ f.
+          ap (λ o. option_or o (value_of far q)) (elsewhere near' None own tt puts q f)
+          ∙ sym (ap (λ b. cond b None (option_or (gives (lookup (nat_eq (place_of q)) near) q) (value_of far q))) f))
+
+  -- an entry in the order changes, comes or goes
+  far_changed : (far' : List (List ℕ × V)) (value : Option V) → gives seat id ≡ None → ((p : ℕ) (e : List ℕ × V) → lookup (nat_eq p) near ≡ Some e → cond (bytes_eq id e.0) value None ≡ None)
+      → HasAt far far' id value → IsDistinct bytes_eq (keys_of far') → IsChanged near near far far' id value
+  far_changed far' value nothing apart puts once = now_has near far' value kept' has
+    where
+      kept' : IsKept near far'
+      kept' = record {
+        unique = kept.unique;
+        once = once;
+        placed = λ p e is. record {
+          here = (kept.placed p e is).here;
+          alone = puts e.0 ∙ ap (λ o. cond (bytes_eq id e.0) value o) (kept.placed p e is).alone ∙ apart p e is;
+        };
+      }
+
+      has : (q : List ℕ) → option_or (gives (lookup (nat_eq (place_of q)) near) q) (value_of far' q) ≡ cond (bytes_eq id q) value (option_or (gives (lookup (nat_eq (place_of q)) near) q) (value_of far q))
+      has q =
+          split_on (bytes_eq id q)
+          (λ t.
+          subst (λ x. option_or (gives (lookup (nat_eq (place_of x)) near) x) (value_of far' x) ≡ cond (bytes_eq id x) value (option_or (gives (lookup (nat_eq (place_of x)) near) x) (value_of far x)))
+          (same_id id q t)
+          (ap₂ option_or nothing (puts id ∙ ap (λ b. cond b value (value_of far id)) (id_itself id))
+          ∙ sym (ap (λ b. cond b value (option_or (gives seat id) (value_of far id))) (id_itself id))))
+          (λ f.
+          ap (option_or (gives (lookup (nat_eq (place_of q)) near) q)) (puts q ∙ ap (λ b. cond b value (value_of far q)) f)
+          ∙ sym (ap (λ b. cond b value (option_or (gives (lookup (nat_eq (place_of q)) near) q) (value_of far q))) f))
+
+  pub far_put : (far' : List (List ℕ × V)) (v : V) → is_far_by seat far id ≡ true → HasAt far far' id (Some v) → IsDistinct bytes_eq (keys_of far') → IsChanged near near far far' id (Some v)
+  far_put far' v is_so puts once = far_changed far' (Some v) (far_nothing seat is_so) apart puts once
+    where
+      apart : (p : ℕ) (e : List ℕ × V) → lookup (nat_eq p) near ≡ Some e → cond (bytes_eq id e.0) (Some v) None ≡ None
+      apart p e is =
+          split_on (bytes_eq id e.0)
+          (λ t.
+          let at : seat ≡ Some e = ap (λ x. lookup (nat_eq x) near) (ap place_of (same_id id e.0 t) ∙ (kept.placed p e is).here) ∙ is in
+          clash (not (bytes_eq id e.0)) (sym (ap (λ o. is_far_by o far id) at) ∙ is_so) (ap not t))
+          (λ f. ap (λ b. cond b (Some v) None) f)
+
+  pub far_put_kept : {T E : Type 0} (r : Result T E) (far' : List (List ℕ × V)) (v : V) → is_far_by seat far id ≡ true → OnOk r (HasAt far far' id (Some v)) → OnErr r (far' ≡ far) → IsDistinct bytes_eq (keys_of far') → IsKept near far'
+  far_put_kept r far' v is_so ok err once = on_result r ok err (λ puts. (far_put far' v is_so puts once).kept) (λ same. subst (IsKept near) (sym same) kept)
+
+  pub far_take : (far' : List (List ℕ × V)) → is_own seat id ≡ false → HasAt far far' id None → IsDistinct bytes_eq (keys_of far') → IsChanged near near far far' id None
+  far_take far' has_not puts once = far_changed far' None (other_nothing seat has_not) (λ p e is. no_value None (bytes_eq id e.0) refl) puts once

@@ -1,7 +1,3 @@
-mod Cases
-mod Seated
+mod Lists
+mod Seats
 mod Kept
-mod Counted
-mod Behind
-mod Edited
-mod Distinct

@@ -1,47 +1,48 @@
+//! A map by identifier that costs a bounded number of steps whatever the identifiers are.
 ghost use Rattle.std.specs.Prelude.{◌≡◌, [], ◌∷◌, None, Some, IsSome, IsOk, IfOk, OnOk, OnErr, is_some, bytes_eq};
 ghost use Rattle.std.specs.List.{IsDistinct};
 ghost use Rattle.std.specs.List.Sorted.{IsPermutation};
 ghost use Rattle.std.specs.Map.{keys_of, remove_entry};
 ghost use Rattle.std.specs.Option.{option_copied};
 ghost use Rattle.snow_map.specs.Entries.{value_of, HasAt};
+ghost use Rattle.snow_map.specs.Kept.{is_far};
 
-use crate::shelf::Shelf;
-use crate::table::Table;
+use crate::{far, near};
 use snow_base::Id;
 use std::alloc::{AllocError, Global};
+use std::collections::{BTreeMap, HashMap};
 use std::marker::Model;
 
-/// How many second seats there are, whatever the number of the first ones. A quarter of what maps have as
-/// first ones: as few entries come there, hardly more share one than if there were a second one for each.
-const SECOND_SEATS: usize = 4096;
-
-/// Values by identifier, at most one for each. Contracts see the entries, in no order that is told. An
-/// identifier is looked for at its seat first, of which there are so many from the first entry on: few
-/// entries share one where there are several times as many. An entry whose seat is taken stands at its
-/// second seat, or in the kit's map where that is taken too.
+/// Values by identifier, at most one for each. Contracts see the entries, in no order that is told.
+///
+/// An entry stands under its identifier's seat, which few others share, or in order of identifiers
+/// where that seat is taken. So a look-up takes a step for most identifiers, and a search among at
+/// most as many as there are for those that a sender chose to share a seat.
 #[derive(Drop)]
-pub struct IdMap<V, const SEATS: usize> {
-    table: Table<V, Shelf<V, SECOND_SEATS>, SEATS>,
+pub struct IdMap<V> {
+    near: HashMap<u32, (Id, V)>,
+    far: BTreeMap<Id, V>,
 }
 
-impl<V, const SEATS: usize> Model for IdMap<V, SEATS> {
+impl<V> Model for IdMap<V> {
     ghost use Rattle.std.specs.Prelude.{ℕ, List};
-    ghost use Rattle.snow_map.specs.Seats.{IsKept, entries_of};
+    ghost use Rattle.snow_map.specs.Kept.{IsKept, entries_of};
 
     ghost Value = { List (List ℕ × V) };
 
-    ghost view = { λ a. entries_of a.table.seats.items a.table.others };
+    ghost view = { λ a. entries_of a.near.entries a.far.entries };
 
-    ghost invariant = { λ a. IsKept SEATS a.table.seats.items a.table.others };
+    ghost invariant = { λ a. IsKept a.near.entries a.far.entries };
 }
 
-impl<V: Drop, const SEATS: usize> IdMap<V, SEATS> {
+impl<V: Drop> IdMap<V> {
     /// No value. It takes no memory.
     pub fn new(alloc: Global) -> Self
         ensures { result ≡ [] }
     {
         IdMap {
-            table: Table::new(alloc),
+            near: HashMap::new(alloc),
+            far: BTreeMap::new(alloc),
         }
     }
 
@@ -51,8 +52,10 @@ impl<V: Drop, const SEATS: usize> IdMap<V, SEATS> {
         ensures value { option_copied result ≡ value_of self.now id.now }
         ensures unique { IsDistinct bytes_eq (keys_of self.now) }
     {
-        self.table.facts();
-        self.table.get(id)
+        match near::value(&self.near, id) {
+            Some(value) => Some(value),
+            None => far::value(&self.far, id),
+        }
     }
 
     /// Whether there is a value at an identifier.
@@ -63,8 +66,8 @@ impl<V: Drop, const SEATS: usize> IdMap<V, SEATS> {
         self.get(id).is_some()
     }
 
-    /// Puts a value at an identifier, and gives the one that was there. It takes no memory where there was
-    /// one. After want of memory all is as before.
+    /// Puts a value at an identifier, and returns the one that was there. It takes no memory where
+    /// there was one. On want of memory all is as before.
     #[inline(always)]
     pub fn insert(&mut self, id: Id, value: V) -> Result<Option<V>, AllocError>
         ensures before { IfOk result (λ before. before ≡ value_of self.old id) }
@@ -73,7 +76,11 @@ impl<V: Drop, const SEATS: usize> IdMap<V, SEATS> {
         ensures err { OnErr result (self.new ≡ self.old) }
         ensures succeeds { IsSome (value_of self.old id) → IsOk result }
     {
-        self.table.insert(id, value)
+        if is_far(&self.near, &self.far, &id) {
+            far::put(&mut self.far, id, value)
+        } else {
+            near::put(&mut self.near, id, value)
+        }
     }
 
     /// Takes the value at an identifier out. It takes no memory.
@@ -83,6 +90,21 @@ impl<V: Drop, const SEATS: usize> IdMap<V, SEATS> {
         ensures updates { HasAt self.old self.new id.now None }
         ensures left { IsPermutation (remove_entry (bytes_eq id.now) self.old) self.new }
     {
-        self.table.remove(id)
+        if near::has(&self.near, id) {
+            near::take(&mut self.near, id)
+        } else {
+            far::take(&mut self.far, id)
+        }
+    }
+}
+
+// Whether an identifier's entry belongs in the order: another has its seat, or it stands there.
+#[inline(always)]
+fn is_far<V: Drop>(near: &HashMap<u32, (Id, V)>, far: &BTreeMap<Id, V>, id: &Id) -> bool
+    ensures { result ≡ is_far near.now.entries far.now.entries id.now }
+{
+    match near::is_mine(near, id) {
+        Some(is_mine) => !is_mine,
+        None => far::value(far, id).is_some(),
     }
 }

@@ -1,11 +1,11 @@
 //! Values by identifier: what an index of blocks is made of.
 #![tactic(auto)]
 
+mod far;
+mod hashing;
 mod id_map;
-mod others;
-mod seat;
-mod shelf;
-mod table;
+mod near;
 
+pub use hashing::IdHashing;
 pub use id_map::IdMap;
-pub use seat::seat_of;
+pub use near::seat_of;

@@ -17,7 +17,7 @@ use Rattle.snow_node.specs.Outcome.{Comes, quietly, after_lines, going_on, then_
 use Rattle.snow_node.specs.Running.{Running}
 use Rattle.snow_node.specs.Closing.{tallied}
 use Rattle.snow_node.specs.Settling.{placed, done, worked, carried_out, one_settled, left_to_do, settled}
-use Rattle.snow_node.specs.Hearing.{IsFirst, IsNext, vote_held, vote_counts, vote_came, counted_if_awaited, taken_in, brought, block_brings}
+use Rattle.snow_node.specs.Hearing.{IsFirst, IsNext, waits_for, vote_held, vote_counts, vote_came, counted_if_awaited, taken_in, brought, block_brings}
 use Rattle.snow_node.proofs.Looping.{settling_falls}
 use Rattle.snow_node.proofs.Made.{one_then}
 
@@ -65,6 +65,18 @@ came_at_once rules answer node number peer id vote first free =
         ≡ cond b (then_comes (tallied answer node number peer vote) (settled rules answer)) (quietly node)
     by true = counted_at_once rules answer node number peer id vote first
     by false = refl
+
+-- where it is awaited no reply of the peer is held
+pub awaited_at_once : (rules : Rules) (answer : Answer) (node : Running) (number : ℕ) (peer id : List ℕ) (vote : Option (List ℕ)) → IsFirst node id vote
+    → waits_for node number peer ≡ true
+    → vote_came rules answer node number peer id ≡ counted_if_awaited rules answer node number peer vote
+awaited_at_once rules answer node number peer id vote first waits =
+    came_at_once rules answer node number peer id vote first (by (is_awaited node.polls.polls number peer) (holds_in node.queue.held number peer) waits)
+  where
+    by : (a h : Bool) → (a && not h) ≡ true → h ≡ false
+    by a false e = refl
+    by true true e = absurd cc
+    by false true e = absurd cc
 
 -- a vote that was counted was awaited
 pub was_counted : (rules : Rules) (answer : Answer) (node : Running) (number : ℕ) (peer : List ℕ) (vote : Option (List ℕ))

@@ -1,6 +1,11 @@
 -- Lemmas on the nodes that are awaited: which entry of a node counts, and what an entry more and a reply leave.
 use Rattle.std.proofs.Common.{◌≡◌, ℕ, zero, suc, ◌+◌, ◌-◌, ◌/◌, ◌^◌, ◌<◌, ◌≤◌, Bool, true, false, not, cond, if◌then◌else◌, List, [], ◌∷◌, ◌++◌, length, get_or, set, map, replicate, bytes_eq, is_some, Option, None, Some, refl, sym, ap, ◌∙◌, arith, inl, inr}
-use Rattle.std.proofs.lemmas.Bool.{cases_Bool, cond-true, cond-false}
+use Rattle.std.specs.BTreeMap.{BTreeMap, get}
+use Rattle.std.specs.Cmp.Lexicographic.{slice_cmp}
+use Rattle.std.specs.Option.{unwrap_or}
+use Rattle.std.specs.Ordering.{nat_cmp, is_eq}
+use Rattle.std.proofs.lemmas.Map.Text.{is_eq-slice_cmp}
+use Rattle.std.proofs.lemmas.Bool.{cases_Bool, cases_eq, cases_lt, cond-true, cond-false}
 use Rattle.std.proofs.lemmas.List.{get_or_read, get_or-set_same, get_or-set_other, length-map, length-replicate, length-set, map-append}
 use Rattle.std.proofs.lemmas.List.Sums.{fold-append}
 use Rattle.std.proofs.lemmas.Nat.{and_le_r}
@@ -9,7 +14,7 @@ use Rattle.std.proofs.Math.Seq.{map-set_same}
 use Rattle.snow_sample.proofs.Chains.{chained_none, chained_more}
 use Rattle.snow_sample.proofs.Walks.{last_of, last_none, last_here, IsSought, sought_begins, sought_on, none_later}
 use Rattle.snow_poll.specs.declared.awaited.Wait.{Wait}
-use Rattle.snow_poll.specs.Awaited.{count_left, counts_at, spread_of, class_of, AreWaits, IsNumberOf}
+use Rattle.snow_poll.specs.Awaited.{count_left, counts_at, spread_of, class_of, number_in, AreWaits, IsNumberOf}
 
 -- whether an entry is a node's
 abbrev pub is_of : List ℕ → Wait → Bool
@@ -106,6 +111,92 @@ nowhere mask waits node number walked none = record {
   here = λ d some. absurd (omega arith);
   later = λ k d low high. none_later (class mask) (is_of node) (class_of mask node) waits number k d walked (omega arith) high;
 }
+
+-- ---- a map that has the number of each node
+
+-- the number of a node's last entry among the first so many
+pub record IsNumberAmong (waits : List Wait) (many : ℕ) (node : List ℕ) (number : ℕ) : Type 0 where
+  pub within : number ≤ many
+  pub here : (d : Wait) → 0 < number → bytes_eq (get_or waits (number - 1) d).node node ≡ true
+  pub later : (k : ℕ) (d : Wait) → number ≤ k → k < many → bytes_eq (get_or waits k d).node node ≡ false
+
+-- there is none among no entries
+pub numbers_begin : (waits : List Wait) (node : List ℕ) (number : ℕ) → number ≡ 0 → IsNumberAmong waits 0 node number
+numbers_begin waits node number none = record {
+  within = omega (arith, none);
+  here = λ d some. absurd (omega (arith, none));
+  later = λ k d low high. absurd (omega arith);
+}
+
+-- an entry more has the number of its place, from 1
+pub numbers_more : (waits : List Wait) (i : ℕ) (w : Wait) (node : List ℕ) (number more : ℕ) → i < length waits → w ≡ get_or waits i w
+    → more ≡ cond (bytes_eq w.node node) (i + 1) number → IsNumberAmong waits i node number → IsNumberAmong waits (i + 1) node more
+numbers_more waits i w node number more high read is among =
+    let at : (d : Wait) → w ≡ get_or waits i d = λ d. get_or_read waits i w high read d in
+    elim (cases_Bool (bytes_eq w.node node)) [
+      | inl same ↦
+          let own : more ≡ i + 1 = is ∙ cond-true (bytes_eq w.node node) (i + 1) number same in
+          let back : more - 1 ≡ i = omega (arith, own) in
+          record {
+            within = omega (arith, own);
+            here = λ d some. ap (λ k. bytes_eq (get_or waits k d).node node) back ∙ ap (is_of node) (sym (at d)) ∙ same;
+            later = λ k d low less. absurd (omega (arith, own));
+          }
+      | inr differ ↦
+          let old : more ≡ number = is ∙ cond-false (bytes_eq w.node node) (i + 1) number differ in
+          let within = among.within in
+          record {
+            within = omega (arith, old);
+            here = λ d some. ap (λ k. bytes_eq (get_or waits (k - 1) d).node node) old ∙ among.here d (omega (arith, old));
+            later = λ k d low less.
+                elim (cases_lt k i) [
+                  | inl before ↦ among.later k d (omega (arith, old)) before
+                  | inr not_before ↦
+                      let here : k ≡ i = omega arith in
+                      ap (λ n. bytes_eq (get_or waits n d).node node) here ∙ ap (is_of node) (sym (at d)) ∙ differ
+                ];
+          }
+    ]
+
+-- the number of a node in a map to which one was put
+pub number_put : (numbers more : BTreeMap (List ℕ) ℕ) (key node : List ℕ) (n : ℕ)
+    → get (slice_cmp nat_cmp) more node ≡ cond (is_eq (slice_cmp nat_cmp key node)) (Some n) (get (slice_cmp nat_cmp) numbers node)
+    → number_in more node ≡ cond (bytes_eq key node) n (number_in numbers node)
+number_put numbers more key node n put =
+    ap (λ o. unwrap_or o 0) put ∙ each (is_eq (slice_cmp nat_cmp key node)) (get (slice_cmp nat_cmp) numbers node)
+    ∙ ap (λ b. cond b n (number_in numbers node)) (is_eq-slice_cmp key node)
+  where
+    each : (b : Bool) (o : Option ℕ) → unwrap_or (cond b (Some n) o) 0 ≡ cond b n (unwrap_or o 0)
+    each true o = refl
+    each false o = refl
+
+-- among all entries
+pub numbers_end : (waits : List Wait) (many : ℕ) (node : List ℕ) (number : ℕ) → many ≡ length waits → IsNumberAmong waits many node number
+    → IsNumberOf waits node number
+numbers_end waits many node number all among = record {
+  within = omega (arith, among.within);
+  here = among.here;
+  later = λ k d low high. among.later k d low (omega arith);
+}
+
+-- a node's reply changes no number
+pub numbers_kept : (waits : List Wait) (i : ℕ) (w : Wait) (node : List ℕ) (number : ℕ) → ((d : Wait) → w.node ≡ (get_or waits i d).node)
+    → IsNumberOf waits node number → IsNumberOf (set waits i w) node number
+numbers_kept waits i w node number named is = record {
+  within = omega (arith, is.within, length-set waits i w);
+  here = λ d some. ap (λ n. bytes_eq n node) (same (number - 1) d (omega (arith, is.within))) ∙ is.here d some;
+  later = λ k d low high.
+      let less : k < length waits = omega (arith, length-set waits i w) in
+      ap (λ n. bytes_eq n node) (same k d less) ∙ is.later k d low less;
+}
+  where
+    same : (k : ℕ) (d : Wait) → k < length waits → (get_or (set waits i w) k d).node ≡ (get_or waits k d).node
+    same k d less =
+        elim (cases_eq k i) [
+          | inl here ↦ ap (λ (n : ℕ). (get_or (set waits i w) n d).node) here
+              ∙ ap (λ (v : Wait). v.node) (get_or-set_same waits i w d (omega arith)) ∙ named d ∙ ap (λ (n : ℕ). (get_or waits n d).node) (sym here)
+          | inr there ↦ ap (λ (v : Wait). v.node) (get_or-set_other waits i k w d there)
+        ]
 
 -- ---- what counts
 

@@ -1,6 +1,10 @@
 -- The nodes that a poll awaits, in classes.
 use Rattle.std.specs.Prelude.{◌≡◌, ℕ, ◌+◌, ◌-◌, ◌*◌, ◌/◌, ◌%◌, ◌^◌, ◌<◌, ◌≤◌, true, false, List, [], ◌∷◌, length, map, fold, bytes_eq, bit_and, bit_xor, slice_index, slice_index_or, Option, Some, None, if◌then◌else◌}
+use Rattle.std.specs.BTreeMap.{BTreeMap, get}
+use Rattle.std.specs.Cmp.Lexicographic.{slice_cmp}
 use Rattle.std.specs.Int.{w64, from_le_bytes}
+use Rattle.std.specs.Option.{unwrap_or}
+use Rattle.std.specs.Ordering.{nat_cmp}
 use Rattle.snow_sample.specs.declared.draws.Draw.{Draw}
 use Rattle.snow_sample.specs.Chains.{AreChained}
 use Rattle.snow_poll.specs.declared.awaited.Wait.{Wait}
@@ -44,3 +48,11 @@ pub record IsNumberOf (waits : List Wait) (node : List ℕ) (number : ℕ) : Typ
   pub within : number ≤ length waits
   pub here : (d : Wait) → 0 < number → bytes_eq (slice_index_or waits (number - 1) d).node node ≡ true
   pub later : (k : ℕ) (d : Wait) → number ≤ k → k < length waits → bytes_eq (slice_index_or waits k d).node node ≡ false
+
+-- the number that a map has for a node; 0 where it has none
+abbrev pub number_in : BTreeMap (List ℕ) ℕ → List ℕ → ℕ
+number_in numbers node = unwrap_or (get (slice_cmp nat_cmp) numbers node) 0
+
+-- the map has the number of each node
+abbrev pub AreNumbers : List Wait → BTreeMap (List ℕ) ℕ → Type 0
+AreNumbers waits numbers = (node : List ℕ) → IsNumberOf waits node (number_in numbers node)

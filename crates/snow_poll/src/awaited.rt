@@ -1,35 +1,46 @@
 ghost use Rattle.std.specs.Prelude.{◌≡◌, ℕ, ◌+◌, ◌^◌, ◌<◌, ◌≤◌, List, [], ◌∷◌, ◌++◌, length, map, None, Some, bytes_eq, if◌then◌else◌, true, vec_capacity, IfOk, OnOk};
-ghost use Rattle.std.specs.Option.{is_some};
+ghost use Rattle.std.specs.Option.{ForSome, is_some};
 ghost use Rattle.snow_sample.specs.Sampling.{AreOfDistinctNodes};
-ghost use Rattle.snow_poll.specs.Awaited.{counts_at, draw_of, word_at, spread_of, class_of, AreWaits, IsNumberOf};
+ghost use Rattle.snow_poll.specs.Awaited.{counts_at, draw_of, word_at, spread_of, class_of, number_in, AreWaits, IsNumberOf, AreNumbers};
 ghost use Rattle.snow_poll.specs.Kept.{HasTimes};
 
 use snow_base::NodeId;
 use snow_sample::{Draw, zeros};
 use std::alloc::{AllocError, Global};
+use std::collections::BTreeMap;
 use std::mem;
 
 // So many classes at most are told apart by a node's spread bytes.
 const MOST_CLASSES: usize = 65_536;
 
+// So many nodes of a class at most are walked.
+const LONGEST_WALK: u8 = 16;
+
 // A node that was drawn: how often, and whether it has replied. Nodes of one class wait one behind
-// another; `before` is the number, from 1, of the one before it, and 0 where there is none.
+// another; `before` is the number, from 1, of the one before it, and 0 where there is none. `rank` of
+// them stand before it, or more where that is 255.
 #[derive(Clone, Copy, Debug)]
 pub(crate) struct Wait {
     pub(crate) node: NodeId,
     pub(crate) count: u32,
     pub(crate) before: u32,
+    pub(crate) rank: u8,
     pub(crate) replied: bool,
 }
 
 // The nodes that were drawn, each with how often, and whether it is awaited. For each class of nodes
 // it has the number of the last one, so that a look-up walks one class alone.
+//
+// Identifiers can be chosen so that all nodes are of one class. Where a class has more nodes than are
+// walked, an ordered map has the number of each node instead.
 #[derive(Debug, Drop)]
 pub(crate) struct Awaited {
     pub(crate) waits: Vec<Wait>,
     pub(crate) lasts: Vec<u32>,
     mask: u64,
+    numbers: Option<BTreeMap<NodeId, u32>>,
     ghost chained: { AreWaits mask waits.items lasts.items },
+    ghost numbered: { ForSome numbers (AreNumbers waits.items) },
 }
 
 impl Awaited {
@@ -45,6 +56,7 @@ impl Awaited {
             waits,
             lasts: zeros(Vec::new(alloc), classes)?,
             mask: classes as u64 - 1,
+            numbers: None,
         })
     }
 
@@ -72,24 +84,30 @@ impl Awaited {
     {
         self.waits.clear();
         self.lasts.fill(0);
+        self.numbers = None;
     }
 
     // Awaits the nodes of these draws, for which there is room, each as often as it was drawn, and no
     // other. The lists are taken out meanwhile, so that where they stand isn't read anew for each node.
-    pub(crate) fn await_all(&mut self, alloc: Global, draws: &[Draw])
+    pub(crate) fn await_all(&mut self, alloc: Global, draws: &[Draw]) -> Result<(), AllocError>
         requires counts { (node : List ℕ) → counts_at self.old.waits.items node ≡ None }
         requires none { self.old.waits.items ≡ [] }
         requires nodes { AreOfDistinctNodes draws.now }
         requires few { length draws.now < 2 ^ 32 }
         requires room { length draws.now ≤ vec_capacity self.old.waits }
-        ensures times { HasTimes (counts_at self.new.waits.items) draws.now }
-        ensures drawn { map draw_of self.new.waits.items ≡ draws.now }
+        ensures times { OnOk result (HasTimes (counts_at self.new.waits.items) draws.now) }
+        ensures drawn { OnOk result (map draw_of self.new.waits.items ≡ draws.now) }
     {
         let mut waits = mem::replace(&mut self.waits, Vec::new(alloc));
         let mut lasts = mem::replace(&mut self.lasts, Vec::new(alloc));
-        enter_all(&mut waits, &mut lasts, self.mask, draws);
+        let longest = enter_all(&mut waits, &mut lasts, self.mask, draws);
         self.waits = waits;
         self.lasts = lasts;
+        self.numbers = None;
+        if longest >= LONGEST_WALK {
+            self.numbers = Some(number_all(alloc, self.waits.as_slice())?);
+        }
+        Ok(())
     }
 
     // Whether a node is awaited.
@@ -124,6 +142,17 @@ impl Awaited {
     fn find(&self, node: &NodeId) -> usize
         ensures { IsNumberOf self.now.waits.items node.now result }
     {
+        match &self.numbers {
+            Some(numbers) => number_of(numbers, node),
+            None => self.walk(node),
+        }
+    }
+
+    // The same by a walk of the node's class.
+    #[inline(always)]
+    fn walk(&self, node: &NodeId) -> usize
+        ensures { IsNumberOf self.now.waits.items node.now result }
+    {
         let mut number = self.lasts[class(node, self.mask)];
         while number > 0 {
             let wait = &self.waits[number as usize - 1];
@@ -136,9 +165,35 @@ impl Awaited {
     }
 }
 
-// Awaits the nodes of these draws, where none is awaited.
+// The number of a node by the map that has each, and 0 where it isn't there.
+#[inline(never)]
+fn number_of(numbers: &BTreeMap<NodeId, u32>, node: &NodeId) -> usize
+    ensures { result ≡ number_in numbers.now node.now }
+{
+    match numbers.get(node) {
+        Some(number) => *number as usize,
+        None => 0,
+    }
+}
+
+// The number of each node.
+#[inline(never)]
+fn number_all(alloc: Global, waits: &[Wait]) -> Result<BTreeMap<NodeId, u32>, AllocError>
+    requires { length waits.now < 2 ^ 32 }
+    ensures { IfOk result (AreNumbers waits.now) }
+{
+    let mut numbers = BTreeMap::new(alloc);
+    let mut number = 0;
+    for wait in waits {
+        number += 1;
+        numbers.insert(wait.node, number)?;
+    }
+    Ok(numbers)
+}
+
+// Awaits the nodes of these draws, where none is awaited: the greatest rank of them.
 #[inline(always)]
-fn enter_all(waits: &mut Vec<Wait>, lasts: &mut Vec<u32>, mask: u64, draws: &[Draw])
+fn enter_all(waits: &mut Vec<Wait>, lasts: &mut Vec<u32>, mask: u64, draws: &[Draw]) -> u8
     requires chained { AreWaits mask waits.old.items lasts.old.items }
     requires counts { (node : List ℕ) → counts_at waits.old.items node ≡ None }
     requires none { waits.old.items ≡ [] }
@@ -149,14 +204,16 @@ fn enter_all(waits: &mut Vec<Wait>, lasts: &mut Vec<u32>, mask: u64, draws: &[Dr
     ensures times { HasTimes (counts_at waits.new.items) draws.now }
     ensures drawn { map draw_of waits.new.items ≡ draws.now }
 {
+    let mut longest = 0;
     for draw in draws {
-        enter(waits, lasts, mask, draw);
+        longest = enter(waits, lasts, mask, draw).max(longest);
     }
+    longest
 }
 
-// Awaits the node of a draw, for which there is room, as often as it was drawn.
+// Awaits the node of a draw, for which there is room, as often as it was drawn: its rank.
 #[inline(always)]
-fn enter(waits: &mut Vec<Wait>, lasts: &mut Vec<u32>, mask: u64, draw: &Draw)
+fn enter(waits: &mut Vec<Wait>, lasts: &mut Vec<u32>, mask: u64, draw: &Draw) -> u8
     requires chained { AreWaits mask waits.old.items lasts.old.items }
     requires few { length waits.old.items + 1 < 2 ^ 32 }
     requires room { length waits.old.items < vec_capacity waits.old }
@@ -167,13 +224,28 @@ fn enter(waits: &mut Vec<Wait>, lasts: &mut Vec<u32>, mask: u64, draw: &Draw)
 {
     let class = class(&draw.node, mask);
     let before = lasts[class];
+    let rank = rank_after(waits.as_slice(), before);
     waits.push_reserved(Wait {
         node: draw.node,
         count: draw.count,
         before,
+        rank,
         replied: false,
     });
     lasts[class] = waits.len() as u32;
+    rank
+}
+
+// The rank of a node that comes after the one of a number in its class.
+#[inline(always)]
+fn rank_after(waits: &[Wait], number: u32) -> u8 {
+    if number == 0 {
+        return 0;
+    }
+    match waits.get(number as usize - 1) {
+        Some(last) => last.rank.saturating_add(1),
+        None => 0,
+    }
 }
 
 // The class of a node.

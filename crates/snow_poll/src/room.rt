@@ -62,7 +62,6 @@ impl Nodes {
             self.awaited.grow(alloc, draws.len())?;
         }
         self.awaited.clear();
-        self.awaited.await_all(alloc, draws);
-        Ok(())
+        self.awaited.await_all(alloc, draws)
     }
 }

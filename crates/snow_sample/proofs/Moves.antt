@@ -5,12 +5,12 @@ use Rattle.std.proofs.lemmas.List.{length-map, length-replicate, length-set, map
 use Rattle.std.proofs.lemmas.List.Sums.{fold-append}
 use Rattle.std.proofs.lemmas.Nat.{and_le_r}
 use Rattle.snow_sample.specs.declared.shuffle.Move.{Move}
-use Rattle.snow_sample.specs.Kept.{class_of, classes_of, AreMoves, unit_at}
+use Rattle.snow_sample.specs.Kept.{class_of, classes_of, AreMoves, moved_to}
 use Rattle.snow_sample.proofs.Chains.{chained_none, chained_more}
 use Rattle.snow_sample.proofs.Walks.{IsSought, sought_begins, sought_on, sought_found, sought_nowhere}
 
 -- a move more
-pub unit_more : (moves : List Move) (m : Move) (p : ℕ) → unit_at (moves ++ m ∷ []) p ≡ cond (m.place == p) m.unit (unit_at moves p)
+pub unit_more : (moves : List Move) (m : Move) (p : ℕ) → moved_to p p (moves ++ m ∷ []) ≡ cond (m.place == p) m.unit (moved_to p p moves)
 unit_more moves m p = fold-append (λ unit (m : Move). cond (m.place == p) m.unit unit) p moves (m ∷ [])
 
 -- ---- a walk of a position's class
@@ -53,12 +53,12 @@ walk_past mask moves lasts p number m are walked some is other =
 
 -- it finds what stands there
 pub walk_finds : (mask : ℕ) (moves : List Move) (p number : ℕ) (m : Move) → IsWalkTo mask moves p number → 0 < number
-    → m ≡ get_or moves (number - 1) m → m.place ≡ p → m.unit ≡ unit_at moves p
+    → m ≡ get_or moves (number - 1) m → m.place ≡ p → m.unit ≡ moved_to p p moves
 walk_finds mask moves p number m walked some is to =
     sought_found (class mask) (is_to p) (λ m. m.unit) p (class_of mask p) moves number m walked some is (eq-eqb m.place p to)
 
 -- or ends
-pub walk_ends : (mask : ℕ) (moves : List Move) (p number : ℕ) → IsWalkTo mask moves p number → number ≤ 0 → p ≡ unit_at moves p
+pub walk_ends : (mask : ℕ) (moves : List Move) (p number : ℕ) → IsWalkTo mask moves p number → number ≤ 0 → p ≡ moved_to p p moves
 walk_ends mask moves p number walked none = sought_nowhere (class mask) (is_to p) (λ m. m.unit) p (class_of mask p) moves number walked none
 
 -- ---- the moves that are kept

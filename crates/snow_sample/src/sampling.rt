@@ -145,7 +145,7 @@ fn draw_each(
 ) -> Result<(), SampleFault>
     requires enough { k ≤ total_weight roster.now }
     requires chained { AreMoves shuffle.old.mask shuffle.old.moved.items shuffle.old.lasts.items }
-    requires units { (p : ℕ) → unit_at shuffle.old.moved.items p ≡ p }
+    requires units { (p : ℕ) → unit_at shuffle.old.moved.items shuffle.old.later p ≡ p }
     requires none { length shuffle.old.moved.items ≡ 0 }
     requires room { (n : ℕ) → n ≤ length words.old → n ≤ k → n ≤ vec_capacity shuffle.old.moved }
     requires slots { HasSlots roster.now places.old.slots.items [] }
@@ -160,7 +160,7 @@ fn draw_each(
         let Some(r) = words.choose(total - 1 - j) else {
             return Err(SampleFault::WordsOut);
         };
-        let unit = shuffle.draw(j, r);
+        let unit = shuffle.draw(j, r)?;
         places.count(out, roster, unit)?;
     }
     Ok(())

@@ -1,27 +1,37 @@
-ghost use Rattle.std.specs.Prelude.{◌≡◌, ℕ, ◌==◌, ◌+◌, ◌^◌, ◌<◌, ◌≤◌, length, vec_capacity, if◌then◌else◌, OnOk};
-ghost use Rattle.snow_sample.specs.Kept.{AreMoves, unit_at};
+ghost use Rattle.std.specs.Prelude.{◌≡◌, ℕ, ◌==◌, ◌+◌, ◌^◌, ◌<◌, ◌≤◌, true, length, vec_capacity, if◌then◌else◌, IfOk, OnOk};
+ghost use Rattle.snow_sample.specs.Kept.{AreMoves, moved_to, unit_at};
 ghost use Rattle.snow_sample.specs.Sampling.{swapped};
 
 use crate::fresh;
 use std::alloc::{AllocError, Global};
+use std::collections::BTreeMap;
+
+// So many moves of a class at most are walked.
+const LONGEST_WALK: u32 = 16;
 
 // A unit that was moved to a position. Positions with the same low bits are one class; `before` is
 // the number, from 1, of the last move before this one in its class, and 0 where there is none.
+// `rank` moves of its class stand before it.
 #[derive(Clone, Copy, Debug)]
 pub(crate) struct Move {
     pub(crate) place: u64,
     pub(crate) unit: u64,
     pub(crate) before: u32,
+    pub(crate) rank: u32,
 }
 
 // The units that were moved, in the order of their moves, and for each class of positions the number
 // of its last move, so that a look-up walks one class alone. Where nothing was moved to a position
 // it has its own unit.
+//
+// Words can be chosen so that all positions are of one class. So once a class has as many moves as
+// are walked, every later move of the sample goes to an ordered map.
 #[derive(Debug, Drop)]
 pub(crate) struct Shuffle {
     pub(crate) moved: Vec<Move>,
     pub(crate) lasts: Vec<u32>,
     pub(crate) mask: u64,
+    pub(crate) later: BTreeMap<u64, u64>,
 }
 
 impl Shuffle {
@@ -31,6 +41,7 @@ impl Shuffle {
             moved: Vec::new(alloc),
             lasts: Vec::new(alloc),
             mask: 0,
+            later: BTreeMap::new(alloc),
         }
     }
 
@@ -39,13 +50,14 @@ impl Shuffle {
     pub(crate) fn begin(&mut self, draws: usize) -> Result<(), AllocError>
         requires { draws ≤ 65536 }
         ensures chained { OnOk result (AreMoves self.new.mask self.new.moved.items self.new.lasts.items) }
-        ensures units { OnOk result ((p : ℕ) → unit_at self.new.moved.items p ≡ p) }
+        ensures units { OnOk result ((p : ℕ) → unit_at self.new.moved.items self.new.later p ≡ p) }
         ensures none { OnOk result (length self.new.moved.items ≡ 0) }
         ensures room { OnOk result (draws ≤ vec_capacity self.new.moved) }
     {
         let classes = (2 * draws).next_power_of_two();
         self.mask = classes as u64 - 1;
         self.moved.clear();
+        self.later.clear();
         self.moved.reserve(draws)?;
         fresh::write_zeros(&mut self.lasts, classes)?;
         Ok(())
@@ -54,28 +66,64 @@ impl Shuffle {
     // Exchanges position `at` with the one `r` behind it, and gives the unit that then stands there.
     // What stands at `at` isn't kept, since later draws look only behind it.
     #[inline(always)]
-    pub(crate) fn draw(&mut self, at: u64, r: u64) -> u64
+    pub(crate) fn draw(&mut self, at: u64, r: u64) -> Result<u64, AllocError>
         requires chained { AreMoves self.old.mask self.old.moved.items self.old.lasts.items }
         requires within { at + r < 2 ^ 64 }
         requires few { length self.old.moved.items + 1 < 2 ^ 32 }
         requires room { length self.old.moved.items < vec_capacity self.old.moved }
-        ensures unit { result ≡ unit_at self.old.moved.items (at + r) }
-        ensures chained { AreMoves self.new.mask self.new.moved.items self.new.lasts.items }
-        ensures behind { (p : ℕ) → at < p → unit_at self.new.moved.items p ≡ swapped (unit_at self.old.moved.items) (at + r) at p }
-        ensures moves { length self.new.moved.items ≡ length self.old.moved.items + 1 }
+        ensures unit { IfOk result (λ unit. unit ≡ unit_at self.old.moved.items self.old.later (at + r)) }
+        ensures chained { OnOk result (AreMoves self.new.mask self.new.moved.items self.new.lasts.items) }
+        ensures behind { OnOk result ((p : ℕ) → at < p → unit_at self.new.moved.items self.new.later p ≡ swapped (unit_at self.old.moved.items self.old.later) (at + r) at p) }
+        ensures moves { length self.new.moved.items ≤ length self.old.moved.items + 1 }
+        ensures kept { vec_capacity self.new.moved ≡ vec_capacity self.old.moved }
+    {
+        if !self.later.is_empty() {
+            return self.draw_later(at, r);
+        }
+        let own = self.walk(at);
+        let unit = self.walk(at + r);
+        self.keep(at + r, own)?;
+        Ok(unit)
+    }
+
+    // The same where the map has moves. It stands apart, since few samples need it.
+    #[inline(never)]
+    fn draw_later(&mut self, at: u64, r: u64) -> Result<u64, AllocError>
+        requires chained { AreMoves self.old.mask self.old.moved.items self.old.lasts.items }
+        requires within { at + r < 2 ^ 64 }
+        requires few { length self.old.moved.items + 1 < 2 ^ 32 }
+        requires room { length self.old.moved.items < vec_capacity self.old.moved }
+        ensures unit { IfOk result (λ unit. unit ≡ unit_at self.old.moved.items self.old.later (at + r)) }
+        ensures chained { OnOk result (AreMoves self.new.mask self.new.moved.items self.new.lasts.items) }
+        ensures behind { OnOk result ((p : ℕ) → at < p → unit_at self.new.moved.items self.new.later p ≡ swapped (unit_at self.old.moved.items self.old.later) (at + r) at p) }
+        ensures moves { length self.new.moved.items ≤ length self.old.moved.items + 1 }
         ensures kept { vec_capacity self.new.moved ≡ vec_capacity self.old.moved }
     {
         let own = self.unit(at);
         let unit = self.unit(at + r);
-        self.keep(at + r, own);
-        unit
+        self.keep(at + r, own)?;
+        Ok(unit)
     }
 
     // The unit at a position.
-    #[inline(always)]
     fn unit(&self, place: u64) -> u64
         requires { AreMoves self.now.mask self.now.moved.items self.now.lasts.items }
-        ensures { result ≡ unit_at self.now.moved.items place }
+        ensures { result ≡ unit_at self.now.moved.items self.now.later place }
+    {
+        if self.later.is_empty() {
+            return self.walk(place);
+        }
+        match self.later.get(&place) {
+            Some(unit) => *unit,
+            None => self.walk(place),
+        }
+    }
+
+    // The unit at a position by the moves that are in classes.
+    #[inline(always)]
+    fn walk(&self, place: u64) -> u64
+        requires { AreMoves self.now.mask self.now.moved.items self.now.lasts.items }
+        ensures { result ≡ moved_to place place self.now.moved.items }
     {
         let mut number = self.lasts[(place & self.mask) as usize];
         while number > 0 {
@@ -90,22 +138,41 @@ impl Shuffle {
 
     // Moves a unit to a position.
     #[inline(always)]
-    fn keep(&mut self, place: u64, unit: u64)
+    fn keep(&mut self, place: u64, unit: u64) -> Result<(), AllocError>
         requires chained { AreMoves self.old.mask self.old.moved.items self.old.lasts.items }
         requires few { length self.old.moved.items + 1 < 2 ^ 32 }
         requires room { length self.old.moved.items < vec_capacity self.old.moved }
-        ensures chained { AreMoves self.new.mask self.new.moved.items self.new.lasts.items }
-        ensures units { (p : ℕ) → unit_at self.new.moved.items p ≡ (if p == place then unit else unit_at self.old.moved.items p) }
-        ensures moves { length self.new.moved.items ≡ length self.old.moved.items + 1 }
+        ensures chained { OnOk result (AreMoves self.new.mask self.new.moved.items self.new.lasts.items) }
+        ensures units { OnOk result ((p : ℕ) → unit_at self.new.moved.items self.new.later p ≡ (if p == place then unit else unit_at self.old.moved.items self.old.later p)) }
+        ensures moves { length self.new.moved.items ≤ length self.old.moved.items + 1 }
         ensures kept { vec_capacity self.new.moved ≡ vec_capacity self.old.moved }
     {
         let class = (place & self.mask) as usize;
         let before = self.lasts[class];
+        let rank = self.rank_after(before);
+        if rank >= LONGEST_WALK || !self.later.is_empty() {
+            self.later.insert(place, unit)?;
+            return Ok(());
+        }
         self.moved.push_reserved(Move {
             place,
             unit,
             before,
+            rank,
         });
         self.lasts[class] = self.moved.len() as u32;
+        Ok(())
+    }
+
+    // How many moves stand in a class up to the one of a number.
+    #[inline(always)]
+    fn rank_after(&self, number: u32) -> u32 {
+        if number == 0 {
+            return 0;
+        }
+        match self.moved.get(number as usize - 1) {
+            Some(last) => last.rank.saturating_add(1),
+            None => 0,
+        }
     }
 }

@@ -1,6 +1,7 @@
 -- Cases on tests, what a test of two identifiers says, and the next element of a list.
-use Rattle.std.proofs.Common.{◌≡◌, ℕ, suc, ◌+◌, ◌<◌, Bool, true, false, ◌||◌, cond, List, ◌∷◌, length, get_or, drop, drop-cons, Option, Some, None, bytes_eq, if◌then◌else◌, ◌⊎◌, inl, inr, refl, sym, ap, ◌∙◌, arith}
+use Rattle.std.proofs.Common.{◌≡◌, ℕ, suc, ◌+◌, ◌<◌, Bool, true, false, ◌||◌, cond, List, [], ◌∷◌, length, get_or, drop, drop-cons, Option, Some, None, bytes_eq, if◌then◌else◌, ◌⊎◌, inl, inr, refl, sym, ap, ◌∙◌, arith}
 use Rattle.std.proofs.lemmas.Slice.Eq.{bytes_eq-Decides}
+use Rattle.std.specs.List.{list_any}
 use Rattle.std.proofs.lemmas.Bool.{true≢false, false_from_ne_true}
 
 -- cases on a test
@@ -26,6 +27,11 @@ id_turned a b =
     split_on (bytes_eq b a)
     (λ same. id_same a b (sym (same_id b a same)) ∙ sym same)
     (λ other. false_from_ne_true (bytes_eq a b) (λ same. clash (bytes_eq b a) (id_same b a (sym (same_id a b same))) other) ∙ sym other)
+
+-- in a list too
+pub any_turned : (ids : List (List ℕ)) (id : List ℕ) → list_any (bytes_eq id) ids ≡ list_any (λ x. bytes_eq x id) ids
+any_turned [] id = refl
+any_turned (x ∷ ids) id = ap (λ t. t || list_any (bytes_eq id) ids) (id_turned id x) ∙ ap (λ t. bytes_eq x id || t) (any_turned ids id)
 
 -- the only one of two
 pub same_some : {X : Type 0} (a b : X) → Some a ≡ Some b → a ≡ b

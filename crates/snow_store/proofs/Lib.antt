@@ -1,7 +1,7 @@
 pub mod Cases
+pub mod Counting
 mod Holding
 pub mod Indexed
-mod Known
 mod Linked
 pub mod Missing
 mod Needed

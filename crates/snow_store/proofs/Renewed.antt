@@ -1,64 +1,24 @@
 -- What is missed is known from one block to the next, and what is due covers what is newly missed.
-use Rattle.std.proofs.Common.{◌≡◌, ◌<◌, ℕ, Bool, true, false, ◌&&◌, ◌||◌, not, List, [], ◌∷◌, length, Option, Some, None, bytes_eq, refl, sym, ap, ◌∙◌, arith}
-use Rattle.std.specs.BTreeSet.{BTreeSet}
-use Rattle.std.specs.Prelude.{is_some}
+use Rattle.std.proofs.Common.{◌≡◌, ◌<◌, ℕ, Bool, true, false, List, Option, bytes_eq, if◌then◌else◌, refl, sym, ap, ◌∙◌, arith}
+use Rattle.std.specs.BTreeMap.{BTreeMap}
+use Rattle.std.specs.List.{IsDistinct}
+use Rattle.std.specs.Prelude.{is_some, Result, Ok, Err, OnOk, IfOk}
+use Rattle.snow_base.specs.declared.header.Header.{Header}
 use Rattle.snow_store.specs.declared.block.KeptBlock.{KeptBlock}
 use Rattle.snow_store.specs.declared.due.Due.{Due}
 use Rattle.snow_store.specs.declared.due.Due.TheVariants as due
 use Rattle.snow_store.specs.declared.verdict.Verdict.{Verdict}
 use Rattle.snow_store.specs.declared.verdict.Verdict.TheVariants as verdict
 use Rattle.snow_store.specs.Coming.{after_verdict}
-use Rattle.snow_store.specs.Keeping.{Store, keeping, after_taking}
-use Rattle.snow_store.specs.Linking.{held_heights}
-use Rattle.snow_store.specs.Needing.{need_at, names, is_missed, has_need, HasNeeds, is_due, Covers}
-use Rattle.snow_store.specs.Paths.{Fetch, has_id, missed, is_whole}
+use Rattle.snow_store.specs.Keeping.{Store, taken, keeping, after_taking}
+use Rattle.snow_store.specs.Linking.{IsLinked, held_heights}
+use Rattle.snow_store.specs.Needing.{need_at, names, is_missed, missing, counted, Counts, has_need, HasNeeds, with_more, with_less, with_none, passed_on, Covers}
+use Rattle.snow_store.specs.Paths.{Fetch, has_id, missed}
 use Rattle.snow_store.specs.Renewing.{fetch_by, MayRenew, IsRenewed}
-use Rattle.snow_store.proofs.Cases.{split_on, clash, same_id, or_false, or_assoc}
+use Rattle.snow_store.proofs.Cases.{split_on, clash, same_id}
 use Rattle.snow_store.proofs.Holding.{held_first}
-use Rattle.snow_store.proofs.Missing.{missed_kept_by, missed_low_by, none_missed, some_missed}
+use Rattle.snow_store.proofs.Counting.{counts_same, has_missed, missing_kept, missing_moved, missing_low}
 use Rattle.snow_store.proofs.Needed.{with_kept, with_found}
-
--- ---- tests
-
-and_first : (a b : Bool) → (a && b) ≡ true → a ≡ true
-and_first true b e = refl
-and_first false b e = clash true refl (sym e)
-
--- ---- sets
-
-none_in : (needs : BTreeSet (List ℕ)) → (0 < length needs.keys → ⊥) → (id : List ℕ) → has_need needs id ≡ false
-none_in needs none id = by_keys needs.keys refl none
-  where
-    by_keys : (ks : List (List ℕ)) → needs.keys ≡ ks → (0 < length ks → ⊥) → has_need needs id ≡ false
-    by_keys [] is none = rw is refl
-    by_keys (k ∷ ks) is none = absurd (none (omega arith))
-
--- nothing is missed
-pub met : (needs : BTreeSet (List ℕ)) (f : Fetch) → (0 < length needs.keys → ⊥) → HasNeeds needs f → is_whole f ≡ true
-met needs f none has = none_missed f f.targets (λ id. sym (has id) ∙ none_in needs none id)
-
--- something is
-pub unmet : (needs : BTreeSet (List ℕ)) (f : Fetch) (id : List ℕ) → has_need needs id ≡ true → HasNeeds needs f → is_whole f ≡ false
-unmet needs f id there has = some_missed f f.targets id (sym (has id) ∙ there)
-
--- where there is no target, nothing is missed
-pub none_needed : (needs : BTreeSet (List ℕ)) (f : Fetch) → needs.keys ≡ [] → f.targets ≡ [] → HasNeeds needs f
-none_needed needs f empty none q = none_in needs (λ some. omega (arith, some, ap length empty)) q ∙ sym (ap (λ ts. is_missed f ts q) none)
-
--- one target after another is looked at
-pub gathered_on : (f : Fetch) (needs more : BTreeSet (List ℕ)) (targets left rest : List (List ℕ)) (t : List ℕ) (o : Option (List ℕ)) → o ≡ missed f t → left ≡ t ∷ rest
-    → ((q : List ℕ) → has_need more q ≡ (has_need needs q || names o q)) → ((q : List ℕ) → (has_need needs q || is_missed f left q) ≡ is_missed f targets q)
-    → (q : List ℕ) → (has_need more q || is_missed f rest q) ≡ is_missed f targets q
-gathered_on f needs more targets left rest t o its next change so_far q =
-    ap (λ u. u || is_missed f rest q) (change q ∙ ap (λ p. has_need needs q || names p q) its)
-    ∙ or_assoc (has_need needs q) (names (missed f t) q) (is_missed f rest q)
-    ∙ ap (λ l. has_need needs q || is_missed f l q) (sym next)
-    ∙ so_far q
-
-pub gathered_all : (f : Fetch) (needs : BTreeSet (List ℕ)) (targets left : List (List ℕ)) → left ≡ [] → targets ≡ f.targets
-    → ((q : List ℕ) → (has_need needs q || is_missed f left q) ≡ is_missed f targets q) → HasNeeds needs f
-gathered_all f needs targets left none are so_far q =
-    sym (or_false (has_need needs q)) ∙ ap (λ l. has_need needs q || is_missed f l q) (sym none) ∙ so_far q ∙ ap (λ l. is_missed f l q) are
 
 -- ---- a block was taken
 
@@ -79,77 +39,58 @@ after_is f b v s found kept noted =
     by_verdict verdict.Low = refl
     by_verdict verdict.Known = refl
 
-pub kept_renewed : (f : Fetch) (b : KeptBlock) (needs more : BTreeSet (List ℕ)) (before after : Due) → MayRenew f b.header verdict.Keeps false needs
-    → ((q : List ℕ) → has_need more q ≡ ((has_need needs q && not (bytes_eq b.header.id q)) || (has_need needs b.header.id && names (need_at (keeping f.store b) b.header.height) q)))
+-- what is due covers what is newly missed
+covers_missed : (f g : Fetch) (needs more : BTreeMap (List ℕ) ℕ) (before after : Due) → HasNeeds needs f → HasNeeds more g → Covers before (has_need needs) after (has_need more)
+    → Covers before (is_missed f f.targets) after (is_missed g g.targets)
+covers_missed f g needs more before after has now covers q is free =
+    let c = covers q (has_missed more g now q ∙ is) free in (sym (has_missed needs f has q) ∙ c.0, c.1)
+
+pub kept_renewed : (f : Fetch) (b : KeptBlock) (needs more : BTreeMap (List ℕ) ℕ) (before after : Due) → IsLinked f.store → taken f.store b.header ≡ Ok verdict.Keeps → HasNeeds needs f
+    → (has_id f.targets b.header.id ≡ true → names (missed f b.header.id) b.header.id ≡ false → missed (with_kept f b) b.header.id ≡ missed f b.header.id)
+    → Counts more (passed_on b.header.id (need_at (keeping f.store b) b.header.height) (missing f f.targets))
     → Covers before (has_need needs) after (has_need more) → IsRenewed f (with_kept f b) before after more
-kept_renewed f b needs more before after may change covers = record {
-  needs = has;
-  due = λ q is free. let c = covers q (has q ∙ is) free in (sym (may.needs q) ∙ c.0, c.1);
-}
+kept_renewed f b needs more before after l fits known itself change covers = record { has = has; due = covers_missed f (with_kept f b) needs more before after known has covers }
   where
-    itself : (t : List ℕ) → has_id f.targets t ≡ true → b.header.id ≡ t → names (missed f t) b.header.id ≡ true
-    itself t among same =
-        ap (λ i. names (missed f i) b.header.id) (sym same)
-        ∙ by_tests (has_id f.targets b.header.id) (names (missed f b.header.id) b.header.id) (ap (has_id f.targets) same ∙ among) may.known
-      where
-        by_tests : (u v : Bool) → u ≡ true → false ≡ (u && not v) → v ≡ true
-        by_tests true true e k = refl
-        by_tests true false e k = clash true refl (sym k)
-        by_tests false v e k = clash true refl (sym e)
+    stays : (t : List ℕ) → has_id f.targets t ≡ true → b.header.id ≡ t → names (missed f t) b.header.id ≡ false → missed (with_kept f b) t ≡ missed f t
+    stays t among same e =
+        ap (missed (with_kept f b)) (sym same) ∙ itself (ap (has_id f.targets) same ∙ among) (ap (λ i. names (missed f i) b.header.id) same ∙ e) ∙ ap (missed f) same
 
     has : HasNeeds more (with_kept f b)
-    has q =
-        change q
-        ∙ ap (λ u. (u && not (bytes_eq b.header.id q)) || (has_need needs b.header.id && names (need_at (keeping f.store b) b.header.height) q)) (may.needs q)
-        ∙ ap (λ u. (is_missed f f.targets q && not (bytes_eq b.header.id q)) || (u && names (need_at (keeping f.store b) b.header.height) q)) (may.needs b.header.id)
-        ∙ sym (missed_kept_by f b f.targets q may.linked may.fits itself)
+    has = counts_same more (passed_on b.header.id (need_at (keeping f.store b) b.header.height) (missing f f.targets)) (missing (with_kept f b) f.targets) change (missing_kept f b f.targets l fits stays)
 
--- all was gathered anew
-pub anew_renewed : (f g : Fetch) (more : BTreeSet (List ℕ)) (before : Due) → HasNeeds more g → IsRenewed f g before due.All more
-anew_renewed f g more before has = record { needs = has; due = λ q is free. clash true refl free }
+-- and its target misses something else
+pub moved_renewed : (f : Fetch) (b : KeptBlock) (needs more : BTreeMap (List ℕ) ℕ) (before after : Due) → IsLinked f.store → taken f.store b.header ≡ Ok verdict.Keeps → HasNeeds needs f
+    → IsDistinct bytes_eq f.targets → has_id f.targets b.header.id ≡ true
+    → Counts more (with_more (missed (with_kept f b) b.header.id) 1
+    (passed_on b.header.id (need_at (keeping f.store b) b.header.height) (with_less (missed f b.header.id) (missing f f.targets))))
+    → Covers before (has_need needs) after (has_need more) → IsRenewed f (with_kept f b) before after more
+moved_renewed f b needs more before after l fits known apart among change covers =
+    let has : HasNeeds more (with_kept f b) =
+    counts_same more
+    (with_more (missed (with_kept f b) b.header.id) 1 (passed_on b.header.id (need_at (keeping f.store b) b.header.height) (with_less (missed f b.header.id) (missing f f.targets))))
+    (missing (with_kept f b) f.targets) change (missing_moved f b f.targets l fits apart among) in
+    record { has = has; due = covers_missed f (with_kept f b) needs more before after known has covers }
 
 -- it is too low
-pub low_renewed : (f : Fetch) (b : KeptBlock) (needs more : BTreeSet (List ℕ)) (before : Due) (known : Bool) → MayRenew f b.header verdict.Low known needs
-    → ((q : List ℕ) → has_need more q ≡ (has_need needs q && not (bytes_eq b.header.id q))) → IsRenewed f (with_found f b) before before more
-low_renewed f b needs more before known may change = record {
-  needs = λ q. change q ∙ ap (λ u. u && not (bytes_eq b.header.id q)) (may.needs q) ∙ sym (low q);
-  due = λ q is free. (and_first (is_missed f f.targets q) (not (bytes_eq b.header.id q)) (sym (low q) ∙ is), free);
-}
+pub low_renewed : (f : Fetch) (b : KeptBlock) (needs more : BTreeMap (List ℕ) ℕ) (before : Due) (itself : Option (List ℕ)) → MayRenew f b.header verdict.Low itself needs
+    → Counts more (with_none b.header.id (missing f f.targets)) → IsRenewed f (with_found f b) before before more
+low_renewed f b needs more before itself may change = record { has = has; due = covers_missed f (with_found f b) needs more before before may.has has fewer }
   where
-    low : (q : List ℕ) → is_missed (with_found f b) f.targets q ≡ (is_missed f f.targets q && not (bytes_eq b.header.id q))
-    low q = missed_low_by f b f.targets q may.linked may.fits (λ t e. e)
+    has : HasNeeds more (with_found f b)
+    has = counts_same more (with_none b.header.id (missing f f.targets)) (missing (with_found f b) f.targets) change (missing_low f b f.targets may.linked may.fits (λ t e. e))
+
+    fewer : Covers before (has_need needs) before (has_need more)
+    fewer q is free = (ap is_some (may.has q) ∙ by (bytes_eq b.header.id q) (sym (ap is_some (change q)) ∙ is), free)
+      where
+        by : (t : Bool) → is_some (counted (if t then 0 else missing f f.targets q)) ≡ true → is_some (counted (missing f f.targets q)) ≡ true
+        by true e = clash true refl (sym e)
+        by false e = e
 
 -- it was kept before
-pub same_renewed : (f : Fetch) (needs : BTreeSet (List ℕ)) (before : Due) → HasNeeds needs f → IsRenewed f f before before needs
-same_renewed f needs before has = record { needs = has; due = λ q is free. (is, free) }
+pub same_renewed : (f : Fetch) (needs : BTreeMap (List ℕ) ℕ) (before : Due) → HasNeeds needs f → IsRenewed f f before before needs
+same_renewed f needs before has = record { has = has; due = λ q is free. (is, free) }
 
 -- ---- what is due
-
--- nobody missed the block
-pub passed_none : (needs more : BTreeSet (List ℕ)) (id : List ℕ) (need : Option (List ℕ)) → has_need needs id ≡ false → ((q : List ℕ) → has_need more q ≡ (has_need needs q && not (bytes_eq id q)))
-    → (q : List ℕ) → has_need more q ≡ ((has_need needs q && not (bytes_eq id q)) || (has_need needs id && names need q))
-passed_none needs more id need none change q =
-    change q ∙ sym (or_false (has_need needs q && not (bytes_eq id q))) ∙ ap (λ u. (has_need needs q && not (bytes_eq id q)) || (u && names need q)) (sym none)
-
--- whoever did misses something else, or nothing
-passed_on : (needs more : BTreeSet (List ℕ)) (id : List ℕ) (need : Option (List ℕ)) → has_need needs id ≡ true
-    → ((q : List ℕ) → has_need more q ≡ ((has_need needs q && not (bytes_eq id q)) || names need q))
-    → (q : List ℕ) → has_need more q ≡ ((has_need needs q && not (bytes_eq id q)) || (has_need needs id && names need q))
-passed_on needs more id need some change q = change q ∙ ap (λ u. (has_need needs q && not (bytes_eq id q)) || (u && names need q)) (sym some)
-
-pub passed_something : (needs less more : BTreeSet (List ℕ)) (id other : List ℕ) (need : Option (List ℕ)) → need ≡ Some other → has_need needs id ≡ true
-    → ((q : List ℕ) → has_need less q ≡ (has_need needs q && not (bytes_eq id q))) → ((q : List ℕ) → has_need more q ≡ (has_need less q || bytes_eq other q))
-    → (q : List ℕ) → has_need more q ≡ ((has_need needs q && not (bytes_eq id q)) || (has_need needs id && names need q))
-passed_something needs less more id other need is some change joined =
-    passed_on needs more id need some (λ q.
-    joined q ∙ ap (λ u. u || bytes_eq other q) (change q) ∙ ap (λ o. (has_need needs q && not (bytes_eq id q)) || names o q) (sym is))
-
-pub passed_nothing : (needs less : BTreeSet (List ℕ)) (id : List ℕ) (need : Option (List ℕ)) → need ≡ None → has_need needs id ≡ true
-    → ((q : List ℕ) → has_need less q ≡ (has_need needs q && not (bytes_eq id q)))
-    → (q : List ℕ) → has_need less q ≡ ((has_need needs q && not (bytes_eq id q)) || (has_need needs id && names need q))
-passed_nothing needs less id need is some change =
-    passed_on needs less id need some (λ q.
-    change q ∙ sym (or_false (has_need needs q && not (bytes_eq id q))) ∙ ap (λ o. (has_need needs q && not (bytes_eq id q)) || names o q) (sym is))
 
 -- fewer are missed, and as many are due
 pub covers_fewer : (before : Due) (was is : List ℕ → Bool) → ((q : List ℕ) → is q ≡ true → was q ≡ true) → Covers before was before is
@@ -159,34 +100,58 @@ covers_fewer before was is fewer q e free = (fewer q e, free)
 pub covers_on : (a b c : Due) (x y z : List ℕ → Bool) → Covers a x b y → Covers b y c z → Covers a x c z
 covers_on a b c x y z one more q e free = let m = more q e free in one q m.0 m.1
 
--- one identifier more is missed and due
-pub covers_joined : (before after : Due) (id : List ℕ) (was is : List ℕ → Bool) → is_due after id ≡ true → ((q : List ℕ) → was q ≡ true → is_due after q ≡ false → is_due before q ≡ false)
-    → ((q : List ℕ) → is q ≡ (was q || bytes_eq id q)) → Covers before was after is
-covers_joined before after id was is at others grown q e free =
-    let there = or_other (was q) (bytes_eq id q) (sym (grown q) ∙ e) apart in (there, others q there free)
-  where
-    or_other : (u v : Bool) → (u || v) ≡ true → v ≡ false → u ≡ true
-    or_other true v e f = refl
-    or_other false v e f = clash v e f
-
-    apart : bytes_eq id q ≡ false
-    apart = split_on (bytes_eq id q) (λ same. clash (is_due after q) (ap (is_due after) (sym (same_id id q same)) ∙ at) free) (λ other. other)
-
--- one identifier less is missed
-pub covers_removed : (before : Due) (needs more : BTreeSet (List ℕ)) (id : List ℕ) → ((q : List ℕ) → has_need more q ≡ (has_need needs q && not (bytes_eq id q)))
-    → Covers before (has_need needs) before (has_need more)
-covers_removed before needs more id change q e free = (and_first (has_need needs q) (not (bytes_eq id q)) (sym (change q) ∙ e), free)
-
--- an identifier that is missed already
-pub joined_had : (needs : BTreeSet (List ℕ)) (id : List ℕ) → has_need needs id ≡ true → (q : List ℕ) → has_need needs q ≡ (has_need needs q || bytes_eq id q)
-joined_had needs id there q =
-    split_on (bytes_eq id q)
-    (λ same.
-    let here : has_need needs q ≡ true = ap (has_need needs) (sym (same_id id q same)) ∙ there in
-    here ∙ sym (ap (λ u. u || bytes_eq id q) here))
-    (λ other. sym (or_false (has_need needs q)) ∙ ap (λ u. has_need needs q || u) (sym other))
-
 -- one that isn't missed any more is another than those that are
-pub other_due : (needs : BTreeSet (List ℕ)) (x q : List ℕ) → has_need needs x ≡ false → has_need needs q ≡ true → bytes_eq x q ≡ false
+pub other_due : (needs : BTreeMap (List ℕ) ℕ) (x q : List ℕ) → has_need needs x ≡ false → has_need needs q ≡ true → bytes_eq x q ≡ false
 other_due needs x q gone there =
     split_on (bytes_eq x q) (λ same. clash (has_need needs x) (ap (has_need needs) (same_id x q same) ∙ there) gone) (λ other. other)
+
+-- ---- a block was kept
+
+abbrev Table : Type 0
+Table = BTreeMap (List ℕ) ℕ
+
+-- what is owed where a block is kept
+abbrev pub OwesKept : Store → List (List ℕ) → List (List ℕ) → Header → Option (List ℕ) → Table → Due → Due → Table → Type 0
+OwesKept now targets found header itself needs before after more =
+    (s : Store) (bytes : List ℕ) → now ≡ after_taking s record { header = header; bytes = bytes } verdict.Keeps → MayRenew (fetch_by s targets found) header verdict.Keeps itself needs
+    → IsRenewed (fetch_by s targets found) (after_verdict (fetch_by s targets found) record { header = header; bytes = bytes } verdict.Keeps) before after more
+
+-- whoever missed the block misses something else
+pub passed_renewed : {E : Type 0} (r : Result Due E) (now : Store) (targets found : List (List ℕ)) (header : Header) (itself : Option (List ℕ)) (needs more : Table) (before : Due)
+    → OnOk r ((count : List ℕ → ℕ) → Counts needs count → Counts more (passed_on header.id (need_at now header.height) count))
+    → IfOk r (λ after. Covers before (has_need needs) after (has_need more))
+    → (has_id targets header.id ≡ true → names itself header.id ≡ false → missed (fetch_by now targets found) header.id ≡ itself)
+    → IfOk r (λ after. OwesKept now targets found header itself needs before after more)
+passed_renewed (Err e) now targets found header itself needs more before counts covers same = tt
+passed_renewed (Ok after) now targets found header itself needs more before counts covers same =
+    λ s bytes is may.
+    let b : KeptBlock = record { header = header; bytes = bytes } in
+    let f = fetch_by s targets found in
+    kept_renewed f b needs more before after may.linked may.fits may.has
+    (λ among other.
+    sym (ap (λ (t : Store). missed (fetch_by t targets found) header.id) is) ∙ same among (ap (λ o. names o header.id) may.itself ∙ other) ∙ may.itself)
+    (λ q. counts (missing f targets) may.has q ∙ ap (λ (t : Store). counted (passed_on header.id (need_at t header.height) (missing f targets) q)) is)
+    covers
+
+-- and its target misses something else
+pub target_renewed : {E : Type 0} (r : Result Due E) (now : Store) (targets found : List (List ℕ)) (header : Header) (itself anew : Option (List ℕ)) (needs less passed more : Table) (before mid : Due)
+    → IsDistinct bytes_eq targets → has_id targets header.id ≡ true → anew ≡ missed (fetch_by now targets found) header.id
+    → ((count : List ℕ → ℕ) → Counts needs count → Counts less (with_less itself count)) → ((q : List ℕ) → has_need less q ≡ true → has_need needs q ≡ true)
+    → ((count : List ℕ → ℕ) → Counts less count → Counts passed (passed_on header.id (need_at now header.height) count)) → Covers before (has_need less) mid (has_need passed)
+    → OnOk r ((count : List ℕ → ℕ) → 0 < 1 → Counts passed count → Counts more (with_more anew 1 count)) → IfOk r (λ after. Covers mid (has_need passed) after (has_need more))
+    → IfOk r (λ after. OwesKept now targets found header itself needs before after more)
+target_renewed (Err e) now targets found header itself anew needs less passed more before mid apart among its leaves fewer passes one joins two = tt
+target_renewed (Ok after) now targets found header itself anew needs less passed more before mid apart among its leaves fewer passes one joins two =
+    λ s bytes is may.
+    let b : KeptBlock = record { header = header; bytes = bytes } in
+    let f = fetch_by s targets found in
+    let count : List ℕ → ℕ = missing f targets in
+    let left : List ℕ → ℕ = with_less itself count in
+    moved_renewed f b needs more before after may.linked may.fits may.has apart among
+    (λ q.
+    joins (passed_on header.id (need_at now header.height) left) (omega arith) (passes left (leaves count may.has)) q
+    ∙ ap (λ o. counted (with_more o 1 (passed_on header.id (need_at now header.height) left) q)) (its ∙ ap (λ (t : Store). missed (fetch_by t targets found) header.id) is)
+    ∙ ap (λ (t : Store). counted (with_more (missed (with_kept f b) header.id) 1 (passed_on header.id (need_at t header.height) left) q)) is
+    ∙ ap (λ o. counted (with_more (missed (with_kept f b) header.id) 1 (passed_on header.id (need_at (keeping s b) header.height) (with_less o count)) q)) may.itself)
+    (covers_on before before after (has_need needs) (has_need less) (has_need more) (covers_fewer before (has_need needs) (has_need less) fewer)
+    (covers_on before mid after (has_need less) (has_need passed) (has_need more) one two))

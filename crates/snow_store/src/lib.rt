@@ -4,7 +4,6 @@
 
 mod block;
 mod due;
-mod idset;
 mod index;
 mod laws;
 pub mod needs;
@@ -14,7 +13,6 @@ mod verdict;
 
 pub use block::KeptBlock;
 pub use due::Due;
-pub use idset::IdSet;
 pub use index::Children;
 pub use laws::{linked_law, path_law, progress_law, run_law};
 pub use stop::BootStop;

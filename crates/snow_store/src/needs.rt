@@ -1,39 +1,55 @@
-//! The identifiers that the targets miss, as a set: whoever misses a block that is then kept misses from
-//! then on what the run of that block misses, so no target is looked at.
-ghost use Rattle.std.specs.Prelude.{◌≡◌, ℕ, List, true, false, ◌&&◌, ◌||◌, not, bytes_eq, IfOk, OnOk};
+//! The identifiers that the targets miss, each with how many of them miss it: whoever misses a block that
+//! is then kept misses from then on what the run of that block misses, so no other target is looked at.
+ghost use Rattle.std.specs.Prelude.{◌≡◌, ◌<◌, ℕ, Bool, List, true, false, ◌||◌, bytes_eq, IfOk, OnOk};
+ghost use Rattle.std.specs.List.{IsDistinct};
 ghost use Rattle.snow_store.specs.Keeping as keeping;
 ghost use Rattle.snow_store.specs.Keeping.{after_taking};
 ghost use Rattle.snow_store.specs.Linking.{held_heights};
-ghost use Rattle.snow_store.specs.Needing.{need_at, names, has_need, HasNeeds, is_due, Covers};
-ghost use Rattle.snow_store.specs.Paths.{Fetch, is_whole};
+ghost use Rattle.snow_store.specs.Needing.{need_at, names, has_need, HasNeeds, Counts, with_more, with_less, with_none, passed_on, is_due, Covers};
+ghost use Rattle.snow_store.specs.Paths.{Fetch, has_id, missed, is_whole};
 ghost use Rattle.snow_store.specs.Renewing.{fetch_by, MayRenew, IsRenewed};
 ghost use Rattle.snow_store.specs.Coming.{noted, after_verdict};
 ghost use Rattle.snow_store.specs.declared.verdict.Verdict.TheVariants.{Keeps, Low};
 
 use crate::due::Due;
-use crate::idset::IdSet;
 use crate::store::Store;
 use crate::verdict::Verdict;
+use indexmap::IndexSet;
 use snow_base::{Header, Id};
 use snow_interval::Kept;
+use snow_map::IdHashing;
 use std::alloc::AllocError;
-use std::collections::BTreeSet;
+use std::collections::BTreeMap;
 
-/// Whether what is missed is this identifier.
-pub fn names(missed: Option<Id>, id: &Id) -> bool
-    ensures { result ≡ names missed id.now }
+/// Whether an identifier is among these.
+pub fn has(ids: &IndexSet<Id, IdHashing>, id: &Id) -> bool
+    ensures { result ≡ has_id ids.now.keys id.now }
+{
+    ids.contains(id)
+}
+
+// No identifier stands twice among some.
+fn distinct(ids: &IndexSet<Id, IdHashing>)
+    ensures { IsDistinct bytes_eq ids.now.keys }
+{
+    let _count = ids.len();
+}
+
+// Whether what is missed is this identifier.
+fn names(missed: &Option<Id>, id: &Id) -> bool
+    ensures { result ≡ names missed.now id.now }
 {
     match missed {
-        Some(missed) => missed == *id,
+        Some(missed) => *missed == *id,
         None => false,
     }
 }
 
 /// Whether nothing is missed.
-pub fn is_met(needs: &BTreeSet<Id>) -> bool
+pub fn is_met(needs: &BTreeMap<Id, u64>) -> bool
     ensures { (f : Fetch) → HasNeeds needs.now f → result ≡ is_whole f }
 {
-    match needs.first() {
+    match needs.first_key_value() {
         Some(_) => false,
         None => true,
     }
@@ -42,51 +58,77 @@ pub fn is_met(needs: &BTreeSet<Id>) -> bool
 /// What the targets miss is gathered anew.
 pub fn gather<H: Kept>(
     store: &Store<H>,
-    targets: &IdSet,
-    found: &IdSet,
-    needs: &mut BTreeSet<Id>,
+    targets: &IndexSet<Id, IdHashing>,
+    found: &IndexSet<Id, IdHashing>,
+    needs: &mut BTreeMap<Id, u64>,
 ) -> Result<(), AllocError>
     requires { store.now.whole ≡ true }
-    ensures { OnOk result (HasNeeds needs.new (fetch_by store.now.store targets.now found.now)) }
+    ensures { OnOk result (HasNeeds needs.new (fetch_by store.now.store targets.now.keys found.now.keys)) }
 {
     needs.clear();
-    for target in targets.list() {
-        add(needs, store.missed(target, found.has(target)))?;
+    for target in targets.as_slice() {
+        let missed = store.missed(target, has(found, target));
+        add(needs, &missed, 1)?;
     }
     Ok(())
 }
 
-// What one target misses is noted.
-fn add(needs: &mut BTreeSet<Id>, missed: Option<Id>) -> Result<(), AllocError>
-    ensures { OnOk result ((q : List ℕ) → has_need needs.new q ≡ (has_need needs.old q || names missed q)) }
+// So many targets more miss this.
+fn add(needs: &mut BTreeMap<Id, u64>, missed: &Option<Id>, targets: u64) -> Result<(), AllocError>
+    ensures counts { OnOk result ((count : List ℕ → ℕ) → 0 < targets → Counts needs.old count → Counts needs.new (with_more missed.now targets count)) }
+    ensures has { OnOk result ((q : List ℕ) → has_need needs.new q ≡ (has_need needs.old q || names missed.now q)) }
 {
-    if let Some(id) = missed {
-        needs.insert(id)?;
+    let Some(id) = missed else {
+        return Ok(());
+    };
+    let before = needs.get(id).copied().unwrap_or(0);
+    // There are far fewer targets than numbers.
+    if before > u64::MAX - targets {
+        return Err(AllocError);
+    }
+    needs.insert(*id, before + targets)?;
+    Ok(())
+}
+
+// One target less misses this.
+fn leave(needs: &mut BTreeMap<Id, u64>, missed: &Option<Id>) -> Result<(), AllocError>
+    ensures counts { OnOk result ((count : List ℕ → ℕ) → Counts needs.old count → Counts needs.new (with_less missed.now count)) }
+    ensures fewer { OnOk result ((q : List ℕ) → has_need needs.new q ≡ true → has_need needs.old q ≡ true) }
+{
+    let Some(id) = missed else {
+        return Ok(());
+    };
+    let before = needs.get(id).copied().unwrap_or(0);
+    if before > 1 {
+        needs.insert(*id, before - 1)?;
+    } else {
+        let _ = needs.remove(id);
     }
     Ok(())
 }
 
-/// A block was taken. What is missed then is known again, and the answer is what is due.
+/// A block was taken, of whose identifier it is told what it missed before, as a target. What is missed
+/// then is known again, and the answer is what is due.
 pub fn renew<H: Kept>(
     store: &Store<H>,
-    targets: &IdSet,
-    found: &mut IdSet,
-    needs: &mut BTreeSet<Id>,
+    targets: &IndexSet<Id, IdHashing>,
+    found: &mut IndexSet<Id, IdHashing>,
+    needs: &mut BTreeMap<Id, u64>,
     due: Due,
     header: &Header,
     verdict: Verdict,
-    known: bool,
+    before: Option<Id>,
 ) -> Result<Due, AllocError>
     requires whole { store.now.whole ≡ true }
     requires held { verdict ≡ Keeps → held_heights store.now.store.kept header.now.height ≡ true }
     ensures { IfOk result (λ after. (s : keeping.Store) (bytes : List ℕ) → store.now.store ≡ after_taking s record { header = header.now; bytes = bytes } verdict
-        → MayRenew (fetch_by s targets.now found.old) header.now verdict known needs.old
-        → (found.new ≡ (after_verdict (fetch_by s targets.now found.old) record { header = header.now; bytes = bytes } verdict).found)
-        × IsRenewed (fetch_by s targets.now found.old) (after_verdict (fetch_by s targets.now found.old) record { header = header.now; bytes = bytes } verdict) due after needs.new) }
+        → MayRenew (fetch_by s targets.now.keys found.old.keys) header.now verdict before needs.old
+        → (found.new.keys ≡ (after_verdict (fetch_by s targets.now.keys found.old.keys) record { header = header.now; bytes = bytes } verdict).found)
+        × IsRenewed (fetch_by s targets.now.keys found.old.keys) (after_verdict (fetch_by s targets.now.keys found.old.keys) record { header = header.now; bytes = bytes } verdict) due after needs.new) }
 {
     match verdict {
         Verdict::Keeps => {
-            let kept = renew_kept(store, targets, &*found, needs, due, header, known)?;
+            let kept = renew_kept(store, targets, &*found, needs, due, header, before)?;
             Ok(kept)
         }
         Verdict::Low => {
@@ -100,66 +142,92 @@ pub fn renew<H: Kept>(
 // The same where it is kept.
 fn renew_kept<H: Kept>(
     store: &Store<H>,
-    targets: &IdSet,
-    found: &IdSet,
-    needs: &mut BTreeSet<Id>,
+    targets: &IndexSet<Id, IdHashing>,
+    found: &IndexSet<Id, IdHashing>,
+    needs: &mut BTreeMap<Id, u64>,
     due: Due,
     header: &Header,
-    known: bool,
+    before: Option<Id>,
 ) -> Result<Due, AllocError>
     requires whole { store.now.whole ≡ true }
     requires held { held_heights store.now.store.kept header.now.height ≡ true }
     ensures { IfOk result (λ after. (s : keeping.Store) (bytes : List ℕ) → store.now.store ≡ after_taking s record { header = header.now; bytes = bytes } Keeps
-        → MayRenew (fetch_by s targets.now found.now) header.now Keeps known needs.old
-        → IsRenewed (fetch_by s targets.now found.now) (after_verdict (fetch_by s targets.now found.now) record { header = header.now; bytes = bytes } Keeps) due after needs.new) }
+        → MayRenew (fetch_by s targets.now.keys found.now.keys) header.now Keeps before needs.old
+        → IsRenewed (fetch_by s targets.now.keys found.now.keys) (after_verdict (fetch_by s targets.now.keys found.now.keys) record { header = header.now; bytes = bytes } Keeps) due after needs.new) }
 {
-    if known {
-        gather(store, targets, found, needs)?;
-        return Ok(Due::All);
+    if !has(targets, &header.id) {
+        return pass_on(store, header, needs, due);
     }
-    let after = pass_on(store, header, needs, due)?;
-    Ok(after)
+    let now = store.missed(&header.id, has(found, &header.id));
+    if !is_other(&header.id, &before, &now) {
+        return pass_on(store, header, needs, due);
+    }
+    distinct(targets);
+    leave(needs, &before)?;
+    let passed = pass_on(store, header, needs, due)?;
+    join(needs, &now, 1, passed)
+}
+
+// Whether something else than itself was missed before than now.
+fn is_other(id: &Id, before: &Option<Id>, now: &Option<Id>) -> bool
+    ensures { result ≡ false → names before.now id.now ≡ false → now.now ≡ before.now }
+{
+    match before {
+        Some(before) => *before != *id && !names(now, before),
+        None => now.is_some(),
+    }
 }
 
 // Whoever missed a block misses what its run misses.
 fn pass_on<H: Kept>(
     store: &Store<H>,
     header: &Header,
-    needs: &mut BTreeSet<Id>,
+    needs: &mut BTreeMap<Id, u64>,
     due: Due,
 ) -> Result<Due, AllocError>
     requires whole { store.now.whole ≡ true }
     requires held { held_heights store.now.store.kept header.now.height ≡ true }
-    ensures needs { OnOk result ((q : List ℕ) → has_need needs.new q ≡ ((has_need needs.old q && not (bytes_eq header.now.id q)) || (has_need needs.old header.now.id && names (need_at store.now.store header.now.height) q))) }
+    ensures counts { OnOk result ((count : List ℕ → ℕ) → Counts needs.old count → Counts needs.new (passed_on header.now.id (need_at store.now.store header.now.height) count)) }
     ensures due { IfOk result (λ after. Covers due (has_need needs.old) after (has_need needs.new)) }
 {
-    if !needs.remove(&header.id) {
+    let Some(targets) = needs.remove(&header.id) else {
         return Ok(due);
-    }
-    match store.wanted_at(header.height) {
-        Some(id) => {
-            let after = join(needs, id, due)?;
-            Ok(after)
-        }
-        None => Ok(due),
-    }
-}
-
-// An identifier is missed too.
-fn join(needs: &mut BTreeSet<Id>, id: Id, due: Due) -> Result<Due, AllocError>
-    ensures needs { OnOk result ((q : List ℕ) → has_need needs.new q ≡ (has_need needs.old q || bytes_eq id q)) }
-    ensures due { IfOk result (λ after. Covers due (has_need needs.old) after (has_need needs.new)) }
-{
-    if needs.contains(&id) {
-        return Ok(due);
-    }
-    let after = due_with(&*needs, id, due);
-    needs.insert(id)?;
+    };
+    let need = store.wanted_at(header.height);
+    let after = join(needs, &need, targets, due)?;
     Ok(after)
 }
 
+// So many targets more miss this, which is due where none missed it.
+fn join(
+    needs: &mut BTreeMap<Id, u64>,
+    missed: &Option<Id>,
+    targets: u64,
+    due: Due,
+) -> Result<Due, AllocError>
+    ensures counts { OnOk result ((count : List ℕ → ℕ) → 0 < targets → Counts needs.old count → Counts needs.new (with_more missed.now targets count)) }
+    ensures due { IfOk result (λ after. Covers due (has_need needs.old) after (has_need needs.new)) }
+{
+    let after = due_now(&*needs, missed, due);
+    add(needs, missed, targets)?;
+    Ok(after)
+}
+
+// What is due then.
+fn due_now(needs: &BTreeMap<Id, u64>, missed: &Option<Id>, due: Due) -> Due
+    ensures { (now : List ℕ → Bool) → ((q : List ℕ) → now q ≡ (has_need needs.now q || names missed.now q)) → Covers due (has_need needs.now) result now }
+{
+    let Some(id) = missed else {
+        return due;
+    };
+    if needs.contains_key(id) {
+        return due;
+    }
+    due_with(needs, *id, due)
+}
+
 // What is due with an identifier more, which isn't missed yet.
-fn due_with(needs: &BTreeSet<Id>, id: Id, due: Due) -> Due
+fn due_with(needs: &BTreeMap<Id, u64>, id: Id, due: Due) -> Due
     ensures id { is_due result id ≡ true }
     ensures others { (q : List ℕ) → has_need needs.now q ≡ true → is_due result q ≡ false → is_due due q ≡ false }
 {
@@ -171,11 +239,11 @@ fn due_with(needs: &BTreeSet<Id>, id: Id, due: Due) -> Due
 }
 
 // The same where one is due, if it is still missed.
-fn due_both(needs: &BTreeSet<Id>, id: Id, other: Id) -> Due
+fn due_both(needs: &BTreeMap<Id, u64>, id: Id, other: Id) -> Due
     ensures id { is_due result id ≡ true }
     ensures others { (q : List ℕ) → has_need needs.now q ≡ true → is_due result q ≡ false → bytes_eq other q ≡ false }
 {
-    if needs.contains(&other) {
+    if needs.contains_key(&other) {
         return Due::All;
     }
     Due::One(id)
@@ -183,18 +251,18 @@ fn due_both(needs: &BTreeSet<Id>, id: Id, other: Id) -> Due
 
 // The same where a block is too low: nobody misses it, and a target that came so is found.
 fn renew_low(
-    targets: &IdSet,
-    found: &mut IdSet,
-    needs: &mut BTreeSet<Id>,
+    targets: &IndexSet<Id, IdHashing>,
+    found: &mut IndexSet<Id, IdHashing>,
+    needs: &mut BTreeMap<Id, u64>,
     due: Due,
     id: &Id,
 ) -> Result<Due, AllocError>
     ensures due { IfOk result (λ after. after ≡ due) }
-    ensures found { OnOk result (found.new ≡ noted targets.now found.old id.now) }
-    ensures needs { OnOk result ((q : List ℕ) → has_need needs.new q ≡ (has_need needs.old q && not (bytes_eq id.now q))) }
+    ensures found { OnOk result (found.new.keys ≡ noted targets.now.keys found.old.keys id.now) }
+    ensures counts { OnOk result ((count : List ℕ → ℕ) → Counts needs.old count → Counts needs.new (with_none id.now count)) }
 {
-    if targets.has(id) && !found.has(id) {
-        found.push(*id)?;
+    if has(targets, id) {
+        found.insert(*id)?;
     }
     let _ = needs.remove(id);
     Ok(due)

@@ -3,8 +3,9 @@ use snow_flake::Rule;
 use snow_trie::Trie;
 use std::alloc::{AllocError, Global};
 
-/// The trees of blocks that aren't on the board any more: new ones are made in their places, so that a board
-/// takes memory for no more trees than it ever had at once. No contract tells what is kept.
+/// The trees of blocks that aren't on the board any more, each of one child: new ones are made in their places.
+/// Such a tree has no list and no fork, so that those that are kept take a box each. No contract tells what is
+/// kept.
 #[derive(Debug, Drop)]
 pub(crate) struct SpareTrees<R: Rule> {
     trees: Vec<Box<Trie<R>>>,
@@ -37,10 +38,11 @@ impl<R: Rule> SpareTrees<R> {
         self.trees.pop()
     }
 
-    /// Keeps a tree, if there is one, and room for it.
+    /// Keeps a tree, if there is one, and room for it. That of several children goes, with the room of its
+    /// lists.
     pub(crate) fn keep(&mut self, tree: Contest<R>) {
         if let Some(tree) = tree {
-            if self.trees.len() < self.trees.capacity() {
+            if tree.choices() == 1 && self.trees.len() < self.trees.capacity() {
                 self.trees.push_reserved(tree);
             }
         }

@@ -17,11 +17,10 @@ use Rattle.snow_plain.proofs.Grown.{grown_parent, grown_rest, has_block-reverse}
 use Rattle.snow_plain.proofs.Kept.{filter-reverse, grown_kept, has_own}
 use Rattle.snow_tree.specs.declared.node.Node.{Node}
 use Rattle.snow_tree.specs.Held.{children_of, stays_with, blocks_in}
-use Rattle.snow_tree.specs.Nodes.{block_of, blocks_of, ArePlaced, edges_of, unplaced, entry_of, left, outsiders, IsKept}
+use Rattle.snow_tree.specs.Nodes.{block_of, blocks_of, entry_of, left, outsiders, IsKept}
 use Rattle.snow_tree.proofs.Descending.{line_at, descends_at, last_descends, parent_before}
 use Rattle.snow_tree.proofs.Listed.{filter_kept}
 use Rattle.snow_tree.proofs.Placed.{apart_off}
-use Rattle.snow_tree.proofs.Anew.{same_read, all_same, same_length}
 
 -- ---- the child itself
 
@@ -152,11 +151,11 @@ module _ {T : Type 0} where
       let keep : List ℕ → Bool = λ id. descends bs child id && not (bytes_eq id child) in
       subst (IsGrown child) (filter-reverse (λ b. keep b.id) bs ∙ ap reverse (sym (blocks-filter keep nodes))) (grown_kept last child (reverse bs) g)
 
-  -- what is kept stays true when a child is accepted, where those that stay note where their parents stand then
+  -- what is kept stays true when a child is accepted
   pub kept_accepted : (last child : List ℕ) (children : List (List ℕ)) (nodes now : List (List ℕ × Node T)) (room : ℕ) (n : Node T)
       → IsKept last children nodes room → lookup (bytes_eq child) nodes ≡ Some n → n.parent ≡ last
-      → map unplaced now ≡ map unplaced (left nodes child) → ArePlaced (edges_of now) → IsKept child n.children now room
-  kept_accepted last child children nodes now room n kept found parent staying placed =
+      → now ≡ left nodes child → IsKept child n.children now room
+  kept_accepted last child children nodes now room n kept found parent staying =
       let bs = blocks_of nodes in
       let keep : List ℕ → Bool = λ id. descends bs child id && not (bytes_eq id child) in
       let same : blocks_of (left nodes child) ≡ filter (λ b. keep b.id) bs = blocks-filter keep nodes in
@@ -180,19 +179,18 @@ module _ {T : Type 0} where
       in
       let below : All (λ e. e.1.children ≡ children_of bs e.0) (left nodes child) = All-filter (λ e. keep e.0) (λ e. e.1.children ≡ children_of bs e.0) nodes kept.below in
       let passes : All (λ e. keep e.0 ≡ true) (left nodes child) = filter_passes (λ e. keep e.0) nodes in
-      let seen : blocks_of now ≡ blocks_of (left nodes child) = same_read block_of (λ e. refl) now (left nodes child) staying in
+      let seen : blocks_of now ≡ blocks_of (left nodes child) = ap blocks_of staying in
       record {
         grown = subst (λ l. IsGrown child (reverse l)) (sym seen) (left_grown last child nodes kept.grown);
-        placed = placed;
         children = ap (λ (e : List ℕ × Node T). e.1.children) (sym here) ∙ kept.below at.0 (at.1, n) inside ∙ ap (λ (e : List ℕ × Node T). children_of bs e.0) here
             ∙ ap (children_of bs) is ∙ sym (stay child (own bs child there)) ∙ ap (λ l. children_of l child) (sym seen);
-        below = all_same (λ id c. c ≡ children_of (blocks_of now) id) now (left nodes child) staying
+        below = subst (All (λ e. e.1.children ≡ children_of (blocks_of now) e.0)) (sym staying)
             (λ i d h.
             let id = (get_or (left nodes child) i d).0 in
             below i d h ∙ sym (stay id (and_parts (descends bs child id) (not (bytes_eq id child)) (passes i d h)).0) ∙ ap (λ l. children_of l id) (sym seen));
         room = omega (
           arith,
-          same_length now (left nodes child) staying,
+          ap length staying,
           length-filter (λ (e : List ℕ × Node T). keep e.0) nodes,
           count_by-le-length (λ (e : List ℕ × Node T). keep e.0) nodes,
           kept.room,

@@ -4,12 +4,13 @@ pub mod Noted
 pub mod Placed
 pub mod Slots
 pub mod Numbered
+pub mod Ordered
+pub mod Searched
 pub mod Told
 pub mod Edges
-pub mod Sifted
 pub mod Linked
 pub mod Left
 pub mod Climbed
-pub mod Anew
 pub mod Seen
 pub mod Swept
+pub mod Passed

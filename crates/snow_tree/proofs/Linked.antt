@@ -1,5 +1,5 @@
 -- Lemmas on the nodes when a block is issued or taken back: its parent's children change.
-use Rattle.std.proofs.Common.{◌≡◌, ℕ, zero, suc, ◌+◌, ◌-◌, ◌≤◌, true, false, ◌||◌, List, [], ◌∷◌, ◌++◌, length, get_or, take, reverse, map, bytes_eq, All, Some, None, slice_get, Result, Ok, Err, OnOk, OnErr, IsOk, refl, sym, ap, subst, ◌∙◌, length-append, append-nil, if◌then◌else◌, arith}
+use Rattle.std.proofs.Common.{◌≡◌, ℕ, zero, suc, ◌+◌, ◌-◌, ◌≤◌, true, false, ◌||◌, List, [], ◌∷◌, ◌++◌, length, get_or, take, reverse, map, bytes_eq, All, Some, None, Option, slice_get, Result, Ok, Err, OnOk, OnErr, IsOk, refl, sym, ap, subst, ◌∙◌, length-append, append-nil, if◌then◌else◌, arith}
 use Rattle.std.specs.List.{IsDistinct, position}
 use Rattle.std.specs.Option.{option_map}
 use Rattle.std.proofs.lemmas.Result.{on_ok_weaker, on_err_weaker}
@@ -7,19 +7,18 @@ use Rattle.std.specs.Map.{lookup, keys_of, values_of}
 use Rattle.std.proofs.lemmas.List.{map-append, reverse-append, length-map}
 use Rattle.std.proofs.lemmas.List.Elements.{All-append, All-map, All-cons, All-nil, All-head, All-tail}
 use Rattle.std.proofs.lemmas.Bool.{or_parts}
-use Rattle.std.proofs.lemmas.Option.{none-some, slice_get-map}
-use Rattle.snow_tree.specs.Row.{set_value_at}
+use Rattle.std.proofs.lemmas.Option.{none-some, same_Some, slice_get-map}
+use Rattle.snow_tree.specs.Row.{set_children_at}
 use Rattle.snow_base.specs.declared.header.Header.{Header}
 use Rattle.snow_plain.specs.Grown.{has_block, is_on, IsGrown, Grew}
 use Rattle.snow_plain.proofs.Cases.{split_on, clash, same_id, differs_back}
 use Rattle.snow_plain.proofs.Grown.{grown_rest, has_block-reverse}
 use Rattle.snow_tree.specs.declared.node.Node.{Node}
 use Rattle.snow_tree.specs.Held.{children_of}
-use Rattle.snow_tree.specs.Nodes.{block_of, blocks_of, place_before, ArePlaced, edge_of, edges_of, linked, unlinked, with_children, IsKept}
+use Rattle.snow_tree.specs.Nodes.{block_of, blocks_of, linked, unlinked, with_children, IsKept}
 use Rattle.snow_tree.proofs.Placed.{either_way, apart_off, found_at}
 use Rattle.snow_tree.proofs.Listed.{children_push, no_children}
 use Rattle.snow_tree.proofs.Numbered.{of_key}
-use Rattle.snow_tree.proofs.Edges.{edge_place, no_parent, placed_more, placed_less, read_through}
 
 -- a change of the parent's children alone
 abbrev pub ChangesOnly : (List ℕ → List (List ℕ) → List (List ℕ)) → List ℕ → Type 0
@@ -42,9 +41,9 @@ module _ {T : Type 0} where
       rw (differs_back id e.0 parts.0) (not_found nodes id parts.1)
 
   -- writing what stands there changes nothing
-  pub same_written : (nodes : List (List ℕ × Node T)) (i : ℕ) (n : Node T) → slice_get (values_of nodes) i ≡ Some n → set_value_at nodes i n ≡ nodes
+  pub same_written : (nodes : List (List ℕ × Node T)) (i : ℕ) (n : Node T) → slice_get (values_of nodes) i ≡ Some n → set_children_at nodes i n.children ≡ nodes
   same_written [] i n h = refl
-  same_written (e ∷ nodes) zero n h = let same : e.1 ≡ n = cc in ap (λ m. (e.0, m) ∷ nodes) (sym same)
+  same_written (e ∷ nodes) zero n h = let same : e.1 ≡ n = cc in ap (λ (m : Node T). (e.0, record e.1 { children = m.children }) ∷ nodes) (sym same)
   same_written (e ∷ nodes) (suc i) n h = ap (λ l. e ∷ l) (same_written nodes i n h)
 
   -- where the parent isn't among the nodes nothing changes
@@ -58,7 +57,7 @@ module _ {T : Type 0} where
   -- a write at the parent's place is the change of all
   pub one_changed : (change : List ℕ → List (List ℕ) → List (List ℕ)) (parent : List ℕ) → ChangesOnly change parent → (nodes : List (List ℕ × Node T)) (i : ℕ) (e : List ℕ × Node T)
       → IsDistinct bytes_eq (keys_of nodes) → slice_get nodes i ≡ Some e → bytes_eq e.0 parent ≡ true
-      → set_value_at nodes i (record e.1 { children = change e.0 e.1.children }) ≡ map (with_children change) nodes
+      → set_children_at nodes i (change e.0 e.1.children) ≡ map (with_children change) nodes
   unfolding IsDistinct
   one_changed change parent only [] i e unique at is = absurd (none-some e at)
   one_changed change parent only (x ∷ nodes) zero e unique at is =
@@ -88,10 +87,13 @@ ok_holds (Err e) ok p = absurd cc
 
 module _ {T : Type 0} where
   -- a write that didn't come about
-  pub kept_value : {A E : Type 0} (r : Result A E) (nodes : List (List ℕ × Node T)) (at : ℕ) (n : Node T) (children : List (List ℕ)) → slice_get (values_of nodes) at ≡ Some n
-      → OnErr r (children ≡ n.children) → OnErr r (set_value_at nodes at (record n { children = children }) ≡ nodes)
-  kept_value r nodes at n children there same =
-      on_err_weaker r (λ e. ap (λ l. set_value_at nodes at (record n { children = l })) e ∙ same_written nodes at n there) same
+  pub kept_children : {A E : Type 0} (r : Result A E) (nodes : List (List ℕ × Node T)) (at : ℕ) (before children : List (List ℕ)) → option_map (λ n. n.children) (slice_get (values_of nodes) at) ≡ Some before
+      → OnErr r (children ≡ before) → OnErr r (set_children_at nodes at children ≡ nodes)
+  kept_children r nodes at before children there same = by (slice_get (values_of nodes) at) refl there
+    where
+      by : (o : Option (Node T)) → slice_get (values_of nodes) at ≡ o → option_map (λ n. n.children) o ≡ Some before → OnErr r (set_children_at nodes at children ≡ nodes)
+      by None e h = absurd (none-some before h)
+      by (Some n) e h = on_err_weaker r (λ is. ap (set_children_at nodes at) (is ∙ sym (same_Some n.children before h)) ∙ same_written nodes at n e) same
 
 -- ---- issue
 
@@ -111,14 +113,14 @@ module _ {T : Type 0} where
   -- the block at the parent's place has one child more
   pub linked_at : {A E : Type 0} (r : Result A E) (block : Header) (nodes new : List (List ℕ × Node T)) (at : ℕ) → IsDistinct bytes_eq (keys_of nodes)
       → position (bytes_eq block.parent) (keys_of nodes) ≡ Some at
-      → ((n : Node T) → slice_get (values_of nodes) at ≡ Some n → OnOk r (new ≡ set_value_at nodes at (record n { children = n.children ++ block.id ∷ [] })))
+      → ((n : Node T) → slice_get (values_of nodes) at ≡ Some n → OnOk r (new ≡ set_children_at nodes at (n.children ++ block.id ∷ [])))
       → OnOk r (new ≡ map (with_children (linked block)) nodes)
   linked_at r block nodes new at unique place written =
       let found = found_at nodes block.parent at place in
       let e = found.0 in
       let same : linked block e.0 e.1.children ≡ e.1.children ++ block.id ∷ [] = rw found.2 refl in
       on_ok_weaker r
-      (λ is. is ∙ ap (λ l. set_value_at nodes at (record e.1 { children = l })) (sym same)
+      (λ is. is ∙ ap (set_children_at nodes at) (sym same)
       ∙ one_changed (linked block) block.parent (linked_only block) nodes at e unique found.1 found.2)
       (written e.1 (slice_get-map (λ x. x.1) nodes at ∙ ap (option_map (λ x. x.1)) found.1))
 
@@ -126,9 +128,8 @@ module _ {T : Type 0} where
   pub kept_issued : (last : List ℕ) (children : List (List ℕ)) (nodes : List (List ℕ × Node T)) (old room : ℕ) (k : List ℕ) (n : Node T)
       → IsKept last children nodes old → n.children ≡ []
       → is_on last (blocks_of nodes) k ≡ false → is_on last (blocks_of nodes) n.parent ≡ true → length nodes + 1 ≤ room
-      → position (λ e. bytes_eq e.0 n.parent) nodes ≡ place_before (length nodes) n.back
       → IsKept last (linked (block_of (k, n)) last children) (map (with_children (linked (block_of (k, n)))) nodes ++ (k, n) ∷ []) room
-  kept_issued last children nodes old room k n kept bare new parent fits place =
+  kept_issued last children nodes old room k n kept bare new parent fits =
       let b = block_of (k, n) in
       let bs = blocks_of nodes in
       let change = with_children (linked b) in
@@ -140,18 +141,11 @@ module _ {T : Type 0} where
       split_on (bytes_eq b.parent b.id) (λ t. clash (is_on last bs b.parent) parent (ap (is_on last bs) (same_id b.parent b.id t) ∙ new)) (λ t. t)
       in
       let grown : IsGrown last (b ∷ reverse bs) = Grew b (reverse bs) (on b.id ∙ new) (on b.parent ∙ parent) kept.grown in
-      let edges : edges_of (map change nodes ++ (k, n) ∷ []) ≡ edges_of nodes ++ edge_of (k, n) ∷ [] =
-      map-append edge_of (map change nodes) ((k, n) ∷ []) ∙ ap (λ l. l ++ edge_of (k, n) ∷ []) (read_through edge_of change (λ e. refl) nodes)
-      in
-      let at : position (λ x. bytes_eq x.id n.parent) (edges_of nodes) ≡ place_before (length (edges_of nodes)) n.back =
-      edge_place nodes n.parent ∙ place ∙ ap (λ m. place_before m n.back) (sym (length-map nodes edge_of))
-      in
       let childless : children_of bs k ≡ [] = no_children last bs k kept.grown (on k ∙ new) in
       let Below : List ℕ × Node T → Type 0 = λ e. e.1.children ≡ children_of (blocks_of (map change nodes ++ (k, n) ∷ [])) e.0 in
       let none : children_of (bs ++ b ∷ []) b.id ≡ [] = children_push bs b b.id ∙ rw (childless, other) refl in
       record {
         grown = subst (λ l. IsGrown last (reverse l)) (sym all) (subst (IsGrown last) (sym (reverse-append bs (b ∷ []))) grown);
-        placed = subst ArePlaced (sym edges) (placed_more (edges_of nodes) (edge_of (k, n)) kept.placed (no_parent nodes k childless) (differs_back k n.parent other) at);
         children = linked_is bs b last children kept.children ∙ ap (λ l. children_of l last) (sym all);
         below = All-append Below (map change nodes) ((k, n) ∷ [])
             (All-map Below change nodes (λ i d h. linked_is bs b (get_or nodes i d).0 (get_or nodes i d).1.children (kept.below i d h) ∙ ap (λ l. children_of l (get_or nodes i d).0) (sym all)))
@@ -188,14 +182,14 @@ module _ {T : Type 0} where
   -- the block at the parent's place has one child less
   pub unlinked_at : (parent : List ℕ) (nodes new : List (List ℕ × Node T)) (at : ℕ) → IsDistinct bytes_eq (keys_of nodes)
       → position (bytes_eq parent) (keys_of nodes) ≡ Some at
-      → ((n : Node T) → slice_get (values_of nodes) at ≡ Some n → new ≡ set_value_at nodes at (record n { children = take (length n.children - 1) n.children }))
+      → ((n : Node T) → slice_get (values_of nodes) at ≡ Some n → new ≡ set_children_at nodes at (take (length n.children - 1) n.children))
       → new ≡ map (with_children (unlinked parent)) nodes
   unlinked_at parent nodes new at unique place written =
       let found = found_at nodes parent at place in
       let e = found.0 in
       let same : unlinked parent e.0 e.1.children ≡ take (length e.1.children - 1) e.1.children = rw found.2 refl in
       written e.1 (slice_get-map (λ x. x.1) nodes at ∙ ap (option_map (λ x. x.1)) found.1)
-      ∙ ap (λ l. set_value_at nodes at (record e.1 { children = l })) (sym same)
+      ∙ ap (set_children_at nodes at) (sym same)
       ∙ one_changed (unlinked parent) parent (unlinked_only parent) nodes at e unique found.1 found.2
 
   -- what is kept stays true when the latest block is taken back
@@ -212,12 +206,10 @@ module _ {T : Type 0} where
       let of : (q : List ℕ) (c : List (List ℕ)) → c ≡ children_of (blocks_of (nodes ++ e ∷ [])) q → unlinked b.parent q c ≡ children_of (blocks_of (map change nodes)) q =
       λ q c is. unlinked_is bs b q c (is ∙ ap (λ l. children_of l q) all) ∙ ap (λ l. children_of l q) (sym same)
       in
-      let edges : edges_of (nodes ++ e ∷ []) ≡ edges_of nodes ++ edge_of e ∷ [] = map-append edge_of nodes (e ∷ []) in
       let Was : List ℕ × Node T → Type 0 = λ x. x.1.children ≡ children_of (blocks_of (nodes ++ e ∷ [])) x.0 in
       let Below : List ℕ × Node T → Type 0 = λ x. x.1.children ≡ children_of (blocks_of (map change nodes)) x.0 in
       record {
         grown = subst (λ l. IsGrown last (reverse l)) (sym same) (grown_rest grown);
-        placed = subst ArePlaced (sym (read_through edge_of change (λ x. refl) nodes)) (placed_less (edges_of nodes) (edge_of e) (subst ArePlaced edges kept.placed));
         children = of last children kept.children;
         below = All-map Below change nodes (λ i d h. of (get_or nodes i d).0 (get_or nodes i d).1.children (front Was nodes e kept.below i d h));
         room = omega (arith, length-append nodes (e ∷ []), length-map nodes change, kept.room);

@@ -1,9 +1,7 @@
 -- Lemmas on the blocks of nodes at a place and before it.
-use Rattle.std.proofs.Common.{◌≡◌, ℕ, zero, suc, ◌≤◌, Bool, List, [], ◌∷◌, length, take, map, filter, bytes_eq, Option, Some, None, slice_get, refl, ap, ◌∙◌, arith}
+use Rattle.std.proofs.Common.{◌≡◌, ℕ, zero, suc, List, [], ◌∷◌, take, bytes_eq, Option, Some, None, slice_get, refl, ap, ◌∙◌}
 use Rattle.std.specs.List.{position}
 use Rattle.std.specs.Option.{option_map}
-use Rattle.std.proofs.lemmas.List.{length-map, length-take}
-use Rattle.std.proofs.lemmas.List.Sums.{length-filter, count_by-le-length}
 use Rattle.std.proofs.lemmas.Option.{none-some}
 use Rattle.snow_base.specs.declared.header.Header.{Header}
 use Rattle.snow_tree.specs.declared.node.Node.{Node}
@@ -27,14 +25,3 @@ module _ {T : Type 0} where
   blocks-take nodes zero = refl
   blocks-take [] (suc i) = refl
   blocks-take (e ∷ nodes) (suc i) = ap (λ l. block_of e ∷ l) (blocks-take nodes i)
-
-  -- there are no more told so far than there are nodes
-  pub few_told : (goes : List ℕ × Node T → Bool) (nodes : List (List ℕ × Node T)) (i : ℕ) → i ≤ length nodes → length (map (λ e. e.0) (filter goes (take i nodes))) ≤ i
-  few_told goes nodes i h =
-      omega (
-        arith,
-        length-map (filter goes (take i nodes)) (λ e. e.0),
-        length-filter goes (take i nodes),
-        count_by-le-length goes (take i nodes),
-        length-take i nodes,
-      )

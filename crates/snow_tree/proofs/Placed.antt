@@ -1,5 +1,5 @@
 -- Lemmas on the places of nodes.
-use Rattle.std.proofs.Common.{◌≡◌, ◌⊎◌, ℕ, suc, ◌+◌, ◌<◌, ◌≤◌, Bool, true, false, not, cond, nat_lt, List, [], ◌∷◌, length, get_or, bytes_eq, Option, Some, None, IfSome, is_some, slice_get, inl, inr, refl, sym, ap, ◌∙◌, arith, if◌then◌else◌}
+use Rattle.std.proofs.Common.{◌≡◌, ◌⊎◌, ℕ, suc, ◌+◌, ◌<◌, ◌≤◌, Bool, true, false, not, cond, nat_lt, List, [], ◌∷◌, length, get_or, bytes_eq, Option, Some, None, is_some, slice_get, inl, inr, refl, sym, ap, ◌∙◌, arith, if◌then◌else◌}
 use Rattle.std.specs.List.{AllByRecursion, position, prefix_len}
 use Rattle.std.specs.Map.{keys_of}
 use Rattle.std.specs.Option.{option_map}
@@ -77,11 +77,6 @@ module _ {T : Type 0} where
   place_within nodes id at h =
       let within : at < length (keys_of nodes) = (position-Some (bytes_eq id) (keys_of nodes) at [] (place_same nodes id ∙ h)).0 in
       omega (arith, within, length-keys_of nodes)
-
-  -- so it is lower than their number
-  pub earlier : (nodes : List (List ℕ × Node T)) (id : List ℕ) (o : Option ℕ) (n : ℕ) → position (λ e. bytes_eq e.0 id) nodes ≡ o → n ≡ length nodes → IfSome o (λ at. at < n)
-  earlier nodes id None n found is = tt
-  earlier nodes id (Some at) n found is = let within = place_within nodes id at found in omega (arith, within, is)
 
   -- keys that all differ from one have no block of its identifier
   pub apart_off : (nodes : List (List ℕ × Node T)) (k : List ℕ) → AllByRecursion (λ y. bytes_eq k y ≡ false) (keys_of nodes) → has_block (blocks_of nodes) k ≡ false

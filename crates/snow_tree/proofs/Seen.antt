@@ -8,7 +8,7 @@ use Rattle.std.proofs.lemmas.List.{length-map}
 use Rattle.std.proofs.lemmas.Map.Entries.{place_from_lookup}
 use Rattle.std.proofs.lemmas.Option.{none-some, slice_get-map, slice_get_within, get_or_from_slice_get}
 use Rattle.std.proofs.lemmas.List.Elements.{All-cons, All-head, All-tail}
-use Rattle.snow_tree.specs.Row.{set_value_at}
+use Rattle.snow_tree.specs.Row.{set_load_at}
 use Rattle.snow_base.specs.declared.header.Header.{Header}
 use Rattle.snow_base.specs.Ancestry.{line_in, child_on}
 use Rattle.snow_plain.specs.Grown.{has_block, is_on, IsGrown}
@@ -16,11 +16,10 @@ use Rattle.snow_plain.proofs.Cases.{split_on, same_id, id_same, differs_back}
 use Rattle.snow_plain.proofs.Grown.{grown_parent, grown_rest, no_line, has_block-reverse}
 use Rattle.snow_tree.specs.declared.node.Node.{Node}
 use Rattle.snow_tree.specs.Held.{children_of, set_load}
-use Rattle.snow_tree.specs.Nodes.{block_of, blocks_of, ArePlaced, edge_of, entry_of, with_children, IsKept}
+use Rattle.snow_tree.specs.Nodes.{block_of, blocks_of, entry_of, with_children, IsKept}
 use Rattle.snow_tree.proofs.Listed.{no_children}
 use Rattle.snow_tree.proofs.Linked.{no_block}
-use Rattle.snow_tree.proofs.Numbered.{length-set_value_at}
-use Rattle.snow_tree.proofs.Edges.{read_kept}
+use Rattle.snow_tree.proofs.Edges.{read_loaded}
 
 -- what holds where a call succeeded, after one that did
 pub ok_after : {A E P : Type 0} (r : Result A E) → is_err r ≡ false → OnOk r P → P
@@ -155,11 +154,10 @@ module _ {T : Type 0} where
       rw parts.0 (fewer_off nodes e last parts.1)
 
   -- a load that is written
-  pub load_seen : (nodes : List (List ℕ × Node T)) (i : ℕ) (n : Node T) (w : T) → slice_get (map (λ e. e.1) nodes) i ≡ Some n
-      → map entry_of (set_value_at nodes i (record n { load = w })) ≡ set_load (map entry_of nodes) i w
-  load_seen [] i n w h = refl
-  load_seen (e ∷ nodes) zero n w h = let same : e.1 ≡ n = cc in ap (λ (m : Node T). record { block = block_of (e.0, m); load = w } ∷ map entry_of nodes) (sym same)
-  load_seen (e ∷ nodes) (suc i) n w h = ap (λ l. entry_of e ∷ l) (load_seen nodes i n w h)
+  pub load_seen : (nodes : List (List ℕ × Node T)) (i : ℕ) (w : T) → map entry_of (set_load_at nodes i w) ≡ set_load (map entry_of nodes) i w
+  load_seen [] i w = refl
+  load_seen (e ∷ nodes) zero w = refl
+  load_seen (e ∷ nodes) (suc i) w = ap (λ l. entry_of e ∷ l) (load_seen nodes i w)
 
   -- a load that is read
   pub load_at : (nodes : List (List ℕ × Node T)) (i : ℕ) → option_map (λ e. e.load) (slice_get (map entry_of nodes) i) ≡ option_map (λ (n : Node T). n.load) (slice_get (map (λ e. e.1) nodes) i)
@@ -167,29 +165,28 @@ module _ {T : Type 0} where
   load_at (e ∷ nodes) zero = refl
   load_at (e ∷ nodes) (suc i) = load_at nodes i
 
-  -- what is so of all is so after a write that keeps it
-  all_written : (P : List ℕ × Node T → Type 0) (nodes : List (List ℕ × Node T)) (i : ℕ) (n m : Node T) → slice_get (map (λ e. e.1) nodes) i ≡ Some n
-      → ((k : List ℕ) → P (k, n) → P (k, m)) → All P nodes → All P (set_value_at nodes i m)
-  all_written P [] i n m h same all = absurd (none-some n h)
-  all_written P (e ∷ nodes) zero n m h same all =
-      let is : e.1 ≡ n = cc in
-      All-cons P (e.0, m) nodes (same e.0 (subst (λ x. P (e.0, x)) is (All-head P e nodes all))) (All-tail P e nodes all)
-  all_written P (e ∷ nodes) (suc i) n m h same all =
-      All-cons P e (set_value_at nodes i m) (All-head P e nodes all) (all_written P nodes i n m h same (All-tail P e nodes all))
+  -- what is so of all is so with another load
+  all_loaded : (P : List ℕ × Node T → Type 0) (nodes : List (List ℕ × Node T)) (i : ℕ) (w : T) → ((e : List ℕ × Node T) → P e → P (e.0, record e.1 { load = w })) → All P nodes → All P (set_load_at nodes i w)
+  all_loaded P [] i w same all = all
+  all_loaded P (e ∷ nodes) zero w same all = All-cons P (e.0, record e.1 { load = w }) nodes (same e (All-head P e nodes all)) (All-tail P e nodes all)
+  all_loaded P (e ∷ nodes) (suc i) w same all = All-cons P e (set_load_at nodes i w) (All-head P e nodes all) (all_loaded P nodes i w same (All-tail P e nodes all))
+
+  length-loaded : (nodes : List (List ℕ × Node T)) (i : ℕ) (w : T) → length (set_load_at nodes i w) ≡ length nodes
+  length-loaded [] i w = refl
+  length-loaded (e ∷ nodes) zero w = refl
+  length-loaded (e ∷ nodes) (suc i) w = ap suc (length-loaded nodes i w)
 
   -- a load is no part of what is kept true
-  pub kept_loaded : (last : List ℕ) (first : List (List ℕ)) (nodes : List (List ℕ × Node T)) (most i : ℕ) (n : Node T) (w : T) → slice_get (map (λ e. e.1) nodes) i ≡ Some n
-      → IsKept last first nodes most → IsKept last first (set_value_at nodes i (record n { load = w })) most
-  kept_loaded last first nodes most i n w h kept =
-      let m : Node T = record n { load = w } in
-      let same : blocks_of (set_value_at nodes i m) ≡ blocks_of nodes = read_kept block_of nodes i n m h (λ k. refl) in
-      let Below : List ℕ × Node T → Type 0 = λ e. e.1.children ≡ children_of (blocks_of (set_value_at nodes i m)) e.0 in
+  pub kept_loaded : (last : List ℕ) (first : List (List ℕ)) (nodes : List (List ℕ × Node T)) (most i : ℕ) (w : T)
+      → IsKept last first nodes most → IsKept last first (set_load_at nodes i w) most
+  kept_loaded last first nodes most i w kept =
+      let same : blocks_of (set_load_at nodes i w) ≡ blocks_of nodes = read_loaded block_of nodes i w (λ e. refl) in
+      let Below : List ℕ × Node T → Type 0 = λ e. e.1.children ≡ children_of (blocks_of (set_load_at nodes i w)) e.0 in
       record {
         grown = subst (λ l. IsGrown last (reverse l)) (sym same) kept.grown;
-        placed = subst ArePlaced (sym (read_kept edge_of nodes i n m h (λ k. refl))) kept.placed;
         children = kept.children ∙ ap (λ l. children_of l last) (sym same);
-        below = all_written Below nodes i n m h (λ k p. p) (λ k d l. kept.below k d l ∙ ap (λ x. children_of x (get_or nodes k d).0) (sym same));
-        room = omega (arith, length-set_value_at nodes i m, kept.room);
+        below = all_loaded Below nodes i w (λ e p. p) (λ k d l. kept.below k d l ∙ ap (λ x. children_of x (get_or nodes k d).0) (sym same));
+        room = omega (arith, length-loaded nodes i w, kept.room);
       }
 
 -- ---- where the parent of a block stands

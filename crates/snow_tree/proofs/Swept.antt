@@ -1,371 +1,241 @@
--- Lemmas on the pass in which each node goes from the front to the end or out, when a child of the last accepted block is accepted.
-use Rattle.std.proofs.Common.{◌≡◌, ◌⊎◌, ℕ, zero, suc, ◌+◌, ◌-◌, ◌<◌, Bool, true, false, not, ◌&&◌, ◌||◌, List, [], ◌∷◌, ◌++◌, length, get_or, take, drop, reverse, map, filter, cond, bytes_eq, Option, Some, None, is_some, slice_get, inl, inr, refl, sym, ap, subst, ◌∙◌, arith, append_assoc, append-nil, drop-cons, length-append, if◌then◌else◌}
-use Rattle.std.specs.List.{IsDistinct, position}
-use Rattle.std.specs.Map.{lookup, keys_of}
+-- Lemmas on the pass in which those leave that don't descend from the child that is accepted.
+use Rattle.std.proofs.Common.{◌≡◌, ℕ, suc, Bool, true, false, not, ◌&&◌, ◌||◌, nat_eq, List, [], ◌∷◌, ◌++◌, get_or, take, drop, reverse, map, filter, cond, bytes_eq, Some, slice_get, refl, sym, ap, subst, ◌∙◌, append_assoc, append-nil, arith, if◌then◌else◌}
+use Rattle.std.specs.List.{AllByRecursion, list_any, remove}
 use Rattle.std.specs.Option.{option_map}
 use Rattle.std.proofs.lemmas.Bool.{or_left, or_right}
-use Rattle.std.proofs.lemmas.List.{get_or-map, length-map, map-append, reverse-append}
-use Rattle.std.proofs.lemmas.List.Elements.{filter_more}
-use Rattle.std.proofs.lemmas.Map.Keys.{IsDistinct-head, IsDistinct-tail}
-use Rattle.std.proofs.lemmas.Option.{none-some, same_Some}
-use Rattle.snow_base.specs.Ancestry.{descends}
+use Rattle.std.proofs.lemmas.List.{map-append}
+use Rattle.std.proofs.lemmas.List.Elements.{filter-append}
+use Rattle.std.proofs.lemmas.Option.{slice_get-map, slice_get_within, get_or_from_slice_get}
 use Rattle.snow_base.specs.declared.header.Header.{Header}
-use Rattle.snow_plain.specs.Grown.{has_block, is_on, IsGrown, Bare, Grew}
-use Rattle.snow_plain.proofs.Cases.{split_on, clash, same_id, id_same, id_itself, differs_back}
-use Rattle.snow_plain.proofs.Grown.{has_block-reverse}
+use Rattle.snow_base.specs.Ancestry.{descends}
+use Rattle.snow_plain.specs.Grown.{has_block, IsGrown}
+use Rattle.snow_plain.proofs.Cases.{split_on, same_id, differs_back}
+use Rattle.snow_plain.proofs.Grown.{no_line, has_block-reverse}
 use Rattle.snow_plain.proofs.Kept.{has_filtered}
 use Rattle.snow_tree.specs.declared.node.Node.{Node}
-use Rattle.snow_tree.specs.Nodes.{block_of, blocks_of, place_before, ArePlaced, edge_of, edges_of, unplaced, back_at_end, turned, told_by, taken_by}
-use Rattle.snow_tree.proofs.Anew.{same_read}
-use Rattle.snow_tree.proofs.Descending.{descends_at, last_descends, last_off, parent_before}
-use Rattle.snow_tree.proofs.Edges.{before_at, edge_place, no_parent, placed_more}
+use Rattle.snow_tree.specs.Nodes.{block_of, blocks_of, left, outsiders}
+use Rattle.snow_tree.specs.Row.{Edge, IsBefore, AreInOrder, IsOwn, edge_of, edges_of, is_above, staying, leaving}
+use Rattle.snow_tree.proofs.Descending.{descends_at}
 use Rattle.snow_tree.proofs.Left.{own, blocks-filter}
-use Rattle.snow_tree.proofs.Listed.{no_children}
-use Rattle.snow_tree.proofs.Noted.{blocks-take}
-use Rattle.snow_tree.proofs.Numbered.{of_key}
-use Rattle.snow_tree.proofs.Placed.{position_cons, apart_off, off_place, place_there, place_within}
-use Rattle.snow_tree.proofs.Sifted.{at_place, one_or_none, found_more}
-
--- what stays descends from the child, and isn't the child
-descending : (under is : Bool) → (under && not is) ≡ true → under ≡ true
-descending true is h = refl
-descending false is h = absurd cc
-
-not_child : (under is : Bool) → (under && not is) ≡ true → is ≡ false
-not_child true true h = absurd cc
-not_child false true h = absurd cc
-not_child under false h = refl
-
-out : (under is : Bool) → is ≡ false → (under && not is) ≡ false → under ≡ false
-out false is h k = refl
-out true true h k = absurd cc
-out true false h k = absurd cc
+use Rattle.snow_tree.proofs.Ordered.{all_without, all_there, all_left, all_weaker, another_number, split_at, order_without, order_front, order_back}
 
 -- whether the block of an identifier stays
 abbrev pub stays : List Header → List ℕ → List ℕ → Bool
 stays bs child id = descends bs child id && not (bytes_eq id child)
 
+-- who descends from the child is there
+descendant_there : (bs : List Header) (child q : List ℕ) → descends bs child q ≡ true → has_block bs q ≡ true
+descendant_there bs child q under =
+    split_on (has_block bs q)
+    (λ t. t)
+    (λ t. absurd (let none = ap (list_any (λ b. bytes_eq b.id child)) (no_line (reverse bs) q (has_block-reverse bs q ∙ t)) in let clashes : true ≡ false = sym under ∙ none in cc))
+
+-- what is so of each is so of all
+all_of : {X : Type 0} (P : X → Type 0) (xs : List X) → ((i : ℕ) (x : X) → slice_get xs i ≡ Some x → P x) → AllByRecursion P xs
+all_of P [] h = tt
+all_of P (x ∷ xs) h = (h 0 x refl, all_of P xs (λ i y at. h (suc i) y at))
+
+all_append : {X : Type 0} (P : X → Type 0) (xs ys : List X) → AllByRecursion P xs → AllByRecursion P ys → AllByRecursion P (xs ++ ys)
+all_append P [] ys front back = back
+all_append P (x ∷ xs) ys front back = (front.0, all_append P xs ys front.1 back)
+
 module _ {T : Type 0} where
-  -- the nodes on the way: those that didn't go past yet, and behind them those that stay
-  pub record HasSifted (all now : List (List ℕ × Node T)) (child : List ℕ) (place : ℕ) : Type 0 where
-    pub done : List (List ℕ × Node T)
-    pub shape : now ≡ drop place all ++ done
-    pub same : map unplaced done ≡ map unplaced (filter (λ e. stays (blocks_of all) child e.0) (take place all))
-    pub grown : IsGrown child (reverse (blocks_of done))
-    pub placed : ArePlaced (edges_of done)
+  -- what is known of a node when another is accepted: it isn't that one, and its note leads there exactly where that is its parent
+  pub record IsOther (bs : List Header) (child : List ℕ) (number : ℕ) (e : List ℕ × Node T) : Type 0 where
+    pub step : descends bs child e.0 ≡ (bytes_eq e.0 child || descends bs child e.1.parent)
+    pub other : bytes_eq e.0 child ≡ false
+    pub leads : bytes_eq child e.1.parent ≡ nat_eq number e.1.up
 
-  -- what is known of the nodes before
-  pub record IsReady (last child : List ℕ) (all : List (List ℕ × Node T)) : Type 0 where
-    pub grown : IsGrown last (reverse (blocks_of all))
-    pub unique : IsDistinct bytes_eq (keys_of all)
-    pub there : has_block (blocks_of all) child ≡ true
-    pub parent : (i : ℕ) (e : List ℕ × Node T) → slice_get all i ≡ Some e → bytes_eq e.0 child ≡ true → e.1.parent ≡ last
+  -- all are in order, each is another one, and who descends from that one is among them
+  pub record AreOthers (bs : List Header) (child : List ℕ) (number next : ℕ) (rest : List (List ℕ × Node T)) : Type 0 where
+    pub order : AreInOrder (edges_of rest)
+    pub own : AllByRecursion (IsOwn next) (edges_of rest)
+    pub others : AllByRecursion (IsOther bs child number) rest
+    pub itself : descends bs child child ≡ true
+    pub there : (q : List ℕ) → descends bs child q ≡ true → bytes_eq q child ≡ false → has_block (blocks_of rest) q ≡ true
 
-  -- where the first node goes: to the end, behind its parent, or out
-  abbrev pub GoesToEnd : List Header → List ℕ → List (List ℕ × Node T) → List ℕ × Node T → Option ℕ → Type 0
-  GoesToEnd bs child done e back =
-      (b : ℕ) × (back ≡ Some b) × (stays bs child e.0 ≡ true) × (is_on child (blocks_of done) e.1.parent ≡ true)
-      × (position (λ x. bytes_eq x.0 e.1.parent) done ≡ place_before (length done) b)
+  through-map : (P : Edge → Type 0) (xs : List (List ℕ × Node T)) → AllByRecursion P (edges_of xs) → AllByRecursion (λ e. P (edge_of e)) xs
+  through-map P [] h = tt
+  through-map P (x ∷ xs) h = (h.0, through-map P xs h.1)
 
-  abbrev pub GoesOut : List Header → List ℕ → List ℕ × Node T → Option ℕ → Type 0
-  GoesOut bs child e back = (back ≡ None) × (stays bs child e.0 ≡ false)
+  there-append : (xs ys : List (List ℕ × Node T)) (q : List ℕ) → has_block (blocks_of (xs ++ ys)) q ≡ (has_block (blocks_of xs) q || has_block (blocks_of ys) q)
+  there-append [] ys q = refl
+  there-append (x ∷ xs) ys q =
+      split_on (bytes_eq x.0 q)
+      (λ t. rw t refl)
+      (λ t. rw t (there-append xs ys q))
 
-  -- ---- places
+  -- no block is the parent of one before it
+  later_off : (e : List ℕ × Node T) (later : List (List ℕ × Node T)) → AllByRecursion (IsBefore (edge_of e)) (edges_of later) → has_block (blocks_of later) e.1.parent ≡ false
+  later_off e [] h = refl
+  later_off e (x ∷ later) h = rw h.0.first (later_off e later h.1)
 
-  off_dropped : (nodes : List (List ℕ × Node T)) (i : ℕ) (id : List ℕ) → has_block (blocks_of nodes) id ≡ false → has_block (blocks_of (drop i nodes)) id ≡ false
-  off_dropped nodes zero id off = off
-  off_dropped [] (suc i) id off = off
-  off_dropped (e ∷ nodes) (suc i) id off =
-      split_on (bytes_eq e.0 id)
-      (λ t. absurd (let k = rw t at off in cc))
-      (λ t. let k = rw t at off in off_dropped nodes i id k)
+  -- a note leads to one of those that stay exactly where the parent is one of them
+  leads_among : (keep : List ℕ × Node T → Bool) (e : List ℕ × Node T) (done : List (List ℕ × Node T)) → AllByRecursion (λ d. IsBefore d (edge_of e)) (edges_of done)
+      → list_any (λ x. nat_eq x.1.number e.1.up) (filter keep done) ≡ has_block (blocks_of (filter keep done)) e.1.parent
+  leads_among keep e [] h = refl
+  leads_among keep e (d ∷ done) h =
+      split_on (keep d)
+      (λ t. rw t (λ j. sym h.0.leads j || leads_among keep e done h.1 j))
+      (λ t. rw t (leads_among keep e done h.1))
 
-  -- what is among the first isn't among the others
-  front_only : (nodes : List (List ℕ × Node T)) (i : ℕ) (id : List ℕ) → IsDistinct bytes_eq (keys_of nodes) → has_block (blocks_of (take i nodes)) id ≡ true
-      → has_block (blocks_of (drop i nodes)) id ≡ false
-  front_only nodes zero id unique on = absurd cc
-  front_only [] (suc i) id unique on = absurd cc
-  front_only (e ∷ nodes) (suc i) id unique on =
-      split_on (bytes_eq e.0 id)
-      (λ t.
-      let off : has_block (blocks_of nodes) id ≡ false = ap (has_block (blocks_of nodes)) (sym (same_id e.0 id t)) ∙ apart_off nodes e.0 (IsDistinct-head bytes_eq e.0 (keys_of nodes) unique) in
-      off_dropped nodes i id off)
-      (λ t. let k = rw t at on in front_only nodes i id (IsDistinct-tail bytes_eq e.0 (keys_of nodes) unique) k)
-
-  -- a place behind others
-  place_behind : (front done : List (List ℕ × Node T)) (id : List ℕ) → has_block (blocks_of front) id ≡ false
-      → position (λ x. bytes_eq x.0 id) (front ++ done) ≡ option_map (λ n. length front + n) (position (λ x. bytes_eq x.0 id) done)
-  place_behind [] done id off = through (position (λ x. bytes_eq x.0 id) done)
-    where
-      through : (o : Option ℕ) → o ≡ option_map (λ n. 0 + n) o
-      through None = refl
-      through (Some n) = ap Some (omega arith)
-  place_behind (e ∷ front) done id off =
-      position_cons (λ x. bytes_eq x.0 id) e (front ++ done)
-      ∙ split_on (bytes_eq e.0 id)
-      (λ t. absurd (let k = rw t at off in cc))
-      (λ t. let k = rw t at off in
-      rw t (ap (option_map suc) (place_behind front done id k) ∙ later (position (λ x. bytes_eq x.0 id) done)))
-    where
-      later : (o : Option ℕ) → option_map suc (option_map (λ n. length front + n) o) ≡ option_map (λ n. suc (length front) + n) o
-      later None = refl
-      later (Some n) = ap Some (omega arith)
-
-  -- ---- where the first node goes
-
-  found_or_none : (nodes : List (List ℕ × Node T)) (id : List ℕ) → has_block (blocks_of nodes) id ≡ true → (j : ℕ) × (position (λ x. bytes_eq x.0 id) nodes ≡ Some j)
-  found_or_none nodes id on = by (position (λ x. bytes_eq x.0 id) nodes) refl (place_there nodes id ∙ on)
-    where
-      by : (o : Option ℕ) → position (λ x. bytes_eq x.0 id) nodes ≡ o → is_some o ≡ true → (j : ℕ) × (position (λ x. bytes_eq x.0 id) nodes ≡ Some j)
-      by None e h = absurd cc
-      by (Some j) e h = (j, e)
-
-  -- who is among those that stay
-  done_has : (all done : List (List ℕ × Node T)) (child : List ℕ) (i : ℕ) (id : List ℕ)
-      → map unplaced done ≡ map unplaced (filter (λ e. stays (blocks_of all) child e.0) (take i all))
-      → has_block (blocks_of done) id ≡ (has_block (blocks_of (take i all)) id && stays (blocks_of all) child id)
-  done_has all done child i id same =
-      ap (λ l. has_block l id)
-      (same_read block_of (λ e. refl) done (filter (λ e. stays (blocks_of all) child e.0) (take i all)) same
-      ∙ blocks-filter (stays (blocks_of all) child) (take i all))
-      ∙ has_filtered (stays (blocks_of all) child) (blocks_of (take i all)) id
-
-  pub goes : (last child : List ℕ) (all now : List (List ℕ × Node T)) (i : ℕ) (e : List ℕ × Node T) (s : HasSifted all now child i) → IsReady last child all
-      → i < length all → get_or all i e ≡ e → slice_get all i ≡ Some e
-      → GoesToEnd (blocks_of all) child s.done e (back_at_end now last child e.1.parent) ⊎ GoesOut (blocks_of all) child e (back_at_end now last child e.1.parent)
-  goes last child all now i e s ready h is there =
-      let bs = blocks_of all in
-      let done = s.done in
-      let b = block_of e in
+  -- so a node is found above the child exactly where it stays
+  decides : (bs : List Header) (child : List ℕ) (number next : ℕ) (done : List (List ℕ × Node T)) (e : List ℕ × Node T) (later : List (List ℕ × Node T))
+      → AreOthers bs child number next (done ++ e ∷ later) → IsOther bs child number e
+      → is_above number (filter (λ x. stays bs child x.0) done) e ≡ stays bs child e.0
+  decides bs child number next done e later are is =
       let q = e.1.parent in
-      let here : get_or bs i b ≡ b = get_or-map block_of all i e b h ∙ ap block_of is in
-      let inside : i < length bs = subst (λ n. i < n) (sym (length-map all block_of)) h in
-      let line : descends bs child b.id ≡ (bytes_eq b.id child || descends bs child b.parent) =
-      subst (λ (c : Header). descends bs child c.id ≡ (bytes_eq c.id child || descends bs child c.parent)) here (descends_at last bs i b child ready.grown inside)
+      let keep : List ℕ × Node T → Bool = λ x. stays bs child x.0 in
+      let shape : edges_of (done ++ e ∷ later) ≡ edges_of done ++ edge_of e ∷ edges_of later = map-append edge_of done (e ∷ later) in
+      let order = subst AreInOrder shape are.order in
+      let own : IsOwn next (edge_of e) = all_there (IsOwn next) (edges_of done) (edge_of e) (edges_of later) (subst (AllByRecursion (IsOwn next)) shape are.own) in
+      let among : has_block (blocks_of (filter keep done)) q ≡ (has_block (blocks_of done) q && stays bs child q) =
+      ap (λ l. has_block l q) (blocks-filter (stays bs child) done) ∙ has_filtered (stays bs child) (blocks_of done) q
       in
-      split_on (bytes_eq last q)
-      (λ t.
-      let none : descends bs child q ≡ false = ap (descends bs child) (sym (same_id last q t)) ∙ last_descends last bs child ready.grown in
-      inr (rw t refl, split_on (bytes_eq e.0 child) (λ u. rw (line, u) refl) (λ u. rw (line, u, none) refl)))
-      (λ t.
-      let other : bytes_eq e.0 child ≡ false =
-      split_on (bytes_eq e.0 child)
-      (λ u. clash (bytes_eq last q) (id_same last q (sym (ready.parent i e there u))) t)
-      (λ u. u)
-      in
-      let before : has_block (blocks_of (take i all)) q ≡ true =
-      ap (λ l. has_block l q) (sym (blocks-take all i))
-      ∙ subst (λ (c : Header). bytes_eq last c.parent ≡ false → has_block (take i bs) c.parent ≡ true) here (parent_before last bs i b ready.grown inside) t
-      in
-      let stay : stays bs child e.0 ≡ descends bs child q = rw (line, other) (whole (descends bs child q)) in
-      let among : has_block (blocks_of done) q ≡ stays bs child q = done_has all done child i q s.same ∙ rw before refl in
+      let here : (bytes_eq child q || (has_block (blocks_of done) q && stays bs child q)) ≡ descends bs child q =
       split_on (bytes_eq child q)
-      (λ u.
-      let parent : child ≡ q = same_id child q u in
-      let none : has_block (blocks_of done) q ≡ false = ap (has_block (blocks_of done)) (sym parent) ∙ last_off child (blocks_of done) s.grown in
-      inl (
-        0,
-        rw (t, u) refl,
-        stay ∙ ap (descends bs child) (sym parent) ∙ own bs child ready.there,
-        or_left (bytes_eq child q) (has_block (blocks_of done) q) u,
-        off_place done q none,
-      ))
-      (λ u.
-      let front = drop i all in
-      let behind : position (λ x. bytes_eq x.0 q) now ≡ option_map (λ n. length front + n) (position (λ x. bytes_eq x.0 q) done) =
-      ap (position (λ x. bytes_eq x.0 q)) s.shape ∙ place_behind front done q (front_only all i q ready.unique before)
-      in
-      let long : length now ≡ length front + length done = ap length s.shape ∙ length-append front done in
-      let found : has_block (blocks_of done) q ≡ descends bs child q = among ∙ rw (differs_back q child u) (whole (descends bs child q)) in
-      split_on (descends bs child q)
+      (λ t. rw t (sym (ap (descends bs child) (sym (same_id child q t)) ∙ are.itself)))
+      (λ t.
+      let apart : bytes_eq q child ≡ false = differs_back q child t in
+      rw (t, apart) (split_on (descends bs child q)
       (λ w.
-      let at = found_or_none done q (found ∙ w) in
-      let within : at.0 < length done = place_within done q at.0 at.1 in
-      let back : back_at_end now last child q ≡ Some (length done - at.0) =
-      rw (t, u, behind, at.1) (ap Some (omega (arith, long, within)))
+      let on : has_block (blocks_of (done ++ e ∷ later)) q ≡ true = are.there q w apart in
+      let off : (bytes_eq e.0 q || has_block (blocks_of later) q) ≡ false =
+      rw own.other (later_off e later (order_back (edges_of done) (edge_of e) (edges_of later) order))
       in
-      inl (length done - at.0, back, stay ∙ w, or_right (bytes_eq child q) (has_block (blocks_of done) q) (found ∙ w), at.1 ∙ sym (before_at (length done) at.0 within)))
-      (λ w.
-      let none : position (λ x. bytes_eq x.0 q) done ≡ None = off_place done q (found ∙ w) in
-      inr (rw (t, u, behind, none) refl, stay ∙ w))))
-    where
-      whole : (x : Bool) → (x && true) ≡ x
-      whole true = refl
-      whole false = refl
-
-  -- ---- one more node goes past
-
-  -- a node at the end of those that stay
-  one_placed : (child : List ℕ) (done : List (List ℕ × Node T)) (e : List ℕ × Node T) (back : ℕ) → IsGrown child (reverse (blocks_of done)) → ArePlaced (edges_of done)
-      → is_on child (blocks_of done) e.0 ≡ false → is_on child (blocks_of done) e.1.parent ≡ true
-      → position (λ x. bytes_eq x.0 e.1.parent) done ≡ place_before (length done) back
-      → IsGrown child (reverse (blocks_of (done ++ turned (Some back) e))) × ArePlaced (edges_of (done ++ turned (Some back) e))
-  one_placed child done e back grown placed new parent place =
-      let bs = blocks_of done in
-      let w : List ℕ × Node T = (e.0, record e.1 { back = back }) in
-      let b = block_of w in
-      let on : (id : List ℕ) → is_on child (reverse bs) id ≡ is_on child bs id = λ id. ap (λ t. bytes_eq child id || t) (has_block-reverse bs id) in
-      let all : blocks_of (done ++ w ∷ []) ≡ bs ++ b ∷ [] = map-append block_of done (w ∷ []) in
-      let edges : edges_of (done ++ w ∷ []) ≡ edges_of done ++ edge_of w ∷ [] = map-append edge_of done (w ∷ []) in
-      let other : bytes_eq b.id b.parent ≡ false =
-      split_on (bytes_eq b.id b.parent) (λ t. clash (is_on child bs b.parent) parent (ap (is_on child bs) (sym (same_id b.id b.parent t)) ∙ new)) (λ t. t)
+      rw (w, front (has_block (blocks_of done) q) _ (sym (there-append done (e ∷ later) q) ∙ on) off) refl)
+      (λ w. rw w (none (has_block (blocks_of done) q)))))
       in
-      let childless = no_children child bs b.id grown (on b.id ∙ new) in
-      let at : position (λ x. bytes_eq x.id b.parent) (edges_of done) ≡ place_before (length (edges_of done)) back =
-      edge_place done b.parent ∙ place ∙ ap (λ m. place_before m back) (sym (length-map done edge_of))
-      in (
-        subst (λ l. IsGrown child (reverse l)) (sym all)
-            (subst (IsGrown child) (sym (reverse-append bs (b ∷ []))) (Grew b (reverse bs) (on b.id ∙ new) (on b.parent ∙ parent) grown)),
-        subst ArePlaced (sym edges) (placed_more (edges_of done) (edge_of w) placed (no_parent done b.id childless) other at),
-      )
-
-  -- the nodes that stay, with one more of the first
-  kept_more : (p : List ℕ × Node T → Bool) (all : List (List ℕ × Node T)) (i : ℕ) (e : List ℕ × Node T) → i < length all → get_or all i e ≡ e
-      → filter p (take (i + 1) all) ≡ filter p (take i all) ++ (if p e then e ∷ [] else [])
-  kept_more p all i e h is =
-      filter_more p all i e h ∙ ap (λ x. filter p (take i all) ++ cond (p x) (x ∷ []) []) is ∙ ap (λ l. filter p (take i all) ++ l) (one_or_none (p e) e)
-
-  -- a node that isn't the child is new among those that stay
-  new_among : (last child : List ℕ) (all done : List (List ℕ × Node T)) (i : ℕ) (e : List ℕ × Node T) (rest : List (List ℕ × Node T)) → IsReady last child all
-      → map unplaced done ≡ map unplaced (filter (λ x. stays (blocks_of all) child x.0) (take i all)) → drop i all ≡ e ∷ rest → bytes_eq e.0 child ≡ false
-      → is_on child (blocks_of done) e.0 ≡ false
-  new_among last child all done i e rest ready same front other =
-      let here : has_block (blocks_of (drop i all)) e.0 ≡ true = ap (λ l. has_block (blocks_of l) e.0) front ∙ or_left (bytes_eq e.0 e.0) (has_block (blocks_of rest) e.0) (id_itself e.0) in
-      let before : has_block (blocks_of (take i all)) e.0 ≡ false =
-      split_on (has_block (blocks_of (take i all)) e.0)
-      (λ t. clash (has_block (blocks_of (drop i all)) e.0) here (front_only all i e.0 ready.unique t))
-      (λ t. t)
-      in
-      let off : has_block (blocks_of done) e.0 ≡ false = done_has all done child i e.0 same ∙ rw before refl in
-      rw (differs_back child e.0 other) off
-
-  went : (last child : List ℕ) (all now next : List (List ℕ × Node T)) (i : ℕ) (e : List ℕ × Node T) (rest : List (List ℕ × Node T)) (back : Option ℕ) (s : HasSifted all now child i) → IsReady last child all
-      → i < length all → get_or all i e ≡ e → drop i all ≡ e ∷ rest → drop (i + 1) all ≡ rest → next ≡ (rest ++ s.done) ++ turned back e
-      → GoesToEnd (blocks_of all) child s.done e back ⊎ GoesOut (blocks_of all) child e back → HasSifted all next child (i + 1)
-  went last child all now next i e rest back s ready h is front behind shape (inl f) =
-      let keep : List ℕ × Node T → Bool = λ x. stays (blocks_of all) child x.0 in
-      let end = turned (Some f.0) e in
-      let new = new_among last child all s.done i e rest ready s.same front (not_child (descends (blocks_of all) child e.0) (bytes_eq e.0 child) f.2) in
-      let stands = one_placed child s.done e f.0 s.grown s.placed new f.3 f.4 in
-      let more : filter keep (take (i + 1) all) ≡ filter keep (take i all) ++ e ∷ [] = kept_more keep all i e h is ∙ rw f.2 refl in
-      record {
-        done = s.done ++ end;
-        shape = shape ∙ ap (λ o. (rest ++ s.done) ++ turned o e) f.1 ∙ append_assoc rest s.done end ∙ ap (λ l. l ++ (s.done ++ end)) (sym behind);
-        same = map-append unplaced s.done end ∙ ap (λ l. l ++ unplaced e ∷ []) s.same ∙ sym (map-append unplaced (filter keep (take i all)) (e ∷ [])) ∙ ap (map unplaced) (sym more);
-        grown = stands.0;
-        placed = stands.1;
-      }
-  went last child all now next i e rest back s ready h is front behind shape (inr f) =
-      let keep : List ℕ × Node T → Bool = λ x. stays (blocks_of all) child x.0 in
-      let more : filter keep (take (i + 1) all) ≡ filter keep (take i all) = kept_more keep all i e h is ∙ rw f.1 (append-nil (filter keep (take i all))) in
-      record {
-        done = s.done;
-        shape = shape ∙ ap (λ o. (rest ++ s.done) ++ turned o e) f.0 ∙ append-nil (rest ++ s.done) ∙ ap (λ l. l ++ s.done) (sym behind);
-        same = s.same ∙ ap (map unplaced) (sym more);
-        grown = s.grown;
-        placed = s.placed;
-      }
-
-  pub sifted_more : (last child : List ℕ) (all now next : List (List ℕ × Node T)) (i : ℕ) → IsReady last child all → i < length all → HasSifted all now child i
-      → ((e : List ℕ × Node T) (later : List (List ℕ × Node T)) → now ≡ e ∷ later → next ≡ later ++ turned (back_at_end now last child e.1.parent) e)
-      → HasSifted all next child (i + 1)
-  sifted_more last child all now next i ready h s step =
-      let at = at_place all i h in
-      let rest = drop (suc i) all in
-      let n : suc i ≡ i + 1 = omega arith in
-      let front : drop i all ≡ at.0 ∷ rest = drop-cons all i at.0 h ∙ ap (λ x. x ∷ rest) at.1 in
-      let shape = step at.0 (rest ++ s.done) (s.shape ∙ ap (λ l. l ++ s.done) front) in
-      went last child all now next i at.0 rest (back_at_end now last child at.0.1.parent) s ready h at.1 front (ap (λ m. drop m all) (sym n)) shape
-      (goes last child all now i at.0 s ready h at.1 at.2)
-
-  -- what is told then
-  told_one : (bs : List Header) (child : List ℕ) (done : List (List ℕ × Node T)) (e : List ℕ × Node T) (back : Option ℕ) → descends bs child child ≡ true → GoesToEnd bs child done e back ⊎ GoesOut bs child e back
-      → told_by back child e ≡ (if not (descends bs child e.0) then e.0 ∷ [] else [])
-  told_one bs child done e back under (inl f) = rw (f.1, descending (descends bs child e.0) (bytes_eq e.0 child) f.2) refl
-  told_one bs child done e back under (inr f) =
-      rw f.0
-      (split_on (bytes_eq child e.0)
-      (λ t. rw (t, ap (descends bs child) (sym (same_id child e.0 t)) ∙ under) refl)
-      (λ t. rw (t, out (descends bs child e.0) (bytes_eq e.0 child) (differs_back e.0 child t) f.1) refl))
-
-  pub told_more : (last child : List ℕ) (all now : List (List ℕ × Node T)) (i : ℕ) (before told after : List (List ℕ)) → IsReady last child all → i < length all → HasSifted all now child i
-      → told ≡ before ++ map (λ e. e.0) (filter (λ e. not (descends (blocks_of all) child e.0)) (take i all))
-      → ((e : List ℕ × Node T) (later : List (List ℕ × Node T)) → now ≡ e ∷ later → after ≡ told ++ told_by (back_at_end now last child e.1.parent) child e)
-      → after ≡ before ++ map (λ e. e.0) (filter (λ e. not (descends (blocks_of all) child e.0)) (take (i + 1) all))
-  told_more last child all now i before told after ready h s was step =
-      let at = at_place all i h in
-      let e = at.0 in
-      let bs = blocks_of all in
-      let out : List ℕ × Node T → Bool = λ x. not (descends bs child x.0) in
-      let rest = drop (suc i) all in
-      let front : drop i all ≡ e ∷ rest = drop-cons all i e h ∙ ap (λ x. x ∷ rest) at.1 in
-      let one = told_one bs child s.done e (back_at_end now last child e.1.parent) (own bs child ready.there) (goes last child all now i e s ready h at.1 at.2) in
-      let front_told = map (λ x. x.0) (filter out (take i all)) in
-      step e (rest ++ s.done) (s.shape ∙ ap (λ l. l ++ s.done) front)
-      ∙ ap (λ l. l ++ told_by (back_at_end now last child e.1.parent) child e) was
-      ∙ append_assoc before front_told (told_by (back_at_end now last child e.1.parent) child e)
-      ∙ ap (λ l. before ++ l)
-      (ap (λ l. front_told ++ l) (one ∙ single (out e) e)
-      ∙ sym (map-append (λ x. x.0) (filter out (take i all)) (if out e then e ∷ [] else []))
-      ∙ ap (map (λ x. x.0)) (sym (kept_more out all i e h at.1)))
+      (λ j. sym is.leads j || (leads_among keep e done (order_front (edges_of done) (edge_of e) (edges_of later) order) ∙ among) j)
+      ∙ here
+      ∙ sym (kept (descends bs child e.0) (bytes_eq e.0 child) (descends bs child q) is.step is.other)
     where
-      single : (t : Bool) (e : List ℕ × Node T) → (if t then e.0 ∷ [] else []) ≡ map (λ x. x.0) (if t then e ∷ [] else [])
-      single true e = refl
-      single false e = refl
+      kept : (under same above : Bool) → under ≡ (same || above) → same ≡ false → (under && not same) ≡ above
+      kept true false above step other = step
+      kept false false above step other = step
+      kept under true above step other = absurd cc
 
-  -- and what is taken
-  pub taken_more : (last child : List ℕ) (all now : List (List ℕ × Node T)) (i : ℕ) (taken after : Option (Node T)) → IsReady last child all → i < length all → HasSifted all now child i
-      → taken ≡ lookup (bytes_eq child) (take i all)
-      → ((e : List ℕ × Node T) (later : List (List ℕ × Node T)) → now ≡ e ∷ later → after ≡ taken_by (back_at_end now last child e.1.parent) child e taken)
-      → after ≡ lookup (bytes_eq child) (take (i + 1) all)
-  taken_more last child all now i taken after ready h s was step =
-      let at = at_place all i h in
-      let e = at.0 in
-      let rest = drop (suc i) all in
-      let front : drop i all ≡ e ∷ rest = drop-cons all i e h ∙ ap (λ x. x ∷ rest) at.1 in
-      step e (rest ++ s.done) (s.shape ∙ ap (λ l. l ++ s.done) front)
-      ∙ one (blocks_of all) s.done e (back_at_end now last child e.1.parent) (goes last child all now i e s ready h at.1 at.2)
-      ∙ ap (λ o. if bytes_eq child e.0 then Some e.1 else o) was
-      ∙ sym (found_more child all i e ready.unique at.2)
-    where
-      one : (bs : List Header) (done : List (List ℕ × Node T)) (e : List ℕ × Node T) (back : Option ℕ) → GoesToEnd bs child done e back ⊎ GoesOut bs child e back
-          → taken_by back child e taken ≡ (if bytes_eq child e.0 then Some e.1 else taken)
-      one bs done e back (inl f) = rw (f.1, differs_back child e.0 (not_child (descends bs child e.0) (bytes_eq e.0 child) f.2)) refl
-      one bs done e back (inr f) = rw f.0 refl
+      front : (a b : Bool) → (a || b) ≡ true → b ≡ false → a ≡ true
+      front true b h off = refl
+      front false b h off = absurd (let clashes : true ≡ false = sym h ∙ off in cc)
+
+      none : (a : Bool) → (a && false) ≡ false
+      none true = refl
+      none false = refl
+
+  -- those that stay with the first of them, and all
+  swept : (bs : List Header) (child : List ℕ) (number next : ℕ) (done later : List (List ℕ × Node T)) → AreOthers bs child number next (done ++ later)
+      → AllByRecursion (IsOther bs child number) later
+      → staying number (filter (λ x. stays bs child x.0) done) later ≡ filter (λ x. stays bs child x.0) (done ++ later)
+  swept bs child number next done [] are each = ap (filter (λ x. stays bs child x.0)) (sym (append-nil done))
+  swept bs child number next done (e ∷ later) are each =
+      let keep : List ℕ × Node T → Bool = λ x. stays bs child x.0 in
+      let shape : (done ++ e ∷ []) ++ later ≡ done ++ e ∷ later = append_assoc done (e ∷ []) later in
+      let more = swept bs child number next (done ++ e ∷ []) later (subst (AreOthers bs child number next) (sym shape) are) each.1 in
+      let one = filter-append keep done (e ∷ []) in
+      ap (λ b. if b then staying number (filter keep done ++ e ∷ []) later else staying number (filter keep done) later) (decides bs child number next done e later are each.0)
+      ∙ split_on (keep e)
+      (λ t. rw t (ap (λ l. staying number l later) (sym (one ∙ rw t refl)) ∙ more ∙ ap (filter keep) shape))
+      (λ t. rw t (ap (λ l. staying number l later) (sym (one ∙ rw t (append-nil (filter keep done)))) ∙ more ∙ ap (filter keep) shape))
+
+  told : (bs : List Header) (child : List ℕ) (number next : ℕ) (done later : List (List ℕ × Node T)) → AreOthers bs child number next (done ++ later)
+      → AllByRecursion (IsOther bs child number) later
+      → leaving number (filter (λ x. stays bs child x.0) done) later ≡ map (λ x. x.0) (filter (λ x. not (descends bs child x.0)) later)
+  told bs child number next done [] are each = refl
+  told bs child number next done (e ∷ later) are each =
+      let keep : List ℕ × Node T → Bool = λ x. stays bs child x.0 in
+      let shape : (done ++ e ∷ []) ++ later ≡ done ++ e ∷ later = append_assoc done (e ∷ []) later in
+      let more = told bs child number next (done ++ e ∷ []) later (subst (AreOthers bs child number next) (sym shape) are) each.1 in
+      let one = filter-append keep done (e ∷ []) in
+      ap (λ b. if b then leaving number (filter keep done ++ e ∷ []) later else e.0 ∷ leaving number (filter keep done) later)
+      (decides bs child number next done e later are each.0)
+      ∙ split_on (descends bs child e.0)
+      (λ t.
+      let in_it : keep e ≡ true = rw (t, each.0.other) refl in
+      rw (t, each.0.other) (ap (λ l. leaving number l later) (sym (one ∙ rw in_it refl)) ∙ more))
+      (λ t.
+      let out : keep e ≡ false = rw t refl in
+      rw t (ap (λ l. e.0 ∷ l) (ap (λ l. leaving number l later) (sym (one ∙ rw out (append-nil (filter keep done)))) ∙ more)))
 
   -- ---- before the pass
 
-  -- the child is there, and no other block has its identifier
-  pub made_ready : (last child : List ℕ) (all : List (List ℕ × Node T)) → IsGrown last (reverse (blocks_of all)) → IsDistinct bytes_eq (keys_of all)
-      → option_map (λ n. n.parent) (lookup (bytes_eq child) all) ≡ Some last → IsReady last child all
-  made_ready last child all grown unique found = record {
-    grown = grown;
-    unique = unique;
-    there = on all found;
-    parent = λ i e at is. of all i e unique found at is;
-  }
+  -- a node of the identifier that is accepted, at a place
+  others : (last child : List ℕ) (front : List (List ℕ × Node T)) (c : List ℕ × Node T) (back : List (List ℕ × Node T)) (next : ℕ)
+      → IsGrown last (reverse (blocks_of (front ++ c ∷ back))) → AreInOrder (edges_of (front ++ c ∷ back)) → AllByRecursion (IsOwn next) (edges_of (front ++ c ∷ back)) → bytes_eq c.0 child ≡ true
+      → AreOthers (blocks_of (front ++ c ∷ back)) child c.1.number next (front ++ back)
+  others last child front c back next grown order own_all is =
+      let all = front ++ c ∷ back in
+      let bs = blocks_of all in
+      let same : c.0 ≡ child = same_id c.0 child is in
+      let shape : edges_of all ≡ edges_of front ++ edge_of c ∷ edges_of back = map-append edge_of front (c ∷ back) in
+      let rest : edges_of (front ++ back) ≡ edges_of front ++ edges_of back = map-append edge_of front back in
+      let ordered = subst AreInOrder shape order in
+      let owned = subst (AllByRecursion (IsOwn next)) shape own_all in
+      let there : has_block bs child ≡ true =
+      there-append front (c ∷ back) child ∙ or_right (has_block (blocks_of front) child) (bytes_eq c.0 child || has_block (blocks_of back) child) (or_left (bytes_eq c.0 child) (has_block (blocks_of back) child) is)
+      in
+      let step : AllByRecursion (λ e. descends bs child e.0 ≡ (bytes_eq e.0 child || descends bs child e.1.parent)) all =
+      all_of (λ e. descends bs child e.0 ≡ (bytes_eq e.0 child || descends bs child e.1.parent)) all
+      (λ i e at.
+      let seen : slice_get bs i ≡ Some (block_of e) = slice_get-map block_of all i ∙ ap (option_map block_of) at in
+      let get : get_or bs i (block_of e) ≡ block_of e = get_or_from_slice_get bs i (block_of e) (block_of e) seen in
+      subst (λ (b : Header). descends bs child b.id ≡ (bytes_eq b.id child || descends bs child b.parent)) get
+      (descends_at last bs i (block_of e) child grown (slice_get_within bs i (block_of e) seen)))
+      in
+      let front_owned = all_left (IsOwn next) (edges_of front) (edge_of c ∷ edges_of back) owned in
+      let before = both (λ e. IsBefore e (edge_of c)) (IsOwn next) (edges_of front) (order_front (edges_of front) (edge_of c) (edges_of back) ordered) front_owned in
+      let behind = order_back (edges_of front) (edge_of c) (edges_of back) ordered in
+      let steps = all_without (λ e. descends bs child e.0 ≡ (bytes_eq e.0 child || descends bs child e.1.parent)) front c back step in
+      record {
+        order = subst AreInOrder (sym rest) (order_without (edges_of front) (edge_of c) (edges_of back) ordered);
+        own = subst (AllByRecursion (IsOwn next)) (sym rest) (all_without (IsOwn next) (edges_of front) (edge_of c) (edges_of back) owned);
+        others = each bs same (front ++ back) steps
+            (all_append (λ e. (bytes_eq e.0 c.0 ≡ false) × (bytes_eq c.0 e.1.parent ≡ nat_eq c.1.number e.1.up)) front back
+            (all_weaker (λ e. IsBefore (edge_of e) (edge_of c) × IsOwn next (edge_of e)) (λ e. (bytes_eq e.0 c.0 ≡ false) × (bytes_eq c.0 e.1.parent ≡ nat_eq c.1.number e.1.up))
+            (λ e b. (b.0.apart, b.0.first ∙ sym (another_number c.1.number e.1.up (omega (arith, b.0.rises, b.1.up)))))
+            front (through-map (λ e. IsBefore e (edge_of c) × IsOwn next e) front before))
+            (all_weaker (λ e. IsBefore (edge_of c) (edge_of e)) (λ e. (bytes_eq e.0 c.0 ≡ false) × (bytes_eq c.0 e.1.parent ≡ nat_eq c.1.number e.1.up))
+            (λ e b. (differs_back e.0 c.0 b.apart, b.leads)) back (through-map (IsBefore (edge_of c)) back behind)));
+        itself = own bs child there;
+        there = λ q under apart.
+            let on = sym (there-append front (c ∷ back) q) ∙ descendant_there bs child q under in
+            let off : bytes_eq c.0 q ≡ false = ap (λ k. bytes_eq k q) same ∙ differs_back child q apart in
+            there-append front back q ∙ ap (λ b. has_block (blocks_of front) q || (b || has_block (blocks_of back) q)) (sym off) ∙ on;
+      }
     where
-      on : (xs : List (List ℕ × Node T)) → option_map (λ n. n.parent) (lookup (bytes_eq child) xs) ≡ Some last → has_block (blocks_of xs) child ≡ true
-      on [] h = absurd (none-some last h)
-      on (x ∷ xs) h =
-          split_on (bytes_eq child x.0)
-          (λ t. or_left (bytes_eq x.0 child) (has_block (blocks_of xs) child) (id_same x.0 child (sym (same_id child x.0 t))))
-          (λ t. let k = rw t at h in or_right (bytes_eq x.0 child) (has_block (blocks_of xs) child) (on xs k))
+      both : (P Q : Edge → Type 0) (xs : List Edge) → AllByRecursion P xs → AllByRecursion Q xs → AllByRecursion (λ e. P e × Q e) xs
+      both P Q [] p q = tt
+      both P Q (x ∷ xs) p q = ((p.0, q.0), both P Q xs p.1 q.1)
 
-      of : (xs : List (List ℕ × Node T)) (i : ℕ) (e : List ℕ × Node T) → IsDistinct bytes_eq (keys_of xs) → option_map (λ n. n.parent) (lookup (bytes_eq child) xs) ≡ Some last
-          → slice_get xs i ≡ Some e → bytes_eq e.0 child ≡ true → e.1.parent ≡ last
-      of [] i e unique h at is = absurd (none-some e at)
-      of (x ∷ xs) zero e unique h at is =
-          let same : x ≡ e = same_Some x e at in
-          let here : bytes_eq child x.0 ≡ true = id_same child x.0 (sym (same_id e.0 child is) ∙ ap (λ (y : List ℕ × Node T). y.0) (sym same)) in
-          let k : Some x.1.parent ≡ Some last = rw here at h in
-          ap (λ (y : List ℕ × Node T). y.1.parent) (sym same) ∙ same_Some x.1.parent last k
-      of (x ∷ xs) (suc i) e unique h at is =
-          let apart : bytes_eq x.0 e.0 ≡ false = of_key (λ y. bytes_eq x.0 y ≡ false) xs i e (IsDistinct-head bytes_eq x.0 (keys_of xs) unique) at in
-          let other : bytes_eq child x.0 ≡ false = ap (λ q. bytes_eq q x.0) (sym (same_id e.0 child is)) ∙ differs_back e.0 x.0 apart in
-          let k = rw other at h in
-          of xs i e (IsDistinct-tail bytes_eq x.0 (keys_of xs) unique) k at is
+      each : (bs : List Header) → c.0 ≡ child → (xs : List (List ℕ × Node T)) → AllByRecursion (λ e. descends bs child e.0 ≡ (bytes_eq e.0 child || descends bs child e.1.parent)) xs
+          → AllByRecursion (λ e. (bytes_eq e.0 c.0 ≡ false) × (bytes_eq c.0 e.1.parent ≡ nat_eq c.1.number e.1.up)) xs → AllByRecursion (IsOther bs child c.1.number) xs
+      each bs same [] step h = tt
+      each bs same (x ∷ xs) step h =
+          (record { step = step.0; other = ap (bytes_eq x.0) (sym same) ∙ h.0.0; leads = ap (λ k. bytes_eq k x.1.parent) (sym same) ∙ h.0.1 }, each bs same xs step.1 h.1)
 
-  -- nothing went past yet
-  pub none_sifted : (child : List ℕ) (all : List (List ℕ × Node T)) → HasSifted all all child 0
-  none_sifted child all = record { done = []; shape = sym (append-nil all); same = refl; grown = Bare; placed = λ i e h. absurd (none-some e h) }
+  -- ---- the pass
+
+  filter_skip : (p : List ℕ × Node T → Bool) (front : List (List ℕ × Node T)) (c : List ℕ × Node T) (back : List (List ℕ × Node T)) → p c ≡ false → filter p (front ++ back) ≡ filter p (front ++ c ∷ back)
+  filter_skip p [] c back fails = sym (rw fails refl)
+  filter_skip p (x ∷ front) c back fails = ap (λ l. cond (p x) (x ∷ l) l) (filter_skip p front c back fails)
+
+  pub all_swept : (last child : List ℕ) (all : List (List ℕ × Node T)) (place : ℕ) (c : List ℕ × Node T) (next : ℕ) → IsGrown last (reverse (blocks_of all)) → AreInOrder (edges_of all)
+      → AllByRecursion (IsOwn next) (edges_of all) → slice_get all place ≡ Some c → bytes_eq c.0 child ≡ true
+      → (staying c.1.number [] (remove all place) ≡ left all child) × (leaving c.1.number [] (remove all place) ≡ outsiders all child)
+  all_swept last child all place c next grown order own_all at is =
+      let front = take place all in
+      let back = drop (suc place) all in
+      let shape : all ≡ front ++ c ∷ back = split_at all place c at in
+      let bs = blocks_of (front ++ c ∷ back) in
+      let are = others last child front c back next (subst (λ l. IsGrown last (reverse (blocks_of l))) shape grown) (subst (λ l. AreInOrder (edges_of l)) shape order)
+      (subst (λ l. AllByRecursion (IsOwn next) (edges_of l)) shape own_all) is
+      in
+      let gone : stays bs child c.0 ≡ false = rw is (none (descends bs child c.0)) in
+      let under : not (descends bs child c.0) ≡ false = ap (λ id. not (descends bs child id)) (same_id c.0 child is) ∙ ap not are.itself in (
+        swept bs child c.1.number next [] (front ++ back) are are.others ∙ filter_skip (λ e. stays bs child e.0) front c back gone ∙ ap (λ l. left l child) (sym shape),
+        told bs child c.1.number next [] (front ++ back) are are.others ∙ ap (map (λ e. e.0)) (filter_skip (λ e. not (descends bs child e.0)) front c back under) ∙ ap (λ l. outsiders l child) (sym shape),
+      )
+    where
+      none : (a : Bool) → (a && false) ≡ false
+      none true = refl
+      none false = refl

@@ -1,58 +1,108 @@
--- Entries in a row, each of an identifier. An entry has a number, by which its place is found from the identifier.
-use Rattle.std.specs.Prelude.{◌≡◌, ℕ, zero, suc, ◌+◌, ◌-◌, ◌%◌, ◌^◌, ◌<◌, Bool, false, ◌==◌, ◌&&◌, if◌then◌else◌, List, [], ◌∷◌, length, Option, None, Some, bytes_eq, slice_get, slice_set}
-use Rattle.std.specs.List.{IsDistinct, position}
-use Rattle.std.specs.Map.{keys_of}
+-- Nodes in order of issue. A node has a number, which is higher than those of all that were issued before and never changes, and the number of its parent.
+use Rattle.std.specs.Prelude.{⊤, ◌≡◌, ℕ, zero, suc, ◌<◌, Bool, false, ◌==◌, ◌&&◌, ◌||◌, nat_eq, if◌then◌else◌, List, [], ◌∷◌, ◌++◌, length, map, find, Option, None, Some, bytes_eq, slice_get}
+use Rattle.std.specs.List.{AllByRecursion, list_any, position}
 use Rattle.std.specs.Option.{option_map, option_map_or}
 use Rattle.snow_tree.specs.Hints.{hint_of, slot_of}
+use Rattle.snow_tree.specs.declared.node.Node.{Node}
 
--- the entries, and how many more there is room for
-pub record Lined (V : Type 0) : Type 0 where
-  pub entries : List (List ℕ × V)
-  pub spare : ℕ
+-- from a block to its parent, by identifiers and by numbers
+pub record Edge : Type 0 where
+  pub id : List ℕ
+  pub parent : List ℕ
+  pub number : ℕ
+  pub up : ℕ
 
--- the number of the entry at a place, where the first entry has the number `first`: they rise by one, and go on from 0 after the highest
-abbrev pub number_at : ℕ → ℕ → ℕ
-number_at first place = (first + place) % 2 ^ 64
+-- a block was issued before another: its number is lower, and leads from the other to it exactly where it is the parent
+pub record IsBefore (e later : Edge) : Type 0 where
+  pub rises : e.number < later.number
+  pub apart : bytes_eq e.id later.id ≡ false
+  pub leads : bytes_eq e.id later.parent ≡ nat_eq e.number later.up
+  pub first : bytes_eq later.id e.parent ≡ false
 
--- the place of a number's entry
-abbrev pub place_at : ℕ → ℕ → ℕ
-place_at first number = (number + (2 ^ 64 - first)) % 2 ^ 64
+-- each before all that come after it
+abbrev pub AreInOrder : List Edge → Type 0
+AreInOrder [] = ⊤
+AreInOrder (e ∷ edges) = AllByRecursion (IsBefore e) edges × AreInOrder edges
+
+-- a block's number lies between its parent's and the next one, and it isn't its own parent
+pub record IsOwn (next : ℕ) (e : Edge) : Type 0 where
+  pub up : e.up < e.number
+  pub number : e.number < next
+  pub other : bytes_eq e.id e.parent ≡ false
+
+-- the number of an identifier's block
+abbrev pub number_in : List Edge → List ℕ → Option ℕ
+number_in edges id = option_map (λ e. e.number) (find (λ e. bytes_eq e.id id) edges)
 
 -- a number, if it isn't the one that is told already
 abbrev pub untold : ℕ → Option ℕ → Option ℕ
 untold hint None = None
 untold hint (Some number) = if number == hint then None else Some number
 
--- the slots once an identifier that was told one number is told another; nothing is changed where it wasn't told the first
-abbrev pub retold : List ℕ → List ℕ → ℕ → ℕ → List ℕ
-retold slots id from to = if hint_of slots id == from then slice_set slots (slot_of (length slots) id) to else slots
+-- whether an identifier has this number, and shares its slot with another
+abbrev pub gives_way : List ℕ → List Edge → ℕ → List ℕ → List ℕ → Bool
+gives_way slots edges number other id =
+    slot_of (length slots) id == slot_of (length slots) other && option_map_or (λ n. n == number) (number_in edges id) false
 
-module _ {V : Type 0} where
-  -- the value at a place, if there is one
-  abbrev pub value_at : List (List ℕ × V) → Option ℕ → Option V
-  value_at entries None = None
-  value_at entries (Some place) = option_map (λ e. e.1) (slice_get entries place)
+-- what the slots tell leads to the identifier's place, or it isn't told its number
+abbrev pub IsToldPlace : List Edge → List ℕ → List ℕ → Option ℕ → Type 0
+IsToldPlace edges slots id (Some place) = position (λ e. bytes_eq e.id id) edges ≡ Some place
+IsToldPlace edges slots id None = number_in edges id ≡ Some (hint_of slots id) → ⊥
 
-  -- the entries with another value at a place
-  abbrev pub set_value_at : List (List ℕ × V) → ℕ → V → List (List ℕ × V)
-  set_value_at [] place value = []
-  set_value_at (e ∷ later) zero value = (e.0, value) ∷ later
-  set_value_at (e ∷ later) (suc place) value = e ∷ set_value_at later place value
+-- blocks in order, and of each identifier the map has the number, or the slots tell it
+pub record IsNumbered (edges : List Edge) (number : List ℕ → Option ℕ) (slots : List ℕ) (next : ℕ) : Type 0 where
+  pub begun : 0 < next
+  pub order : AreInOrder edges
+  pub own : AllByRecursion (IsOwn next) edges
+  pub found : (k : List ℕ) → number k ≡ untold (hint_of slots k) (number_in edges k)
+  pub slotted : 0 < length edges → 0 < length slots
 
-  abbrev pub with_value : Lined V → ℕ → V → Lined V
-  with_value row place value = record row { entries = set_value_at row.entries place value }
+-- the entries, how many more there is room for, and the number of the next one
+pub record Lined (T : Type 0) : Type 0 where
+  pub entries : List (List ℕ × Node T)
+  pub spare : ℕ
+  pub next : ℕ
 
-  -- the number of an identifier's entry
-  abbrev pub number_in : List (List ℕ × V) → ℕ → List ℕ → Option ℕ
-  number_in entries first id = option_map (number_at first) (position (bytes_eq id) (keys_of entries))
+module _ {T : Type 0} where
+  abbrev pub edge_of : List ℕ × Node T → Edge
+  edge_of e = record { id = e.0; parent = e.1.parent; number = e.1.number; up = e.1.up }
 
-  -- whether an identifier has its entry at this number, and shares its slot with another
-  abbrev pub gives_way : List ℕ → List (List ℕ × V) → ℕ → ℕ → List ℕ → List ℕ → Bool
-  gives_way slots entries first number other id =
-      slot_of (length slots) id == slot_of (length slots) other && option_map_or (λ n. n == number) (number_in entries first id) false
+  abbrev pub edges_of : List (List ℕ × Node T) → List Edge
+  edges_of entries = map edge_of entries
 
-  -- no identifier stands twice, and of each the map has the number of its entry, or the slots tell it
-  pub record IsNumbered (entries : List (List ℕ × V)) (number : List ℕ → Option ℕ) (slots : List ℕ) (first : ℕ) : Type 0 where
-    pub unique : IsDistinct bytes_eq (keys_of entries)
-    pub found : (k : List ℕ) → number k ≡ untold (hint_of slots k) (number_in entries first k)
-    pub slotted : 0 < length entries → 0 < length slots
+  -- the number of the node at a place, and 0 where there is none
+  abbrev pub number_at : List (List ℕ × Node T) → Option ℕ → ℕ
+  number_at entries None = 0
+  number_at entries (Some place) = option_map_or (λ e. e.1.number) (slice_get entries place) 0
+
+  -- the entries with other children at a place
+  abbrev pub set_children_at : List (List ℕ × Node T) → ℕ → List (List ℕ) → List (List ℕ × Node T)
+  set_children_at [] place children = []
+  set_children_at (e ∷ later) zero children = (e.0, record e.1 { children = children }) ∷ later
+  set_children_at (e ∷ later) (suc place) children = e ∷ set_children_at later place children
+
+  abbrev pub with_children_at : Lined T → ℕ → List (List ℕ) → Lined T
+  with_children_at row place children = record row { entries = set_children_at row.entries place children }
+
+  -- with another load
+  abbrev pub set_load_at : List (List ℕ × Node T) → ℕ → T → List (List ℕ × Node T)
+  set_load_at [] place load = []
+  set_load_at (e ∷ later) zero load = (e.0, record e.1 { load = load }) ∷ later
+  set_load_at (e ∷ later) (suc place) load = e ∷ set_load_at later place load
+
+  abbrev pub with_load_at : Lined T → ℕ → T → Lined T
+  with_load_at row place load = record row { entries = set_load_at row.entries place load }
+
+  -- whether a node stands above the block of a number, or above one of these
+  abbrev pub is_above : ℕ → List (List ℕ × Node T) → List ℕ × Node T → Bool
+  is_above number kept e = nat_eq number e.1.up || list_any (λ x. nat_eq x.1.number e.1.up) kept
+
+  -- the nodes that stay with these, in order: each is above the block of a number, or above one that stays
+  abbrev pub staying : ℕ → List (List ℕ × Node T) → List (List ℕ × Node T) → List (List ℕ × Node T)
+  staying number kept [] = kept
+  staying number kept (e ∷ later) = if is_above number kept e then staying number (kept ++ e ∷ []) later else staying number kept later
+
+  -- and the identifiers of the others
+  abbrev pub leaving : ℕ → List (List ℕ × Node T) → List (List ℕ × Node T) → List (List ℕ)
+  leaving number kept [] = []
+  leaving number kept (e ∷ later) = if is_above number kept e then leaving number (kept ++ e ∷ []) later else e.0 ∷ leaving number kept later

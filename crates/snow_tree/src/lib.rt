@@ -8,7 +8,9 @@ mod linking;
 mod looking;
 mod node;
 mod numbers;
+mod placing;
 mod row;
+mod sweeping;
 mod tree;
 
 pub use tree::{Tree, TreeFull};

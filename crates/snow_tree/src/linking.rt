@@ -1,69 +1,69 @@
-ghost use Rattle.std.specs.Prelude.{◌≡◌, ◌+◌, ◌-◌, ◌<◌, ◌≤◌, ◌∷◌, ◌++◌, [], false, bytes_eq, vec_capacity, length, take, map, slice_get, Some, OnOk, OnErr};
+ghost use Rattle.std.specs.Prelude.{◌≡◌, ◌+◌, ◌-◌, ◌<◌, ◌≤◌, ◌∷◌, ◌++◌, [], Some, false, bytes_eq, vec_capacity, length, take, map, slice_get, OnOk, OnErr};
 ghost use Rattle.std.specs.List.{position};
 ghost use Rattle.std.specs.Map.{values_of};
 ghost use Rattle.snow_plain.specs.Grown.{has_block};
 ghost use Rattle.snow_tree.specs.declared.node.Node.{Node};
-ghost use Rattle.snow_tree.specs.Nodes.{blocks_of, linked, unlinked, with_children, place_before};
-ghost use Rattle.snow_tree.specs.Row.{set_value_at};
+ghost use Rattle.snow_tree.specs.Nodes.{blocks_of, linked, unlinked, with_children};
+ghost use Rattle.snow_tree.specs.Row.{set_children_at};
 
 use crate::children::Children;
-use crate::looking::place_before;
-use crate::node::Nodes;
+use crate::row::Row;
 use snow_base::{Header, Id};
 use std::alloc::AllocError;
 
 // The block at a place has one child more. After want of memory all is as before.
-fn link_at<T>(nodes: &mut Nodes<T>, at: usize, id: Id) -> Result<(), AllocError>
-    requires { at < length nodes.old.entries }
-    ensures ok { (n : Node T) → slice_get (values_of nodes.old.entries) at ≡ Some n → OnOk result (nodes.new.entries ≡ set_value_at nodes.old.entries at (record n { children = n.children ++ id ∷ [] })) }
+fn link_at<T>(nodes: &mut Row<T>, at: usize, id: Id) -> Result<(), AllocError>
+    ensures ok { (n : Node T) → slice_get (values_of nodes.old.entries) at ≡ Some n → OnOk result (nodes.new.entries ≡ set_children_at nodes.old.entries at (n.children ++ id ∷ [])) }
     ensures err { OnErr result (nodes.new.entries ≡ nodes.old.entries) }
     ensures spare { nodes.new.spare ≡ nodes.old.spare }
+    ensures next { nodes.new.next ≡ nodes.old.next }
 {
-    match nodes.get_index_mut(at) {
-        Some(node) => node.children.push(id),
+    match nodes.children_mut(at) {
+        Some(children) => children.push(id),
         None => Ok(()),
     }
 }
 
-// A block was issued: it is the last child of its parent, which stands so far back. After want of memory
+// A block was issued: it is the last child of its parent, which stands at this place. After want of memory
 // all is as before.
 fn link<T>(
     first: &mut Children,
-    nodes: &mut Nodes<T>,
+    nodes: &mut Row<T>,
     last: &Id,
     block: &Header,
-    back: usize,
+    at: Option<usize>,
 ) -> Result<(), AllocError>
     requires off { has_block (blocks_of nodes.old.entries) last.now ≡ false }
-    requires exact { position (λ e. bytes_eq e.0 (block.now).parent) nodes.old.entries ≡ place_before (length nodes.old.entries) back }
+    requires exact { at ≡ position (λ e. bytes_eq e.0 (block.now).parent) nodes.old.entries }
     ensures first { OnOk result (first.new ≡ linked block.now last.now first.old) }
     ensures nodes { OnOk result (nodes.new.entries ≡ map (with_children (linked block.now)) nodes.old.entries) }
     ensures first_stay { OnErr result (first.new ≡ first.old) }
     ensures nodes_stay { OnErr result (nodes.new.entries ≡ nodes.old.entries) }
     ensures spare { nodes.new.spare ≡ nodes.old.spare }
+    ensures next { nodes.new.next ≡ nodes.old.next }
 {
+    let _len = nodes.len();
     if *last == block.parent {
         return first.push(block.id);
     }
-    match place_before(nodes.len(), back) {
+    match at {
         Some(at) => link_at(nodes, at, block.id),
         None => Ok(()),
     }
 }
 
 // The block at a place has one child less.
-fn unlink_at<T>(nodes: &mut Nodes<T>, at: usize)
-    requires { at < length nodes.old.entries }
-    ensures nodes { (n : Node T) → slice_get (values_of nodes.old.entries) at ≡ Some n → nodes.new.entries ≡ set_value_at nodes.old.entries at (record n { children = take (length n.children - 1) n.children }) }
+fn unlink_at<T>(nodes: &mut Row<T>, at: usize)
+    ensures nodes { (n : Node T) → slice_get (values_of nodes.old.entries) at ≡ Some n → nodes.new.entries ≡ set_children_at nodes.old.entries at (take (length n.children - 1) n.children) }
 {
-    match nodes.get_index_mut(at) {
-        Some(node) => node.children.pop(),
+    match nodes.children_mut(at) {
+        Some(children) => children.pop(),
         None => (),
     }
 }
 
 /// The last child of a block was taken back.
-pub(crate) fn unlink<T>(first: &mut Children, nodes: &mut Nodes<T>, last: &Id, parent: &Id)
+pub(crate) fn unlink<T>(first: &mut Children, nodes: &mut Row<T>, last: &Id, parent: &Id)
     requires { has_block (blocks_of nodes.old.entries) last.now ≡ false }
     ensures first { first.new ≡ unlinked parent.now last.now first.old }
     ensures nodes { nodes.new.entries ≡ map (with_children (unlinked parent.now)) nodes.old.entries }
@@ -78,18 +78,18 @@ pub(crate) fn unlink<T>(first: &mut Children, nodes: &mut Nodes<T>, last: &Id, p
     }
 }
 
-/// Room for one more block, with the block among the children of its parent, which stands so far back.
+/// Room for one more block, with the block among the children of its parent, which stands at this place.
 /// After want of memory all is as before.
 pub(crate) fn make_room<T>(
     first: &mut Children,
-    nodes: &mut Nodes<T>,
+    nodes: &mut Row<T>,
     rejected: &mut Vec<Id>,
     last: &Id,
     block: &Header,
-    back: usize,
+    at: Option<usize>,
 ) -> Result<(), AllocError>
     requires off { has_block (blocks_of nodes.old.entries) last.now ≡ false }
-    requires exact { position (λ e. bytes_eq e.0 (block.now).parent) nodes.old.entries ≡ place_before (length nodes.old.entries) back }
+    requires exact { at ≡ position (λ e. bytes_eq e.0 (block.now).parent) nodes.old.entries }
     ensures first { OnOk result (first.new ≡ linked block.now last.now first.old) }
     ensures nodes { OnOk result (nodes.new.entries ≡ map (with_children (linked block.now)) nodes.old.entries) }
     ensures room { OnOk result ((0 < nodes.new.spare) × (length nodes.old.entries + 1 ≤ vec_capacity rejected.new)) }
@@ -100,5 +100,5 @@ pub(crate) fn make_room<T>(
 {
     rejected.reserve(nodes.len() + 1)?;
     nodes.reserve_one()?;
-    link(first, nodes, last, block, back)
+    link(first, nodes, last, block, at)
 }

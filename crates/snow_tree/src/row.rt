@@ -1,135 +1,101 @@
-ghost use Rattle.std.specs.Prelude.{◌≡◌, ℕ, List, ◌^◌, ◌<◌, ◌↔◌, IsSome, ◌∷◌, ◌++◌, [], None, Some, IfSome, true, length, drop, take, slice_get, bytes_eq, option_to_list, OnOk};
-ghost use Rattle.std.specs.List.{IsDistinct, position};
+ghost use Rattle.std.specs.Prelude.{◌≡◌, ℕ, List, ◌+◌, ◌-◌, ◌<◌, ◌≤◌, ◌^◌, ◌↔◌, ◌∷◌, ◌++◌, [], None, Some, IsSome, IfSome, false, length, take, slice_get, bytes_eq, vec_len, vec_capacity, option_to_list, OnOk, OnErr};
+ghost use Rattle.std.specs.List.{AllByRecursion, IsDistinct, position, remove};
 ghost use Rattle.std.specs.Map.{keys_of, values_of, lookup};
 ghost use Rattle.std.specs.Option.{option_map, option_copied, option_copied_mut};
-ghost use Rattle.std.specs.HashMap.{get};
-ghost use Rattle.snow_tree.specs.Row.{place_at, value_at};
+ghost use Rattle.snow_tree.specs.declared.node.Node.{Node};
+ghost use Rattle.snow_tree.specs.Row.{AreInOrder, IsOwn, edges_of, number_at, staying, leaving};
 
+use crate::children::Children;
+use crate::node::{Entries, Node};
 use crate::numbers::Numbers;
+use crate::placing::{number_of, place_of_id, place_of_number, place_told};
+use crate::sweeping::sweep;
 use snow_base::Id;
 use std::alloc::{AllocError, Global};
 use std::collections::VecDeque;
 use std::marker::Model;
 
-/// Values in a row, each found by its identifier. As an `IndexMap`, but the first one leaves without
-/// moving the others: an identifier has a number and no place, and the place is how far that lies above
-/// the first's. Most numbers are told by a hint, without a map.
+/// Nodes in order of issue, each found by its identifier, by its number and by its place. A number never
+/// changes: so where others leave, nothing is looked up for those that stay.
 #[derive(Debug, Drop)]
-pub(crate) struct Row<V> {
-    entries: VecDeque<(Id, V)>,
+pub(crate) struct Row<T> {
+    entries: Entries<T>,
     numbers: Numbers,
-    first: usize,
+    next: usize,
 }
 
-impl<V> Model for Row<V> {
-    ghost use Rattle.std.specs.Prelude.{◌-◌, min, length, bytes_eq};
+impl<T> Model for Row<T> {
+    ghost use Rattle.std.specs.Prelude.{◌-◌, ◌^◌, min, length, bytes_eq};
     ghost use Rattle.std.specs.HashMap.{get, spare};
     ghost use Rattle.std.specs.VecDeque.{deque_len, deque_capacity};
-    ghost use Rattle.snow_tree.specs.Row.{Lined, IsNumbered};
+    ghost use Rattle.snow_tree.specs.Row.{Lined, IsNumbered, edges_of};
 
-    ghost Value = { Lined V };
+    ghost Value = { Lined T };
 
-    // There is no room where there are no slots.
+    // There is no room where there are no slots, nor behind the last number.
     ghost view = { λ a. record {
       entries = a.entries.items;
-      spare = min (length a.numbers.hints) (min (spare a.numbers.map) (deque_capacity a.entries - deque_len a.entries));
+      spare = min (2 ^ 64 - 1 - a.next) (min (length a.numbers.hints) (min (spare a.numbers.map) (deque_capacity a.entries - deque_len a.entries)));
+      next = a.next;
     } };
 
-    ghost invariant = { λ a. IsNumbered a.entries.items (get bytes_eq a.numbers.map) a.numbers.hints a.first };
+    ghost invariant = { λ a. IsNumbered (edges_of a.entries.items) (get bytes_eq a.numbers.map) a.numbers.hints a.next };
 }
 
-// The value of an identifier by the map.
-#[inline(never)]
-fn value_by_map<'a, V>(
-    entries: &'a VecDeque<(Id, V)>,
-    numbers: &Numbers,
-    first: usize,
-    id: &Id,
-) -> Option<&'a V>
-    ensures { option_copied result ≡ value_at entries.now.items (option_map (place_at first) (get bytes_eq numbers.now.map id.now)) }
-{
-    let place = numbers.look_up(id, first)?;
-    match entries.get(place) {
-        Some(entry) => Some(&entry.1),
-        None => None,
-    }
-}
-
-impl<V> Row<V> {
+impl<T> Row<T> {
     ghost use Rattle.std.specs.Borrow.{sem};
-    ghost use Rattle.snow_tree.specs.Lent.{lends_value};
+    ghost use Rattle.snow_tree.specs.Lent.{lends_children_at, lends_load_at};
 
-    /// No entry. It takes no memory.
+    /// No node. It takes no memory.
     pub(crate) fn new(alloc: Global) -> Self
         ensures { result.entries ≡ [] }
     {
-        // An identifier that wasn't told any number is told 0, which no entry has for a long time.
         Row {
             entries: VecDeque::new(alloc),
             numbers: Numbers::new(alloc),
-            first: 1,
+            next: 1,
         }
     }
 
-    /// How many entries there are. No identifier stands twice.
+    /// How many nodes there are. No identifier stands twice.
     pub(crate) fn len(&self) -> usize
         ensures len { result ≡ length self.now.entries }
         ensures small { result < 2 ^ 63 }
         ensures unique { IsDistinct bytes_eq (keys_of self.now.entries) }
+        ensures order { AreInOrder (edges_of self.now.entries) }
+        ensures own { AllByRecursion (IsOwn self.now.next) (edges_of self.now.entries) }
     {
         self.entries.len()
     }
 
-    // Whether an identifier stands at a place.
-    fn is_at(&self, place: usize, id: &Id) -> bool
-        ensures { result ≡ true ↔ (position (bytes_eq id.now) (keys_of self.now.entries) ≡ Some place) }
-    {
-        let _len = self.len();
-        match self.get_index(place) {
-            Some((other, _)) => other == id,
-            None => false,
-        }
-    }
-
-    /// The place of an identifier. The map isn't asked where the guess is right.
+    /// The place of an identifier.
     pub(crate) fn get_index_of(&self, id: &Id) -> Option<usize>
         ensures index { result ≡ position (bytes_eq id.now) (keys_of self.now.entries) }
         ensures unique { IsDistinct bytes_eq (keys_of self.now.entries) }
     {
-        let _len = self.len();
-        // Often nothing stands in the row.
-        if self.entries.is_empty() {
-            return None;
-        }
-        let guess = self.numbers.guess(id, self.first);
-        if self.is_at(guess, id) {
-            return Some(guess);
-        }
-        self.numbers.look_up(id, self.first)
+        place_of_id(&self.entries, &self.numbers, id)
     }
 
-    /// The place and the value of an identifier, where the map needn't be asked. The entry is looked at
-    /// once.
+    /// The place of an identifier, where the map needn't be asked.
     #[inline(always)]
-    pub(crate) fn guess(&self, id: &Id) -> Option<(usize, &V)>
-        ensures { IfSome result (λ r. (position (bytes_eq id.now) (keys_of self.now.entries) ≡ Some r.0) × (key : List ℕ) × (slice_get self.now.entries r.0 ≡ Some (key, r.1.now))) }
+    pub(crate) fn guess(&self, id: &Id) -> Option<usize>
+        ensures { IfSome result (λ at. position (bytes_eq id.now) (keys_of self.now.entries) ≡ Some at) }
     {
-        let _len = self.len();
-        let place = self.numbers.guess(id, self.first);
-        match self.get_index(place) {
-            Some((other, value)) => {
-                if other == id {
-                    Some((place, value))
-                } else {
-                    None
-                }
-            }
+        place_told(&self.entries, &self.numbers, id)
+    }
+
+    /// The place of the parent of the node at a place. No identifier is looked up.
+    pub(crate) fn parent_of(&self, place: usize) -> Option<usize>
+        ensures { (e : List ℕ × Node T) → slice_get self.now.entries place ≡ Some e → result ≡ position (λ x. bytes_eq x.0 e.1.parent) self.now.entries }
+    {
+        match self.entries.get(place) {
+            Some(entry) => place_of_number(&self.entries, self.entries.len(), entry.1.up),
             None => None,
         }
     }
 
-    /// The identifier and the value at a place.
-    pub(crate) fn get_index(&self, place: usize) -> Option<(&Id, &V)>
+    /// The identifier and the node at a place.
+    pub(crate) fn get_index(&self, place: usize) -> Option<(&Id, &Node<T>)>
         ensures { option_map (λ e. (e.0.now, e.1.now)) result ≡ slice_get self.now.entries place }
     {
         match self.entries.get(place) {
@@ -138,93 +104,123 @@ impl<V> Row<V> {
         }
     }
 
-    /// The value of an identifier. Where the guess is right no other function is called. It stands apart, so
-    /// that of a value that is only looked for nothing is copied.
+    /// The node of an identifier. It stands apart, so that of a node that is only looked for nothing is
+    /// copied.
     #[inline(never)]
-    pub(crate) fn get(&self, id: &Id) -> Option<&V>
+    pub(crate) fn get(&self, id: &Id) -> Option<&Node<T>>
         ensures value { option_copied result ≡ lookup (bytes_eq id.now) self.now.entries }
     {
-        let _len = self.len();
-        if self.entries.is_empty() {
-            return None;
-        }
-        if let Some((other, value)) = self.get_index(self.numbers.guess(id, self.first)) {
-            if other == id {
-                return Some(value);
-            }
-        }
-        value_by_map(&self.entries, &self.numbers, self.first, id)
-    }
-
-    /// The value at a place, to write.
-    pub(crate) fn get_index_mut(&mut self, place: usize) -> Option<&mut V>
-        ensures* writes_back { sem 𝓛 (lends_value V.row self.entry place result) }
-        ensures value { option_copied_mut result ≡ slice_get (values_of self.old.entries) place }
-    {
-        match self.entries.get_mut(place) {
-            Some(entry) => Some(&mut entry.1),
+        let place = place_of_id(&self.entries, &self.numbers, id)?;
+        match self.entries.get(place) {
+            Some(entry) => Some(&entry.1),
             None => None,
         }
     }
 
-    /// Makes room for one more entry. After want of memory all is as before.
+    /// The load at a place, to write.
+    pub(crate) fn load_mut(&mut self, place: usize) -> Option<&mut T>
+        ensures* writes_back { sem 𝓛 (lends_load_at T.row self.entry place result) }
+        ensures value { option_copied_mut result ≡ option_map (λ n. n.load) (slice_get (values_of self.old.entries) place) }
+    {
+        match self.entries.get_mut(place) {
+            Some(entry) => Some(&mut entry.1.load),
+            None => None,
+        }
+    }
+
+    /// The children of the node at a place, to write.
+    pub(crate) fn children_mut(&mut self, place: usize) -> Option<&mut Children>
+        ensures* writes_back { sem 𝓛 (lends_children_at T.row self.entry place result) }
+        ensures value { option_copied_mut result ≡ option_map (λ n. n.children) (slice_get (values_of self.old.entries) place) }
+    {
+        match self.entries.get_mut(place) {
+            Some(entry) => Some(&mut entry.1.children),
+            None => None,
+        }
+    }
+
+    /// Makes room for one more node. After want of memory all is as before.
     pub(crate) fn reserve_one(&mut self) -> Result<(), AllocError>
         ensures entries { self.new.entries ≡ self.old.entries }
+        ensures next { self.new.next ≡ self.old.next }
         ensures room { OnOk result (0 < self.new.spare) }
     {
+        // No board comes as far.
+        if self.next == usize::MAX {
+            return Err(AllocError);
+        }
         self.entries.reserve(1)?;
         self.numbers.reserve_one(self.entries.len())
     }
 
-    /// Appends an entry, for which there is room.
-    #[inline(always)]
-    pub(crate) fn push(&mut self, id: Id, value: V)
-        requires new { lookup (bytes_eq id) self.old.entries ≡ None }
-        requires room { 0 < self.old.spare }
-        ensures { self.new.entries ≡ self.old.entries ++ (id, value) ∷ [] }
+    /// The number of the next node.
+    pub(crate) fn next(&self) -> usize
+        ensures { result ≡ self.now.next }
     {
-        let number = self.first.wrapping_add(self.entries.len());
-        self.numbers
-            .take_slot(&self.entries, self.first, &id, number);
-        self.entries.push_back_reserved((id, value));
+        self.next
     }
 
-    /// Takes the last entry out.
-    pub(crate) fn pop(&mut self) -> Option<(Id, V)>
+    /// The number of the node at a place, and 0 for no place.
+    pub(crate) fn number_at(&self, at: Option<usize>) -> usize
+        ensures { result ≡ number_at self.now.entries at }
+    {
+        match at {
+            Some(place) => number_of(&self.entries, place),
+            None => 0,
+        }
+    }
+
+    /// Appends a node, for which there is room. Its parent stands at this place, and it has the next number.
+    #[inline(always)]
+    pub(crate) fn push(&mut self, id: Id, node: Node<T>, at: Option<usize>)
+        requires room { 0 < self.old.spare }
+        requires new { lookup (bytes_eq id) self.old.entries ≡ None }
+        requires place { at ≡ position (λ e. bytes_eq e.0 node.parent) self.old.entries }
+        requires other { bytes_eq id node.parent ≡ false }
+        requires childless { AllByRecursion (λ e. bytes_eq id e.parent ≡ false) (edges_of self.old.entries) }
+        requires number { node.number ≡ self.old.next }
+        requires up { node.up ≡ number_at self.old.entries at }
+        ensures { self.new.entries ≡ self.old.entries ++ (id, node) ∷ [] }
+    {
+        self.numbers.take_slot(&self.entries, &id, self.next);
+        self.next += 1;
+        self.entries.push_back_reserved((id, node));
+    }
+
+    /// Takes the last node out.
+    pub(crate) fn pop(&mut self) -> Option<(Id, Node<T>)>
         ensures entries { self.old.entries ≡ self.new.entries ++ option_to_list result }
         ensures found { IsSome result ↔ (0 < length self.old.entries) }
     {
         let entry = self.entries.pop_back()?;
-        let number = self.first.wrapping_add(self.entries.len());
-        self.numbers.forget(&entry.0, number);
+        self.numbers.forget(&entry.0, entry.1.number);
         Some(entry)
     }
 
-    /// Takes the first entry out. No other is touched.
+    /// Takes the node at a place out. It takes no memory, and moves those on the shorter side.
     #[inline(always)]
-    pub(crate) fn pop_first(&mut self) -> Option<(Id, V)>
-        ensures first { result ≡ slice_get self.old.entries 0 }
-        ensures rest { self.new.entries ≡ drop 1 self.old.entries }
+    pub(crate) fn remove(&mut self, place: usize) -> Option<(Id, Node<T>)>
+        ensures node { result ≡ slice_get self.old.entries place }
+        ensures rest { self.new.entries ≡ remove self.old.entries place }
     {
-        match self.entries.front() {
-            Some(entry) => self.numbers.forget(&entry.0, self.first),
+        match self.entries.get(place) {
+            Some(entry) => self.numbers.forget(&entry.0, entry.1.number),
             None => return None,
         }
-        self.first = self.first.wrapping_add(1);
-        // Last, so that the entry goes where it is wanted at once.
-        self.entries.pop_front()
+        self.entries.remove(place)
     }
 
-    /// The first entry becomes the last.
-    pub(crate) fn turn(&mut self)
-        ensures { self.new.entries ≡ drop 1 self.old.entries ++ take 1 self.old.entries }
+    /// Takes all nodes out above which neither the block of this number stands nor one that stays. They are
+    /// told in order of issue. It takes no memory: it is one pass, in which nothing is looked up for those
+    /// that stay.
+    pub(crate) fn sweep(&mut self, number: usize, rejected: &mut Vec<Id>)
+    where
+        T: Drop,
+        requires { vec_len rejected.old + length self.old.entries ≤ vec_capacity rejected.old }
+        ensures entries { self.new.entries ≡ staying number [] self.old.entries }
+        ensures told { rejected.new.items ≡ rejected.old.items ++ leaving number [] self.old.entries }
+        ensures room { vec_capacity rejected.new ≡ vec_capacity rejected.old }
     {
-        let number = self.first.wrapping_add(self.entries.len());
-        match self.entries.front() {
-            Some(entry) => self.numbers.renumber(&entry.0, self.first, number),
-            None => return,
-        }
-        self.entries.rotate_left(1);
-        self.first = self.first.wrapping_add(1);
+        sweep(&mut self.entries, &mut self.numbers, number, rejected);
     }
 }

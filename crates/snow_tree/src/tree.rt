@@ -6,8 +6,8 @@ ghost use Rattle.snow_tree.specs.Held.{blocks_in, begun, inserted, taken_back, p
 use crate::children::Children;
 use crate::leaving::take_accepted;
 use crate::linking::{make_room, unlink};
-use crate::looking::{ancestor, back_to, block_at, guess, parent_of, place_of};
-use crate::node::{Node, Nodes};
+use crate::looking::{ancestor, block_at, guess, place_of};
+use crate::node::Node;
 use crate::row::Row;
 use snow_base::{Header, Id};
 use std::alloc::Global;
@@ -28,7 +28,7 @@ pub struct Tree<T> {
     last: Id,
     height: u64,
     children: Children,
-    nodes: Nodes<T>,
+    nodes: Row<T>,
     rejected: Vec<Id>,
     alloc: Global,
 }
@@ -104,26 +104,26 @@ impl<T: Drop> Tree<T> {
         ensures load { IfErr result (λ full. full.load ≡ load) }
     {
         let block = Header { id, parent, height };
-        let back = back_to(self.nodes.len(), at);
         let room = make_room(
             &mut self.children,
             &mut self.nodes,
             &mut self.rejected,
             &self.last,
             &block,
-            back,
+            at,
         );
         if room.is_err() {
             return Err(TreeFull { load });
         }
         let node = Node {
+            number: self.nodes.next(),
+            up: self.nodes.number_at(at),
             parent,
             height,
-            back,
             children: Children::new(self.alloc),
             load,
         };
-        self.nodes.push(id, node);
+        self.nodes.push(id, node, at);
         self.rejected.clear();
         Ok(())
     }
@@ -217,11 +217,11 @@ impl<T: Drop> Tree<T> {
     }
 
     /// Where the parent of the block at a place stands, and nothing where that isn't pending. It compares
-    /// no identifiers: each block notes how far before it its parent stands.
+    /// no identifiers: each block notes its parent's number.
     pub fn parent_place(&self, place: usize) -> Option<usize>
         ensures { IfSome (slice_get (self.now).pending place) (λ e. result ≡ place_in (self.now).pending e.block.parent) }
     {
-        parent_of(&self.nodes, place)
+        self.nodes.parent_of(place)
     }
 
     /// The children of the last accepted block in order of issue.
@@ -259,8 +259,8 @@ impl<T: Drop> Tree<T> {
         ensures* writes_back { sem 𝓛 (lends_load T.row self.entry place result) }
         ensures value { option_copied_mut result ≡ option_map (λ e. e.load) (slice_get (self.old).pending place) }
     {
-        match self.nodes.get_index_mut(place) {
-            Some(node) => Some(&mut node.load),
+        match self.nodes.load_mut(place) {
+            Some(load) => Some(&mut *load),
             None => None,
         }
     }
@@ -277,7 +277,7 @@ impl<T: Drop> Tree<T> {
     /// A child of the last accepted block becomes the last accepted one, and its load takes the place of
     /// another. All that don't descend from it go, with their loads. It takes no memory. Where the child is
     /// the only one no other block is touched, whatever is pending; where others leave, it is one pass over
-    /// the pending blocks, with two look-ups for each that stays.
+    /// the pending blocks, in which no identifier of one that stays is looked up.
     #[inline(always)]
     pub fn promote(&mut self, child: &Id, load: &mut T)
         requires child { option_map (λ e. e.block.parent) (entry_in (self.old).pending child.now) ≡ Some (self.old).last }

@@ -213,8 +213,8 @@ impl<C: Chain, B: Board> Running<C, B> {
         }
     }
 
-    /// The same for any vote. It stands apart, so that a vote for the block that it names doesn't pay for
-    /// the room of another.
+    /// The same for any vote. Whether it is awaited is asked first, so that one that isn't costs no walk.
+    /// It stands apart, so that a vote for the block that it names doesn't pay for the room of another.
     #[inline(never)]
     fn receive_other(
         &mut self,
@@ -226,21 +226,20 @@ impl<C: Chain, B: Board> Running<C, B> {
         ensures answer { Turns result self.new (model.vote_came C.rules B.answer self.old number peer.now id.now).1 }
         ensures lines { Tells result log.old log.new (model.vote_came C.rules B.answer self.old number peer.now id.now).0 }
     {
-        match self.vote_at_once(number, peer, id) {
+        if !self.awaits(number, peer) {
+            return Ok(());
+        }
+        match self.vote_at_once(id) {
             Some(vote) => self.count(number, peer, vote, log),
-            None => self.take_in(number, peer, id, log),
+            None => self.hold_and_settle(number, peer, id, log),
         }
     }
 
-    /// The vote of a reply that isn't held, where it would be the first thing to do if it is awaited:
-    /// then it needn't be held.
-    fn vote_at_once(&self, number: u32, peer: &NodeId, id: &Id) -> Option<Option<Id>>
-        ensures first { IfSome result (λ vote. model.IsFirst self.now id.now vote) }
-        ensures free { IfSome result (λ _. holds_in self.now.queue.held number peer.now ≡ false) }
+    /// The vote of a reply where it would be the first thing to do if it is awaited: then it needn't be
+    /// held.
+    fn vote_at_once(&self, id: &Id) -> Option<Option<Id>>
+        ensures { IfSome result (λ vote. model.IsFirst self.now id.now vote) }
     {
-        if self.queue.holds(number, peer) {
-            return None;
-        }
         match self.remembered {
             Remembered::Idle => self.queue.vote_at_once(id, &self.board),
             _ => None,
@@ -274,18 +273,6 @@ impl<C: Chain, B: Board> Running<C, B> {
     {
         self.close_polls(log)?;
         self.settle(log)
-    }
-
-    /// A reply is held if it is awaited, and all that it brings is done.
-    fn take_in(&mut self, number: u32, peer: &NodeId, id: &Id, log: &mut Lines) -> Result<(), Halt>
-        ensures answer { Turns result self.new (model.vote_came C.rules B.answer self.old number peer.now id.now).1 }
-        ensures lines { Tells result log.old log.new (model.vote_came C.rules B.answer self.old number peer.now id.now).0 }
-    {
-        if self.awaits(number, peer) {
-            self.hold_and_settle(number, peer, id, log)
-        } else {
-            Ok(())
-        }
     }
 
     /// A reply that is awaited is held, and all that it brings is done.

@@ -11,7 +11,7 @@ returns-clause-chained c =
     let waits = c.args.waits.now in
     let lasts = c.args.lasts.now.items in
     let draw = c.args.draw.now in
-    let w : Wait = record { node = draw.node; count = draw.count; before = c.index-before.result.now; replied = false } in
+    let w : Wait = record { node = draw.node; count = draw.count; before = c.index-before.result.now; rank = c.rank_after-rank.result; replied = false } in
     let read = get_or_read lasts (class_of c.args.mask draw.node) c.index-before.result.now
     (within_classes c.args.mask waits.items lasts draw.node c.requires.chained) (rw c.class-class.ensures at c.index-before.ensures) 0 in
     let long : c.len.result ≡ length waits.items + 1 = omega (arith, c.len.ensures, c.push_reserved.ensures.len, waits.ok.0) in
@@ -20,5 +20,5 @@ returns-clause-chained c =
 pub returns-clause-drawn : goal.returns-clause-drawn
 returns-clause-drawn c =
     let waits = c.args.waits.now.items in
-    let w : Wait = record { node = c.args.draw.now.node; count = c.args.draw.now.count; before = c.index-before.result.now; replied = false } in
+    let w : Wait = record { node = c.args.draw.now.node; count = c.args.draw.now.count; before = c.index-before.result.now; rank = c.rank_after-rank.result; replied = false } in
     ap (λ (l : List Wait). map draw_of l) c.push_reserved.ensures.items ∙ map-append draw_of waits (w ∷ [])

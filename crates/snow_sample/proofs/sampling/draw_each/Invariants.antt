@@ -7,7 +7,7 @@ use Rattle.snow_sample.proofs.sampling.draw_each.Given as goal
 
 abbrev pub invariant-loop-j : goal.invariant-loop-j
 invariant-loop-j l =
-    Drawing l.roster l.k l.j l.initial.words l.words (unit_at l.shuffle.moved.items) l.out × HasSlots l.roster l.places.slots.items l.out
-    × (length l.shuffle.moved.items ≡ l.j) × (l.j + length l.words ≤ length l.initial.words)
+    Drawing l.roster l.k l.j l.initial.words l.words (unit_at l.shuffle.moved.items l.shuffle.later) l.out × HasSlots l.roster l.places.slots.items l.out
+    × (length l.shuffle.moved.items ≤ l.j) × (l.j + length l.words ≤ length l.initial.words)
     × (vec_capacity l.shuffle.moved ≡ vec_capacity l.initial.shuffle.moved)
     × AreMoves l.shuffle.mask l.shuffle.moved.items l.shuffle.lasts.items

@@ -1,6 +1,6 @@
--- The set has one identifier less.
-use Rattle.snow_store.proofs.Missing.{need_removed}
+-- Nobody misses it.
+use Rattle.snow_store.proofs.Counting.{removed}
 use Rattle.snow_store.proofs.needs.renew_low.Goals as goal
 
-pub returns-clause-needs : goal.returns-clause-needs
-returns-clause-needs c q = need_removed c.args.needs.now c.remove.new.self c.args.id.now c.remove.ensures.updates.0 q
+pub returns-clause-counts : goal.returns-clause-counts
+returns-clause-counts c count counts = removed c.args.needs.now c.remove.new.self c.args.id.now count c.remove.ensures.updates.0 counts

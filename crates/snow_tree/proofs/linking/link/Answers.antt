@@ -1,8 +1,7 @@
-use Rattle.std.proofs.Common.{◌∙◌, ap, sym, arith}
+use Rattle.std.proofs.Common.{◌∙◌, ap, sym}
 use Rattle.snow_plain.proofs.Cases.{same_id}
 use Rattle.snow_plain.specs.Grown.{has_block}
-use Rattle.snow_tree.specs.Nodes.{blocks_of, place_before, linked}
-use Rattle.snow_tree.proofs.Edges.{before_lower}
+use Rattle.snow_tree.specs.Nodes.{blocks_of, linked}
 use Rattle.snow_tree.proofs.Linked.{on_ok, linked_only, none_changed, linked_at}
 use Rattle.snow_tree.proofs.Placed.{place_same, not_placed}
 use Rattle.snow_tree.proofs.linking.link.Goals as goal
@@ -13,19 +12,16 @@ returns-then-eq-clause-nodes g c =
     let off = ap (has_block (blocks_of c.args.nodes.now.entries)) (sym (same_id c.args.last.now block.parent (sym c.eq.ensures ∙ c.if-eq.true))) ∙ c.requires.off in
     on_ok c.push.result (sym (none_changed (linked block) block.parent (linked_only block) c.args.nodes.now.entries off))
 
-pub link_at-requires : goal.link_at-requires
-link_at-requires g c = omega (arith, before_lower c.len.result c.args.back c.in-Some.at (sym c.place_before.ensures ∙ c.in-Some.is), c.len.ensures.len)
-
 pub returns-in-Some-clause-nodes : goal.returns-in-Some-clause-nodes
 returns-in-Some-clause-nodes g c =
     let nodes = c.args.nodes.now.entries in
     let block = c.args.block.now in
-    let place = place_same nodes block.parent ∙ c.requires.exact ∙ ap (λ m. place_before m c.args.back) (sym c.len.ensures.len) ∙ sym c.place_before.ensures ∙ c.in-Some.is in
-    linked_at c.link_at.result block nodes c.link_at.new.nodes.entries c.in-Some.at c.len.ensures.unique place c.link_at.ensures.ok
+    let place = place_same nodes block.parent ∙ sym c.requires.exact ∙ c.in-Some.is in
+    linked_at c.link_at.result block nodes c.link_at.new.nodes.entries c.in-Some.at c.len-len.ensures.unique place c.link_at.ensures.ok
 
 pub returns-in-None-clause-nodes : goal.returns-in-None-clause-nodes
 returns-in-None-clause-nodes g c =
     let nodes = c.args.nodes.now.entries in
     let block = c.args.block.now in
-    let place = place_same nodes block.parent ∙ c.requires.exact ∙ ap (λ m. place_before m c.args.back) (sym c.len.ensures.len) ∙ sym c.place_before.ensures ∙ c.in-None.is in
+    let place = place_same nodes block.parent ∙ sym c.requires.exact ∙ c.in-None.is in
     sym (none_changed (linked block) block.parent (linked_only block) nodes (not_placed nodes block.parent place))

@@ -1,7 +1,7 @@
+-- what is told of the identifiers so far
 use Rattle.std.proofs.Common.{◌≡◌, take}
-use Rattle.snow_getter.specs.Answer.{accepted_among, HasSeen}
+use Rattle.snow_getter.specs.Answer.{accepted_among}
 use Rattle.snow_getter.proofs.getter.Getter.accepted_among.Given as goal
 
--- what is told of the identifiers so far, and the set of it
 abbrev pub invariant-loop-id : goal.invariant-loop-id
-invariant-loop-id l = record { told : l.told ≡ accepted_among l.self (take l.id-index l.ids); seen : HasSeen l.seen l.told }
+invariant-loop-id l = l.told.keys ≡ accepted_among l.self (take l.id-index l.ids)

@@ -3,9 +3,9 @@ use Rattle.std.proofs.Common.{◌≡◌, ◌-◌, true, None, Some, get_or, refl
 use Rattle.std.proofs.lemmas.Bool.{cond-true, cond-false}
 use Rattle.std.proofs.lemmas.List.{get_or_read}
 use Rattle.std.proofs.Math.Seq.{map-set_same}
-use Rattle.snow_poll.specs.Awaited.{draw_of}
+use Rattle.snow_poll.specs.Awaited.{draw_of, number_in}
 use Rattle.snow_poll.specs.declared.awaited.Wait.{Wait}
-use Rattle.snow_poll.proofs.Waiting.{counts_here, counts_none, counts_same, counts_less, waits_kept}
+use Rattle.snow_poll.proofs.Waiting.{counts_here, counts_none, counts_same, counts_less, waits_kept, numbers_kept}
 use Rattle.snow_poll.proofs.awaited.Awaited.remove.Goals as goal
 
 pub returns-then-number-eq0-clause-value : goal.returns-then-number-eq0-clause-value
@@ -28,16 +28,22 @@ returns-then-wait-clause-updates c other =
     (counts_here c.args.self.now.waits.items c.args.node.now c.find-number.result c.index-wait.result.now c.find-number.ensures (omega arith) c.index-wait.ensures
     ∙ cond-true c.index-wait.result.now.replied None (Some c.index-wait.result.now.count) c.if-wait.true)
 
-pub invariant_of-self : goal.invariant_of-self
-invariant_of-self c =
+pub invariant_of-self-clause-chained : goal.invariant_of-self-clause-chained
+invariant_of-self-clause-chained c =
     let self = c.args.self.now in
-    let w : Wait = record { node = c.index_mut.result.now.node; count = c.index_mut.result.now.count; before = c.index_mut.result.now.before; replied = true } in
+    let w : Wait = record { node = c.index_mut.result.now.node; count = c.index_mut.result.now.count; before = c.index_mut.result.now.before; rank = c.index_mut.result.now.rank; replied = true } in
     let read : (d : Wait) → c.index_mut.result.now ≡ get_or self.waits.items (c.find-number.result - 1) d = λ d.
     get_or_read self.waits.items (c.find-number.result - 1) c.index_mut.result.now (omega (arith, c.find-number.ensures.within)) c.index_mut.ensures.value d in
-    record {
-      chained = waits_kept self.mask self.waits.items self.lasts.items (c.find-number.result - 1) w self.chained
-          (λ d. ap (λ (x : Wait). x.node) (read d)) (λ d. ap (λ (x : Wait). x.before) (read d));
-    }
+    waits_kept self.mask self.waits.items self.lasts.items (c.find-number.result - 1) w self.chained
+    (λ d. ap (λ (x : Wait). x.node) (read d)) (λ d. ap (λ (x : Wait). x.before) (read d))
+
+pub invariant_of-self-clause-numbered : goal.invariant_of-self-clause-numbered
+invariant_of-self-clause-numbered c numbers is node =
+    let self = c.args.self.now in
+    let w : Wait = record { node = c.index_mut.result.now.node; count = c.index_mut.result.now.count; before = c.index_mut.result.now.before; rank = c.index_mut.result.now.rank; replied = true } in
+    let read : (d : Wait) → c.index_mut.result.now ≡ get_or self.waits.items (c.find-number.result - 1) d = λ d.
+    get_or_read self.waits.items (c.find-number.result - 1) c.index_mut.result.now (omega (arith, c.find-number.ensures.within)) c.index_mut.ensures.value d in
+    numbers_kept self.waits.items (c.find-number.result - 1) w node (number_in numbers node) (λ d. ap (λ (x : Wait). x.node) (read d)) (self.numbered numbers is node)
 
 pub returns-clause-value : goal.returns-clause-value
 returns-clause-value c =
@@ -47,7 +53,7 @@ returns-clause-value c =
 pub returns-clause-updates : goal.returns-clause-updates
 returns-clause-updates c other =
     let self = c.args.self.now in
-    let w : Wait = record { node = c.index_mut.result.now.node; count = c.index_mut.result.now.count; before = c.index_mut.result.now.before; replied = true } in
+    let w : Wait = record { node = c.index_mut.result.now.node; count = c.index_mut.result.now.count; before = c.index_mut.result.now.before; rank = c.index_mut.result.now.rank; replied = true } in
     let read : (d : Wait) → c.index_mut.result.now ≡ get_or self.waits.items (c.find-number.result - 1) d = λ d.
     get_or_read self.waits.items (c.find-number.result - 1) c.index_mut.result.now (omega (arith, c.find-number.ensures.within)) c.index_mut.ensures.value d in
     counts_less self.waits.items c.args.node.now c.find-number.result w other c.find-number.ensures (omega arith) (λ d. ap (λ (x : Wait). x.node) (read d)) refl
@@ -55,7 +61,7 @@ returns-clause-updates c other =
 pub returns-clause-drawn : goal.returns-clause-drawn
 returns-clause-drawn c =
     let self = c.args.self.now in
-    let w : Wait = record { node = c.index_mut.result.now.node; count = c.index_mut.result.now.count; before = c.index_mut.result.now.before; replied = true } in
+    let w : Wait = record { node = c.index_mut.result.now.node; count = c.index_mut.result.now.count; before = c.index_mut.result.now.before; rank = c.index_mut.result.now.rank; replied = true } in
     let read : (d : Wait) → c.index_mut.result.now ≡ get_or self.waits.items (c.find-number.result - 1) d = λ d.
     get_or_read self.waits.items (c.find-number.result - 1) c.index_mut.result.now (omega (arith, c.find-number.ensures.within)) c.index_mut.ensures.value d in
     map-set_same draw_of self.waits.items (c.find-number.result - 1) w w (ap draw_of (read w))

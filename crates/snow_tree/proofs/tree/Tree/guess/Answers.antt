@@ -1,9 +1,6 @@
 use Rattle.snow_tree.proofs.Seen.{guess_seen, guessed_seen}
 use Rattle.snow_tree.proofs.tree.Tree.guess.Goals as goal
 
-pub guess-requires : goal.guess-requires
-guess-requires g c = c.self.invariant.placed
-
 pub returns : goal.returns
 returns g c =
     let nodes = c.self.inside.nodes.entries in

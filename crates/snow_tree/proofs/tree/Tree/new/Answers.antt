@@ -1,10 +1,9 @@
 use Rattle.std.proofs.Common.{refl, arith}
 use Rattle.std.proofs.lemmas.List.Elements.{All-nil}
-use Rattle.std.proofs.lemmas.Option.{none-some}
 use Rattle.snow_plain.specs.Grown.{Bare}
 use Rattle.snow_tree.proofs.tree.Tree.new.Goals as goal
 
 pub invariant_of-result : goal.invariant_of-result
 invariant_of-result g c =
     rw (c.new.ensures, c.new-2.ensures)
-    (record { grown = Bare; placed = λ i e h. absurd (none-some e h); children = refl; below = All-nil _; room = omega arith })
+    (record { grown = Bare; children = refl; below = All-nil _; room = omega arith })

@@ -1,8 +1,7 @@
-use Rattle.std.proofs.Common.{◌≡◌, ◌++◌, Some, IfSome, map, refl, sym, ap, subst, ◌∙◌}
+use Rattle.std.proofs.Common.{◌≡◌, ◌++◌, Some, IfSome, map, sym, ap, subst, ◌∙◌}
 use Rattle.std.specs.Option.{option_map}
 use Rattle.snow_tree.specs.Held.{Held, promoted}
-use Rattle.snow_tree.specs.Nodes.{IsTakenOver, entry_of, left, outsiders}
-use Rattle.snow_tree.proofs.Anew.{same_read}
+use Rattle.snow_tree.specs.Nodes.{IsTakenOver, entry_of, outsiders}
 use Rattle.snow_tree.proofs.Left.{kept_accepted, left_seen, outsiders_seen, found_seen}
 use Rattle.snow_tree.proofs.Seen.{found_back}
 use Rattle.snow_tree.proofs.tree.Tree.promote.Goals as goal
@@ -20,7 +19,7 @@ invariant_of-self g c =
     let over = subst (λ o. IfSome o (λ n. IsTakenOver n c.take_accepted-self-inside.new.children c.take_accepted-self-inside.new.load c.take_accepted-self-inside.result)) found.1 c.take_accepted-self-inside.ensures.node in
     rw (over.children, c.take_accepted-self-inside.ensures.room, c.clear.ensures.capacity)
     (kept_accepted c.self.inside.last child c.self.inside.children nodes c.take_accepted-self-inside.new.nodes.entries _ found.0 c.self.invariant found.1
-    found.2 c.take_accepted-self-inside.ensures.left c.take_accepted-self-inside.ensures.placed)
+    found.2 c.take_accepted-self-inside.ensures.left)
 
 pub returns-clause-load : goal.returns-clause-load
 returns-clause-load g c =
@@ -37,7 +36,7 @@ returns-clause-tree g c =
     let back = found_back nodes child c.self.inside.last (rw (← c.self.view_is) at c.requires.child) in
     let over = subst (λ o. IfSome o (λ n. IsTakenOver n c.take_accepted-self-inside.new.children c.take_accepted-self-inside.new.load c.take_accepted-self-inside.result)) back.1 c.take_accepted-self-inside.ensures.node in
     let found = found_seen nodes child back.0 (back.1) in
-    let stay = same_read entry_of (λ e. refl) c.take_accepted-self-inside.new.nodes.entries (left nodes child) c.take_accepted-self-inside.ensures.left ∙ left_seen nodes child in
+    let stay = ap (map entry_of) c.take_accepted-self-inside.ensures.left ∙ left_seen nodes child in
     let gone = c.take_accepted-self-inside.ensures.told ∙ ap (λ l. l ++ outsiders nodes child) c.clear.ensures.items ∙ outsiders_seen nodes child in
     let before : Held g.row.T.Denot = record {
       last = c.self.inside.last;
