@@ -6,6 +6,7 @@ import re
 from pathlib import Path
 from typing import Callable, Iterator, Optional
 
+from .events import LINE
 from .head import Trial
 from .page import Line, Page
 from .program import Outcome, Program
@@ -86,7 +87,8 @@ def fronts(page: Page, program: Program) -> Told:
 
 def audited(page: Page, program: Program) -> Told:
     """The frames with the lines that belong to each: the audit finds them all."""
-    if page.words[:1] != ["run"] or not page.events or len(page.stream) > SHORT:
+    has_lines = any(event.frame[4:5] == bytes([LINE]) for event in page.events)
+    if page.words[:1] != ["run"] or not page.events or has_lines or len(page.stream) > SHORT:
         return
     whole, words = wanted_of(page), ["audit"] + page.words[1:]
     lines = [Line(whole.end, b"same %d" % len(whole.lines))] if whole.status == 0 else []
