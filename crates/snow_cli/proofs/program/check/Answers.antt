@@ -7,12 +7,12 @@ use Rattle.snow_cli.proofs.program.check.Goals as goal
 pub returns-clause-end : goal.returns-clause-end
 returns-clause-end g c =
     finish_known (g.S.Source.left c.args.source.now) (λ bytes. audit_of g.C.Chain.rules (answer_of c.args.rule) bytes)
-      c.tell.result c.audited-found.result _ _ _ _ c.audited-found.ensures.answer c.tell.ensures
+    c.tell.result c.audited-found.result _ _ _ _ c.audited-found.ensures.answer c.tell.ensures
 
 pub returns-clause-output : goal.returns-clause-output
 returns-clause-output g c =
     wrote_known (g.S.Source.left c.args.source.now) (λ bytes. audit_of g.C.Chain.rules (answer_of c.args.rule) bytes)
-      c.tell.result c.audited-found.result _ _ _ _ c.audited-found.ensures.answer c.tell.ensures
+    c.tell.result c.audited-found.result _ _ _ _ c.audited-found.ensures.answer c.tell.ensures
 
 pub returns-clause-broken : goal.returns-clause-broken
 returns-clause-broken g c = told_kept c.tell.result c.audited-found.result _ _ _ _ c.tell.ensures
