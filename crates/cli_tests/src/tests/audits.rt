@@ -18,6 +18,16 @@ const RECORDED: &[Frame] = &[
     Frame::Line("query 1 01~00 P*2"),
 ];
 
+/// The same without its last line.
+const MISSING: &[Frame] = &[
+    START,
+    Frame::Words(1, 5),
+    Frame::Block(B, ROOT, 1, 1),
+    Frame::Line("prefer 01~00"),
+    Frame::Line("drop-query words"),
+    Frame::Pair(5, 7),
+];
+
 /// The same with another block in its first line.
 const ANOTHER: &[Frame] = &[
     START,
@@ -49,12 +59,11 @@ fn recorded_lines_are_the_models(rt: HostRuntime) -> Result<(), Fail> {
 /// A line is missing at the end, and another one stands in a line's place.
 #[test]
 fn recorded_lines_differ(rt: HostRuntime) -> Result<(), Fail> {
-    let missing = &RECORDED[..6];
     assert!(rt;
         ends(
             rt.alloc(),
             AUDIT,
-            missing,
+            MISSING,
             Status::Differs,
             "differs 3\n",
             ""
@@ -79,16 +88,8 @@ fn recorded_lines_differ(rt: HostRuntime) -> Result<(), Fail> {
 fn audits_stop(rt: HostRuntime) -> Result<(), Fail> {
     let cut = "snowman: bad input at frame 7: cut\n";
     assert!(rt; ends(rt.alloc(), AUDIT, CUT, Status::BadInput, "", cut)?);
+    let first = [Frame::Line("prefer 01~00"), START];
     let line = "snowman: bad input at frame 1: not-start\n";
-    assert!(rt;
-        ends(
-            rt.alloc(),
-            AUDIT,
-            &RECORDED[3..],
-            Status::BadInput,
-            "",
-            line
-        )?
-    );
+    assert!(rt; ends(rt.alloc(), AUDIT, &first, Status::BadInput, "", line)?);
     Ok(())
 }

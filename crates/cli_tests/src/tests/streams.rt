@@ -356,21 +356,25 @@ fn put_pair(out: &mut Vec<u8>, first: u64, second: u64) -> Result<(), AllocError
 
 /// A recorded line: its tag, the length of its text, and its text.
 fn put_line(out: &mut Vec<u8>, line: &str) -> Result<(), AllocError> {
-    let from = out.len();
-    out.extend_from_slice(&[17, 0, 0, 0, 0])?;
-    put_text(out, line)?;
-    write_length(out, from);
-    Ok(())
+    out.push(17)?;
+    out.extend_from_slice(&word(text_len(line)).to_be_bytes())?;
+    put_text(out, line)
 }
 
-/// Writes the length of what stands behind the five bytes from here on into the last four of them.
-fn write_length(out: &mut [u8], from: usize) {
-    if let Some(length) = out
-        .len()
-        .checked_sub(5)
-        .and_then(|end| end.checked_sub(from))
-    {
-        out[from + 1..from + 5].copy_from_slice(&word(length).to_be_bytes());
+/// How many bytes the text of a line has.
+fn text_len(line: &str) -> usize {
+    let mut len = 0usize;
+    for byte in line.as_bytes() {
+        len = len.wrapping_add(digits_len(*byte));
+    }
+    len
+}
+
+fn digits_len(byte: u8) -> usize {
+    match byte {
+        b'~' => 60,
+        b'P'..=b'T' => 40,
+        _ => 1,
     }
 }
 
