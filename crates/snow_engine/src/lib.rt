@@ -11,8 +11,9 @@ mod session;
 mod stage;
 mod task;
 
-pub use end::{BadKind, End};
+pub use end::{BadKind, End, Over};
 pub use engine::Engine;
-pub use serving::serve;
+pub use runner::Runner;
+pub use serving::{LIMIT, serve};
 pub use snow_node::EngineStop;
 pub use task::Task;

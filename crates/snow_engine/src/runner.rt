@@ -38,6 +38,7 @@ impl<C: Chain, B: Board> Runner<C, B> {
     pub fn new(alloc: Global, task: Task) -> Self
         ensures engine { result.engine ≡ None }
         ensures task { result.task ≡ task }
+        ensures log { result.log ≡ [] }
     {
         Runner {
             task,

@@ -16,7 +16,7 @@ use snow_wire::ReadFault;
 use std::alloc::Global;
 
 /// The most bytes of a stream that are taken.
-const LIMIT: u64 = 1_099_511_627_776;
+pub const LIMIT: u64 = 1_099_511_627_776;
 
 /// Runs a task over a source: each whole frame is worked as it comes, and its lines are written before
 /// the next bytes are read. A fault of the source or of the sink, or want of memory, ends the run
