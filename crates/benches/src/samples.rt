@@ -24,7 +24,10 @@ pub fn time(rt: &HostRuntime) -> anyhow::Result<()> {
     let more = draws_in(rt.alloc(), &roster, 1000, Source::Chosen)?;
     let both = start.elapsed(rt)?.as_millis();
     println!(rt; "{draws} draws, {more} by chosen words")?;
-    eprintln!(rt; "samples: {random} ms, and by chosen words {} ms", both.saturating_sub(random))?;
+    eprintln!(rt;
+        "samples: {random} ms, and by chosen words {} ms",
+        both.saturating_sub(random)
+    )?;
     Ok(())
 }
 

@@ -1,5 +1,6 @@
 mod asked;
 mod asking;
+mod audits;
 mod boots;
 mod cuts;
 mod decisions;

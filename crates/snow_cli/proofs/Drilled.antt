@@ -8,7 +8,7 @@ use Rattle.snow_engine.specs.Serving as serving
 use Rattle.snow_drill.specs.Following as drill
 
 -- nothing is a front of any text
-nothing_front : (before after : Option (List ℕ)) (text : List ℕ) → after ≡ before → AppendsFront before after text
+pub nothing_front : (before after : Option (List ℕ)) (text : List ℕ) → after ≡ before → AppendsFront before after text
 nothing_front None after text e = tt
 nothing_front (Some xs) None text e = cc
 nothing_front (Some xs) (Some ys) text e =

@@ -4,13 +4,13 @@ use Rattle.std.specs.List.{list_all}
 use Rattle.std.specs.Option.{option_and_then}
 use Rattle.std.specs.Str.{bytes_eq}
 use Rattle.std.proofs.lemmas.Slice.Eq.{bytes_eq-Decides}
-use Rattle.snow_engine.specs.declared.task.Task.{Task}
+use Rattle.snow_cli.specs.declared.command.Job.{Job}
 use Rattle.snow_cli.specs.declared.command.Command.{Command}
 use Rattle.snow_cli.specs.declared.command.ChainName.{ChainName}
 use Rattle.snow_cli.specs.declared.command.ChainName.TheVariants as chain
 use Rattle.snow_cli.specs.declared.command.RuleName.{RuleName}
 use Rattle.snow_cli.specs.declared.command.RuleName.TheVariants as rule
-use Rattle.snow_cli.specs.Words.{Item, Plain, Given, Wrong, items, plain_words, values, is_among, one_of, the_one, task_named, chain_named, rule_named, seed_named, blocks_named, serving, drilling, drill_of, is_drill, task_with, command_of}
+use Rattle.snow_cli.specs.Words.{Item, Plain, Given, Wrong, items, plain_words, values, is_among, one_of, the_one, job_named, chain_named, rule_named, seed_named, blocks_named, streaming, drilling, drill_of, is_drill, task_with, command_of}
 use Rattle.snow_cli.specs.Request.{Request, blank, with_items, command_in, service, service_of, drill_by}
 
 abbrev Word : Type 0
@@ -177,14 +177,14 @@ goes (Wrong ∷ more) t c u s b = refl
 
 -- ---- what is gathered, as a command
 
-abbrev serving_of : Task → List Word → List Word → Option Command
-serving_of t c u = serving t (one_of chain.Plain chain_named c) (one_of rule.Snowball rule_named u)
+abbrev streaming_of : Job → List Word → List Word → Option Command
+streaming_of t c u = streaming t (one_of chain.Plain chain_named c) (one_of rule.Snowball rule_named u)
 
 -- the command by its parts
 abbrev made : List Word → (ok only : Bool) → (c u s b : List Word) → Option Command
 made [] ok only c u s b = None
 made (word ∷ []) ok only c u s b =
-    cond (is_drill word) (cond ok (drill_of c u s b) None) (option_and_then (λ t. cond only (serving_of t c u) None) (task_named word))
+    cond (is_drill word) (cond ok (drill_of c u s b) None) (option_and_then (λ t. cond only (streaming_of t c u) None) (job_named word))
 made (word ∷ another ∷ more) ok only c u s b = None
 
 by_parts : (plain : List Word) (all : List Item)
@@ -206,7 +206,7 @@ no_task false c u s b = refl
 abbrev served_as : Word → Option Request → Option Command
 served_as word = option_and_then (service_of word)
 
-another_task : (is : Bool) (word : Word) (c u s b : Option Word) → task_named word ≡ None
+another_task : (is : Bool) (word : Word) (c u s b : Option Word) → job_named word ≡ None
     → served_as word (cond is (Some (req (Some word) c u s b)) None) ≡ None
 another_task true word c u s b e = ap (option_and_then (service (req (Some word) c u s b))) e
 another_task false word c u s b e = refl
@@ -215,24 +215,24 @@ abbrev no_command : Option Command
 no_command = None
 
 -- nothing comes of any task
-of_none : (o : Option Task) → option_and_then (λ (t : Task). no_command) o ≡ None
+of_none : (o : Option Job) → option_and_then (λ (t : Job). no_command) o ≡ None
 of_none None = refl
 of_none (Some t) = refl
 
 seeded : (is : Bool) (word seed : Word) (c u b : Option Word) → served_as word (cond is (Some (req (Some word) c u (Some seed) b)) None) ≡ None
-seeded true word seed c u b = of_none (task_named word)
+seeded true word seed c u b = of_none (job_named word)
 seeded false word seed c u b = refl
 
 limited : (is : Bool) (word blocks : Word) (c u : Option Word) → served_as word (cond is (Some (req (Some word) c u None (Some blocks))) None) ≡ None
-limited true word blocks c u = of_none (task_named word)
+limited true word blocks c u = of_none (job_named word)
 limited false word blocks c u = refl
 
-no_rule : (t : Task) (o : Option ChainName) → None ≡ serving t o None
+no_rule : (t : Job) (o : Option ChainName) → None ≡ streaming t o None
 no_rule t None = refl
 no_rule t (Some name) = refl
 
 -- a task whose options may all stand
-served : (word : Word) (t : Task) → task_named word ≡ Some t → (c u : List Word) → served_as word (whole true (word ∷ []) c u [] []) ≡ serving_of t c u
+served : (word : Word) (t : Job) → job_named word ≡ Some t → (c u : List Word) → served_as word (whole true (word ∷ []) c u [] []) ≡ streaming_of t c u
 served word t e [] [] = ap (option_and_then (service (req (Some word) None None None None))) e
 served word t e [] (y ∷ []) = ap (option_and_then (service (req (Some word) None (Some y) None None))) e
 served word t e [] (y ∷ z ∷ ys) = refl
@@ -241,15 +241,15 @@ served word t e (x ∷ []) (y ∷ []) = ap (option_and_then (service (req (Some 
 served word t e (x ∷ []) (y ∷ z ∷ ys) = no_rule t (chain_named x)
 served word t e (x ∷ w ∷ xs) u = refl
 
-service_comes : (word : Word) (t : Task) → task_named word ≡ Some t → (ok : Bool) (c u s b : List Word)
-    → served_as word (whole ok (word ∷ []) c u s b) ≡ cond (ok && (is_nil s && is_nil b)) (serving_of t c u) None
+service_comes : (word : Word) (t : Job) → job_named word ≡ Some t → (ok : Bool) (c u s b : List Word)
+    → served_as word (whole ok (word ∷ []) c u s b) ≡ cond (ok && (is_nil s && is_nil b)) (streaming_of t c u) None
 service_comes word t e true c u [] [] = served word t e c u
 service_comes word t e false c u s b = refl
 service_comes word t e true c u (x ∷ s) b = seeded (is_fit true (word ∷ []) c u (x ∷ s) b) word x (first c) (first u) (first b)
 service_comes word t e true c u [] (x ∷ b) = limited (is_fit true (word ∷ []) c u [] (x ∷ b)) word x (first c) (first u)
 
-task_comes : (ok : Bool) (word : Word) (c u s b : List Word) (o : Option Task) → task_named word ≡ o
-    → served_as word (whole ok (word ∷ []) c u s b) ≡ option_and_then (λ t. cond (ok && (is_nil s && is_nil b)) (serving_of t c u) None) o
+task_comes : (ok : Bool) (word : Word) (c u s b : List Word) (o : Option Job) → job_named word ≡ o
+    → served_as word (whole ok (word ∷ []) c u s b) ≡ option_and_then (λ t. cond (ok && (is_nil s && is_nil b)) (streaming_of t c u) None) o
 task_comes ok word c u s b (Some t) e = service_comes word t e ok c u s b
 task_comes ok word c u s b None e = another_task (is_fit ok (word ∷ []) c u s b) word (first c) (first u) (first s) (first b) e
 
@@ -310,8 +310,8 @@ word_comes ok word c u s b = go (is_drill word) refl
     go true e = subst (λ w. WordComes ok w c u s b) (named word (codes "drill") e) (drill_comes ok c u s b)
     go false e =
         serves (is_fit ok (word ∷ []) c u s b) word (first c) (first u) (first s) (first b) e
-        ∙ task_comes ok word c u s b (task_named word) refl
-        ∙ ap (λ (is : Bool). cond is (cond ok (drill_of c u s b) None) (option_and_then (λ t. cond (ok && (is_nil s && is_nil b)) (serving_of t c u) None) (task_named word))) (sym e)
+        ∙ task_comes ok word c u s b (job_named word) refl
+        ∙ ap (λ (is : Bool). cond is (cond ok (drill_of c u s b) None) (option_and_then (λ t. cond (ok && (is_nil s && is_nil b)) (streaming_of t c u) None) (job_named word))) (sym e)
 
 -- what is gathered asks for what its parts make
 comes : (ok : Bool) (t c u s b : List Word) → asked (whole ok t c u s b) ≡ made t ok (ok && (is_nil s && is_nil b)) c u s b

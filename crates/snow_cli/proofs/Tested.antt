@@ -5,19 +5,19 @@ use Rattle.std.specs.Option.{option_and_then}
 use Rattle.std.specs.Str.{bytes_eq}
 use Rattle.std.proofs.lemmas.Slice.Eq.{bytes_eq-Decides}
 use Rattle.clap.specs.Walk.{Text}
-use Rattle.snow_engine.specs.declared.task.Task.{Task}
+use Rattle.snow_cli.specs.declared.command.Job.{Job}
 use Rattle.snow_cli.specs.declared.command.Command.{Command}
 use Rattle.snow_cli.specs.declared.command.Command.TheVariants as command
 use Rattle.snow_cli.specs.declared.command.ChainName.{ChainName}
 use Rattle.snow_cli.specs.declared.command.ChainName.TheVariants as chain
 use Rattle.snow_cli.specs.declared.command.RuleName.{RuleName}
 use Rattle.snow_cli.specs.declared.command.RuleName.TheVariants as rule
-use Rattle.snow_cli.specs.Words.{task_named, chain_named, rule_named, seed_named, blocks_named, serving, drilling, is_drill}
+use Rattle.snow_cli.specs.Words.{job_named, chain_named, rule_named, seed_named, blocks_named, streaming, drilling, is_drill}
 use Rattle.snow_cli.specs.Request.{Request, command_in, named_or, stated, service, service_of, drill_by}
-use Rattle.snow_cli.specs.Parsing.{chain_read, rule_read, task_read, drill_read, service_read}
+use Rattle.snow_cli.specs.Parsing.{chain_read, rule_read, job_read, drill_read, service_read}
 
 abbrev pub task_names : List Text
-task_names = codes "decide" ∷ codes "run" ∷ codes "drill" ∷ []
+task_names = codes "decide" ∷ codes "run" ∷ codes "audit" ∷ codes "drill" ∷ []
 
 abbrev pub chain_names : List Text
 chain_names = codes "plain" ∷ codes "tally" ∷ codes "ledger" ∷ []
@@ -65,14 +65,19 @@ chain_is v = at_plain (bytes_eq v (codes "plain")) refl
     at_plain false e = at_tally (bytes_eq v (codes "tally")) refl e
 
 abbrev TaskIs : Text → Type 0
-TaskIs v = task_named v ≡ cond (is_one task_names v) (Some (task_read (Some v))) None
+TaskIs v = job_named v ≡ cond (is_one task_names v) (Some (job_read (Some v))) None
 
 task_is : (v : Text) → is_drill v ≡ false → TaskIs v
 task_is v drill = at_decide (bytes_eq v (codes "decide")) refl
   where
+    at_audit : (is : Bool) → bytes_eq v (codes "audit") ≡ is → bytes_eq v (codes "run") ≡ false → bytes_eq v (codes "decide") ≡ false → TaskIs v
+    at_audit true e run decide = subst TaskIs (sym (same v (codes "audit") e)) refl
+    at_audit false e run decide =
+        rw (decide, run, e, turned v (codes "decide") decide, turned v (codes "run") run, turned v (codes "audit") e, turned v (codes "drill") drill) refl
+
     at_run : (is : Bool) → bytes_eq v (codes "run") ≡ is → bytes_eq v (codes "decide") ≡ false → TaskIs v
     at_run true e decide = subst TaskIs (sym (same v (codes "run") e)) refl
-    at_run false e decide = rw (decide, e, turned v (codes "decide") decide, turned v (codes "run") e, turned v (codes "drill") drill) refl
+    at_run false e decide = at_audit (bytes_eq v (codes "audit")) refl e decide
 
     at_decide : (is : Bool) → bytes_eq v (codes "decide") ≡ is → TaskIs v
     at_decide true e = subst TaskIs (sym (same v (codes "decide") e)) refl
@@ -105,8 +110,8 @@ abbrev pub fits : Text → Option Text → Option Text → Bool
 fits task c u = is_one task_names task && (is_one_or_none chain_names c && is_one_or_none rule_names u)
 
 -- what tested words of a task that serves ask for
-abbrev of_task : Task → Option Text → Option Text → Option Text → Option Text → Option Command
-of_task t c u s b = cond (is_some s || is_some b) None (Some (command.Serve t (chain_read c) (rule_read u)))
+abbrev of_task : Job → Option Text → Option Text → Option Text → Option Text → Option Command
+of_task t c u s b = cond (is_some s || is_some b) None (Some (command.Stream t (chain_read c) (rule_read u)))
 
 -- what those of a drill ask for
 abbrev pub drill_asked : Option Text → Option Text → Option Text → Option Text → Option Command
@@ -117,8 +122,8 @@ drill_asked (Some v) u s b = None
 abbrev pub asked : Text → Option Text → Option Text → Option Text → Option Text → Option Command
 asked word c u s b = cond (is_drill word) (drill_asked c u s b) (service_read (Some word) c u s b)
 
-both : (t : Task) (x : ChainName) (y : RuleName) (p q : Bool)
-    → serving t (cond p (Some x) None) (cond q (Some y) None) ≡ cond (p && q) (Some (command.Serve t x y)) None
+both : (t : Job) (x : ChainName) (y : RuleName) (p q : Bool)
+    → streaming t (cond p (Some x) None) (cond q (Some y) None) ≡ cond (p && q) (Some (command.Stream t x y)) None
 both t x y true true = refl
 both t x y true false = refl
 both t x y false q = refl
@@ -134,13 +139,13 @@ abbrev pub req : Option Text → Option Text → Option Text → Option Text →
 req t c u s b = record { task = t; chain = c; rule = u; seed = s; blocks = b }
 
 -- what a request for a task asks for, where its options are names
-served : (word : Text) (t : Task) (c u s b : Option Text)
+served : (word : Text) (t : Job) (c u s b : Option Text)
     → service (req (Some word) c u s b) t ≡ cond (is_one_or_none chain_names c && is_one_or_none rule_names u) (of_task t c u s b) None
-served word t c u None None = ap₂ (serving t) (chains_are c) (rules_are u) ∙ both t (chain_read c) (rule_read u) (is_one_or_none chain_names c) (is_one_or_none rule_names u)
+served word t c u None None = ap₂ (streaming t) (chains_are c) (rules_are u) ∙ both t (chain_read c) (rule_read u) (is_one_or_none chain_names c) (is_one_or_none rule_names u)
 served word t c u None (Some v) = nothing (is_one_or_none chain_names c && is_one_or_none rule_names u)
 served word t c u (Some v) b = nothing (is_one_or_none chain_names c && is_one_or_none rule_names u)
 
-by_task : (word : Text) (c u s b : Option Text) (o : Option Task) → is_drill word ≡ false → task_named word ≡ o
+by_task : (word : Text) (c u s b : Option Text) (o : Option Job) → is_drill word ≡ false → job_named word ≡ o
     → command_in (req (Some word) c u s b) ≡ option_and_then (service (req (Some word) c u s b)) o
 unfolding command_in
 by_task word c u s b o other e =
@@ -164,17 +169,17 @@ drill_comes (Some v) u s b = nothing (is_one chain_names v && is_one_or_none rul
 serve_comes : (word : Text) (c u s b : Option Text) → is_drill word ≡ false → Comes word c u s b
 serve_comes word c u s b other =
     at_name (is_one task_names word) refl
-    ∙ ap (λ (is : Bool). cond (fits word c u) (cond is (drill_asked c u s b) (of_task (task_read (Some word)) c u s b)) None) (sym other)
+    ∙ ap (λ (is : Bool). cond (fits word c u) (cond is (drill_asked c u s b) (of_task (job_read (Some word)) c u s b)) None) (sym other)
   where
     at_name : (is : Bool) → is_one task_names word ≡ is
-        → command_in (req (Some word) c u s b) ≡ cond (is_one task_names word && (is_one_or_none chain_names c && is_one_or_none rule_names u)) (of_task (task_read (Some word)) c u s b) None
+        → command_in (req (Some word) c u s b) ≡ cond (is_one task_names word && (is_one_or_none chain_names c && is_one_or_none rule_names u)) (of_task (job_read (Some word)) c u s b) None
     at_name true e =
-        by_task word c u s b (Some (task_read (Some word))) other (task_is word other ∙ ap (λ (is : Bool). cond is (Some (task_read (Some word))) None) e)
-        ∙ served word (task_read (Some word)) c u s b
-        ∙ ap (λ (is : Bool). cond (is && (is_one_or_none chain_names c && is_one_or_none rule_names u)) (of_task (task_read (Some word)) c u s b) None) (sym e)
+        by_task word c u s b (Some (job_read (Some word))) other (task_is word other ∙ ap (λ (is : Bool). cond is (Some (job_read (Some word))) None) e)
+        ∙ served word (job_read (Some word)) c u s b
+        ∙ ap (λ (is : Bool). cond (is && (is_one_or_none chain_names c && is_one_or_none rule_names u)) (of_task (job_read (Some word)) c u s b) None) (sym e)
     at_name false e =
-        by_task word c u s b None other (task_is word other ∙ ap (λ (is : Bool). cond is (Some (task_read (Some word))) None) e)
-        ∙ ap (λ (is : Bool). cond (is && (is_one_or_none chain_names c && is_one_or_none rule_names u)) (of_task (task_read (Some word)) c u s b) None) (sym e)
+        by_task word c u s b None other (task_is word other ∙ ap (λ (is : Bool). cond is (Some (job_read (Some word))) None) e)
+        ∙ ap (λ (is : Bool). cond (is && (is_one_or_none chain_names c && is_one_or_none rule_names u)) (of_task (job_read (Some word)) c u s b) None) (sym e)
 
 pub comes : (word : Text) (c u s b : Option Text) → Comes word c u s b
 comes word c u s b = at_drill (is_drill word) refl

@@ -3,13 +3,14 @@ use Rattle.std.proofs.Common.{◌≡◌, [], ◌∷◌, Option, Some, None, refl
 use Rattle.snow_engine.specs.declared.task.Task.TheVariants as task
 use Rattle.snow_cli.specs.declared.command.ChainName.TheVariants as chain
 use Rattle.snow_cli.specs.declared.command.RuleName.TheVariants as rule
+use Rattle.snow_cli.specs.declared.command.Job.TheVariants as job
 use Rattle.snow_cli.specs.declared.command.Command.{Command}
 use Rattle.snow_cli.specs.declared.command.Command.TheVariants as command
 use Rattle.snow_cli.specs.Words.{items, command_of}
 
 -- the defaults
 abbrev usual : Option Command
-usual = Some (command.Serve task.Decide chain.Plain rule.Snowball)
+usual = Some (command.Stream (job.Serve task.Decide) chain.Plain rule.Snowball)
 
 pub no_word : command_of [] ≡ None
 unfolding command_of items
@@ -32,20 +33,20 @@ unfolding command_of items
 option_first = refl
 
 pub both_options : command_of (codes "decide" ∷ codes "--chain" ∷ codes "tally" ∷ codes "--rule=snowflake" ∷ [])
-    ≡ Some (command.Serve task.Decide chain.Tally rule.Snowflake)
+    ≡ Some (command.Stream (job.Serve task.Decide) chain.Tally rule.Snowflake)
 unfolding command_of items
 both_options = refl
 
 pub another_rule : command_of (codes "decide" ∷ codes "--rule" ∷ codes "snowflake" ∷ [])
-    ≡ Some (command.Serve task.Decide chain.Plain rule.Snowflake)
+    ≡ Some (command.Stream (job.Serve task.Decide) chain.Plain rule.Snowflake)
 unfolding command_of items
 another_rule = refl
 
-pub the_third_chain : command_of (codes "run" ∷ codes "--chain=ledger" ∷ []) ≡ Some (command.Serve task.Run chain.Ledger rule.Snowball)
+pub the_third_chain : command_of (codes "run" ∷ codes "--chain=ledger" ∷ []) ≡ Some (command.Stream (job.Serve task.Run) chain.Ledger rule.Snowball)
 unfolding command_of items
 the_third_chain = refl
 
-pub a_running_task : command_of (codes "run" ∷ []) ≡ Some (command.Serve task.Run chain.Plain rule.Snowball)
+pub a_running_task : command_of (codes "run" ∷ []) ≡ Some (command.Stream (job.Serve task.Run) chain.Plain rule.Snowball)
 unfolding command_of items
 a_running_task = refl
 
@@ -107,9 +108,23 @@ pub no_digit : command_of (codes "drill" ∷ codes "--seed=+1" ∷ codes "--bloc
 unfolding command_of items
 no_digit = refl
 
-pub audit : command_of (codes "audit" ∷ []) ≡ None
+-- an audit takes a chain and a rule, and nothing of a drill
+pub audit : command_of (codes "audit" ∷ []) ≡ Some (command.Stream job.Audit chain.Plain rule.Snowball)
 unfolding command_of items
 audit = refl
+
+pub audit_of_a_chain : command_of (codes "--rule=snowflake" ∷ codes "audit" ∷ codes "--chain" ∷ codes "ledger" ∷ [])
+    ≡ Some (command.Stream job.Audit chain.Ledger rule.Snowflake)
+unfolding command_of items
+audit_of_a_chain = refl
+
+pub audit_with_a_seed : command_of (codes "audit" ∷ codes "--seed=1" ∷ []) ≡ None
+unfolding command_of items
+audit_with_a_seed = refl
+
+pub another_word : command_of (codes "check" ∷ []) ≡ None
+unfolding command_of items
+another_word = refl
 
 pub help : command_of (codes "--help" ∷ []) ≡ None
 unfolding command_of items

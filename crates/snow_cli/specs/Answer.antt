@@ -1,6 +1,7 @@
 -- What the program owes for its words and for the bytes that come in.
-use Rattle.std.specs.Prelude.{◌≡◌, ℕ, List, [], ◌++◌, decimal, Option, Some, None, codes, ⊤, ◌⊎◌}
+use Rattle.std.specs.Prelude.{◌≡◌, ℕ, List, [], ◌++◌, decimal, Option, Some, None, codes, ⊤, ◌⊎◌, Result, Ok, Err}
 use Rattle.std.specs.Io.KnownBytes.{Appends, IsAtEnd}
+use Rattle.snow_base.specs.declared.outside.Failed.{Failed}
 use Rattle.snow_base.specs.Outside.{AppendsFront, Rose}
 use Rattle.snow_flake.specs.Rule.{Answer, by_preference, by_flake}
 use Rattle.snow_flake.specs.declared.params.ParamFault.{ParamFault}
@@ -25,12 +26,19 @@ use Rattle.snow_engine.specs.declared.end.End.{End}
 use Rattle.snow_engine.specs.declared.end.End.TheVariants as end
 use Rattle.snow_engine.specs.Run.{lines_of, seen, end_of}
 use Rattle.snow_engine.specs.Serving.{Broke}
+use Rattle.snow_audit.specs.declared.auditing.AuditEnd.{AuditEnd}
+use Rattle.snow_audit.specs.declared.auditing.AuditEnd.TheVariants as audit
+use Rattle.snow_audit.specs.Auditing.{audit_of}
 use Rattle.snow_cli.specs.declared.command.ChainName.{ChainName}
 use Rattle.snow_cli.specs.declared.command.ChainName.TheVariants as chain
 use Rattle.snow_cli.specs.declared.command.RuleName.{RuleName}
 use Rattle.snow_cli.specs.declared.command.RuleName.TheVariants as rule
+use Rattle.snow_cli.specs.declared.command.Job.{Job}
+use Rattle.snow_cli.specs.declared.command.Job.TheVariants as job
 use Rattle.snow_cli.specs.declared.command.Command.{Command}
 use Rattle.snow_cli.specs.declared.command.Command.TheVariants as command
+use Rattle.snow_cli.specs.declared.finish.Finish.{Finish}
+use Rattle.snow_cli.specs.declared.finish.Finish.TheVariants as finish
 use Rattle.snow_cli.specs.declared.status.Status.{Status}
 use Rattle.snow_cli.specs.declared.status.Status.TheVariants as status
 
@@ -51,30 +59,60 @@ answer_of rule.Snowflake = by_flake
 abbrev pub drill_text : RuleName → ℕ → ℕ → List ℕ
 drill_text r seed blocks = drilled (step tally_rules (answer_of r)) seed blocks (started tally_rules task.Run first)
 
--- the text for a command and a stream, of which the first 2^40 bytes count; a drill doesn't look at it, and there is none without a
--- command
+-- the line of a word and a number
+abbrev pub number_line : List ℕ → ℕ → List ℕ
+number_line word number = word ++ codes " " ++ decimal number ++ codes "\n"
+
+-- the one line of an audit: how many recorded lines are the model's, or the number of the first that isn't; none where it stopped
+abbrev pub audit_text : AuditEnd → List ℕ
+audit_text (audit.Same lines) = number_line (codes "same") lines
+audit_text (audit.Differs line) = number_line (codes "differs") line
+audit_text (audit.Stopped e) = []
+
+-- how an audit ends
+abbrev pub audit_finish : AuditEnd → Finish
+audit_finish (audit.Same lines) = finish.Ended end.Done
+audit_finish (audit.Differs line) = finish.Differs
+audit_finish (audit.Stopped e) = finish.Ended e
+
+-- the text for what is done with a stream, of which the first 2^40 bytes count
+abbrev pub job_text : Job → Rules → Answer → List ℕ → List ℕ
+job_text (job.Serve t) rules answer bytes = texts (lines_of rules answer t (seen bytes))
+job_text job.Audit rules answer bytes = audit_text (audit_of rules answer bytes)
+
+-- how that ends
+abbrev pub job_finish : Job → Rules → Answer → List ℕ → Finish
+job_finish (job.Serve t) rules answer bytes = finish.Ended (end_of rules answer t bytes)
+job_finish job.Audit rules answer bytes = audit_finish (audit_of rules answer bytes)
+
+-- the text for a command and a stream; a drill doesn't look at it, and there is none without a command
 abbrev pub text_for : Option Command → List ℕ → List ℕ
 text_for None bytes = []
-text_for (Some (command.Serve t c r)) bytes = texts (lines_of (rules_of c) (answer_of r) t (seen bytes))
+text_for (Some (command.Stream j c r)) bytes = job_text j (rules_of c) (answer_of r) bytes
 text_for (Some (command.Drill r seed blocks)) bytes = drill_text r seed blocks
 
--- how the run of a command over a stream ends; without a command nothing is run
-abbrev pub end_for : Option Command → List ℕ → Option End
-end_for None bytes = None
-end_for (Some (command.Serve t c r)) bytes = Some (end_of (rules_of c) (answer_of r) t bytes)
-end_for (Some (command.Drill r seed blocks)) bytes = Some end.Done
+-- how a command over a stream ends; without a command nothing is run
+abbrev pub finish_for : Option Command → List ℕ → Option Finish
+finish_for None bytes = None
+finish_for (Some (command.Stream j c r)) bytes = Some (job_finish j (rules_of c) (answer_of r) bytes)
+finish_for (Some (command.Drill r seed blocks)) bytes = Some (finish.Ended end.Done)
 
--- the status for how a run ended, or that nothing was run
-abbrev pub status_of : Option End → Status
+-- the status for how a run ended
+abbrev pub end_status : End → Status
+end_status end.Done = status.Done
+end_status (end.BadInput frame bad) = status.BadInput
+end_status end.SourceFault = status.SourceFault
+end_status end.SinkFault = status.SinkFault
+end_status end.Memory = status.Memory
+end_status end.InputLimit = status.Limit
+end_status end.RequestLimit = status.Limit
+end_status (end.BootStopped why) = status.BootStopped
+
+-- the status for how a command ended, or that there was none
+abbrev pub status_of : Option Finish → Status
 status_of None = status.Usage
-status_of (Some end.Done) = status.Done
-status_of (Some (end.BadInput frame bad)) = status.BadInput
-status_of (Some end.SourceFault) = status.SourceFault
-status_of (Some end.SinkFault) = status.SinkFault
-status_of (Some end.Memory) = status.Memory
-status_of (Some end.InputLimit) = status.Limit
-status_of (Some end.RequestLimit) = status.Limit
-status_of (Some (end.BootStopped why)) = status.BootStopped
+status_of (Some finish.Differs) = status.Differs
+status_of (Some (finish.Ended e)) = end_status e
 
 -- ---- the line on standard error
 
@@ -125,30 +163,39 @@ stop_text boot.Memory = []
 abbrev pub boot_line : BootStop → List ℕ
 boot_line why = codes "snowman: bootstrapping stopped: " ++ stop_text why ++ codes "\n"
 
--- the line for how a run ended, or that nothing was run; nothing where all is done
-abbrev pub error_line : Option End → List ℕ
+-- the line for how a run ended; nothing where all is done
+abbrev pub end_line : End → List ℕ
+end_line end.Done = []
+end_line (end.BadInput frame bad) = bad_line frame bad
+end_line end.SourceFault = codes "snowman: source fault\n"
+end_line end.SinkFault = codes "snowman: sink fault\n"
+end_line end.Memory = codes "snowman: out of memory\n"
+end_line end.InputLimit = codes "snowman: input limit\n"
+end_line end.RequestLimit = codes "snowman: request limit\n"
+end_line (end.BootStopped why) = boot_line why
+
+-- the line for how a command ended, or that there was none; that an audit differs is told on the output
+abbrev pub error_line : Option Finish → List ℕ
 error_line None = codes "snowman: usage\n"
-error_line (Some end.Done) = []
-error_line (Some (end.BadInput frame bad)) = bad_line frame bad
-error_line (Some end.SourceFault) = codes "snowman: source fault\n"
-error_line (Some end.SinkFault) = codes "snowman: sink fault\n"
-error_line (Some end.Memory) = codes "snowman: out of memory\n"
-error_line (Some end.InputLimit) = codes "snowman: input limit\n"
-error_line (Some end.RequestLimit) = codes "snowman: request limit\n"
-error_line (Some (end.BootStopped why)) = boot_line why
+error_line (Some finish.Differs) = []
+error_line (Some (finish.Ended e)) = end_line e
 
 -- ---- the answer
 
--- the end of a run that a status tells of, where a fault or want of memory ended it, and else the model's
-abbrev pub told_by : Status → Option End → Option End
-told_by status.SourceFault expected = Some end.SourceFault
-told_by status.SinkFault expected = Some end.SinkFault
-told_by status.Memory expected = Some end.Memory
+-- how a command ended that a status tells of, where a fault or want of memory ended it, and else what the model says
+abbrev pub told_by : Status → Option Finish → Option Finish
+told_by status.SourceFault expected = Some (finish.Ended end.SourceFault)
+told_by status.SinkFault expected = Some (finish.Ended end.SinkFault)
+told_by status.Memory expected = Some (finish.Ended end.Memory)
 told_by given expected = expected
 
 -- the status is the model's, unless a source fault, a sink fault or want of memory ended the run
-abbrev pub IsAnswer : Status → Option End → Type 0
+abbrev pub IsAnswer : Status → Option Finish → Type 0
 IsAnswer given expected = given ≡ status_of (told_by given expected)
+
+-- so is how a command ended
+abbrev pub IsFinish : Finish → Finish → Type 0
+IsFinish given expected = Some given ≡ told_by (status_of (Some given)) (Some expected)
 
 -- what was written: the whole text, or a front of it where a fault or want of memory ended the run
 abbrev pub Wrote : Status → Option (List ℕ) → Option (List ℕ) → List ℕ → Type 0
@@ -157,11 +204,31 @@ Wrote status.SinkFault before after text = AppendsFront before after text
 Wrote status.Memory before after text = AppendsFront before after text
 Wrote given before after text = Appends before after text
 
--- the source failed: exactly the lines of the whole frames that came were written, and these frames show no stop
+-- how a command ends, unless the sink failed
+abbrev pub unless_failed : Result (Unit {0}) Failed → Finish → Finish
+unless_failed (Ok done) expected = expected
+unless_failed (Err fault) expected = finish.Ended end.SinkFault
+
+-- a line was written whole, and the command ends so; or the sink failed, and a front of the line was written
+pub data Tells (expected given : Finish) (before after : Option (List ℕ)) (faults_before faults_after : ℕ) (line : List ℕ) : Type 0 where
+  Whole : given ≡ expected → Appends before after line → Tells expected given before after faults_before faults_after line
+  Front : given ≡ finish.Ended end.SinkFault → AppendsFront before after line → Rose faults_before faults_after
+      → Tells expected given before after faults_before faults_after line
+
+-- what an audit found was told; where it stopped nothing is told
+abbrev pub Told : Finish → AuditEnd → Option (List ℕ) → Option (List ℕ) → ℕ → ℕ → Type 0
+Told given (audit.Stopped e) before after faults_before faults_after = (given ≡ finish.Ended e) × (after ≡ before)
+Told given found before after faults_before faults_after = Tells (audit_finish found) given before after faults_before faults_after (audit_text found)
+
+-- the source failed: exactly the lines of the whole frames that came were written, and these frames show no stop; an audit wrote nothing
+abbrev pub BrokeAt : Job → Rules → Answer → Option (List ℕ) → Option (List ℕ) → Option (List ℕ) → Option (List ℕ) → Type 0
+BrokeAt (job.Serve t) rules answer left_before left_after out_before out_after = Broke rules answer t left_before left_after out_before out_after
+BrokeAt job.Audit rules answer left_before left_after out_before out_after = out_after ≡ out_before
+
 abbrev pub BrokeFor : Option Command → Option (List ℕ) → Option (List ℕ) → Option (List ℕ) → Option (List ℕ) → Type 0
 BrokeFor None left_before left_after out_before out_after = ⊥
-BrokeFor (Some (command.Serve t c r)) left_before left_after out_before out_after =
-    Broke (rules_of c) (answer_of r) t left_before left_after out_before out_after
+BrokeFor (Some (command.Stream j c r)) left_before left_after out_before out_after =
+    BrokeAt j (rules_of c) (answer_of r) left_before left_after out_before out_after
 BrokeFor (Some (command.Drill r seed blocks)) left_before left_after out_before out_after = ⊥
 
 -- a run over a stream that was done has read it to its end; a drill reads nothing
@@ -188,7 +255,7 @@ TookLine before after faults_before faults_after line =
 
 -- a line of a run that ended with this status was taken
 pub record TookOne (given : Status) (before after : Option (List ℕ)) (faults_before faults_after : ℕ) : Type 0 where
-  pub ended : Option End
+  pub ended : Option Finish
   pub status_is : status_of ended ≡ given
   pub line : TookLine before after faults_before faults_after (error_line ended)
 
@@ -202,3 +269,4 @@ exit_code status.SinkFault = 5
 exit_code status.Memory = 6
 exit_code status.Limit = 7
 exit_code status.BootStopped = 8
+exit_code status.Differs = 9

@@ -4,8 +4,9 @@ use Rattle.std.specs.Borrow.{Bor}
 use Rattle.clap.specs.Walk.{Rule, Text}
 use Rattle.clap.specs.Simple.{App, new_app, new_rule, with_rule}
 use Rattle.clap.specs.declared.builder.value_parser.ValueParser.TheVariants as parser
-use Rattle.snow_engine.specs.declared.task.Task.{Task}
 use Rattle.snow_engine.specs.declared.task.Task.TheVariants as task
+use Rattle.snow_cli.specs.declared.command.Job.{Job}
+use Rattle.snow_cli.specs.declared.command.Job.TheVariants as job
 use Rattle.snow_cli.specs.declared.command.ChainName.{ChainName}
 use Rattle.snow_cli.specs.declared.command.ChainName.TheVariants as chain
 use Rattle.snow_cli.specs.declared.command.RuleName.{RuleName}
@@ -97,19 +98,22 @@ abbrev pub rule_read : Option Text → RuleName
 rule_read None = rule.Snowball
 rule_read (Some value) = if bytes_eq value (codes "snowflake") then rule.Snowflake else rule.Snowball
 
--- the task of a tested name
-abbrev pub task_read : Option Text → Task
-task_read None = task.Decide
-task_read (Some value) = if bytes_eq value (codes "run") then task.Run else task.Decide
+-- what is done with a stream by the task of a tested name
+abbrev pub job_read : Option Text → Job
+job_read None = job.Serve task.Decide
+job_read (Some value) =
+    if bytes_eq value (codes "run") then job.Serve task.Run
+    else if bytes_eq value (codes "audit") then job.Audit
+    else job.Serve task.Decide
 
 -- whether the task of a tested name is the drill
 abbrev pub is_drill_read : Option Text → Bool
 is_drill_read None = false
 is_drill_read (Some value) = is_drill value
 
--- a task that serves a stream takes neither a seed nor blocks
+-- a task that reads a stream takes neither a seed nor blocks
 abbrev pub service_read : Option Text → Option Text → Option Text → Option Text → Option Text → Option Command
-service_read t c u s b = if is_some s || is_some b then None else Some (command.Serve (task_read t) (chain_read c) (rule_read u))
+service_read t c u s b = if is_some s || is_some b then None else Some (command.Stream (job_read t) (chain_read c) (rule_read u))
 
 -- a drill needs both
 abbrev pub drill_read : Option Text → Option Text → Option Text → Option Command

@@ -2,13 +2,13 @@
 use Rattle.std.specs.Prelude.{◌≡◌, ℕ, Bool, true, false, List, [], ◌∷◌, map, drop, Option, Some, None, is_some, codes, if◌then◌else◌, bytes_eq, string_bytes, String}
 use Rattle.std.specs.Option.{option_and_then}
 use Rattle.std.specs.Borrow.{Bor}
-use Rattle.snow_engine.specs.declared.task.Task.{Task}
+use Rattle.snow_cli.specs.declared.command.Job.{Job}
 use Rattle.snow_cli.specs.declared.command.Command.{Command}
 use Rattle.snow_cli.specs.declared.command.ChainName.TheVariants as chain
 use Rattle.snow_cli.specs.declared.command.RuleName.TheVariants as rule
 use Rattle.snow_cli.specs.declared.ordering.Look.{Look}
 use Rattle.snow_cli.specs.declared.ordering.Look.TheVariants as look
-use Rattle.snow_cli.specs.Words.{Form, Alone, Ends, Sets, Names, Dashed, Item, Plain, Given, Wrong, items, has_dash, task_named, chain_named, rule_named, seed_named, blocks_named, serving, drilling, is_drill}
+use Rattle.snow_cli.specs.Words.{Form, Alone, Ends, Sets, Names, Dashed, Item, Plain, Given, Wrong, items, has_dash, job_named, chain_named, rule_named, seed_named, blocks_named, streaming, drilling, is_drill}
 
 -- what a word looks like
 abbrev pub form_seen : Look → Form
@@ -86,12 +86,12 @@ abbrev pub named_or : {A : Type 0} → A → (List ℕ → Option A) → Option 
 named_or default named None = Some default
 named_or default named (Some value) = named value
 
--- a task that serves a stream takes neither a seed nor a number of blocks
-abbrev pub service : Request → Task → Option Command
-service r task =
+-- a task that reads a stream takes neither a seed nor a number of blocks
+abbrev pub service : Request → Job → Option Command
+service r done =
     if is_some r.seed then None
     else if is_some r.blocks then None
-    else serving task (named_or chain.Plain chain_named r.chain) (named_or rule.Snowball rule_named r.rule)
+    else streaming done (named_or chain.Plain chain_named r.chain) (named_or rule.Snowball rule_named r.rule)
 
 -- what the value states, where it stands
 abbrev pub stated : {A : Type 0} → (List ℕ → Option A) → Option (List ℕ) → Option A
@@ -103,9 +103,9 @@ abbrev pub drill_by : Option (List ℕ) → Option (List ℕ) → Option (List �
 drill_by None u s b = drilling (named_or rule.Snowball rule_named u) (stated seed_named s) (stated blocks_named b)
 drill_by (Some value) u s b = None
 
--- the command of a task that serves a stream
+-- the command of a task that reads a stream
 abbrev pub service_of : List ℕ → Request → Option Command
-service_of word r = option_and_then (service r) (task_named word)
+service_of word r = option_and_then (service r) (job_named word)
 
 -- the command of the task of a name
 abbrev pub task_of : Option (List ℕ) → Request → Option Command

@@ -2,8 +2,9 @@
 use Rattle.std.specs.Prelude.{ℕ, ◌+◌, ◌-◌, ◌*◌, ◌^◌, Bool, true, false, ◌&&◌, ◌==◌, List, [], ◌∷◌, map, drop, fold, length, Option, Some, None, codes, if◌then◌else◌, bytes_eq, nat_le}
 use Rattle.std.specs.Option.{option_and_then}
 use Rattle.std.specs.List.{list_all, list_any, filter_map, before_first, after_first}
-use Rattle.snow_engine.specs.declared.task.Task.{Task}
 use Rattle.snow_engine.specs.declared.task.Task.TheVariants as task
+use Rattle.snow_cli.specs.declared.command.Job.{Job}
+use Rattle.snow_cli.specs.declared.command.Job.TheVariants as job
 use Rattle.snow_cli.specs.declared.command.ChainName.{ChainName}
 use Rattle.snow_cli.specs.declared.command.ChainName.TheVariants as chain
 use Rattle.snow_cli.specs.declared.command.RuleName.{RuleName}
@@ -159,23 +160,24 @@ rule_named value =
     else if bytes_eq value (codes "snowflake") then Some rule.Snowflake
     else None
 
--- the task of a name
-abbrev pub task_named : List ℕ → Option Task
-task_named word =
-    if bytes_eq word (codes "decide") then Some task.Decide
-    else if bytes_eq word (codes "run") then Some task.Run
+-- what is done with a stream by the task of a name
+abbrev pub job_named : List ℕ → Option Job
+job_named word =
+    if bytes_eq word (codes "decide") then Some (job.Serve task.Decide)
+    else if bytes_eq word (codes "run") then Some (job.Serve task.Run)
+    else if bytes_eq word (codes "audit") then Some job.Audit
     else None
 
--- a task with a chain and a rule, where both are named
-abbrev pub serving : Task → Option ChainName → Option RuleName → Option Command
-serving task (Some c) (Some r) = Some (command.Serve task c r)
-serving task c r = None
+-- a task that reads a stream with a chain and a rule, where both are named
+abbrev pub streaming : Job → Option ChainName → Option RuleName → Option Command
+streaming done (Some c) (Some r) = Some (command.Stream done c r)
+streaming done c r = None
 
--- a task with these items, where its options alone stand among them
-abbrev pub serve_with : List Item → Task → Option Command
-serve_with all task =
+-- a task that reads a stream with these items, where its options alone stand among them
+abbrev pub stream_with : List Item → Job → Option Command
+stream_with all done =
     if list_all (is_among (codes "chain" ∷ codes "rule" ∷ [])) all
-    then serving task (one_of chain.Plain chain_named (values (codes "chain") all)) (one_of rule.Snowball rule_named (values (codes "rule") all))
+    then streaming done (one_of chain.Plain chain_named (values (codes "chain") all)) (one_of rule.Snowball rule_named (values (codes "rule") all))
     else None
 
 -- a drill by a rule, a seed and a number of blocks, where all three are there
@@ -202,7 +204,7 @@ is_drill word = bytes_eq word (codes "drill")
 -- the task that the one plain word names, with these items
 abbrev pub task_with : List (List ℕ) → List Item → Option Command
 task_with [] all = None
-task_with (word ∷ []) all = if is_drill word then drill_with all else option_and_then (serve_with all) (task_named word)
+task_with (word ∷ []) all = if is_drill word then drill_with all else option_and_then (stream_with all) (job_named word)
 task_with (word ∷ another ∷ more) all = None
 
 -- what the words ask for, where they ask for a task

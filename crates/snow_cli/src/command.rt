@@ -21,13 +21,22 @@ pub enum RuleName {
     Snowflake,
 }
 
+/// What is done with a stream.
+#[derive(Clone, Copy, Debug, PartialEq, Eq)]
+pub enum Job {
+    /// `decide` or `run`: a node serves its events.
+    Serve(Task),
+    /// `audit`: the lines that a `run` wrote are held against those of the model.
+    Audit,
+}
+
 /// What the words of the command line ask for.
 #[derive(Clone, Copy, Debug, PartialEq, Eq)]
 pub enum Command {
-    /// A node that serves a stream by this rule over blocks of this chain.
-    Serve {
-        /// What the node does with the events.
-        task: Task,
+    /// A stream is read, by this rule over blocks of this chain.
+    Stream {
+        /// What is done with it.
+        job: Job,
         /// The chain that the blocks are of.
         chain: ChainName,
         /// The rule of the polls.

@@ -3,6 +3,7 @@
 
 mod command;
 mod figures;
+mod finish;
 mod ordering;
 mod parsing;
 mod program;
@@ -10,7 +11,7 @@ mod report;
 mod status;
 mod words;
 
-pub use command::{ChainName, Command, RuleName};
+pub use command::{ChainName, Command, Job, RuleName};
 pub use program::top;
 pub use status::Status;
 pub use words::read_words;

@@ -1,9 +1,9 @@
 ghost use Rattle.std.specs.Prelude.{◌≡◌, option_map, IfOk};
 ghost use Rattle.clap.specs.Words.{app_of, found_of, first_value, rows_of, with_rule, FailsBy, fault_of, matches_of};
-ghost use Rattle.snow_cli.specs.Parsing.{AsksFor, chain_read, choice_rule, command_read, drill_read, is_drill_read, rule_read, open_rule, snowman, task_read, task_rule};
+ghost use Rattle.snow_cli.specs.Parsing.{AsksFor, chain_read, choice_rule, command_read, drill_read, is_drill_read, rule_read, open_rule, snowman, job_read, task_rule};
 ghost use Rattle.snow_cli.specs.Request.{texts};
 
-use crate::command::{ChainName, Command, RuleName};
+use crate::command::{ChainName, Command, Job, RuleName};
 use crate::figures::number_in;
 use clap::builder::ValueParser;
 use clap::error::ErrorKind;
@@ -12,7 +12,7 @@ use snow_engine::Task;
 use std::alloc::{AllocError, Global};
 
 /// The names of the tasks.
-static TASKS: [&str; 3] = ["decide", "run", "drill"];
+static TASKS: [&str; 4] = ["decide", "run", "audit", "drill"];
 
 /// The names of the chains.
 static CHAINS: [&str; 3] = ["plain", "tally", "ledger"];
@@ -133,8 +133,8 @@ fn read(matches: &ArgMatches) -> Option<Command>
     if matches.get_str("seed").is_some() || matches.get_str("blocks").is_some() {
         return None;
     }
-    Some(Command::Serve {
-        task: task_of(matches.get_str("task")),
+    Some(Command::Stream {
+        job: job_of(matches.get_str("task")),
         chain: chain_of(matches.get_str("chain")),
         rule: rule_of(matches.get_str("rule")),
     })
@@ -163,13 +163,14 @@ fn drill(rule: Option<&str>, seed: Option<&str>, blocks: Option<&str>) -> Option
     })
 }
 
-/// The task of this tested name.
-fn task_of(name: Option<&str>) -> Task
-    ensures { result ≡ task_read (option_map (λ s. s.now) name.entry) }
+/// What is done with a stream by the task of this tested name.
+fn job_of(name: Option<&str>) -> Job
+    ensures { result ≡ job_read (option_map (λ s. s.now) name.entry) }
 {
     match name {
-        Some("run") => Task::Run,
-        _ => Task::Decide,
+        Some("run") => Job::Serve(Task::Run),
+        Some("audit") => Job::Audit,
+        _ => Job::Serve(Task::Decide),
     }
 }
 

@@ -1,31 +1,41 @@
-ghost use Rattle.std.specs.Prelude.{◌≡◌, ℕ, None, Some, map, IfSome, string_bytes};
-ghost use Rattle.std.specs.Io.KnownBytes.{IsAtEnd};
+ghost use Rattle.std.specs.Prelude.{◌≡◌, ◌≤◌, ℕ, None, Some, map, length, IfSome, OnOk, OnErr, string_bytes};
+ghost use Rattle.std.specs.Io.KnownBytes.{Appends, IsAtEnd};
+ghost use Rattle.snow_base.specs.Outside.{AppendsFront, HasCause};
 ghost use Rattle.snow_lines.specs.Text.{texts};
 ghost use Rattle.snow_engine.specs.Run.{lines_of, seen, end_of};
 ghost use Rattle.snow_engine.specs.Serving as serving;
+ghost use Rattle.snow_audit.specs.Answering as auditing;
+ghost use Rattle.snow_audit.specs.Auditing.{audit_of};
 ghost use Rattle.snow_cli.specs.Words.{command_of};
 ghost use Rattle.snow_cli.specs.Answer as model;
 
-use crate::command::{ChainName, Command, RuleName};
+use crate::command::{ChainName, Command, Job, RuleName};
+use crate::finish::Finish;
 use crate::report::report;
 use crate::status::Status;
 use crate::words::read_words;
-use snow_base::{Sink, Source};
+use snow_audit::{AuditEnd, audit};
+use snow_base::{Failed, Sink, Source, write_whole};
 use snow_chain::{Chain, PlainChain, TallyChain};
 use snow_drill::drill;
 use snow_engine::{End, Task, serve};
 use snow_flake::{Snowball, Snowflake};
 use snow_ledger::LedgerChain;
+use snow_lines::Text;
+use snow_plain::PlainBoard;
 use snow_topo::Topo;
 use std::alloc::Global;
 
 /// The top call: all that the program does. The words, without the program's name, ask for a command,
-/// and its lines for the stream of `source` go to `out`; a drill reads nothing, and writes its summary.
+/// and its lines for the stream of `source` go to `out`; an audit writes the one line of what it finds,
+/// and a drill reads nothing, and writes its summary.
 /// `Usage` where the words ask for none: then nothing is read. `BadInput` at the first frame that stops
-/// the run, with all lines before it written, and `Limit` where 2^40 bytes hold no stop. `SourceFault`,
+/// the run, with all lines before it written, and `Limit` where 2^40 bytes hold no stop. `Differs` where
+/// an audit comes upon a recorded line that isn't the model's before any stop. `SourceFault`,
 /// `SinkFault` and `Memory` end a run behind a front of its lines. The line on `err` tells how it ended,
-/// unless it is `Done`. The words, the formats and the statuses are this project's own; what is decided
+/// unless it is `Done` or `Differs`. The words, the formats and the statuses are this project's own; what is decided
 /// is what AvalancheGo's package `snow` decides with one-bit counters of the Snow family paper.
+#[tactic(auto, using(crate::proofs::Finished::answered, crate::proofs::Finished::no_usage))]
 pub fn top<S: Source, O: Sink, E: Sink>(
     alloc: Global,
     words: &Vec<String>,
@@ -38,7 +48,7 @@ pub fn top<S: Source, O: Sink, E: Sink>(
     // No others are.
     ensures only { result ≡ Status.Usage → command_of (map string_bytes words.now.items) ≡ None }
     // The status is the model's, but for the three exceptions.
-    ensures status { IfSome (S.left source.old) (λ bytes. model.IsAnswer result (model.end_for (command_of (map string_bytes words.now.items)) bytes)) }
+    ensures status { IfSome (S.left source.old) (λ bytes. model.IsAnswer result (model.finish_for (command_of (map string_bytes words.now.items)) bytes)) }
     // The bytes written are the model's.
     ensures output { IfSome (S.left source.old) (λ bytes. model.Wrote result (O.written out.old) (O.written out.new)
         (model.text_for (command_of (map string_bytes words.now.items)) bytes)) }
@@ -50,37 +60,137 @@ pub fn top<S: Source, O: Sink, E: Sink>(
     ensures fault { model.HasFault result (S.faults source.old) (S.faults source.new) (O.faults out.old) (O.faults out.new) }
     // The line on standard error is the model's, or that of the exception.
     ensures error_line { IfSome (S.left source.old) (λ bytes. model.TookLine (E.written err.old) (E.written err.new) (E.faults err.old) (E.faults err.new)
-        (model.error_line (model.told_by result (model.end_for (command_of (map string_bytes words.now.items)) bytes)))) }
+        (model.error_line (model.told_by result (model.finish_for (command_of (map string_bytes words.now.items)) bytes)))) }
     // It is one of the status, whatever the source tells.
     ensures one_line { model.TookOne result (E.written err.old) (E.written err.new) (E.faults err.old) (E.faults err.new) }
 {
     let ended = match read_words(alloc, words) {
         Ok(Some(command)) => Some(perform(alloc, command, source, out)),
         Ok(None) => None,
-        Err(_) => Some(End::Memory),
+        Err(_) => Some(Finish::Ended(End::Memory)),
     };
     report(&ended, err);
     Status::of(ended)
 }
 
 /// The run of a command.
-fn perform<S: Source, O: Sink>(alloc: Global, command: Command, source: &mut S, out: &mut O) -> End
-    ensures end { IfSome (S.left source.old) (λ bytes. IfSome (model.end_for (Some command) bytes) (λ expected. serving.IsEnd result expected)) }
+#[tactic(auto, using(crate::proofs::Finished::ended_finish, crate::proofs::Finished::ended_wrote, crate::proofs::Finished::ended_fault, crate::proofs::Finished::source_fault_is, crate::proofs::Finished::done_is))]
+fn perform<S: Source, O: Sink>(
+    alloc: Global,
+    command: Command,
+    source: &mut S,
+    out: &mut O,
+) -> Finish
+    ensures end { IfSome (S.left source.old) (λ bytes.
+        Some result ≡ model.told_by (model.status_of (Some result)) (model.finish_for (Some command) bytes)) }
     ensures output { IfSome (S.left source.old) (λ bytes.
-        serving.Wrote result (O.written out.old) (O.written out.new) (model.text_for (Some command) bytes)) }
-    ensures broken { result ≡ End.SourceFault
+        model.Wrote (model.status_of (Some result)) (O.written out.old) (O.written out.new) (model.text_for (Some command) bytes)) }
+    ensures broken { model.status_of (Some result) ≡ Status.SourceFault
         → model.BrokeFor (Some command) (S.left source.old) (S.left source.new) (O.written out.old) (O.written out.new) }
-    ensures read { result ≡ End.Done → model.ReadFor S.left (Some command) source.old source.new }
-    ensures fault { serving.HasFault result (S.faults source.old) (S.faults source.new) (O.faults out.old) (O.faults out.new) }
+    ensures read { model.status_of (Some result) ≡ Status.Done → model.ReadFor S.left (Some command) source.old source.new }
+    ensures fault { model.HasFault (model.status_of (Some result)) (S.faults source.old) (S.faults source.new) (O.faults out.old) (O.faults out.new) }
 {
     match command {
-        Command::Serve { task, chain, rule } => match chain {
-            ChainName::Plain => run::<PlainChain, S, O>(alloc, task, rule, source, out),
-            ChainName::Tally => run::<TallyChain, S, O>(alloc, task, rule, source, out),
-            ChainName::Ledger => run::<LedgerChain, S, O>(alloc, task, rule, source, out),
+        Command::Stream { job, chain, rule } => match chain {
+            ChainName::Plain => work::<PlainChain, S, O>(alloc, job, rule, source, out),
+            ChainName::Tally => work::<TallyChain, S, O>(alloc, job, rule, source, out),
+            ChainName::Ledger => work::<LedgerChain, S, O>(alloc, job, rule, source, out),
         },
-        Command::Drill { rule, seed, blocks } => play(alloc, rule, seed, blocks, out),
+        Command::Drill { rule, seed, blocks } => Finish::Ended(play(
+            alloc, rule, seed, blocks, out,
+        )),
     }
+}
+
+/// What is done with a stream over this chain.
+#[tactic(auto, using(crate::proofs::Finished::ended_finish, crate::proofs::Finished::ended_wrote, crate::proofs::Finished::ended_fault, crate::proofs::Finished::source_fault_is, crate::proofs::Finished::done_is))]
+fn work<C: Chain, S: Source, O: Sink>(
+    alloc: Global,
+    job: Job,
+    rule: RuleName,
+    source: &mut S,
+    out: &mut O,
+) -> Finish
+    ensures end { IfSome (S.left source.old) (λ bytes. model.IsFinish result (model.job_finish job C.rules (model.answer_of rule) bytes)) }
+    ensures output { IfSome (S.left source.old) (λ bytes.
+        model.Wrote (model.status_of (Some result)) (O.written out.old) (O.written out.new) (model.job_text job C.rules (model.answer_of rule) bytes)) }
+    ensures broken { model.status_of (Some result) ≡ Status.SourceFault
+        → model.BrokeAt job C.rules (model.answer_of rule) (S.left source.old) (S.left source.new) (O.written out.old) (O.written out.new) }
+    ensures read { model.status_of (Some result) ≡ Status.Done → IsAtEnd (S.left source.new) }
+    ensures fault { model.HasFault (model.status_of (Some result)) (S.faults source.old) (S.faults source.new) (O.faults out.old) (O.faults out.new) }
+{
+    match job {
+        Job::Serve(task) => Finish::Ended(run::<C, S, O>(alloc, task, rule, source, out)),
+        Job::Audit => check::<C, S, O>(alloc, rule, source, out),
+    }
+}
+
+/// The audit of a run over this chain, with its one line.
+fn check<C: Chain, S: Source, O: Sink>(
+    alloc: Global,
+    rule: RuleName,
+    source: &mut S,
+    out: &mut O,
+) -> Finish
+    ensures end { IfSome (S.left source.old) (λ bytes. model.IsFinish result (model.audit_finish (audit_of C.rules (model.answer_of rule) bytes))) }
+    ensures output { IfSome (S.left source.old) (λ bytes.
+        model.Wrote (model.status_of (Some result)) (O.written out.old) (O.written out.new) (model.audit_text (audit_of C.rules (model.answer_of rule) bytes))) }
+    ensures broken { model.status_of (Some result) ≡ Status.SourceFault → O.written out.new ≡ O.written out.old }
+    ensures read { model.status_of (Some result) ≡ Status.Done → IsAtEnd (S.left source.new) }
+    ensures fault { model.HasFault (model.status_of (Some result)) (S.faults source.old) (S.faults source.new) (O.faults out.old) (O.faults out.new) }
+{
+    let found = audited::<C, S>(alloc, rule, source);
+    tell(found, out)
+}
+
+/// The audit of a run over this chain. It goes over the plain board, which shares no tree with `run`.
+fn audited<C: Chain, S: Source>(alloc: Global, rule: RuleName, source: &mut S) -> AuditEnd
+    ensures answer { IfSome (S.left source.old) (λ bytes. auditing.IsAnswer result (audit_of C.rules (model.answer_of rule) bytes)) }
+    ensures told { auditing.IsTold result }
+    ensures read { auditing.IsRead result (IsAtEnd (S.left source.new)) }
+    ensures fault { auditing.HasFault result (S.faults source.old) (S.faults source.new) }
+{
+    match rule {
+        RuleName::Snowball => audit::<C, PlainBoard<Snowball>, S>(alloc, source),
+        RuleName::Snowflake => audit::<C, PlainBoard<Snowflake>, S>(alloc, source),
+    }
+}
+
+/// Writes the line of what an audit found; there is none where it stopped.
+fn tell<O: Sink>(found: AuditEnd, out: &mut O) -> Finish
+    ensures { model.Told result found (O.written out.old) (O.written out.new) (O.faults out.old) (O.faults out.new) }
+{
+    match found {
+        AuditEnd::Same { lines } => {
+            unless_failed(put(b"same", lines, out), Finish::Ended(End::Done))
+        }
+        AuditEnd::Differs { line } => unless_failed(put(b"differs", line, out), Finish::Differs),
+        AuditEnd::Stopped(end) => Finish::Ended(end),
+    }
+}
+
+/// How a command ends whose line was written, or not.
+fn unless_failed(written: Result<(), Failed>, finish: Finish) -> Finish
+    ensures { result ≡ model.unless_failed written finish }
+{
+    match written {
+        Ok(()) => finish,
+        Err(_) => Finish::Ended(End::SinkFault),
+    }
+}
+
+/// Writes a line of a word and a number.
+fn put<O: Sink>(word: &[u8], number: u64, out: &mut O) -> Result<(), Failed>
+    requires { length word.now ≤ 8 }
+    ensures ok { OnOk result (Appends (O.written out.old) (O.written out.new) (model.number_line word.now number)) }
+    ensures err { OnErr result (AppendsFront (O.written out.old) (O.written out.new) (model.number_line word.now number)) }
+    ensures cause { HasCause (O.faults out.old) (O.faults out.new) result }
+{
+    let mut line: Text<32> = Text::new();
+    line.push(word);
+    line.push_number(b' ', number);
+    line.push(b"\n");
+    write_whole(out, line.as_slice())
 }
 
 /// A drill by this rule.

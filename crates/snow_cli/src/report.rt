@@ -1,6 +1,7 @@
 ghost use Rattle.std.specs.Prelude.{◌≡◌, ◌+◌, ◌≤◌, [], ◌++◌, length};
-ghost use Rattle.snow_cli.specs.Answer.{TookLine, bad_line, boot_line, error_line, fault_word, kind_word, roster_word, stop_text};
+ghost use Rattle.snow_cli.specs.Answer.{TookLine, bad_line, boot_line, end_line, error_line, fault_word, kind_word, roster_word, stop_text};
 
+use crate::finish::Finish;
 use snow_base::{Sink, write_whole};
 use snow_boot::BootStop;
 use snow_engine::{BadKind, End};
@@ -8,8 +9,8 @@ use snow_flake::ParamFault;
 use snow_lines::Text;
 use snow_sample::RosterFault;
 
-/// Tells on standard error how a run ended, or that nothing was run. A fault there changes nothing.
-pub fn report<E: Sink>(ended: &Option<End>, err: &mut E)
+/// Tells on standard error how a command ended, or that there was none. A fault there changes nothing.
+pub fn report<E: Sink>(ended: &Option<Finish>, err: &mut E)
     ensures { TookLine (E.written err.old) (E.written err.new) (E.faults err.old) (E.faults err.new) (error_line ended.now) }
 {
     let mut line: Text<192> = Text::new();
@@ -17,21 +18,33 @@ pub fn report<E: Sink>(ended: &Option<End>, err: &mut E)
     let _ = write_whole(err, line.as_slice());
 }
 
-/// Puts the line for how a run ended, or that nothing was run. It is empty where all is done.
-fn put_line(ended: &Option<End>, line: &mut Text<192>)
+/// Puts the line for how a command ended, or that there was none. It is empty where all is done, and
+/// where an audit differs.
+fn put_line(ended: &Option<Finish>, line: &mut Text<192>)
     requires { line.old ≡ [] }
     ensures { line.new ≡ error_line ended.now }
 {
     match ended {
         None => line.push(b"snowman: usage\n"),
-        Some(End::Done) => {}
-        Some(End::BadInput { frame, kind }) => put_bad_line(*frame, kind, line),
-        Some(End::SourceFault) => line.push(b"snowman: source fault\n"),
-        Some(End::SinkFault) => line.push(b"snowman: sink fault\n"),
-        Some(End::Memory) => line.push(b"snowman: out of memory\n"),
-        Some(End::InputLimit) => line.push(b"snowman: input limit\n"),
-        Some(End::RequestLimit) => line.push(b"snowman: request limit\n"),
-        Some(End::BootStopped(why)) => put_boot_line(why, line),
+        Some(Finish::Differs) => {}
+        Some(Finish::Ended(end)) => put_end(end, line),
+    }
+}
+
+/// Puts the line for how a run ended. It is empty where all is done.
+fn put_end(end: &End, line: &mut Text<192>)
+    requires { line.old ≡ [] }
+    ensures { line.new ≡ end_line end.now }
+{
+    match end {
+        End::Done => {}
+        End::BadInput { frame, kind } => put_bad_line(*frame, kind, line),
+        End::SourceFault => line.push(b"snowman: source fault\n"),
+        End::SinkFault => line.push(b"snowman: sink fault\n"),
+        End::Memory => line.push(b"snowman: out of memory\n"),
+        End::InputLimit => line.push(b"snowman: input limit\n"),
+        End::RequestLimit => line.push(b"snowman: request limit\n"),
+        End::BootStopped(why) => put_boot_line(why, line),
     }
 }
 

@@ -1,6 +1,7 @@
 ghost use Rattle.std.specs.Prelude.{◌≡◌};
-ghost use Rattle.snow_cli.specs.Answer.{exit_code, status_of};
+ghost use Rattle.snow_cli.specs.Answer.{end_status, exit_code, status_of};
 
+use crate::finish::Finish;
 use snow_engine::End;
 
 /// How the program ended.
@@ -22,6 +23,8 @@ pub enum Status {
     Limit,
     /// Bootstrapping stopped.
     BootStopped,
+    /// The lines of the run that was audited aren't the model's.
+    Differs,
 }
 
 impl Status {
@@ -38,23 +41,34 @@ impl Status {
             Status::Memory => 6,
             Status::Limit => 7,
             Status::BootStopped => 8,
+            Status::Differs => 9,
         }
     }
 
-    /// The status for how a run ended; `Usage` where nothing was run.
-    pub(crate) fn of(ended: Option<End>) -> Status
+    /// The status for how a command ended; `Usage` where there was none.
+    pub(crate) fn of(ended: Option<Finish>) -> Status
         ensures { result ≡ status_of ended }
     {
         match ended {
             None => Status::Usage,
-            Some(End::Done) => Status::Done,
-            Some(End::BadInput { .. }) => Status::BadInput,
-            Some(End::SourceFault) => Status::SourceFault,
-            Some(End::SinkFault) => Status::SinkFault,
-            Some(End::Memory) => Status::Memory,
-            Some(End::InputLimit) => Status::Limit,
-            Some(End::RequestLimit) => Status::Limit,
-            Some(End::BootStopped(_)) => Status::BootStopped,
+            Some(Finish::Differs) => Status::Differs,
+            Some(Finish::Ended(end)) => Status::of_end(end),
+        }
+    }
+
+    /// The status for how a run ended.
+    fn of_end(end: End) -> Status
+        ensures { result ≡ end_status end }
+    {
+        match end {
+            End::Done => Status::Done,
+            End::BadInput { .. } => Status::BadInput,
+            End::SourceFault => Status::SourceFault,
+            End::SinkFault => Status::SinkFault,
+            End::Memory => Status::Memory,
+            End::InputLimit => Status::Limit,
+            End::RequestLimit => Status::Limit,
+            End::BootStopped(_) => Status::BootStopped,
         }
     }
 }

@@ -6,7 +6,7 @@ use crate::ordering::order;
 use crate::parsing::command_of_ordered;
 use std::alloc::{AllocError, Global};
 
-/// What the words of the command line, without the program's name, ask for: the task `decide` or `run` with
+/// What the words of the command line, without the program's name, ask for: the task `decide`, `run` or `audit` with
 /// `--chain plain`, `--chain tally` or `--chain ledger`, and `--rule snowball` or `--rule snowflake`,
 /// where the first of each is the default. There is none where a word has no place, or an option stands
 /// twice.

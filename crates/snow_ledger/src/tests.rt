@@ -113,6 +113,8 @@ fn transfers_are_read(rt: HostRuntime) -> Result<(), Fail> {
     };
     assert_eq!(rt; transfer(&bytes, 1), Some(second));
     assert_eq!(rt; transfer(&bytes, 2), None);
-    assert_eq!(rt; transfer(&bytes[..81], 0), None);
+    if let Some((_, front)) = bytes.split_last() {
+        assert_eq!(rt; transfer(front, 0), None);
+    }
     Ok(())
 }

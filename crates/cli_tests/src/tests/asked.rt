@@ -8,7 +8,7 @@ const NOTHING: &[&[&str]] = &[
     &[],
     &["run", "--chain", "plain", "--chain", "tally"],
     &["drill", "--seed", "1"],
-    &["audit"],
+    &["audit", "--seed", "1"],
     &["run", "decide"],
     &["decide", "--rule", "avalanche"],
     &["--help"],

@@ -37,6 +37,10 @@ pub enum Frame {
     Brought(u32, Name, Name, u8, u8),
     /// Random words: how often this one.
     Words(usize, u64),
+    /// Two random words.
+    Pair(u64, u64),
+    /// A line that a run wrote, without its end.
+    Line(&'static str),
     /// A vote of a node in a poll.
     Chits(u8, u32, Name),
     /// A node doesn't answer a request.
@@ -149,6 +153,8 @@ fn put_payload(out: &mut Vec<u8>, frame: Frame) -> Result<(), AllocError> {
             put_block(out, number, id, parent, height, flag)
         }
         Frame::Words(count, word) => put_words(out, count, word),
+        Frame::Pair(first, second) => put_pair(out, first, second),
+        Frame::Line(line) => put_line(out, line),
         Frame::Chits(node, number, id) => put_vote(out, node, number, id),
         Frame::Timeout(node, number) => put_message(out, 6, node, number),
         Frame::Ask(tag, node, number, blocks) => put_asked(out, tag, node, number, blocks),
@@ -340,6 +346,36 @@ fn put_poll(out: &mut Vec<u8>, votes: &[Name]) -> Result<(), AllocError> {
         put_name(out, *vote)?;
     }
     Ok(())
+}
+
+fn put_pair(out: &mut Vec<u8>, first: u64, second: u64) -> Result<(), AllocError> {
+    out.extend_from_slice(&[4, 0, 2])?;
+    out.extend_from_slice(&first.to_be_bytes())?;
+    out.extend_from_slice(&second.to_be_bytes())
+}
+
+/// A recorded line: its tag, the length of its text, and its text.
+fn put_line(out: &mut Vec<u8>, line: &str) -> Result<(), AllocError> {
+    out.push(17)?;
+    out.extend_from_slice(&word(text_len(line)).to_be_bytes())?;
+    put_text(out, line)
+}
+
+/// How many bytes the text of a line has.
+fn text_len(line: &str) -> usize {
+    let mut len = 0usize;
+    for byte in line.as_bytes() {
+        len = len.wrapping_add(digits_len(*byte));
+    }
+    len
+}
+
+fn digits_len(byte: u8) -> usize {
+    match byte {
+        b'~' => 60,
+        b'P'..=b'T' => 40,
+        _ => 1,
+    }
 }
 
 fn put_zeros(out: &mut Vec<u8>, tag: u8, count: usize) -> Result<(), AllocError> {

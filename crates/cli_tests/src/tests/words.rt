@@ -1,4 +1,4 @@
-use snow_cli::{ChainName, Command, RuleName, read_words};
+use snow_cli::{ChainName, Command, Job, RuleName, read_words};
 use snow_engine::Task;
 use std::alloc::{AllocError, Global};
 use std::test::Fail;
@@ -18,8 +18,8 @@ fn answers(rt: HostRuntime) -> Result<(), Fail> {
     let alloc = rt.alloc();
     let words = collect(alloc, &["decide", "--chain", "tally", "--rule=snowflake"])?;
     let command = read_words(alloc, &words)?;
-    let expected = Command::Serve {
-        task: Task::Decide,
+    let expected = Command::Stream {
+        job: Job::Serve(Task::Decide),
         chain: ChainName::Tally,
         rule: RuleName::Snowflake,
     };

@@ -1,0 +1,9 @@
+pub mod Answered
+pub mod Examples
+pub mod Followed
+pub mod Framed
+pub mod Owing
+pub mod OwnLines
+pub mod Printed
+pub mod Stepped
+pub mod Taken
