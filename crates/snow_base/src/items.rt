@@ -37,6 +37,13 @@ impl<T: Drop> Items<T> {
         Ok(Items { items })
     }
 
+    /// The list of these items, in the memory that they stand in.
+    pub fn from_vec(items: Vec<T>) -> Self
+        ensures { result ≡ items.items }
+    {
+        Items { items }
+    }
+
     /// Appends an item. After want of memory the list is as before.
     #[inline(always)]
     pub fn push(&mut self, item: T) -> Result<(), AllocError>
@@ -73,22 +80,22 @@ impl<T: Drop> Items<T> {
     }
 }
 
-impl Items<u8> {
-    /// The list of these bytes.
-    pub fn from_slice(alloc: Global, bytes: &[u8]) -> Result<Self, AllocError>
-        ensures { IfOk result (λ list. list ≡ bytes.now) }
+impl<T: Copy + Drop> Items<T> {
+    /// The list of these items.
+    pub fn from_slice(alloc: Global, items: &[T]) -> Result<Self, AllocError>
+        ensures { IfOk result (λ list. list ≡ items.now) }
     {
-        let mut list = Items::with_capacity(alloc, bytes.len())?;
-        list.append(bytes)?;
+        let mut list = Items::with_capacity(alloc, items.len())?;
+        list.append(items)?;
         Ok(list)
     }
 
-    /// Appends these bytes. After want of memory the list is as before.
-    pub fn append(&mut self, bytes: &[u8]) -> Result<(), AllocError>
-        ensures ok { OnOk result (self.new ≡ self.old ++ bytes.now) }
+    /// Appends these items. After want of memory the list is as before.
+    pub fn append(&mut self, items: &[T]) -> Result<(), AllocError>
+        ensures ok { OnOk result (self.new ≡ self.old ++ items.now) }
         ensures err { OnErr result (self.new ≡ self.old) }
     {
-        self.items.extend_from_slice(bytes)?;
+        self.items.extend_from_slice(items)?;
         Ok(())
     }
 }
