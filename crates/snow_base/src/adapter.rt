@@ -7,8 +7,9 @@ use crate::outside::{Failed, Sink, Source};
 use std::io::{ErrorKind, Read, Write};
 use std::marker::Model;
 
-/// A source over a reader, as standard input. It tells the bytes that the reader tells: those of
-/// standard input are not told. Contracts see these bytes and the count of faults.
+/// A source over a reader of std, as standard input. Contracts see the bytes that the reader tells,
+/// and a count of faults below 2^64. Standard input tells no bytes.
+/// Rule: this project's own.
 #[derive(Drop)]
 pub struct ReadSource<R: Read + Drop> {
     reader: R,
@@ -24,7 +25,9 @@ impl<R: Read + Drop> Model for ReadSource<R> {
 }
 
 impl<R: Read + Drop> ReadSource<R> {
-    /// The source over this reader, with no fault yet.
+    /// Returns the source over this reader. It has no fault yet, and it reads nothing before its
+    /// first call.
+    /// Rule: this project's own.
     pub fn new(reader: R) -> Self
         ensures { result ≡ record { known = R.remaining reader; faults = 0 } }
     {
@@ -53,9 +56,9 @@ impl<R: Read + Drop> Source for ReadSource<R> {
     }
 }
 
-/// A sink over a writer, as standard output or standard error. It tells the bytes that the writer
-/// tells: those of the standard streams are not told. Contracts see these bytes and the count of
-/// faults.
+/// A sink over a writer of std, as standard output or standard error. Contracts see the bytes that
+/// the writer tells, and a count of faults below 2^64. The standard streams tell no bytes.
+/// Rule: this project's own.
 #[derive(Drop)]
 pub struct WriteSink<W: Write + Drop> {
     writer: W,
@@ -71,7 +74,9 @@ impl<W: Write + Drop> Model for WriteSink<W> {
 }
 
 impl<W: Write + Drop> WriteSink<W> {
-    /// The sink over this writer, with no fault yet.
+    /// Returns the sink over this writer. It has no fault yet, and it writes nothing before its
+    /// first call.
+    /// Rule: this project's own.
     pub fn new(writer: W) -> Self
         ensures { result ≡ record { known = W.contents writer; faults = 0 } }
     {
