@@ -85,7 +85,9 @@ fn let_all_go<T: Drop>(tree: &Tree<T>, ladder: &mut Ladder, votes: &[Vote])
     }
 }
 
-/// The votes of a poll, each past its own block, where this is pending. It takes no memory.
+/// Puts the votes of a poll on an empty ladder, each past its own block, where this is pending. The
+/// ladder is ready for the pending blocks and for so many votes, so it takes no memory.
+/// Rule: AvalancheGo, snow/consensus/snowman.
 pub fn start_votes<T: Drop>(tree: &Tree<T>, ladder: &mut Ladder, votes: &[Vote])
     requires ready { IsReady (length (tree.now).pending) ladder.old }
     requires few { total_count votes.now ≤ (ladder.old).votes }
@@ -240,8 +242,10 @@ fn start_each<T: Drop>(tree: &Tree<T>, ladder: &mut Ladder, ids: &[Id])
     let_each_go(tree, ladder, ids);
 }
 
-/// Votes of a poll past their own blocks that do what one vote for each of these identifiers does: a
-/// single one, where it stands for all. It takes no memory.
+/// Puts votes on an empty ladder that do what one vote for each of these identifiers does, at most
+/// K of them: a single vote, where one stands for all. The ladder is ready for the pending blocks
+/// and for so many votes, so it takes no memory.
+/// Rule: AvalancheGo, snow/consensus/snowman.
 #[inline(always)]
 pub fn start_ids<T: Drop>(params: &Params, tree: &Tree<T>, ladder: &mut Ladder, ids: &[Id])
     requires ready { IsReady (length (tree.now).pending) ladder.old }

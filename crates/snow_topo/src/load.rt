@@ -13,9 +13,10 @@ use std::alloc::{AllocError, Global};
 use std::marker::Model;
 use std::sync::ledger::Ledger;
 
-/// What the board keeps of a block: the tree of its children, once it has one, and the number of the
-/// poll that this recorded last. Polls since then have failed the tree, which none of them touched.
-/// Contracts see the children with their counters, and that number.
+/// What the board keeps of a block: the tree of its children, once it has one, and the number of
+/// the poll that this recorded last. Polls since then have failed the tree, which none of them
+/// touched. Contracts see the children with their counters, and that number.
+/// Rule: this project's own.
 #[derive(Debug, Drop)]
 pub struct Load<R: Rule> {
     trie: Contest<R>,

@@ -6,8 +6,10 @@ use crate::field::{Field, write_counted, write_sized, write_u32, write_u64};
 use snow_base::{Bytes, Id, Items, NodeId};
 use std::alloc::{AllocError, Global};
 
-/// The one spelling of an event whose counts and lengths are in their ranges; an error is want of
-/// memory.
+/// Returns the one spelling of an event whose counts and lengths are in their ranges: a block has
+/// at most 65,536 bytes, a Poll 1,024 votes, an Ancestors 2,048 blocks, a Line 1,100,000 bytes, and
+/// any other list 4,096 items. On want of memory it returns `AllocError`; it refuses nothing else.
+/// Rule: this project's own.
 pub fn encode(alloc: Global, event: &Event) -> Result<Bytes, AllocError>
     requires { IsWithinLimits event.now }
     ensures { IfOk result (λ bytes. bytes ≡ spelling event.now) }

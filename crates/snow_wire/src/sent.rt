@@ -11,7 +11,8 @@ use crate::skip::Skip;
 use snow_base::{Ids, NodeId};
 use std::alloc::AllocError;
 
-/// A block that came, its bytes still where they stand in the payload of its frame.
+/// A Block event whose bytes still stand in the payload of its frame.
+/// Rule: this project's own.
 #[derive(Clone, Copy, Debug, PartialEq, Eq)]
 pub struct SentBlock<'a> {
     /// The peer that sent it.
@@ -22,7 +23,8 @@ pub struct SentBlock<'a> {
     pub bytes: &'a [u8],
 }
 
-/// A vote that came, its bytes still where they stand in the payload of its frame.
+/// A Chits event whose bytes still stand in the payload of its frame.
+/// Rule: this project's own.
 #[derive(Clone, Copy, Debug, PartialEq, Eq)]
 pub struct SentVote<'a> {
     /// The peer that sent it.
@@ -33,7 +35,8 @@ pub struct SentVote<'a> {
     pub id: &'a [u8; 32],
 }
 
-/// A timeout that came: a peer won't reply. Its bytes still stand in the payload of its frame.
+/// A Timeout event whose bytes still stand in the payload of its frame: a peer won't reply.
+/// Rule: this project's own.
 #[derive(Clone, Copy, Debug, PartialEq, Eq)]
 pub struct SentTimeout<'a> {
     /// The peer that won't reply.
@@ -48,8 +51,9 @@ const VOTE: usize = 57;
 /// The length of each payload that spells a timeout.
 const TIMEOUT: usize = 25;
 
-/// The block that a payload brings, where it spells a Block: the event that `decode` gives, and no
-/// byte of the block is copied. It takes no memory. None for all other payloads.
+/// Returns the block that a payload brings, where it spells a Block: the event that `decode` gives,
+/// with no byte of the block copied. It returns `None` for all other payloads. It takes no memory.
+/// Rule: this project's own.
 pub fn block_in(payload: &[u8]) -> Option<SentBlock<'_>>
     ensures found { IfSome result (λ block. event_of payload.now ≡ Ok (as_event block)) }
     ensures none { IfNone result ((node : List ℕ) (request : ℕ) (bytes : List ℕ)
@@ -98,8 +102,9 @@ pub(crate) fn read_block<'a>(reader: &mut Reader<'a>) -> Result<SentBlock<'a>, S
     })
 }
 
-/// The vote that a payload brings, where it spells a Chits: the event that `decode` gives, and no byte
-/// is copied. It takes no memory. None for all other payloads.
+/// Returns the vote that a payload brings, where it spells a Chits: the event that `decode` gives,
+/// with no byte copied. It returns `None` for all other payloads. It takes no memory.
+/// Rule: this project's own.
 #[inline(always)]
 pub fn vote_in(payload: &[u8]) -> Option<SentVote<'_>>
     ensures found { IfSome result (λ vote. event_of payload.now ≡ Ok (as_vote vote)) }
@@ -171,8 +176,9 @@ pub(crate) fn read_vote<'a>(reader: &mut Reader<'a>) -> Result<SentVote<'a>, Ski
     Ok(SentVote { node, request, id })
 }
 
-/// The timeout that a payload brings, where it spells a Timeout: the event that `decode` gives, and no byte
-/// is copied. It takes no memory. None for all other payloads.
+/// Returns the timeout that a payload brings, where it spells a Timeout: the event that `decode`
+/// gives, with no byte copied. It returns `None` for all other payloads. It takes no memory.
+/// Rule: this project's own.
 #[inline(always)]
 pub fn timeout_in(payload: &[u8]) -> Option<SentTimeout<'_>>
     ensures found { IfSome result (λ timeout. event_of payload.now ≡ Ok (as_timeout timeout)) }
@@ -213,8 +219,10 @@ pub(crate) fn read_timeout<'a>(reader: &mut Reader<'a>) -> Result<SentTimeout<'a
     Ok(SentTimeout { node, request })
 }
 
-/// Puts the votes of a Poll into a list, in place of what it held, where a payload spells one: then it is
-/// the event that `decode` gives. False for all other payloads.
+/// Puts the votes of a payload that spells a Poll into `ids`, in place of what the list held, and
+/// returns `true`: `decode` gives the Poll of these identifiers. It returns `false` for all other
+/// payloads. On want of memory it returns `AllocError`.
+/// Rule: this project's own.
 #[inline(always)]
 pub fn poll_in(payload: &[u8], ids: &mut Ids) -> Result<bool, AllocError>
     ensures found { result ≡ Ok true → event_of payload.now ≡ Ok (event.Poll ids.new) }
@@ -275,8 +283,10 @@ fn read_votes<'a>(reader: &mut Reader<'a>) -> Result<&'a [u8], Skip>
     Ok(bytes)
 }
 
-/// The text of the line that a payload records, where it spells a Line: the event that `decode` gives,
-/// and no byte is copied. It takes no memory. None for all other payloads.
+/// Returns the text of the line that a payload records, where it spells a Line: the event that
+/// `decode` gives, with no byte copied. It returns `None` for all other payloads. It takes no
+/// memory.
+/// Rule: this project's own.
 pub fn line_in(payload: &[u8]) -> Option<&[u8]>
     ensures found { IfSome result (λ text. event_of payload.now ≡ Ok (as_line text)) }
     ensures none { IfNone result ((text : List ℕ) → event_of payload.now ≢ Ok (event.Line text)) }
