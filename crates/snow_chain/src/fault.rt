@@ -1,7 +1,8 @@
 use std::alloc::AllocError;
 use thiserror::Error;
 
-/// Why a chain can't begin.
+/// Why `Chain::begin` begins no chain.
+/// Rule: this project's own.
 #[derive(Clone, Copy, Debug, PartialEq, Eq, Error)]
 pub enum ChainFault {
     /// The chain's rules don't take the state.

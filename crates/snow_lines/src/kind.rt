@@ -3,6 +3,7 @@ ghost use Rattle.std.specs.Str.{bytes_eq};
 ghost use Rattle.snow_lines.specs.Names.{answering, asking, kind_in, telling};
 
 /// The kinds of lines.
+/// Rule: this project's own.
 #[derive(Clone, Copy)]
 pub enum Kind {
     Query,
@@ -29,7 +30,8 @@ impl Kind {
     ghost use Rattle.std.specs.Prelude.{◌≡◌, ◌≤◌, length};
     ghost use Rattle.snow_lines.specs.Names.{line_kind_of, line_name};
 
-    /// The word with which the lines of this kind begin.
+    /// Returns the word with which the lines of this kind begin, at most 12 bytes.
+    /// Rule: this project's own.
     pub fn word(&self) -> &'static [u8]
         ensures word { result.now ≡ line_name self.now }
         ensures short { length result.now ≤ 12 }
@@ -56,7 +58,8 @@ impl Kind {
         }
     }
 
-    /// The kind of the lines that begin with this word.
+    /// Returns the kind of the lines that begin with this word, or `None` where no line does.
+    /// Rule: this project's own.
     pub fn of(word: &[u8]) -> Option<Self>
         ensures { result ≡ line_kind_of word.now }
     {

@@ -54,7 +54,8 @@ fn put(lanes: u8x16, place: &mut [u8])
     lanes.copy_to_slice(place);
 }
 
-/// Writes the digits of sixteen bytes over a slice of just their length.
+/// Writes the digits of 16 bytes over a slice of 32 bytes.
+/// Rule: this project's own.
 #[tactic(auto, using(crate::proofs::Sixteen::whole))]
 #[inline(always)]
 pub fn write_sixteen(bytes: &[u8], digits: &mut [u8])
@@ -78,7 +79,8 @@ fn put_last(lanes: u8x16, place: &mut [u8])
     last.copy_to_slice(place);
 }
 
-/// Writes the digits of the last four of sixteen bytes over a slice of just their length.
+/// Writes the digits of the last four of 16 bytes over a slice of 8 bytes.
+/// Rule: this project's own.
 #[inline(always)]
 pub fn write_last_four(bytes: &[u8], digits: &mut [u8])
     requires bytes { length bytes.now ≡ 16 }

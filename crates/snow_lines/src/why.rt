@@ -1,7 +1,8 @@
 use crate::field::Field;
 use crate::kind::is;
 
-/// Why a block is given up.
+/// Why a `drop` line gives a block up.
+/// Rule: this project's own.
 #[derive(Clone, Copy, PartialEq, Eq)]
 pub enum DropWhy {
     /// Its parent isn't on the board.
@@ -14,7 +15,8 @@ pub enum DropWhy {
     Old,
 }
 
-/// Why a query isn't sent.
+/// Why a `drop-query` line sends no query.
+/// Rule: this project's own.
 #[derive(Clone, Copy, PartialEq, Eq)]
 pub enum QueryWhy {
     /// There is no room for another poll.
@@ -25,7 +27,8 @@ pub enum QueryWhy {
     Words,
 }
 
-/// Why bootstrapping begins again.
+/// Why a `restart` line begins bootstrapping again.
+/// Rule: this project's own.
 #[derive(Clone, Copy, PartialEq, Eq)]
 pub enum RestartWhy {
     /// Too little came back of the accepted frontier.
@@ -34,7 +37,8 @@ pub enum RestartWhy {
     Accepted,
 }
 
-/// Why a frame is passed over.
+/// Why a `skip` line passes a frame over.
+/// Rule: this project's own.
 #[derive(Clone, Copy, PartialEq, Eq)]
 pub enum SkipKind {
     /// Its first byte is no tag.
