@@ -17,7 +17,8 @@ use snow_plain::Board;
 use snow_wire::{Decoder, ReadFault};
 use std::alloc::Global;
 
-/// An audit over a stream: the bytes that wait for a whole frame, and what is known of the run.
+/// An audit over a stream: the bytes that wait for a whole frame, and the follower of the run.
+/// Rule: this project's own.
 #[derive(Drop)]
 pub struct Auditor<C: Chain, B: Board> {
     pub decoder: Decoder,
@@ -25,7 +26,8 @@ pub struct Auditor<C: Chain, B: Board> {
 }
 
 impl<C: Chain, B: Board> Auditor<C, B> {
-    /// An audit to which nothing came yet.
+    /// Returns the audit to which nothing came yet.
+    /// Rule: this project's own.
     pub fn new(alloc: Global) -> Self
         ensures decoder { result.decoder ≡ fresh }
         ensures stop { result.follower.stop ≡ None }
@@ -41,7 +43,9 @@ impl<C: Chain, B: Board> Auditor<C, B> {
         }
     }
 
-    /// Takes pieces until the source ends, the audit has its answer, or 2^40 bytes were taken.
+    /// Takes pieces until the source ends, the audit has its answer, or 2^40 bytes came, and
+    /// returns what `audit` does. Nothing came before.
+    /// Rule: this project's own.
     pub fn run<S: Source>(&mut self, source: &mut S) -> AuditEnd
         requires decoder { self.old.decoder ≡ fresh }
         requires stop { self.old.follower.stop ≡ None }

@@ -16,8 +16,9 @@ use snow_plain::Board;
 use snow_wire::line_in;
 use std::alloc::Global;
 
-/// What is known of a run behind the frames that came: the run as the model makes it, with the lines of
-/// its last event, and how many of those are recorded.
+/// The run as the model makes it from the frames that came, with the lines of its last event, and
+/// how many of those are recorded.
+/// Rule: this project's own.
 #[derive(Drop)]
 pub struct Follower<C: Chain, B: Board> {
     pub runner: Runner<C, B>,
@@ -33,7 +34,8 @@ pub struct Follower<C: Chain, B: Board> {
 }
 
 impl<C: Chain, B: Board> Follower<C, B> {
-    /// Nothing came yet.
+    /// Returns the follower to which nothing came yet.
+    /// Rule: this project's own.
     pub fn new(alloc: Global) -> Self
         ensures stop { result.stop ≡ None }
         ensures engine { result.runner.engine ≡ None }
@@ -52,8 +54,10 @@ impl<C: Chain, B: Board> Follower<C, B> {
         }
     }
 
-    /// Takes a frame: a recorded line is held against the model's, and an event is the run's next. The
-    /// answer of the audit, where the frame gives it.
+    /// Takes a frame: it holds a recorded line against the model's, and an event is the run's next.
+    /// Where the frame gives the answer of the audit, it returns that as its error; on want of
+    /// memory, that is `Stopped(Memory)`.
+    /// Rule: this project's own.
     pub fn take(&mut self, frame: u64, payload: &[u8]) -> Result<(), AuditEnd>
         requires task { self.old.runner.task ≡ task.Run }
         requires stop { IsKept self.old.stop }
@@ -231,7 +235,9 @@ impl<C: Chain, B: Board> Follower<C, B> {
         Ok(())
     }
 
-    /// The answer where no frame comes any more, and the stream ends so.
+    /// Returns the answer of the audit where no frame comes any more and the stream ends so. Fewer
+    /// than 2^64-1 lines came.
+    /// Rule: this project's own.
     pub fn at_end(&self, stream: End) -> AuditEnd
         requires { self.now.lines < 2 ^ 64 - 1 }
         ensures { result ≡ at_end (between self.now.stop self.now.runner.engine self.now.events self.now.lines self.now.at self.now.runner.log)

@@ -8,8 +8,9 @@ use snow_lines::{Line, print};
 use std::alloc::{AllocError, Global};
 use std::marker::Model;
 
-/// A sheet on which a line is printed, in memory that is used again. It fails where there is none for
-/// the line.
+/// A sheet on which a line is printed, in memory that it uses again. It fails where there is none
+/// for the line.
+/// Rule: this project's own.
 #[derive(Drop)]
 pub struct Sheet {
     bytes: Bytes,
@@ -26,6 +27,7 @@ impl Model for Sheet {
 
 impl Sheet {
     /// An empty sheet. It takes no memory.
+    /// Rule: this project's own.
     pub fn new(alloc: Global) -> Self {
         Sheet {
             bytes: Bytes::new(alloc),
@@ -33,7 +35,9 @@ impl Sheet {
         }
     }
 
-    /// Whether this is the text of a line, but for the newline behind it.
+    /// Returns whether these bytes are the text of a line without its newline. On want of memory it
+    /// returns `AllocError`.
+    /// Rule: this project's own.
     pub fn shows(&mut self, line: &Line, recorded: &[u8]) -> Result<bool, AllocError>
         ensures { IfOk result (λ same. same ≡ bytes_eq (recorded.now ++ 10 ∷ []) (text line.now)) }
     {

@@ -1,7 +1,9 @@
 ghost use Rattle.std.specs.Prelude.{◌≡◌, ◌≤◌, Some, IfSome};
 ghost use Rattle.snow_cli.specs.Words.{with_digit, digits_within, number_in};
 
-/// The number of one to twenty decimal digits, where it is within these bounds. Zeros may lead.
+/// Returns the number that one to twenty decimal digits spell, where it is within these bounds,
+/// both included, and else `None`. Zeros may lead.
+/// Rule: this project's own.
 pub fn number_in(text: &str, least: u64, most: u64) -> Option<u64>
     ensures number { result ≡ number_in least most text.now }
     ensures most { IfSome result (λ n. n ≤ most) }

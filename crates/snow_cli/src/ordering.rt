@@ -279,10 +279,11 @@ fn ask<'a>(words: &'a [String]) -> Option<Asked<'a>>
     Some(asked)
 }
 
-/// The words in order: the program's name, the one plain word, and `--name=value` for each option
-/// that stands, in the order chain, rule, seed, blocks. There are none where a word has no place, an
-/// option stands twice, the plain word or a value is empty or begins with `-`, or a drill is given a
-/// chain.
+/// Returns the words in order: the program's name, the one plain word, and `--name=value` for each
+/// option that stands, in the order chain, rule, seed, blocks. It returns `None` where a word has
+/// no place, an option stands twice, the plain word or a value is empty or begins with `-`, or a
+/// drill is given a chain. On want of memory it returns `AllocError`.
+/// Rule: this project's own.
 pub fn order(alloc: Global, words: &[String]) -> Result<Option<Vec<String>>, AllocError>
     ensures { IfOk result (λ list. option_map (λ l. texts l.items) list
         ≡ option_and_then ordered (with_items blank (items (texts words.now)))) }

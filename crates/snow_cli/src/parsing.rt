@@ -97,7 +97,9 @@ fn matched<'a>(
     command.try_get_matches_from(words)
 }
 
-/// The command that words in order ask for: those of a request, as `ordering` writes them.
+/// Returns the command for which words in order ask: those of a request, as `order` writes them. On
+/// want of memory it returns `AllocError`.
+/// Rule: this project's own.
 pub fn command_of_ordered(alloc: Global, words: &[String]) -> Result<Option<Command>, AllocError>
     ensures { IfOk result (AsksFor (texts words.now)) }
 {

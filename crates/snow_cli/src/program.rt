@@ -26,15 +26,19 @@ use snow_plain::PlainBoard;
 use snow_topo::Topo;
 use std::alloc::Global;
 
-/// The top call: all that the program does. The words, without the program's name, ask for a command,
-/// and its lines for the stream of `source` go to `out`; an audit writes the one line of what it finds,
-/// and a drill reads nothing, and writes its summary.
-/// `Usage` where the words ask for none: then nothing is read. `BadInput` at the first frame that stops
-/// the run, with all lines before it written, and `Limit` where 2^40 bytes hold no stop. `Differs` where
-/// an audit comes upon a recorded line that isn't the model's before any stop. `SourceFault`,
-/// `SinkFault` and `Memory` end a run behind a front of its lines. The line on `err` tells how it ended,
-/// unless it is `Done` or `Differs`. The words, the formats and the statuses are this project's own; what is decided
-/// is what AvalancheGo's package `snow` decides with one-bit counters of the Snow family paper.
+/// The top call: all that the program does. The words, without the program's name, ask for a
+/// command. Its lines for the stream of `source` go to `out`; an audit writes the one line of what
+/// it finds, and a drill reads nothing and writes its summary. What it decides is what
+/// AvalancheGo's package `snow` decides with one-bit counters of the Snow family paper.
+///
+/// It returns `Usage` exactly where the words ask for no command, and reads nothing then. It
+/// returns `BadInput` at the first frame that stops the run, with all lines before it written, and
+/// `Limit` where 2^40 bytes hold no stop or all request numbers are used up. `Differs` comes where
+/// an audit finds a recorded line that isn't the model's before any stop. `SourceFault` and
+/// `SinkFault` come only where that object's count of faults rose or stands at 2^64-1, and `Memory`
+/// on want of memory; they end a run behind a front of its lines. The line on `err` tells how it
+/// ended, unless that is `Done` or `Differs`.
+/// Rule: this project's own.
 #[tactic(auto, using(crate::proofs::Finished::answered, crate::proofs::Finished::no_usage))]
 pub fn top<S: Source, O: Sink, E: Sink>(
     alloc: Global,

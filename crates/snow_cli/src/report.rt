@@ -9,7 +9,9 @@ use snow_flake::ParamFault;
 use snow_lines::Text;
 use snow_sample::RosterFault;
 
-/// Tells on standard error how a command ended, or that there was none. A fault there changes nothing.
+/// Tells on standard error how a command ended, or that there was none. A fault there changes
+/// nothing.
+/// Rule: this project's own.
 pub fn report<E: Sink>(ended: &Option<Finish>, err: &mut E)
     ensures { TookLine (E.written err.old) (E.written err.new) (E.faults err.old) (E.faults err.new) (error_line ended.now) }
 {

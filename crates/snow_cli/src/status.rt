@@ -5,6 +5,7 @@ use crate::finish::Finish;
 use snow_engine::End;
 
 /// How the program ended.
+/// Rule: this project's own.
 #[derive(Clone, Copy, Debug, PartialEq, Eq)]
 pub enum Status {
     /// All lines were written, and the end of the input was read.
@@ -28,7 +29,9 @@ pub enum Status {
 }
 
 impl Status {
-    /// The exit status of the program.
+    /// Returns the exit status of the program: 0 for `Done`, and 2 to 9 for the others in their
+    /// order.
+    /// Rule: this project's own.
     pub fn code(self) -> u8
         ensures { result ≡ exit_code self }
     {

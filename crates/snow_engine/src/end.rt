@@ -6,7 +6,8 @@ use snow_flake::ParamFault;
 use snow_node::EngineStop;
 use snow_sample::RosterFault;
 
-/// What is wrong with an input, at the frame where the run stops.
+/// What is wrong with an input, at the frame at which the run stops.
+/// Rule: this project's own.
 #[derive(Clone, Copy, Debug, PartialEq, Eq)]
 pub enum BadKind {
     /// A length word says more than 2,097,152.
@@ -28,6 +29,7 @@ pub enum BadKind {
 }
 
 /// How a run over a source ended.
+/// Rule: this project's own.
 #[derive(Clone, Copy, Debug, PartialEq, Eq)]
 pub enum End {
     /// All lines were written, and the end of the input was read.
@@ -66,6 +68,7 @@ impl End {
     }
 }
 
-/// The run is over; how it ended is kept aside.
+/// Tells that the run is over. How it ended stands aside.
+/// Rule: this project's own.
 #[derive(Clone, Copy, Debug, PartialEq, Eq)]
 pub struct Over;

@@ -27,8 +27,8 @@ use std::mem;
 
 /// The engine of one node, over any chain and any board. Contracts see the node of the definitions.
 /// Each call appends its lines to a log. How blocks wait and are issued, and how polls are begun,
-/// closed and recorded, is the behaviour of AvalancheGo's package `snow`; the events and the lines are
-/// this project's own.
+/// closed and recorded, is AvalancheGo's; the events and the lines are this project's own.
+/// Rule: AvalancheGo, snow/engine/snowman.
 #[derive(Drop)]
 pub struct Engine<C: Chain, B: Board> {
     stage: Node<C, B>,
@@ -46,10 +46,12 @@ impl<C: Chain, B: Board> Model for Engine<C, B> {
 }
 
 impl<C: Chain, B: Board> Engine<C, B> {
-    /// The engine that begins with this Start. Its parameters are checked first, then, by `Run` alone,
-    /// its nodes, and then whether the chain takes its state: `Params`, `Roster` and `State` tell what
-    /// is refused. A node that is to bootstrap first asks for frontiers at once. Nodes and boot of the
-    /// Start aren't looked at by `Decide`.
+    /// Returns the engine that begins with this Start. It checks the parameters first, then, for
+    /// `Run` alone, the nodes, and then whether the chain takes the state. It returns `Params`,
+    /// `Roster` or `State` for the first that is refused, and `Memory` on want of memory. A node
+    /// that is to bootstrap asks for frontiers at once. `Decide` looks neither at the nodes nor at
+    /// boot.
+    /// Rule: this project's own.
     #[tactic(auto, unfolding(crate::specs::Node::started))]
     pub fn start(
         alloc: Global,
@@ -71,9 +73,11 @@ impl<C: Chain, B: Board> Engine<C, B> {
         Ok(Engine { stage })
     }
 
-    /// One event, which came in this frame. A second Start stops the engine with `SecondStart`, and
-    /// `Requests` comes where a number is needed and all are used up. After a stop the engine is only
-    /// let go: all lines before the stop were appended, after `Memory` a front of the event's lines.
+    /// Takes one event, which came in this frame. It returns `SecondStart` at a second Start,
+    /// `Requests` where a number is needed and all are used up, `Boot` where bootstrapping stops,
+    /// and `Memory` on want of memory. After a stop the caller only drops the engine. The log has
+    /// all lines before the stop, after `Memory` a front of the event's lines.
+    /// Rule: AvalancheGo, snow/engine/snowman.
     pub fn step(&mut self, frame: u64, event: &Event, log: &mut Lines) -> Result<(), EngineStop>
         ensures answer { Steps result self.new (model.step C.rules B.answer self.old frame event.now).1 }
         ensures lines { Logs result log.old log.new (model.step C.rules B.answer self.old frame event.now).0 }
@@ -85,8 +89,9 @@ impl<C: Chain, B: Board> Engine<C, B> {
         }
     }
 
-    /// One vote, which came in this frame: what `step` does at its Chits, but no event is made of it, and
-    /// its bytes are only looked at.
+    /// Takes one vote, which came in this frame, as `step` does its Chits, and returns what `step`
+    /// does. It makes no event of it, and only looks at its bytes.
+    /// Rule: AvalancheGo, snow/engine/snowman.
     #[inline(always)]
     #[tactic(auto, using(crate::proofs::Staged::stopped, crate::proofs::Staged::told))]
     pub fn take_vote(

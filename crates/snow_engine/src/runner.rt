@@ -19,6 +19,7 @@ use snow_wire::{Event, Skip, block_in, decode, poll_in, timeout_in, vote_in};
 use std::alloc::{AllocError, Global};
 
 /// An engine, once a Start came, and the lines of the frame that was worked last.
+/// Rule: this project's own.
 #[derive(Drop)]
 pub struct Runner<C: Chain, B: Board> {
     pub task: Task,
@@ -34,7 +35,8 @@ pub struct Runner<C: Chain, B: Board> {
 }
 
 impl<C: Chain, B: Board> Runner<C, B> {
-    /// The runner to which no frame came yet.
+    /// Returns the runner to which no frame came yet. It takes no memory.
+    /// Rule: this project's own.
     pub fn new(alloc: Global, task: Task) -> Self
         ensures engine { result.engine ≡ None }
         ensures task { result.task ≡ task }
@@ -51,9 +53,11 @@ impl<C: Chain, B: Board> Runner<C, B> {
         }
     }
 
-    /// Works one frame: the first has to be a Start, and each later one is a step of the engine. Its
-    /// lines alone stand in the log; but where its payload is no event, why it is passed over is the
-    /// answer, and its line stands in no log. Where the run ends, its end is kept.
+    /// Works one frame: the first has to be a Start, and each later one is a step of the engine.
+    /// The log then has this frame's lines alone. Where the payload is no event, it returns why the
+    /// frame is passed over, and no line of that stands in the log. Where the run ends it returns
+    /// `Over`, and `end` tells how.
+    /// Rule: this project's own.
     #[tactic(auto, unfolding(crate::specs::Run::after_frame))]
     pub fn work(&mut self, frame: u64, payload: &[u8]) -> Result<Option<SkipKind>, Over>
         ensures stand { Stands (ends_by self.new.end result) self.new.engine (after_frame C.rules B.answer self.old.task (stand_of self.old.engine) frame payload.now).1 }
@@ -152,8 +156,8 @@ impl<C: Chain, B: Board> Runner<C, B> {
 }
 
 impl<C: Chain, B: Board> Engine<C, B> {
-    /// Lets the engine go. A call of it is one step, where letting go of a whole node is many, which are
-    /// proved anew in each crate that does it.
+    /// Drops the engine. A call of it is one step in a proof, where dropping a whole node is many.
+    /// Rule: this project's own.
     pub fn let_go(self) {
         drop(self);
     }

@@ -9,7 +9,9 @@ use snow_lines::{DropWhy, Line, Lines};
 use snow_plain::{Board, Decision};
 use std::alloc::AllocError;
 
-/// Writes a line.
+/// Appends a line to the log. On want of memory it returns `Halt::Memory`, and the log stays as it
+/// was.
+/// Rule: this project's own.
 #[tactic(auto, using(crate::proofs::Logs::logs_nothing))]
 pub fn write(line: Line, log: &mut Lines) -> Result<(), Halt>
     ensures memory { OnErr result (result ≡ Err Halt.Memory) }
@@ -19,7 +21,9 @@ pub fn write(line: Line, log: &mut Lines) -> Result<(), Halt>
     Ok(())
 }
 
-/// Writes that a block is given up.
+/// Appends the line that gives a block up. On want of memory it returns `Halt::Memory`, and the log
+/// stays as it was.
+/// Rule: this project's own.
 pub fn drop_block(id: Id, why: DropWhy, log: &mut Lines) -> Result<(), Halt>
     ensures memory { OnErr result (result ≡ Err Halt.Memory) }
     ensures lines { Tells result log.old log.new (Line.Drop id why ∷ []) }
@@ -27,8 +31,10 @@ pub fn drop_block(id: Id, why: DropWhy, log: &mut Lines) -> Result<(), Halt>
     write(Line::Drop { id, why }, log)
 }
 
-/// The lines of the last poll's decisions, and that of the preference where it changed. Each line
-/// stands apart, since most polls bring none.
+/// Appends the lines of the last poll's decisions, and that of the preference where it isn't
+/// `before`. On want of memory it returns `AllocError`, and the log has a front of these lines
+/// more.
+/// Rule: this project's own.
 #[inline]
 #[tactic(auto, using(crate::proofs::Logs::logging))]
 pub fn tell<B: Board>(board: &B, before: &Id, log: &mut Lines) -> Result<(), AllocError>

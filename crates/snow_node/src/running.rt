@@ -43,7 +43,9 @@ use std::mem;
 /// The most random words that wait.
 const MOST_WORDS: usize = 65_536;
 
-/// A node that runs, over any chain and any board. Contracts see the node of the definitions.
+/// A node that runs, over any chain and any board. Contracts see the node of the definitions. It
+/// appends its lines to a log. After a stop its caller only drops it.
+/// Rule: AvalancheGo, snow/engine/snowman.
 #[derive(Drop)]
 pub struct Running<C: Chain, B: Board> {
     params: Params,
@@ -98,7 +100,9 @@ impl<C: Chain, B: Board> Model for Running<C, B> {
 }
 
 impl<C: Chain, B: Board> Running<C, B> {
-    /// The node that begins to run above this block, whose state alone its chain holds.
+    /// Returns the node that begins to run above this block, whose state alone its chain holds. The
+    /// numbers go on behind the last one drawn. On want of memory it returns `AllocError`.
+    /// Rule: AvalancheGo, snow/engine/snowman.
     pub fn above(
         alloc: Global,
         params: Params,
@@ -142,7 +146,10 @@ impl<C: Chain, B: Board> Running<C, B> {
         }
     }
 
-    /// One event, which came in this frame.
+    /// Takes one event, which came in this frame. It returns `SecondStart` at a Start, `Requests`
+    /// where a number is needed and all are used up, and `Memory` on want of memory. The log has
+    /// all lines before the stop, after `Memory` a front of the event's lines.
+    /// Rule: AvalancheGo, snow/engine/snowman.
     #[inline(never)]
     #[tactic(auto, unfolding(crate::specs::Turning::runs_on), using(crate::proofs::Logs::logs_nothing))]
     pub fn step(&mut self, frame: u64, event: &Event, log: &mut Lines) -> Result<(), Halt>
@@ -173,7 +180,9 @@ impl<C: Chain, B: Board> Running<C, B> {
         }
     }
 
-    /// A block came, in this frame.
+    /// Takes a block that came in this frame, as `step` does, with its bytes where they stand. It
+    /// returns what `step` does.
+    /// Rule: AvalancheGo, snow/engine/snowman.
     #[tactic(auto, unfolding(crate::specs::Turning::runs_on), using(crate::proofs::Logs::logs_nothing))]
     pub fn receive(&mut self, frame: u64, block: &SentBlock, log: &mut Lines) -> Result<(), Halt>
         ensures answer { Turns result self.new (model.runs_on C.rules B.answer self.old frame (as_event block.now)).1 }
@@ -198,8 +207,9 @@ impl<C: Chain, B: Board> Running<C, B> {
         self.round(log)
     }
 
-    /// A vote came, whose bytes may stand where they came. It stands apart, so that it has no room for
-    /// what other events bring.
+    /// Takes a vote, as `step` does a Chits, with its bytes where they stand. It returns what
+    /// `step` does. It is a function apart, so that it has no room for what other events bring.
+    /// Rule: AvalancheGo, snow/engine/snowman.
     #[inline(never)]
     pub fn hear_vote(
         &mut self,
@@ -231,7 +241,9 @@ impl<C: Chain, B: Board> Running<C, B> {
         self.round(log)
     }
 
-    /// A peer won't answer, whose bytes may stand where they came. It stands apart, as the vote does.
+    /// Takes that a peer won't answer, as `step` does a Timeout, with its bytes where they stand.
+    /// It returns what `step` does. It is a function apart, as `hear_vote` is.
+    /// Rule: AvalancheGo, snow/engine/snowman.
     #[inline(never)]
     pub fn lapse(&mut self, number: u32, peer: &[u8; 20], log: &mut Lines) -> Result<(), Halt>
         ensures answer { Turns result self.new (then_comes (hearing.timed_out C.rules B.answer self.old number peer.now) (model.rounded B.answer)).1 }
@@ -350,7 +362,9 @@ fn skip(frame: u64, kind: SkipKind, log: &mut Lines) -> Result<(), Halt>
     write(Line::Skip { frame, kind }, log)
 }
 
-/// The roster of these nodes.
+/// Returns the roster of these nodes, or the first fault that holds, as `Roster::new` does. On want
+/// of memory it returns `Memory`.
+/// Rule: AvalancheGo, snow/engine/snowman.
 pub fn roster_of(alloc: Global, nodes: &Nodes) -> Result<Roster, RosterFault>
     ensures { IsRosterOf (model.members nodes.now) result }
 {

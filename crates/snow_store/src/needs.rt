@@ -21,7 +21,8 @@ use snow_map::IdHashing;
 use std::alloc::AllocError;
 use std::collections::BTreeMap;
 
-/// Whether an identifier is among these.
+/// Returns whether an identifier is among these.
+/// Rule: AvalancheGo, snow/engine/snowman/bootstrap.
 pub fn has(ids: &IndexSet<Id, IdHashing>, id: &Id) -> bool
     ensures { result ≡ has_id ids.now.keys id.now }
 {
@@ -45,7 +46,8 @@ fn names(missed: &Option<Id>, id: &Id) -> bool
     }
 }
 
-/// Whether nothing is missed.
+/// Returns whether the targets miss nothing.
+/// Rule: AvalancheGo, snow/engine/snowman/bootstrap.
 pub fn is_met(needs: &BTreeMap<Id, u64>) -> bool
     ensures { (f : Fetch) → HasNeeds needs.now f → result ≡ is_whole f }
 {
@@ -55,7 +57,9 @@ pub fn is_met(needs: &BTreeMap<Id, u64>) -> bool
     }
 }
 
-/// What the targets miss is gathered anew.
+/// Gathers anew what the targets miss, with how many of them miss it. The store is whole. On want
+/// of memory it returns `AllocError`.
+/// Rule: AvalancheGo, snow/engine/snowman/bootstrap.
 pub fn gather<H: Kept>(
     store: &Store<H>,
     targets: &IndexSet<Id, IdHashing>,
@@ -107,8 +111,11 @@ fn leave(needs: &mut BTreeMap<Id, u64>, missed: &Option<Id>) -> Result<(), Alloc
     Ok(())
 }
 
-/// A block was taken, of whose identifier it is told what it missed before, as a target. What is missed
-/// then is known again, and the answer is what is due.
+/// Renews what the targets miss, once the store has taken a block with this verdict. `before` is
+/// what the block's identifier missed before, as a target. It returns what is due then, and notes a
+/// target as found where the block is low. The store is whole. On want of memory it returns
+/// `AllocError`.
+/// Rule: AvalancheGo, snow/engine/snowman/bootstrap.
 pub fn renew<H: Kept>(
     store: &Store<H>,
     targets: &IndexSet<Id, IdHashing>,

@@ -3,6 +3,7 @@ use std::alloc::AllocError;
 use thiserror::Error;
 
 /// Why bootstrapping stops.
+/// Rule: AvalancheGo, snow/engine/snowman/bootstrap.
 #[derive(Clone, Copy, Debug, PartialEq, Eq, Error)]
 pub enum BootStop {
     /// At a height stands one block, and another belongs there.
