@@ -15,14 +15,14 @@ pub fn asked_once_law()
     ensures { AskedOnceLaw }
 {}
 
-/// A node executes blocks in order and accepts each once, up to the first that is refused. Exactly
+/// A node executes blocks in order and accepts each once, up to the first that is refused; exactly
 /// those below it were accepted then.
 /// Rule: this project's own.
 pub fn execution_law()
     ensures { ExecutionLaw }
 {}
 
-/// No event accepts a block and leaves bootstrapping going on. So no path is executed in parts.
+/// No event accepts a block and leaves bootstrapping going on: no path is executed in parts.
 /// Rule: this project's own.
 pub fn quiet_law()
     ensures { QuietLaw }

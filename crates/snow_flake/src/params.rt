@@ -26,9 +26,9 @@ pub enum ParamFault {
     BetaLarge,
 }
 
-/// Parameters that passed `check`: K from 1 to 1,024, AlphaPreference above K/2 and at most
-/// AlphaConfidence, AlphaConfidence at most K, Beta from 1 to 65,535, and ConcurrentRepolls from 1
-/// to Beta.
+/// The parameters of the polls, which passed `check`. K is from 1 to 1,024, AlphaPreference above
+/// K/2 and at most AlphaConfidence, AlphaConfidence at most K, Beta from 1 to 65,535, and
+/// ConcurrentRepolls from 1 to Beta.
 /// Rule: AvalancheGo, snow/consensus/snowball.
 #[derive(Clone, Copy, Debug, PartialEq, Eq)]
 pub struct Params {

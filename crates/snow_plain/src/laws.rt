@@ -26,14 +26,14 @@ pub fn excluded_law()
 {}
 
 /// At each bit list a poll makes the bit step of the counter there, with that list's own two
-/// counts. Counters that are then excluded go.
+/// counts; counters that are then excluded go.
 /// Rule: this project's own.
 #[tactic(auto, using(crate::proofs::Pointwise::polled_each))]
 pub fn poll_law()
     ensures { PollLaw }
 {}
 
-/// At each bit list an issue leaves the counter that stands there. It makes fresh ones at just
+/// At each bit list an issue leaves the counter that stands there, and it makes fresh ones at just
 /// those fronts of the child's bits where none stood and no decided counter excludes them.
 /// Rule: this project's own.
 #[tactic(auto, using(crate::proofs::Pointwise::grown_each))]
@@ -41,7 +41,7 @@ pub fn issue_law()
     ensures { IssueLaw }
 {}
 
-/// Alike votes give one board. Where on every list of identifiers the numbers of both votes are of
+/// Alike votes give one board: where on every list of identifiers the numbers of both votes are of
 /// one class, polls with them leave the same board and make the same decisions.
 /// Rule: this project's own.
 #[tactic(auto, using(crate::proofs::Same::same_board))]
@@ -87,16 +87,16 @@ pub fn one_quorum_law()
     ensures { OneQuorumLaw }
 {}
 
-/// A vote counts by its block's line. On a board that can be reached two things are the same: a
-/// block or some ancestor of it is a child of the parent whose bits begin so; and the one child of
-/// the parent on its line has such bits.
+/// By a block's line a vote counts: on a board that can be reached, that a block or some ancestor
+/// of it is a child of the parent whose bits begin so, and that the one child of the parent on its
+/// line has such bits, are the same.
 /// Rule: this project's own.
 #[tactic(auto, using(crate::proofs::Lines::line_law))]
 pub fn line_law()
     ensures { LineLaw }
 {}
 
-/// Counters stand where a child was issued, and only there. On a board that can be reached a block
+/// Counters stand where a child was issued, and only there: on a board that can be reached a block
 /// has a counter at a list of fewer than 256 bits exactly where it has a pending child whose bits
 /// begin so, and no decided counter excludes the list. It has none at longer lists.
 /// Rule: this project's own.
@@ -105,7 +105,7 @@ pub fn standing_law()
     ensures { StandingLaw }
 {}
 
-/// No poll takes a child out while its parent stays on the board. So of a block on the board all
+/// No poll takes a child out while its parent stays on the board, so of a block on the board all
 /// children that were issued are pending.
 /// Rule: this project's own.
 #[tactic(auto, using(crate::proofs::Children::children_stay))]
@@ -120,18 +120,18 @@ pub fn none_excluded_law()
     ensures { NoneExcludedLaw }
 {}
 
-/// The confidence law. On a board that can be reached, where a counter is undecided, so is each
-/// counter to which it leads, in its conflict or in one of the blocks below. The confidence there
-/// is at most its own, and 0 on the side other than its flake.
+/// The confidence law: on a board that can be reached, where a counter is undecided, so is each
+/// counter to which it leads, in its conflict or in one of the blocks below; and the confidence
+/// there is at most its own, and 0 on the side other than its flake.
 /// Rule: this project's own.
 #[tactic(auto, using(crate::proofs::Confidence::confident))]
 pub fn confidence_law()
     ensures { ConfidenceLaw }
 {}
 
-/// No one reads excluded counters. After every list of issues and polls a board that kept them, and
-/// the numbers of decided counters, would have made the same decisions. By every rule it would have
-/// the same preference, with the same path to it.
+/// Nobody reads excluded counters: after every list of issues and polls a board that kept them, and
+/// the numbers of decided counters, would have made the same decisions, and by every rule it would
+/// have the same preference with the same path to it.
 /// Rule: this project's own.
 #[tactic(auto, using(crate::proofs::Pruning::never_read))]
 pub fn keeping_law()

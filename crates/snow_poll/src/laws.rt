@@ -1,7 +1,7 @@
 //! What everyone who reads the definitions of polls wants to know.
 ghost use Rattle.snow_poll.specs.Completion.{EarlyClosingLaw};
 
-/// Early closing is exact. The votes of a poll that is closed in any of the four cases are alike to
+/// Early closing is exact: the votes of a poll that is closed in any of the four cases are alike to
 /// those of each completion, whatever the nodes without a reply would still have given.
 /// Rule: this project's own.
 pub fn early_closing_law()

@@ -241,7 +241,7 @@ impl Polls {
         Some(Closed { number, votes })
     }
 
-    /// Takes the votes of a poll that left back, so that the next poll uses their room. The table
+    /// Takes back the votes of a poll that left, so that the next poll uses their room. The table
     /// stays as it is for contracts.
     /// Rule: this project's own.
     pub fn take_back(&mut self, votes: Bag)

@@ -19,7 +19,8 @@ pub fn run_law()
 {}
 
 /// Where no target misses a block, the path of the highest kept target has a block at each height
-/// from right above the last accepted one. The highest block of every other kept target lies on it.
+/// from right above the last accepted one, and the highest block of every other kept target lies on
+/// it.
 /// Rule: this project's own.
 pub fn path_law()
     ensures { PathLaw }

@@ -13,7 +13,7 @@ pub fn one_spelling()
         → IsInRange event × (payload ≡ spelling event) }
 {}
 
-/// A stream is frames and a rest in just one way, and reading from the front finds it. More bytes
+/// A stream is frames and a rest in just one way, which reading from the front finds; more bytes
 /// come behind the frames and change none, so it doesn't matter how a stream is cut into pieces. No
 /// frame's bytes begin another frame's.
 /// Rule: this project's own.

@@ -17,7 +17,7 @@ use std::mem;
 const MOST_POLLS: usize = 1024;
 
 impl<C: Chain, B: Board> Running<C, B> {
-    /// Takes the draws of a query that was written back, so that the next query uses their room.
+    /// Takes back the draws of a query that was written, so that the next query uses their room.
     /// The node stays as it is for contracts.
     /// Rule: this project's own.
     pub fn take_back(&mut self, draws: Draws)
