@@ -18,7 +18,8 @@ pub enum AuditEnd {
     Same { lines: u64 },
     /// The recorded lines aren't the model's from this one on, counted from 1.
     Differs { line: u64 },
-    /// The run or its stream stopped, and no line before differs. This is neither `Done` nor `SinkFault`.
+    /// The run or its stream stopped, and no line before differs. This is neither `Done` nor
+    /// `SinkFault`.
     Stopped(End),
 }
 

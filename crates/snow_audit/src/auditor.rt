@@ -99,7 +99,8 @@ impl<C: Chain, B: Board> Auditor<C, B> {
         Ok(())
     }
 
-    /// Takes the first frame that the decoder holds; false where it holds no whole one.
+    /// Takes the first frame that the decoder holds. It returns `false` where the decoder holds no
+    /// whole one.
     fn take_next(&mut self) -> Result<bool, AuditEnd>
         requires small { 4 * self.old.decoder.given + length self.old.decoder.rest ≤ 2 ^ 40 }
         requires task { self.old.follower.runner.task ≡ task.Run }
@@ -132,7 +133,7 @@ impl<C: Chain, B: Board> Auditor<C, B> {
         }
     }
 
-    /// The answer where the source has no further byte.
+    /// Returns the answer where the source has no further byte.
     fn at_end_of_input(&self) -> AuditEnd
         requires given { self.now.decoder.given < 2 ^ 64 - 1 }
         requires lines { self.now.follower.lines < 2 ^ 64 - 1 }
@@ -143,7 +144,7 @@ impl<C: Chain, B: Board> Auditor<C, B> {
         self.follower.at_end(self.end_of_input())
     }
 
-    /// How a stream ends that has no further byte.
+    /// Returns how a stream ends that has no further byte.
     fn end_of_input(&self) -> End
         requires given { self.now.decoder.given < 2 ^ 64 - 1 }
         requires calm { is_too_long self.now.decoder.rest ≡ false }

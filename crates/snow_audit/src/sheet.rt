@@ -49,7 +49,7 @@ impl Sheet {
     }
 }
 
-/// Whether these bytes are the recorded ones with a newline behind them.
+/// Returns whether these bytes are the recorded ones with a newline behind them.
 fn is_printed(bytes: &[u8], recorded: &[u8]) -> bool
     ensures { result ≡ bytes_eq (recorded.now ++ 10 ∷ []) bytes.now }
 {
@@ -59,7 +59,7 @@ fn is_printed(bytes: &[u8], recorded: &[u8]) -> bool
     }
 }
 
-/// Whether this front of bytes is the recorded ones, and the last byte a newline.
+/// Returns whether this front of bytes is the recorded ones, and the last byte a newline.
 #[tactic(auto, using(crate::proofs::Printed::newline, crate::proofs::Printed::other))]
 fn is_ended(last: u8, front: &[u8], recorded: &[u8]) -> bool
     ensures { result ≡ bytes_eq (recorded.now ++ 10 ∷ []) (front.now ++ last ∷ []) }

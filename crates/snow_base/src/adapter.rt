@@ -40,7 +40,7 @@ impl<R: Read + Drop> Source for ReadSource<R> {
 
     ghost faults = { λ source. source.faults };
 
-    /// An interrupted read is tried again, and is no fault.
+    /// Reads, and tries an interrupted read again, which is no fault.
     fn read(&mut self, buf: &mut [u8]) -> Result<usize, Failed>
         ensures bound { IfOk result (λ n. n ≤ length buf.new) }
         ensures bytes { ReadConsumes self.old.known self.new.known result buf.new }
@@ -89,8 +89,8 @@ impl<W: Write + Drop> Sink for WriteSink<W> {
 
     ghost faults = { λ sink. sink.faults };
 
-    /// An interrupted write is tried again, and is no fault. A write that takes none of a piece that
-    /// isn't empty is one.
+    /// Writes, and tries an interrupted write again, which is no fault. A write that takes none of
+    /// a piece that isn't empty is one.
     fn write(&mut self, bytes: &[u8]) -> Result<usize, Failed>
         ensures bound { IfOk result (λ n. n ≤ length bytes.now) }
         ensures some { IfOk result (λ n. 0 < length bytes.now → 0 < n) }

@@ -59,8 +59,8 @@ impl Source for MemSource {
 
     ghost faults = { λ source. source.faults };
 
-    /// Gives as many bytes as are left, as fit, or as a piece has. It fails exactly where the number
-    /// of the call is listed, and then takes nothing.
+    /// Gives as many bytes as are left, as fit, or as a piece has. It fails exactly where the
+    /// number of the call is listed, and then takes nothing.
     fn read(&mut self, buf: &mut [u8]) -> Result<usize, Failed>
         ensures bound { IfOk result (λ n. n ≤ length buf.new) }
         ensures bytes { ReadConsumes (Some self.old.left) (Some self.new.left) result buf.new }
@@ -155,8 +155,8 @@ impl Sink for MemSink {
 
     ghost faults = { λ sink. sink.faults };
 
-    /// Takes the whole piece, and no memory. It fails exactly where the number of the call is listed
-    /// or the piece is longer than the room, and then takes nothing.
+    /// Takes the whole piece, and no memory. It fails exactly where the number of the call is
+    /// listed or the piece is longer than the room, and then takes nothing.
     fn write(&mut self, bytes: &[u8]) -> Result<usize, Failed>
         ensures bound { IfOk result (λ n. n ≤ length bytes.now) }
         ensures some { IfOk result (λ n. 0 < length bytes.now → 0 < n) }

@@ -1,5 +1,4 @@
-//! Laws of bootstrapping: what everyone who reads the definitions wants to know, each a function that
-//! does nothing and ensures the law.
+//! Laws of bootstrapping, each a function that does nothing and ensures the law.
 ghost use Rattle.snow_boot.specs.OutcomeLaw.{AskedLaw, AskedOnceLaw, ExecutionLaw, QuietLaw, EndLaw};
 
 /// Once the node asked for what targets miss, open requests name each identifier that one of them

@@ -12,8 +12,8 @@ use std::alloc::{AllocError, Global};
 pub trait Chain: Sized + Drop {
     ghost use Rattle.snow_chain.specs.Chain as model;
 
-    /// What bytes say of a block, the state that a valid block has, and the states with which a run may
-    /// begin.
+    /// What bytes say of a block, the state that a valid block has, and the states with which a run
+    /// may begin.
     ghost rules: { model.Rules };
 
     /// The last accepted block, and the states that are held.

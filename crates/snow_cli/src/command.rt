@@ -6,10 +6,11 @@ use snow_engine::Task;
 pub enum ChainName {
     /// `plain`: blocks that state their identifier and whether they are valid.
     Plain,
-    /// `tally`: blocks known by their SHA-256, each with an amount that may not lift a sum above a cap.
+    /// `tally`: blocks known by their SHA-256, each with an amount that may not lift a sum above a
+    /// cap.
     Tally,
-    /// `ledger`: blocks known by their SHA-256, each with transfers between accounts that their senders'
-    /// balances have to cover.
+    /// `ledger`: blocks known by their SHA-256, each with transfers between accounts that their
+    /// senders' balances have to cover.
     Ledger,
 }
 

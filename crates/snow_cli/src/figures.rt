@@ -22,7 +22,7 @@ pub fn number_in(text: &str, least: u64, most: u64) -> Option<u64>
     Some(number)
 }
 
-/// The number of digits, where it is at most this.
+/// Returns the number of digits, where it is at most this.
 fn digits_within(digits: &[u8], most: u64) -> Option<u64>
     ensures number { result ≡ digits_within most digits.now }
     ensures most { IfSome result (λ n. n ≤ most) }
@@ -36,7 +36,7 @@ fn digits_within(digits: &[u8], most: u64) -> Option<u64>
     Some(number)
 }
 
-/// A number with one digit more, where it is one and what comes is at most this.
+/// Returns a number with one digit more, where that is a digit and the result is at most this.
 fn with_digit(number: u64, digit: u8, most: u64) -> Option<u64>
     ensures number { result ≡ with_digit most (Some number) digit }
     ensures most { IfSome result (λ n. n ≤ most) }

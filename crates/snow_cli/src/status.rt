@@ -48,7 +48,7 @@ impl Status {
         }
     }
 
-    /// The status for how a command ended; `Usage` where there was none.
+    /// Returns the status for how a command ended; `Usage` where there was none.
     pub(crate) fn of(ended: Option<Finish>) -> Status
         ensures { result ≡ status_of ended }
     {
@@ -59,7 +59,7 @@ impl Status {
         }
     }
 
-    /// The status for how a run ended.
+    /// Returns the status for how a run ended.
     fn of_end(end: End) -> Status
         ensures { result ≡ end_status end }
     {

@@ -39,8 +39,8 @@ fn parent_reach<T: Drop>(tree: &Tree<T>, at: usize, parent: Option<usize>) -> us
     }
 }
 
-/// Votes that passed the block at a place go on to its parent, which stands at this one. It takes no
-/// memory.
+/// Puts votes that passed the block at a place on the ladder, to go on to its parent, which stands
+/// at this one. It takes no memory.
 #[inline(always)]
 pub(crate) fn go_on_to<T: Drop>(
     tree: &Tree<T>,
@@ -64,7 +64,7 @@ pub(crate) fn go_on_to<T: Drop>(
     });
 }
 
-/// The same where it isn't known yet at which.
+/// Puts them on where it looks the parent's place up first.
 #[inline(always)]
 pub(crate) fn go_on<T: Drop>(tree: &Tree<T>, ladder: &mut Ladder, at: usize, count: u32)
     requires room { (ladder.old).put < (ladder.old).most }

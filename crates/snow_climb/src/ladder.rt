@@ -6,15 +6,15 @@ use crate::climber::Climber;
 use std::alloc::{AllocError, Global};
 use std::marker::Model;
 
-/// A climber that was put on a ladder. `next` tells who was put on its rung before: one more than where
-/// that stands among all, and 0 where nobody was.
+/// A climber that was put on a ladder. `next` tells who was put on its rung before: one more than
+/// where that stands among all, and 0 where nobody was.
 #[derive(Clone, Copy, Debug)]
 pub(crate) struct Link {
     pub(crate) climber: Climber,
     pub(crate) next: usize,
 }
 
-/// Who was put on a rung last, as `next` of a link tells it, and how many votes all are who stand there.
+/// Who was put on a rung last, as `next` of a link tells it, and how many votes stand there in all.
 #[derive(Clone, Copy, Debug)]
 pub(crate) struct Head {
     pub(crate) last: usize,
@@ -266,8 +266,8 @@ impl Ladder {
         highest_from(&self.words, self.low / 64)
     }
 
-    /// All that are put on from here on stand below a rung that was taken off. How high they stand need
-    /// not be kept then.
+    /// Notes that all who are put on from here on stand below a rung that was taken off. Then the
+    /// ladder needn't keep how high they stand.
     #[inline(always)]
     pub(crate) fn put_below(&mut self)
         ensures { self.new ≡ self.old }
@@ -296,7 +296,7 @@ impl Ladder {
         head.count
     }
 
-    /// The one that was taken off last, where nobody else stood on its rung.
+    /// Returns the climber that was taken off last, where nobody else stood on its rung.
     #[inline(always)]
     pub(crate) fn only(&self) -> Option<Climber>
         ensures { IfSome result (λ c. (self.now).came ≡ c ∷ []) }
@@ -312,8 +312,8 @@ impl Ladder {
         }
     }
 
-    /// Those that were taken off last: the links of all, and who of them was put last on that rung, as
-    /// `next` of a link tells it.
+    /// Returns those that were taken off last: the links of all, and who of them was put last on
+    /// that rung, as `next` of a link tells it.
     #[inline(always)]
     pub(crate) fn came(&self) -> (&[Link], usize)
         ensures linked { AreLinked result.0.now }

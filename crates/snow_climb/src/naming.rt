@@ -18,7 +18,7 @@ pub fn named(id: &Id)
     small(id.as_bytes());
 }
 
-/// So have all of these.
+/// Tells contracts so of all of these.
 pub(crate) fn all_named(ids: &[Id])
     ensures { All IsNamed ids.now }
 {

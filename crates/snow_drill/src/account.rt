@@ -23,7 +23,8 @@ const ENOUGH: usize = 32_768;
 pub struct Account {
     pub tally: Tally,
     pub hasher: Sha256,
-    /// The end of the text, which waits to be digested. So the lines of many events are digested at once.
+    /// The end of the text, which waits to be digested. So the lines of many events are digested at
+    /// once.
     pub scratch: Scratch,
 }
 

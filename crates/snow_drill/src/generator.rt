@@ -29,7 +29,7 @@ impl Generator {
         Generator { x: seed }
     }
 
-    /// The next value.
+    /// Returns the next value.
     fn next(&mut self) -> u64
         ensures value { result ≡ following self.old }
         ensures state { self.new ≡ following self.old }

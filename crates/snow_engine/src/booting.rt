@@ -138,7 +138,7 @@ impl<C: Chain> Booting<C> {
         }
     }
 
-    /// A frame is passed over.
+    /// Writes that a frame is passed over.
     #[tactic(auto, using(snow_node::proofs::Logs::logs_nothing))]
     fn pass_over<B: Board>(
         self,
@@ -159,7 +159,7 @@ impl<C: Chain> Booting<C> {
         }
     }
 
-    /// Words came.
+    /// Takes words.
     #[tactic(auto, using(snow_node::proofs::Logs::logs_nothing))]
     fn take_words<B: Board>(
         mut self,
@@ -182,7 +182,8 @@ impl<C: Chain> Booting<C> {
         }
     }
 
-    /// An answer came, or none will, or a block that was stored; the node runs once it has caught up.
+    /// Takes an answer, or that none will come, or a block that was stored. The node runs once it
+    /// has caught up.
     #[tactic(auto, using(snow_node::proofs::Logs::logs_whole))]
     fn catch_up<B: Board>(
         mut self,
@@ -229,7 +230,7 @@ impl<C: Chain> Booting<C> {
     }
 }
 
-/// What an event brings to bootstrapping.
+/// Takes an event into bootstrapping.
 fn hear<C: Chain>(
     boot: &mut Boot<C, Intervals>,
     chain: &mut C,

@@ -105,7 +105,7 @@ impl<C: Chain, B: Board> Deciding<C, B> {
         }
     }
 
-    /// A block that isn't on the board is placed above its parent; one that is changes nothing.
+    /// Places a block that isn't on the board above its parent. One that is on it changes nothing.
     fn offer(&mut self, block: &Header, bytes: &[u8], log: &mut Lines) -> Result<(), Halt>
         ensures answer { Turns result self.new (model.offered B.answer self.old block.now
             (next_on C.rules self.old.chain block.now.parent bytes.now) (height_of self.old.board block.now.id)).1 }
@@ -118,7 +118,7 @@ impl<C: Chain, B: Board> Deciding<C, B> {
         }
     }
 
-    /// A block that isn't on the board is issued, unless something stands against it.
+    /// Issues a block that isn't on the board, unless something stands against it.
     fn place(&mut self, block: &Header, bytes: &[u8], log: &mut Lines) -> Result<(), Halt>
         requires { height_of self.old.board block.now.id ≡ None }
         ensures answer { Turns result self.new (model.placed B.answer self.old block.now
@@ -134,7 +134,7 @@ impl<C: Chain, B: Board> Deciding<C, B> {
         }
     }
 
-    /// A block is issued where its chain takes it, and a change of the preference told.
+    /// Issues a block where its chain takes it, and tells a change of the preference.
     fn issue(&mut self, block: &Header, bytes: &[u8], log: &mut Lines) -> Result<(), Halt>
         requires { MayIssue self.old.board block.now }
         ensures answer { Turns result self.new (model.issued_with B.answer self.old block.now

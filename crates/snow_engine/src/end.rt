@@ -51,7 +51,7 @@ pub enum End {
 }
 
 impl End {
-    /// The end of the run that a stop makes in a frame.
+    /// Returns the end of the run that a stop makes in a frame.
     pub(crate) fn at(frame: u64, stop: EngineStop) -> End
         ensures { result ≡ end_at frame stop }
     {

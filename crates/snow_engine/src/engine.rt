@@ -109,7 +109,7 @@ impl<C: Chain, B: Board> Engine<C, B> {
         }
     }
 
-    /// One event, with a stop told by a word; one that has more to tell is kept aside.
+    /// Takes one event. It returns a short stop; one that has more to tell stands aside.
     #[tactic(auto, using(crate::proofs::Staged::turned, crate::proofs::Staged::stopped, crate::proofs::Staged::told))]
     pub(crate) fn turn(
         &mut self,
@@ -129,8 +129,8 @@ impl<C: Chain, B: Board> Engine<C, B> {
         }
     }
 
-    /// The same at a Block whose bytes stand where they came. They are copied only where the block is
-    /// kept, and no stop of a Block is kept aside.
+    /// Takes a Block whose bytes stand where they came. It copies them only where it keeps the
+    /// block, and puts no stop aside.
     #[tactic(auto, unfolding(crate::specs::Deciding::decides_on, crate::specs::Catching::boots_on), using(crate::proofs::Staged::turned))]
     pub(crate) fn receive(
         &mut self,
@@ -155,7 +155,7 @@ impl<C: Chain, B: Board> Engine<C, B> {
         }
     }
 
-    /// The same at a Chits whose bytes stand where they came: a vote, which nobody awaits who bootstraps.
+    /// Takes a Chits whose bytes stand where they came. A node that bootstraps awaits no vote.
     #[inline(always)]
     #[tactic(auto, unfolding(crate::specs::Deciding::decides_on, crate::specs::Catching::boots_on, snow_node::specs::Turning::runs_on), using(crate::proofs::Staged::turned))]
     pub(crate) fn hear(&mut self, frame: u64, vote: &SentVote, log: &mut Lines) -> Result<(), Halt>
@@ -175,8 +175,8 @@ impl<C: Chain, B: Board> Engine<C, B> {
         }
     }
 
-    /// The same at a Timeout whose bytes stand where they came. It counts for who bootstraps too, where a
-    /// stop may have more to tell than a word.
+    /// Takes a Timeout whose bytes stand where they came. A node that bootstraps may await it, and
+    /// its stop may stand aside.
     #[inline(always)]
     #[tactic(auto, unfolding(crate::specs::Deciding::decides_on, snow_node::specs::Turning::runs_on), using(crate::proofs::Staged::turned, crate::proofs::Staged::stopped, crate::proofs::Staged::told))]
     pub(crate) fn lapse(
@@ -203,7 +203,7 @@ impl<C: Chain, B: Board> Engine<C, B> {
         }
     }
 
-    /// The same at a Poll whose votes stand in a list that is used again.
+    /// Takes a Poll whose votes stand in a list that is used again.
     #[inline(always)]
     #[tactic(auto, unfolding(crate::specs::Deciding::decides_on, crate::specs::Catching::boots_on, snow_node::specs::Turning::runs_on), using(crate::proofs::Staged::turned))]
     pub(crate) fn record(&mut self, frame: u64, ids: &Ids, log: &mut Lines) -> Result<(), Halt>
@@ -233,8 +233,8 @@ impl<C: Chain, B: Board> Engine<C, B> {
         }
     }
 
-    /// A timeout for a node that bootstraps. It stands apart, so that no other node's pays for the room of
-    /// an event.
+    /// Gives a timeout to a node that bootstraps. It is a function apart, so that no other node's
+    /// pays for the room of an event.
     #[inline(never)]
     fn give_up(
         &mut self,
@@ -256,8 +256,9 @@ impl<C: Chain, B: Board> Engine<C, B> {
         caught_up
     }
 
-    /// One event for a node that bootstraps. At a stop, which is kept aside, the node is let go. It
-    /// stands apart, so that no other node's event pays for the room of a node that is moved.
+    /// Gives one event to a node that bootstraps. At a stop, which stands aside, it drops the node.
+    /// It is a function apart, so that no other node's event pays for the room of a node that is
+    /// moved.
     #[inline(never)]
     fn catch_up(
         &mut self,
@@ -290,8 +291,8 @@ impl<C: Chain, B: Board> Engine<C, B> {
     }
 }
 
-/// The node that begins to run, or to bootstrap, with a Start of these parameters. Its nodes are looked
-/// at first, and then whether the chain takes its state.
+/// Returns the node that begins to run, or to bootstrap, with a Start of these parameters. It
+/// checks the nodes first, and then whether the chain takes the state.
 fn begin<C: Chain, B: Board>(
     alloc: Global,
     first: &Start,
@@ -312,7 +313,7 @@ fn begin<C: Chain, B: Board>(
     }
 }
 
-/// The same with the roster of its nodes, on a chain that took its state.
+/// Returns the node that begins so with the roster of its nodes, on a chain that took its state.
 fn begin_on<C: Chain, B: Board>(
     alloc: Global,
     first: &Start,
@@ -343,7 +344,7 @@ fn begin_on<C: Chain, B: Board>(
     Ok(Stage::Running(node))
 }
 
-/// The parameters that a Start states, or the first thing that is wrong with them.
+/// Returns the parameters that a Start states, or the first thing that is wrong with them.
 #[tactic(auto, using(crate::proofs::Good::checked_good))]
 fn parameters_of(first: &Start) -> Result<Params, ParamFault>
     ensures checked { result ≡ checked (model.stated first.now) }

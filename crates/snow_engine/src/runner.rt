@@ -27,7 +27,7 @@ pub struct Runner<C: Chain, B: Board> {
     pub log: Lines,
     /// Room for the votes of a poll.
     pub ids: Ids,
-    /// Why the engine stopped, where a word doesn't tell it.
+    /// Why the engine stopped, where `Halt` alone doesn't tell it.
     pub stop: EngineStop,
     /// How the run ended, once it is over.
     pub end: End,
@@ -83,8 +83,8 @@ impl<C: Chain, B: Board> Runner<C, B> {
         }
     }
 
-    /// Lets the lines of the frame before go, which were written. The draws of a query that stands last
-    /// come back to the engine.
+    /// Drops the lines of the frame before, which were written. The draws of a query that stands
+    /// last go back to the engine.
     fn clear_log(&mut self)
         ensures log { self.new.log ≡ [] }
         ensures engine { self.new.engine ≡ self.old.engine }
@@ -96,8 +96,8 @@ impl<C: Chain, B: Board> Runner<C, B> {
         self.log.clear();
     }
 
-    /// Takes the last line out, and gives its draws back. It stands apart, so that a frame behind one
-    /// without a query doesn't pay for the room of a line.
+    /// Takes the last line out, and gives its draws back. It is a function apart, so that a frame
+    /// behind one without a query doesn't pay for the room of a line.
     #[inline(never)]
     fn take_out(&mut self)
         ensures engine { self.new.engine ≡ self.old.engine }
@@ -120,7 +120,8 @@ impl<C: Chain, B: Board> Runner<C, B> {
         }
     }
 
-    /// Works the first frame. It stands apart, so that no later frame pays for the room of a new engine.
+    /// Works the first frame. It is a function apart, so that no later frame pays for the room of a
+    /// new engine.
     #[inline(never)]
     fn begin(&mut self, frame: u64, payload: &[u8]) -> Result<Option<SkipKind>, Over>
         requires engine { self.old.engine ≡ None }
@@ -141,8 +142,8 @@ impl<C: Chain, B: Board> Runner<C, B> {
         }
     }
 
-    /// The engine stopped in a frame. It stands apart, so that no other frame pays for the room of an
-    /// end.
+    /// Notes how the run ends, as the engine stopped in a frame. It is a function apart, so that no
+    /// other frame pays for the room of an end.
     #[inline(never)]
     fn stops(&mut self, frame: u64, halt: Halt) -> Over
         ensures end { self.new.end ≡ end_at frame (stop_for self.old.stop halt) }
@@ -163,7 +164,7 @@ impl<C: Chain, B: Board> Engine<C, B> {
     }
 }
 
-/// The engine that begins with the first frame.
+/// Returns the engine that begins with the first frame.
 fn open<C: Chain, B: Board>(
     alloc: Global,
     task: Task,
@@ -180,7 +181,7 @@ fn open<C: Chain, B: Board>(
     }
 }
 
-/// The engine that begins with this event of the first frame, which has to be a Start.
+/// Returns the engine that begins with this event of the first frame, which has to be a Start.
 #[tactic(auto, unfolding(crate::specs::Run::opened), using(snow_node::proofs::Logs::logs_nothing))]
 fn open_with<C: Chain, B: Board>(
     alloc: Global,
@@ -204,8 +205,8 @@ fn open_with<C: Chain, B: Board>(
     }
 }
 
-/// A step of the engine; a payload that is no event is passed over. A vote, the most frequent frame, is
-/// looked at where its bytes stand. A stop that a word doesn't tell is kept aside.
+/// Makes a step of the engine, and passes over a payload that is no event. It looks at a vote, the
+/// most frequent frame, where its bytes stand. A stop that has more to tell stands aside.
 #[tactic(auto, using(crate::proofs::Staged::stopped, crate::proofs::Staged::told, crate::proofs::Stopped::stands_in, crate::proofs::Stopped::logs_in))]
 fn follow<C: Chain, B: Board>(
     alloc: Global,
@@ -229,7 +230,7 @@ fn follow<C: Chain, B: Board>(
     }
 }
 
-/// The same for a payload that is no vote. The bytes of a block are looked at where they stand.
+/// Makes a step for a payload that is no vote. It looks at the bytes of a block where they stand.
 #[tactic(auto, using(crate::proofs::Staged::stopped, crate::proofs::Staged::told, crate::proofs::Stopped::stands_in, crate::proofs::Stopped::logs_in))]
 fn follow_block<C: Chain, B: Board>(
     alloc: Global,
@@ -253,7 +254,7 @@ fn follow_block<C: Chain, B: Board>(
     }
 }
 
-/// The same for a payload that is no block either. A timeout is looked at where its bytes stand.
+/// Makes a step for a payload that is no block either. It looks at a timeout where its bytes stand.
 #[tactic(auto, using(crate::proofs::Stopped::stands_in, crate::proofs::Stopped::logs_in))]
 fn follow_timeout<C: Chain, B: Board>(
     alloc: Global,
@@ -277,7 +278,8 @@ fn follow_timeout<C: Chain, B: Board>(
     }
 }
 
-/// The same for a payload that is no timeout either. The votes of a poll are put into room that is kept.
+/// Makes a step for a payload that is no timeout either. It puts the votes of a poll into room that
+/// is kept.
 #[tactic(auto, using(snow_node::proofs::Logs::logs_nothing, crate::proofs::Staged::stopped, crate::proofs::Staged::told, crate::proofs::Stopped::stands_in, crate::proofs::Stopped::logs_in))]
 fn follow_poll<C: Chain, B: Board>(
     alloc: Global,
@@ -302,7 +304,7 @@ fn follow_poll<C: Chain, B: Board>(
     }
 }
 
-/// The same for a payload that is read whole.
+/// Makes a step for a payload that has to be read whole.
 #[tactic(auto, using(snow_node::proofs::Logs::logs_nothing, crate::proofs::Stopped::stands_in, crate::proofs::Stopped::logs_in))]
 fn follow_whole<C: Chain, B: Board>(
     alloc: Global,
@@ -332,7 +334,7 @@ fn follow_whole<C: Chain, B: Board>(
     }
 }
 
-/// The event that a payload is, or the word for what is none.
+/// Returns the event that a payload is, or the kind of skip where it is none.
 fn read(alloc: Global, payload: &[u8]) -> Result<Result<Event, SkipKind>, AllocError>
     ensures { IfOk result (λ found. found ≡ model.read payload.now) }
 {
@@ -342,7 +344,7 @@ fn read(alloc: Global, payload: &[u8]) -> Result<Result<Event, SkipKind>, AllocE
     }
 }
 
-/// The word for what is no event.
+/// Returns the kind of skip for what is no event. On want of memory it returns `AllocError`.
 fn kind_of(skip: Skip) -> Result<SkipKind, AllocError>
     ensures { (event : Result Event Fault) → Refuses skip event → IfOk result (λ kind. named event ≡ Err kind) }
 {

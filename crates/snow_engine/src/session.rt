@@ -68,7 +68,7 @@ impl<C: Chain, B: Board> Session<C, B> {
         }
     }
 
-    /// Whether the run is over, as the sink failed.
+    /// Returns whether the run is over, as the sink failed.
     fn has_sink_failed(&self, worked: &Result<(), Over>) -> bool
         ensures { result ≡ has_sink_failed (ends_by self.now.runner.end worked.now) }
     {
@@ -78,8 +78,8 @@ impl<C: Chain, B: Board> Session<C, B> {
         }
     }
 
-    /// Works the first frame that the decoder holds, and gathers its lines; false where it holds no
-    /// whole one.
+    /// Works the first frame that the decoder holds, and gathers its lines. It returns `false`
+    /// where the decoder holds no whole frame.
     fn work_next<O: Sink>(&mut self, out: &mut O) -> Result<bool, Over>
         requires { self.old.decoder.given < 2 ^ 64 - 1 }
         ensures goes { Goes (ends_by self.new.runner.end result) self.new.runner.engine self.new.decoder
@@ -182,8 +182,8 @@ fn gather<O: Sink>(
     }
 }
 
-/// Gathers the line of a frame that is passed over. It stands apart, so that no other frame pays for the
-/// room of a line.
+/// Gathers the line of a frame that is passed over. It is a function apart, so that no other frame
+/// pays for the room of a line.
 #[inline(never)]
 #[tactic(auto, using(crate::proofs::Worked::one_text))]
 fn print_skip<O: Sink>(

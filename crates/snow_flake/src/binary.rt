@@ -54,7 +54,7 @@ impl Binary {
     ghost use Rattle.snow_flake.specs.Parameters.{Parameters, AreGood};
     ghost use Rattle.snow_flake.specs.Rule.{answer_of};
 
-    /// The instance where all choices so far had this bit.
+    /// Returns the instance where all choices so far had this bit.
     pub(crate) fn at_bit(bit: bool, strength: u64, confidence: u32, decided: bool) -> Self
         requires { decided ≡ false → confidence < 65535 }
         ensures { let s : Single = record { strength = strength; confidence = confidence; final = decided } in
@@ -89,7 +89,7 @@ impl Binary {
         }
     }
 
-    /// After votes of at least AlphaPreference for the choice.
+    /// Returns what the instance is after at least AlphaPreference votes for the choice.
     fn after_quorum(&self, params: &Params, votes: u32, choice: bool) -> Self
         requires open { self.now.final ≡ false }
         requires quorum { params.now.alpha_preference ≤ votes }
@@ -116,7 +116,7 @@ impl Binary {
         }
     }
 
-    /// The strength of a bit after a poll that followed the choice.
+    /// Returns the strength of a bit after a poll that followed the choice.
     fn strength_after(&self, bit: bool, choice: bool) -> u64
         ensures { result ≡ (if beq bit choice then raised (strength self.now.standing bit) else strength self.now.standing bit) }
     {
@@ -128,7 +128,7 @@ impl Binary {
         }
     }
 
-    /// The preference after a poll that followed the choice.
+    /// Returns the preference after a poll that followed the choice.
     fn preference_after(&self, choice: bool) -> bool
         ensures { result ≡ (if nat_lt (strength self.now.standing (not choice)) (raised (strength self.now.standing choice))
             then choice else self.now.standing.preference) }

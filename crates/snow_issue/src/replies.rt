@@ -29,8 +29,8 @@ impl Grouped for Held {
     }
 }
 
-/// The held replies in order of arrival, each with what is remembered of it, and indexes by
-/// identifier and by poll and node.
+/// The held replies in order of arrival, each with its mark, and indexes by identifier and by poll
+/// and node.
 #[derive(Drop)]
 pub(crate) struct Replies {
     alloc: Global,
@@ -149,7 +149,7 @@ impl Replies {
         self.lineup.wake(id);
     }
 
-    /// The replies to a poll go. It takes no memory.
+    /// Takes the replies to a poll out. It takes no memory.
     pub(crate) fn forget(&mut self, number: u32)
         ensures { self.new ≡ filter (λ s. not (s.0.number == number)) self.old }
     {

@@ -1,4 +1,4 @@
-//! What a user of the ledger wants to know.
+//! The law of the ledger: a function that does nothing and ensures it.
 ghost use Rattle.snow_ledger.specs.Law.{LedgerLaw};
 
 /// Along every path of valid blocks from a state with which a run may begin, the last state is

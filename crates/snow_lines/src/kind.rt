@@ -143,7 +143,7 @@ fn answering(word: &[u8]) -> Option<Kind>
     }
 }
 
-/// Whether a word is this name.
+/// Returns whether a word is this name.
 pub(crate) fn is(word: &[u8], name: &[u8]) -> bool
     ensures { result ≡ bytes_eq word.now name.now }
 {

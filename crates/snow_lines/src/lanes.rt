@@ -8,7 +8,7 @@ use std::simd::prelude::*;
 /// The sixteen digits.
 const DIGITS: [u8; 16] = *b"0123456789abcdef";
 
-/// The digit of the high four bits of each byte.
+/// Returns the digit of the high four bits of each byte.
 #[inline(always)]
 fn high_digits(bytes: u8x16) -> u8x16
     ensures { result ≡ map (λ b. slice_index lower_digits (b / 16)) bytes }
@@ -16,7 +16,7 @@ fn high_digits(bytes: u8x16) -> u8x16
     u8x16::from_array(DIGITS).swizzle_dyn(bytes >> u8x16::splat(4))
 }
 
-/// The digit of the low four bits of each byte.
+/// Returns the digit of the low four bits of each byte.
 #[inline(always)]
 fn low_digits(bytes: u8x16) -> u8x16
     ensures { result ≡ map (λ b. slice_index lower_digits (b % 16)) bytes }
@@ -24,7 +24,7 @@ fn low_digits(bytes: u8x16) -> u8x16
     u8x16::from_array(DIGITS).swizzle_dyn(bytes & u8x16::splat(15))
 }
 
-/// The digits of sixteen bytes: those of the first eight, and those of the others.
+/// Returns the digits of sixteen bytes: those of the first eight, and those of the others.
 #[inline(always)]
 fn digits_of(bytes: u8x16) -> (u8x16, u8x16)
     ensures digits { result.0 ++ result.1 ≡ encode_lower bytes }

@@ -11,7 +11,7 @@ use snow_base::{Failed, Sink, write_whole};
 use std::alloc::{AllocError, Global};
 use std::marker::Model;
 
-/// So many bytes a page has at most.
+/// A page has at most so many bytes.
 const ROOM: usize = 65_536;
 
 /// Text of lines that waits to be written, at most 65,536 bytes. A new page takes the memory for
@@ -73,7 +73,7 @@ impl Page {
         self.print_some(lines, sink)
     }
 
-    /// The same, whether or not there are lines.
+    /// Appends lines, where it isn't known whether there are any.
     #[tactic(auto, using(crate::proofs::Waiting::gathers_none))]
     #[inline(never)]
     fn print_some<K: Sink>(&mut self, lines: &[Line], sink: &mut K) -> Result<(), Failed>
@@ -141,7 +141,7 @@ impl Page {
     }
 }
 
-/// So many bytes.
+/// Returns so many bytes, all zero.
 fn filled(alloc: Global, len: usize) -> Result<Vec<u8>, AllocError>
     ensures { IfOk result (λ bytes. vec_len bytes ≡ len) }
 {

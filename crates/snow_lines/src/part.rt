@@ -207,7 +207,7 @@ impl Part for Draw {
     }
 }
 
-/// The word of a draw whose count has one digit, behind a space.
+/// Returns the word of a draw whose count has one digit, behind a space.
 #[inline(always)]
 fn short_word(draw: &Draw) -> [u8; 43]
     requires { draw.now.count < 10 }
@@ -232,7 +232,7 @@ impl Part for Bytes {
     }
 }
 
-/// So many bytes of a block have their digits made at a time.
+/// The digits of so many bytes of a block are made at a time.
 const SOME: usize = 64;
 
 /// Appends the digits of bytes.

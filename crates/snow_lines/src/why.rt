@@ -67,7 +67,7 @@ impl DropWhy {
     ghost use Rattle.std.specs.Prelude.{◌≡◌, ◌≤◌, length};
     ghost use Rattle.snow_lines.specs.Text.{spaced, why_word};
 
-    /// Its word with a space in front.
+    /// Returns its word with a space in front.
     pub(crate) fn spaced_word(&self) -> &'static [u8]
         ensures word { result.now ≡ spaced (why_word self.now) }
         ensures short { length result.now ≤ 12 }
@@ -85,7 +85,7 @@ impl QueryWhy {
     ghost use Rattle.std.specs.Prelude.{◌≡◌, ◌≤◌, length};
     ghost use Rattle.snow_lines.specs.Text.{spaced, query_word};
 
-    /// Its word with a space in front.
+    /// Returns its word with a space in front.
     pub(crate) fn spaced_word(&self) -> &'static [u8]
         ensures word { result.now ≡ spaced (query_word self.now) }
         ensures short { length result.now ≤ 12 }
@@ -102,7 +102,7 @@ impl RestartWhy {
     ghost use Rattle.std.specs.Prelude.{◌≡◌, ◌≤◌, length};
     ghost use Rattle.snow_lines.specs.Text.{spaced, restart_word};
 
-    /// Its word with a space in front.
+    /// Returns its word with a space in front.
     pub(crate) fn spaced_word(&self) -> &'static [u8]
         ensures word { result.now ≡ spaced (restart_word self.now) }
         ensures short { length result.now ≤ 12 }
@@ -118,7 +118,7 @@ impl SkipKind {
     ghost use Rattle.std.specs.Prelude.{◌≡◌, ◌≤◌, [], ◌∷◌, ◌++◌, length, take};
     ghost use Rattle.snow_lines.specs.Text.{spaced, kind_word};
 
-    /// Its word with a space in front.
+    /// Returns its word with a space in front.
     pub(crate) fn spaced_word(&self) -> &'static [u8]
         ensures word { result.now ≡ spaced (kind_word self.now) }
         ensures short { length result.now ≤ 12 }
@@ -137,8 +137,8 @@ impl SkipKind {
         }
     }
 
-    /// The end of a line: its word with a space in front and a newline, at the front of a piece of a known
-    /// length, and how long they are.
+    /// Returns the end of a line: its word with a space in front and a newline, at the front of a
+    /// piece of a known length, and how long they are.
     #[inline(always)]
     pub(crate) fn line_end(&self) -> (&'static [u8; 8], usize)
         ensures end { take result.1 result.0.now ≡ spaced (kind_word self.now) ++ 10 ∷ [] }

@@ -1,4 +1,4 @@
-//! What every node does with its board and its chain: a block is admitted, a poll applied.
+//! What every node does with its board and its chain: it admits a block, and applies a poll.
 
 ghost use Rattle.std.specs.Prelude.{◌≡◌, ◌+◌, ◌≤◌, ◌==◌, None, length, IfOk, OnOk, OnErr};
 ghost use Rattle.snow_base.specs.Gathered.{one_each};
@@ -45,7 +45,7 @@ pub fn opposition<B: Board>(board: &B, block: &Header) -> Option<DropWhy>
     }
 }
 
-/// Whether a height is one more than another, as whole numbers.
+/// Returns whether a height is one more than another, as whole numbers.
 fn is_above(height: u64, below: u64) -> bool
     ensures { result ≡ (height == below + 1) }
 {

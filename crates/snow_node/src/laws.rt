@@ -1,4 +1,4 @@
-//! What holds of polls and boards together.
+//! A law of polls and boards together: a function that does nothing and ensures it.
 ghost use Rattle.snow_node.specs.CompletionLaw.{CompletionLaw};
 
 /// A poll that closes early leaves the very board that each of its completions would leave.

@@ -47,7 +47,7 @@ pub fn tell<B: Board>(board: &B, before: &Id, log: &mut Lines) -> Result<(), All
     tell_preference(before, &board.preference(), log)
 }
 
-/// A line for each decision.
+/// Appends a line for each decision.
 #[tactic(auto, using(crate::proofs::Logs::logging))]
 fn tell_decisions(decisions: &[Decision], log: &mut Lines) -> Result<(), AllocError>
     ensures ok { OnOk result (log.new ≡ log.old ++ map model.decision_line decisions.now) }
@@ -59,7 +59,7 @@ fn tell_decisions(decisions: &[Decision], log: &mut Lines) -> Result<(), AllocEr
     Ok(())
 }
 
-/// The line of a decision is appended.
+/// Appends the line of a decision.
 #[inline(never)]
 fn tell_decision(decision: &Decision, log: &mut Lines) -> Result<(), AllocError>
     ensures ok { OnOk result (log.new ≡ log.old ++ model.decision_line decision.now ∷ []) }
@@ -68,7 +68,7 @@ fn tell_decision(decision: &Decision, log: &mut Lines) -> Result<(), AllocError>
     log.push(line_of(decision))
 }
 
-/// A line where the preference changed.
+/// Appends a line where the preference changed.
 #[tactic(auto, using(crate::proofs::Logs::logging))]
 fn tell_preference(before: &Id, after: &Id, log: &mut Lines) -> Result<(), AllocError>
     ensures ok { OnOk result (log.new ≡ log.old ++ model.preference_line before.now after.now) }
@@ -80,7 +80,7 @@ fn tell_preference(before: &Id, after: &Id, log: &mut Lines) -> Result<(), Alloc
     tell_preferred(after, log)
 }
 
-/// The line of a new preference is appended.
+/// Appends the line of a new preference.
 #[inline(never)]
 fn tell_preferred(id: &Id, log: &mut Lines) -> Result<(), AllocError>
     ensures ok { OnOk result (log.new ≡ log.old ++ Line.Prefer id.now ∷ []) }
@@ -89,7 +89,7 @@ fn tell_preferred(id: &Id, log: &mut Lines) -> Result<(), AllocError>
     log.push(Line::Prefer { id: *id })
 }
 
-/// The line of a decision.
+/// Returns the line of a decision.
 fn line_of(decision: &Decision) -> Line
     ensures { result ≡ model.decision_line decision.now }
 {

@@ -191,7 +191,7 @@ impl<C: Chain, B: Board> Running<C, B> {
         self.take_block(frame, &block.node, block.request, block.bytes, log)
     }
 
-    /// A block came, and the event ends.
+    /// Takes a block, and ends the event.
     fn take_block(
         &mut self,
         frame: u64,
@@ -226,7 +226,7 @@ impl<C: Chain, B: Board> Running<C, B> {
         self.take_vote(number, &peer, &id, log)
     }
 
-    /// A vote came, and the event ends.
+    /// Takes a vote, and ends the event.
     fn take_vote(
         &mut self,
         number: u32,
@@ -253,7 +253,7 @@ impl<C: Chain, B: Board> Running<C, B> {
         self.take_timeout(number, &peer, log)
     }
 
-    /// A peer won't answer, and the event ends.
+    /// Takes that a peer won't answer, and ends the event.
     fn take_timeout(&mut self, number: u32, peer: &NodeId, log: &mut Lines) -> Result<(), Halt>
         ensures answer { Turns result self.new (then_comes (hearing.timed_out C.rules B.answer self.old number peer.now) (model.rounded B.answer)).1 }
         ensures lines { Tells result log.old log.new (then_comes (hearing.timed_out C.rules B.answer self.old number peer.now) (model.rounded B.answer)).0 }
@@ -262,7 +262,7 @@ impl<C: Chain, B: Board> Running<C, B> {
         self.round(log)
     }
 
-    /// The end of an event: queries follow where a poll was recorded.
+    /// Ends an event: it makes queries where a poll was recorded.
     fn round(&mut self, log: &mut Lines) -> Result<(), Halt>
         ensures answer { Turns result self.new (model.rounded B.answer self.old).1 }
         ensures lines { Tells result log.old log.new (model.rounded B.answer self.old).0 }
@@ -274,7 +274,7 @@ impl<C: Chain, B: Board> Running<C, B> {
         self.repoll(log)
     }
 
-    /// Whether the words would be too many.
+    /// Returns whether the words would be too many.
     fn overflows(&self, words: &Nums) -> bool
         ensures { result ≡ nat_lt 65536 (length self.now.words + length words.now) }
     {
@@ -282,7 +282,7 @@ impl<C: Chain, B: Board> Running<C, B> {
     }
 
     #[tactic(auto, using(crate::proofs::Logs::logs_nothing))]
-    /// Words came; they may bring queries where no poll runs.
+    /// Takes words, which may bring queries where no poll runs.
     fn take_words(&mut self, frame: u64, words: &Nums, log: &mut Lines) -> Result<(), Halt>
         ensures answer { Turns result self.new (model.words_came B.answer self.old frame words.now).1 }
         ensures lines { Tells result log.old log.new (model.words_came B.answer self.old frame words.now).0 }
@@ -298,7 +298,7 @@ impl<C: Chain, B: Board> Running<C, B> {
         }
     }
 
-    /// A new roster is in force, unless something is wrong with it.
+    /// Puts a new roster in force, unless something is wrong with it.
     fn take_nodes(&mut self, frame: u64, nodes: &Nodes, log: &mut Lines) -> Result<(), Halt>
         ensures answer { Turns result self.new (model.roster_came self.old frame (model.members nodes.now) (first_fault (model.members nodes.now))).1 }
         ensures lines { Tells result log.old log.new (model.roster_came self.old frame (model.members nodes.now) (first_fault (model.members nodes.now))).0 }
@@ -317,7 +317,7 @@ impl<C: Chain, B: Board> Running<C, B> {
     }
 }
 
-/// The board above a block, what peers are served then, and a queue in which nothing waits.
+/// Returns the board above a block, what peers are served then, and a queue in which nothing waits.
 fn fresh<B: Board>(
     alloc: Global,
     params: Params,
@@ -339,7 +339,7 @@ fn fresh<B: Board>(
     }
 }
 
-/// What peers are served above this block, and a queue in which nothing waits.
+/// Returns what peers are served above this block, and a queue in which nothing waits.
 fn lists(alloc: Global, last: Id) -> Result<(Getter, Queue), AllocError>
     ensures served { IfOk result (λ made. made.0 ≡ serving_from last) }
     ensures lists { IfOk result (λ made. lists_of made.1 ≡ begun last) }
@@ -354,7 +354,7 @@ fn lists(alloc: Global, last: Id) -> Result<(Getter, Queue), AllocError>
     }
 }
 
-/// A frame is passed over.
+/// Writes that a frame is passed over.
 fn skip(frame: u64, kind: SkipKind, log: &mut Lines) -> Result<(), Halt>
     ensures memory { OnErr result (result ≡ Err Halt.Memory) }
     ensures lines { Tells result log.old log.new (Line.Skip frame kind ∷ []) }
@@ -372,7 +372,7 @@ pub fn roster_of(alloc: Global, nodes: &Nodes) -> Result<Roster, RosterFault>
     Roster::new(alloc, members.as_slice())
 }
 
-/// Nodes as a roster has them.
+/// Returns the nodes as a roster has them.
 fn members_of(alloc: Global, nodes: &Nodes) -> Result<Vec<Node>, AllocError>
     ensures { IfOk result (λ members. members.items ≡ model.members nodes.now) }
 {

@@ -16,7 +16,7 @@ pub fn tell<C: Chain>(chain: &mut C, decisions: &[Decision])
     }
 }
 
-/// The chain is told one decision.
+/// Tells the chain one decision.
 fn tell_one<C: Chain>(chain: &mut C, decision: &Decision)
     requires { MayTell (C.held chain.old) decision.now.id decision.now.accepted }
     ensures { C.held chain.new ≡ with_decision (C.held chain.old) decision.now }

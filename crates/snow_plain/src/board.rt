@@ -26,7 +26,8 @@ pub trait Board: Sized + Drop {
     /// The decisions of the last poll.
     ghost decided: { Self → List Decision };
 
-    /// How its rule answers from the preference and the flake of a counter. It is for contracts alone.
+    /// How its rule answers from the preference and the flake of a counter. It is for contracts
+    /// alone.
     ghost answer: { Bool → Bool → Bool };
 
     /// Returns a board with this last accepted block at this height, below 2^64, with nothing

@@ -1,5 +1,4 @@
-//! Laws of the board: what everyone who reads its definitions wants to know, each a function that
-//! does nothing and ensures the law.
+//! Laws of the board, each a function that does nothing and ensures the law.
 ghost use Rattle.snow_plain.specs.PointwiseLaw.{MapLaw, ExcludedLaw, PollLaw, IssueLaw};
 ghost use Rattle.snow_plain.specs.AlikeLaw.{AlikeLaw};
 ghost use Rattle.snow_plain.specs.FailingLaw.{FewVotesLaw, FewVotesOnBoardLaw, FailingTwiceLaw, FailingAndAddingLaw};

@@ -1,4 +1,4 @@
-//! What everyone who reads the definitions of polls wants to know.
+//! A law of polls: a function that does nothing and ensures it.
 ghost use Rattle.snow_poll.specs.Completion.{EarlyClosingLaw};
 
 /// Early closing is exact: the votes of a poll that is closed in any of the four cases are alike to

@@ -1,5 +1,4 @@
-//! Laws of the kept blocks: what everyone who reads the definitions wants to know, each a function that
-//! does nothing and ensures the law.
+//! Laws of the kept blocks, each a function that does nothing and ensures the law.
 ghost use Rattle.snow_store.specs.Linking.{LinkedLaw, RunLaw, PathLaw};
 ghost use Rattle.snow_store.specs.ProgressLaw.{ProgressLaw};
 

@@ -1,5 +1,6 @@
-//! The identifiers that the targets miss, each with how many of them miss it: whoever misses a block that
-//! is then kept misses from then on what the run of that block misses, so no other target is looked at.
+//! The identifiers that the targets miss, each with how many targets miss it. A target that misses
+//! a block misses, once that block is kept, what the block's run misses. So the store looks at no
+//! other target.
 ghost use Rattle.std.specs.Prelude.{◌≡◌, ◌<◌, ℕ, Bool, List, true, false, ◌||◌, bytes_eq, IfOk, OnOk};
 ghost use Rattle.std.specs.List.{IsDistinct};
 ghost use Rattle.snow_store.specs.Keeping as keeping;

@@ -19,7 +19,7 @@ use std::alloc::{AllocError, Global};
 use std::collections::BTreeMap;
 use std::marker::Model;
 
-/// The most blocks that are kept.
+/// A store keeps at most so many blocks.
 const MOST_KEPT: usize = 32_768;
 
 /// The last accepted block, and at most 32,768 blocks that are kept above it. It finds each by its
@@ -110,7 +110,7 @@ impl<H: Kept> Store<H> {
         }
     }
 
-    /// The kept block at the height above one.
+    /// Returns the kept block at the height above one.
     fn above_of(&self, height: u64) -> Option<&KeptBlock>
         requires { self.now.whole ≡ true }
         ensures { option_copied result ≡ held self.now.store.kept (height + 1) }
@@ -132,7 +132,7 @@ impl<H: Kept> Store<H> {
         self.tops.get(id).copied()
     }
 
-    /// The lowest kept child of a block that isn't right above its height.
+    /// Returns the lowest kept child of a block that isn't right above its height.
     fn stray(&self, header: &Header) -> Option<&KeptBlock>
         requires { self.now.whole ≡ true }
         ensures { option_copied result ≡ stray self.now.store.kept header.now.id header.now.height }
@@ -144,7 +144,7 @@ impl<H: Kept> Store<H> {
         }
     }
 
-    /// Where a kept child of a block is at a wrong height.
+    /// Returns the stop where a kept child of a block is at a wrong height.
     fn refused(&self, header: &Header) -> Option<BootStop>
         requires { self.now.whole ≡ true }
         ensures { result ≡ child_stop (stray self.now.store.kept header.now.id header.now.height) }
@@ -155,7 +155,7 @@ impl<H: Kept> Store<H> {
         })
     }
 
-    /// What becomes of a block that is taken: the first of the rules that applies.
+    /// Returns what becomes of a block that is taken: the first of the rules that applies.
     #[tactic(auto, unfolding(crate::specs::Keeping::taken))]
     fn judge(&self, header: &Header) -> Result<Verdict, BootStop>
         requires { self.now.whole ≡ true }
@@ -173,7 +173,7 @@ impl<H: Kept> Store<H> {
         }
     }
 
-    /// The same for a block above the last accepted one, at a height that is free.
+    /// Returns what becomes of a block above the last accepted one, at a height that is free.
     fn judge_free(&self, header: &Header) -> Result<Verdict, BootStop>
         requires whole { self.now.whole ≡ true }
         requires above { self.now.store.height < header.now.height }
@@ -188,7 +188,7 @@ impl<H: Kept> Store<H> {
         }
     }
 
-    /// Where a block doesn't fit the blocks around it.
+    /// Returns the stop where a block doesn't fit the blocks around it.
     fn misplaced(&self, header: &Header) -> Option<BootStop>
         requires whole { self.now.whole ≡ true }
         requires above { self.now.store.height < header.now.height }
@@ -203,7 +203,7 @@ impl<H: Kept> Store<H> {
         self.above(header)
     }
 
-    /// Where the block below, if one is kept, isn't the parent.
+    /// Returns the stop where the block below, if one is kept, isn't the parent.
     fn below(&self, header: &Header) -> Option<BootStop>
         requires whole { self.now.whole ≡ true }
         requires above { self.now.store.height < header.now.height }
@@ -220,7 +220,7 @@ impl<H: Kept> Store<H> {
         })
     }
 
-    /// Where the block above, if one is kept, has another parent.
+    /// Returns the stop where the block above, if one is kept, has another parent.
     fn above(&self, header: &Header) -> Option<BootStop>
         requires { self.now.whole ≡ true }
         ensures { result ≡ above_stop header.now (held self.now.store.kept (header.now.height + 1)) }
@@ -236,7 +236,7 @@ impl<H: Kept> Store<H> {
         })
     }
 
-    /// Where a block right above the last accepted one has another parent.
+    /// Returns the stop where a block right above the last accepted one has another parent.
     fn fork(&self, header: &Header) -> Option<BootStop>
         requires { self.now.store.height < header.now.height }
         ensures { result ≡ fork_stop self.now.store header.now }

@@ -11,10 +11,10 @@ use snow_base::Source;
 use std::alloc::{AllocError, Global};
 use std::marker::Model;
 
-/// So many bytes are read at a time at most.
+/// A read takes at most so many bytes.
 const PIECE: usize = 65_536;
 
-/// Bytes that are left are moved to the front as soon as so many times as many were worked.
+/// The bytes that are left move to the front as soon as so many times as many were worked.
 const TIMES: usize = 8;
 
 /// Why `Decoder::read_from` took no bytes.

@@ -36,9 +36,10 @@ fn whole(alloc: Global, payload: &[u8]) -> Result<Event, Skip>
     fields(alloc, tag, reader.rest())
 }
 
-/// The event whose fields are all that stands behind this tag. The functions for the tags aren't put into
-/// one another, so that the room of one kind of event costs no other kind anything; and each looks
-/// itself whether bytes are left, so that its event is where it belongs as soon as it is made.
+/// Returns the event whose fields are all that stands behind this tag. The functions for the tags
+/// aren't put into one another, so that the room of one kind of event costs no other kind anything;
+/// and each looks itself whether bytes are left, so that its event is where it belongs as soon as
+/// it is made.
 #[tactic(auto, unfolding(crate::specs::Reading::fields_at))]
 #[inline(always)]
 fn fields(alloc: Global, tag: u8, behind: &[u8]) -> Result<Event, Skip>

@@ -47,7 +47,7 @@ pub fn first_frame(bytes: &[u8]) -> Option<(&[u8], &[u8])>
     Some(behind.split_at(length as usize))
 }
 
-/// The length word in front, where it is above 2,097,152.
+/// Returns the length word in front, where it is above 2,097,152.
 pub(crate) fn too_long(bytes: &[u8]) -> Option<u32>
     ensures { result ≡ (if is_too_long bytes.now then Some (length_word bytes.now) else None) }
 {

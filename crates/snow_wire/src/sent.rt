@@ -70,7 +70,7 @@ pub fn block_in(payload: &[u8]) -> Option<SentBlock<'_>>
     }
 }
 
-/// The fields of a Block behind its tag, where no bytes are behind them.
+/// Returns the fields of a Block behind its tag, where no bytes are behind them.
 fn only_block<'a>(reader: &mut Reader<'a>) -> Option<SentBlock<'a>>
     ensures found { IfSome result (λ block. message_at block_at event.Block reader.old ≡ Ok (as_event block, [])) }
     ensures none { IfNone result ((e : Event) → message_at block_at event.Block reader.old ≢ Ok (e, [])) }
@@ -86,7 +86,7 @@ fn only_block<'a>(reader: &mut Reader<'a>) -> Option<SentBlock<'a>>
     }
 }
 
-/// The fields of a Block behind its tag.
+/// Returns the fields of a Block behind its tag.
 #[tactic(auto, unfolding(crate::specs::Reading::message_at))]
 pub(crate) fn read_block<'a>(reader: &mut Reader<'a>) -> Result<SentBlock<'a>, Skip>
     ensures read { ReadsAs (λ block. as_event block) result reader.new (message_at block_at event.Block reader.old) }
@@ -117,7 +117,7 @@ pub fn vote_in(payload: &[u8]) -> Option<SentVote<'_>>
     }
 }
 
-/// What stands behind this tag, where a payload begins with it and is this long.
+/// Returns what stands behind this tag, where a payload begins with it and is this long.
 #[inline(always)]
 fn behind(payload: &[u8], tag: u8, long: usize) -> Option<Reader<'_>>
     ensures found { IfSome result (λ rest. number_at 1 payload.now ≡ Ok (tag, rest)) }
@@ -134,7 +134,7 @@ fn behind(payload: &[u8], tag: u8, long: usize) -> Option<Reader<'_>>
     if first == tag { Some(reader) } else { None }
 }
 
-/// What stands behind this tag, where a payload begins with it.
+/// Returns what stands behind this tag, where a payload begins with it.
 fn behind_tag(payload: &[u8], tag: u8) -> Option<Reader<'_>>
     ensures found { IfSome result (λ rest. number_at 1 payload.now ≡ Ok (tag, rest)) }
     ensures none { IfNone result ((rest : List ℕ) → number_at 1 payload.now ≢ Ok (tag, rest)) }
@@ -146,7 +146,7 @@ fn behind_tag(payload: &[u8], tag: u8) -> Option<Reader<'_>>
     if first == tag { Some(reader) } else { None }
 }
 
-/// The fields of a Chits behind its tag, where no bytes are behind them.
+/// Returns the fields of a Chits behind its tag, where no bytes are behind them.
 #[inline(always)]
 fn only_vote<'a>(reader: &mut Reader<'a>) -> Option<SentVote<'a>>
     ensures found { IfSome result (λ vote. message_at id_at event.Chits reader.old ≡ Ok (as_vote vote, [])) }
@@ -163,7 +163,7 @@ fn only_vote<'a>(reader: &mut Reader<'a>) -> Option<SentVote<'a>>
     }
 }
 
-/// The fields of a Chits behind its tag.
+/// Returns the fields of a Chits behind its tag.
 #[tactic(auto, unfolding(crate::specs::Reading::message_at))]
 #[inline(always)]
 pub(crate) fn read_vote<'a>(reader: &mut Reader<'a>) -> Result<SentVote<'a>, Skip>
@@ -190,7 +190,7 @@ pub fn timeout_in(payload: &[u8]) -> Option<SentTimeout<'_>>
     }
 }
 
-/// The fields of a Timeout behind its tag, where no bytes are behind them.
+/// Returns the fields of a Timeout behind its tag, where no bytes are behind them.
 #[inline(always)]
 fn only_timeout<'a>(reader: &mut Reader<'a>) -> Option<SentTimeout<'a>>
     ensures found { IfSome result (λ timeout. sender_at event.Timeout reader.old ≡ Ok (as_timeout timeout, [])) }
@@ -207,7 +207,7 @@ fn only_timeout<'a>(reader: &mut Reader<'a>) -> Option<SentTimeout<'a>>
     }
 }
 
-/// The fields of a Timeout behind its tag.
+/// Returns the fields of a Timeout behind its tag.
 #[tactic(auto, unfolding(crate::specs::Reading::sender_at))]
 #[inline(always)]
 pub(crate) fn read_timeout<'a>(reader: &mut Reader<'a>) -> Result<SentTimeout<'a>, Skip>
@@ -237,7 +237,7 @@ pub fn poll_in(payload: &[u8], ids: &mut Ids) -> Result<bool, AllocError>
     }
 }
 
-/// The bytes of the votes of a Poll that a payload spells.
+/// Returns the bytes of the votes of a Poll that a payload spells.
 #[inline(always)]
 fn votes_in(payload: &[u8]) -> Option<&[u8]>
     ensures found { IfSome result (λ bytes. event_of payload.now ≡ Ok (as_poll bytes)) }
@@ -254,7 +254,7 @@ fn votes_in(payload: &[u8]) -> Option<&[u8]>
     }
 }
 
-/// The fields of a Poll behind its tag, where no bytes are behind them.
+/// Returns the fields of a Poll behind its tag, where no bytes are behind them.
 #[inline(always)]
 fn only_votes<'a>(reader: &mut Reader<'a>) -> Option<&'a [u8]>
     ensures found { IfSome result (λ bytes. single_at (counted_at id_at 1024) event.Poll reader.old ≡ Ok (as_poll bytes, [])) }
@@ -271,7 +271,7 @@ fn only_votes<'a>(reader: &mut Reader<'a>) -> Option<&'a [u8]>
     }
 }
 
-/// The fields of a Poll behind its tag.
+/// Returns the fields of a Poll behind its tag.
 #[tactic(auto, unfolding(crate::specs::Reading::single_at, crate::specs::Reading::counted_at))]
 #[inline(always)]
 fn read_votes<'a>(reader: &mut Reader<'a>) -> Result<&'a [u8], Skip>
@@ -297,7 +297,7 @@ pub fn line_in(payload: &[u8]) -> Option<&[u8]>
     }
 }
 
-/// The field of a Line behind its tag, where no bytes are behind it.
+/// Returns the field of a Line behind its tag, where no bytes are behind it.
 fn only_line<'a>(reader: &mut Reader<'a>) -> Option<&'a [u8]>
     ensures found { IfSome result (λ text. single_at (sized_at 1100000) event.Line reader.old ≡ Ok (as_line text, [])) }
     ensures none { IfNone result ((e : Event) → single_at (sized_at 1100000) event.Line reader.old ≢ Ok (e, [])) }
@@ -313,7 +313,7 @@ fn only_line<'a>(reader: &mut Reader<'a>) -> Option<&'a [u8]>
     }
 }
 
-/// The field of a Line behind its tag.
+/// Returns the field of a Line behind its tag.
 #[tactic(auto, unfolding(crate::specs::Reading::single_at))]
 fn read_line<'a>(reader: &mut Reader<'a>) -> Result<&'a [u8], Skip>
     ensures read { ReadsAs (λ text. as_line text) result reader.new (single_at (sized_at 1100000) event.Line reader.old) }

@@ -1,4 +1,4 @@
-//! What the node knows of that which its queue remembers of the board.
+//! How far the node can trust what its queue remembers of the board.
 
 ghost use Rattle.std.specs.Prelude.{◌≡◌};
 ghost use Rattle.snow_node.specs.Remembering as model;
