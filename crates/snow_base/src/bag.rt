@@ -172,7 +172,7 @@ fn count_in(votes: &mut Vec<Vote>, id: Id, n: u32) -> Result<(), AllocError>
     count_past(votes, &id, n)
 }
 
-// The same where the last votes are for another identifier.
+// Adds votes where the last ones are for another identifier.
 #[inline(never)]
 fn count_past(votes: &mut Vec<Vote>, id: &Id, n: u32) -> Result<(), AllocError>
     requires order { IsInBitOrder votes.old.items }
@@ -214,7 +214,7 @@ fn put_in(votes: &mut Vec<Vote>, at: usize, id: &Id, n: u32) -> Result<(), Alloc
     Ok(())
 }
 
-// The same over the last ones: those between move up by one.
+// Puts new votes at their place over the last ones: those between move up by one.
 #[inline(always)]
 fn move_in(row: &mut [Vote], at: usize, id: &Id, n: u32)
     requires { at < length row.old }
@@ -244,7 +244,7 @@ fn place(votes: &[Vote], id: &Id) -> Result<usize, usize>
     }
 }
 
-// The same by looking at one after another, the last one first.
+// The place among few votes, by looking at one after another, the last one first.
 #[inline(always)]
 fn place_among_few(votes: &[Vote], id: &Id) -> Result<usize, usize>
     requires { IsInBitOrder votes.now }
@@ -261,7 +261,7 @@ fn place_among_few(votes: &[Vote], id: &Id) -> Result<usize, usize>
     Err(0)
 }
 
-// The same by a search.
+// The place by a search.
 fn search(votes: &[Vote], id: &Id) -> Result<usize, usize>
     requires { IsInBitOrder votes.now }
     ensures { IsPlaceOf votes.now id.now result }

@@ -154,7 +154,7 @@ impl Id {
         }
     }
 
-    // The same where the first 64 bits agree: mostly the two are one then.
+    // Bit order behind the first 64 bits, which agree: mostly the two are one then.
     #[inline(never)]
     fn bit_cmp_past(&self, other: &Id) -> Ordering
         requires { AgreeFrom 0 64 self.now other.now }
@@ -192,7 +192,7 @@ impl Id {
         }
     }
 
-    // The same up to the end of the 64 bits among which `from` is.
+    // The first difference up to the end of the 64 bits among which `from` is.
     #[inline]
     fn first_in_word(&self, other: &Id, from: u16) -> Option<u16>
         requires { from < 256 }
@@ -207,7 +207,7 @@ impl Id {
         Some(from + lowest_differing(a, b))
     }
 
-    // The same from bit `64 * from` on.
+    // The first difference from bit `64 * from` on.
     #[inline(never)]
     fn first_past(&self, other: &Id, from: u16) -> Option<u16>
         requires { from ≤ 4 }

@@ -136,7 +136,7 @@ fn write_main<T: Drop>(
     }
 }
 
-// The same as below, where they came by more than one climber.
+// Gathers votes that came by more than one climber.
 #[inline(never)]
 fn gather_many<T: Drop>(
     params: &Params,

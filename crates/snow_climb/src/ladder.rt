@@ -165,9 +165,9 @@ impl Ladder {
         })
     }
 
-    /// Makes room for polls over so many pending blocks, where nobody stands on the ladder. On want
-    /// of memory it returns `AllocError`; the ladder has no less room then, and the number of votes
-    /// stays.
+    /// Makes room for polls over so many pending blocks, where nobody stands on the ladder. The
+    /// ladder has at least as many rungs, so it adds at most one. On want of memory it returns
+    /// `AllocError`; the ladder has no less room then, and the number of votes stays.
     /// Rule: this project's own.
     pub fn make_room(&mut self, pending: usize) -> Result<(), AllocError>
         requires low { (self.old).low ≡ 0 }

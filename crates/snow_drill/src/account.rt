@@ -61,7 +61,7 @@ impl Account {
         self.keep_all(log)
     }
 
-    // The same for each of them.
+    // Keeps each line of a log.
     #[inline(never)]
     fn keep_all(&mut self, log: &mut Lines) -> Result<(), AllocError>
         ensures told { OnOk result (self.new.tally ≡ fold noted self.old.tally log.old) }
@@ -94,7 +94,7 @@ fn note_all(tally: &mut Tally, log: &mut Lines) -> Result<(), AllocError>
     }
 }
 
-// The same where a query stands last.
+// Keeps the last line, and takes a query out.
 #[inline(never)]
 fn note_last(tally: &mut Tally, log: &mut Lines) -> Result<(), AllocError>
     ensures told { OnOk result (tally.new ≡ fold noted tally.old log.old) }

@@ -27,7 +27,7 @@ impl<E: Driven> Player<E> {
         self.account.keep(log)
     }
 
-    // The same with a vote.
+    // The next event, which is a vote.
     #[inline(always)]
     fn vote_event(&mut self, vote: &SentVote, log: &mut Lines) -> Result<(), AllocError>
         requires { log.old ≡ [] }
@@ -72,7 +72,7 @@ impl<E: Driven> Player<E> {
         self.time_out_all(lines)
     }
 
-    // The same for each of them.
+    // A Timeout for each block that these lines ask for, where there are lines.
     #[inline(never)]
     fn time_out_all(&mut self, lines: &[Line]) -> Result<(), AllocError>
         ensures { OnOk result (Follows self.old self.new (λ d. fold (model.timed_out E.step) d lines.now)) }

@@ -23,7 +23,7 @@ pub fn summary(alloc: Global, blocks: u32, mut account: Account) -> Result<Bytes
     finished(alloc, blocks, account)
 }
 
-// The same where all was digested.
+// The six lines, where all was digested.
 fn finished(alloc: Global, blocks: u32, account: Account) -> Result<Bytes, AllocError>
     ensures { (lines : List told.Line) → Holds256 account.hasher (texts lines)
         → IfOk result (λ text. text ≡ summary_of blocks account.tally (sha256 (texts lines))) }

@@ -165,7 +165,7 @@ fn count(number: &mut u64) -> Result<(), AllocError>
     Ok(())
 }
 
-// The same draws once more.
+// A copy of these draws.
 fn copy_of(alloc: Global, draws: &Draws) -> Result<Draws, AllocError>
     ensures { IfOk result (λ copy. copy ≡ draws.now) }
 {

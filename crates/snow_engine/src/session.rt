@@ -162,7 +162,7 @@ impl<C: Chain, B: Board> Session<C, B> {
     }
 }
 
-/// Gathers what is told of a frame that was worked.
+/// Gathers the lines of a frame that was worked.
 #[tactic(auto, using(crate::proofs::Worked::one_text))]
 #[inline(always)]
 fn gather<O: Sink>(

@@ -64,7 +64,7 @@ impl GetMap {
         self.has_id(id)
     }
 
-    // The same by the index.
+    // Whether a block is asked for, by the index.
     #[inline(never)]
     fn has_id(&self, id: &Id) -> bool
         ensures { result ≡ asked_in self.now id.now }

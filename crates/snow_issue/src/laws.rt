@@ -1,4 +1,5 @@
-//! Laws of what a queue remembers of the board, each a function that does nothing and ensures the law.
+//! Laws of what a queue remembers of the board, each a function that does nothing and ensures the
+//! law.
 ghost use Rattle.snow_issue.specs.KnownLaw.{StaysKnownAtIssue, StaysKnownAtPoll};
 
 /// After `Queue::next_known` returned `Ready`, what the queue remembers stays true when that block

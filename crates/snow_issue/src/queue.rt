@@ -331,7 +331,7 @@ impl Queue {
         self.next_step(board)
     }
 
-    // The same, whatever is remembered of the waiting blocks. A call, so that what is taken goes straight
+    // The next step, whatever is remembered of the waiting blocks. A call, so that what is taken goes straight
     // to where it is wanted.
     #[inline(never)]
     fn next_step<B: Board>(&mut self, board: &B) -> Option<Work>
@@ -349,7 +349,7 @@ impl Queue {
         self.next_vote()
     }
 
-    // The same where something is remembered of each waiting block, and none is ready.
+    // The next step where each waiting block is marked, and none is ready.
     fn next_vote(&mut self) -> Option<Work>
         ensures work { result ≡ option_map work.Vote (find (is_free (lists_of self.old)) self.old.held) }
         ensures lists { (b : model.Board) → lists_of self.new ≡ after (lists_of self.old) b result }
@@ -363,7 +363,7 @@ impl Queue {
         self.held_vote()
     }
 
-    // The same where a reply is held.
+    // The next step where, besides, a reply is held.
     #[inline(never)]
     fn held_vote(&mut self) -> Option<Work>
         ensures work { result ≡ option_map work.Vote (find (is_free (lists_of self.old)) self.old.held) }

@@ -46,7 +46,7 @@ impl Queue {
         self.vote_found(id, board)
     }
 
-    // The same, whatever its block is.
+    // The vote at once, whatever the reply's block is.
     #[inline(never)]
     fn vote_found<B: Board>(&self, id: &Id, board: &B) -> Option<Option<Id>>
         ensures { result ≡ vote_at_once (lists_of self.now) (B.board board.now) id.now }

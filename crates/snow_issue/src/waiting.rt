@@ -72,7 +72,7 @@ impl WaitingList {
         self.has_height(id)
     }
 
-    // The same by the index.
+    // Whether a block waits, by the index.
     #[inline(never)]
     fn has_height(&self, id: &Id) -> bool
         ensures { result ≡ waits_among (items_of self.now) id.now }
@@ -96,7 +96,7 @@ impl WaitingList {
         self.has_height_below(child)
     }
 
-    // The same by the index.
+    // Whether its parent waits right below it, by the index.
     #[inline(never)]
     fn has_height_below(&self, child: &Header) -> bool
         ensures { result ≡ waits_below (items_of self.now) child.now }

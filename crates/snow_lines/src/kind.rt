@@ -70,7 +70,7 @@ impl Kind {
     }
 }
 
-// The same among the kinds that don't ask.
+// The kind among those that don't ask.
 fn not_asking(word: &[u8]) -> Option<Kind>
     ensures { result ≡ kind_in (telling ++ answering) word.now }
 {
@@ -80,7 +80,7 @@ fn not_asking(word: &[u8]) -> Option<Kind>
     }
 }
 
-// The same among the kinds that ask nodes.
+// The kind among those that ask nodes.
 fn asking(word: &[u8]) -> Option<Kind>
     ensures { result ≡ kind_in asking word.now }
 {
@@ -99,7 +99,7 @@ fn asking(word: &[u8]) -> Option<Kind>
     }
 }
 
-// The same among the kinds that tell what was done.
+// The kind among those that tell what was done.
 fn telling(word: &[u8]) -> Option<Kind>
     ensures { result ≡ kind_in telling word.now }
 {
@@ -124,7 +124,7 @@ fn telling(word: &[u8]) -> Option<Kind>
     }
 }
 
-// The same among the kinds that answer peers.
+// The kind among those that answer peers.
 fn answering(word: &[u8]) -> Option<Kind>
     ensures { result ≡ kind_in answering word.now }
 {

@@ -55,7 +55,7 @@ impl<'a> Words<'a> {
         }
     }
 
-    /// Returns whether no word is left. It takes none.
+    /// Returns whether no word is left. Where one is left it takes it.
     /// Rule: this project's own.
     pub fn is_at_end(&mut self) -> bool
         ensures { result ≡ is_none (first self.old) }

@@ -37,7 +37,7 @@ pub enum Halt {
     Requests,
     /// Memory ran out.
     Memory,
-    /// The stop is kept aside.
+    /// The stop stands aside.
     Kept,
 }
 

@@ -56,7 +56,7 @@ pub trait Board: Sized + Drop {
     /// with its own votes, and then the board accepts and rejects blocks while decided counters
     /// lead to one. The board and the decisions are the same for all votes that are alike to these.
     /// It takes no memory and can't fail.
-    /// Rule: the Snow family paper and AvalancheGo, snow/consensus/snowball and AvalancheGo, snow/consensus/snowman.
+    /// Rule: the Snow family paper and AvalancheGo, snow/consensus/snowman.
     fn apply_poll(&mut self, votes: &Bag)
         requires { total_count votes.now.list ≤ (board self.old).parameters.k }
         ensures board { board self.new ≡ (poll (board self.old) votes.now.list).0 }

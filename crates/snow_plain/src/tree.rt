@@ -97,7 +97,7 @@ pub fn poll(tree: &mut Tree, params: &Params, votes: &[Vote], bit: u16)
     }
 }
 
-// The same for one side of a counter; a side that the counter rules out is dropped.
+// Polls one side of a counter, and drops a side that the counter rules out.
 #[cycle(poll)]
 fn poll_side(side: &mut Tree, params: &Params, votes: &[Vote], bit: u16, is_open: bool)
     requires deep { depth (counters_of side.old) + bit ≤ 256 }

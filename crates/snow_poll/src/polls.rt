@@ -177,8 +177,8 @@ impl Polls {
         }
     }
 
-    // The same as `vote`, for the poll of any number. It looks at what a reply names, so that no copy of
-    // that is made where the poll is in front.
+    // What `vote` does, for the poll of any number. It borrows what a reply names, so that no copy of that
+    // is made where the poll is in front.
     #[inline(never)]
     fn vote_behind(&mut self, number: u32, node: &NodeId, id: &Option<Id>) -> Answered
         ensures answer { result ≡ answer self.old.polls number node.now }

@@ -71,7 +71,7 @@ impl Table {
         self.search(entries, first, id)
     }
 
-    // The same, where the first bytes don't tell.
+    // The number of the latest entry, by a search where the first bytes don't tell.
     fn search<T: Named>(&self, entries: &VecDeque<T>, first: u32, id: &Id) -> Option<u32>
         requires { IsRising (id_of T.id entries.now.items first) (concat self.now.rows) }
         ensures { IsLatest (id_of T.id entries.now.items first) (concat self.now.rows) id.now result }

@@ -15,7 +15,7 @@ pub fn zeros(mut room: Vec<u32>, count: usize) -> Result<Vec<u32>, AllocError>
     Ok(room)
 }
 
-// The same where the room stands.
+// Writes so many zeros over what stands in the room.
 pub(crate) fn write_zeros(room: &mut Vec<u32>, count: usize) -> Result<(), AllocError>
     ensures { OnOk result (room.new.items ≡ replicate count 0) }
 {

@@ -113,7 +113,7 @@ pub(crate) fn draw_all(
     draw_more(roster, k, words, room, out)
 }
 
-// The same where some may suffice.
+// Draws where the words may suffice.
 #[inline(never)]
 fn draw_more(
     roster: &Roster,

@@ -147,7 +147,7 @@ pub fn renew<H: Kept>(
     }
 }
 
-// The same where it is kept.
+// Renews what is missed where the block is kept.
 fn renew_kept<H: Kept>(
     store: &Store<H>,
     targets: &IndexSet<Id, IdHashing>,
@@ -246,7 +246,7 @@ fn due_with(needs: &BTreeMap<Id, u64>, id: Id, due: Due) -> Due
     }
 }
 
-// The same where one is due, if it is still missed.
+// What is due where one was due before, if it is still missed.
 fn due_both(needs: &BTreeMap<Id, u64>, id: Id, other: Id) -> Due
     ensures id { is_due result id ≡ true }
     ensures others { (q : List ℕ) → has_need needs.now q ≡ true → is_due result q ≡ false → bytes_eq other q ≡ false }
@@ -257,7 +257,7 @@ fn due_both(needs: &BTreeMap<Id, u64>, id: Id, other: Id) -> Due
     Due::One(id)
 }
 
-// The same where a block is too low: nobody misses it, and a target that came so is found.
+// Renews what is missed where a block is too low: nobody misses it, and a target that came so is found.
 fn renew_low(
     targets: &IndexSet<Id, IdHashing>,
     found: &mut IndexSet<Id, IdHashing>,

@@ -250,12 +250,13 @@ impl<H: Kept> Store<H> {
         None
     }
 
-    /// Takes a block into a whole store. It returns `Low` where the height is at most the last
-    /// accepted one, `Known` where the block is kept at its height, and `Keeps` where it is kept
-    /// now. It stops the run with `Refused` where a kept child has a height other than one more,
-    /// with `Conflict` where another block belongs at a height, with `Fork` where the block is
-    /// right above the last accepted one and has another parent, and with `Full` where 32,768
-    /// blocks are kept. On want of memory it returns `Memory`.
+    /// Takes a block into a whole store, by the first of these that applies. It stops the run with
+    /// `Refused` where a kept child of the block has a height other than one more. It returns `Low`
+    /// where the block's height is at most the last accepted one, and `Known` where the block is
+    /// kept at its height. It stops with `Conflict` where another block is kept there, with `Full`
+    /// where 32,768 blocks are kept, with `Fork` where the block is right above the last accepted
+    /// one and has another parent, and with `Conflict` where it doesn't fit the block below or
+    /// above. Else it keeps the block and returns `Keeps`. On want of memory it returns `Memory`.
     /// Rule: AvalancheGo, snow/engine/snowman/bootstrap.
     pub fn take(&mut self, header: &Header, bytes: &[u8]) -> Result<Verdict, BootStop>
         requires { self.old.whole ≡ true }

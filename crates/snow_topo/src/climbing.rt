@@ -64,7 +64,7 @@ fn climb_all<R: Rule, L: Ledger>(
     moved
 }
 
-// The same where one climber stands on the ladder and looks for a pending block: nothing is put on until he
+// Climbs where one climber stands on the ladder and looks for a pending block: nothing is put on until he
 // has passed them all.
 fn climb_lone<R: Rule, L: Ledger>(
     params: &Params,

@@ -26,7 +26,7 @@ impl<R: Rule> SpareTrees<R> {
         self.grow(count)
     }
 
-    // The same where there is less.
+    // Makes room where there is less.
     #[inline(never)]
     fn grow(&mut self, count: usize) -> Result<(), AllocError> {
         self.trees.reserve(count)

@@ -77,7 +77,7 @@ fn apply_alone<R: Rule, L: Ledger>(board: &mut Topo<R>, votes: &Bag, blank: Blan
     board.apply_counted(votes, &mut steps);
 }
 
-// The same with one vote for each of these identifiers.
+// Records a poll with one vote for each of these identifiers, with a counter of its own.
 fn apply_votes_alone<R: Rule, L: Ledger>(board: &mut Topo<R>, ids: &[Id], blank: Blank)
     requires name { blank.name ≡ L.name }
     requires parts { blank.parts ≡ L.parts }

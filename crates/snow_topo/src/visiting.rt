@@ -43,8 +43,8 @@ fn record_at<R: Rule, L: Ledger>(
     }
 }
 
-// The same with the votes that were taken off the ladder last. Few visits come to it, and those that
-// don't are to be short.
+// Records the votes that were taken off the ladder last. Few visits come to it, and those that don't are
+// to be short.
 #[inline(never)]
 fn record_came<R: Rule, L: Ledger>(
     params: &Params,

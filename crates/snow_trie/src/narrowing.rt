@@ -28,7 +28,7 @@ pub fn narrowed<'a>(votes: &'a [Vote], leader: &Id, to: u16, params: &Params) ->
     }
 }
 
-// The same on bits that most trees don't have.
+// Narrows on bits that most trees don't have.
 #[inline(never)]
 fn narrowed_on<'a>(votes: &'a [Vote], leader: &Id, to: u16, params: &Params) -> &'a [Vote]
     requires order { IsInBitOrder votes.now }

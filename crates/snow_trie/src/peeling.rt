@@ -133,7 +133,7 @@ fn end(root: &mut Node, id: &Id)
     *root = Node::End(*id);
 }
 
-// The same where the first node is decided.
+// Takes off where the first node is decided.
 #[inline(never)]
 fn take_off(root: &mut Node, leader: &mut Id, decided: u16) -> u16
     requires { IsPlaced decided (tree_of root.old) }
