@@ -10,7 +10,7 @@ use snow_engine::End;
 use snow_plain::Board;
 use std::alloc::Global;
 
-/// What an audit finds.
+/// What an audit finds. Lines are counted from 1 over the whole run.
 /// Rule: this project's own.
 #[derive(Clone, Copy, Debug, PartialEq, Eq)]
 pub enum AuditEnd {

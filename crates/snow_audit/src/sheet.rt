@@ -26,7 +26,7 @@ impl Model for Sheet {
 }
 
 impl Sheet {
-    /// An empty sheet. It takes no memory.
+    /// Returns an empty sheet. It takes no memory.
     /// Rule: this project's own.
     pub fn new(alloc: Global) -> Self {
         Sheet {

@@ -1,7 +1,8 @@
 use std::alloc::AllocError;
 use thiserror::Error;
 
-/// Why `Chain::begin` begins no chain.
+/// Why `Chain::begin` begins no chain: `State` where the chain's rules don't take the state,
+/// `Memory` on want of memory.
 /// Rule: this project's own.
 #[derive(Clone, Copy, Debug, PartialEq, Eq, Error)]
 pub enum ChainFault {

@@ -4,7 +4,7 @@ ghost use Rattle.snow_cli.specs.Answer.{end_status, exit_code, status_of};
 use crate::finish::Finish;
 use snow_engine::End;
 
-/// How the program ended.
+/// How the program ended. `code` returns the exit status of each.
 /// Rule: this project's own.
 #[derive(Clone, Copy, Debug, PartialEq, Eq)]
 pub enum Status {

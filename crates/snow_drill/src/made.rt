@@ -42,7 +42,7 @@ impl Made {
         }
     }
 
-    /// Appends a block. On want of memory it returns `AllocError`.
+    /// Appends a block. On want of memory it returns `AllocError`, and all stays as it was.
     /// Rule: this project's own.
     pub fn push(&mut self, block: Header) -> Result<(), AllocError>
         ensures { OnOk result (self.new ≡ self.old ++ block ∷ []) }

@@ -6,7 +6,8 @@ use snow_flake::ParamFault;
 use snow_node::EngineStop;
 use snow_sample::RosterFault;
 
-/// What is wrong with an input, at the frame at which the run stops.
+/// What is wrong with an input, at the frame at which the run stops. `Params`, `Roster` and `State`
+/// come at the Start alone, and `Roster` only where the task is `Run`.
 /// Rule: this project's own.
 #[derive(Clone, Copy, Debug, PartialEq, Eq)]
 pub enum BadKind {
@@ -28,7 +29,9 @@ pub enum BadKind {
     SecondStart,
 }
 
-/// How a run over a source ended.
+/// How a run over a source ended. At `Done` it wrote all lines. At `BadInput`, `InputLimit`,
+/// `RequestLimit` and `BootStopped` it wrote all lines before the stop. At `SourceFault`,
+/// `SinkFault` and `Memory` it wrote a front of the lines.
 /// Rule: this project's own.
 #[derive(Clone, Copy, Debug, PartialEq, Eq)]
 pub enum End {

@@ -18,7 +18,7 @@ pub struct Get {
     pub id: Id,
 }
 
-/// A node's reply to a poll that names a block which waits or is asked for.
+/// A node's reply to the poll of this number, which names a block that waits or is asked for.
 /// Rule: AvalancheGo, snow/engine/snowman.
 #[derive(Clone, Copy, Debug, PartialEq, Eq)]
 pub struct Held {

@@ -6,7 +6,9 @@ use snow_sample::RosterFault;
 use snow_store::BootStop;
 use std::alloc::AllocError;
 
-/// Why an engine doesn't start, or stops.
+/// Why an engine doesn't start, or stops. `Engine::start` returns `Params`, `Roster`, `State` or
+/// `Memory`; `Engine::step` returns `Boot`, `SecondStart`, `Requests` or `Memory`. The caller then
+/// only drops the engine.
 /// Rule: this project's own.
 #[derive(Clone, Copy, Debug)]
 pub enum EngineStop {

@@ -118,7 +118,7 @@ pub trait Board: Sized + Drop {
     fn last_height(&self) -> u64
         ensures { result ≡ (board self.now).height };
 
-    /// Returns how many blocks are pending.
+    /// Returns how many blocks are pending, at most 4,096 where each issue met its condition.
     /// Rule: AvalancheGo, snow/consensus/snowman.
     fn pending_len(&self) -> usize
         ensures { result ≡ length (board self.now).pending };

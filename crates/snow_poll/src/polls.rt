@@ -20,7 +20,8 @@ use thiserror::Error;
 // How many polls are in the table at most.
 const MOST_POLLS: usize = 1024;
 
-/// Why `Polls::begin` begins no poll.
+/// Why `Polls::begin` begins no poll: `Full` exactly at 1,024 polls, `Memory` on want of memory.
+/// The table stays as it was.
 /// Rule: this project's own.
 #[derive(Clone, Copy, Debug, PartialEq, Eq, Error)]
 pub enum PollFault {

@@ -9,7 +9,8 @@ use std::alloc::{AllocError, Global};
 use std::marker::Model;
 use thiserror::Error;
 
-/// A node of 20 bytes, and how many units of weight it has.
+/// A node of 20 bytes, and its weight: how many units it has, below 2^64. A roster takes no node of
+/// weight 0.
 /// Rule: AvalancheGo, utils/sampler.
 #[derive(Clone, Copy, Debug, PartialEq, Eq)]
 pub struct Node {

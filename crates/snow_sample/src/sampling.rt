@@ -13,7 +13,8 @@ use crate::words::Words;
 use std::alloc::AllocError;
 use thiserror::Error;
 
-/// Why `Roster::sample` draws no sample.
+/// Why `Roster::sample` draws no sample: `TooFewUnits` where there are fewer units than draws,
+/// `WordsOut` where the words don't suffice, `Memory` on want of memory.
 /// Rule: AvalancheGo, utils/sampler.
 #[derive(Clone, Copy, Debug, PartialEq, Eq, Error)]
 pub enum SampleFault {

@@ -13,7 +13,8 @@ use snow_base::{Header, Id};
 use std::alloc::Global;
 use std::marker::Model;
 
-/// Want of memory. It hands back the load that was to be inserted.
+/// Want of memory in `Tree::insert` or `Tree::insert_at`. It hands back the load that was to be
+/// inserted, and the tree stays as it was.
 /// Rule: AvalancheGo, snow/consensus/snowman.
 #[derive(Debug, Drop)]
 pub struct TreeFull<T> {

@@ -17,7 +17,7 @@ const PIECE: usize = 65_536;
 /// The bytes that are left move to the front as soon as so many times as many were worked.
 const TIMES: usize = 8;
 
-/// Why `Decoder::read_from` took no bytes.
+/// Why `Decoder::read_from` took no bytes. The decoder stays as it was.
 /// Rule: this project's own.
 #[derive(Clone, Copy, Debug, PartialEq, Eq)]
 pub enum ReadFault {
