@@ -7,23 +7,24 @@ ghost use Rattle.std.specs.Option.{option_copied};
 ghost use Rattle.snow_map.specs.Entries.{value_of, HasAt};
 ghost use Rattle.snow_map.specs.Kept.{is_far};
 
-use crate::{far, near};
+use crate::far::Far;
+use crate::near;
 use snow_base::Id;
 use std::alloc::{AllocError, Global};
-use std::collections::{BTreeMap, HashMap};
+use std::collections::HashMap;
 use std::marker::Model;
 
 /// Values by identifier, at most one for each. Contracts see the entries, in no order that they
 /// tell.
 ///
 /// An entry stands under its identifier's seat, one of 65,536. Where another identifier has that
-/// seat, it stands in an ordered map. So a look-up takes one step for most identifiers, and a
-/// search in the ordered map for those that share a seat.
+/// seat, it stands beside it, in order of identifiers. So a look-up takes a step or two for most
+/// identifiers, and a search in order only among those that a sender chose to share a seat.
 /// Rule: this project's own.
 #[derive(Drop)]
 pub struct IdMap<V> {
     near: HashMap<u32, (Id, V)>,
-    far: BTreeMap<Id, V>,
+    far: Far<V>,
 }
 
 impl<V> Model for IdMap<V> {
@@ -32,9 +33,9 @@ impl<V> Model for IdMap<V> {
 
     ghost Value = { List (List ℕ × V) };
 
-    ghost view = { λ a. entries_of a.near.entries a.far.entries };
+    ghost view = { λ a. entries_of a.near.entries a.far };
 
-    ghost invariant = { λ a. IsKept a.near.entries a.far.entries };
+    ghost invariant = { λ a. IsKept a.near.entries a.far };
 }
 
 impl<V: Drop> IdMap<V> {
@@ -45,7 +46,7 @@ impl<V: Drop> IdMap<V> {
     {
         IdMap {
             near: HashMap::new(alloc),
-            far: BTreeMap::new(alloc),
+            far: Far::new(alloc),
         }
     }
 
@@ -59,7 +60,7 @@ impl<V: Drop> IdMap<V> {
     {
         match near::value(&self.near, id) {
             Some(value) => Some(value),
-            None => far::value(&self.far, id),
+            None => self.far.value(id),
         }
     }
 
@@ -85,7 +86,7 @@ impl<V: Drop> IdMap<V> {
         ensures succeeds { IsSome (value_of self.old id) → IsOk result }
     {
         if is_far(&self.near, &self.far, &id) {
-            far::put(&mut self.far, id, value)
+            self.far.put(id, value)
         } else {
             near::put(&mut self.near, id, value)
         }
@@ -103,18 +104,18 @@ impl<V: Drop> IdMap<V> {
         if near::has(&self.near, id) {
             near::take(&mut self.near, id)
         } else {
-            far::take(&mut self.far, id)
+            self.far.take(id)
         }
     }
 }
 
 // Whether an identifier's entry belongs in the order: another has its seat, or it stands there.
 #[inline(always)]
-fn is_far<V: Drop>(near: &HashMap<u32, (Id, V)>, far: &BTreeMap<Id, V>, id: &Id) -> bool
-    ensures { result ≡ is_far near.now.entries far.now.entries id.now }
+fn is_far<V: Drop>(near: &HashMap<u32, (Id, V)>, far: &Far<V>, id: &Id) -> bool
+    ensures { result ≡ is_far near.now.entries far.now id.now }
 {
     match near::is_mine(near, id) {
         Some(is_mine) => !is_mine,
-        None => far::value(far, id).is_some(),
+        None => far.value(id).is_some(),
     }
 }

@@ -25,9 +25,10 @@ pub fn seat_of(id: &Id) -> usize
     first.wrapping_add(last) as usize
 }
 
-// Its seat among 65,536. As few as these, chosen ones can't share much in the kit's map either.
+/// Returns an identifier's seat among 65,536. As few as these, chosen ones can't share much in the
+/// kit's map either.
 #[inline(always)]
-fn place_of(id: &Id) -> u32
+pub(crate) fn place_of(id: &Id) -> u32
     ensures { result ≡ place_of id.now }
 {
     (seat_of(id) % 65536) as u32
