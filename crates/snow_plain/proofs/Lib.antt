@@ -32,3 +32,5 @@ pub mod Confidence
 pub mod Heights
 pub mod Pruning
 pub mod FlakeDecides
+pub mod Room
+pub mod Stopping

@@ -23,3 +23,4 @@ pub mod ConfidenceLaw
 pub mod QuorumLaw
 pub mod Keeping
 pub mod KeepingLaw
+pub mod SettledLaw
