@@ -24,3 +24,4 @@ pub mod QuorumLaw
 pub mod Keeping
 pub mod KeepingLaw
 pub mod SettledLaw
+pub mod RoomLaw

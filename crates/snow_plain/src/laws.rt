@@ -9,6 +9,7 @@ ghost use Rattle.snow_plain.specs.ConfidenceLaw.{ConfidenceLaw};
 ghost use Rattle.snow_plain.specs.QuorumLaw.{OneQuorumLaw};
 ghost use Rattle.snow_plain.specs.KeepingLaw.{KeepingLaw};
 ghost use Rattle.snow_plain.specs.SettledLaw.{NoWinnerLaw, EnoughStepsLaw};
+ghost use Rattle.snow_plain.specs.RoomLaw.{RoomLaw};
 
 /// The counters of a conflict are a map from bit lists: those that are the same at each list are
 /// the same.
@@ -135,4 +136,10 @@ pub fn settled_law()
 #[tactic(auto, using(crate::proofs::Stopping::enough_steps))]
 pub fn enough_steps_law()
     ensures { EnoughStepsLaw }
+{}
+
+/// A board that can be reached has at most 4,096 pending blocks.
+#[tactic(auto, using(crate::proofs::Room::room))]
+pub fn room_law()
+    ensures { RoomLaw }
 {}
