@@ -34,3 +34,6 @@ pub mod Pruning
 pub mod FlakeDecides
 pub mod Room
 pub mod Stopping
+pub mod Backing
+pub mod Led
+pub mod Topmost

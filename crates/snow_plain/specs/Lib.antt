@@ -25,3 +25,4 @@ pub mod Keeping
 pub mod KeepingLaw
 pub mod SettledLaw
 pub mod RoomLaw
+pub mod PreferenceLaw

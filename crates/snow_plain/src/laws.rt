@@ -10,6 +10,7 @@ ghost use Rattle.snow_plain.specs.QuorumLaw.{OneQuorumLaw};
 ghost use Rattle.snow_plain.specs.KeepingLaw.{KeepingLaw};
 ghost use Rattle.snow_plain.specs.SettledLaw.{NoWinnerLaw, EnoughStepsLaw};
 ghost use Rattle.snow_plain.specs.RoomLaw.{RoomLaw};
+ghost use Rattle.snow_plain.specs.PreferenceLaw.{PreferenceEndsLaw};
 
 /// The counters of a conflict are a map from bit lists: those that are the same at each list are
 /// the same.
@@ -142,4 +143,11 @@ pub fn enough_steps_law()
 #[tactic(auto, using(crate::proofs::Room::room))]
 pub fn room_law()
     ensures { RoomLaw }
+{}
+
+/// The preference of a board that can be reached has no pending child: it is the end of a whole
+/// path, by every rule that answers the bit on which preference and flake agree.
+#[tactic(auto, using(crate::proofs::Topmost::preference_ends))]
+pub fn preference_ends_law()
+    ensures { PreferenceEndsLaw }
 {}
