@@ -31,7 +31,7 @@ impl<V> Model for Far<V> {
 }
 
 impl<V: Drop> Far<V> {
-    /// No entry. It takes no memory.
+    /// Returns no entry. It takes no memory.
     pub(crate) fn new(alloc: Global) -> Self
         ensures { result ≡ [] }
     {
@@ -41,7 +41,7 @@ impl<V: Drop> Far<V> {
         }
     }
 
-    /// The value at an identifier. Mostly there is no entry.
+    /// Returns the value at an identifier, or `None`. Mostly there is no entry.
     #[inline(always)]
     pub(crate) fn value(&self, id: &Id) -> Option<&V>
         ensures { option_copied result ≡ value_of self.now id.now }
@@ -63,8 +63,8 @@ impl<V: Drop> Far<V> {
         }
     }
 
-    /// Puts a value at an identifier, and returns the one that was there. On want of memory all is as
-    /// before.
+    /// Puts a value at an identifier, and returns the one that was there. On want of memory all
+    /// stays as it was.
     #[inline(never)]
     pub(crate) fn put(&mut self, id: Id, value: V) -> Result<Option<V>, AllocError>
         ensures before { IfOk result (λ before. before ≡ value_of self.old id) }
@@ -87,7 +87,7 @@ impl<V: Drop> Far<V> {
         }
     }
 
-    /// Takes the value at an identifier out.
+    /// Takes the value at an identifier out and returns it.
     #[inline(never)]
     pub(crate) fn take(&mut self, id: &Id) -> Option<V>
         ensures value { result ≡ value_of self.old id.now }

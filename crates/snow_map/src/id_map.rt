@@ -14,11 +14,13 @@ use std::alloc::{AllocError, Global};
 use std::collections::HashMap;
 use std::marker::Model;
 
-/// Values by identifier, at most one for each. Contracts see the entries, in no order that is told.
+/// Values by identifier, at most one for each. Contracts see the entries, in no order that they
+/// tell.
 ///
-/// An entry stands under its identifier's seat, which few others share, or beside it, in order of
-/// identifiers, where that seat is taken. So a look-up takes a step or two for most identifiers, and
-/// a search in order among those alone that a sender chose to share a seat.
+/// An entry stands under its identifier's seat, one of 65,536. Where another identifier has that
+/// seat, it stands beside it, in order of identifiers. So a look-up takes a step or two for most
+/// identifiers, and a search in order only among those that a sender chose to share a seat.
+/// Rule: this project's own.
 #[derive(Drop)]
 pub struct IdMap<V> {
     near: HashMap<u32, (Id, V)>,
@@ -37,7 +39,8 @@ impl<V> Model for IdMap<V> {
 }
 
 impl<V: Drop> IdMap<V> {
-    /// No value. It takes no memory.
+    /// Returns the empty map. It takes no memory.
+    /// Rule: this project's own.
     pub fn new(alloc: Global) -> Self
         ensures { result ≡ [] }
     {
@@ -47,7 +50,9 @@ impl<V: Drop> IdMap<V> {
         }
     }
 
-    /// The value at an identifier. No identifier stands twice.
+    /// Returns the value at an identifier, or `None` exactly where there is none. No identifier
+    /// stands twice.
+    /// Rule: this project's own.
     #[inline(always)]
     pub fn get(&self, id: &Id) -> Option<&V>
         ensures value { option_copied result ≡ value_of self.now id.now }
@@ -59,7 +64,8 @@ impl<V: Drop> IdMap<V> {
         }
     }
 
-    /// Whether there is a value at an identifier.
+    /// Returns whether there is a value at an identifier.
+    /// Rule: this project's own.
     #[inline(always)]
     pub fn contains_key(&self, id: &Id) -> bool
         ensures { result ≡ is_some (value_of self.now id.now) }
@@ -67,8 +73,10 @@ impl<V: Drop> IdMap<V> {
         self.get(id).is_some()
     }
 
-    /// Puts a value at an identifier, and returns the one that was there. It takes no memory where
-    /// there was one. On want of memory all is as before.
+    /// Puts a value at an identifier, and returns the one that was there, or `None` where there was
+    /// none. All other entries stay. Where there was a value the call takes no memory and can't
+    /// fail. On want of memory it returns `AllocError`, and the map stays as it was.
+    /// Rule: this project's own.
     #[inline(always)]
     pub fn insert(&mut self, id: Id, value: V) -> Result<Option<V>, AllocError>
         ensures before { IfOk result (λ before. before ≡ value_of self.old id) }
@@ -84,7 +92,9 @@ impl<V: Drop> IdMap<V> {
         }
     }
 
-    /// Takes the value at an identifier out. It takes no memory.
+    /// Takes the value at an identifier out and returns it, or `None` exactly where there is none.
+    /// All other entries stay. It takes no memory.
+    /// Rule: this project's own.
     #[inline(always)]
     pub fn remove(&mut self, id: &Id) -> Option<V>
         ensures value { result ≡ value_of self.old id.now }
