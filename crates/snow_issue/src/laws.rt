@@ -17,6 +17,7 @@ pub fn poll_stays_known_law()
 
 /// The 8,192 replacements after which no further gone block is replaced never end the search for a
 /// vote: more of them give the same, also where the gone list has a circle.
+/// Rule: this project's own.
 #[tactic(auto, using(crate::proofs::Descending::enough_replaced))]
 pub fn bubbling_law()
     ensures { BubblingLaw }
