@@ -29,8 +29,8 @@ impl Grouped for Held {
     }
 }
 
-/// The held replies in order of arrival, each with what is remembered of it, and indexes by
-/// identifier and by poll and node.
+/// The held replies in order of arrival, each with its mark, and indexes by identifier and by poll
+/// and node.
 #[derive(Drop)]
 pub(crate) struct Replies {
     alloc: Global,
@@ -93,7 +93,8 @@ impl Replies {
         }
     }
 
-    /// Appends a reply of a node that has none for this poll. After want of memory all is as before.
+    /// Appends a reply of a node that has none for this poll. On want of memory all stays as it
+    /// was.
     pub(crate) fn push(&mut self, reply: Held) -> Result<(), AllocError>
         requires { holds_in (items_of self.old) reply.number reply.node ≡ false }
         ensures ok { OnOk result (self.new ≡ self.old ++ (reply, New) ∷ []) }
@@ -149,7 +150,7 @@ impl Replies {
         self.lineup.wake(id);
     }
 
-    /// The replies to a poll go. It takes no memory.
+    /// Takes the replies to a poll out. It takes no memory.
     pub(crate) fn forget(&mut self, number: u32)
         ensures { self.new ≡ filter (λ s. not (s.0.number == number)) self.old }
     {

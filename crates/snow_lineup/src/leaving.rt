@@ -5,20 +5,24 @@ ghost use Rattle.snow_lineup.specs.Index.{row_of, left_by, has_place, KeepsRows}
 use crate::lineup::{Keyed, Lineup, Slot};
 use crate::rows::Rows;
 
-/// What is of a group.
+/// What belongs to a group.
+/// Rule: this project's own.
 pub trait Grouped: Drop {
     ghost use Rattle.std.specs.Prelude.{◌≡◌, ℕ};
 
     /// The number of its group.
     ghost group: { Self → ℕ };
 
-    /// The number of its group.
+    /// Returns the number of its group, below 2^32.
+    /// Rule: this project's own.
     fn group(&self) -> u32
         ensures { result ≡ group self.now };
 }
 
 impl<T: Keyed + Grouped> Lineup<T> {
-    /// The items of a group go. It takes no memory.
+    /// Takes all items of a group out. The others stay, in their order, with what is remembered of
+    /// them. It takes no memory.
+    /// Rule: this project's own.
     pub fn leave_all(&mut self, group: u32)
         ensures { self.new ≡ filter (λ s. not (T.group s.0 == group)) self.old }
     {
