@@ -18,3 +18,4 @@ pub mod Preferred
 pub mod Supplying
 pub mod Undecided
 pub mod Remembering
+pub mod Counts

@@ -3,6 +3,7 @@ pub mod Closing
 pub mod CompletionLaw
 pub mod Hearing
 pub mod Kept
+pub mod LoopsLaw
 pub mod Matching
 pub mod Outcome
 pub mod Placing

@@ -1,8 +1,20 @@
-//! A law of polls and boards together: a function that does nothing and ensures it.
+//! Laws of polls and boards together, and of a node that runs: each a function that does nothing and
+//! ensures the law.
 ghost use Rattle.snow_node.specs.CompletionLaw.{CompletionLaw};
+ghost use Rattle.snow_node.specs.LoopsLaw.{SettlingEnds, ClosingEnds, RepollsEnd};
 
 /// A poll that closes early leaves the very board that each of its completions would leave.
 /// Rule: this project's own.
 pub fn completion_law()
     ensures { CompletionLaw }
+{}
+
+/// Settling, closing and repolls go on until nothing is left to do: the count from which each is
+/// made never ends it, and with any greater one the same lines and the same node come out.
+/// Rule: this project's own.
+#[tactic(auto, using(crate::proofs::Counts::settling_ends, crate::proofs::Counts::closing_ends, crate::proofs::Counts::repolls_end))]
+pub fn loops_law()
+    ensures settling { SettlingEnds }
+    ensures closing { ClosingEnds }
+    ensures repolls { RepollsEnd }
 {}
