@@ -19,3 +19,6 @@ pub mod Supplying
 pub mod Undecided
 pub mod Remembering
 pub mod Counts
+pub mod Opening
+pub mod Calm
+pub mod AtRest

@@ -9,6 +9,7 @@ pub mod Outcome
 pub mod Placing
 pub mod Querying
 pub mod Remembering
+pub mod RestLaw
 pub mod Running
 pub mod RunningCode
 pub mod Settling

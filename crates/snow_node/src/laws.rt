@@ -2,6 +2,7 @@
 //! ensures the law.
 ghost use Rattle.snow_node.specs.CompletionLaw.{CompletionLaw};
 ghost use Rattle.snow_node.specs.LoopsLaw.{SettlingEnds, ClosingEnds, RepollsEnd};
+ghost use Rattle.snow_node.specs.RestLaw.{RestLaw};
 
 /// A poll that closes early leaves the very board that each of its completions would leave.
 /// Rule: this project's own.
@@ -17,4 +18,12 @@ pub fn loops_law()
     ensures settling { SettlingEnds }
     ensures closing { ClosingEnds }
     ensures repolls { RepollsEnd }
+{}
+
+/// Between two events a node that runs is at rest: no waiting block is hopeless or ready, no held
+/// reply is free to vote, and no closed poll stands in front.
+/// Rule: this project's own.
+#[tactic(auto, using(crate::proofs::AtRest::at_rest))]
+pub fn rest_law()
+    ensures { RestLaw }
 {}
