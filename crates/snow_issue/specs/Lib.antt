@@ -6,4 +6,5 @@ pub mod Bubbling
 pub mod Known
 pub mod KnownLaw
 pub mod Index
+pub mod Arrivals
 pub mod Keeping

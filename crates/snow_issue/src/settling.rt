@@ -154,10 +154,8 @@ impl Queue {
         ensures gone { self.new.gone ≡ self.old.gone }
         ensures limits { AreWithinLimits (lists_of self.new) }
     {
-        let at = looking::first_free(&mut self.replies, &self.waiting, &self.gets);
-        if at >= self.replies.len() {
-            return None;
-        }
-        Some(self.replies.take(at))
+        let reply = looking::first_free(&mut self.replies, &self.waiting, &self.gets)?;
+        self.replies.take_first();
+        Some(reply)
     }
 }

@@ -11,7 +11,7 @@ use Rattle.std.proofs.lemmas.List.Kept.{AllPairs-filter}
 use Rattle.std.proofs.lemmas.List.Quantifiers.{all_pairs_push, all_pairs_remove}
 use Rattle.snow_lineup.specs.declared.lineup.Slot.{Slot}
 use Rattle.snow_lineup.specs.declared.marks.Mark.{Mark}
-use Rattle.snow_lineup.specs.Index.{RowMap, row_of, has_place, left_by, tag_of, seat_of, IsIndexed, KeepsRows}
+use Rattle.snow_lineup.specs.Index.{RowMap, row_of, has_place, left_by, tag_of, seat_of, IsIndexed}
 use Rattle.snow_lineup.proofs.Noted.{id_itself, id_turned, has_pushed, has_left, none_left}
 use Rattle.snow_lineup.proofs.Booleans.{or_false, or_true}
 
@@ -155,26 +155,4 @@ indexed_remove tags at gone before now next there is_gone is change =
           ∙ other_left (bytes_eq gone.1 id) (row_of before id) gone.0 (get_or (remove tags at) k d).0 apart
           ∙ kept k d within id;
       unused = λ id place high. ap (has_place place) (change id) ∙ unused_left (bytes_eq gone.1 id) (row_of before id) gone.0 place (is.unused id place high);
-    }
-
--- ---- the items that pass
-
-pub indexed_filter : {T : Type 0} (key : T → List ℕ) (stays : Slot T → Bool) (slots : List (Slot T)) (before now : RowMap) (next : ℕ)
-    → IsIndexed (map (tag_of key) slots) before next → KeepsRows stays slots before now
-    → ((id : List ℕ) (place : ℕ) → has_place place (row_of before id) ≡ false → has_place place (row_of now id) ≡ false)
-    → IsIndexed (map (tag_of key) (filter stays slots)) now next
-indexed_filter {T} key stays slots before now next is kept unused =
-    let Found : Slot T → Type 0 = λ s. stays s ≡ true → (id : List ℕ) → has_place s.place (row_of now id) ≡ bytes_eq id (key s.item) in
-    let before_found = All_unmap (λ (t : Tag). (id : List ℕ) → has_place t.0 (row_of before id) ≡ bytes_eq id t.1) (tag_of key) slots is.found in
-    let found : All Found slots = λ k d within passes id. kept k d within passes id ∙ before_found k d within id in
-    let passed : All (λ (s : Slot T). stays s ≡ true) (filter stays slots) = filter_passes stays slots in
-    let left : All Found (filter stays slots) = All-filter stays Found slots found in
-    record {
-      rising = AllPairs_map (λ (a : Tag) (b : Tag). a.0 < b.0) (tag_of key) (filter stays slots)
-          (AllPairs-filter (λ (s : Slot T) (t : Slot T). s.place < t.place) stays slots (AllPairs_unmap (λ (a : Tag) (b : Tag). a.0 < b.0) (tag_of key) slots is.rising));
-      below = All-map (λ (t : Tag). t.0 < next) (tag_of key) (filter stays slots)
-          (All-filter stays (λ (s : Slot T). s.place < next) slots (All_unmap (λ (t : Tag). t.0 < next) (tag_of key) slots is.below));
-      found = All-map (λ (t : Tag). (id : List ℕ) → has_place t.0 (row_of now id) ≡ bytes_eq id t.1) (tag_of key) (filter stays slots)
-          (λ k d within. left k d within (passed k d within));
-      unused = λ id place high. unused id place (is.unused id place high);
     }
