@@ -31,7 +31,7 @@ next_is seats reply h =
       is = λ d. sym s.2 ∙ ap (λ (t : Held × Mark). t.0) (at.1 ∙ get_or_default seats (position_or_len (has New) seats) s.0 d at.0);
     }
 
-none_there : {T : Type 0} (p : T → Bool) (xs : List T) → find p xs ≡ None → length xs ≤ position_or_len p xs
+pub none_there : {T : Type 0} (p : T → Bool) (xs : List T) → find p xs ≡ None → length xs ≤ position_or_len p xs
 none_there p [] h = omega arith
 none_there {T} p (y ∷ xs) h =
     let Goal : Bool → Type 0 = λ b. cond b (Some y) (find p xs) ≡ None → suc (length xs) ≤ cond (not b) (1 + position_or_len p xs) 0 in

@@ -54,6 +54,29 @@ nested R exact view before now k w inner new change step n j =
       | false ↦ λ t. refl
     ]) refl
 
+-- where it is exchanged for one that is seen alike
+pub nested_same : {K M J B : Type 0} (R : K → K → Ordering) → CmpEqualImpliesEq R → (view : Option M → J → B) (before now : BTreeMap K M) (k : K) (w : Option M)
+    → ((q : K) → get R now q ≡ cond (is_at (R k) q) w (get R before q)) → ((j : J) → view w j ≡ view (get R before k) j)
+    → (n : K) (j : J) → view (get R now n) j ≡ view (get R before n) j
+nested_same R exact view before now k w change step n j =
+    let Goal : Bool → Type 0 = λ t. is_at (R k) n ≡ t → view (cond t w (get R before n)) j ≡ view (get R before n) j in
+    ap (λ o. view o j) (change n)
+    ∙ (elim (is_at (R k) n) as Goal [
+      | true ↦ λ t. step j ∙ ap (λ m. view (get R before m) j) (exact k n (equal_by (R k n) t))
+      | false ↦ λ t. refl
+    ]) refl
+
+-- where there is none for a key, nothing is taken out
+pub nested_missing : {K M J B : Type 0} (R : K → K → Ordering) → CmpEqualImpliesEq R → (view : Option M → J → B) (before : BTreeMap K M) (k : K) (inner : J → Bool) (new : B)
+    → get R before k ≡ None → ((j : J) → view None j ≡ new) → (n : K) (j : J) → view (get R before n) j ≡ cond (is_at (R k) n && inner j) new (view (get R before n) j)
+nested_missing {B = B} R exact view before k inner new none nothing n j =
+    let Goal : Bool → Type 0 = λ t. is_at (R k) n ≡ t → view (get R before n) j ≡ cond (t && inner j) new (view (get R before n) j) in
+    let same : (b : Bool) (x : B) → x ≡ new → x ≡ cond b new x = λ b x e. (elim b as (λ b. x ≡ cond b new x) [ true ↦ e | false ↦ refl ]) in
+    (elim (is_at (R k) n) as Goal [
+      | true ↦ λ t. same (inner j) (view (get R before n) j) (ap (λ m. view (get R before m) j) (sym (exact k n (equal_by (R k n) t))) ∙ ap (λ o. view o j) none ∙ nothing j)
+      | false ↦ λ t. refl
+    ]) refl
+
 -- whether a poll and node are those of a reply
 abbrev pub is_of : Held → ℕ → List ℕ → Bool
 is_of h n node = is_at (nat_cmp h.number) n && is_at (slice_cmp nat_cmp h.node) node
@@ -63,7 +86,7 @@ of_parts h n node t =
     let parts = and_parts (is_at (nat_cmp h.number) n) (is_at (slice_cmp nat_cmp h.node) node) t in
     (same_number h.number n parts.0, exact_bytes h.node node (equal_by (slice_cmp nat_cmp h.node node) parts.1))
 
-node_itself : (node : List ℕ) → is_at (slice_cmp nat_cmp node) node ≡ true
+pub node_itself : (node : List ℕ) → is_at (slice_cmp nat_cmp node) node ≡ true
 node_itself node = is_eq-slice_cmp node node ∙ id_itself node
 
 of_itself : (h : Held) → is_of h h.number h.node ≡ true
@@ -75,7 +98,7 @@ reply_back : (o : Option Kept) (h : Held) → option_map (λ k. k.reply) o ≡ S
 reply_back None h e = absurd cc
 reply_back (Some k) h e = (k, refl, cc)
 
-key_back : (o : Option Kept) (key : List ℕ) → option_map (λ k. reply_key k.reply) o ≡ Some key → (k : Kept) × (o ≡ Some k) × (reply_key k.reply ≡ key)
+pub key_back : (o : Option Kept) (key : List ℕ) → option_map (λ k. reply_key k.reply) o ≡ Some key → (k : Kept) × (o ≡ Some k) × (reply_key k.reply ≡ key)
 key_back None key e = absurd cc
 key_back (Some k) key e = (k, refl, cc)
 

@@ -192,12 +192,11 @@ replies_woken numbers id (e ∷ es) a =
       | false ↦ replies_woken numbers id es a
     ]
 
-wake_seat : (k : Kept) (a b : Bool) → (b ≡ true → a ≡ true)
-    → ((cond (a && b) (loud k) k).reply, mark_of (cond (a && b) (loud k) k)) ≡ (k.reply, cond b New (mark_of k))
-wake_seat k true true h = refl
-wake_seat k true false h = refl
-wake_seat k false true h = let t = h refl in absurd cc
-wake_seat k false false h = refl
+wake_seat : (n : ℕ) (k : Kept) (a b : Bool) → (b ≡ true → a ≡ true) → seat_of (n, cond (a && b) (loud k) k) ≡ (k.reply, cond b New (mark_of k))
+wake_seat n k true true h = refl
+wake_seat n k true false h = refl
+wake_seat n k false true h = let t = h refl in absurd cc
+wake_seat n k false false h = refl
 
 -- each reply that names the block has one of the numbers
 pub seats_woken : (numbers id : List ℕ) (es : Entries) → All (λ e. bytes_eq id e.1.reply.id ≡ true → list_any (is_at (nat_cmp e.0)) numbers ≡ true) es
@@ -207,7 +206,7 @@ seats_woken numbers id (e ∷ es) h =
     let P : ℕ × Kept → Type 0 = λ e. bytes_eq id e.1.reply.id ≡ true → list_any (is_at (nat_cmp e.0)) numbers ≡ true in
     let rest = map (woken (λ (h : Held). h.id) id) (map seat_of es) in
     ap (λ l. seat_of (woken_among numbers id e) ∷ l) (seats_woken numbers id es (All-tail P e es h))
-    ∙ ap (λ s. s ∷ rest) (wake_seat e.1 (list_any (is_at (nat_cmp e.0)) numbers) (bytes_eq id e.1.reply.id) (All-head P e es h))
+    ∙ ap (λ s. s ∷ rest) (wake_seat e.0 e.1 (list_any (is_at (nat_cmp e.0)) numbers) (bytes_eq id e.1.reply.id) (All-head P e es h))
 
 -- ---- replies of a poll
 
@@ -242,3 +241,29 @@ items_filtered (s ∷ seats) number =
     let Goal : Bool → Type 0 = λ b. items_of (cond b (s ∷ filter (λ s. not (s.0.number == number)) seats) (filter (λ s. not (s.0.number == number)) seats))
     ≡ cond b (s.0 ∷ filter (λ h. not (h.number == number)) (items_of seats)) (filter (λ h. not (h.number == number)) (items_of seats)) in
     elim (not (s.0.number == number)) as Goal [ true ↦ ap (λ l. s.0 ∷ l) rest | false ↦ rest ]
+
+-- ---- one reply more, and one that rests
+
+pub seats_pushed : (es now : Entries) (n : ℕ) (reply : Held) → now ≡ es ++ (n, record { reply = reply; quiet = false }) ∷ [] → map seat_of now ≡ map seat_of es ++ (reply, New) ∷ []
+seats_pushed es now n reply end =
+    let last : Entries = (n, record { reply = reply; quiet = false }) ∷ [] in
+    ap (map seat_of) end ∙ map-append seat_of es last
+
+same_replies : (es : Entries) (n : ℕ) (k w : Kept) (a : ℕ) → at_arrival es n ≡ Some k → w.reply ≡ k.reply
+    → option_map (λ k. k.reply) (at_arrival (set_value (is_at (nat_cmp n)) es w) a) ≡ option_map (λ k. k.reply) (at_arrival es a)
+same_replies [] n k w a found same = refl
+same_replies (e ∷ es) n k w a found same =
+    let Goal : Bool → Type 0 = λ t. cond t (Some e.1) (at_arrival es n) ≡ Some k
+    → option_map (λ k. k.reply) (at_arrival (cond t ((e.0, w) ∷ es) (e ∷ set_value (is_at (nat_cmp n)) es w)) a) ≡ option_map (λ k. k.reply) (at_arrival (e ∷ es) a) in
+    let one : (b : Bool) (x y : Kept) (o : Option Kept) → x.reply ≡ y.reply → option_map (λ k. k.reply) (cond b (Some x) o) ≡ option_map (λ k. k.reply) (cond b (Some y) o) =
+    λ b x y o h. (elim b as (λ b. option_map (λ k. k.reply) (cond b (Some x) o) ≡ option_map (λ k. k.reply) (cond b (Some y) o)) [ true ↦ ap Some h | false ↦ refl ]) in
+    let two : (b : Bool) (x : Kept) (o p : Option Kept) → option_map (λ k. k.reply) o ≡ option_map (λ k. k.reply) p → option_map (λ k. k.reply) (cond b (Some x) o) ≡ option_map (λ k. k.reply) (cond b (Some x) p) =
+    λ b x o p h. (elim b as (λ b. option_map (λ k. k.reply) (cond b (Some x) o) ≡ option_map (λ k. k.reply) (cond b (Some x) p)) [ true ↦ refl | false ↦ h ]) in
+    elim (is_at (nat_cmp n) e.0) as Goal [
+      | true ↦ λ h. let is : e.1 ≡ k = cc in one (is_at (nat_cmp a) e.0) w e.1 (at_arrival es a) (same ∙ ap (λ (k : Kept). k.reply) (sym is))
+      | false ↦ λ h. two (is_at (nat_cmp a) e.0) e.1 (at_arrival (set_value (is_at (nat_cmp n)) es w) a) (at_arrival es a) (same_replies es n k w a h same)
+    ] found
+
+pub replies_rested : (es : Entries) (n : ℕ) (reply : Held) (a : ℕ) → IsFirst es n reply
+    → option_map (λ k. k.reply) (at_arrival (set_value (is_at (nat_cmp n)) es (record { reply = reply; quiet = true })) a) ≡ option_map (λ k. k.reply) (at_arrival es a)
+replies_rested es n reply a is = same_replies es n (record { reply = reply; quiet = false }) (record { reply = reply; quiet = true }) a is.there refl

@@ -47,7 +47,7 @@ number_apart a b h = false_from_ne_true (is_at (nat_cmp a) b) (λ t. h (same_num
 -- ---- look-ups
 
 -- no number is below those of all entries
-none_before : (es : Entries) (a b : ℕ) → AllByRecursion (λ y. nat_cmp b y ≡ Less) (keys_of es) → a ≤ b → at_arrival es a ≡ None
+pub none_before : (es : Entries) (a b : ℕ) → AllByRecursion (λ y. nat_cmp b y ≡ Less) (keys_of es) → a ≤ b → at_arrival es a ≡ None
 none_before [] a b h le = refl
 none_before (e ∷ es) a b h le =
     let less : b < e.0 = number_below b e.0 h.0 in

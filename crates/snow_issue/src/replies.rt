@@ -122,19 +122,21 @@ impl Replies {
         requires { position_or_len (has New) self.old < length self.old }
         ensures { HoldsAt (λ s. self.new ≡ slice_set self.old (position_or_len (has New) self.old) (s.0, Quiet)) self.old (position_or_len (has New) self.old) }
     {
-        if let Some((arrival, reply)) = self.backlog.first() {
-            self.backlog.rest_first(arrival, reply);
-        }
+        let Some((arrival, reply)) = self.backlog.first() else {
+            return;
+        };
+        self.backlog.rest_first(arrival, reply);
     }
 
     /// Takes the first reply that is to be looked at out. It takes no memory.
     pub(crate) fn take_first(&mut self)
         ensures { self.new ≡ remove self.old (position_or_len (has New) self.old) }
     {
-        if let Some((arrival, reply)) = self.backlog.first() {
-            arrivals::unfile(&mut self.polls, reply.number, &reply.node);
-            arrivals::drop_one(&mut self.backlog, &mut self.blocks, arrival);
-        }
+        let Some((arrival, reply)) = self.backlog.first() else {
+            return;
+        };
+        arrivals::unfile(&mut self.polls, reply.number, &reply.node);
+        arrivals::drop_one(&mut self.backlog, &mut self.blocks, arrival);
     }
 
     /// Forgets what is remembered of the replies that name a block. It takes no memory.
