@@ -280,3 +280,28 @@ filed_taken es now before after named names next gone k is there sorted left fil
           ]) refl (sym (filed n node) ∙ at);
       named_so = λ a j found. let old = cases a j found in others j.reply.id a old.0 ∙ is.named_so a j old.1;
     }
+
+-- a number that came and went
+pub filed_undone : (before : Numbers) (h : Held) (a n : ℕ) (node : List ℕ) → before h.number h.node ≡ None → cond (is_of h n node) None (cond (is_of h n node) (Some a) (before n node)) ≡ before n node
+filed_undone before h a n node none =
+    let Goal : Bool → Type 0 = λ t. is_of h n node ≡ t → cond t None (cond t (Some a) (before n node)) ≡ before n node in
+    elim (is_of h n node) as Goal [
+      | true ↦ λ t. let parts = of_parts h n node t in sym none ∙ ap (λ m. before m h.node) parts.0 ∙ ap (before n) parts.1
+      | false ↦ λ t. refl
+    ] refl
+
+none_from : (o : Option ℕ) → is_some o ≡ false → o ≡ None
+none_from None h = refl
+none_from (Some a) h = absurd cc
+
+-- where a node's reply isn't held, it has no number
+pub no_number : (es : Entries) (numbers : Numbers) (named : Names) (next n : ℕ) (node : List ℕ) → IsFiled es numbers named next → holds_in (items_of (map seat_of es)) n node ≡ false → numbers n node ≡ None
+no_number es numbers named next n node is none = none_from (numbers n node) (held_by_number es numbers named next n node is ∙ none)
+
+-- each reply that names a block is among those whose numbers are kept under it
+pub all_named : (es : Entries) (numbers : Numbers) (named : Names) (next : ℕ) (row id : List ℕ) → IsFiled es numbers named next
+    → ((a : ℕ) → named id a ≡ true → list_any (is_at (nat_cmp a)) row ≡ true)
+    → All (λ e. bytes_eq id e.1.reply.id ≡ true → list_any (is_at (nat_cmp e.0)) row ≡ true) es
+all_named es numbers named next row id is among =
+    each (λ e. bytes_eq id e.1.reply.id ≡ true → list_any (is_at (nat_cmp e.0)) row ≡ true) es is.sorted
+    (λ a k found same. among a (ap (λ q. named q a) (same_id id k.reply.id same) ∙ is.named_so a k found))

@@ -102,7 +102,9 @@ pub(crate) fn first_free(replies: &mut Replies, waiting: &WaitingList, gets: &Ge
     ensures rests { All (Rests (items_of waiting.now) gets.now) replies.new }
 {
     loop {
-        let reply = replies.first_new()?;
+        let Some(reply) = replies.first_new() else {
+            return None;
+        };
         if is_free(waiting, gets, &reply) {
             return Some(reply);
         }

@@ -113,7 +113,9 @@ impl Replies {
         ensures first { result ≡ option_map (λ s. s.0) (find (has New) self.old) }
         ensures same { self.new ≡ self.old }
     {
-        let (_, reply) = self.backlog.first()?;
+        let Some((_, reply)) = self.backlog.first() else {
+            return None;
+        };
         Some(reply)
     }
 
