@@ -15,8 +15,9 @@ use std::marker::Model;
 mod tests;
 
 /// A block is its identifier of 32 bytes, its parent of 32, its height of 8 and a number of 8, and
-/// nothing behind. A state is a counter, and a block is valid where its number is its parent's counter
-/// plus 1; its own counter is then that number.
+/// nothing behind: 80 bytes. A state is a counter below 2^64. A block is valid where its number is
+/// its parent's counter plus 1; its own counter is then that number.
+/// Rule: this project's own.
 #[derive(Drop)]
 pub struct CountingChain {
     states: States,
@@ -34,7 +35,8 @@ impl Model for CountingChain {
 }
 
 impl CountingChain {
-    /// The states that it holds.
+    /// Returns the states that it holds.
+    /// Rule: this project's own.
     pub fn states(&self) -> &States
         ensures { result.now ≡ self.now }
     {

@@ -10,26 +10,30 @@ use snow_engine::End;
 use snow_plain::Board;
 use std::alloc::Global;
 
-/// What an audit finds.
+/// What an audit finds. Lines are counted from 1 over the whole run.
+/// Rule: this project's own.
 #[derive(Clone, Copy, Debug, PartialEq, Eq)]
 pub enum AuditEnd {
     /// So many lines are recorded, and they are the model's.
     Same { lines: u64 },
     /// The recorded lines aren't the model's from this one on, counted from 1.
     Differs { line: u64 },
-    /// The run or its stream stopped, and no line before differs. This is neither `Done` nor `SinkFault`.
+    /// The run or its stream stopped, and no line before differs. This is neither `Done` nor
+    /// `SinkFault`.
     Stopped(End),
 }
 
-/// Audits a run that was recorded: the source gives the run's events, and behind each the lines that the
-/// run wrote for it, as Line events. They are held against those of the model as they come, so that the
-/// lines of one event alone are held, and the first that differs ends the reading. `Same` where the
-/// source ends behind whole frames and no line differs. `Differs` at the first event whose recorded lines
-/// aren't the model's, where it comes before any stop; before a stream that is cut, or that reaches 2^40
-/// bytes or a length that no frame has, the last event's lines may be a front of the model's. Else
-/// `Stopped`, with the run's stop or that of its stream, frames being counted among all; where the run
-/// stops at its first frame no line is looked at. `SourceFault` and `Memory` may come in place of each
-/// answer. Events, lines and the audit are this project's own.
+/// Audits a recorded run: the source gives the run's events, and behind each the lines that the run
+/// wrote for it, as Line events. It holds them against those of the model as they come, so it keeps
+/// the lines of one event alone, and the first that differs ends the reading.
+///
+/// It returns `Same` where the source ends behind whole frames and no line differs, and `Differs`
+/// at the first event whose recorded lines aren't the model's, where it comes before any stop.
+/// Before a stream that is cut, or that reaches 2^40 bytes or a length that no frame has, the last
+/// event's lines may be a front of the model's. Else it returns `Stopped`, with the run's stop or
+/// that of its stream, which counts all frames. Where the run stops at its first frame it looks at
+/// no line. `SourceFault` and `Memory` may come in place of each answer.
+/// Rule: this project's own.
 pub fn audit<C: Chain, B: Board, S: Source>(alloc: Global, source: &mut S) -> AuditEnd
     // The answer is the model's, but for a source fault and want of memory.
     ensures answer { IfSome (S.left source.old) (λ bytes. IsAnswer result (audit_of C.rules B.answer bytes)) }

@@ -17,7 +17,8 @@ use snow_plain::Board;
 use snow_wire::{Decoder, ReadFault};
 use std::alloc::Global;
 
-/// An audit over a stream: the bytes that wait for a whole frame, and what is known of the run.
+/// An audit over a stream: the bytes that wait for a whole frame, and the follower of the run.
+/// Rule: this project's own.
 #[derive(Drop)]
 pub struct Auditor<C: Chain, B: Board> {
     pub decoder: Decoder,
@@ -25,7 +26,8 @@ pub struct Auditor<C: Chain, B: Board> {
 }
 
 impl<C: Chain, B: Board> Auditor<C, B> {
-    /// An audit to which nothing came yet.
+    /// Returns the audit to which nothing came yet.
+    /// Rule: this project's own.
     pub fn new(alloc: Global) -> Self
         ensures decoder { result.decoder ≡ fresh }
         ensures stop { result.follower.stop ≡ None }
@@ -41,7 +43,9 @@ impl<C: Chain, B: Board> Auditor<C, B> {
         }
     }
 
-    /// Takes pieces until the source ends, the audit has its answer, or 2^40 bytes were taken.
+    /// Takes pieces until the source ends, the audit has its answer, or 2^40 bytes came, and
+    /// returns what `audit` does. Nothing came before.
+    /// Rule: this project's own.
     pub fn run<S: Source>(&mut self, source: &mut S) -> AuditEnd
         requires decoder { self.old.decoder ≡ fresh }
         requires stop { self.old.follower.stop ≡ None }
@@ -95,7 +99,8 @@ impl<C: Chain, B: Board> Auditor<C, B> {
         Ok(())
     }
 
-    /// Takes the first frame that the decoder holds; false where it holds no whole one.
+    /// Takes the first frame that the decoder holds. It returns `false` where the decoder holds no
+    /// whole one.
     fn take_next(&mut self) -> Result<bool, AuditEnd>
         requires small { 4 * self.old.decoder.given + length self.old.decoder.rest ≤ 2 ^ 40 }
         requires task { self.old.follower.runner.task ≡ task.Run }
@@ -128,7 +133,7 @@ impl<C: Chain, B: Board> Auditor<C, B> {
         }
     }
 
-    /// The answer where the source has no further byte.
+    /// Returns the answer where the source has no further byte.
     fn at_end_of_input(&self) -> AuditEnd
         requires given { self.now.decoder.given < 2 ^ 64 - 1 }
         requires lines { self.now.follower.lines < 2 ^ 64 - 1 }
@@ -139,7 +144,7 @@ impl<C: Chain, B: Board> Auditor<C, B> {
         self.follower.at_end(self.end_of_input())
     }
 
-    /// How a stream ends that has no further byte.
+    /// Returns how a stream ends that has no further byte.
     fn end_of_input(&self) -> End
         requires given { self.now.decoder.given < 2 ^ 64 - 1 }
         requires calm { is_too_long self.now.decoder.rest ≡ false }

@@ -16,8 +16,9 @@ use snow_plain::Board;
 use snow_wire::line_in;
 use std::alloc::Global;
 
-/// What is known of a run behind the frames that came: the run as the model makes it, with the lines of
-/// its last event, and how many of those are recorded.
+/// The run as the model makes it from the frames that came, with the lines of its last event, and
+/// how many of those are recorded.
+/// Rule: this project's own.
 #[derive(Drop)]
 pub struct Follower<C: Chain, B: Board> {
     pub runner: Runner<C, B>,
@@ -33,7 +34,8 @@ pub struct Follower<C: Chain, B: Board> {
 }
 
 impl<C: Chain, B: Board> Follower<C, B> {
-    /// Nothing came yet.
+    /// Returns the follower to which nothing came yet.
+    /// Rule: this project's own.
     pub fn new(alloc: Global) -> Self
         ensures stop { result.stop ≡ None }
         ensures engine { result.runner.engine ≡ None }
@@ -52,8 +54,10 @@ impl<C: Chain, B: Board> Follower<C, B> {
         }
     }
 
-    /// Takes a frame: a recorded line is held against the model's, and an event is the run's next. The
-    /// answer of the audit, where the frame gives it.
+    /// Takes a frame: it holds a recorded line against the model's, and an event is the run's next.
+    /// Where the frame gives the answer of the audit, it returns that as its error; on want of
+    /// memory, that is `Stopped(Memory)`.
+    /// Rule: this project's own.
     pub fn take(&mut self, frame: u64, payload: &[u8]) -> Result<(), AuditEnd>
         requires task { self.old.runner.task ≡ task.Run }
         requires stop { IsKept self.old.stop }
@@ -74,14 +78,14 @@ impl<C: Chain, B: Board> Follower<C, B> {
         }
     }
 
-    /// Whether no frame came yet.
+    /// Returns whether no frame came yet.
     fn is_fresh(&self) -> bool
         ensures { result ≡ is_fresh (stands self.now.stop self.now.runner.engine) }
     {
         self.stop.is_none() && self.runner.engine.is_none()
     }
 
-    /// Takes the first frame. Behind it no line is looked at where the run stops there.
+    /// Takes the first frame. Where the run stops there, it looks at no line behind it.
     fn take_first(&mut self, frame: u64, payload: &[u8]) -> Result<(), AuditEnd>
         requires task { self.old.runner.task ≡ task.Run }
         requires stop { self.old.stop ≡ None }
@@ -100,7 +104,7 @@ impl<C: Chain, B: Board> Follower<C, B> {
         }
     }
 
-    /// Takes a recorded line.
+    /// Takes a recorded line, and compares it.
     fn take_line(&mut self, text: &[u8]) -> Result<(), AuditEnd>
         requires count { self.old.events + self.old.lines < 2 ^ 64 - 1 }
         ensures moves { Moves result (between self.new.stop self.new.runner.engine self.new.events self.new.lines self.new.at self.new.runner.log)
@@ -124,7 +128,7 @@ impl<C: Chain, B: Board> Follower<C, B> {
         }
     }
 
-    /// That the next line isn't the model's.
+    /// Returns the answer that the next line isn't the model's.
     fn differs(&self) -> AuditEnd
         requires { self.now.lines < 2 ^ 64 - 1 }
         ensures { result ≡ audit.Differs (self.now.lines + 1) }
@@ -134,7 +138,8 @@ impl<C: Chain, B: Board> Follower<C, B> {
         }
     }
 
-    /// Takes an event, before which all lines have to be recorded. Behind a stop there is none.
+    /// Takes an event, before which all lines have to be recorded. Behind a stop of the run it
+    /// takes none.
     fn take_event(&mut self, frame: u64, payload: &[u8]) -> Result<(), AuditEnd>
         requires task { self.old.runner.task ≡ task.Run }
         requires stop { IsKept self.old.stop }
@@ -158,7 +163,7 @@ impl<C: Chain, B: Board> Follower<C, B> {
         }
     }
 
-    /// Whether a line of the last event isn't recorded yet.
+    /// Returns whether a line of the last event isn't recorded yet.
     fn is_owing(&self) -> bool
         ensures some { result ≡ true → self.now.at < length self.now.runner.log }
         ensures none { result ≡ false → owed_of self.now.at self.now.runner.log ≡ [] }
@@ -166,7 +171,7 @@ impl<C: Chain, B: Board> Follower<C, B> {
         self.at < self.runner.log.list().len()
     }
 
-    /// The run takes its next event. That a frame is passed over is a line too.
+    /// Gives the run its next event. That the run passes over a frame is a line too.
     fn step(&mut self, frame: u64, payload: &[u8]) -> Result<(), AuditEnd>
         requires task { self.old.runner.task ≡ task.Run }
         requires stop { self.old.stop ≡ None }
@@ -210,7 +215,8 @@ impl<C: Chain, B: Board> Follower<C, B> {
         }
     }
 
-    /// The run stopped in a frame. Its own number of it is that among the events.
+    /// Notes that the run stopped in a frame. The stop names the frame among all, where the run
+    /// counts events alone.
     fn stops(&mut self, frame: u64) -> Result<(), AuditEnd>
         ensures stop { OnOk result (self.new.stop ≡ Some (at_frame self.old.runner.end frame)) }
         ensures memory { OnErr result ((result ≡ Err (audit.Stopped end.Memory)) × (self.old.runner.end ≡ end.Memory)) }
@@ -231,7 +237,9 @@ impl<C: Chain, B: Board> Follower<C, B> {
         Ok(())
     }
 
-    /// The answer where no frame comes any more, and the stream ends so.
+    /// Returns the answer of the audit where no frame comes any more and the stream ends so. Fewer
+    /// than 2^64-1 lines came.
+    /// Rule: this project's own.
     pub fn at_end(&self, stream: End) -> AuditEnd
         requires { self.now.lines < 2 ^ 64 - 1 }
         ensures { result ≡ at_end (between self.now.stop self.now.runner.engine self.now.events self.now.lines self.now.at self.now.runner.log)
@@ -243,8 +251,8 @@ impl<C: Chain, B: Board> Follower<C, B> {
         self.at_last_line(stream)
     }
 
-    /// The same where a line of the last event isn't recorded: that is a difference, unless the stream
-    /// breaks off.
+    /// Returns the answer at the end where a line of the last event isn't recorded: a difference,
+    /// unless the stream breaks off.
     fn at_end_owing(&self, stream: End) -> AuditEnd
         requires { self.now.lines < 2 ^ 64 - 1 }
         ensures { result ≡ (if breaks_off stream then ends_as self.now.lines (stop_of (stands self.now.stop self.now.runner.engine)) stream
@@ -256,7 +264,7 @@ impl<C: Chain, B: Board> Follower<C, B> {
         }
     }
 
-    /// The same where all lines are recorded, or no more is asked for.
+    /// Returns the answer at the end where all lines are recorded, or no more are wanted.
     #[tactic(auto, using(crate::proofs::Owing::stop_where))]
     fn at_last_line(&self, stream: End) -> AuditEnd
         ensures { result ≡ ends_as self.now.lines (stop_of (stands self.now.stop self.now.runner.engine)) stream }
@@ -267,7 +275,7 @@ impl<C: Chain, B: Board> Follower<C, B> {
         }
     }
 
-    /// The same where the run goes on.
+    /// Returns the answer at the end where the run goes on.
     fn at_stream_end(&self, stream: End) -> AuditEnd
         ensures { result ≡ ends_as self.now.lines None stream }
     {

@@ -8,8 +8,9 @@ ghost use Rattle.snow_engine.specs.declared.task.Task.TheVariants as task;
 ghost use Rattle.snow_audit.specs.Auditing.{audit_of};
 ghost use Rattle.snow_audit.specs.OwnLines.{fits, is_difference, is_event, recording};
 
-/// A run that is recorded with its own lines, each event's behind it, never differs: where no event is a
-/// recorded line itself, and each line that the run writes fits a frame.
+/// A run that is recorded with its own lines, each event's behind it, never differs, where no event
+/// is a Line event itself and each line that the run writes fits one.
+/// Rule: this project's own.
 pub fn audit_law()
     ensures { (rules : Rules) (answer : Answer) (payloads : List (List ℕ)) (bytes : List ℕ)
         → list_all is_event payloads ≡ true

@@ -8,8 +8,9 @@ use snow_lines::{Line, print};
 use std::alloc::{AllocError, Global};
 use std::marker::Model;
 
-/// A sheet on which a line is printed, in memory that is used again. It fails where there is none for
-/// the line.
+/// A sheet on which a line is printed, in memory that it uses again. It fails where there is none
+/// for the line.
+/// Rule: this project's own.
 #[derive(Drop)]
 pub struct Sheet {
     bytes: Bytes,
@@ -25,7 +26,8 @@ impl Model for Sheet {
 }
 
 impl Sheet {
-    /// An empty sheet. It takes no memory.
+    /// Returns an empty sheet. It takes no memory.
+    /// Rule: this project's own.
     pub fn new(alloc: Global) -> Self {
         Sheet {
             bytes: Bytes::new(alloc),
@@ -33,7 +35,9 @@ impl Sheet {
         }
     }
 
-    /// Whether this is the text of a line, but for the newline behind it.
+    /// Returns whether these bytes are the text of a line without its newline. On want of memory it
+    /// returns `AllocError`.
+    /// Rule: this project's own.
     pub fn shows(&mut self, line: &Line, recorded: &[u8]) -> Result<bool, AllocError>
         ensures { IfOk result (λ same. same ≡ bytes_eq (recorded.now ++ 10 ∷ []) (text line.now)) }
     {
@@ -45,7 +49,7 @@ impl Sheet {
     }
 }
 
-/// Whether these bytes are the recorded ones with a newline behind them.
+/// Returns whether these bytes are the recorded ones with a newline behind them.
 fn is_printed(bytes: &[u8], recorded: &[u8]) -> bool
     ensures { result ≡ bytes_eq (recorded.now ++ 10 ∷ []) bytes.now }
 {
@@ -55,7 +59,7 @@ fn is_printed(bytes: &[u8], recorded: &[u8]) -> bool
     }
 }
 
-/// Whether this front of bytes is the recorded ones, and the last byte a newline.
+/// Returns whether this front of bytes is the recorded ones, and the last byte a newline.
 #[tactic(auto, using(crate::proofs::Printed::newline, crate::proofs::Printed::other))]
 fn is_ended(last: u8, front: &[u8], recorded: &[u8]) -> bool
     ensures { result ≡ bytes_eq (recorded.now ++ 10 ∷ []) (front.now ++ last ∷ []) }

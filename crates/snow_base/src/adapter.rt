@@ -7,8 +7,9 @@ use crate::outside::{Failed, Sink, Source};
 use std::io::{ErrorKind, Read, Write};
 use std::marker::Model;
 
-/// A source over a reader, as standard input. It tells the bytes that the reader tells: those of
-/// standard input are not told. Contracts see these bytes and the count of faults.
+/// A source over a reader of std, as standard input. Contracts see the bytes that the reader tells,
+/// and a count of faults below 2^64. Standard input tells no bytes.
+/// Rule: this project's own.
 #[derive(Drop)]
 pub struct ReadSource<R: Read + Drop> {
     reader: R,
@@ -24,7 +25,9 @@ impl<R: Read + Drop> Model for ReadSource<R> {
 }
 
 impl<R: Read + Drop> ReadSource<R> {
-    /// The source over this reader, with no fault yet.
+    /// Returns the source over this reader. It has no fault yet, and it reads nothing before its
+    /// first call.
+    /// Rule: this project's own.
     pub fn new(reader: R) -> Self
         ensures { result ≡ record { known = R.remaining reader; faults = 0 } }
     {
@@ -37,7 +40,7 @@ impl<R: Read + Drop> Source for ReadSource<R> {
 
     ghost faults = { λ source. source.faults };
 
-    /// An interrupted read is tried again, and is no fault.
+    /// Reads, and tries an interrupted read again, which is no fault.
     fn read(&mut self, buf: &mut [u8]) -> Result<usize, Failed>
         ensures bound { IfOk result (λ n. n ≤ length buf.new) }
         ensures bytes { ReadConsumes self.old.known self.new.known result buf.new }
@@ -53,9 +56,9 @@ impl<R: Read + Drop> Source for ReadSource<R> {
     }
 }
 
-/// A sink over a writer, as standard output or standard error. It tells the bytes that the writer
-/// tells: those of the standard streams are not told. Contracts see these bytes and the count of
-/// faults.
+/// A sink over a writer of std, as standard output or standard error. Contracts see the bytes that
+/// the writer tells, and a count of faults below 2^64. The standard streams tell no bytes.
+/// Rule: this project's own.
 #[derive(Drop)]
 pub struct WriteSink<W: Write + Drop> {
     writer: W,
@@ -71,7 +74,9 @@ impl<W: Write + Drop> Model for WriteSink<W> {
 }
 
 impl<W: Write + Drop> WriteSink<W> {
-    /// The sink over this writer, with no fault yet.
+    /// Returns the sink over this writer. It has no fault yet, and it writes nothing before its
+    /// first call.
+    /// Rule: this project's own.
     pub fn new(writer: W) -> Self
         ensures { result ≡ record { known = W.contents writer; faults = 0 } }
     {
@@ -84,8 +89,8 @@ impl<W: Write + Drop> Sink for WriteSink<W> {
 
     ghost faults = { λ sink. sink.faults };
 
-    /// An interrupted write is tried again, and is no fault. A write that takes none of a piece that
-    /// isn't empty is one.
+    /// Writes, and tries an interrupted write again, which is no fault. A write that takes none of
+    /// a piece that isn't empty is one.
     fn write(&mut self, bytes: &[u8]) -> Result<usize, Failed>
         ensures bound { IfOk result (λ n. n ≤ length bytes.now) }
         ensures some { IfOk result (λ n. 0 < length bytes.now → 0 < n) }

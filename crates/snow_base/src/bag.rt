@@ -10,7 +10,9 @@ use std::cmp::Ordering;
 use std::marker::Model;
 
 /// Votes in bit order: identifiers distinct, counts above 0, at most 2^32-1 votes in all. Contracts
-/// see the list of votes, and the room: how many more identifiers fit without new memory.
+/// see the list of votes, and the room: how many more identifiers fit without new memory. A poll is
+/// such a bag of at most K votes.
+/// Rule: AvalancheGo, snow/consensus/snowman.
 #[derive(Debug, Drop)]
 pub struct Bag {
     votes: Vec<Vote>,
@@ -29,7 +31,8 @@ impl Model for Bag {
 }
 
 impl Bag {
-    /// The bag with no vote. It takes no memory.
+    /// Returns the bag without a vote. It takes no memory.
+    /// Rule: AvalancheGo, snow/consensus/snowman.
     pub fn new(alloc: Global) -> Self
         ensures { result.list ≡ [] }
     {
@@ -39,7 +42,9 @@ impl Bag {
         }
     }
 
-    /// One vote for each of these identifiers.
+    /// Returns the bag with one vote for each of these identifiers, which may repeat: there are
+    /// fewer than 2^32. Its total is their number. On want of memory it returns `AllocError`.
+    /// Rule: AvalancheGo, snow/consensus/snowman.
     pub fn of(alloc: Global, ids: &[Id]) -> Result<Self, AllocError>
         requires { length ids.now < 2 ^ 32 }
         ensures votes { IfOk result (λ votes. votes.list ≡ one_each ids.now) }
@@ -57,7 +62,10 @@ impl Bag {
         Ok(votes)
     }
 
-    /// Makes room for `n` more identifiers. The votes stay as they are, also after want of memory.
+    /// Makes room for `n` more identifiers. With that much room already it takes no memory and
+    /// can't fail. On want of memory it returns `AllocError`. The votes stay as they are in each
+    /// case, and the room never shrinks.
+    /// Rule: AvalancheGo, snow/consensus/snowman.
     pub fn reserve(&mut self, n: usize) -> Result<(), AllocError>
         ensures list { self.new.list ≡ self.old.list }
         ensures ok { OnOk result (n ≤ self.new.room) }
@@ -67,8 +75,11 @@ impl Bag {
         self.votes.reserve(n)
     }
 
-    /// Adds `n` votes for `id`. With room, or where `id` has votes already, it takes no memory;
-    /// after want of memory the votes are as before.
+    /// Adds `n` votes for `id`. There is at least one, and the total stays below 2^32. An
+    /// identifier that has votes gets `n` more; a new one takes its place in bit order. With room,
+    /// or where `id` has votes already, the call takes no memory and can't fail. On want of memory
+    /// it returns `AllocError`, and the votes stay as they were.
+    /// Rule: AvalancheGo, snow/consensus/snowman.
     #[inline(always)]
     pub fn add(&mut self, id: Id, n: u32) -> Result<(), AllocError>
         requires some { 1 ≤ n }
@@ -87,14 +98,17 @@ impl Bag {
         Ok(())
     }
 
-    /// How many votes there are in all.
+    /// Returns how many votes there are in all, below 2^32.
+    /// Rule: AvalancheGo, snow/consensus/snowman.
     pub fn total(&self) -> u32
         ensures { result ≡ total_count self.now.list }
     {
         self.total
     }
 
-    /// The votes in bit order.
+    /// Returns the votes in bit order. Each identifier stands once, each count is above 0, and the
+    /// counts add up to less than 2^32.
+    /// Rule: AvalancheGo, snow/consensus/snowman.
     pub fn entries(&self) -> &[Vote]
         ensures list { result.now ≡ self.now.list }
         ensures order { IsInBitOrder result.now }
@@ -104,7 +118,8 @@ impl Bag {
         self.votes.as_slice()
     }
 
-    /// The greatest count, or 0 where there is no vote.
+    /// Returns the greatest count, or 0 where the bag is empty.
+    /// Rule: AvalancheGo, snow/consensus/snowman.
     pub fn most(&self) -> u32
         ensures { result ≡ most_count self.now.list }
     {
@@ -115,7 +130,9 @@ impl Bag {
         most
     }
 
-    /// Takes all votes out. Their places are room then.
+    /// Takes all votes out. Their places become room, so as many identifiers fit again without
+    /// memory.
+    /// Rule: AvalancheGo, snow/consensus/snowman.
     pub fn clear(&mut self)
         ensures list { self.new.list ≡ [] }
         ensures room { self.old.room + length self.old.list ≤ self.new.room }
@@ -155,7 +172,7 @@ fn count_in(votes: &mut Vec<Vote>, id: Id, n: u32) -> Result<(), AllocError>
     count_past(votes, &id, n)
 }
 
-// The same where the last votes are for another identifier.
+// Adds votes where the last ones are for another identifier.
 #[inline(never)]
 fn count_past(votes: &mut Vec<Vote>, id: &Id, n: u32) -> Result<(), AllocError>
     requires order { IsInBitOrder votes.old.items }
@@ -197,7 +214,7 @@ fn put_in(votes: &mut Vec<Vote>, at: usize, id: &Id, n: u32) -> Result<(), Alloc
     Ok(())
 }
 
-// The same over the last ones: those between move up by one.
+// Puts new votes at their place over the last ones: those between move up by one.
 #[inline(always)]
 fn move_in(row: &mut [Vote], at: usize, id: &Id, n: u32)
     requires { at < length row.old }
@@ -227,7 +244,7 @@ fn place(votes: &[Vote], id: &Id) -> Result<usize, usize>
     }
 }
 
-// The same by looking at one after another, the last one first.
+// The place among few votes, by looking at one after another, the last one first.
 #[inline(always)]
 fn place_among_few(votes: &[Vote], id: &Id) -> Result<usize, usize>
     requires { IsInBitOrder votes.now }
@@ -244,7 +261,7 @@ fn place_among_few(votes: &[Vote], id: &Id) -> Result<usize, usize>
     Err(0)
 }
 
-// The same by a search.
+// The place by a search.
 fn search(votes: &[Vote], id: &Id) -> Result<usize, usize>
     requires { IsInBitOrder votes.now }
     ensures { IsPlaceOf votes.now id.now result }

@@ -1,4 +1,4 @@
-//! Bytes that are compared many at a time.
+//! Compares bytes many at a time.
 ghost use Rattle.std.specs.Prelude.{◌≡◌, ◌≢◌, ℕ, ◌+◌, ◌-◌, ◌<◌, ◌≤◌, length, bytes_eq, slice_index};
 ghost use Rattle.std.specs.Cmp.Lexicographic.{slice_cmp};
 ghost use Rattle.std.specs.Ordering.{nat_cmp};
@@ -36,7 +36,7 @@ pub(crate) fn order(a: &[u8], b: &[u8]) -> Ordering
     order_past(a, b)
 }
 
-// The same where the first eight agree. The last eight may have been looked at in part.
+// The order behind the first eight, which agree. The last eight may have been looked at in part.
 #[inline(never)]
 fn order_past(a: &[u8], b: &[u8]) -> Ordering
     requires same { length a.now ≡ length b.now }

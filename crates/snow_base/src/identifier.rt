@@ -6,7 +6,9 @@ use std::cmp::Ordering;
 use std::hash::{Hash, Hasher};
 use std::marker::Model;
 
-/// A block's identifier: 32 bytes, which contracts see as a list of bytes.
+/// A block's identifier: 32 bytes, which contracts see as a list of bytes. Its 256 bits choose the
+/// counters of a conflict.
+/// Rule: AvalancheGo, snow/consensus/snowman.
 #[derive(Clone, Copy, Debug, Eq)]
 pub struct Id {
     bytes: [u8; 32],
@@ -90,14 +92,16 @@ impl Id {
     ghost use Rattle.snow_base.specs.Gathered.{IsNamed};
     ghost use Rattle.snow_base.specs.Words.{IsWord};
 
-    /// The identifier of these bytes.
+    /// Returns the identifier of these 32 bytes. Any bytes are one.
+    /// Rule: AvalancheGo, snow/consensus/snowman.
     pub fn from_bytes(bytes: [u8; 32]) -> Self
         ensures { result ≡ bytes }
     {
         Id { bytes }
     }
 
-    /// Its bytes.
+    /// Returns its 32 bytes.
+    /// Rule: AvalancheGo, snow/consensus/snowman.
     pub fn as_bytes(&self) -> &[u8; 32]
         ensures bytes { result.now ≡ self.now }
         ensures length { length self.now ≡ 32 }
@@ -112,7 +116,9 @@ impl Id {
         small(self.as_bytes());
     }
 
-    /// Bit `i`: bit `i % 8`, counted from the least significant, of byte `i / 8`.
+    /// Returns bit `i`, which is below 256: bit `i % 8`, counted from the least significant, of
+    /// byte `i / 8`. A 1 is `true`.
+    /// Rule: AvalancheGo, snow/consensus/snowball.
     pub fn bit(&self, i: u16) -> bool
         requires { i < 256 }
         ensures { result ≡ bit self.now i }
@@ -130,7 +136,9 @@ impl Id {
         u64::from_le_bytes(eight(&self.bytes, 8 * at))
     }
 
-    /// Bit order: bit 0 is compared first, then bit 1, and so on; a 0 stands before a 1.
+    /// Compares two identifiers in bit order: by bit 0 first, then by bit 1, and so on. A 0 stands
+    /// before a 1. It returns `Equal` for the same bytes alone.
+    /// Rule: this project's own.
     #[inline]
     pub fn bit_cmp(&self, other: &Id) -> Ordering
         ensures { result ≡ bit_cmp self.now other.now }
@@ -146,7 +154,7 @@ impl Id {
         }
     }
 
-    // The same where the first 64 bits agree: mostly the two are one then.
+    // Bit order behind the first 64 bits, which agree: mostly the two are one then.
     #[inline(never)]
     fn bit_cmp_past(&self, other: &Id) -> Ordering
         requires { AgreeFrom 0 64 self.now other.now }
@@ -161,8 +169,10 @@ impl Id {
         }
     }
 
-    /// The first bit from `from` up to, not including, `to` in which the two differ; none where they
-    /// agree there.
+    /// Returns the first bit from `from` up to, not including, `to` at which the two differ. `from`
+    /// is at most `to`, and `to` at most 256. It returns `None` exactly where they agree on these
+    /// bits.
+    /// Rule: AvalancheGo, snow/consensus/snowball.
     #[inline]
     pub fn first_difference(&self, other: &Id, from: u16, to: u16) -> Option<u16>
         requires order { from ≤ to }
@@ -182,7 +192,7 @@ impl Id {
         }
     }
 
-    // The same up to the end of the 64 bits among which `from` is.
+    // The first difference up to the end of the 64 bits among which `from` is.
     #[inline]
     fn first_in_word(&self, other: &Id, from: u16) -> Option<u16>
         requires { from < 256 }
@@ -197,7 +207,7 @@ impl Id {
         Some(from + lowest_differing(a, b))
     }
 
-    // The same from bit `64 * from` on.
+    // The first difference from bit `64 * from` on.
     #[inline(never)]
     fn first_past(&self, other: &Id, from: u16) -> Option<u16>
         requires { from ≤ 4 }

@@ -6,6 +6,7 @@ use std::alloc::{AllocError, Global};
 use std::marker::Model;
 
 /// A list that grows at its end. Contracts see the list of its items.
+/// Rule: this project's own.
 #[derive(Debug, Drop)]
 pub struct Items<T> {
     items: Vec<T>,
@@ -20,7 +21,8 @@ impl<T> Model for Items<T> {
 }
 
 impl<T: Drop> Items<T> {
-    /// The empty list. It takes no memory.
+    /// Returns the empty list. It takes no memory.
+    /// Rule: this project's own.
     pub fn new(alloc: Global) -> Self
         ensures { result ≡ [] }
     {
@@ -29,7 +31,9 @@ impl<T: Drop> Items<T> {
         }
     }
 
-    /// The empty list, with room for so many items.
+    /// Returns the empty list, with room for so many items. On want of memory it returns
+    /// `AllocError`.
+    /// Rule: this project's own.
     pub fn with_capacity(alloc: Global, items: usize) -> Result<Self, AllocError>
         ensures { IfOk result (λ made. made ≡ []) }
     {
@@ -37,14 +41,16 @@ impl<T: Drop> Items<T> {
         Ok(Items { items })
     }
 
-    /// The list of these items, in the memory that they stand in.
+    /// Returns the list of these items, in the memory in which they stand. It takes none.
+    /// Rule: this project's own.
     pub fn from_vec(items: Vec<T>) -> Self
         ensures { result ≡ items.items }
     {
         Items { items }
     }
 
-    /// Appends an item. After want of memory the list is as before.
+    /// Appends an item. On want of memory it returns `AllocError`, and the list stays as it was.
+    /// Rule: this project's own.
     #[inline(always)]
     pub fn push(&mut self, item: T) -> Result<(), AllocError>
         ensures ok { OnOk result (self.new ≡ self.old ++ item ∷ []) }
@@ -56,14 +62,17 @@ impl<T: Drop> Items<T> {
         Ok(())
     }
 
-    /// The items, in the order in which they came.
+    /// Returns the items, in the order in which they came.
+    /// Rule: this project's own.
     pub fn list(&self) -> &[T]
         ensures { result.now ≡ self.now }
     {
         self.items.as_slice()
     }
 
-    /// Takes the last item out; there is none exactly where the list is empty.
+    /// Takes the last item out and returns it. It returns `None` exactly where the list is empty,
+    /// which it then stays.
+    /// Rule: this project's own.
     pub fn pop(&mut self) -> Option<T>
         ensures some { IfSome result (λ item. self.old ≡ self.new ++ item ∷ []) }
         ensures none { result ≡ None → self.old ≡ [] }
@@ -72,7 +81,8 @@ impl<T: Drop> Items<T> {
         self.items.pop()
     }
 
-    /// Lets all items go. It takes no memory.
+    /// Takes all items out. It takes no memory.
+    /// Rule: this project's own.
     pub fn clear(&mut self)
         ensures { self.new ≡ [] }
     {
@@ -81,7 +91,8 @@ impl<T: Drop> Items<T> {
 }
 
 impl<T: Copy + Drop> Items<T> {
-    /// The list of these items.
+    /// Returns a list with copies of these items. On want of memory it returns `AllocError`.
+    /// Rule: this project's own.
     pub fn from_slice(alloc: Global, items: &[T]) -> Result<Self, AllocError>
         ensures { IfOk result (λ list. list ≡ items.now) }
     {
@@ -90,7 +101,9 @@ impl<T: Copy + Drop> Items<T> {
         Ok(list)
     }
 
-    /// Appends these items. After want of memory the list is as before.
+    /// Appends copies of these items, in their order. On want of memory it returns `AllocError`,
+    /// and the list stays as it was.
+    /// Rule: this project's own.
     pub fn append(&mut self, items: &[T]) -> Result<(), AllocError>
         ensures ok { OnOk result (self.new ≡ self.old ++ items.now) }
         ensures err { OnErr result (self.new ≡ self.old) }
@@ -101,8 +114,9 @@ impl<T: Copy + Drop> Items<T> {
 }
 
 impl Items<Id> {
-    /// The identifiers of these bytes, in place of what the list held. After want of memory it is as
-    /// before.
+    /// Puts the identifiers of these bytes in place of what the list held. On want of memory it
+    /// returns `AllocError`, and the list stays as it was.
+    /// Rule: this project's own.
     pub fn replace(&mut self, chunks: &[[u8; 32]]) -> Result<(), AllocError>
         ensures ok { OnOk result (self.new ≡ chunks.now) }
         ensures err { OnErr result (self.new ≡ self.old) }
@@ -123,17 +137,22 @@ fn write_over(ids: &mut [Id], chunks: &[[u8; 32]])
     }
 }
 
-/// Bytes, as those of a block.
+/// Bytes, as those of a block, which has at most 65,536 of them in an event.
+/// Rule: this project's own.
 pub type Bytes = Items<u8>;
 
-/// Identifiers of blocks.
+/// A list of identifiers of blocks, 32 bytes each.
+/// Rule: this project's own.
 pub type Ids = Items<Id>;
 
-/// Numbers of 64 bits.
+/// A list of numbers below 2^64.
+/// Rule: this project's own.
 pub type Nums = Items<u64>;
 
-/// Nodes, each with its weight.
+/// A list of nodes, each with its weight, which is below 2^64.
+/// Rule: this project's own.
 pub type Nodes = Items<(NodeId, u64)>;
 
-/// Blocks, each as its bytes.
+/// A list of blocks, each as its bytes.
+/// Rule: this project's own.
 pub type Blocks = Items<Bytes>;

@@ -8,7 +8,9 @@ use crate::outside::{Failed, Sink, Source};
 use std::alloc::{AllocError, Global};
 use std::marker::Model;
 
-/// A source of bytes in memory, which fails at calls that are chosen beforehand.
+/// A source of bytes in memory, which fails at calls that are chosen beforehand. Tests choose with
+/// it how a stream is cut into pieces and which reads fail.
+/// Rule: this project's own.
 #[derive(Drop)]
 pub struct MemSource {
     bytes: Bytes,
@@ -31,8 +33,10 @@ impl Model for MemSource {
 }
 
 impl MemSource {
-    /// A source of these bytes that gives at most `piece` of them a read, and fails exactly at the
-    /// calls whose numbers, counted from 1, are in `failing`.
+    /// Returns a source of these bytes. A read gives at most `piece` of them, and `piece` is at
+    /// least 1. It fails exactly at the calls whose numbers, counted from 1, are in `failing`; such
+    /// a call takes nothing. No call and no fault has been counted yet.
+    /// Rule: this project's own.
     pub fn new(bytes: Bytes, piece: usize, failing: Nums) -> Self
         requires { 1 ≤ piece }
         ensures { result ≡ record { left = bytes; piece = piece; failing = failing; calls = 0; faults = 0 } }
@@ -55,8 +59,8 @@ impl Source for MemSource {
 
     ghost faults = { λ source. source.faults };
 
-    /// Gives as many bytes as are left, as fit, or as a piece has. It fails exactly where the number
-    /// of the call is listed, and then takes nothing.
+    /// Gives as many bytes as are left, as fit, or as a piece has. It fails exactly where the
+    /// number of the call is listed, and then takes nothing.
     fn read(&mut self, buf: &mut [u8]) -> Result<usize, Failed>
         ensures bound { IfOk result (λ n. n ≤ length buf.new) }
         ensures bytes { ReadConsumes (Some self.old.left) (Some self.new.left) result buf.new }
@@ -80,7 +84,9 @@ impl Source for MemSource {
     }
 }
 
-/// A sink that keeps its bytes in memory, and fails at calls that are chosen beforehand.
+/// A sink that keeps its bytes in memory, and fails at calls that are chosen beforehand. A write
+/// takes the whole piece or fails.
+/// Rule: this project's own.
 #[derive(Drop)]
 pub struct MemSink {
     written: Vec<u8>,
@@ -102,8 +108,10 @@ impl Model for MemSink {
 }
 
 impl MemSink {
-    /// A sink with no room yet, which fails at the calls whose numbers, counted from 1, are in
-    /// `failing`. It takes no memory.
+    /// Returns a sink that is empty and has no room yet. It fails exactly at the calls whose
+    /// numbers, counted from 1, are in `failing`, and where a piece is longer than the room; such a
+    /// call takes nothing. `new` takes no memory.
+    /// Rule: this project's own.
     pub fn new(alloc: Global, failing: Nums) -> Self
         ensures { result ≡ record { written = []; room = 0; failing = failing; calls = 0; faults = 0 } }
     {
@@ -116,7 +124,10 @@ impl MemSink {
         }
     }
 
-    /// Makes room for `n` more bytes. All else stays as it is, also after want of memory.
+    /// Makes room for `n` more bytes. With that much room already it can't fail. On want of memory
+    /// it returns `AllocError`. The bytes and the counts stay as they are in each case, and the
+    /// room never shrinks.
+    /// Rule: this project's own.
     pub fn reserve(&mut self, n: usize) -> Result<(), AllocError>
         ensures ok { OnOk result (n ≤ self.new.room) }
         ensures fits { n ≤ self.old.room → IsOk result }
@@ -128,7 +139,8 @@ impl MemSink {
         Ok(())
     }
 
-    /// The bytes that it took, in the order in which they came.
+    /// Returns the bytes that the sink took, in the order in which they came.
+    /// Rule: this project's own.
     pub fn bytes(&self) -> &[u8]
         ensures { result.now ≡ self.now.written }
     {
@@ -143,8 +155,8 @@ impl Sink for MemSink {
 
     ghost faults = { λ sink. sink.faults };
 
-    /// Takes the whole piece, and no memory. It fails exactly where the number of the call is listed
-    /// or the piece is longer than the room, and then takes nothing.
+    /// Takes the whole piece, and no memory. It fails exactly where the number of the call is
+    /// listed or the piece is longer than the room, and then takes nothing.
     fn write(&mut self, bytes: &[u8]) -> Result<usize, Failed>
         ensures bound { IfOk result (λ n. n ≤ length bytes.now) }
         ensures some { IfOk result (λ n. 0 < length bytes.now → 0 < n) }

@@ -5,6 +5,7 @@ use std::cmp::Ordering;
 use std::marker::Model;
 
 /// A node's identifier: 20 bytes, which contracts see as a list of bytes.
+/// Rule: AvalancheGo, snow/engine/snowman.
 #[derive(Clone, Copy, Debug, Eq)]
 pub struct NodeId {
     bytes: [u8; 20],
@@ -69,14 +70,16 @@ impl Ord for NodeId {
 }
 
 impl NodeId {
-    /// The identifier of these bytes.
+    /// Returns the identifier of these 20 bytes. Any bytes are one.
+    /// Rule: AvalancheGo, snow/engine/snowman.
     pub fn from_bytes(bytes: [u8; 20]) -> Self
         ensures { result ≡ bytes }
     {
         NodeId { bytes }
     }
 
-    /// Its bytes.
+    /// Returns its 20 bytes.
+    /// Rule: AvalancheGo, snow/engine/snowman.
     pub fn as_bytes(&self) -> &[u8; 20]
         ensures bytes { result.now ≡ self.now }
         ensures length { length self.now ≡ 20 }

@@ -2,8 +2,9 @@ ghost use Rattle.std.specs.Prelude.{◌≡◌};
 
 use std::marker::Model;
 
-/// Numbers that are drawn one after the other, each once. Contracts see the last one drawn, 0 at
-/// first.
+/// Request numbers, drawn one after the other, each once. Contracts see the last one drawn, or 0
+/// where none was.
+/// Rule: this project's own.
 #[derive(Drop)]
 pub struct Numbers {
     last: u32,
@@ -20,14 +21,17 @@ impl Model for Numbers {
 impl Numbers {
     ghost use Rattle.snow_base.specs.Numbers.{next_number, last_after};
 
-    /// No number is drawn yet.
+    /// Returns the numbers before the first draw.
+    /// Rule: this project's own.
     pub fn new() -> Self
         ensures { result ≡ 0 }
     {
         Numbers { last: 0 }
     }
 
-    /// The next number: 1, 2, and so on. None exactly after 2^32 - 1 draws; the last number then stays.
+    /// Returns the next number: 1, 2, and so on, up to 2^32-1. It returns `None` exactly after
+    /// 2^32-1 draws, and the last number then stays.
+    /// Rule: this project's own.
     pub fn draw(&mut self) -> Option<u32>
         ensures number { result ≡ next_number self.old }
         ensures last { self.new ≡ last_after self.old }

@@ -8,7 +8,8 @@ use crate::memory::give;
 use crate::outside::{Failed, Sink, Source};
 use std::marker::Model;
 
-/// A source of bytes in memory that never fails.
+/// A source of bytes in memory that never fails. Its count of faults is always 0.
+/// Rule: this project's own.
 #[derive(Drop)]
 pub struct PureSource {
     bytes: Bytes,
@@ -28,7 +29,9 @@ impl Model for PureSource {
 }
 
 impl PureSource {
-    /// A source of these bytes that gives at most `piece` of them a read.
+    /// Returns a source of these bytes. A read gives at most `piece` of them, and `piece` is at
+    /// least 1.
+    /// Rule: this project's own.
     pub fn new(bytes: Bytes, piece: usize) -> Self
         requires { 1 ≤ piece }
         ensures { result ≡ record { left = bytes; piece = piece } }
@@ -62,7 +65,9 @@ impl Source for PureSource {
     }
 }
 
-/// A sink that takes every piece whole, keeps none of it, and never fails.
+/// A sink that takes every piece whole, keeps nothing of it and never fails. Contracts see how many
+/// bytes it took.
+/// Rule: this project's own.
 #[derive(Drop)]
 pub struct PureSink {
     taken: u64,
@@ -77,14 +82,16 @@ impl Model for PureSink {
 }
 
 impl PureSink {
-    /// The sink that took nothing yet.
+    /// Returns the sink that took nothing yet.
+    /// Rule: this project's own.
     pub fn new() -> Self
         ensures { result ≡ 0 }
     {
         PureSink { taken: 0 }
     }
 
-    /// How many bytes it took. The count stays at 2^64-1 once it is there.
+    /// Returns how many bytes it took. The count stays at 2^64-1 once it is there.
+    /// Rule: this project's own.
     pub fn taken(&self) -> u64
         ensures { result ≡ self.now }
     {

@@ -4,8 +4,10 @@ ghost use Rattle.snow_base.specs.Votes.{IsInBitOrder};
 
 use crate::vote::Vote;
 
-/// How many of the votes have a 0 at a bit: they stand in front of those with a 1 there. All votes
-/// agree on the bits before it.
+/// Returns how many votes have a 0 at `bit`, which is below 256; they stand in front of those with
+/// a 1 there. The votes stand in bit order and agree on all bits before `bit`. Each of the two
+/// sides is then in bit order and agrees on the bits up to and with `bit`.
+/// Rule: AvalancheGo, snow/consensus/snowball.
 pub fn split(votes: &[Vote], bit: u16) -> usize
     requires bit { bit < 256 }
     requires order { IsInBitOrder votes.now }

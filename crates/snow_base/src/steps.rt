@@ -5,6 +5,7 @@ use std::sync::ledger::{Blank, Book, Ledger, Share};
 
 /// A counter of steps. Contracts see it as a number; at run time it has no bytes, and counting does
 /// nothing. `L` names it, so that the counters of two calls can't be taken for one another.
+/// Rule: this project's own.
 #[derive(Drop)]
 pub struct Steps<L: Ledger> {
     book: Book<L>,
@@ -22,7 +23,8 @@ impl<L: Ledger> Model for Steps<L> {
 }
 
 impl<L: Ledger> Steps<L> {
-    /// A counter at 0, on a blank page that is `L`'s.
+    /// Returns a counter at 0, on a blank page that is `L`'s and has at least one part.
+    /// Rule: this project's own.
     pub fn new(blank: Blank) -> Self
         requires name { blank.name ≡ L.name }
         requires parts { blank.parts ≡ L.parts }
@@ -33,7 +35,8 @@ impl<L: Ledger> Steps<L> {
         Steps { book, share }
     }
 
-    /// One step more.
+    /// Counts one step more.
+    /// Rule: this project's own.
     pub fn tick(&mut self)
         ensures { self.new ≡ self.old + 1 }
     {

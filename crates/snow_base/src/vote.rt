@@ -1,6 +1,7 @@
 use crate::identifier::Id;
 
-/// A number of votes for one block.
+/// A number of votes, below 2^32, for one block. A bag keeps no count of 0.
+/// Rule: the Snow family paper.
 #[derive(Clone, Copy, Debug, PartialEq, Eq)]
 pub struct Vote {
     /// The block.

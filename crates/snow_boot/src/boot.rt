@@ -21,16 +21,17 @@ use snow_store::BootStop;
 use std::alloc::Global;
 use std::marker::{Model, PhantomData};
 
-/// A node that bootstraps, over any chain and any set of heights: it asks all nodes for their accepted
-/// frontier and which of these identifiers they hold accepted, fetches the blocks that more than half
-/// of the weight holds accepted with all their ancestors, and executes them from the last accepted
-/// block upwards. This is the behaviour of AvalancheGo's packages `snowman/bootstrap` and
-/// `bootstrap/interval`; the events and the lines are this project's own.
+/// A node that bootstraps, over any chain and any set of heights. It asks all nodes for their
+/// accepted frontier, and which of these identifiers they hold accepted. It fetches the blocks that
+/// more than half of the weight holds accepted, with all their ancestors, and executes them from
+/// the last accepted block upwards.
 ///
-/// Contracts see the node of the definitions, and whether it goes on. Each call appends its lines to a
-/// log. After a stop and at the end a node is only let go: all lines before the stop were appended,
-/// after `Memory` a front of the event's lines; and after `Memory` the chain and the numbers are only
-/// let go too. Where a block of the path is `Refused`, exactly the blocks below it were accepted.
+/// Contracts see the node of the definitions, and whether it goes on. Each call appends its lines
+/// to a log. After a stop and at the end the caller only drops the node. The log has all lines
+/// before the stop, after `Memory` a front of the event's lines; and after `Memory` the caller
+/// drops the chain and the numbers too. Where a block of the path is `Refused`, exactly the blocks
+/// below it were accepted.
+/// Rule: AvalancheGo, snow/engine/snowman/bootstrap.
 #[derive(Drop)]
 pub struct Boot<C: Chain, H: Kept> {
     going: bool,
@@ -54,8 +55,10 @@ impl<C: Chain, H: Kept> Model for Boot<C, H> {
 }
 
 impl<C: Chain, H: Kept> Boot<C, H> {
-    /// Bootstrapping begins, from the last accepted block and its height, with the nodes of a roster:
-    /// all are asked for their frontier.
+    /// Begins bootstrapping from the last accepted block and its height, with the nodes of a
+    /// roster, and asks all of them for their frontier. It returns `Requests` exactly where no
+    /// number is left to ask with, unless memory ran out, and `Memory` on want of memory.
+    /// Rule: AvalancheGo, snow/engine/snowman/bootstrap.
     pub fn start(
         alloc: Global,
         roster: &Roster,
@@ -83,7 +86,10 @@ impl<C: Chain, H: Kept> Boot<C, H> {
         }
     }
 
-    /// A node names its accepted frontier. An answer that nobody waits for changes nothing.
+    /// Takes a node's accepted frontier, as an answer to the request of this number. It returns
+    /// `Going`, or `Done` where no target misses a block any more, or the stop that comes. An
+    /// answer for which nobody waits changes nothing. On want of memory it returns `Memory`.
+    /// Rule: AvalancheGo, snow/engine/snowman/bootstrap.
     pub fn frontier(
         &mut self,
         node: &NodeId,
@@ -107,8 +113,11 @@ impl<C: Chain, H: Kept> Boot<C, H> {
         came
     }
 
-    /// A node names which of the collected identifiers it holds accepted. An answer that nobody waits
-    /// for changes nothing.
+    /// Takes which of the collected identifiers a node holds accepted, at most 4,096 in an event.
+    /// It returns `Going`, or `Done` where no target misses a block any more, or the stop that
+    /// comes. An answer for which nobody waits changes nothing. On want of memory it returns
+    /// `Memory`.
+    /// Rule: AvalancheGo, snow/engine/snowman/bootstrap.
     pub fn accepted(
         &mut self,
         node: &NodeId,
@@ -132,8 +141,11 @@ impl<C: Chain, H: Kept> Boot<C, H> {
         came
     }
 
-    /// A node sends a block that was asked of it, and its ancestors. A reply that nobody waits for
-    /// changes nothing.
+    /// Takes a block for which a node was asked, and its ancestors, at most 2,048 blocks in an
+    /// event. It returns `Going`, or `Done` where no target misses a block any more, or the stop
+    /// that comes. A reply for which nobody waits changes nothing. On want of memory it returns
+    /// `Memory`.
+    /// Rule: AvalancheGo, snow/engine/snowman/bootstrap.
     pub fn ancestors(
         &mut self,
         node: &NodeId,
@@ -159,7 +171,10 @@ impl<C: Chain, H: Kept> Boot<C, H> {
         came
     }
 
-    /// A node doesn't answer: what all nodes are being asked, or a request.
+    /// Takes that a node doesn't answer: what all nodes are asked, or a request for blocks. It
+    /// returns `Going`, or `Done` where no target misses a block any more, or the stop that comes.
+    /// One for which nobody waits changes nothing. On want of memory it returns `Memory`.
+    /// Rule: AvalancheGo, snow/engine/snowman/bootstrap.
     pub fn timeout(
         &mut self,
         node: &NodeId,
@@ -182,8 +197,10 @@ impl<C: Chain, H: Kept> Boot<C, H> {
         came
     }
 
-    /// A block comes, in this frame, that an earlier run had kept. Bytes that are none of a block are
-    /// passed over.
+    /// Takes a block, in this frame, that an earlier run had kept. It passes over bytes that are no
+    /// block's, with a line. It returns `Going`, or `Done` where no target misses a block any more,
+    /// or the stop that comes. On want of memory it returns `Memory`.
+    /// Rule: this project's own.
     pub fn stored(
         &mut self,
         frame: u64,

@@ -1,5 +1,5 @@
-//! The candidates of an election, in the order in which they were named, each with the weight that backs
-//! it.
+//! The candidates of an election, in the order in which nodes named them, each with the weight that
+//! backs it.
 ghost use Rattle.std.specs.Prelude.{◌≡◌, ℕ, List, ◌+◌, ◌^◌, ◌<◌, Some, IfOk, OnOk, OnErr, bytes_eq};
 ghost use Rattle.indexmap.specs.IndexMap.{get};
 ghost use Rattle.snow_boot.specs.Electing.{candidates_of, with_weight, collected, backed, is_target, majority};

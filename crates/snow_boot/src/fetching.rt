@@ -18,10 +18,10 @@ use std::alloc::{AllocError, Global};
 use std::collections::BTreeMap;
 use std::marker::Model;
 
-/// The kept blocks, the targets, and those of them that were found at or below the last accepted
-/// height; and what the targets miss, of which an event changes only what it brings. Contracts see the
-/// blocks and targets, which missed identifiers no request may name yet, and whether all is kept as it
-/// should be: not after want of memory.
+/// What a node fetches: the kept blocks, the targets, those of them that were found at or below the
+/// last accepted height, and what the targets miss. Contracts see the blocks and targets, which
+/// missed identifiers no request may name yet, and whether the value is whole, which it isn't after
+/// want of memory.
 #[derive(Drop)]
 pub(crate) struct Fetching<H: Kept> {
     pub(crate) store: Store<H>,
@@ -48,7 +48,7 @@ impl<H: Kept> Model for Fetching<H> {
 }
 
 impl<H: Kept> Fetching<H> {
-    /// Nothing is kept, and there is no target. It takes no memory.
+    /// Returns no kept block and no target. It takes no memory.
     pub(crate) fn begin(alloc: Global, last: Id, height: u64) -> Self
         ensures { result ≡ record { whole = true; due = due.Nothing; fetch = record { store = record { last = last; height = height; kept = [] }; targets = []; found = [] } } }
     {
@@ -62,14 +62,14 @@ impl<H: Kept> Fetching<H> {
         }
     }
 
-    /// The targets.
+    /// Returns the targets.
     pub(crate) fn targets(&self) -> &[Id]
         ensures { result.now ≡ self.now.fetch.targets }
     {
         self.targets.as_slice()
     }
 
-    /// The targets are these, and none of them is found yet: all that they miss is due.
+    /// Sets the targets, none of which is found yet. All that they miss is due.
     pub(crate) fn aim(&mut self, targets: IndexSet<Id, IdHashing>) -> Result<(), AllocError>
         requires { self.old.whole ≡ true }
         ensures { OnOk result (self.new ≡ record { whole = true; due = due.All; fetch = record { store = self.old.fetch.store; targets = targets.keys; found = [] } }) }
@@ -83,7 +83,7 @@ impl<H: Kept> Fetching<H> {
         Ok(())
     }
 
-    /// Other identifiers may be missed without a request. It takes no memory.
+    /// Notes that other identifiers may be missed without a request. It takes no memory.
     pub(crate) fn expect(&mut self, due: Due)
         ensures whole { self.new.whole ≡ self.old.whole }
         ensures due { self.new.due ≡ due }
@@ -92,14 +92,14 @@ impl<H: Kept> Fetching<H> {
         self.due = due;
     }
 
-    /// Which of the missed identifiers no request may name yet.
+    /// Returns which of the missed identifiers no request may name yet.
     pub(crate) fn due(&self) -> Due
         ensures { result ≡ self.now.due }
     {
         self.due
     }
 
-    /// An identifier, where one of the targets misses it.
+    /// Returns an identifier where one of the targets misses it.
     pub(crate) fn needed(&self, id: Id) -> Option<Id>
         requires { self.now.whole ≡ true }
         ensures { result ≡ (if is_missed self.now.fetch self.now.fetch.targets id then Some id else None) }
@@ -110,7 +110,7 @@ impl<H: Kept> Fetching<H> {
         None
     }
 
-    /// The last accepted block and the kept blocks.
+    /// Returns the store of the last accepted block and the kept blocks.
     pub(crate) fn store(&self) -> &Store<H>
         requires { self.now.whole ≡ true }
         ensures { result.now ≡ record { whole = true; store = self.now.fetch.store } }
@@ -118,7 +118,7 @@ impl<H: Kept> Fetching<H> {
         &self.store
     }
 
-    /// Whether no target misses anything.
+    /// Returns whether no target misses anything.
     pub(crate) fn is_whole(&self) -> bool
         requires { self.now.whole ≡ true }
         ensures { result ≡ is_whole self.now.fetch }
@@ -126,7 +126,7 @@ impl<H: Kept> Fetching<H> {
         needs::is_met(&self.needs)
     }
 
-    /// The highest height at which a target is kept.
+    /// Returns the highest height at which a target is kept.
     pub(crate) fn highest(&self) -> Option<u64>
         requires { self.now.whole ≡ true }
         ensures { result ≡ top_height self.now.fetch.store.kept self.now.fetch.targets }
@@ -138,7 +138,7 @@ impl<H: Kept> Fetching<H> {
         top
     }
 
-    /// What a target misses.
+    /// Returns what a target misses.
     pub(crate) fn missed(&self, target: &Id) -> Option<Id>
         requires { self.now.whole ≡ true }
         ensures { result ≡ missed self.now.fetch target.now }
@@ -146,7 +146,7 @@ impl<H: Kept> Fetching<H> {
         self.store.missed(target, needs::has(&self.found, target))
     }
 
-    /// A block came: it is kept, or noted as found, or it stops the run.
+    /// Takes a block: it keeps it, notes it as found, or stops the run.
     fn came(&mut self, header: &Header, bytes: &[u8]) -> Result<Verdict, BootStop>
         requires { self.old.whole ≡ true }
         ensures answer { Answers result (taken self.old.fetch.store header.now) }
@@ -172,7 +172,7 @@ impl<H: Kept> Fetching<H> {
         Ok(verdict)
     }
 
-    /// The same where each missed identifier is named by a request.
+    /// Takes a block as `came` does, where requests name each missed identifier.
     pub(crate) fn take(&mut self, header: &Header, bytes: &[u8]) -> Result<Verdict, BootStop>
         requires { self.old.whole ≡ true }
         ensures answer { Answers result (taken self.old.fetch.store header.now) }
@@ -183,8 +183,8 @@ impl<H: Kept> Fetching<H> {
         self.came(header, bytes)
     }
 
-    /// The blocks of a reply came, to a request for the identifier that is closed: the first is to be
-    /// the one that was asked for, and each later one the parent of the one before.
+    /// Takes the blocks of a reply to a request that is closed. The first has to be the one that
+    /// the request named, and each later one the parent of the one before.
     pub(crate) fn reply<C: Chain>(
         &mut self,
         chain: &C,
@@ -199,7 +199,7 @@ impl<H: Kept> Fetching<H> {
         self.reply_on(chain, id, blocks)
     }
 
-    /// The blocks of a reply came, one after another.
+    /// Takes the blocks of a reply, one after another.
     fn reply_on<C: Chain>(&mut self, chain: &C, id: Id, blocks: &[Bytes]) -> Result<(), BootStop>
         requires { self.old.whole ≡ true }
         ensures fetch { Fetches result self.new (replied C.rules.header_of self.old.fetch id blocks.now) }
@@ -215,7 +215,8 @@ impl<H: Kept> Fetching<H> {
         Ok(())
     }
 
-    /// One block of a reply came. The answer is the block that is to come next, if the reply goes on.
+    /// Takes one block of a reply, and returns the identifier that has to come next, if the reply
+    /// goes on.
     fn reply_one<C: Chain>(
         &mut self,
         chain: &C,

@@ -16,8 +16,8 @@ use snow_lines::Lines;
 use snow_store::BootStop;
 
 impl<H: Kept> Parts<H> {
-    /// Where the targets are known, what they miss is asked for, and where none misses anything the
-    /// path of the highest kept one is executed.
+    /// Asks for what the targets miss, once they are known. Where none misses anything it executes
+    /// the path of the highest kept one.
     pub(crate) fn follow<C: Chain>(
         &mut self,
         chain: &mut C,

@@ -1,4 +1,4 @@
-//! What comes to a node that bootstraps, over its parts.
+//! How a node that bootstraps takes each event, over its parts.
 ghost use Rattle.std.specs.Prelude.{◌≡◌};
 ghost use Rattle.snow_boot.specs.Asking.{due_of};
 ghost use Rattle.snow_boot.specs.Booting as model;
@@ -15,7 +15,7 @@ use snow_lines::{Line, Lines, SkipKind};
 use snow_store::{BootStop, Due};
 
 impl<H: Kept> Parts<H> {
-    /// A node names its frontier.
+    /// Takes the frontier that a node names.
     pub(crate) fn frontier<C: Chain>(
         &mut self,
         node: &NodeId,
@@ -36,7 +36,7 @@ impl<H: Kept> Parts<H> {
         self.conclude(chain, numbers, log)
     }
 
-    /// A node names what it holds accepted.
+    /// Takes what a node holds accepted.
     pub(crate) fn accepted<C: Chain>(
         &mut self,
         node: &NodeId,
@@ -57,7 +57,7 @@ impl<H: Kept> Parts<H> {
         self.conclude(chain, numbers, log)
     }
 
-    /// A node doesn't answer: what all nodes are being asked, or a request.
+    /// Takes that a node doesn't answer: what all nodes are asked, or a request.
     pub(crate) fn timeout<C: Chain>(
         &mut self,
         node: &NodeId,
@@ -83,7 +83,7 @@ impl<H: Kept> Parts<H> {
         self.conclude(chain, numbers, log)
     }
 
-    /// A node sends a block and its ancestors.
+    /// Takes a block and its ancestors, which a node sent.
     pub(crate) fn ancestors<C: Chain>(
         &mut self,
         node: &NodeId,
@@ -106,7 +106,7 @@ impl<H: Kept> Parts<H> {
         }
     }
 
-    /// A block comes that was kept earlier.
+    /// Takes a block that an earlier run had kept.
     pub(crate) fn stored<C: Chain>(
         &mut self,
         frame: u64,

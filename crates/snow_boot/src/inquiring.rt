@@ -43,7 +43,7 @@ pub(crate) fn ask_frontier(
 }
 
 impl<H: Kept> Parts<H> {
-    /// All nodes are asked for their frontier again.
+    /// Asks all nodes for their frontier again.
     fn restart<C: Chain>(
         &mut self,
         why: RestartWhy,
@@ -59,7 +59,7 @@ impl<H: Kept> Parts<H> {
         ask_frontier(&mut self.survey, numbers, log)
     }
 
-    /// All nodes are asked which of the collected identifiers they hold accepted.
+    /// Asks all nodes which of the collected identifiers they hold accepted.
     fn ask_accepted<C: Chain>(
         &mut self,
         chain: &C,
@@ -80,7 +80,7 @@ impl<H: Kept> Parts<H> {
         Ok(Stage::Going)
     }
 
-    /// All nodes have named their frontiers.
+    /// Goes on once all nodes have named their frontiers.
     fn collected<C: Chain>(
         &mut self,
         chain: &C,
@@ -98,7 +98,7 @@ impl<H: Kept> Parts<H> {
         self.restart(RestartWhy::Frontier, chain, numbers, log)
     }
 
-    /// All nodes have named what they hold accepted.
+    /// Goes on once all nodes have named what they hold accepted.
     fn elected<C: Chain>(
         &mut self,
         chain: &mut C,
@@ -120,7 +120,7 @@ impl<H: Kept> Parts<H> {
         self.follow(chain, numbers, log)
     }
 
-    /// Where all nodes have answered, the next question is asked, or blocks are fetched.
+    /// Asks the next question once all nodes have answered, or begins to fetch blocks.
     pub(crate) fn conclude<C: Chain>(
         &mut self,
         chain: &mut C,

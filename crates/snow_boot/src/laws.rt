@@ -1,30 +1,36 @@
-//! Laws of bootstrapping: what everyone who reads the definitions wants to know, each a function that
-//! does nothing and ensures the law.
+//! Laws of bootstrapping, each a function that does nothing and ensures the law.
 ghost use Rattle.snow_boot.specs.OutcomeLaw.{AskedLaw, AskedOnceLaw, ExecutionLaw, QuietLaw, EndLaw};
 
-/// Once what targets miss was asked for, open requests name each identifier that one of them misses.
+/// Once the node asked for what targets miss, open requests name each identifier that one of them
+/// misses.
+/// Rule: this project's own.
 pub fn asked_law()
     ensures { AskedLaw }
 {}
 
 /// Where open requests name all that targets miss, asking again writes nothing and draws no number.
+/// Rule: this project's own.
 pub fn asked_once_law()
     ensures { AskedOnceLaw }
 {}
 
-/// Blocks are executed in order and accepted each once, up to the first that is refused; those below
-/// it and no others were accepted then.
+/// A node executes blocks in order and accepts each once, up to the first that is refused; exactly
+/// those below it were accepted then.
+/// Rule: this project's own.
 pub fn execution_law()
     ensures { ExecutionLaw }
 {}
 
 /// No event accepts a block and leaves bootstrapping going on: no path is executed in parts.
+/// Rule: this project's own.
 pub fn quiet_law()
     ensures { QuietLaw }
 {}
 
 /// Bootstrapping is done only where no target misses a block. Exactly the blocks of the path of the
-/// highest kept target were accepted then, upwards; and where one of them is refused, those below it.
+/// highest kept target were accepted then, upwards. Where one of them is refused, exactly those
+/// below it were.
+/// Rule: this project's own.
 pub fn end_law()
     ensures { EndLaw }
 {}

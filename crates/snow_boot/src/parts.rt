@@ -3,7 +3,7 @@ use crate::survey::Survey;
 use snow_interval::Kept;
 use snow_issue::Gets;
 
-/// What a node that bootstraps knows: what all nodes are being asked, what is fetched, and the open
+/// What a node that bootstraps knows: what it asks of all nodes, what it fetches, and its open
 /// requests.
 #[derive(Drop)]
 pub(crate) struct Parts<H: Kept> {

@@ -1,6 +1,7 @@
 use snow_base::Id;
 
-/// What all nodes are being asked.
+/// What a node that bootstraps asks of all nodes.
+/// Rule: AvalancheGo, snow/engine/snowman/bootstrap.
 #[derive(Clone, Copy)]
 pub enum Question {
     /// Their accepted frontier.
@@ -11,7 +12,8 @@ pub enum Question {
     Nothing,
 }
 
-/// An identifier that the nodes named, and the weight of those that hold it accepted.
+/// An identifier that the nodes named, and the weight, below 2^63, of those that hold it accepted.
+/// Rule: AvalancheGo, snow/engine/snowman/bootstrap.
 #[derive(Clone, Copy)]
 pub struct Candidate {
     /// The identifier.

@@ -18,8 +18,8 @@ use std::alloc::{AllocError, Global};
 use std::collections::BTreeMap;
 use std::marker::Model;
 
-/// What all nodes are being asked, whose answer is awaited, and which identifiers were named, with the
-/// weight that backs each.
+/// What the node asks of all nodes, whose answer it awaits, and which identifiers they named, with
+/// the weight that backs each.
 #[derive(Drop)]
 pub(crate) struct Survey {
     nodes: Vec<Node>,
@@ -45,7 +45,7 @@ impl Model for Survey {
 }
 
 impl Survey {
-    /// Nothing is asked yet.
+    /// Returns the survey that asks nothing yet. On want of memory it returns `AllocError`.
     pub(crate) fn begin(alloc: Global, roster: &Roster) -> Result<Self, AllocError>
         ensures { IfOk result (λ made. made ≡ record { nodes = roster.now; question = question.Nothing; number = 0; awaited = []; candidates = [] }) }
     {
@@ -62,7 +62,7 @@ impl Survey {
         })
     }
 
-    /// The nodes, of which there is at least one.
+    /// Returns the nodes, of which there is at least one.
     pub(crate) fn nodes(&self) -> &[Node]
         ensures nodes { result.now ≡ self.now.nodes }
         ensures some { 0 < length result.now }
@@ -70,33 +70,34 @@ impl Survey {
         self.nodes.as_slice()
     }
 
-    /// What all nodes are being asked.
+    /// Returns what the node asks of all nodes.
     pub(crate) fn question(&self) -> Question
         ensures { result ≡ self.now.question }
     {
         self.question
     }
 
-    /// Where memory is taken.
+    /// Returns the allocator.
     pub(crate) fn alloc(&self) -> Global {
         self.alloc
     }
 
-    /// Whether any identifier was named.
+    /// Returns whether any identifier was named.
     pub(crate) fn has_named(&self) -> bool
         ensures { result ≡ not (length self.now.candidates == 0) }
     {
         !self.candidates.is_empty()
     }
 
-    /// Whether no node's answer is awaited.
+    /// Returns whether it awaits no node's answer.
     pub(crate) fn is_heard(&self) -> bool
         ensures { result ≡ (length self.now.awaited == 0) }
     {
         is_none(&self.awaited)
     }
 
-    /// The weight of a node whose answer to this question with this number is awaited.
+    /// Returns the weight of a node whose answer to this question with this number it awaits, or
+    /// `None`.
     pub(crate) fn awaits(&self, question: Question, number: u32, node: &NodeId) -> Option<u64>
         ensures { result ≡ option_map (λ n. n.weight) (awaited_by self.now.question self.now.number self.now.awaited question number node.now) }
     {
@@ -106,7 +107,7 @@ impl Survey {
         self.awaited.get(node).copied()
     }
 
-    /// All nodes are asked for their frontier, and what was collected is forgotten.
+    /// Asks all nodes for their frontier, and forgets what it collected.
     pub(crate) fn ask_frontier(&mut self, number: u32) -> Result<(), AllocError>
         ensures { OnOk result (self.new ≡ record { nodes = self.old.nodes; question = question.Frontier; number = number; awaited = self.old.nodes; candidates = [] }) }
     {
@@ -118,7 +119,7 @@ impl Survey {
         Ok(())
     }
 
-    /// All nodes are asked which of the collected identifiers they hold accepted.
+    /// Asks all nodes which of the collected identifiers they hold accepted.
     pub(crate) fn ask_accepted(&mut self, number: u32) -> Result<(), AllocError>
         requires { self.old.question ≡ question.Frontier }
         ensures { OnOk result (self.new ≡ record { nodes = self.old.nodes; question = question.Accepted; number = number; awaited = self.old.nodes; candidates = self.old.candidates }) }
@@ -130,7 +131,7 @@ impl Survey {
         Ok(())
     }
 
-    /// The targets are known, and nothing is asked any more.
+    /// Asks nothing any more, as the targets are known.
     pub(crate) fn close(&mut self)
         ensures { self.new ≡ record { nodes = self.old.nodes; question = question.Nothing; number = self.old.number; awaited = []; candidates = self.old.candidates } }
     {
@@ -138,14 +139,14 @@ impl Survey {
         self.awaited.clear();
     }
 
-    /// A node has answered, and names nothing.
+    /// Notes that a node has answered, and names nothing.
     pub(crate) fn hear(&mut self, node: &NodeId)
         ensures { self.new ≡ record { nodes = self.old.nodes; question = self.old.question; number = self.old.number; awaited = still_awaited self.old.awaited node.now; candidates = self.old.candidates } }
     {
         let _ = self.awaited.remove(node);
     }
 
-    /// A node has named its frontier.
+    /// Notes the frontier that a node has named.
     pub(crate) fn collect(&mut self, node: &NodeId, id: Id) -> Result<(), AllocError>
         ensures { OnOk result (self.new ≡ record { nodes = self.old.nodes; question = self.old.question; number = self.old.number; awaited = still_awaited self.old.awaited node.now; candidates = collected self.old.candidates id }) }
     {
@@ -154,7 +155,7 @@ impl Survey {
         Ok(())
     }
 
-    /// A node of this weight has named what it holds accepted.
+    /// Notes what a node of this weight holds accepted.
     pub(crate) fn back(&mut self, node: &NodeId, weight: u64, ids: &Ids) -> Result<(), AllocError>
         requires awaited { Some weight ≡ option_map (λ n. n.weight) (awaits self.old.awaited node.now) }
         requires asked { self.old.question ≡ question.Accepted }
@@ -166,7 +167,7 @@ impl Survey {
         Ok(())
     }
 
-    /// The identifiers that were named, in order.
+    /// Returns the identifiers that nodes named, in order.
     pub(crate) fn named(&self) -> Result<Ids, AllocError>
         ensures { IfOk result (λ ids. ids ≡ map (λ c. c.id) self.now.candidates) }
     {
@@ -174,7 +175,7 @@ impl Survey {
         Ok(ids)
     }
 
-    /// Those that more than half of the weight backs, in order.
+    /// Returns the identifiers that more than half of the weight backs, in order.
     pub(crate) fn targets(&self) -> Result<IndexSet<Id, IdHashing>, AllocError>
         ensures { IfOk result (λ ids. ids.keys ≡ majority (total_weight self.now.nodes) self.now.candidates) }
     {

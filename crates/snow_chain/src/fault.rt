@@ -1,7 +1,9 @@
 use std::alloc::AllocError;
 use thiserror::Error;
 
-/// Why a chain can't begin.
+/// Why `Chain::begin` begins no chain: `State` where the chain's rules don't take the state,
+/// `Memory` on want of memory.
+/// Rule: this project's own.
 #[derive(Clone, Copy, Debug, PartialEq, Eq, Error)]
 pub enum ChainFault {
     /// The chain's rules don't take the state.

@@ -4,7 +4,8 @@ ghost use Rattle.snow_chain.specs.Fields.{id_at, number_at};
 use byteorder::{BigEndian, ByteOrder};
 use snow_base::Id;
 
-/// The identifier in the 32 bytes from `at` on.
+/// Returns the identifier in the 32 bytes from `at` on, which are there.
+/// Rule: this project's own.
 pub fn id_at(bytes: &[u8], at: usize) -> Id
     requires { at + 32 ≤ length bytes.now }
     ensures { result ≡ id_at bytes.now at }
@@ -14,7 +15,9 @@ pub fn id_at(bytes: &[u8], at: usize) -> Id
     Id::from_bytes(id)
 }
 
-/// The number in the 8 bytes from `at` on, the highest byte first.
+/// Returns the number below 2^64 in the 8 bytes from `at` on, which are there, the highest byte
+/// first.
+/// Rule: this project's own.
 pub fn number_at(bytes: &[u8], at: usize) -> u64
     requires { at + 8 ≤ length bytes.now }
     ensures { result ≡ number_at bytes.now at }

@@ -9,8 +9,10 @@ use snow_base::{Header, Id, Nums};
 use std::alloc::{AllocError, Global};
 use std::marker::Model;
 
-/// The plain chain. A block is its identifier of 32 bytes, its parent of 32, its height of 8, a flag
-/// of 1, and any bytes behind. It is valid where its flag is 1, and each state is the empty list.
+/// The plain chain. A block is its identifier of 32 bytes, its parent of 32, its height of 8, a
+/// flag of 1 that is 0 or 1, and any bytes behind. It is valid where its flag is 1. Each state is
+/// the empty list.
+/// Rule: this project's own.
 #[derive(Drop)]
 pub struct PlainChain {
     states: States,
@@ -28,7 +30,8 @@ impl Model for PlainChain {
 }
 
 impl PlainChain {
-    /// The states that it holds.
+    /// Returns the states that it holds.
+    /// Rule: this project's own.
     pub fn states(&self) -> &States
         ensures { result.now ≡ self.now }
     {

@@ -6,8 +6,9 @@ use snow_map::IdMap;
 use std::alloc::{AllocError, Global};
 use std::marker::Model;
 
-/// The last accepted block, and states by identifier: what any chain can be built on. A state is a
-/// list of numbers, and what they mean is the chain's own.
+/// The last accepted block, and states by identifier, on which any chain can be built. A state is a
+/// list of numbers below 2^64, and the chain says what they mean.
+/// Rule: this project's own.
 #[derive(Drop)]
 pub struct States {
     alloc: Global,
@@ -30,7 +31,9 @@ impl Model for States {
 impl States {
     ghost use Rattle.snow_chain.specs.Chain.{begun, state_of, with_state, accepted, rejected, MayVerify, MayAccept, MayReject};
 
-    /// The state of the last accepted block alone.
+    /// Returns the state of the last accepted block alone. On want of memory it returns
+    /// `AllocError`.
+    /// Rule: this project's own.
     pub fn begin(alloc: Global, last: Id, state: Nums) -> Result<Self, AllocError>
         ensures { IfOk result (λ made. made ≡ begun last state) }
     {
@@ -43,19 +46,22 @@ impl States {
         })
     }
 
-    /// Where a chain takes memory for a state.
+    /// Returns the allocator from which a chain takes memory for a state.
+    /// Rule: this project's own.
     pub fn alloc(&self) -> Global {
         self.alloc
     }
 
-    /// The last accepted block.
+    /// Returns the last accepted block.
+    /// Rule: this project's own.
     pub fn last(&self) -> Id
         ensures { result ≡ self.now.last }
     {
         self.last
     }
 
-    /// The state that is held for a block, if there is one.
+    /// Returns the state that is held for a block, or `None` exactly where none is.
+    /// Rule: this project's own.
     pub fn state_of(&self, id: &Id) -> Option<&[u64]>
         ensures { option_copied result ≡ state_of self.now id.now }
     {
@@ -65,32 +71,36 @@ impl States {
         }
     }
 
-    /// Whether a chain that holds these states may verify a block: its parent's state is held, and its
-    /// own isn't.
+    /// Returns whether a chain that holds these states may verify a block: its parent's state is
+    /// held, and its own isn't.
+    /// Rule: this project's own.
     pub fn may_verify(&self, parent: &Id, id: &Id) -> bool
         ensures { IsTrue result ↔ MayVerify self.now parent.now id.now }
     {
         self.state_of(parent).is_some() && self.state_of(id).is_none()
     }
 
-    /// Whether a chain that holds these states may accept a block: its state is held, it isn't the last
-    /// accepted one, and that one's state is held.
+    /// Returns whether a chain that holds these states may accept a block: its state is held, it
+    /// isn't the last accepted one, and that one's state is held.
+    /// Rule: this project's own.
     pub fn may_accept(&self, id: &Id) -> bool
         ensures { IsTrue result ↔ MayAccept self.now id.now }
     {
         self.may_reject(id) && self.state_of(&self.last).is_some()
     }
 
-    /// Whether a chain that holds these states may reject a block: its state is held, and it isn't the
-    /// last accepted one.
+    /// Returns whether a chain that holds these states may reject a block: its state is held, and
+    /// it isn't the last accepted one.
+    /// Rule: this project's own.
     pub fn may_reject(&self, id: &Id) -> bool
         ensures { IsTrue result ↔ MayReject self.now id.now }
     {
         self.state_of(id).is_some() && self.last != *id
     }
 
-    /// Holds a state for a block, in place of the one that was held, if there was one. After want of
-    /// memory all is as before.
+    /// Holds a state for a block, in place of the one that was held, if there was one. On want of
+    /// memory it returns `AllocError`, and all stays as it was.
+    /// Rule: this project's own.
     pub fn hold(&mut self, id: Id, state: Nums) -> Result<(), AllocError>
         ensures ok { OnOk result (self.new ≡ with_state self.old id state) }
         ensures err { OnErr result (self.new ≡ self.old) }
@@ -99,8 +109,9 @@ impl States {
         Ok(())
     }
 
-    /// A block becomes the last accepted one, and the state of the one before it goes. It takes no
+    /// Makes a block the last accepted one, and lets the state of the one before it go. It takes no
     /// memory.
+    /// Rule: this project's own.
     pub fn accept(&mut self, id: &Id)
         ensures { self.new ≡ accepted self.old id.now }
     {
@@ -108,7 +119,8 @@ impl States {
         self.last = *id;
     }
 
-    /// The state of a block goes. It takes no memory.
+    /// Lets the state of a block go. It takes no memory.
+    /// Rule: this project's own.
     pub fn reject(&mut self, id: &Id)
         ensures { self.new ≡ rejected self.old id.now }
     {

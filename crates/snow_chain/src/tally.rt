@@ -11,10 +11,10 @@ use snow_base::{Header, Id, Nums};
 use std::alloc::{AllocError, Global};
 use std::marker::Model;
 
-/// The tally chain. A block is its parent of 32 bytes, its height of 8, an amount of 8, and any bytes
-/// behind; its identifier is the SHA-256 digest of all its bytes. A state is a sum and a cap, and a
-/// block is valid where its amount can be added to its parent's sum without passing the cap. The kind
-/// is this project's own, and the digest that of FIPS 180-4.
+/// The tally chain. A block is its parent of 32 bytes, its height of 8, an amount of 8, and any
+/// bytes behind. Its identifier is the SHA-256 digest of all its bytes. A state is a sum and a cap,
+/// and a block is valid where its amount can be added to its parent's sum without passing the cap.
+/// Rule: this project's own and FIPS 180-4.
 #[derive(Drop)]
 pub struct TallyChain {
     states: States,
@@ -32,7 +32,8 @@ impl Model for TallyChain {
 }
 
 impl TallyChain {
-    /// The states that it holds.
+    /// Returns the states that it holds.
+    /// Rule: this project's own.
     pub fn states(&self) -> &States
         ensures { result.now ≡ self.now }
     {

@@ -1,18 +1,21 @@
 use snow_engine::Task;
 
 /// The kind of blocks, as a word of the command line names it.
+/// Rule: this project's own.
 #[derive(Clone, Copy, Debug, PartialEq, Eq)]
 pub enum ChainName {
     /// `plain`: blocks that state their identifier and whether they are valid.
     Plain,
-    /// `tally`: blocks known by their SHA-256, each with an amount that may not lift a sum above a cap.
+    /// `tally`: blocks known by their SHA-256, each with an amount that may not lift a sum above a
+    /// cap.
     Tally,
-    /// `ledger`: blocks known by their SHA-256, each with transfers between accounts that their senders'
-    /// balances have to cover.
+    /// `ledger`: blocks known by their SHA-256, each with transfers between accounts that their
+    /// senders' balances have to cover.
     Ledger,
 }
 
-/// How a counter that isn't decided answers, as a word of the command line names it.
+/// How a counter that isn't final answers, as a word of the command line names it.
+/// Rule: the Snow family paper.
 #[derive(Clone, Copy, Debug, PartialEq, Eq)]
 pub enum RuleName {
     /// `snowball`: its preference, which moves once the other bit was followed more often.
@@ -21,7 +24,8 @@ pub enum RuleName {
     Snowflake,
 }
 
-/// What is done with a stream.
+/// What the program does with a stream.
+/// Rule: this project's own.
 #[derive(Clone, Copy, Debug, PartialEq, Eq)]
 pub enum Job {
     /// `decide` or `run`: a node serves its events.
@@ -31,6 +35,7 @@ pub enum Job {
 }
 
 /// What the words of the command line ask for.
+/// Rule: this project's own.
 #[derive(Clone, Copy, Debug, PartialEq, Eq)]
 pub enum Command {
     /// A stream is read, by this rule over blocks of this chain.

@@ -1,7 +1,9 @@
 ghost use Rattle.std.specs.Prelude.{◌≡◌, ◌≤◌, Some, IfSome};
 ghost use Rattle.snow_cli.specs.Words.{with_digit, digits_within, number_in};
 
-/// The number of one to twenty decimal digits, where it is within these bounds. Zeros may lead.
+/// Returns the number that one to twenty decimal digits spell, where it is within these bounds,
+/// both included, and else `None`. Zeros may lead.
+/// Rule: this project's own.
 pub fn number_in(text: &str, least: u64, most: u64) -> Option<u64>
     ensures number { result ≡ number_in least most text.now }
     ensures most { IfSome result (λ n. n ≤ most) }
@@ -20,7 +22,7 @@ pub fn number_in(text: &str, least: u64, most: u64) -> Option<u64>
     Some(number)
 }
 
-/// The number of digits, where it is at most this.
+/// Returns the number of digits, where it is at most this.
 fn digits_within(digits: &[u8], most: u64) -> Option<u64>
     ensures number { result ≡ digits_within most digits.now }
     ensures most { IfSome result (λ n. n ≤ most) }
@@ -34,7 +36,7 @@ fn digits_within(digits: &[u8], most: u64) -> Option<u64>
     Some(number)
 }
 
-/// A number with one digit more, where it is one and what comes is at most this.
+/// Returns a number with one digit more, where that is a digit and the result is at most this.
 fn with_digit(number: u64, digit: u8, most: u64) -> Option<u64>
     ensures number { result ≡ with_digit most (Some number) digit }
     ensures most { IfSome result (λ n. n ≤ most) }

@@ -52,7 +52,7 @@ impl<'a> Asked<'a> {
     ghost use Rattle.snow_cli.specs.Request.{Comes, blank, texts, with_item, with_value};
     ghost use Rattle.snow_cli.specs.Words.{Plain};
 
-    /// Nothing was asked yet.
+    /// Returns the words before the first.
     fn new() -> Self
         ensures { result ≡ blank }
     {
@@ -65,14 +65,15 @@ impl<'a> Asked<'a> {
         }
     }
 
-    /// A plain word comes. It answers whether it is the first.
+    /// Takes a plain word, and returns whether it is the first.
     fn set_task(&mut self, word: &'a str) -> bool
         ensures { Comes result self.new (with_item self.old (Plain word.entry.now)) }
     {
         put(&mut self.task, word)
     }
 
-    /// The value of an option comes. It answers whether the option is known, and this its first value.
+    /// Takes the value of an option, and returns whether the option is known and this is its first
+    /// value.
     fn set_value(&mut self, name: &str, value: &'a str) -> bool
         ensures { Comes result self.new (with_value self.old name.now value.entry.now) }
     {
@@ -91,7 +92,7 @@ impl<'a> Asked<'a> {
         false
     }
 
-    /// Whether the values that stand are neither empty nor begin with `-`.
+    /// Returns whether the values that stand are neither empty nor begin with `-`.
     fn has_words(&self) -> bool
         ensures { result ≡ has_words self.now }
     {
@@ -101,14 +102,14 @@ impl<'a> Asked<'a> {
             && is_word_or_none(self.blocks)
     }
 
-    /// Whether the task takes the chain, where one stands.
+    /// Returns whether the task takes the chain, where one stands.
     fn takes_chain(&self, task: &str) -> bool
         ensures { result ≡ takes_chain task.now self.now.chain }
     {
         !(task == "drill" && self.chain.is_some())
     }
 
-    /// The words in order, where there is a task that takes its options and all are words.
+    /// Returns the words in order, where there is a task that takes its options and all are words.
     #[tactic(auto, unfolding(crate::specs::Parsing::ordered))]
     fn in_order(&self, alloc: Global) -> Result<Option<Vec<String>>, AllocError>
         ensures { IfOk result (λ list. option_map (λ l. texts l.items) list ≡ ordered self.now) }
@@ -128,7 +129,7 @@ impl<'a> Asked<'a> {
         Ok(Some(self.list(alloc, task)?))
     }
 
-    /// The program's name, this task, and the options that stand.
+    /// Returns the program's name, this task, and the options that stand.
     fn list(&self, alloc: Global, task: &str) -> Result<Vec<String>, AllocError>
         ensures { IfOk result (λ list. texts list.items ≡ codes "snowman" ∷ task.now
             ∷ option_words self.now.chain self.now.rule self.now.seed self.now.blocks) }
@@ -144,14 +145,14 @@ impl<'a> Asked<'a> {
     }
 }
 
-/// Whether a name is this one.
+/// Returns whether a name is this one.
 fn is(name: &str, other: &str) -> bool
     ensures { result ≡ bytes_eq name.now other.now }
 {
     name == other
 }
 
-/// Puts the first of some words into its place. It answers whether it is the first.
+/// Puts the first of some words into its place, and returns whether it is the first.
 fn put<'a>(place: &mut Option<&'a str>, word: &'a str) -> bool
     ensures { Puts result place.old place.new word.entry }
 {
@@ -162,14 +163,14 @@ fn put<'a>(place: &mut Option<&'a str>, word: &'a str) -> bool
     true
 }
 
-/// What follows a first `-`.
+/// Returns what follows a first `-`.
 fn behind_dash(word: &str) -> Option<&str>
     ensures { option_map (λ s. s.now) result ≡ behind_dash word.now }
 {
     word.strip_prefix('-')
 }
 
-/// What a word looks like by itself.
+/// Returns what a word looks like by itself.
 fn look_at(word: &str) -> Look<'_>
     ensures { form_seen result ≡ form_of word.now }
 {
@@ -182,7 +183,7 @@ fn look_at(word: &str) -> Look<'_>
     look_behind(option)
 }
 
-/// What stands behind `--`.
+/// Returns what stands behind `--`.
 fn look_behind(option: &str) -> Look<'_>
     ensures { form_seen result ≡ option_form option.now }
 {
@@ -195,14 +196,14 @@ fn look_behind(option: &str) -> Look<'_>
     }
 }
 
-/// Whether a word begins with `-`.
+/// Returns whether a word begins with `-`.
 fn has_dash(word: &str) -> bool
     ensures { result ≡ has_dash word.now }
 {
     behind_dash(word).is_some()
 }
 
-/// The first word, and those behind it.
+/// Returns the first word, and those behind it.
 fn split_first<'a>(words: &'a [String]) -> Option<(&'a str, &'a [String])>
     ensures words { MatchOption result (texts words.now ≡ []) (λ p. texts words.now ≡ p.0.now ∷ texts p.1.now) }
     ensures shorter { IfSome result (λ p. length p.1.now < length words.now) }
@@ -229,7 +230,8 @@ fn take_plain<'a>(asked: &mut Asked<'a>, words: &'a [String]) -> Option<&'a [Str
     Some(rest)
 }
 
-/// Takes an option whose value is the first of the words behind its name, and gives the words behind.
+/// Takes an option whose value is the first of the words behind its name, and returns the words
+/// behind.
 #[tactic(auto, unfolding(crate::specs::Request::with_items))]
 fn take_value<'a>(asked: &mut Asked<'a>, name: &str, words: &'a [String]) -> Option<&'a [String]>
     ensures items { Advances asked.old (named_items name.now (texts words.now) (items (drop 1 (texts words.now)))) asked.new result }
@@ -247,7 +249,7 @@ fn take_value<'a>(asked: &mut Asked<'a>, name: &str, words: &'a [String]) -> Opt
     Some(rest)
 }
 
-/// Takes a word, with those behind it that belong to it, and gives the words behind.
+/// Takes a word, with those behind it that belong to it, and returns the words behind.
 #[tactic(auto, unfolding(crate::specs::Request::with_items))]
 fn take<'a>(asked: &mut Asked<'a>, word: &'a str, words: &'a [String]) -> Option<&'a [String]>
     ensures items { Advances asked.old (first_items (form_of word.now) word.now (texts words.now)
@@ -263,7 +265,7 @@ fn take<'a>(asked: &mut Asked<'a>, word: &'a str, words: &'a [String]) -> Option
     }
 }
 
-/// What words ask for, where each is an item that may stand.
+/// Returns what words ask for, where each is an item that may stand.
 #[tactic(auto, unfolding(crate::specs::Request::with_items), using(crate::proofs::Walks::items_first, crate::proofs::Walks::all_came))]
 fn ask<'a>(words: &'a [String]) -> Option<Asked<'a>>
     ensures { result ≡ with_items blank (items (texts words.now)) }
@@ -279,10 +281,11 @@ fn ask<'a>(words: &'a [String]) -> Option<Asked<'a>>
     Some(asked)
 }
 
-/// The words in order: the program's name, the one plain word, and `--name=value` for each option
-/// that stands, in the order chain, rule, seed, blocks. There are none where a word has no place, an
-/// option stands twice, the plain word or a value is empty or begins with `-`, or a drill is given a
-/// chain.
+/// Returns the words in order: the program's name, the one plain word, and `--name=value` for each
+/// option that stands, in the order chain, rule, seed, blocks. It returns `None` where a word has
+/// no place, an option stands twice, the plain word or a value is empty or begins with `-`, or a
+/// drill is given a chain. On want of memory it returns `AllocError`.
+/// Rule: this project's own.
 pub fn order(alloc: Global, words: &[String]) -> Result<Option<Vec<String>>, AllocError>
     ensures { IfOk result (λ list. option_map (λ l. texts l.items) list
         ≡ option_and_then ordered (with_items blank (items (texts words.now)))) }
@@ -293,7 +296,7 @@ pub fn order(alloc: Global, words: &[String]) -> Result<Option<Vec<String>>, All
     asked.in_order(alloc)
 }
 
-/// Whether a word is neither empty nor begins with `-`.
+/// Returns whether a word is neither empty nor begins with `-`.
 fn is_word(word: &str) -> bool
     ensures { result ≡ is_word word.now }
 {
@@ -309,7 +312,7 @@ fn is_word_or_none(word: Option<&str>) -> bool
     }
 }
 
-/// Puts the word of an option that stands behind those of a list.
+/// Appends the word of an option, where the option stands.
 fn put_option(
     alloc: Global,
     list: &mut Vec<String>,
@@ -325,7 +328,7 @@ fn put_option(
     Ok(())
 }
 
-/// `--name=value`.
+/// Returns `--name=value`.
 fn option_word(alloc: Global, name: &str, value: &str) -> Result<String, AllocError>
     ensures { IfOk result (λ word. string_bytes word ≡ 45 ∷ 45 ∷ name.now ++ 61 ∷ value.now) }
 {

@@ -20,7 +20,7 @@ static CHAINS: [&str; 3] = ["plain", "tally", "ledger"];
 /// The names of the rules.
 static RULES: [&str; 2] = ["snowball", "snowflake"];
 
-/// The task, as the one plain word.
+/// Adds the task, as the one plain word.
 fn with_task<'a>(
     alloc: Global,
     command: clap::Command<'a>,
@@ -35,7 +35,7 @@ fn with_task<'a>(
     )
 }
 
-/// An option whose value is one of these names.
+/// Adds an option whose value is one of these names.
 fn with_choice<'a>(
     alloc: Global,
     command: clap::Command<'a>,
@@ -53,7 +53,7 @@ fn with_choice<'a>(
     )
 }
 
-/// An option with any value.
+/// Adds an option with any value.
 fn with_option<'a>(
     alloc: Global,
     command: clap::Command<'a>,
@@ -64,7 +64,7 @@ fn with_option<'a>(
     command.arg(Arg::new(alloc, name).long(name))
 }
 
-/// The command line.
+/// Returns the description of the command line for `clap`.
 fn snowman<'a>(
     alloc: Global,
     tasks: &'a [&'a str],
@@ -81,7 +81,7 @@ fn snowman<'a>(
     with_option(alloc, command, "blocks")
 }
 
-/// What `clap` finds in words.
+/// Returns what `clap` finds in words.
 fn matched<'a>(
     alloc: Global,
     words: &'a [String],
@@ -97,7 +97,9 @@ fn matched<'a>(
     command.try_get_matches_from(words)
 }
 
-/// The command that words in order ask for: those of a request, as `ordering` writes them.
+/// Returns the command for which words in order ask: those of a request, as `order` writes them. On
+/// want of memory it returns `AllocError`.
+/// Rule: this project's own.
 pub fn command_of_ordered(alloc: Global, words: &[String]) -> Result<Option<Command>, AllocError>
     ensures { IfOk result (AsksFor (texts words.now)) }
 {
@@ -119,7 +121,7 @@ pub fn command_of_ordered(alloc: Global, words: &[String]) -> Result<Option<Comm
     }
 }
 
-/// The command that matches ask for.
+/// Returns the command that matches ask for.
 fn read(matches: &ArgMatches) -> Option<Command>
     ensures { result ≡ command_read (first_value (found_of matches.now)) }
 {
@@ -140,7 +142,7 @@ fn read(matches: &ArgMatches) -> Option<Command>
     })
 }
 
-/// Whether this tested name is the drill's.
+/// Returns whether this tested name is the drill's.
 fn is_drill(name: Option<&str>) -> bool
     ensures { result ≡ is_drill_read (option_map (λ s. s.now) name.entry) }
 {
@@ -150,7 +152,7 @@ fn is_drill(name: Option<&str>) -> bool
     }
 }
 
-/// A drill by this tested rule, which needs a seed and a number of blocks.
+/// Returns a drill by this tested rule, which needs a seed and a number of blocks.
 fn drill(rule: Option<&str>, seed: Option<&str>, blocks: Option<&str>) -> Option<Command>
     ensures { result ≡ drill_read (option_map (λ s. s.now) rule.entry) (option_map (λ s. s.now) seed.entry) (option_map (λ s. s.now) blocks.entry) }
 {
@@ -163,7 +165,7 @@ fn drill(rule: Option<&str>, seed: Option<&str>, blocks: Option<&str>) -> Option
     })
 }
 
-/// What is done with a stream by the task of this tested name.
+/// Returns what is done with a stream by the task of this tested name.
 fn job_of(name: Option<&str>) -> Job
     ensures { result ≡ job_read (option_map (λ s. s.now) name.entry) }
 {
@@ -174,7 +176,7 @@ fn job_of(name: Option<&str>) -> Job
     }
 }
 
-/// The chain of this tested name, or the usual one.
+/// Returns the chain of this tested name, or the usual one.
 fn chain_of(name: Option<&str>) -> ChainName
     ensures { result ≡ chain_read (option_map (λ s. s.now) name.entry) }
 {
@@ -185,7 +187,7 @@ fn chain_of(name: Option<&str>) -> ChainName
     }
 }
 
-/// The rule of this tested name, or the usual one.
+/// Returns the rule of this tested name, or the usual one.
 fn rule_of(name: Option<&str>) -> RuleName
     ensures { result ≡ rule_read (option_map (λ s. s.now) name.entry) }
 {

@@ -26,15 +26,19 @@ use snow_plain::PlainBoard;
 use snow_topo::Topo;
 use std::alloc::Global;
 
-/// The top call: all that the program does. The words, without the program's name, ask for a command,
-/// and its lines for the stream of `source` go to `out`; an audit writes the one line of what it finds,
-/// and a drill reads nothing, and writes its summary.
-/// `Usage` where the words ask for none: then nothing is read. `BadInput` at the first frame that stops
-/// the run, with all lines before it written, and `Limit` where 2^40 bytes hold no stop. `Differs` where
-/// an audit comes upon a recorded line that isn't the model's before any stop. `SourceFault`,
-/// `SinkFault` and `Memory` end a run behind a front of its lines. The line on `err` tells how it ended,
-/// unless it is `Done` or `Differs`. The words, the formats and the statuses are this project's own; what is decided
-/// is what AvalancheGo's package `snow` decides with one-bit counters of the Snow family paper.
+/// The top call: all that the program does. The words, without the program's name, ask for a
+/// command. Its lines for the stream of `source` go to `out`; an audit writes the one line of what
+/// it finds, and a drill reads nothing and writes its summary. What it decides is what
+/// AvalancheGo's package `snow` decides with one-bit counters of the Snow family paper.
+///
+/// It returns `Usage` exactly where the words ask for no command, and reads nothing then. It
+/// returns `BadInput` at the first frame that stops the run, with all lines before it written, and
+/// `Limit` where 2^40 bytes hold no stop or all request numbers are used up. `Differs` comes where
+/// an audit finds a recorded line that isn't the model's before any stop. `SourceFault` and
+/// `SinkFault` come only where that object's count of faults rose or stands at 2^64-1, and `Memory`
+/// on want of memory; they end a run behind a front of its lines. The line on `err` tells how it
+/// ended, unless that is `Done` or `Differs`.
+/// Rule: this project's own.
 #[tactic(auto, using(crate::proofs::Finished::answered, crate::proofs::Finished::no_usage))]
 pub fn top<S: Source, O: Sink, E: Sink>(
     alloc: Global,
@@ -73,7 +77,7 @@ pub fn top<S: Source, O: Sink, E: Sink>(
     Status::of(ended)
 }
 
-/// The run of a command.
+/// Runs a command.
 #[tactic(auto, using(crate::proofs::Finished::ended_finish, crate::proofs::Finished::ended_wrote, crate::proofs::Finished::ended_fault, crate::proofs::Finished::source_fault_is, crate::proofs::Finished::done_is))]
 fn perform<S: Source, O: Sink>(
     alloc: Global,
@@ -102,7 +106,7 @@ fn perform<S: Source, O: Sink>(
     }
 }
 
-/// What is done with a stream over this chain.
+/// Returns what is done with a stream over this chain.
 #[tactic(auto, using(crate::proofs::Finished::ended_finish, crate::proofs::Finished::ended_wrote, crate::proofs::Finished::ended_fault, crate::proofs::Finished::source_fault_is, crate::proofs::Finished::done_is))]
 fn work<C: Chain, S: Source, O: Sink>(
     alloc: Global,
@@ -125,7 +129,7 @@ fn work<C: Chain, S: Source, O: Sink>(
     }
 }
 
-/// The audit of a run over this chain, with its one line.
+/// Audits a run over this chain, and writes the one line.
 fn check<C: Chain, S: Source, O: Sink>(
     alloc: Global,
     rule: RuleName,
@@ -143,7 +147,7 @@ fn check<C: Chain, S: Source, O: Sink>(
     tell(found, out)
 }
 
-/// The audit of a run over this chain. It goes over the plain board, which shares no tree with `run`.
+/// Audits a run over this chain. It takes the plain board, which shares no tree with `run`.
 fn audited<C: Chain, S: Source>(alloc: Global, rule: RuleName, source: &mut S) -> AuditEnd
     ensures answer { IfSome (S.left source.old) (λ bytes. auditing.IsAnswer result (audit_of C.rules (model.answer_of rule) bytes)) }
     ensures told { auditing.IsTold result }
@@ -156,7 +160,7 @@ fn audited<C: Chain, S: Source>(alloc: Global, rule: RuleName, source: &mut S) -
     }
 }
 
-/// Writes the line of what an audit found; there is none where it stopped.
+/// Writes the line of what an audit found. There is none where the audit stopped.
 fn tell<O: Sink>(found: AuditEnd, out: &mut O) -> Finish
     ensures { model.Told result found (O.written out.old) (O.written out.new) (O.faults out.old) (O.faults out.new) }
 {
@@ -169,7 +173,7 @@ fn tell<O: Sink>(found: AuditEnd, out: &mut O) -> Finish
     }
 }
 
-/// How a command ends whose line was written, or not.
+/// Returns how a command ended that tried to write its line.
 fn unless_failed(written: Result<(), Failed>, finish: Finish) -> Finish
     ensures { result ≡ model.unless_failed written finish }
 {
@@ -193,7 +197,7 @@ fn put<O: Sink>(word: &[u8], number: u64, out: &mut O) -> Result<(), Failed>
     write_whole(out, line.as_slice())
 }
 
-/// A drill by this rule.
+/// Makes a drill by this rule.
 #[tactic(auto, using(crate::proofs::Drilled::drill_ends, crate::proofs::Drilled::drill_writes, crate::proofs::Drilled::drill_fails))]
 fn play<O: Sink>(alloc: Global, rule: RuleName, seed: u64, blocks: u32, out: &mut O) -> End
     ensures end { serving.IsEnd result End.Done }
@@ -207,7 +211,7 @@ fn play<O: Sink>(alloc: Global, rule: RuleName, seed: u64, blocks: u32, out: &mu
     }
 }
 
-/// The run of a task over this chain.
+/// Runs a task over this chain.
 fn run<C: Chain, S: Source, O: Sink>(
     alloc: Global,
     task: Task,

@@ -9,7 +9,9 @@ use snow_flake::ParamFault;
 use snow_lines::Text;
 use snow_sample::RosterFault;
 
-/// Tells on standard error how a command ended, or that there was none. A fault there changes nothing.
+/// Tells on standard error how a command ended, or that there was none. A fault there changes
+/// nothing.
+/// Rule: this project's own.
 pub fn report<E: Sink>(ended: &Option<Finish>, err: &mut E)
     ensures { TookLine (E.written err.old) (E.written err.new) (E.faults err.old) (E.faults err.new) (error_line ended.now) }
 {
@@ -18,8 +20,8 @@ pub fn report<E: Sink>(ended: &Option<Finish>, err: &mut E)
     let _ = write_whole(err, line.as_slice());
 }
 
-/// Puts the line for how a command ended, or that there was none. It is empty where all is done, and
-/// where an audit differs.
+/// Puts the line for how a command ended, or that there was none. It is empty where all is done,
+/// and where an audit differs.
 fn put_line(ended: &Option<Finish>, line: &mut Text<192>)
     requires { line.old ≡ [] }
     ensures { line.new ≡ error_line ended.now }
@@ -70,7 +72,7 @@ fn put_boot_line(why: &BootStop, line: &mut Text<192>)
     line.push(b"\n");
 }
 
-/// Puts why bootstrapping stopped; want of memory and of numbers are told by lines of their own.
+/// Puts why bootstrapping stopped. Want of memory and of numbers have lines of their own.
 fn put_stop(why: &BootStop, line: &mut Text<192>)
     requires { length line.old ≤ 32 }
     ensures text { line.new ≡ line.old ++ stop_text why.now }
@@ -101,7 +103,7 @@ fn put_stop(why: &BootStop, line: &mut Text<192>)
     }
 }
 
-/// The word for what is wrong with an input.
+/// Returns the word for what is wrong with an input.
 fn kind_word(kind: &BadKind) -> &'static [u8]
     ensures word { result.now ≡ kind_word kind.now }
     ensures length { length result.now ≤ 12 }
@@ -118,7 +120,7 @@ fn kind_word(kind: &BadKind) -> &'static [u8]
     }
 }
 
-/// The word for refused nodes; want of memory is told by a line of its own.
+/// Returns the word for refused nodes. Want of memory has a line of its own.
 fn roster_word(fault: &RosterFault) -> &'static [u8]
     ensures word { result.now ≡ roster_word fault.now }
     ensures length { length result.now ≤ 12 }
@@ -132,7 +134,7 @@ fn roster_word(fault: &RosterFault) -> &'static [u8]
     }
 }
 
-/// The word for refused parameters.
+/// Returns the word for refused parameters.
 fn fault_word(fault: ParamFault) -> &'static [u8]
     ensures word { result.now ≡ fault_word fault }
     ensures length { length result.now ≤ 12 }

@@ -4,7 +4,8 @@ ghost use Rattle.snow_cli.specs.Answer.{end_status, exit_code, status_of};
 use crate::finish::Finish;
 use snow_engine::End;
 
-/// How the program ended.
+/// How the program ended. `code` returns the exit status of each.
+/// Rule: this project's own.
 #[derive(Clone, Copy, Debug, PartialEq, Eq)]
 pub enum Status {
     /// All lines were written, and the end of the input was read.
@@ -28,7 +29,9 @@ pub enum Status {
 }
 
 impl Status {
-    /// The exit status of the program.
+    /// Returns the exit status of the program: 0 for `Done`, and 2 to 9 for the others in their
+    /// order.
+    /// Rule: this project's own.
     pub fn code(self) -> u8
         ensures { result ≡ exit_code self }
     {
@@ -45,7 +48,7 @@ impl Status {
         }
     }
 
-    /// The status for how a command ended; `Usage` where there was none.
+    /// Returns the status for how a command ended; `Usage` where there was none.
     pub(crate) fn of(ended: Option<Finish>) -> Status
         ensures { result ≡ status_of ended }
     {
@@ -56,7 +59,7 @@ impl Status {
         }
     }
 
-    /// The status for how a run ended.
+    /// Returns the status for how a run ended.
     fn of_end(end: End) -> Status
         ensures { result ≡ end_status end }
     {

@@ -6,8 +6,9 @@ ghost use Rattle.snow_climb.specs.Ladder.{KeepsRoom};
 use crate::ladder::Ladder;
 use snow_tree::Tree;
 
-/// Votes on their way up the line of their block. They passed the block at a place, and look for its
-/// parent: `place` is one more than where that stands, and 0 where it isn't pending.
+/// Votes on their way up the line of their block. They passed the block at a place, and look for
+/// its parent: `place` is one more than where that stands, and 0 where it isn't pending.
+/// Rule: AvalancheGo, snow/consensus/snowman.
 #[derive(Clone, Copy, Debug)]
 pub struct Climber {
     pub place: usize,
@@ -38,8 +39,8 @@ fn parent_reach<T: Drop>(tree: &Tree<T>, at: usize, parent: Option<usize>) -> us
     }
 }
 
-/// Votes that passed the block at a place go on to its parent, which stands at this one. It takes no
-/// memory.
+/// Puts votes that passed the block at a place on the ladder, to go on to its parent, which stands
+/// at this one. It takes no memory.
 #[inline(always)]
 pub(crate) fn go_on_to<T: Drop>(
     tree: &Tree<T>,
@@ -63,7 +64,7 @@ pub(crate) fn go_on_to<T: Drop>(
     });
 }
 
-/// The same where it isn't known yet at which.
+/// Puts them on where it looks the parent's place up first.
 #[inline(always)]
 pub(crate) fn go_on<T: Drop>(tree: &Tree<T>, ladder: &mut Ladder, at: usize, count: u32)
     requires room { (ladder.old).put < (ladder.old).most }
@@ -75,8 +76,10 @@ pub(crate) fn go_on<T: Drop>(tree: &Tree<T>, ladder: &mut Ladder, at: usize, cou
     go_on_to(tree, ladder, at, tree.parent_place(at), count);
 }
 
-/// So many votes that came to the block at a place go on to its parent together, if there are some. They
-/// stand below the rung that was taken off last. It takes no memory.
+/// Puts so many votes that came to the block at a place on the ladder, to go on to its parent
+/// together; it puts nothing where `count` is 0. The block is pending, its parent's rung is below
+/// the one that was taken off last, and the ladder has room for one more. It takes no memory.
+/// Rule: AvalancheGo, snow/consensus/snowman.
 #[inline(always)]
 pub fn pass<T: Drop>(tree: &Tree<T>, at: usize, count: u32, ladder: &mut Ladder)
     requires room { (ladder.old).put < (ladder.old).most }
@@ -93,7 +96,8 @@ pub fn pass<T: Drop>(tree: &Tree<T>, at: usize, count: u32, ladder: &mut Ladder)
     }
 }
 
-/// So many votes once they passed the block at a place.
+/// Returns so many votes as they are once they passed the block at a place, which is pending.
+/// Rule: AvalancheGo, snow/consensus/snowman.
 #[inline(always)]
 pub fn past<T: Drop>(tree: &Tree<T>, at: usize, count: u32) -> Climber
     requires { at < length (tree.now).pending }

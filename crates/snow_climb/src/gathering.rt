@@ -41,7 +41,8 @@ fn gather_all<T: Drop>(tree: &Tree<T>, links: &[Link], last: usize, children: &m
     }
 }
 
-/// Votes that came to a parent by one child alone.
+/// Writes the votes that came to a parent by one child alone as one vote for that child.
+/// Rule: AvalancheGo, snow/consensus/snowman.
 #[inline(always)]
 pub fn write_vote<T: Drop>(tree: &Tree<T>, climber: &Climber, one: &mut Vote)
     requires { (climber.now).passed < length (tree.now).pending }
@@ -55,7 +56,8 @@ pub fn write_vote<T: Drop>(tree: &Tree<T>, climber: &Climber, one: &mut Vote)
     }
 }
 
-/// A vote to write to. It is nobody's yet.
+/// Returns a vote to write to, which is nobody's yet.
+/// Rule: AvalancheGo, snow/consensus/snowman.
 #[inline(always)]
 pub fn no_vote() -> Vote {
     Vote {
@@ -134,7 +136,7 @@ fn write_main<T: Drop>(
     }
 }
 
-// The same as below, where they came by more than one climber.
+// Gathers votes that came by more than one climber.
 #[inline(never)]
 fn gather_many<T: Drop>(
     params: &Params,
@@ -161,9 +163,11 @@ fn gather_many<T: Drop>(
     false
 }
 
-/// The votes that were taken off a ladder last, and came to a parent, by its children: one vote where all
-/// came by one, or where it does to each counter what all do; else those of the bag. The answer is whether
-/// it is one. It takes no memory where the bag has places.
+/// Gathers the votes that were taken off a ladder last and came to a parent, at most K, by its
+/// children. It returns `true` where one vote says all: where all came by one child, or where that
+/// one vote does to each counter what all do. `one` is that vote. Else the votes stand in
+/// `children`, in place of what it held. The bag has places for them, so it takes no memory.
+/// Rule: AvalancheGo, snow/consensus/snowman.
 #[inline(always)]
 pub fn gather<T: Drop>(
     params: &Params,
@@ -190,7 +194,8 @@ pub fn gather<T: Drop>(
     }
 }
 
-/// The votes that were gathered.
+/// Returns the votes that `gather` gathered, in bit order.
+/// Rule: AvalancheGo, snow/consensus/snowman.
 #[inline(always)]
 pub fn votes_in<'a>(is_one: bool, one: &'a Vote, children: &'a Bag) -> &'a [Vote]
     ensures list { result.now ≡ gathered is_one one.now children.now.list }

@@ -6,25 +6,26 @@ use crate::climber::Climber;
 use std::alloc::{AllocError, Global};
 use std::marker::Model;
 
-/// A climber that was put on a ladder. `next` tells who was put on its rung before: one more than where
-/// that stands among all, and 0 where nobody was.
+/// A climber that was put on a ladder. `next` tells who was put on its rung before: one more than
+/// where that stands among all, and 0 where nobody was.
 #[derive(Clone, Copy, Debug)]
 pub(crate) struct Link {
     pub(crate) climber: Climber,
     pub(crate) next: usize,
 }
 
-/// Who was put on a rung last, as `next` of a link tells it, and how many votes all are who stand there.
+/// Who was put on a rung last, as `next` of a link tells it, and how many votes stand there in all.
 #[derive(Clone, Copy, Debug)]
 pub(crate) struct Head {
     pub(crate) last: usize,
     pub(crate) count: u32,
 }
 
-/// Climbers, each on the rung of the place for which it looks. To put one on, or to take those of the
-/// highest rung off, costs nothing for the others. It takes no memory, where there is room for those that
-/// are put on until the ladder is begun anew. Contracts see those who stand on it, those who were taken off
-/// last, and its room.
+/// Climbers, each on the rung of the place for which it looks. Putting one on, or taking those of
+/// the highest rung off, costs nothing for the others. It takes no memory while it has room for
+/// those that are put on. Contracts see those who stand on it, those who were taken off last, and
+/// its room.
+/// Rule: this project's own.
 #[derive(Debug, Drop)]
 pub struct Ladder {
     links: Vec<Link>,
@@ -143,7 +144,9 @@ impl Ladder {
     ghost use Rattle.std.specs.Prelude.{[], ◌∷◌, ◌++◌, IfOk, IfSome, IsPermutation};
     ghost use Rattle.snow_climb.specs.Ladder.{under, up_from, IsReady};
 
-    /// A ladder for polls of so many votes, as long as nothing is pending.
+    /// Returns a ladder for polls of so many votes, as long as nothing is pending. On want of
+    /// memory it returns `AllocError`.
+    /// Rule: this project's own.
     pub fn new(alloc: Global, votes: u32) -> Result<Self, AllocError>
         ensures ready { IfOk result (λ r. IsReady 0 r) }
         ensures votes { IfOk result (λ r. r.votes ≡ votes) }
@@ -162,7 +165,10 @@ impl Ladder {
         })
     }
 
-    /// Makes room for polls over so many pending blocks, where nobody stands on the ladder.
+    /// Makes room for polls over so many pending blocks, where nobody stands on the ladder. The
+    /// ladder has at least as many rungs, so it adds at most one. On want of memory it returns
+    /// `AllocError`; the ladder has no less room then, and the number of votes stays.
+    /// Rule: this project's own.
     pub fn make_room(&mut self, pending: usize) -> Result<(), AllocError>
         requires low { (self.old).low ≡ 0 }
         requires pending { pending ≤ (self.old).rungs }
@@ -192,8 +198,9 @@ impl Ladder {
         self.taken = 0;
     }
 
-    /// Puts one on its rung, which is below all that were taken off, where there is room for one more. It
-    /// takes no memory.
+    /// Puts a climber on its rung, which is below all that were taken off. The ladder has room for
+    /// one more, so it takes no memory.
+    /// Rule: this project's own.
     #[inline(always)]
     pub fn put(&mut self, climber: Climber)
         requires below { climber.place < (self.old).low }
@@ -213,14 +220,17 @@ impl Ladder {
         mark(&mut self.words, climber.place);
     }
 
-    /// Nobody stands on this rung or a higher one.
+    /// Returns a rung on which nobody stands, nor on a higher one.
+    /// Rule: this project's own.
     pub fn low(&self) -> usize
         ensures { result ≡ (self.now).low }
     {
         self.low
     }
 
-    /// The one who stands on it, where nobody else was put on.
+    /// Returns the only climber on the ladder. It may return `None` there too; it returns a climber
+    /// only where no other stands on the ladder.
+    /// Rule: this project's own.
     #[inline(always)]
     pub fn lone(&self) -> Option<Climber>
         ensures { IfSome result (λ c. (self.now).climbers ≡ c ∷ []) }
@@ -236,7 +246,8 @@ impl Ladder {
         }
     }
 
-    /// No rung is higher on which somebody stands. It is asked before any is taken off.
+    /// Returns a rung above which nobody stands. The caller asks it before any is taken off.
+    /// Rule: this project's own.
     #[inline]
     pub fn top(&self) -> usize
         ensures { All (λ c. c.place ≤ result) (self.now).climbers }
@@ -245,7 +256,9 @@ impl Ladder {
         highest_from(&self.words, bound / 64)
     }
 
-    /// The same, and it is as quick where the highest rung was just taken off.
+    /// Returns a rung above which nobody stands. It is quick too where the highest rung was just
+    /// taken off.
+    /// Rule: this project's own.
     #[inline(always)]
     pub fn top_left(&self) -> usize
         ensures { All (λ c. c.place ≤ result) (self.now).climbers }
@@ -253,8 +266,8 @@ impl Ladder {
         highest_from(&self.words, self.low / 64)
     }
 
-    /// All that are put on from here on stand below a rung that was taken off. How high they stand need
-    /// not be kept then.
+    /// Notes that all who are put on from here on stand below a rung that was taken off. Then the
+    /// ladder needn't keep how high they stand.
     #[inline(always)]
     pub(crate) fn put_below(&mut self)
         ensures { self.new ≡ self.old }
@@ -263,8 +276,9 @@ impl Ladder {
         self.high = usize::MAX;
     }
 
-    /// Takes all off the highest rung on which somebody stands, or one above it. The answer is how many
-    /// votes they are, which is counted as they are put on. It takes no memory.
+    /// Takes all off this rung, above which nobody stands; it is below those that were taken off
+    /// before. It returns how many votes they are, modulo 2^32. It takes no memory.
+    /// Rule: this project's own.
     #[inline(always)]
     pub fn take(&mut self, rung: usize) -> u32
         requires below { rung < (self.old).low }
@@ -282,7 +296,7 @@ impl Ladder {
         head.count
     }
 
-    /// The one that was taken off last, where nobody else stood on its rung.
+    /// Returns the climber that was taken off last, where nobody else stood on its rung.
     #[inline(always)]
     pub(crate) fn only(&self) -> Option<Climber>
         ensures { IfSome result (λ c. (self.now).came ≡ c ∷ []) }
@@ -298,8 +312,8 @@ impl Ladder {
         }
     }
 
-    /// Those that were taken off last: the links of all, and who of them was put last on that rung, as
-    /// `next` of a link tells it.
+    /// Returns those that were taken off last: the links of all, and who of them was put last on
+    /// that rung, as `next` of a link tells it.
     #[inline(always)]
     pub(crate) fn came(&self) -> (&[Link], usize)
         ensures linked { AreLinked result.0.now }

@@ -56,9 +56,9 @@ fn count_for(ids: &[Id], main: &Id) -> u32
     count
 }
 
-/// One vote that stands for all of a poll, if there is one: where AlphaConfidence are for one identifier, all
-/// others are fewer than AlphaPreference, and no counter sees them. Which it is is guessed from the first, so
-/// that there may be one where none is found.
+/// Returns one vote that stands for all of a poll, or `None`. Where AlphaConfidence votes are for
+/// one identifier, all others are fewer than AlphaPreference, and no counter sees them. It guesses
+/// the identifier from the first votes, so it may return `None` where there is one.
 #[inline(never)]
 pub(crate) fn main_vote(params: &Params, ids: &[Id]) -> Option<Vote>
     requires { length ids.now ≤ params.now.k }

@@ -10,14 +10,15 @@ fn small(bytes: &[u8])
     let _len = bytes.len();
 }
 
-/// An identifier has 32 bytes, which contracts see as a list of numbers.
+/// Tells contracts that an identifier is a list of 32 bytes. It does nothing.
+/// Rule: this project's own.
 pub fn named(id: &Id)
     ensures { IsNamed id.now }
 {
     small(id.as_bytes());
 }
 
-/// So have all of these.
+/// Tells contracts so of all of these.
 pub(crate) fn all_named(ids: &[Id])
     ensures { All IsNamed ids.now }
 {

@@ -85,7 +85,9 @@ fn let_all_go<T: Drop>(tree: &Tree<T>, ladder: &mut Ladder, votes: &[Vote])
     }
 }
 
-/// The votes of a poll, each past its own block, where this is pending. It takes no memory.
+/// Puts the votes of a poll on an empty ladder, each past its own block, where this is pending. The
+/// ladder is ready for the pending blocks and for so many votes, so it takes no memory.
+/// Rule: AvalancheGo, snow/consensus/snowman.
 pub fn start_votes<T: Drop>(tree: &Tree<T>, ladder: &mut Ladder, votes: &[Vote])
     requires ready { IsReady (length (tree.now).pending) ladder.old }
     requires few { total_count votes.now ≤ (ladder.old).votes }
@@ -120,12 +122,12 @@ fn count_one<T: Drop>(tree: &Tree<T>, ladder: &mut Ladder, waiting: &mut Vote, i
     }
 }
 
-// Where of eight seats votes for a block wait, by its first three bits: the last in bit order at the first
-// seat. So those that wait begin from the last to the first, and are listed from the first to the last.
+// At which of eight seats votes for a block wait, by its first three bits. Seats are drained in reverse bit
+// order, so votes reach a parent already sorted.
 const FALLING: [u8; 8] = [7, 3, 5, 1, 6, 2, 4, 0];
 
-// Where of so many seats votes for a block wait: those for different blocks are to wait at different ones.
-// The seats are as many as a power of two.
+// At which of so many seats, a power of two, votes for a block wait. Votes for different blocks mostly wait
+// at different seats.
 #[inline(always)]
 fn seat_of(id: &Id, seats: usize) -> usize
     requires { 0 < seats }
@@ -160,7 +162,7 @@ fn count_each<T: Drop>(tree: &Tree<T>, ladder: &mut Ladder, waiting: &mut [Vote]
     }
 }
 
-// The same where nobody waits before or afterwards.
+// Seats all votes, where nobody waits before or afterwards.
 #[inline(always)]
 fn seat_each<T: Drop>(tree: &Tree<T>, ladder: &mut Ladder, waiting: &mut [Vote], ids: &[Id])
     requires seats { 0 < length waiting.old }
@@ -173,7 +175,7 @@ fn seat_each<T: Drop>(tree: &Tree<T>, ladder: &mut Ladder, waiting: &mut [Vote],
     let_all_go(tree, ladder, waiting);
 }
 
-// The same at a few seats. These are made ready on a frame of their own, which other polls don't pay for.
+// Seats all votes at a few seats. These stand on a frame of their own, which other polls don't pay for.
 #[inline(never)]
 fn seat_few<T: Drop>(tree: &Tree<T>, ladder: &mut Ladder, ids: &[Id])
     requires { TakesMore (length (tree.now).pending) (length ids.now) ladder.old }
@@ -186,7 +188,7 @@ fn seat_few<T: Drop>(tree: &Tree<T>, ladder: &mut Ladder, ids: &[Id])
     seat_each(tree, ladder, &mut [nobody; 8], ids);
 }
 
-// The same at many.
+// Seats all votes at many seats.
 #[inline(never)]
 fn seat_many<T: Drop>(tree: &Tree<T>, ladder: &mut Ladder, ids: &[Id])
     requires { TakesMore (length (tree.now).pending) (length ids.now) ladder.old }
@@ -199,7 +201,7 @@ fn seat_many<T: Drop>(tree: &Tree<T>, ladder: &mut Ladder, ids: &[Id])
     seat_each(tree, ladder, &mut [nobody; 32], ids);
 }
 
-// The same of a single vote, which needs no seat.
+// Starts a single vote, which needs no seat.
 fn let_one_go<T: Drop>(tree: &Tree<T>, ladder: &mut Ladder, ids: &[Id])
     requires one { length ids.now ≡ 1 }
     requires more { TakesMore (length (tree.now).pending) (length ids.now) ladder.old }
@@ -208,8 +210,8 @@ fn let_one_go<T: Drop>(tree: &Tree<T>, ladder: &mut Ladder, ids: &[Id])
     start(tree, ladder, &ids[0], 1);
 }
 
-// The same, where most of the votes for one block go on as one. Many votes have more seats, and where
-// there are less than two no seat is made ready.
+// Starts votes so that most of those for one block go on as one. Many votes have more seats, and for fewer
+// than two it makes no seat ready.
 fn let_each_go<T: Drop>(tree: &Tree<T>, ladder: &mut Ladder, ids: &[Id])
     requires { TakesMore (length (tree.now).pending) (length ids.now) ladder.old }
     ensures { HaveGone (tree.now).pending ids.now ladder.old ladder.new }
@@ -240,8 +242,10 @@ fn start_each<T: Drop>(tree: &Tree<T>, ladder: &mut Ladder, ids: &[Id])
     let_each_go(tree, ladder, ids);
 }
 
-/// Votes of a poll past their own blocks that do what one vote for each of these identifiers does: a
-/// single one, where it stands for all. It takes no memory.
+/// Puts votes on an empty ladder that do what one vote for each of these identifiers does, at most
+/// K of them: a single vote, where one stands for all. The ladder is ready for the pending blocks
+/// and for so many votes, so it takes no memory.
+/// Rule: AvalancheGo, snow/consensus/snowman.
 #[inline(always)]
 pub fn start_ids<T: Drop>(params: &Params, tree: &Tree<T>, ladder: &mut Ladder, ids: &[Id])
     requires ready { IsReady (length (tree.now).pending) ladder.old }

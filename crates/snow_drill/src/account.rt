@@ -17,17 +17,20 @@ use std::alloc::{AllocError, Global};
 /// So many bytes of text are digested at once.
 const ENOUGH: usize = 32_768;
 
-/// What is kept of the lines of a drill, and their digest as they come.
+/// What a drill keeps of its lines, and their digest as they come.
+/// Rule: this project's own.
 #[derive(Drop)]
 pub struct Account {
     pub tally: Tally,
     pub hasher: Sha256,
-    /// The end of the text, which waits to be digested. So the lines of many events are digested at once.
+    /// The end of the text, which waits to be digested. So the lines of many events are digested at
+    /// once.
     pub scratch: Scratch,
 }
 
 impl Account {
-    /// Before the first line.
+    /// Returns the account before the first line. It takes no memory.
+    /// Rule: this project's own.
     pub fn new(alloc: Global) -> Self
         ensures told { result.tally ≡ untold }
         ensures digest { Digests result [] }
@@ -42,8 +45,10 @@ impl Account {
         }
     }
 
-    /// The lines of a log were written. Of these a query that stands last is taken out. Most events bring
-    /// no lines, so what they cost stands apart.
+    /// Counts and digests the lines of a log, which were written. It takes a query that stands last
+    /// out of the log. Most events bring no lines, so what they cost stands apart. On want of
+    /// memory it returns `AllocError`.
+    /// Rule: this project's own.
     #[inline(always)]
     pub fn keep(&mut self, log: &mut Lines) -> Result<(), AllocError>
         ensures told { OnOk result (self.new.tally ≡ fold noted self.old.tally log.old) }
@@ -56,7 +61,7 @@ impl Account {
         self.keep_all(log)
     }
 
-    // The same for each of them.
+    // Keeps each line of a log.
     #[inline(never)]
     fn keep_all(&mut self, log: &mut Lines) -> Result<(), AllocError>
         ensures told { OnOk result (self.new.tally ≡ fold noted self.old.tally log.old) }
@@ -67,7 +72,8 @@ impl Account {
         note_all(&mut self.tally, log)
     }
 
-    /// Digests what waits, as no more lines come.
+    /// Digests what waits, as no more lines come. The tally stays.
+    /// Rule: this project's own.
     pub fn finish(&mut self)
         ensures told { self.new.tally ≡ self.old.tally }
         ensures digest { (lines : List told.Line) → Digests self.old lines → Holds256 self.new.hasher (texts lines) }
@@ -88,7 +94,7 @@ fn note_all(tally: &mut Tally, log: &mut Lines) -> Result<(), AllocError>
     }
 }
 
-// The same where a query stands last.
+// Keeps the last line, and takes a query out.
 #[inline(never)]
 fn note_last(tally: &mut Tally, log: &mut Lines) -> Result<(), AllocError>
     ensures told { OnOk result (tally.new ≡ fold noted tally.old log.old) }

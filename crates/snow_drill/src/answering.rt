@@ -13,7 +13,8 @@ use snow_wire::{Event, SentVote};
 use std::alloc::AllocError;
 
 impl<E: Driven> Player<E> {
-    /// So many random words.
+    /// Makes an event of so many random words. On want of memory it returns `AllocError`.
+    /// Rule: this project's own.
     pub fn words(&mut self, n: u32) -> Result<(), AllocError>
         ensures { OnOk result (Follows self.old self.new (λ d. model.with_words E.step n d)) }
     {
@@ -65,7 +66,9 @@ impl<E: Driven> Player<E> {
         came
     }
 
-    /// Answers the oldest query that isn't answered; where there is none, nothing is done.
+    /// Answers the oldest query that isn't answered. Where there is none it does nothing. On want
+    /// of memory it returns `AllocError`.
+    /// Rule: this project's own.
     #[tactic(auto, unfolding(crate::specs::Drill::with_answer))]
     pub fn answer(&mut self) -> Result<(), AllocError>
         ensures { OnOk result (Follows self.old self.new (λ d. model.with_answer E.step d)) }
@@ -76,7 +79,9 @@ impl<E: Driven> Player<E> {
         }
     }
 
-    /// The same so many times.
+    /// Answers so many queries, one after another, as `answer` does. On want of memory it returns
+    /// `AllocError`.
+    /// Rule: this project's own.
     #[tactic(auto, unfolding(crate::specs::Drill::with_answers))]
     pub fn answers(&mut self, times: u64) -> Result<(), AllocError>
         ensures { OnOk result (Follows self.old self.new (λ d. model.with_answers times E.step d)) }

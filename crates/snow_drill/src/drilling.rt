@@ -23,9 +23,11 @@ use snow_wire::Start;
 use std::alloc::{AllocError, Global};
 
 /// Makes events from a seed and from the lines that they bring, runs a node on them over the tally
-/// chain, makes so many blocks, and writes a summary of six lines. `Done` where it was written, and
-/// `SinkFault` behind a front of it. At `Memory` nothing was written; it is also told where the engine
-/// stops, which it doesn't in a drill. No other end comes. The drill is this project's own.
+/// chain, makes so many blocks, and writes a summary of six lines. It returns `Done` where it wrote
+/// the summary, and `SinkFault` behind a front of it, only where the sink's count of faults rose or
+/// stands at 2^64-1. On want of memory it returns `Memory`, and wrote nothing; `Memory` also tells
+/// that the engine stopped, which it doesn't in a drill. It returns no other end.
+/// Rule: this project's own.
 pub fn drill<B: Board, O: Sink>(alloc: Global, seed: u64, blocks: u32, out: &mut O) -> End
     ensures output { Wrote result (O.written out.old) (O.written out.new)
         (drilled (step tally_rules B.answer) seed blocks (started tally_rules task.Run first)) }

@@ -9,8 +9,8 @@ use snow_plain::Board;
 use snow_wire::{Event, SentVote};
 use std::alloc::AllocError;
 
-/// A node that a drill drives by events. Nothing of a drill looks into it, and it is let go by a call
-/// alone: what lets go of a whole node is many steps, which stand with the engine.
+/// A node that a drill drives by events. The drill doesn't look into it, and drops it by a call:
+/// dropping a whole node is many steps, which the engine's crate proves once.
 pub(crate) trait Driven: Sized {
     ghost use Rattle.std.specs.Prelude.{◌≡◌, [], Ok, OnOk};
     ghost use Rattle.snow_wire.specs.Sent.{as_vote};
@@ -19,20 +19,20 @@ pub(crate) trait Driven: Sized {
     /// What an event makes of it, and its lines.
     ghost step: { Step Self };
 
-    /// The event of a frame. Its lines go to a log that is empty before. A stop, which none comes to,
-    /// is told as want of memory.
+    /// Gives the node the event of a frame, whose lines go to an empty log. A stop, to which no
+    /// drill comes, counts as want of memory.
     fn drive(&mut self, frame: u64, event: &Event, log: &mut Lines) -> Result<(), AllocError>
         requires { log.old ≡ [] }
         ensures node { OnOk result ((step self.old frame event.now).1 ≡ Ok self.new) }
         ensures lines { OnOk result (log.new ≡ (step self.old frame event.now).0) };
 
-    /// The same at a vote, of which no event is made.
+    /// Gives the node a vote, and makes no event of it.
     fn drive_vote(&mut self, frame: u64, vote: &SentVote, log: &mut Lines) -> Result<(), AllocError>
         requires { log.old ≡ [] }
         ensures node { OnOk result ((step self.old frame (as_vote vote.now)).1 ≡ Ok self.new) }
         ensures lines { OnOk result (log.new ≡ (step self.old frame (as_vote vote.now)).0) };
 
-    /// Lets it go.
+    /// Drops it.
     fn let_go(self);
 }
 

@@ -6,6 +6,7 @@ use std::alloc::{AllocError, Global};
 use std::marker::Model;
 
 /// A linear congruential generator of 64 bits. Contracts see its last value.
+/// Rule: this project's own.
 #[derive(Drop)]
 pub struct Generator {
     x: u64,
@@ -20,14 +21,15 @@ impl Model for Generator {
 }
 
 impl Generator {
-    /// It begins as the seed.
+    /// Returns the generator whose last value is the seed.
+    /// Rule: this project's own.
     pub fn new(seed: u64) -> Self
         ensures { result ≡ seed }
     {
         Generator { x: seed }
     }
 
-    /// The next value.
+    /// Returns the next value.
     fn next(&mut self) -> u64
         ensures value { result ≡ following self.old }
         ensures state { self.new ≡ following self.old }
@@ -39,7 +41,8 @@ impl Generator {
         self.x
     }
 
-    /// One of the numbers below `m`, by the next value.
+    /// Makes the next value, and returns the number below `m` that it picks. `m` is at least 1.
+    /// Rule: this project's own.
     pub fn pick(&mut self, m: u64) -> u64
         requires { 0 < m }
         ensures value { result ≡ picked m (following self.old) }
@@ -48,7 +51,8 @@ impl Generator {
         (self.next() >> 33) % m
     }
 
-    /// The next values, so many.
+    /// Makes the next values, so many, and returns them. On want of memory it returns `AllocError`.
+    /// Rule: this project's own.
     #[tactic(auto, unfolding(crate::specs::Generator::values, crate::specs::Generator::last_of))]
     pub fn values(&mut self, alloc: Global, n: u32) -> Result<Nums, AllocError>
         ensures values { IfOk result (λ list. list ≡ values n self.old) }

@@ -8,7 +8,8 @@ use std::alloc::{AllocError, Global};
 use std::collections::HashMap;
 use std::marker::Model;
 
-/// The blocks that a drill made, in order. One of an identifier is found without a walk over them.
+/// The blocks that a drill made, in order. It finds one by its identifier without a walk over them.
+/// Rule: this project's own.
 #[derive(Drop)]
 pub struct Made {
     blocks: Vec<Header>,
@@ -30,7 +31,8 @@ impl Model for Made {
 }
 
 impl Made {
-    /// No block. It takes no memory.
+    /// Returns no block. It takes no memory.
+    /// Rule: this project's own.
     pub fn new(alloc: Global) -> Self
         ensures { result ≡ [] }
     {
@@ -40,7 +42,8 @@ impl Made {
         }
     }
 
-    /// Appends a block. After want of memory all is as before.
+    /// Appends a block. On want of memory it returns `AllocError`, and all stays as it was.
+    /// Rule: this project's own.
     pub fn push(&mut self, block: Header) -> Result<(), AllocError>
         ensures { OnOk result (self.new ≡ self.old ++ block ∷ []) }
     {
@@ -50,14 +53,16 @@ impl Made {
         Ok(())
     }
 
-    /// The blocks, in the order in which they were made.
+    /// Returns the blocks, in the order in which the drill made them.
+    /// Rule: this project's own.
     pub fn list(&self) -> &[Header]
         ensures { result.now ≡ self.now }
     {
         self.blocks.as_slice()
     }
 
-    /// The block of an identifier, where the drill made it.
+    /// Returns the first block of an identifier, or `None` exactly where the drill made none.
+    /// Rule: this project's own.
     pub fn block_of(&self, id: &Id) -> Option<&Header>
         ensures { option_copied result ≡ block_of self.now id.now }
     {

@@ -37,7 +37,9 @@ impl<E: Driven> Player<E> {
         came
     }
 
-    /// A new block of this number: its parent is the tip, or one time in four the tip's parent.
+    /// Makes a new block of this number, whose parent is the tip, or one time in four the tip's
+    /// parent. On want of memory it returns `AllocError`.
+    /// Rule: this project's own.
     pub fn block(&mut self, number: u64) -> Result<(), AllocError>
         ensures { OnOk result (Follows self.old self.new (λ d. model.with_block E.step d number)) }
     {

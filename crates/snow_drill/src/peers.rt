@@ -3,8 +3,9 @@ ghost use Rattle.std.specs.Prelude.{◌≡◌, map};
 use snow_sample::{Draw, Draws};
 use std::marker::Model;
 
-/// The nodes that a query asks, in order. They stay in its draws, so that none is copied. Contracts see
-/// the list of them.
+/// The nodes that a query asks, in order. They stay in the query's draws, so it copies none.
+/// Contracts see the list of them.
+/// Rule: this project's own.
 #[derive(Drop)]
 pub struct Peers {
     draws: Draws,
@@ -19,14 +20,16 @@ impl Model for Peers {
 }
 
 impl Peers {
-    /// The nodes of these draws.
+    /// Returns the nodes of these draws.
+    /// Rule: this project's own.
     pub fn of(draws: Draws) -> Self
         ensures { result ≡ map (λ d. d.node) draws }
     {
         Peers { draws }
     }
 
-    /// The draws whose nodes they are.
+    /// Returns the draws whose nodes they are.
+    /// Rule: this project's own.
     pub fn draws(&self) -> &[Draw]
         ensures { map (λ d. d.node) result.now ≡ self.now }
     {

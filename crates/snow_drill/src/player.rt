@@ -7,8 +7,9 @@ use crate::made::Made;
 use snow_lines::Lines;
 use std::alloc::Global;
 
-/// A drill under way: its node, the number of the last frame, the blocks that it made, and what is
-/// kept of its lines.
+/// A drill under way: its node, the number of the last frame, the blocks that it made, and what it
+/// keeps of its lines.
+/// Rule: this project's own.
 pub struct Player<E> {
     pub node: E,
     pub frame: u64,
@@ -21,7 +22,8 @@ pub struct Player<E> {
 }
 
 impl<E: Driven> Player<E> {
-    /// Lets all go but what was kept of the lines.
+    /// Drops all but the account of the lines, which it returns.
+    /// Rule: this project's own.
     pub fn into_account(self) -> Account
         ensures { result ≡ self.account }
     {

@@ -1,6 +1,7 @@
 use snow_base::{Bytes, Failed, Sink};
 
-/// Where text waits to be digested. It fails where memory runs out.
+/// Where text waits to be digested. It fails on want of memory.
+/// Rule: this project's own.
 #[derive(Drop)]
 pub struct Scratch {
     pub bytes: Bytes,

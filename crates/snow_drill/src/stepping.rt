@@ -27,7 +27,7 @@ impl<E: Driven> Player<E> {
         self.account.keep(log)
     }
 
-    // The same with a vote.
+    // The next event, which is a vote.
     #[inline(always)]
     fn vote_event(&mut self, vote: &SentVote, log: &mut Lines) -> Result<(), AllocError>
         requires { log.old ≡ [] }
@@ -72,7 +72,7 @@ impl<E: Driven> Player<E> {
         self.time_out_all(lines)
     }
 
-    // The same for each of them.
+    // A Timeout for each block that these lines ask for, where there are lines.
     #[inline(never)]
     fn time_out_all(&mut self, lines: &[Line]) -> Result<(), AllocError>
         ensures { OnOk result (Follows self.old self.new (λ d. fold (model.timed_out E.step) d lines.now)) }
@@ -92,7 +92,8 @@ impl<E: Driven> Player<E> {
         self.time_outs(log.list())
     }
 
-    /// An empty log, in the room of the last one.
+    /// Returns an empty log, in the room of the last one.
+    /// Rule: this project's own.
     pub fn take_log(&mut self) -> Lines
         ensures log { result ≡ [] }
         ensures same { (d : model.Drill E) → Plays self.old d → Plays self.new d }
@@ -102,8 +103,9 @@ impl<E: Driven> Player<E> {
         log
     }
 
-    /// The next event, and a Timeout for each block that it asks for. The event is only looked at, so that
-    /// it stays where it was made.
+    /// Gives the node the next event, and a Timeout for each block for which it then asks. It only
+    /// looks at the event. On want of memory it returns `AllocError`.
+    /// Rule: this project's own.
     pub fn make(&mut self, event: &Event) -> Result<(), AllocError>
         ensures { OnOk result (Follows self.old self.new (λ d. model.with_timeouts E.step d event.now)) }
     {
@@ -113,8 +115,10 @@ impl<E: Driven> Player<E> {
         came
     }
 
-    /// The same with a vote, of which no event is made. Its log is empty before and after, so that all
-    /// votes of a query share one.
+    /// Gives the node a vote, as `make` does an event, and makes no event of it. The log is empty
+    /// before and after, so that all votes of a query share one. On want of memory it returns
+    /// `AllocError`.
+    /// Rule: this project's own.
     #[inline(always)]
     pub fn make_vote(&mut self, vote: &SentVote, log: &mut Lines) -> Result<(), AllocError>
         requires { log.old ≡ [] }

@@ -13,7 +13,8 @@ use snow_base::Bytes;
 use snow_lines::Text;
 use std::alloc::{AllocError, Global};
 
-/// The six lines of a drill of so many blocks.
+/// Returns the six lines of a drill of so many blocks. On want of memory it returns `AllocError`.
+/// Rule: this project's own.
 pub fn summary(alloc: Global, blocks: u32, mut account: Account) -> Result<Bytes, AllocError>
     ensures { (lines : List told.Line) → Digests account lines
         → IfOk result (λ text. text ≡ summary_of blocks account.tally (sha256 (texts lines))) }
@@ -22,7 +23,7 @@ pub fn summary(alloc: Global, blocks: u32, mut account: Account) -> Result<Bytes
     finished(alloc, blocks, account)
 }
 
-// The same where all was digested.
+// The six lines, where all was digested.
 fn finished(alloc: Global, blocks: u32, account: Account) -> Result<Bytes, AllocError>
     ensures { (lines : List told.Line) → Holds256 account.hasher (texts lines)
         → IfOk result (λ text. text ≡ summary_of blocks account.tally (sha256 (texts lines))) }

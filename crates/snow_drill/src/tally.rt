@@ -12,13 +12,15 @@ use std::collections::VecDeque;
 use std::marker::Model;
 
 /// A query that isn't answered, with the nodes that it asks, in order.
+/// Rule: this project's own.
 #[derive(Drop)]
 pub struct Asked {
     pub number: u32,
     pub nodes: Peers,
 }
 
-/// What is kept of the lines so far.
+/// What a drill keeps of the lines so far. Its counts are below 2^64.
+/// Rule: this project's own.
 #[derive(Drop)]
 pub struct Tally {
     tip: Id,
@@ -46,7 +48,8 @@ impl Model for Tally {
 }
 
 impl Tally {
-    /// Before the first line.
+    /// Returns the tally before the first line. It takes no memory.
+    /// Rule: this project's own.
     pub fn new(alloc: Global) -> Self
         ensures { result ≡ untold }
     {
@@ -62,42 +65,49 @@ impl Tally {
         }
     }
 
-    /// The block of the last `prefer` line.
+    /// Returns the block of the last `prefer` line.
+    /// Rule: this project's own.
     pub fn tip(&self) -> Id
         ensures { result ≡ self.now.tip }
     {
         self.tip
     }
 
-    /// The block of the last `accept` line.
+    /// Returns the block of the last `accept` line.
+    /// Rule: this project's own.
     pub fn last(&self) -> Id
         ensures { result ≡ self.now.last }
     {
         self.last
     }
 
-    /// How many blocks were accepted.
+    /// Returns how many blocks were accepted.
+    /// Rule: this project's own.
     pub fn accepted(&self) -> u64
         ensures { result ≡ self.now.accepted }
     {
         self.accepted
     }
 
-    /// How many blocks were rejected.
+    /// Returns how many blocks were rejected.
+    /// Rule: this project's own.
     pub fn rejected(&self) -> u64
         ensures { result ≡ self.now.rejected }
     {
         self.rejected
     }
 
-    /// How many queries were answered.
+    /// Returns how many queries were answered.
+    /// Rule: this project's own.
     pub fn answered(&self) -> u64
         ensures { result ≡ self.now.answered }
     {
         self.answered
     }
 
-    /// A line was written. Counts past 64 bits are told as want of memory.
+    /// Counts a line that was written. On want of memory, and where a count would pass 2^64-1, it
+    /// returns `AllocError`.
+    /// Rule: this project's own.
     pub fn note(&mut self, line: &Line) -> Result<(), AllocError>
         ensures { OnOk result (self.new ≡ noted self.old line.now) }
     {
@@ -119,7 +129,9 @@ impl Tally {
         }
     }
 
-    /// The line of a query was written, of any block, and these are its draws.
+    /// Notes a query that was written, with its draws, whatever block it names. On want of memory
+    /// it returns `AllocError`.
+    /// Rule: this project's own.
     pub fn ask(&mut self, number: u32, draws: Draws) -> Result<(), AllocError>
         ensures { (id : List ℕ) → OnOk result (self.new ≡ noted self.old (told.Query number id draws)) }
     {
@@ -128,7 +140,9 @@ impl Tally {
         Ok(())
     }
 
-    /// Takes the oldest query that isn't answered, which then counts as answered.
+    /// Takes the oldest query that isn't answered, counts it as answered, and returns it, or `None`
+    /// where there is none. Where the count would pass 2^64-1 it returns `AllocError`.
+    /// Rule: this project's own.
     pub fn take(&mut self) -> Result<Option<Asked>, AllocError>
         ensures { IfOk result (λ query. Takes query self.old self.new) }
     {
@@ -151,7 +165,7 @@ fn count(number: &mut u64) -> Result<(), AllocError>
     Ok(())
 }
 
-// The same draws once more.
+// A copy of these draws.
 fn copy_of(alloc: Global, draws: &Draws) -> Result<Draws, AllocError>
     ensures { IfOk result (λ copy. copy ≡ draws.now) }
 {

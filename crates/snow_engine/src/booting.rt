@@ -28,7 +28,9 @@ use std::marker::Model;
 /// The most random words that wait.
 const MOST_WORDS: usize = 65_536;
 
-/// A node that bootstraps, over any chain. Contracts see the node of the definitions.
+/// A node that bootstraps, over any chain. Contracts see the node of the definitions. After a stop
+/// its caller only drops it.
+/// Rule: AvalancheGo, snow/engine/snowman/bootstrap.
 #[derive(Drop)]
 pub struct Booting<C: Chain> {
     params: Params,
@@ -63,8 +65,10 @@ impl<C: Chain> Model for Booting<C> {
 }
 
 impl<C: Chain> Booting<C> {
-    /// The node that begins with a Start of these parameters, with the roster of its nodes and a chain
-    /// at its last accepted block. It asks all nodes for their frontier.
+    /// Returns the node that begins with a Start of these parameters, with the roster of its nodes
+    /// and a chain at its last accepted block. It asks all nodes for their frontier. It returns
+    /// `Memory` on want of memory, and no other stop, since a number is left.
+    /// Rule: AvalancheGo, snow/engine/snowman/bootstrap.
     pub fn start<B: Board>(
         alloc: Global,
         first: &Start,
@@ -98,7 +102,9 @@ impl<C: Chain> Booting<C> {
         }
     }
 
-    /// One event, which came in this frame. The node that comes of it still bootstraps, or it runs.
+    /// Takes one event, which came in this frame, and returns the node that comes of it: it still
+    /// bootstraps, or it runs. It returns the stop that comes; on want of memory, `Memory`.
+    /// Rule: AvalancheGo, snow/engine/snowman/bootstrap.
     #[tactic(auto, unfolding(crate::specs::Catching::boots_on), using(snow_node::proofs::Logs::logs_nothing))]
     pub fn step<B: Board>(
         self,
@@ -132,7 +138,7 @@ impl<C: Chain> Booting<C> {
         }
     }
 
-    /// A frame is passed over.
+    /// Writes that a frame is passed over.
     #[tactic(auto, using(snow_node::proofs::Logs::logs_nothing))]
     fn pass_over<B: Board>(
         self,
@@ -153,7 +159,7 @@ impl<C: Chain> Booting<C> {
         }
     }
 
-    /// Words came.
+    /// Takes words.
     #[tactic(auto, using(snow_node::proofs::Logs::logs_nothing))]
     fn take_words<B: Board>(
         mut self,
@@ -176,7 +182,8 @@ impl<C: Chain> Booting<C> {
         }
     }
 
-    /// An answer came, or none will, or a block that was stored; the node runs once it has caught up.
+    /// Takes an answer, or that none will come, or a block that was stored. The node runs once it
+    /// has caught up.
     #[tactic(auto, using(snow_node::proofs::Logs::logs_whole))]
     fn catch_up<B: Board>(
         mut self,
@@ -223,7 +230,7 @@ impl<C: Chain> Booting<C> {
     }
 }
 
-/// What an event brings to bootstrapping.
+/// Takes an event into bootstrapping.
 fn hear<C: Chain>(
     boot: &mut Boot<C, Intervals>,
     chain: &mut C,

@@ -21,6 +21,8 @@ use std::alloc::Global;
 use std::marker::Model;
 
 /// A node that decides, over any chain and any board. Contracts see the node of the definitions.
+/// After a stop its caller only drops it.
+/// Rule: AvalancheGo, snow/consensus/snowman.
 #[derive(Drop)]
 pub struct Deciding<C: Chain, B: Board> {
     params: Params,
@@ -44,7 +46,10 @@ impl<C: Chain, B: Board> Model for Deciding<C, B> {
 }
 
 impl<C: Chain, B: Board> Deciding<C, B> {
-    /// The node that begins with a Start of these parameters.
+    /// Returns the node that begins with a Start of these parameters. It returns `State` exactly
+    /// where the chain doesn't take the Start's state, unless memory ran out, and `Memory` on want
+    /// of memory.
+    /// Rule: AvalancheGo, snow/consensus/snowman.
     pub fn start(alloc: Global, first: &Start, params: Params) -> Result<Self, EngineStop>
         requires { AreGood params }
         ensures { Starts result (decides_with C.rules first.now params) }
@@ -58,7 +63,10 @@ impl<C: Chain, B: Board> Deciding<C, B> {
         })
     }
 
-    /// One event, which came in this frame.
+    /// Takes one event, which came in this frame. It returns `SecondStart` at a Start, and `Memory`
+    /// on want of memory. The log has all lines before the stop, after `Memory` a front of the
+    /// event's lines.
+    /// Rule: AvalancheGo, snow/consensus/snowman.
     #[tactic(auto, unfolding(crate::specs::Deciding::decides_on), using(snow_node::proofs::Logs::logs_nothing))]
     pub fn step(&mut self, frame: u64, event: &Event, log: &mut Lines) -> Result<(), Halt>
         ensures answer { Turns result self.new (model.decides_on C.rules B.answer self.old frame event.now).1 }
@@ -78,7 +86,9 @@ impl<C: Chain, B: Board> Deciding<C, B> {
         }
     }
 
-    /// A block's bytes came, in this frame.
+    /// Takes a block's bytes, which came in this frame, as `step` does a Block. It returns `Memory`
+    /// on want of memory.
+    /// Rule: AvalancheGo, snow/consensus/snowman.
     pub fn receive(&mut self, frame: u64, bytes: &[u8], log: &mut Lines) -> Result<(), Halt>
         ensures answer { Turns result self.new (model.received C.rules B.answer self.old frame bytes.now (C.rules.header_of bytes.now)).1 }
         ensures lines { Tells result log.old log.new (model.received C.rules B.answer self.old frame bytes.now (C.rules.header_of bytes.now)).0 }
@@ -95,7 +105,7 @@ impl<C: Chain, B: Board> Deciding<C, B> {
         }
     }
 
-    /// A block that isn't on the board is placed above its parent; one that is changes nothing.
+    /// Places a block that isn't on the board above its parent. One that is on it changes nothing.
     fn offer(&mut self, block: &Header, bytes: &[u8], log: &mut Lines) -> Result<(), Halt>
         ensures answer { Turns result self.new (model.offered B.answer self.old block.now
             (next_on C.rules self.old.chain block.now.parent bytes.now) (height_of self.old.board block.now.id)).1 }
@@ -108,7 +118,7 @@ impl<C: Chain, B: Board> Deciding<C, B> {
         }
     }
 
-    /// A block that isn't on the board is issued, unless something stands against it.
+    /// Issues a block that isn't on the board, unless something stands against it.
     fn place(&mut self, block: &Header, bytes: &[u8], log: &mut Lines) -> Result<(), Halt>
         requires { height_of self.old.board block.now.id ≡ None }
         ensures answer { Turns result self.new (model.placed B.answer self.old block.now
@@ -124,7 +134,7 @@ impl<C: Chain, B: Board> Deciding<C, B> {
         }
     }
 
-    /// A block is issued where its chain takes it, and a change of the preference told.
+    /// Issues a block where its chain takes it, and tells a change of the preference.
     fn issue(&mut self, block: &Header, bytes: &[u8], log: &mut Lines) -> Result<(), Halt>
         requires { MayIssue self.old.board block.now }
         ensures answer { Turns result self.new (model.issued_with B.answer self.old block.now
@@ -146,8 +156,10 @@ impl<C: Chain, B: Board> Deciding<C, B> {
         Ok(())
     }
 
-    /// A poll with one vote for each of these identifiers came. It stands apart, so that the step of every
-    /// other frame keeps no room for it.
+    /// Takes a poll with one vote for each of these identifiers, as `step` does a Poll. More than K
+    /// votes write a line and change nothing else. It returns `Memory` on want of memory. It is a
+    /// function apart, so that the step of every other frame keeps no room for it.
+    /// Rule: AvalancheGo, snow/consensus/snowman.
     #[inline(never)]
     pub fn record(&mut self, frame: u64, ids: &Ids, log: &mut Lines) -> Result<(), Halt>
         ensures answer { Turns result self.new (model.recorded B.answer self.old frame ids.now).1 }

@@ -6,7 +6,9 @@ use snow_flake::ParamFault;
 use snow_node::EngineStop;
 use snow_sample::RosterFault;
 
-/// What is wrong with an input, at the frame where the run stops.
+/// What is wrong with an input, at the frame at which the run stops. `Params`, `Roster` and `State`
+/// come at the Start alone, and `Roster` only where the task is `Run`.
+/// Rule: this project's own.
 #[derive(Clone, Copy, Debug, PartialEq, Eq)]
 pub enum BadKind {
     /// A length word says more than 2,097,152.
@@ -27,7 +29,10 @@ pub enum BadKind {
     SecondStart,
 }
 
-/// How a run over a source ended.
+/// How a run over a source ended. At `Done` it wrote all lines. At `BadInput`, `InputLimit`,
+/// `RequestLimit` and `BootStopped` it wrote all lines before the stop. At `SourceFault`,
+/// `SinkFault` and `Memory` it wrote a front of the lines.
+/// Rule: this project's own.
 #[derive(Clone, Copy, Debug, PartialEq, Eq)]
 pub enum End {
     /// All lines were written, and the end of the input was read.
@@ -49,7 +54,7 @@ pub enum End {
 }
 
 impl End {
-    /// The end of the run that a stop makes in a frame.
+    /// Returns the end of the run that a stop makes in a frame.
     pub(crate) fn at(frame: u64, stop: EngineStop) -> End
         ensures { result ≡ end_at frame stop }
     {
@@ -66,6 +71,7 @@ impl End {
     }
 }
 
-/// The run is over; how it ended is kept aside.
+/// Tells that the run is over. How it ended stands aside.
+/// Rule: this project's own.
 #[derive(Clone, Copy, Debug, PartialEq, Eq)]
 pub struct Over;

@@ -27,8 +27,8 @@ use std::mem;
 
 /// The engine of one node, over any chain and any board. Contracts see the node of the definitions.
 /// Each call appends its lines to a log. How blocks wait and are issued, and how polls are begun,
-/// closed and recorded, is the behaviour of AvalancheGo's package `snow`; the events and the lines are
-/// this project's own.
+/// closed and recorded, is AvalancheGo's; the events and the lines are this project's own.
+/// Rule: AvalancheGo, snow/engine/snowman.
 #[derive(Drop)]
 pub struct Engine<C: Chain, B: Board> {
     stage: Node<C, B>,
@@ -46,10 +46,12 @@ impl<C: Chain, B: Board> Model for Engine<C, B> {
 }
 
 impl<C: Chain, B: Board> Engine<C, B> {
-    /// The engine that begins with this Start. Its parameters are checked first, then, by `Run` alone,
-    /// its nodes, and then whether the chain takes its state: `Params`, `Roster` and `State` tell what
-    /// is refused. A node that is to bootstrap first asks for frontiers at once. Nodes and boot of the
-    /// Start aren't looked at by `Decide`.
+    /// Returns the engine that begins with this Start. It checks the parameters first, then, for
+    /// `Run` alone, the nodes, and then whether the chain takes the state. It returns `Params`,
+    /// `Roster` or `State` for the first that is refused, and `Memory` on want of memory. A node
+    /// that is to bootstrap asks for frontiers at once. `Decide` looks neither at the nodes nor at
+    /// boot.
+    /// Rule: this project's own.
     #[tactic(auto, unfolding(crate::specs::Node::started))]
     pub fn start(
         alloc: Global,
@@ -71,9 +73,11 @@ impl<C: Chain, B: Board> Engine<C, B> {
         Ok(Engine { stage })
     }
 
-    /// One event, which came in this frame. A second Start stops the engine with `SecondStart`, and
-    /// `Requests` comes where a number is needed and all are used up. After a stop the engine is only
-    /// let go: all lines before the stop were appended, after `Memory` a front of the event's lines.
+    /// Takes one event, which came in this frame. It returns `SecondStart` at a second Start,
+    /// `Requests` where a number is needed and all are used up, `Boot` where bootstrapping stops,
+    /// and `Memory` on want of memory. After a stop the caller only drops the engine. The log has
+    /// all lines before the stop, after `Memory` a front of the event's lines.
+    /// Rule: AvalancheGo, snow/engine/snowman.
     pub fn step(&mut self, frame: u64, event: &Event, log: &mut Lines) -> Result<(), EngineStop>
         ensures answer { Steps result self.new (model.step C.rules B.answer self.old frame event.now).1 }
         ensures lines { Logs result log.old log.new (model.step C.rules B.answer self.old frame event.now).0 }
@@ -85,8 +89,9 @@ impl<C: Chain, B: Board> Engine<C, B> {
         }
     }
 
-    /// One vote, which came in this frame: what `step` does at its Chits, but no event is made of it, and
-    /// its bytes are only looked at.
+    /// Takes one vote, which came in this frame, as `step` does its Chits, and returns what `step`
+    /// does. It makes no event of it, and only looks at its bytes.
+    /// Rule: AvalancheGo, snow/engine/snowman.
     #[inline(always)]
     #[tactic(auto, using(crate::proofs::Staged::stopped, crate::proofs::Staged::told))]
     pub fn take_vote(
@@ -104,7 +109,7 @@ impl<C: Chain, B: Board> Engine<C, B> {
         }
     }
 
-    /// One event, with a stop told by a word; one that has more to tell is kept aside.
+    /// Takes one event. It returns a short stop; one that has more to tell stands aside.
     #[tactic(auto, using(crate::proofs::Staged::turned, crate::proofs::Staged::stopped, crate::proofs::Staged::told))]
     pub(crate) fn turn(
         &mut self,
@@ -124,8 +129,8 @@ impl<C: Chain, B: Board> Engine<C, B> {
         }
     }
 
-    /// The same at a Block whose bytes stand where they came. They are copied only where the block is
-    /// kept, and no stop of a Block is kept aside.
+    /// Takes a Block whose bytes stand where they came. It copies them only where it keeps the
+    /// block, and puts no stop aside.
     #[tactic(auto, unfolding(crate::specs::Deciding::decides_on, crate::specs::Catching::boots_on), using(crate::proofs::Staged::turned))]
     pub(crate) fn receive(
         &mut self,
@@ -150,7 +155,7 @@ impl<C: Chain, B: Board> Engine<C, B> {
         }
     }
 
-    /// The same at a Chits whose bytes stand where they came: a vote, which nobody awaits who bootstraps.
+    /// Takes a Chits whose bytes stand where they came. A node that bootstraps awaits no vote.
     #[inline(always)]
     #[tactic(auto, unfolding(crate::specs::Deciding::decides_on, crate::specs::Catching::boots_on, snow_node::specs::Turning::runs_on), using(crate::proofs::Staged::turned))]
     pub(crate) fn hear(&mut self, frame: u64, vote: &SentVote, log: &mut Lines) -> Result<(), Halt>
@@ -170,8 +175,8 @@ impl<C: Chain, B: Board> Engine<C, B> {
         }
     }
 
-    /// The same at a Timeout whose bytes stand where they came. It counts for who bootstraps too, where a
-    /// stop may have more to tell than a word.
+    /// Takes a Timeout whose bytes stand where they came. A node that bootstraps may await it, and
+    /// its stop may stand aside.
     #[inline(always)]
     #[tactic(auto, unfolding(crate::specs::Deciding::decides_on, snow_node::specs::Turning::runs_on), using(crate::proofs::Staged::turned, crate::proofs::Staged::stopped, crate::proofs::Staged::told))]
     pub(crate) fn lapse(
@@ -198,7 +203,7 @@ impl<C: Chain, B: Board> Engine<C, B> {
         }
     }
 
-    /// The same at a Poll whose votes stand in a list that is used again.
+    /// Takes a Poll whose votes stand in a list that is used again.
     #[inline(always)]
     #[tactic(auto, unfolding(crate::specs::Deciding::decides_on, crate::specs::Catching::boots_on, snow_node::specs::Turning::runs_on), using(crate::proofs::Staged::turned))]
     pub(crate) fn record(&mut self, frame: u64, ids: &Ids, log: &mut Lines) -> Result<(), Halt>
@@ -228,8 +233,8 @@ impl<C: Chain, B: Board> Engine<C, B> {
         }
     }
 
-    /// A timeout for a node that bootstraps. It stands apart, so that no other node's pays for the room of
-    /// an event.
+    /// Gives a timeout to a node that bootstraps. It is a function apart, so that no other node's
+    /// pays for the room of an event.
     #[inline(never)]
     fn give_up(
         &mut self,
@@ -251,8 +256,9 @@ impl<C: Chain, B: Board> Engine<C, B> {
         caught_up
     }
 
-    /// One event for a node that bootstraps. At a stop, which is kept aside, the node is let go. It
-    /// stands apart, so that no other node's event pays for the room of a node that is moved.
+    /// Gives one event to a node that bootstraps. At a stop, which stands aside, it drops the node.
+    /// It is a function apart, so that no other node's event pays for the room of a node that is
+    /// moved.
     #[inline(never)]
     fn catch_up(
         &mut self,
@@ -285,8 +291,8 @@ impl<C: Chain, B: Board> Engine<C, B> {
     }
 }
 
-/// The node that begins to run, or to bootstrap, with a Start of these parameters. Its nodes are looked
-/// at first, and then whether the chain takes its state.
+/// Returns the node that begins to run, or to bootstrap, with a Start of these parameters. It
+/// checks the nodes first, and then whether the chain takes the state.
 fn begin<C: Chain, B: Board>(
     alloc: Global,
     first: &Start,
@@ -307,7 +313,7 @@ fn begin<C: Chain, B: Board>(
     }
 }
 
-/// The same with the roster of its nodes, on a chain that took its state.
+/// Returns the node that begins so with the roster of its nodes, on a chain that took its state.
 fn begin_on<C: Chain, B: Board>(
     alloc: Global,
     first: &Start,
@@ -338,7 +344,7 @@ fn begin_on<C: Chain, B: Board>(
     Ok(Stage::Running(node))
 }
 
-/// The parameters that a Start states, or the first thing that is wrong with them.
+/// Returns the parameters that a Start states, or the first thing that is wrong with them.
 #[tactic(auto, using(crate::proofs::Good::checked_good))]
 fn parameters_of(first: &Start) -> Result<Params, ParamFault>
     ensures checked { result ≡ checked (model.stated first.now) }

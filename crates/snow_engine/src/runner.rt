@@ -19,6 +19,7 @@ use snow_wire::{Event, Skip, block_in, decode, poll_in, timeout_in, vote_in};
 use std::alloc::{AllocError, Global};
 
 /// An engine, once a Start came, and the lines of the frame that was worked last.
+/// Rule: this project's own.
 #[derive(Drop)]
 pub struct Runner<C: Chain, B: Board> {
     pub task: Task,
@@ -26,7 +27,7 @@ pub struct Runner<C: Chain, B: Board> {
     pub log: Lines,
     /// Room for the votes of a poll.
     pub ids: Ids,
-    /// Why the engine stopped, where a word doesn't tell it.
+    /// Why the engine stopped, where `Halt` alone doesn't tell it.
     pub stop: EngineStop,
     /// How the run ended, once it is over.
     pub end: End,
@@ -34,7 +35,8 @@ pub struct Runner<C: Chain, B: Board> {
 }
 
 impl<C: Chain, B: Board> Runner<C, B> {
-    /// The runner to which no frame came yet.
+    /// Returns the runner to which no frame came yet. It takes no memory.
+    /// Rule: this project's own.
     pub fn new(alloc: Global, task: Task) -> Self
         ensures engine { result.engine ≡ None }
         ensures task { result.task ≡ task }
@@ -51,9 +53,11 @@ impl<C: Chain, B: Board> Runner<C, B> {
         }
     }
 
-    /// Works one frame: the first has to be a Start, and each later one is a step of the engine. Its
-    /// lines alone stand in the log; but where its payload is no event, why it is passed over is the
-    /// answer, and its line stands in no log. Where the run ends, its end is kept.
+    /// Works one frame: the first has to be a Start, and each later one is a step of the engine.
+    /// The log then has this frame's lines alone. Where the payload is no event, it returns why the
+    /// frame is passed over, and no line of that stands in the log. Where the run ends it returns
+    /// `Over`, and `end` tells how.
+    /// Rule: this project's own.
     #[tactic(auto, unfolding(crate::specs::Run::after_frame))]
     pub fn work(&mut self, frame: u64, payload: &[u8]) -> Result<Option<SkipKind>, Over>
         ensures stand { Stands (ends_by self.new.end result) self.new.engine (after_frame C.rules B.answer self.old.task (stand_of self.old.engine) frame payload.now).1 }
@@ -79,8 +83,8 @@ impl<C: Chain, B: Board> Runner<C, B> {
         }
     }
 
-    /// Lets the lines of the frame before go, which were written. The draws of a query that stands last
-    /// come back to the engine.
+    /// Drops the lines of the frame before, which were written. The draws of a query that stands
+    /// last go back to the engine.
     fn clear_log(&mut self)
         ensures log { self.new.log ≡ [] }
         ensures engine { self.new.engine ≡ self.old.engine }
@@ -92,8 +96,8 @@ impl<C: Chain, B: Board> Runner<C, B> {
         self.log.clear();
     }
 
-    /// Takes the last line out, and gives its draws back. It stands apart, so that a frame behind one
-    /// without a query doesn't pay for the room of a line.
+    /// Takes the last line out, and gives its draws back. It is a function apart, so that a frame
+    /// behind one without a query doesn't pay for the room of a line.
     #[inline(never)]
     fn take_out(&mut self)
         ensures engine { self.new.engine ≡ self.old.engine }
@@ -116,7 +120,8 @@ impl<C: Chain, B: Board> Runner<C, B> {
         }
     }
 
-    /// Works the first frame. It stands apart, so that no later frame pays for the room of a new engine.
+    /// Works the first frame. It is a function apart, so that no later frame pays for the room of a
+    /// new engine.
     #[inline(never)]
     fn begin(&mut self, frame: u64, payload: &[u8]) -> Result<Option<SkipKind>, Over>
         requires engine { self.old.engine ≡ None }
@@ -137,8 +142,8 @@ impl<C: Chain, B: Board> Runner<C, B> {
         }
     }
 
-    /// The engine stopped in a frame. It stands apart, so that no other frame pays for the room of an
-    /// end.
+    /// Notes how the run ends, as the engine stopped in a frame. It is a function apart, so that no
+    /// other frame pays for the room of an end.
     #[inline(never)]
     fn stops(&mut self, frame: u64, halt: Halt) -> Over
         ensures end { self.new.end ≡ end_at frame (stop_for self.old.stop halt) }
@@ -152,14 +157,14 @@ impl<C: Chain, B: Board> Runner<C, B> {
 }
 
 impl<C: Chain, B: Board> Engine<C, B> {
-    /// Lets the engine go. A call of it is one step, where letting go of a whole node is many, which are
-    /// proved anew in each crate that does it.
+    /// Drops the engine. A call of it is one step in a proof, where dropping a whole node is many.
+    /// Rule: this project's own.
     pub fn let_go(self) {
         drop(self);
     }
 }
 
-/// The engine that begins with the first frame.
+/// Returns the engine that begins with the first frame.
 fn open<C: Chain, B: Board>(
     alloc: Global,
     task: Task,
@@ -176,7 +181,7 @@ fn open<C: Chain, B: Board>(
     }
 }
 
-/// The engine that begins with this event of the first frame, which has to be a Start.
+/// Returns the engine that begins with this event of the first frame, which has to be a Start.
 #[tactic(auto, unfolding(crate::specs::Run::opened), using(snow_node::proofs::Logs::logs_nothing))]
 fn open_with<C: Chain, B: Board>(
     alloc: Global,
@@ -200,8 +205,8 @@ fn open_with<C: Chain, B: Board>(
     }
 }
 
-/// A step of the engine; a payload that is no event is passed over. A vote, the most frequent frame, is
-/// looked at where its bytes stand. A stop that a word doesn't tell is kept aside.
+/// Makes a step of the engine, and passes over a payload that is no event. It looks at a vote, the
+/// most frequent frame, where its bytes stand. A stop that has more to tell stands aside.
 #[tactic(auto, using(crate::proofs::Staged::stopped, crate::proofs::Staged::told, crate::proofs::Stopped::stands_in, crate::proofs::Stopped::logs_in))]
 fn follow<C: Chain, B: Board>(
     alloc: Global,
@@ -225,7 +230,7 @@ fn follow<C: Chain, B: Board>(
     }
 }
 
-/// The same for a payload that is no vote. The bytes of a block are looked at where they stand.
+/// Makes a step for a payload that is no vote. It looks at the bytes of a block where they stand.
 #[tactic(auto, using(crate::proofs::Staged::stopped, crate::proofs::Staged::told, crate::proofs::Stopped::stands_in, crate::proofs::Stopped::logs_in))]
 fn follow_block<C: Chain, B: Board>(
     alloc: Global,
@@ -249,7 +254,7 @@ fn follow_block<C: Chain, B: Board>(
     }
 }
 
-/// The same for a payload that is no block either. A timeout is looked at where its bytes stand.
+/// Makes a step for a payload that is no block either. It looks at a timeout where its bytes stand.
 #[tactic(auto, using(crate::proofs::Stopped::stands_in, crate::proofs::Stopped::logs_in))]
 fn follow_timeout<C: Chain, B: Board>(
     alloc: Global,
@@ -273,7 +278,8 @@ fn follow_timeout<C: Chain, B: Board>(
     }
 }
 
-/// The same for a payload that is no timeout either. The votes of a poll are put into room that is kept.
+/// Makes a step for a payload that is no timeout either. It puts the votes of a poll into room that
+/// is kept.
 #[tactic(auto, using(snow_node::proofs::Logs::logs_nothing, crate::proofs::Staged::stopped, crate::proofs::Staged::told, crate::proofs::Stopped::stands_in, crate::proofs::Stopped::logs_in))]
 fn follow_poll<C: Chain, B: Board>(
     alloc: Global,
@@ -298,7 +304,7 @@ fn follow_poll<C: Chain, B: Board>(
     }
 }
 
-/// The same for a payload that is read whole.
+/// Makes a step for a payload that has to be read whole.
 #[tactic(auto, using(snow_node::proofs::Logs::logs_nothing, crate::proofs::Stopped::stands_in, crate::proofs::Stopped::logs_in))]
 fn follow_whole<C: Chain, B: Board>(
     alloc: Global,
@@ -328,7 +334,7 @@ fn follow_whole<C: Chain, B: Board>(
     }
 }
 
-/// The event that a payload is, or the word for what is none.
+/// Returns the event that a payload is, or the kind of skip where it is none.
 fn read(alloc: Global, payload: &[u8]) -> Result<Result<Event, SkipKind>, AllocError>
     ensures { IfOk result (λ found. found ≡ model.read payload.now) }
 {
@@ -338,7 +344,7 @@ fn read(alloc: Global, payload: &[u8]) -> Result<Result<Event, SkipKind>, AllocE
     }
 }
 
-/// The word for what is no event.
+/// Returns the kind of skip for what is no event. On want of memory it returns `AllocError`.
 fn kind_of(skip: Skip) -> Result<SkipKind, AllocError>
     ensures { (event : Result Event Fault) → Refuses skip event → IfOk result (λ kind. named event ≡ Err kind) }
 {

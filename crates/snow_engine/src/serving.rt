@@ -15,12 +15,17 @@ use snow_plain::Board;
 use snow_wire::ReadFault;
 use std::alloc::Global;
 
-/// The most bytes of a stream that are taken.
+/// The most bytes of a stream that a run takes: 2^40.
+/// Rule: this project's own.
 pub const LIMIT: u64 = 1_099_511_627_776;
 
-/// Runs a task over a source: each whole frame is worked as it comes, and its lines are written before
-/// the next bytes are read. A fault of the source or of the sink, or want of memory, ends the run
-/// behind a front of its lines. Frames, events and lines are this project's own.
+/// Runs a task over a source. It works each whole frame as it comes, and writes its lines before it
+/// reads on. It returns `Done` where the source ended behind whole frames. `BadInput`,
+/// `BootStopped`, `RequestLimit` and `InputLimit` come at the model's first stop, with all lines
+/// before it written; `InputLimit` where 2^40 bytes hold none. `SourceFault` and `SinkFault` come
+/// only where that object's count of faults rose or stands at 2^64-1, and `Memory` on want of
+/// memory; a front of the lines was written then.
+/// Rule: this project's own.
 pub fn serve<C: Chain, B: Board, S: Source, O: Sink>(
     alloc: Global,
     task: Task,

@@ -20,6 +20,7 @@ use std::alloc::{AllocError, Global};
 
 /// A run over a stream: the bytes that wait for a whole frame, the engine, and the text that waits
 /// to be written.
+/// Rule: this project's own.
 #[derive(Drop)]
 pub struct Session<C: Chain, B: Board> {
     pub decoder: Decoder,
@@ -28,7 +29,8 @@ pub struct Session<C: Chain, B: Board> {
 }
 
 impl<C: Chain, B: Board> Session<C, B> {
-    /// A session to which nothing came yet.
+    /// Returns the session to which nothing came yet. On want of memory it returns `AllocError`.
+    /// Rule: this project's own.
     pub fn begin(alloc: Global, task: Task) -> Result<Self, AllocError>
         ensures decoder { IfOk result (λ session. session.decoder ≡ fresh) }
         ensures engine { IfOk result (λ session. session.runner.engine ≡ None) }
@@ -43,7 +45,9 @@ impl<C: Chain, B: Board> Session<C, B> {
         })
     }
 
-    /// How a run ends where the source has no further byte.
+    /// Returns how a run ends where the source has no further byte: `BadInput` with `Cut` inside a
+    /// frame, `NoStart` where nothing came, else `Done`.
+    /// Rule: this project's own.
     pub fn end_of_input(&self) -> End
         requires { self.now.decoder.given < 2 ^ 64 - 1 }
         ensures { result ≡ (if length self.now.decoder.rest == 0 then end_behind (stand_of self.now.runner.engine)
@@ -64,7 +68,7 @@ impl<C: Chain, B: Board> Session<C, B> {
         }
     }
 
-    /// Whether the run is over, as the sink failed.
+    /// Returns whether the run is over, as the sink failed.
     fn has_sink_failed(&self, worked: &Result<(), Over>) -> bool
         ensures { result ≡ has_sink_failed (ends_by self.now.runner.end worked.now) }
     {
@@ -74,8 +78,8 @@ impl<C: Chain, B: Board> Session<C, B> {
         }
     }
 
-    /// Works the first frame that the decoder holds, and gathers its lines; false where it holds no
-    /// whole one.
+    /// Works the first frame that the decoder holds, and gathers its lines. It returns `false`
+    /// where the decoder holds no whole frame.
     fn work_next<O: Sink>(&mut self, out: &mut O) -> Result<bool, Over>
         requires { self.old.decoder.given < 2 ^ 64 - 1 }
         ensures goes { Goes (ends_by self.new.runner.end result) self.new.runner.engine self.new.decoder
@@ -127,8 +131,10 @@ impl<C: Chain, B: Board> Session<C, B> {
         Ok(())
     }
 
-    /// Works all whole frames that the decoder holds, and writes their lines. Nothing may wait to be
-    /// written before.
+    /// Works all whole frames that the decoder holds, and writes their lines. Nothing waits to be
+    /// written before, nor behind. Where the run ends it returns `Over`, and the runner's `end`
+    /// tells how. At most 2^40 bytes came.
+    /// Rule: this project's own.
     pub fn work<O: Sink>(&mut self, out: &mut O) -> Result<(), Over>
         requires small { 4 * self.old.decoder.given + length self.old.decoder.rest ≤ 2 ^ 40 }
         requires empty { self.old.page ≡ [] }
@@ -156,7 +162,7 @@ impl<C: Chain, B: Board> Session<C, B> {
     }
 }
 
-/// Gathers what is told of a frame that was worked.
+/// Gathers the lines of a frame that was worked.
 #[tactic(auto, using(crate::proofs::Worked::one_text))]
 #[inline(always)]
 fn gather<O: Sink>(
@@ -176,8 +182,8 @@ fn gather<O: Sink>(
     }
 }
 
-/// Gathers the line of a frame that is passed over. It stands apart, so that no other frame pays for the
-/// room of a line.
+/// Gathers the line of a frame that is passed over. It is a function apart, so that no other frame
+/// pays for the room of a line.
 #[inline(never)]
 #[tactic(auto, using(crate::proofs::Worked::one_text))]
 fn print_skip<O: Sink>(

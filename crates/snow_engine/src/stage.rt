@@ -3,6 +3,7 @@ use crate::deciding::Deciding;
 use snow_node::Running;
 
 /// A node, by its task and by how far it is.
+/// Rule: this project's own.
 #[derive(Drop)]
 pub enum Stage<D, B, R> {
     /// It takes blocks and whole polls, and asks nobody.
@@ -16,4 +17,5 @@ pub enum Stage<D, B, R> {
 }
 
 /// A node over any chain and any board.
+/// Rule: this project's own.
 pub type Node<C, B> = Stage<Deciding<C, B>, Booting<C>, Running<C, B>>;

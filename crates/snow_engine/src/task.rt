@@ -1,4 +1,5 @@
-/// What a node does with the events of its stream: this project's own.
+/// What a node does with the events of its stream.
+/// Rule: this project's own.
 #[derive(Clone, Copy, Debug, PartialEq, Eq)]
 pub enum Task {
     /// It takes blocks and whole polls, and asks nobody.

@@ -6,7 +6,9 @@ use crate::rule::Rule;
 use crate::votes::{confidence_after, raised_strength};
 use std::marker::Model;
 
-/// A one-bit instance of Snowball or Snowflake: a counter that polls move until it is final.
+/// A one-bit instance of Snowball or Snowflake: a preference, a flake, a strength of each bit, a
+/// confidence, and whether it is final. Polls move it until it is final.
+/// Rule: the Snow family paper.
 #[derive(Clone, Copy, Debug, PartialEq, Eq)]
 pub struct Binary {
     preference: bool,
@@ -52,7 +54,7 @@ impl Binary {
     ghost use Rattle.snow_flake.specs.Parameters.{Parameters, AreGood};
     ghost use Rattle.snow_flake.specs.Rule.{answer_of};
 
-    /// The instance where all choices so far had this bit.
+    /// Returns the instance where all choices so far had this bit.
     pub(crate) fn at_bit(bit: bool, strength: u64, confidence: u32, decided: bool) -> Self
         requires { decided ≡ false → confidence < 65535 }
         ensures { let s : Single = record { strength = strength; confidence = confidence; final = decided } in
@@ -68,8 +70,13 @@ impl Binary {
         }
     }
 
-    /// The bit step with these votes at the choice and none at the other bit. A final instance
-    /// doesn't change.
+    /// Makes the bit step with these votes at `choice` and none at the other bit. Below
+    /// AlphaPreference votes the confidence becomes 0. Else the strength of `choice` rises by one,
+    /// up to 2^64-1, and the preference becomes `choice` where that strength is then the greater
+    /// one. The flake becomes `choice`, and the confidence begins again at 0 where the flake
+    /// changed. With AlphaConfidence votes it then rises by one; with fewer it becomes 0. At Beta
+    /// the instance is final. A final instance stays as it is.
+    /// Rule: the Snow family paper and AvalancheGo, snow/consensus/snowball.
     pub fn apply(&mut self, params: &Params, votes: u32, choice: bool)
         ensures instance { self.new ≡ polled params.now self.old (on_side false votes choice) (on_side true votes choice) }
         ensures counter { counter_of self.new ≡ stepped params.now (counter_of self.old)
@@ -82,7 +89,7 @@ impl Binary {
         }
     }
 
-    /// After votes of at least AlphaPreference for the choice.
+    /// Returns what the instance is after at least AlphaPreference votes for the choice.
     fn after_quorum(&self, params: &Params, votes: u32, choice: bool) -> Self
         requires open { self.now.final ≡ false }
         requires quorum { params.now.alpha_preference ≤ votes }
@@ -109,7 +116,7 @@ impl Binary {
         }
     }
 
-    /// The strength of a bit after a poll that followed the choice.
+    /// Returns the strength of a bit after a poll that followed the choice.
     fn strength_after(&self, bit: bool, choice: bool) -> u64
         ensures { result ≡ (if beq bit choice then raised (strength self.now.standing bit) else strength self.now.standing bit) }
     {
@@ -121,7 +128,7 @@ impl Binary {
         }
     }
 
-    /// The preference after a poll that followed the choice.
+    /// Returns the preference after a poll that followed the choice.
     fn preference_after(&self, choice: bool) -> bool
         ensures { result ≡ (if nat_lt (strength self.now.standing (not choice)) (raised (strength self.now.standing choice))
             then choice else self.now.standing.preference) }
@@ -133,7 +140,9 @@ impl Binary {
         }
     }
 
-    /// The bit step of a poll without votes.
+    /// Makes the bit step of a poll without votes: the confidence becomes 0. A final instance stays
+    /// as it is.
+    /// Rule: the Snow family paper.
     pub fn fail(&mut self)
         ensures instance { self.new ≡ failed self.old }
         ensures counter { (p : Parameters) → AreGood p → counter_of self.new ≡ stepped p (counter_of self.old) 0 0 }
@@ -143,7 +152,9 @@ impl Binary {
         }
     }
 
-    /// How the rule answers: a final instance with its flake, another by the rule.
+    /// Returns the bit that the instance answers. A final one answers its flake. Another answers as
+    /// `R` says: Snowball its preference, Snowflake its flake.
+    /// Rule: the Snow family paper and AvalancheGo, snow/consensus/snowball.
     pub fn preference<R: Rule>(&self) -> bool
         ensures { result ≡ answer_of R.answer (counter_of self.now) }
     {
@@ -154,14 +165,17 @@ impl Binary {
         }
     }
 
-    /// Whether the instance is decided, with its flake.
+    /// Returns whether the instance is decided. It then answers its flake for ever.
+    /// Rule: the Snow family paper.
     pub fn is_final(&self) -> bool
         ensures { result ≡ self.now.final }
     {
         self.decided
     }
 
-    /// How many polls in a row had AlphaConfidence votes for the flake; once final, what it was then.
+    /// Returns how many polls in a row had AlphaConfidence votes for the flake. A final instance
+    /// keeps the number that it had then.
+    /// Rule: the Snow family paper.
     pub fn confidence(&self) -> u32
         ensures { result ≡ self.now.standing.confidence }
     {

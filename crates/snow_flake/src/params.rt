@@ -3,7 +3,9 @@ ghost use Rattle.std.specs.Prelude.{◌≡◌};
 use std::marker::Model;
 use thiserror::Error;
 
-/// Why parameters are refused: the first of these that holds.
+/// Why `Params::check` refuses parameters. Where more than one holds, it returns the first in this
+/// order.
+/// Rule: AvalancheGo, snow/consensus/snowball.
 #[derive(Clone, Copy, Debug, PartialEq, Eq, Error)]
 pub enum ParamFault {
     #[error("twice AlphaPreference is at most K")]
@@ -24,8 +26,10 @@ pub enum ParamFault {
     BetaLarge,
 }
 
-/// Parameters that passed the check: the size of a sample, the two quorums, the confidence that
-/// decides, and how many polls are to be under way.
+/// The parameters of the polls, which passed `check`. K is from 1 to 1,024, AlphaPreference above
+/// K/2 and at most AlphaConfidence, AlphaConfidence at most K, Beta from 1 to 65,535, and
+/// ConcurrentRepolls from 1 to Beta.
+/// Rule: AvalancheGo, snow/consensus/snowball.
 #[derive(Clone, Copy, Debug, PartialEq, Eq)]
 pub struct Params {
     k: u32,
@@ -68,7 +72,12 @@ impl Model for Params {
 impl Params {
     ghost use Rattle.snow_flake.specs.Parameters.{Parameters, AreGood, checked};
 
-    /// The parameters, or the first thing that is wrong with them, in the order of `ParamFault`.
+    /// Returns the parameters, or the first fault in the order of `ParamFault`. `AlphaLow` comes
+    /// where twice AlphaPreference is at most K, `AlphaOrder` where AlphaConfidence is below
+    /// AlphaPreference, `AlphaHigh` where K is below AlphaConfidence. `BetaZero` and `RepollsZero`
+    /// come at a 0, `RepollsHigh` where Beta is below ConcurrentRepolls, `KLarge` where K is above
+    /// 1,024, `BetaLarge` where Beta is above 65,535. No other parameters are refused.
+    /// Rule: AvalancheGo, snow/consensus/snowball.
     pub fn check(
         k: u32,
         alpha_preference: u32,
@@ -117,7 +126,9 @@ impl Params {
         })
     }
 
-    /// K: how many votes a poll has at most.
+    /// Returns K, from 1 to 1,024: how many votes a poll has at most, and how many units a sample
+    /// draws.
+    /// Rule: the Snow family paper.
     pub fn k(&self) -> u32
         ensures value { result ≡ self.now.k }
         ensures good { AreGood self.now }
@@ -125,7 +136,9 @@ impl Params {
         self.k
     }
 
-    /// AlphaPreference: so many votes are followed.
+    /// Returns AlphaPreference, above K/2 and at most K: a counter follows a bit that has so many
+    /// votes.
+    /// Rule: AvalancheGo, snow/consensus/snowball.
     pub fn alpha_preference(&self) -> u32
         ensures value { result ≡ self.now.alpha_preference }
         ensures good { AreGood self.now }
@@ -133,7 +146,9 @@ impl Params {
         self.alpha_preference
     }
 
-    /// AlphaConfidence: so many votes add to the confidence.
+    /// Returns AlphaConfidence, from AlphaPreference to K: so many votes raise the confidence by
+    /// one.
+    /// Rule: AvalancheGo, snow/consensus/snowball.
     pub fn alpha_confidence(&self) -> u32
         ensures value { result ≡ self.now.alpha_confidence }
         ensures good { AreGood self.now }
@@ -141,7 +156,8 @@ impl Params {
         self.alpha_confidence
     }
 
-    /// Beta: so much confidence decides.
+    /// Returns Beta, from 1 to 65,535: a counter whose confidence is so high is final.
+    /// Rule: the Snow family paper.
     pub fn beta(&self) -> u32
         ensures value { result ≡ self.now.beta }
         ensures good { AreGood self.now }
@@ -149,7 +165,9 @@ impl Params {
         self.beta
     }
 
-    /// ConcurrentRepolls: so many polls are to be under way while a block is pending.
+    /// Returns ConcurrentRepolls, from 1 to Beta: so many polls are to be under way while a block
+    /// is pending.
+    /// Rule: AvalancheGo, snow/consensus/snowball.
     pub fn repolls(&self) -> u32
         ensures value { result ≡ self.now.repolls }
         ensures good { AreGood self.now }

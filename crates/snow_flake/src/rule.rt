@@ -1,11 +1,15 @@
 ghost use Rattle.std.specs.Prelude.{◌≡◌, Bool, refl};
 ghost use Rattle.snow_flake.specs.Rule.{by_preference, by_flake};
 
-/// How an instance that isn't final answers.
+/// How an instance that isn't final answers. Contracts see a function of the preference and the
+/// flake, which answers the bit on which both agree.
+/// Rule: the Snow family paper.
 pub trait Rule {
     ghost answer: { Bool → Bool → Bool };
 
-    /// The answer of an instance with this preference and this flake.
+    /// Returns the answer of an instance with this preference and this flake. Where both are one
+    /// bit, it is that bit.
+    /// Rule: the Snow family paper.
     fn answer(preference: bool, flake: bool) -> bool
         ensures { result ≡ answer preference flake };
 
@@ -13,7 +17,9 @@ pub trait Rule {
     ghost agrees: { (b : Bool) → answer b b ≡ b };
 }
 
-/// Snowball: the preference, which moves once the other bit was followed more often.
+/// The rule Snowball answers the preference, which moves once the other bit has the greater
+/// strength.
+/// Rule: the Snow family paper.
 #[derive(Clone, Copy, Debug, PartialEq, Eq)]
 pub struct Snowball;
 
@@ -27,7 +33,8 @@ impl Rule for Snowball {
     }
 }
 
-/// Snowflake: the flake, which is the bit that was followed last.
+/// The rule Snowflake answers the flake, which is the bit that was followed last.
+/// Rule: the Snow family paper.
 #[derive(Clone, Copy, Debug, PartialEq, Eq)]
 pub struct Snowflake;
 

@@ -5,7 +5,9 @@ use crate::params::Params;
 use crate::votes::{confidence_after, raised_strength};
 use std::marker::Model;
 
-/// A one-bit instance where all choices so far have the same bit.
+/// A one-bit instance where all choices so far have the same bit. It keeps one strength, a
+/// confidence, and whether it is final.
+/// Rule: AvalancheGo, snow/consensus/snowball.
 #[derive(Clone, Copy, Debug, PartialEq, Eq)]
 pub struct Unary {
     strength: u64,
@@ -31,7 +33,9 @@ impl Unary {
     ghost use Rattle.snow_flake.specs.Counter.{fresh, stepped};
     ghost use Rattle.snow_flake.specs.Instance.{at_bit, polled, failed, on_side, counter_of};
 
-    /// An instance that no poll has moved.
+    /// Returns an instance that no poll has moved: strength and confidence are 0, and it isn't
+    /// final.
+    /// Rule: AvalancheGo, snow/consensus/snowball.
     pub fn new() -> Self
         ensures { (bit : Bool) → counter_of (at_bit result bit) ≡ fresh bit }
     {
@@ -42,7 +46,11 @@ impl Unary {
         }
     }
 
-    /// The bit step with these votes at the one bit, whichever it is. A final instance doesn't change.
+    /// Makes the bit step with these votes at the one bit, whichever it is, and none at the other.
+    /// Below AlphaPreference votes the confidence becomes 0. Else the strength rises by one, up to
+    /// 2^64-1. With AlphaConfidence votes the confidence rises by one, with fewer it becomes 0. At
+    /// Beta the instance is final. A final instance stays as it is.
+    /// Rule: AvalancheGo, snow/consensus/snowball.
     pub fn apply(&mut self, params: &Params, votes: u32)
         ensures { (bit : Bool) → at_bit self.new bit
             ≡ polled params.now (at_bit self.old bit) (on_side false votes bit) (on_side true votes bit) }
@@ -56,7 +64,9 @@ impl Unary {
         }
     }
 
-    /// The bit step of a poll without votes.
+    /// Makes the bit step of a poll without votes: the confidence becomes 0. A final instance stays
+    /// as it is.
+    /// Rule: AvalancheGo, snow/consensus/snowball.
     pub fn fail(&mut self)
         ensures { (bit : Bool) → at_bit self.new bit ≡ failed (at_bit self.old bit) }
     {
@@ -65,21 +75,26 @@ impl Unary {
         }
     }
 
-    /// The same instance as one that can be followed to both bits, with this bit as its preference and flake.
+    /// Returns the same instance as one that can follow both bits. `bit` is its preference and its
+    /// flake and has its strength; the other bit has strength 0. Confidence and finality stay.
+    /// Rule: AvalancheGo, snow/consensus/snowball.
     pub fn extend(&self, bit: bool) -> Binary
         ensures { result ≡ at_bit self.now bit }
     {
         Binary::at_bit(bit, self.strength, self.confidence, self.decided)
     }
 
-    /// Whether the instance is decided.
+    /// Returns whether the instance is decided.
+    /// Rule: AvalancheGo, snow/consensus/snowball.
     pub fn is_final(&self) -> bool
         ensures { result ≡ self.now.final }
     {
         self.decided
     }
 
-    /// How many polls in a row had AlphaConfidence votes; once final, what it was then.
+    /// Returns how many polls in a row had AlphaConfidence votes. A final instance keeps the number
+    /// that it had then.
+    /// Rule: AvalancheGo, snow/consensus/snowball.
     pub fn confidence(&self) -> u32
         ensures { result ≡ self.now.confidence }
     {

@@ -21,12 +21,14 @@ const MOST_BLOCKS: usize = 64;
 const MOST_BYTES: usize = 524_288;
 
 impl Getter {
-    /// Appends the lines that answer a question, where this block is preferred: `AskQuery` is told the
-    /// preference and the identifier accepted last, `AskFrontier` the latter; `AskAccepted` those of its
-    /// identifiers that are the first one or accepted, in order, each once; `AskAncestors` the block and
-    /// its ancestors as far as they are served, at most 64 blocks of at most 524,288 bytes in total;
-    /// `AskBlock` the block. There is no line where the block isn't served, and none for any other
-    /// event. After want of memory the lines are as before.
+    /// Appends the lines that answer a question, where `preference` is preferred. `AskQuery` is
+    /// told the preference and the identifier accepted last, `AskFrontier` the latter.
+    /// `AskAccepted` is told those of its identifiers that are the first one or accepted, in order,
+    /// each once. `AskAncestors` gets the block and its ancestors as far as they are served, at
+    /// most 64 blocks of at most 524,288 bytes in total. `AskBlock` gets the block. It appends no
+    /// line where the block isn't served, and none for any other event. On want of memory it
+    /// returns `AllocError`, and the lines stay as they were.
+    /// Rule: AvalancheGo, snow/engine/snowman/getter.
     pub fn answer(
         &self,
         preference: Id,

@@ -13,10 +13,11 @@ use std::marker::Model;
 // How many accepted blocks are kept.
 const MOST_ACCEPTED: usize = 4_096;
 
-/// What a node serves to its peers. Contracts see the first identifier, whose block isn't served, the
-/// pending blocks in order of issue, and the last 4,096 accepted ones, the latest last.
+/// What a node serves to its peers. Contracts see the first identifier, whose block isn't served,
+/// the pending blocks in order of issue, and the last 4,096 accepted ones, the latest last.
 ///
-/// A block's bytes are held once, and it is found by its identifier.
+/// It holds a block's bytes once, and finds them by its identifier.
+/// Rule: AvalancheGo, snow/engine/snowman/getter.
 #[derive(Drop)]
 pub struct Getter {
     pub(crate) alloc: Global,
@@ -34,8 +35,10 @@ impl Model for Getter {
 }
 
 impl Getter {
-    /// What a node serves that begins to run above its last accepted block: nothing yet. It makes room
-    /// for all 4,096 accepted blocks.
+    /// Returns what a node serves that begins to run above its last accepted block, `first`: no
+    /// block yet. It makes room for all 4,096 accepted blocks. On want of memory it returns
+    /// `AllocError`.
+    /// Rule: AvalancheGo, snow/engine/snowman/getter.
     pub fn begin(alloc: Global, first: Id) -> Result<Getter, AllocError>
         ensures { IfOk result (λ made. made ≡ serving_from first) }
     {
@@ -48,7 +51,9 @@ impl Getter {
         })
     }
 
-    /// A block that isn't pending is issued. After want of memory all is as before.
+    /// Serves a block that was issued and isn't pending here. On want of memory it returns
+    /// `AllocError`, and all stays as it was.
+    /// Rule: AvalancheGo, snow/engine/snowman/getter.
     pub fn issued(&mut self, id: Id, parent: Id, bytes: Bytes) -> Result<(), AllocError>
         requires { is_pending self.old id ≡ false }
         ensures ok { OnOk result (self.new ≡ after_issued self.old (record { id = id; parent = parent; bytes = bytes })) }
@@ -57,9 +62,10 @@ impl Getter {
         self.pending.push(id, parent, bytes)
     }
 
-    /// A pending block is accepted: from now on it is one of the accepted blocks, of which the oldest
-    /// is forgotten where 4,096 are there. One that isn't pending changes nothing. It gives the bytes
-    /// of the forgotten block back, for their room, and takes no memory.
+    /// Makes a pending block one of the accepted ones, of which the oldest goes where 4,096 are
+    /// there. A block that isn't pending changes nothing. It returns the bytes of a block that
+    /// goes, for their room, and takes no memory.
+    /// Rule: AvalancheGo, snow/engine/snowman/getter.
     pub fn accepted(&mut self, id: &Id) -> Option<Bytes>
         ensures { self.new ≡ after_accepted self.old id.now }
     {
@@ -78,8 +84,9 @@ impl Getter {
         }
     }
 
-    /// A pending block is rejected, and served no more. One that isn't pending changes nothing. It
-    /// gives the bytes of the block back, for their room, and takes no memory.
+    /// Serves a pending block no more, since it was rejected. A block that isn't pending changes
+    /// nothing. It returns the bytes of the block, for their room, and takes no memory.
+    /// Rule: AvalancheGo, snow/engine/snowman/getter.
     pub fn rejected(&mut self, id: &Id) -> Option<Bytes>
         ensures { self.new ≡ after_rejected self.old id.now }
     {
@@ -89,7 +96,8 @@ impl Getter {
         }
     }
 
-    /// Whether a block is pending.
+    /// Returns whether a block is pending.
+    /// Rule: AvalancheGo, snow/engine/snowman/getter.
     pub fn is_pending(&self, id: &Id) -> bool
         ensures { result ≡ is_pending self.now id.now }
     {

@@ -8,7 +8,7 @@ use snow_map::IdMap;
 use std::alloc::{AllocError, Global};
 use std::marker::Model;
 
-/// What is kept of a pending block beside its identifier, and the number of its issue.
+/// A pending block beside its identifier, and the number of its issue.
 #[derive(Drop)]
 pub(crate) struct Issued {
     pub(crate) parent: Id,
@@ -16,8 +16,8 @@ pub(crate) struct Issued {
     number: u64,
 }
 
-/// The pending blocks, found by identifier. Contracts see the list of them in order of issue, which
-/// their numbers keep.
+/// The pending blocks, by identifier. Contracts see the list of them in order of issue, which the
+/// numbers keep.
 #[derive(Drop)]
 pub(crate) struct Pending {
     blocks: IdMap<Issued>,
@@ -37,7 +37,7 @@ impl Model for Pending {
 }
 
 impl Pending {
-    /// No block. It takes no memory.
+    /// Returns no block. It takes no memory.
     pub(crate) fn new(alloc: Global) -> Self
         ensures { result ≡ [] }
     {
@@ -47,14 +47,14 @@ impl Pending {
         }
     }
 
-    /// The block of an identifier.
+    /// Returns the block of an identifier.
     pub(crate) fn block(&self, id: &Id) -> Option<&Issued>
         ensures { option_map (block_at id.now) (option_copied result) ≡ find (is_block id.now) self.now }
     {
         self.blocks.get(id)
     }
 
-    /// Appends a block that isn't there. After want of memory all is as before.
+    /// Appends a block that isn't there. On want of memory all stays as it was.
     pub(crate) fn push(&mut self, id: Id, parent: Id, bytes: Bytes) -> Result<(), AllocError>
         requires { is_some (find (is_block id) self.old) ≡ false }
         ensures ok { OnOk result (self.new ≡ self.old ++ record { id = id; parent = parent; bytes = bytes } ∷ []) }
@@ -77,7 +77,7 @@ impl Pending {
         Ok(())
     }
 
-    /// Takes the block of an identifier out. It takes no memory.
+    /// Takes the block of an identifier out and returns it. It takes no memory.
     #[inline(always)]
     pub(crate) fn take(&mut self, id: &Id) -> Option<Issued>
         ensures taken { option_map (block_at id.now) result ≡ find (is_block id.now) self.old }

@@ -2,6 +2,7 @@ use snow_base::{Bytes, Id};
 use snow_recent::Named;
 
 /// A block that is served: one that is pending, or that was accepted since the node began to run.
+/// Rule: AvalancheGo, snow/engine/snowman/getter.
 #[derive(Drop)]
 pub struct Served {
     /// The block.

@@ -8,8 +8,9 @@ use crate::spanning;
 use std::alloc::{AllocError, Global};
 use std::marker::Model;
 
-/// Heights as spans that rise and never touch: adding and finding a height look at about the logarithm
-/// of the number of spans.
+/// Heights as spans that rise and never touch. Adding and finding a height look at about the
+/// logarithm of the number of spans.
+/// Rule: this project's own.
 #[derive(Drop)]
 pub struct Intervals {
     last: u64,
@@ -28,8 +29,9 @@ impl Model for Intervals {
 }
 
 impl Intervals {
-    /// The spans of the held heights. They rise, all are above the floor, and between two of them at
-    /// least one height isn't held.
+    /// Returns the spans of the held heights. They rise, all are above the floor, and between two
+    /// of them stands at least one height that isn't held.
+    /// Rule: this project's own.
     pub fn spans(&self) -> &[Span]
         ensures spans { result.now ≡ self.now.spans }
         ensures apart { AreApart (self.now.floor + 1) result.now }

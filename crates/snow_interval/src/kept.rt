@@ -2,8 +2,9 @@ ghost use Rattle.std.specs.Prelude.{◌≡◌, ℕ, ◌<◌, false, true, IfOk, 
 
 use std::alloc::{AllocError, Global};
 
-/// A set of heights above a height, the floor. Contracts see the floor, and of each height whether it
-/// is held.
+/// A set of heights below 2^64 above a height, the floor. Contracts see the floor, and of each
+/// height whether it is held.
+/// Rule: AvalancheGo, snow/engine/snowman/bootstrap.
 pub trait Kept: Sized + Drop {
     ghost use Rattle.snow_interval.specs.Heights as model;
 
@@ -13,13 +14,16 @@ pub trait Kept: Sized + Drop {
     /// The heights that are held.
     ghost held: { Self → model.Heights };
 
-    /// The set that holds no height, above the height `last`. It takes no memory.
+    /// Returns the empty set above the height `last`. It takes no memory.
+    /// Rule: AvalancheGo, snow/engine/snowman/bootstrap.
     fn begin(alloc: Global, last: u64) -> Self
         ensures floor { floor result ≡ last }
         ensures held { (h : ℕ) → held result h ≡ false };
 
-    /// Holds one height more. The answer is whether a run begins there: whether the height below it is
-    /// above the floor and isn't held. After want of memory the set is as before.
+    /// Holds one height more, which is above the floor and isn't held. It returns whether a run
+    /// begins there: whether the height below it is above the floor and isn't held. On want of
+    /// memory it returns `AllocError`, and the set stays as it was.
+    /// Rule: AvalancheGo, snow/engine/snowman/bootstrap.
     fn add(&mut self, height: u64) -> Result<bool, AllocError>
         requires above { floor self.old < height }
         requires new { held self.old height ≡ false }
@@ -28,12 +32,14 @@ pub trait Kept: Sized + Drop {
         ensures begins { IfOk result (λ begins. begins ≡ model.begins_run (floor self.old) (held self.old) height) }
         ensures err { OnErr result ((h : ℕ) → held self.new h ≡ held self.old h) };
 
-    /// Whether a height is held. No height up to the floor is.
+    /// Returns whether a height is held. No height up to the floor is.
+    /// Rule: AvalancheGo, snow/engine/snowman/bootstrap.
     fn contains(&self, height: u64) -> bool
         ensures held { result ≡ held self.now height }
         ensures above { result ≡ true → floor self.now < height };
 
-    /// The lowest height of the unbroken run of held heights up to this one, which is held.
+    /// Returns the lowest height of the unbroken run of held heights up to this one, which is held.
+    /// Rule: AvalancheGo, snow/engine/snowman/bootstrap.
     fn lowest(&self, height: u64) -> u64
         requires { held self.now height ≡ true }
         ensures { result ≡ model.lowest (held self.now) height };

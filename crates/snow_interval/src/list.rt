@@ -6,8 +6,8 @@ use crate::kept::Kept;
 use std::alloc::{AllocError, Global};
 use std::marker::Model;
 
-/// Heights in the order in which they were added. Each height that is looked for is looked for among
-/// them all.
+/// Heights in the order in which they were added. It looks for a height among them all.
+/// Rule: this project's own.
 #[derive(Drop)]
 pub struct KeptList {
     last: u64,

@@ -1,4 +1,5 @@
-/// Heights from a lowest to a highest one, both included.
+/// Heights below 2^64, from a lowest to a highest one, both included.
+/// Rule: this project's own.
 #[derive(Clone, Copy, Debug, PartialEq, Eq)]
 pub struct Span {
     /// The lowest height.

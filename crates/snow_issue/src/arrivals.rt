@@ -14,7 +14,7 @@ use snow_base::{Id, NodeId};
 use std::alloc::{AllocError, Global};
 use std::collections::{BTreeMap, BTreeSet};
 
-/// Notes the number of a reply by its poll and node. After want of memory all is as before.
+/// Notes the number of a reply by its poll and node. On want of memory all stays as it was.
 pub(crate) fn file(
     polls: &mut BTreeMap<u32, BTreeMap<NodeId, u64>>,
     alloc: Global,
@@ -80,7 +80,7 @@ pub(crate) fn keep(
     Ok(())
 }
 
-// Keeps a number under a block. After want of memory all is as before.
+// Keeps a number under a block. On want of memory all stays as it was.
 fn name(
     blocks: &mut BTreeMap<Id, BTreeSet<u64>>,
     alloc: Global,

@@ -6,7 +6,7 @@ use crate::gone::GoneList;
 use snow_base::Id;
 use snow_plain::Board;
 
-/// Whether a block is pending. Mostly it is the preference, which is told in place.
+/// Returns whether a block is pending. Mostly it is the preference, which needs no look-up.
 #[inline(always)]
 #[tactic(auto, using(crate::proofs::Preferred::preference_pending))]
 pub(crate) fn is_pending<B: Board>(board: &B, id: &Id) -> bool
@@ -18,7 +18,7 @@ pub(crate) fn is_pending<B: Board>(board: &B, id: &Id) -> bool
     is_found(board, id)
 }
 
-// The same by a look-up.
+// Whether a block is pending, by a look-up.
 #[inline(never)]
 fn is_found<B: Board>(board: &B, id: &Id) -> bool
     ensures { result ≡ is_pending (B.board board.now) id.now }
@@ -26,7 +26,7 @@ fn is_found<B: Board>(board: &B, id: &Id) -> bool
     board.is_pending(id)
 }
 
-/// The vote that a reply gives. Mostly its block is pending, and so is itself the vote.
+/// Returns the vote that a reply gives. Mostly its block is pending, and so is itself the vote.
 pub(crate) fn bubble<B: Board>(gone: &GoneList, board: &B, id: &Id) -> Option<Id>
     ensures { result ≡ bubbled_in 8192 gone.now (B.board board.now) id.now }
 {
@@ -36,7 +36,7 @@ pub(crate) fn bubble<B: Board>(gone: &GoneList, board: &B, id: &Id) -> Option<Id
     climb(gone, board, id)
 }
 
-// The same step by step. The gone list can hold a circle, so the bound on the steps binds.
+// The vote of a block that isn't pending, step by step. The gone list can hold a circle, so the bound on the steps binds.
 #[inline(never)]
 fn climb<B: Board>(gone: &GoneList, board: &B, id: &Id) -> Option<Id>
     ensures { result ≡ bubbled_in 8192 gone.now (B.board board.now) id.now }

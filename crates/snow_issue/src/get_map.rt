@@ -9,7 +9,7 @@ use std::alloc::{AllocError, Global};
 use std::collections::{BTreeMap, HashSet};
 use std::marker::Model;
 
-/// The node that a block was asked of, and the block.
+/// The block for which a node was asked, and the node.
 #[derive(Clone, Copy)]
 pub(crate) struct Asked {
     pub(crate) node: NodeId,
@@ -37,7 +37,7 @@ impl Model for GetMap {
 }
 
 impl GetMap {
-    /// No get is open. It takes no memory.
+    /// Returns no open get. It takes no memory.
     pub(crate) fn new(alloc: Global) -> Self
         ensures { result ≡ [] }
     {
@@ -47,14 +47,14 @@ impl GetMap {
         }
     }
 
-    /// How many gets are open.
+    /// Returns how many gets are open.
     pub(crate) fn len(&self) -> usize
         ensures { result ≡ length self.now }
     {
         self.open.len()
     }
 
-    /// Whether a block is asked for.
+    /// Returns whether a block is asked for.
     pub(crate) fn asks_for(&self, id: &Id) -> bool
         ensures { result ≡ asked_in self.now id.now }
     {
@@ -64,7 +64,7 @@ impl GetMap {
         self.has_id(id)
     }
 
-    // The same by the index.
+    // Whether a block is asked for, by the index.
     #[inline(never)]
     fn has_id(&self, id: &Id) -> bool
         ensures { result ≡ asked_in self.now id.now }
@@ -72,14 +72,14 @@ impl GetMap {
         self.ids.contains(id)
     }
 
-    /// Whether a get with this number is open.
+    /// Returns whether a get with this number is open.
     pub(crate) fn has_number(&self, number: u32) -> bool
         ensures { result ≡ has_number self.now number }
     {
         self.open.contains_key(&number)
     }
 
-    /// Opens a get. After want of memory all is as before.
+    /// Opens a get. On want of memory all stays as it was.
     // A call, as is the next one, so that a get that stands alone costs little.
     #[inline(never)]
     pub(crate) fn open(&mut self, get: Get) -> Result<(), AllocError>
@@ -97,7 +97,7 @@ impl GetMap {
         Ok(())
     }
 
-    /// Closes the get of a number and node, and gives the block that was asked for.
+    /// Closes the get of a number and node, and returns the block for which it asked, or `None`.
     #[inline(never)]
     pub(crate) fn close(&mut self, number: u32, node: &NodeId) -> Option<Id>
         ensures answer { result ≡ option_map (λ g. g.id) (find (is_get number node.now) self.old) }

@@ -11,8 +11,9 @@ use std::marker::Model;
 
 /// The open gets in order of their numbers.
 ///
-/// One that is open alone stands apart, so that it takes no memory and no index is asked; where more
-/// are open, all are in a map.
+/// A get that is open alone stands apart, so that it takes no memory and no index. Where more are
+/// open, all are in a map.
+/// Rule: AvalancheGo, snow/engine/snowman.
 #[derive(Drop)]
 pub struct Gets {
     alone: Option<Get>,
@@ -33,7 +34,8 @@ impl Model for Gets {
 }
 
 impl Gets {
-    /// No get is open. It takes no memory.
+    /// Returns no open get. It takes no memory.
+    /// Rule: AvalancheGo, snow/engine/snowman.
     pub fn new(alloc: Global) -> Self
         ensures { result ≡ [] }
     {
@@ -43,7 +45,8 @@ impl Gets {
         }
     }
 
-    /// How many gets are open.
+    /// Returns how many gets are open.
+    /// Rule: AvalancheGo, snow/engine/snowman.
     pub fn len(&self) -> usize
         ensures { result ≡ length self.now }
     {
@@ -53,7 +56,8 @@ impl Gets {
         self.others.len()
     }
 
-    /// Whether a block is asked for.
+    /// Returns whether an open get asks for this block.
+    /// Rule: AvalancheGo, snow/engine/snowman.
     pub fn asks_for(&self, id: &Id) -> bool
         ensures { result ≡ asked_in self.now id.now }
     {
@@ -63,7 +67,8 @@ impl Gets {
         }
     }
 
-    /// Whether a get with this number is open.
+    /// Returns whether a get with this number is open.
+    /// Rule: AvalancheGo, snow/engine/snowman.
     pub fn has_number(&self, number: u32) -> bool
         ensures { result ≡ has_number self.now number }
     {
@@ -73,7 +78,9 @@ impl Gets {
         }
     }
 
-    /// Opens a get. After want of memory all is as before.
+    /// Opens a get, whose number and block no open get has. On want of memory it returns
+    /// `AllocError`, and all stays as it was.
+    /// Rule: AvalancheGo, snow/engine/snowman.
     #[inline(always)]
     pub fn open(&mut self, get: Get) -> Result<(), AllocError>
         requires number { has_number self.old get.number ≡ false }
@@ -89,7 +96,9 @@ impl Gets {
         self.others.open(get)
     }
 
-    /// Closes the get of a number and node, and gives the block that was asked for.
+    /// Closes the get of a number and a node, and returns the block for which it asked. It returns
+    /// `None` exactly where there is no such get, and all stays as it was then.
+    /// Rule: AvalancheGo, snow/engine/snowman.
     #[inline(always)]
     pub fn close(&mut self, number: u32, node: &NodeId) -> Option<Id>
         ensures answer { result ≡ option_map (λ g. g.id) (find (is_get number node.now) self.old) }

@@ -10,7 +10,9 @@ use std::marker::Model;
 // How many entries the list keeps.
 const MOST_ENTRIES: usize = 8_192;
 
-/// A block that is gone: it was accepted, rejected or taken out.
+/// A block that is gone: it was accepted, rejected or taken out. It may name a parent, which stands
+/// for it in votes.
+/// Rule: AvalancheGo, snow/engine/snowman.
 #[derive(Clone, Copy, Debug, PartialEq, Eq)]
 pub struct Gone {
     /// The block.
@@ -27,9 +29,10 @@ impl Named for Gone {
     }
 }
 
-/// The last 8,192 blocks that are gone. Contracts see the list of their entries, the latest last.
+/// The entries of the last 8,192 blocks that went. Contracts see the list of them, the latest last.
 ///
-/// All room is made with the list, so that no other call takes memory.
+/// It makes all room when it is made, so that no later call takes memory.
+/// Rule: this project's own.
 #[derive(Drop)]
 pub struct GoneList {
     entries: Recent<Gone, MOST_ENTRIES>,
@@ -45,7 +48,9 @@ impl Model for GoneList {
 }
 
 impl GoneList {
-    /// The list with no entry, and room for all that it will ever have.
+    /// Returns the empty list, with room for 8,192 entries. On want of memory it returns
+    /// `AllocError`.
+    /// Rule: this project's own.
     pub fn new(alloc: Global) -> Result<Self, AllocError>
         ensures { IfOk result (λ list. list ≡ []) }
     {
@@ -53,14 +58,16 @@ impl GoneList {
         Ok(GoneList { entries })
     }
 
-    /// Appends an entry. Where the list is full, the oldest one is forgotten.
+    /// Appends an entry. Where 8,192 are there, the oldest one goes. It takes no memory.
+    /// Rule: this project's own.
     pub fn enter(&mut self, entry: Gone)
         ensures { self.new ≡ with_gone self.old entry }
     {
         push(&mut self.entries, entry.id, entry.parent);
     }
 
-    /// The latest entry of a block.
+    /// Returns the latest entry of a block, or `None` exactly where the block has none.
+    /// Rule: AvalancheGo, snow/engine/snowman.
     #[inline(always)]
     pub fn latest(&self, id: &Id) -> Option<&Gone>
         ensures { option_copied result ≡ latest self.now id.now }
@@ -68,7 +75,9 @@ impl GoneList {
         self.entries.latest(id)
     }
 
-    /// The block that stands for one that is gone: the parent of its latest entry, if it has one.
+    /// Returns the parent of a block's latest entry, or `None` where the block has no entry or that
+    /// has no parent.
+    /// Rule: AvalancheGo, snow/engine/snowman.
     pub fn stands_for(&self, id: &Id) -> Option<Id>
         ensures { result ≡ stands_for self.now id.now }
     {
@@ -78,7 +87,8 @@ impl GoneList {
         }
     }
 
-    /// Whether a block is in the list.
+    /// Returns whether a block has an entry in the list.
+    /// Rule: AvalancheGo, snow/engine/snowman.
     pub fn holds(&self, id: &Id) -> bool
         ensures { result ≡ holds self.now id.now }
     {

@@ -1,5 +1,5 @@
-//! What waits in a node: blocks whose parent isn't there yet, replies that aren't counted yet, and
-//! the list of identifiers that are gone.
+//! What waits in a node: blocks without a parent yet, replies that don't count yet, and the list of
+//! blocks that are gone.
 #![tactic(auto)]
 
 mod arrivals;

@@ -67,7 +67,7 @@ fn rest_at(waiting: &mut WaitingList, gets: &Gets, at: usize, parent: &Id)
 }
 
 /// Remembers of the block that came last, and of the one before it where that is its child, that
-/// they can wait on. Whether something is then remembered of each, and none is ripe.
+/// they can wait on. It returns whether each block is marked then, and none is ripe.
 pub(crate) fn rest_last(waiting: &mut WaitingList, gets: &Gets, block: &Header) -> bool
     ensures same { items_of waiting.new ≡ items_of waiting.old }
     ensures tells { (b : model.Board) → is_on b block.now.id ≡ false → is_on b block.now.parent ≡ false → All (Tells (items_of waiting.old) gets.now b) waiting.old → All (Tells (items_of waiting.new) gets.now b) waiting.new }

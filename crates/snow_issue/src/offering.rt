@@ -11,8 +11,8 @@ use crate::work::Offered;
 use snow_base::{Header, Id};
 use snow_plain::Board;
 
-/// Whether a block is on the board: pending, or the last accepted one. The preference is told without
-/// looking it up.
+/// Returns whether a block is on the board: pending, or the last accepted one. The preference is
+/// told without looking it up.
 #[tactic(auto, using(crate::proofs::Preferred::preference_on))]
 pub(crate) fn is_on<B: Board>(board: &B, id: &Id) -> bool
     ensures { result ≡ is_on (B.board board.now) id.now }
@@ -37,7 +37,7 @@ fn is_unknown<B: Board>(
     !(is_on(board, id) || waiting.waits(id) || gets.asks_for(id) || gone.holds(id))
 }
 
-/// Whether a block that a reply names is to be asked for.
+/// Returns whether a block that a reply names is to be asked for.
 #[inline(always)]
 pub(crate) fn is_wanted<B: Board>(
     waiting: &WaitingList,
@@ -62,7 +62,7 @@ fn is_high<B: Board>(board: &B, block: &Header) -> bool
     }
 }
 
-/// The parent of a block that waits, where it is to be asked for.
+/// Returns the parent of a block that waits, where it is to be asked for.
 pub(crate) fn ask<B: Board>(
     waiting: &WaitingList,
     gets: &Gets,
@@ -102,7 +102,7 @@ fn is_old<B: Board>(latest: Option<&Gone>, board: &B, block: &Header) -> bool
     latest.is_some() || block.height <= board.last_height()
 }
 
-/// The first reason, if there is one, for which an offered block doesn't wait.
+/// Returns the first reason, if there is one, for which an offered block doesn't wait.
 #[inline(always)]
 pub(crate) fn refusal<B: Board>(
     waiting: &WaitingList,

@@ -22,10 +22,11 @@ use snow_plain::Board;
 use std::alloc::{AllocError, Global};
 use std::marker::Model;
 
-/// What a running node waits for: blocks in order of arrival, open gets in order of number, held
-/// replies in order of arrival, and the blocks that went, the latest last. Contracts see these four
-/// lists, and beside each waiting block what is remembered of it. Nothing that an event doesn't
-/// touch is looked at again.
+/// What a running node waits for: at most 4,096 blocks in order of arrival, at most 4,096 open gets
+/// in order of number, held replies in order of arrival, and the last 8,192 blocks that went, the
+/// latest last. Contracts see these four lists, and beside each waiting block what the queue
+/// remembers of it. It looks at nothing again that an event doesn't touch.
+/// Rule: AvalancheGo, snow/engine/snowman.
 #[derive(Drop)]
 pub struct Queue {
     pub(crate) waiting: WaitingList,
@@ -46,8 +47,10 @@ impl Model for Queue {
 }
 
 impl Queue {
-    /// The queue of a node that begins to run above its last accepted block, which is gone. Nothing
-    /// waits. It makes room for all 8,192 blocks of the gone list.
+    /// Returns the queue of a node that begins to run above its last accepted block, which is gone.
+    /// Nothing waits. It makes room for all 8,192 entries of the gone list. On want of memory it
+    /// returns `AllocError`.
+    /// Rule: AvalancheGo, snow/engine/snowman.
     pub fn new(alloc: Global, last: Id) -> Result<Queue, AllocError>
         ensures lists { IfOk result (λ made. lists_of made ≡ begun last) }
         ensures knows { IfOk result (λ made. (board : model.Board) → Knows made board) }
@@ -65,12 +68,13 @@ impl Queue {
         })
     }
 
-    /// Offers a block, and answers the first that holds: `Known` where it is on the board or waits;
-    /// `Invalid` where its latest entry in the gone list has a parent; `Old` where it has an entry
-    /// without one, or its height is at most the last accepted one; `Full` where 4,096 blocks wait;
-    /// else `Waits`, and then it waits. `ask` names its parent where nothing is known of that, the
-    /// block is more than one above the last accepted height, and fewer than 4,096 gets are open.
-    /// After want of memory all is as before.
+    /// Offers a block, and returns the first that holds. `Known`: it is on the board or waits.
+    /// `Invalid`: its latest entry in the gone list has a parent. `Old`: it has an entry without
+    /// one, or its height is at most the last accepted one. `Full`: 4,096 blocks wait. Else it
+    /// waits: `Waits`, and `ask` names its parent where nothing is known of that, the block is more
+    /// than one above the last accepted height, and fewer than 4,096 gets are open. Only `Waits`
+    /// changes the lists. On want of memory it returns `AllocError`, and all stays as it was.
+    /// Rule: AvalancheGo, snow/engine/snowman.
     pub fn offer<B: Board>(&mut self, block: Waiting, board: &B) -> Result<Offered, AllocError>
         ensures answer { IfOk result (λ answer. answer ≡ offered (lists_of self.old) (B.board board.now) block) }
         ensures lists { IfOk result (λ answer. lists_of self.new ≡ after_offer (lists_of self.old) block answer) }
@@ -90,8 +94,10 @@ impl Queue {
         self.wait(node, &header, bytes, board)
     }
 
-    /// Offers a block whose bytes stand elsewhere, as `offer` does. They are copied only where it
-    /// waits, into room that is kept, if there is such.
+    /// Offers a block whose bytes stand elsewhere, and returns what `offer` does. It copies the
+    /// bytes only where the block waits, into room of `spare` where there is some. On want of
+    /// memory it returns `AllocError`, and the queue stays as it was.
+    /// Rule: AvalancheGo, snow/engine/snowman.
     pub fn bring<B: Board>(
         &mut self,
         spare: &mut SpareBytes,
@@ -145,8 +151,9 @@ impl Queue {
         })
     }
 
-    /// Whether a block that comes needn't wait where nothing else is to be done: its parent is on the
-    /// board, and it would wait if it were offered.
+    /// Returns whether a block's parent is on the board and the block would wait if it were
+    /// offered. Such a block needn't wait where nothing else is to be done.
+    /// Rule: AvalancheGo, snow/engine/snowman.
     pub fn is_next<B: Board>(&self, block: &Header, board: &B) -> bool
         ensures { result ≡ is_next (lists_of self.now) (B.board board.now) block.now }
     {
@@ -154,8 +161,9 @@ impl Queue {
             && offering::refusal(&self.waiting, &self.gone, board, block).is_none()
     }
 
-    /// Forgets what is remembered of a block's children, so that it may be issued. The lists stay as
-    /// they were. It takes no memory.
+    /// Forgets what is remembered of a block's children, so that the block may be issued. The lists
+    /// stay as they were. It takes no memory.
+    /// Rule: this project's own.
     pub fn forget_children(&mut self, id: &Id)
         ensures lists { lists_of self.new ≡ lists_of self.old }
         ensures knows { (b : model.Board) → Knows self.old b → Knows self.new b }
@@ -166,16 +174,19 @@ impl Queue {
         self.waiting.wake(id);
     }
 
-    /// Whether a block that a reply names is to be asked for: nothing is known of it, and fewer than
-    /// 4,096 gets are open.
+    /// Returns whether a block that a reply names is to be asked for: it is neither on the board
+    /// nor waiting nor asked for nor gone, and fewer than 4,096 gets are open.
+    /// Rule: AvalancheGo, snow/engine/snowman.
     pub fn wants<B: Board>(&self, id: &Id, board: &B) -> bool
         ensures { result ≡ wanted (lists_of self.now) (B.board board.now) id.now }
     {
         offering::is_wanted(&self.waiting, &self.gets, &self.gone, board, id)
     }
 
-    /// Opens a get: a block was asked of a node under a number. After want of memory all is as
-    /// before.
+    /// Opens a get: a node was asked for a block under a number. Fewer than 4,096 gets are open,
+    /// and none has this number or asks for this block. On want of memory it returns `AllocError`,
+    /// and all stays as it was.
+    /// Rule: AvalancheGo, snow/engine/snowman.
     pub fn asked(&mut self, number: u32, node: NodeId, id: Id) -> Result<(), AllocError>
         requires room { length self.old.gets < 4096 }
         requires number { has_number self.old.gets number ≡ false }
@@ -190,10 +201,11 @@ impl Queue {
         Ok(())
     }
 
-    /// Remembers of a block that came last, and of the one before it where that is its child, that
-    /// they can wait on: the parent of the block is asked for. Whether it is plain that nothing is
-    /// to be done then. The lists stay as they were. It looks neither at the board nor at any other
-    /// block.
+    /// Remembers of the block that came last, and of the one before it where that is its child,
+    /// that they can wait on, since the parent of the block is asked for. It returns `true` only
+    /// where no step of settling applies then, and may return `false` there too. The lists stay as
+    /// they were. It looks neither at the board nor at any other block.
+    /// Rule: this project's own.
     pub fn rest(&mut self, block: &Header) -> bool
         ensures lists { lists_of self.new ≡ lists_of self.old }
         ensures knows { (b : model.Board) → is_on b block.now.id ≡ false → is_on b block.now.parent ≡ false → Knows self.old b → Knows self.new b }
@@ -206,8 +218,10 @@ impl Queue {
         rests && self.replies.len() == 0
     }
 
-    /// Closes the get of this number and node, and gives the block that was asked for; None, with
-    /// all as before, exactly where there is no such get. It takes no memory.
+    /// Closes the get of this number and node, and returns the block for which it asked. It returns
+    /// `None` exactly where there is no such get, and all lists stay as they were then. It takes no
+    /// memory.
+    /// Rule: AvalancheGo, snow/engine/snowman.
     pub fn close_get(&mut self, number: u32, node: &NodeId) -> Option<Id>
         ensures answer { result ≡ option_map (λ get. get.id) (find (is_get number node.now) self.old.gets) }
         ensures lists { lists_of self.new ≡ after_closed (lists_of self.old) number node.now }
@@ -221,7 +235,9 @@ impl Queue {
         Some(id)
     }
 
-    /// Holds a reply. After want of memory all is as before.
+    /// Holds a reply of a node that has none held for this poll. On want of memory it returns
+    /// `AllocError`, and all stays as it was.
+    /// Rule: AvalancheGo, snow/engine/snowman.
     pub fn hold(&mut self, reply: Held) -> Result<(), AllocError>
         requires { holds_in self.old.held reply.number reply.node ≡ false }
         ensures lists { OnOk result (lists_of self.new ≡ after_held (lists_of self.old) reply) }
@@ -234,14 +250,16 @@ impl Queue {
         Ok(())
     }
 
-    /// Whether a node's reply to a poll is held.
+    /// Returns whether a reply of this node to the poll of this number is held.
+    /// Rule: AvalancheGo, snow/engine/snowman.
     pub fn holds(&self, number: u32, node: &NodeId) -> bool
         ensures { result ≡ holds_in self.now.held number node.now }
     {
         self.replies.holds(number, node)
     }
 
-    /// A poll left, and its held replies go. It takes no memory.
+    /// Takes the held replies of a poll out, since the poll left. It takes no memory.
+    /// Rule: AvalancheGo, snow/engine/snowman.
     pub fn forget(&mut self, number: u32)
         ensures lists { lists_of self.new ≡ after_forgotten (lists_of self.old) number }
         ensures knows { (b : model.Board) → Knows self.old b → Knows self.new b }
@@ -251,31 +269,36 @@ impl Queue {
         self.replies.forget(number);
     }
 
-    /// Whether a block is asked for.
+    /// Returns whether an open get asks for this block.
+    /// Rule: AvalancheGo, snow/engine/snowman.
     pub fn is_asked(&self, id: &Id) -> bool
         ensures { result ≡ is_asked (lists_of self.now) id.now }
     {
         self.gets.asks_for(id)
     }
 
-    /// Whether a get with this number is open.
+    /// Returns whether a get with this number is open.
+    /// Rule: AvalancheGo, snow/engine/snowman.
     pub fn has_number(&self, number: u32) -> bool
         ensures { result ≡ has_number self.now.gets number }
     {
         self.gets.has_number(number)
     }
 
-    /// How many gets are open.
+    /// Returns how many gets are open, at most 4,096.
+    /// Rule: AvalancheGo, snow/engine/snowman.
     pub fn gets_len(&self) -> usize
         ensures { result ≡ length self.now.gets }
     {
         self.gets.len()
     }
 
-    /// Takes out the block or the reply of the first step of settling that applies: the earliest
-    /// hopeless block, else the earliest ready one, else the earliest free reply. None exactly where
-    /// no step applies. A hopeless block is entered in the gone list with its parent, where the
-    /// latest entry of that has a parent. Every waiting block is looked at anew. It takes no memory.
+    /// Takes out and returns the block or the reply of the first step of settling that applies: the
+    /// earliest hopeless block, else the earliest ready one, else the earliest free reply. It
+    /// returns `None` exactly where no step applies. It enters a hopeless block in the gone list
+    /// with its parent, where the latest entry of that has a parent. It looks at every waiting
+    /// block anew. It takes no memory.
+    /// Rule: AvalancheGo, snow/engine/snowman.
     pub fn next_work<B: Board>(&mut self, board: &B) -> Option<Work>
         ensures work { result ≡ work_of (lists_of self.old) (B.board board.now) }
         ensures lists { lists_of self.new ≡ after (lists_of self.old) (B.board board.now) result }
@@ -287,9 +310,10 @@ impl Queue {
         self.next_known(board)
     }
 
-    /// The same where what is remembered is true of the board. It looks only at blocks and replies
-    /// of which nothing is remembered, so where nothing changed it finds at once that no step
-    /// applies.
+    /// Does what `next_work` does, where what the queue remembers is true of the board. It looks
+    /// only at blocks and replies of which nothing is remembered. So where nothing changed it finds
+    /// at once that no step applies.
+    /// Rule: AvalancheGo, snow/engine/snowman.
     pub fn next_known<B: Board>(&mut self, board: &B) -> Option<Work>
         requires { Knows self.old (B.board board.now) }
         ensures work { result ≡ work_of (lists_of self.old) (B.board board.now) }
@@ -307,7 +331,7 @@ impl Queue {
         self.next_step(board)
     }
 
-    // The same, whatever is remembered of the waiting blocks. A call, so that what is taken goes straight
+    // The next step, whatever is remembered of the waiting blocks. A call, so that what is taken goes straight
     // to where it is wanted.
     #[inline(never)]
     fn next_step<B: Board>(&mut self, board: &B) -> Option<Work>
@@ -325,7 +349,7 @@ impl Queue {
         self.next_vote()
     }
 
-    // The same where something is remembered of each waiting block, and none is ready.
+    // The next step where each waiting block is marked, and none is ready.
     fn next_vote(&mut self) -> Option<Work>
         ensures work { result ≡ option_map work.Vote (find (is_free (lists_of self.old)) self.old.held) }
         ensures lists { (b : model.Board) → lists_of self.new ≡ after (lists_of self.old) b result }
@@ -339,7 +363,7 @@ impl Queue {
         self.held_vote()
     }
 
-    // The same where a reply is held.
+    // The next step where, besides, a reply is held.
     #[inline(never)]
     fn held_vote(&mut self) -> Option<Work>
         ensures work { result ≡ option_map work.Vote (find (is_free (lists_of self.old)) self.old.held) }
@@ -354,9 +378,10 @@ impl Queue {
         }
     }
 
-    /// Enters a block in the gone list: with a parent where it was found invalid, and with none
-    /// where it was accepted or rejected. Where there are 8,192 entries, the oldest goes. It takes no
-    /// memory.
+    /// Enters a block in the gone list: with a parent where the block was found invalid, and with
+    /// none where it was accepted or rejected. Where there are 8,192 entries, the oldest goes. It
+    /// takes no memory.
+    /// Rule: AvalancheGo, snow/engine/snowman.
     pub fn gone(&mut self, id: Id, parent: Option<Id>)
         ensures lists { let entry : Gone = record { id = id; parent = parent } in lists_of self.new ≡ after_gone (lists_of self.old) entry }
         ensures knows { (b : model.Board) → Knows self.old b → Knows self.new b }

@@ -82,7 +82,7 @@ impl Replies {
         }
     }
 
-    /// Appends a reply of a node that has none for this poll. After want of memory all is as before.
+    /// Appends a reply of a node that has none for this poll. On want of memory all stays as it was.
     pub(crate) fn push(&mut self, reply: Held) -> Result<(), AllocError>
         requires { holds_in (items_of self.old) reply.number reply.node ≡ false }
         ensures ok { OnOk result (self.new ≡ self.old ++ (reply, New) ∷ []) }

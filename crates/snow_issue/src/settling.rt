@@ -48,8 +48,8 @@ impl Queue {
         self.waiting.first(Mark::Ripe)
     }
 
-    /// Where the one block stands of which nothing is remembered, if it is ready: mostly the child of
-    /// the block that was issued last. Then none is hopeless, and it is the earliest ready one.
+    /// Returns where the only block marked `New` stands, if it is ready: mostly the child of the
+    /// block that was issued last. Then none is hopeless, and it is the earliest ready one.
     pub(crate) fn lone_ready<B: Board>(&self, board: &B) -> Option<usize>
         requires { Knows self.now (B.board board.now) }
         ensures there { IfSome result (λ at. at < length self.now.seats) }

@@ -9,8 +9,9 @@ const MOST_LISTS: usize = 4_096;
 // How many bytes those that are kept have, at most.
 const MOST_BYTES: usize = 256;
 
-/// The room of bytes of blocks that went, for such that come: at most 4,096 lists, each of which had at
-/// most 256 bytes. No contract tells what is kept.
+/// The room of bytes of blocks that went, for blocks that come: at most 4,096 lists, each of which
+/// had at most 256 bytes. Contracts don't see it.
+/// Rule: this project's own.
 #[derive(Drop)]
 pub struct SpareBytes {
     lists: Vec<Bytes>,
@@ -18,7 +19,8 @@ pub struct SpareBytes {
 }
 
 impl SpareBytes {
-    /// No room is kept. It takes no memory.
+    /// Returns no room. It takes no memory.
+    /// Rule: this project's own.
     pub fn none(alloc: Global) -> Self {
         SpareBytes {
             lists: Vec::new(alloc),
@@ -26,7 +28,9 @@ impl SpareBytes {
         }
     }
 
-    /// The list of these bytes. It takes memory where they don't fit into what is kept.
+    /// Returns the list of these bytes. It takes memory where they don't fit into the room that it
+    /// uses. On want of memory it returns `AllocError`.
+    /// Rule: this project's own.
     pub fn list(&mut self, bytes: &[u8]) -> Result<Bytes, AllocError>
         ensures { IfOk result (λ list. list ≡ bytes.now) }
     {
@@ -39,8 +43,9 @@ impl SpareBytes {
         }
     }
 
-    /// Bytes that nobody wants any more: their room is kept, if they are few, and fewer than 4,096 lists
-    /// are kept. Where there is no memory to keep it, it is let go.
+    /// Keeps the room of bytes that nobody wants any more, where they are at most 256 and fewer
+    /// than 4,096 lists are kept. On want of memory to keep it, it lets the room go.
+    /// Rule: this project's own.
     pub fn keep(&mut self, bytes: Bytes) {
         if bytes.list().len() <= MOST_BYTES && self.lists.len() < MOST_LISTS {
             let _ = self.lists.push(bytes);

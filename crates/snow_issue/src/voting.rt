@@ -8,17 +8,19 @@ use snow_base::Id;
 use snow_plain::Board;
 
 impl Queue {
-    /// The vote that a reply gives: a pending block is itself, the last accepted one gives none, and
-    /// a gone one is replaced by the parent of its latest entry, at most 8,192 times. None where
-    /// this leads to no pending block.
+    /// Returns the vote that a reply gives. A pending block is its own vote, and the last accepted
+    /// one gives none. A gone block is replaced by the parent of its latest entry, at most 8,192
+    /// times. It returns `None` where this leads to no pending block.
+    /// Rule: AvalancheGo, snow/engine/snowman.
     pub fn bubble<B: Board>(&self, id: &Id, board: &B) -> Option<Id>
         ensures { result ≡ bubbled (lists_of self.now) (B.board board.now) id.now }
     {
         bubbling::bubble(&self.gone, board, id)
     }
 
-    /// Whether a reply gives the very block that it names as its vote, and may be counted as it comes:
-    /// the block is pending, and neither waits nor is asked for. Mostly that is so.
+    /// Returns whether a reply's vote is the very block that it names and may be counted as it
+    /// comes: the block is pending, and neither waits nor is asked for. Mostly that is so.
+    /// Rule: AvalancheGo, snow/engine/snowman.
     #[inline(always)]
     pub fn is_own_vote<B: Board>(&self, id: &Id, board: &B) -> bool
         ensures is { result ≡ is_own_vote (lists_of self.now) (B.board board.now) id.now }
@@ -30,8 +32,10 @@ impl Queue {
         bubbling::is_pending(board, id)
     }
 
-    /// The vote of a reply that may be counted as it comes, where nothing else is to be done. None
-    /// where its block waits, is asked for, or is to be asked for: such a reply is to be held.
+    /// Returns the vote of a reply that may be counted as it comes, where nothing else is to be
+    /// done. The vote may be none. It returns `None` where the reply has to be held: its block
+    /// waits, is asked for, or is to be asked for.
+    /// Rule: AvalancheGo, snow/engine/snowman.
     #[inline(always)]
     pub fn vote_at_once<B: Board>(&self, id: &Id, board: &B) -> Option<Option<Id>>
         ensures { result ≡ vote_at_once (lists_of self.now) (B.board board.now) id.now }
@@ -42,7 +46,7 @@ impl Queue {
         self.vote_found(id, board)
     }
 
-    // The same, whatever its block is.
+    // The vote at once, whatever the reply's block is.
     #[inline(never)]
     fn vote_found<B: Board>(&self, id: &Id, board: &B) -> Option<Option<Id>>
         ensures { result ≡ vote_at_once (lists_of self.now) (B.board board.now) id.now }

@@ -20,8 +20,8 @@ impl Keyed for Waiting {
     }
 }
 
-/// The waiting blocks in order of arrival, each with what is remembered of it, and indexes by parent
-/// and by identifier.
+/// The waiting blocks in order of arrival, each with its mark, and indexes by parent and by
+/// identifier.
 #[derive(Drop)]
 pub(crate) struct WaitingList {
     lineup: Lineup<Waiting>,
@@ -46,7 +46,7 @@ impl Model for WaitingList {
 impl WaitingList {
     ghost use Rattle.snow_lineup.specs.declared.marks.Mark.TheVariants.{New};
 
-    /// No block waits. It takes no memory.
+    /// Returns no block. It takes no memory.
     pub(crate) fn new(alloc: Global) -> Self
         ensures { result ≡ [] }
     {
@@ -62,7 +62,7 @@ impl WaitingList {
         self.lineup.len()
     }
 
-    /// Whether a block waits.
+    /// Returns whether a block waits.
     pub(crate) fn waits(&self, id: &Id) -> bool
         ensures { result ≡ waits_among (items_of self.now) id.now }
     {
@@ -72,7 +72,7 @@ impl WaitingList {
         self.has_height(id)
     }
 
-    // The same by the index.
+    // Whether a block waits, by the index.
     #[inline(never)]
     fn has_height(&self, id: &Id) -> bool
         ensures { result ≡ waits_among (items_of self.now) id.now }
@@ -80,8 +80,8 @@ impl WaitingList {
         self.heights.contains_key(id)
     }
 
-    /// Whether the parent of a block waits, at the height right below it. Where it was asked for, it
-    /// mostly came last.
+    /// Returns whether the parent of a block waits, at the height right below it. Where it was
+    /// asked for, it mostly came last.
     pub(crate) fn waits_below(&self, child: &Header) -> bool
         ensures { result ≡ waits_below (items_of self.now) child.now }
     {
@@ -96,7 +96,7 @@ impl WaitingList {
         self.has_height_below(child)
     }
 
-    // The same by the index.
+    // Whether its parent waits right below it, by the index.
     #[inline(never)]
     fn has_height_below(&self, child: &Header) -> bool
         ensures { result ≡ waits_below (items_of self.now) child.now }
@@ -107,7 +107,7 @@ impl WaitingList {
         }
     }
 
-    /// Appends a block that doesn't wait yet. After want of memory all is as before.
+    /// Appends a block that doesn't wait yet. On want of memory all stays as it was.
     #[inline(never)]
     pub(crate) fn push(&mut self, block: Waiting) -> Result<(), AllocError>
         requires { waits_among (items_of self.old) block.header.id ≡ false }
@@ -127,7 +127,8 @@ impl WaitingList {
         }
     }
 
-    /// Whether it is plain that something is remembered of each block, and that none is ripe.
+    /// Returns `true` only where each block is marked and none is ripe. It may return `false` there
+    /// too.
     pub(crate) fn rests(&self) -> bool
         ensures new { result ≡ true → NoneNew self.now }
         ensures ripe { result ≡ true → NoneRipe self.now }
@@ -135,8 +136,8 @@ impl WaitingList {
         self.lineup.rests()
     }
 
-    /// Where the one block stands of which nothing is remembered, where it is plain that there is no
-    /// other and that none is ripe.
+    /// Returns where the only block marked `New` stands, where no block is ripe. It may return
+    /// `None` there too.
     pub(crate) fn lone(&self) -> Option<usize>
         ensures there { IfSome result (λ at. at < length self.now) }
         ensures new { IfSome result (λ at. IsOnlyAt New self.now at) }
@@ -145,7 +146,7 @@ impl WaitingList {
         self.lineup.lone()
     }
 
-    /// Where the first block with this mark stands, or how many blocks there are.
+    /// Returns where the first block with this mark stands, or how many blocks there are.
     pub(crate) fn first(&mut self, mark: Mark) -> usize
         ensures at { result ≡ position_or_len (has mark) self.old }
         ensures same { self.new ≡ self.old }
@@ -153,7 +154,7 @@ impl WaitingList {
         self.lineup.first(mark)
     }
 
-    /// What the block at a place says of itself.
+    /// Returns what the block at a place says of itself.
     pub(crate) fn header(&self, at: usize) -> &Header
         requires { at < length self.now }
         ensures { HoldsAt (λ s. result.now ≡ s.0.header) self.now at }
@@ -161,7 +162,7 @@ impl WaitingList {
         &self.lineup.item(at).header
     }
 
-    /// Remembers something of the block at a place.
+    /// Marks the block at a place.
     pub(crate) fn set(&mut self, at: usize, mark: Mark)
         requires { at < length self.old }
         ensures { HoldsAt (λ s. self.new ≡ slice_set self.old at (s.0, mark)) self.old at }
@@ -169,7 +170,7 @@ impl WaitingList {
         self.lineup.set(at, mark);
     }
 
-    /// Takes the block at a place out. It takes no memory.
+    /// Takes the block at a place out and returns it. It takes no memory.
     pub(crate) fn take(&mut self, at: usize) -> Waiting
         requires { at < length self.old }
         ensures taken { HoldsAt (λ s. result ≡ s.0) self.old at }
@@ -179,14 +180,14 @@ impl WaitingList {
         self.lineup.take(at)
     }
 
-    /// Forgets what is remembered of a block's children.
+    /// Marks a block's children `New`.
     pub(crate) fn wake(&mut self, parent: &Id)
         ensures { self.new ≡ map (woken (λ w. w.header.parent) parent.now) self.old }
     {
         self.lineup.wake(parent);
     }
 
-    /// Forgets what is remembered of any block.
+    /// Marks each block `New`.
     pub(crate) fn forget_marks(&mut self)
         ensures { self.new ≡ map forgotten self.old }
     {

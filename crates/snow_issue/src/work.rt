@@ -1,6 +1,7 @@
 use snow_base::{Bytes, Header, Id, NodeId};
 
-/// A block that waits, and the node that sent it.
+/// A block that waits, of at most 65,536 bytes, and the node that sent it.
+/// Rule: AvalancheGo, snow/engine/snowman.
 #[derive(Debug, Drop)]
 pub struct Waiting {
     pub node: NodeId,
@@ -8,7 +9,8 @@ pub struct Waiting {
     pub bytes: Bytes,
 }
 
-/// A block that was asked of a node under a number, and hasn't come yet.
+/// A block for which a node was asked under a number from 1 to 2^32-1, and that hasn't come yet.
+/// Rule: AvalancheGo, snow/engine/snowman.
 #[derive(Clone, Copy, Debug, PartialEq, Eq)]
 pub struct Get {
     pub number: u32,
@@ -16,7 +18,8 @@ pub struct Get {
     pub id: Id,
 }
 
-/// A node's reply to a poll that names a block which waits or is asked for.
+/// A node's reply to the poll of this number, which names a block that waits or is asked for.
+/// Rule: AvalancheGo, snow/engine/snowman.
 #[derive(Clone, Copy, Debug, PartialEq, Eq)]
 pub struct Held {
     pub number: u32,
@@ -24,7 +27,8 @@ pub struct Held {
     pub id: Id,
 }
 
-/// What becomes of a block that is offered.
+/// What `Queue::offer` did with a block.
+/// Rule: AvalancheGo, snow/engine/snowman.
 #[derive(Clone, Copy, Debug, PartialEq, Eq)]
 pub enum Offered {
     /// It is on the board or waits already.
@@ -39,7 +43,8 @@ pub enum Offered {
     Waits { ask: Option<Id> },
 }
 
-/// One step of settling, with the block or the reply that was taken out for it.
+/// One step of settling, with the block or the reply that `Queue::next_work` took out for it.
+/// Rule: AvalancheGo, snow/engine/snowman.
 #[derive(Debug, Drop)]
 pub enum Work {
     /// No one can bring the parent of this block any more.

@@ -11,10 +11,10 @@ use std::alloc::{AllocError, Global};
 use std::marker::Model;
 
 /// The ledger chain. A block is its parent of 32 bytes, its height of 8, a count of 2, and so many
-/// transfers of 20 bytes; its identifier is the SHA-256 digest of all its bytes. A state is the balance
-/// and the next sequence of each account, whose balances add up to at most 2^64-1, and a block is valid
-/// where each of its transfers is good after those before it. The kind is this project's own, and the
-/// digest that of FIPS 180-4.
+/// transfers of 20 bytes; its identifier is the SHA-256 digest of all its bytes. A state is the
+/// balance and the next sequence of each account, and the balances add up to less than 2^64. A
+/// block is valid where each of its transfers is good after those before it.
+/// Rule: this project's own and FIPS 180-4.
 #[derive(Drop)]
 pub struct LedgerChain {
     states: States,
@@ -37,22 +37,25 @@ impl LedgerChain {
     ghost use Rattle.snow_ledger.specs.Ledger as ledger;
     ghost use Rattle.snow_ledger.specs.Law.{followed, transfers_along};
 
-    /// The states that it holds.
+    /// Returns the states that it holds.
+    /// Rule: this project's own.
     pub fn states(&self) -> &States
         ensures { result.now ≡ self.now }
     {
         &self.states
     }
 
-    /// How many accounts the state of the last accepted block has.
+    /// Returns how many accounts the state of the last accepted block has.
+    /// Rule: this project's own.
     pub fn accounts(&self) -> usize
         ensures { result ≡ ledger.accounts (last_state self.now) }
     {
         self.last_state().len() / 2
     }
 
-    /// The balance of an account, counted from 0, in the state of the last accepted block. There is none
-    /// exactly where there is no such account.
+    /// Returns the balance, below 2^64, of an account, counted from 0, in the state of the last
+    /// accepted block. It returns `None` exactly where there is no such account.
+    /// Rule: this project's own.
     pub fn balance(&self, account: usize) -> Option<u64>
         ensures held { result ≡ (if nat_lt account (ledger.accounts (last_state self.now)) then Some (ledger.held (last_state self.now) account) else None) }
         // After a path of valid blocks it is what all their transfers leave of the first balance.
@@ -65,8 +68,9 @@ impl LedgerChain {
         Some(self.last_state()[2 * account])
     }
 
-    /// The next sequence of an account, counted from 0, in the state of the last accepted block. There is
-    /// none exactly where there is no such account.
+    /// Returns the next sequence, below 2^64, of an account, counted from 0, in the state of the
+    /// last accepted block. It returns `None` exactly where there is no such account.
+    /// Rule: this project's own.
     pub fn sequence(&self, account: usize) -> Option<u64>
         ensures next { result ≡ (if nat_lt account (ledger.accounts (last_state self.now)) then Some (ledger.next_in (last_state self.now) account) else None) }
         // After a path of valid blocks it is what all their transfers make of the first sequence.

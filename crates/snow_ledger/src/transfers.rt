@@ -1,5 +1,6 @@
-/// A transfer of an amount from one account to another. Accounts are counted from 0, and the sequence
-/// numbers the transfers of the sender. In a block it takes 20 bytes.
+/// A transfer of an amount below 2^64 from one account to another. Accounts are counted from 0,
+/// below 2^16, and the sequence numbers the transfers of the sender. In a block it takes 20 bytes.
+/// Rule: this project's own.
 #[derive(Clone, Copy, Debug, PartialEq, Eq)]
 pub struct Transfer {
     /// The account that sends.

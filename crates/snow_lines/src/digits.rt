@@ -4,7 +4,9 @@ ghost use Rattle.hex.specs.Hex.{encode_lower, lower_digits};
 use crate::lanes::{write_last_four, write_sixteen};
 use snow_base::{Id, NodeId};
 
-/// Writes the lower-case hexadecimal digits of bytes over a slice of just their length.
+/// Writes the lower-case hexadecimal digits of bytes over a slice of just their length, which is
+/// twice that of the bytes.
+/// Rule: this project's own.
 pub fn write_hex(bytes: &[u8], digits: &mut [u8])
     requires { length digits.old ≡ 2 * length bytes.now }
     ensures { digits.new ≡ encode_lower bytes.now }
@@ -29,7 +31,8 @@ fn digit(value: u8) -> u8
     }
 }
 
-/// Writes the digits of an identifier over a slice of just their length.
+/// Writes the digits of an identifier over a slice of 64 bytes.
+/// Rule: this project's own.
 #[tactic(auto, using(crate::proofs::Encoded::digits_append))]
 #[inline(always)]
 pub fn write_id(id: &Id, digits: &mut [u8])
@@ -42,8 +45,9 @@ pub fn write_id(id: &Id, digits: &mut [u8])
     write_sixteen(back, back_digits);
 }
 
-/// Writes the digits of a node over a slice of just their length. Those of its last four bytes are
-/// looked up in the table with the twelve before them.
+/// Writes the digits of a node over a slice of 40 bytes. It looks those of the last four bytes up
+/// in the table with the twelve before them.
+/// Rule: this project's own.
 #[tactic(auto, using(crate::proofs::Encoded::node_parts))]
 #[inline(always)]
 pub fn write_node(node: &NodeId, digits: &mut [u8])
@@ -58,7 +62,8 @@ pub fn write_node(node: &NodeId, digits: &mut [u8])
     write_last_four(last, last_digits);
 }
 
-/// The digits of an identifier.
+/// Returns the 64 digits of an identifier.
+/// Rule: this project's own.
 pub fn id_digits(id: &Id) -> [u8; 64]
     ensures { result ≡ encode_lower id.now }
 {
@@ -67,7 +72,8 @@ pub fn id_digits(id: &Id) -> [u8; 64]
     digits
 }
 
-/// The digits of a node.
+/// Returns the 40 digits of a node.
+/// Rule: this project's own.
 pub fn node_digits(node: &NodeId) -> [u8; 40]
     ensures { result ≡ encode_lower node.now }
 {
@@ -76,7 +82,9 @@ pub fn node_digits(node: &NodeId) -> [u8; 40]
     digits
 }
 
-/// A mark and a number in decimal behind it, written at the end of a buffer.
+/// Writes a mark and a number below 2^64 in decimal behind it at the end of a buffer, and returns
+/// them, at most 21 bytes.
+/// Rule: this project's own.
 #[tactic(auto, using(crate::proofs::Figures::decimal_short))]
 pub fn marked(mark: u8, number: u64, buffer: &mut [u8; 21]) -> &[u8]
     ensures text { result.now ≡ mark ∷ decimal number }
@@ -87,8 +95,9 @@ pub fn marked(mark: u8, number: u64, buffer: &mut [u8; 21]) -> &[u8]
     &buffer[start - 1..]
 }
 
-/// A mark and a number in decimal behind it, at the front of a piece of a known length, and how long they
-/// are.
+/// Writes a mark of at most 6 bytes and a number below 2^32 in decimal behind it to the front of a
+/// piece of 16 bytes. It returns the piece, and how long the text is, at most 16 bytes.
+/// Rule: this project's own.
 #[tactic(auto, using(crate::proofs::Figures::decimal_shorter))]
 #[inline(always)]
 pub fn marked_short<'a, const M: usize>(
@@ -107,7 +116,9 @@ pub fn marked_short<'a, const M: usize>(
     (&buffer[start - M..start - M + 16], 16 - start + M)
 }
 
-/// The same of a number of 64 bits.
+/// Writes a mark of at most 12 bytes and a number below 2^64 in decimal behind it to the front of a
+/// piece of 32 bytes. It returns the piece, and how long the text is, at most 32 bytes.
+/// Rule: this project's own.
 #[tactic(auto, using(crate::proofs::Figures::decimal_short))]
 #[inline(always)]
 pub fn marked_long<'a, const M: usize>(

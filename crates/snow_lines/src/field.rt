@@ -10,11 +10,13 @@ use snow_sample::Draw;
 use std::alloc::{AllocError, Global};
 
 /// What a word of a line can stand for.
+/// Rule: this project's own.
 pub trait Field: Sized {
     /// What a word stands for.
     ghost read: { List ℕ → Option Self };
 
-    /// What this word stands for.
+    /// Returns what this word stands for, or `None` where it stands for no such thing.
+    /// Rule: this project's own.
     fn of(word: &[u8]) -> Option<Self>
         ensures { result ≡ read word.now };
 }
@@ -89,7 +91,9 @@ impl Field for NodeId {
     }
 }
 
-/// The draw whose word it is.
+/// Returns the draw whose word this is, with a count of at least 1, or `None` where it is no
+/// draw's.
+/// Rule: this project's own.
 #[tactic(auto, unfolding(crate::specs::Reading::draw_of))]
 pub fn draw(word: &[u8]) -> Option<Draw>
     ensures draw { result ≡ draw_of word.now }
@@ -134,7 +138,9 @@ fn drawn(draw: Draw, word: &[u8]) -> Option<Draw>
     }
 }
 
-/// The block whose word it is.
+/// Returns the block whose word this is, or `None` where it is no block's. On want of memory it
+/// returns `AllocError`.
+/// Rule: this project's own.
 #[tactic(auto, unfolding(crate::specs::Reading::block_of))]
 pub fn block(alloc: Global, word: &[u8]) -> Result<Option<Bytes>, AllocError>
     ensures { IfOk result (λ r. r ≡ block_of word.now) }

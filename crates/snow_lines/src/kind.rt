@@ -3,6 +3,7 @@ ghost use Rattle.std.specs.Str.{bytes_eq};
 ghost use Rattle.snow_lines.specs.Names.{answering, asking, kind_in, telling};
 
 /// The kinds of lines.
+/// Rule: this project's own.
 #[derive(Clone, Copy)]
 pub enum Kind {
     Query,
@@ -29,7 +30,8 @@ impl Kind {
     ghost use Rattle.std.specs.Prelude.{◌≡◌, ◌≤◌, length};
     ghost use Rattle.snow_lines.specs.Names.{line_kind_of, line_name};
 
-    /// The word with which the lines of this kind begin.
+    /// Returns the word with which the lines of this kind begin, at most 12 bytes.
+    /// Rule: this project's own.
     pub fn word(&self) -> &'static [u8]
         ensures word { result.now ≡ line_name self.now }
         ensures short { length result.now ≤ 12 }
@@ -56,7 +58,8 @@ impl Kind {
         }
     }
 
-    /// The kind of the lines that begin with this word.
+    /// Returns the kind of the lines that begin with this word, or `None` where no line does.
+    /// Rule: this project's own.
     pub fn of(word: &[u8]) -> Option<Self>
         ensures { result ≡ line_kind_of word.now }
     {
@@ -67,7 +70,7 @@ impl Kind {
     }
 }
 
-// The same among the kinds that don't ask.
+// The kind among those that don't ask.
 fn not_asking(word: &[u8]) -> Option<Kind>
     ensures { result ≡ kind_in (telling ++ answering) word.now }
 {
@@ -77,7 +80,7 @@ fn not_asking(word: &[u8]) -> Option<Kind>
     }
 }
 
-// The same among the kinds that ask nodes.
+// The kind among those that ask nodes.
 fn asking(word: &[u8]) -> Option<Kind>
     ensures { result ≡ kind_in asking word.now }
 {
@@ -96,7 +99,7 @@ fn asking(word: &[u8]) -> Option<Kind>
     }
 }
 
-// The same among the kinds that tell what was done.
+// The kind among those that tell what was done.
 fn telling(word: &[u8]) -> Option<Kind>
     ensures { result ≡ kind_in telling word.now }
 {
@@ -121,7 +124,7 @@ fn telling(word: &[u8]) -> Option<Kind>
     }
 }
 
-// The same among the kinds that answer peers.
+// The kind among those that answer peers.
 fn answering(word: &[u8]) -> Option<Kind>
     ensures { result ≡ kind_in answering word.now }
 {
@@ -140,7 +143,7 @@ fn answering(word: &[u8]) -> Option<Kind>
     }
 }
 
-/// Whether a word is this name.
+/// Returns whether a word is this name.
 pub(crate) fn is(word: &[u8], name: &[u8]) -> bool
     ensures { result ≡ bytes_eq word.now name.now }
 {

@@ -8,7 +8,7 @@ use std::simd::prelude::*;
 /// The sixteen digits.
 const DIGITS: [u8; 16] = *b"0123456789abcdef";
 
-/// The digit of the high four bits of each byte.
+/// Returns the digit of the high four bits of each byte.
 #[inline(always)]
 fn high_digits(bytes: u8x16) -> u8x16
     ensures { result ≡ map (λ b. slice_index lower_digits (b / 16)) bytes }
@@ -16,7 +16,7 @@ fn high_digits(bytes: u8x16) -> u8x16
     u8x16::from_array(DIGITS).swizzle_dyn(bytes >> u8x16::splat(4))
 }
 
-/// The digit of the low four bits of each byte.
+/// Returns the digit of the low four bits of each byte.
 #[inline(always)]
 fn low_digits(bytes: u8x16) -> u8x16
     ensures { result ≡ map (λ b. slice_index lower_digits (b % 16)) bytes }
@@ -24,7 +24,7 @@ fn low_digits(bytes: u8x16) -> u8x16
     u8x16::from_array(DIGITS).swizzle_dyn(bytes & u8x16::splat(15))
 }
 
-/// The digits of sixteen bytes: those of the first eight, and those of the others.
+/// Returns the digits of sixteen bytes: those of the first eight, and those of the others.
 #[inline(always)]
 fn digits_of(bytes: u8x16) -> (u8x16, u8x16)
     ensures digits { result.0 ++ result.1 ≡ encode_lower bytes }
@@ -54,7 +54,8 @@ fn put(lanes: u8x16, place: &mut [u8])
     lanes.copy_to_slice(place);
 }
 
-/// Writes the digits of sixteen bytes over a slice of just their length.
+/// Writes the digits of 16 bytes over a slice of 32 bytes.
+/// Rule: this project's own.
 #[tactic(auto, using(crate::proofs::Sixteen::whole))]
 #[inline(always)]
 pub fn write_sixteen(bytes: &[u8], digits: &mut [u8])
@@ -78,7 +79,8 @@ fn put_last(lanes: u8x16, place: &mut [u8])
     last.copy_to_slice(place);
 }
 
-/// Writes the digits of the last four of sixteen bytes over a slice of just their length.
+/// Writes the digits of the last four of 16 bytes over a slice of 8 bytes.
+/// Rule: this project's own.
 #[inline(always)]
 pub fn write_last_four(bytes: &[u8], digits: &mut [u8])
     requires bytes { length bytes.now ≡ 16 }

@@ -2,8 +2,10 @@ use crate::why::{DropWhy, QueryWhy, RestartWhy, SkipKind};
 use snow_base::{Blocks, Bytes, Id, Ids, Items, NodeId};
 use snow_sample::Draws;
 
-/// A line of output. Those that hold a list stand last, so that one test tells that a line has nothing to
-/// let go.
+/// A line of output. A frame's number is below 2^64, a request's below 2^32; a node has 20 bytes
+/// and an identifier 32. The variants that hold a list stand last, so that one test tells that a
+/// line has nothing to free.
+/// Rule: this project's own.
 #[derive(Drop)]
 pub enum Line {
     /// A node is asked for a block.
@@ -101,5 +103,6 @@ pub enum Line {
     },
 }
 
-/// Lines in the order in which they are written.
+/// A list of lines in the order in which they are written.
+/// Rule: this project's own.
 pub type Lines = Items<Line>;

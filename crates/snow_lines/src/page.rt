@@ -11,12 +11,12 @@ use snow_base::{Failed, Sink, write_whole};
 use std::alloc::{AllocError, Global};
 use std::marker::Model;
 
-/// So many bytes a page has at most.
+/// A page has at most so many bytes.
 const ROOM: usize = 65_536;
 
-/// Text of lines that waits to be written, of at most 65,536 bytes. A new page takes the memory for
-/// all of them, and no later call takes any: it is filled once, so that bytes are only put over others.
-/// Contracts see the bytes that wait.
+/// Text of lines that waits to be written, at most 65,536 bytes. A new page takes the memory for
+/// all of them, and no later call takes any. Contracts see the bytes that wait.
+/// Rule: this project's own.
 #[derive(Drop)]
 pub struct Page {
     bytes: Vec<u8>,
@@ -34,7 +34,8 @@ impl Model for Page {
 }
 
 impl Page {
-    /// A page on which nothing waits. It fails for want of memory alone.
+    /// Returns a page on which nothing waits. On want of memory it returns `AllocError`.
+    /// Rule: this project's own.
     pub fn new(alloc: Global) -> Result<Self, AllocError>
         ensures { IfOk result (λ page. page ≡ []) }
     {
@@ -42,9 +43,11 @@ impl Page {
         Ok(Page { bytes, len: 0 })
     }
 
-    /// Appends a line. Where there is no room for a piece of it, what waits is written first, all at
-    /// once. At `Failed` a front of what waited and of the line was written, and what then waits is
-    /// left open.
+    /// Appends a line. Where there is no room for a piece of it, it writes what waits first, all at
+    /// once. It returns `Failed` only where the sink's count of faults rose or stands at 2^64-1. A
+    /// front of what waited and of the line was written then, and the contract leaves open what
+    /// waits.
+    /// Rule: this project's own.
     #[inline(always)]
     pub fn print<K: Sink>(&mut self, line: &Line, sink: &mut K) -> Result<(), Failed>
         ensures ok { OnOk result (Gathers (K.written sink.old) self.old (K.written sink.new) self.new (text line.now)) }
@@ -54,8 +57,9 @@ impl Page {
         put_line(self, line, sink)
     }
 
-    /// Appends lines, one after another, as `print` does. It is put in place up to where there is a line, since
-    /// most frames have none.
+    /// Appends lines, one after another, as `print` does, and fails as it does. Its test whether
+    /// there is a line stands where it is called, since most frames have none.
+    /// Rule: this project's own.
     #[tactic(auto, using(crate::proofs::Waiting::gathers_none))]
     #[inline(always)]
     pub fn print_all<K: Sink>(&mut self, lines: &[Line], sink: &mut K) -> Result<(), Failed>
@@ -69,7 +73,7 @@ impl Page {
         self.print_some(lines, sink)
     }
 
-    /// The same, whether or not there are lines.
+    /// Appends lines, where it isn't known whether there are any.
     #[tactic(auto, using(crate::proofs::Waiting::gathers_none))]
     #[inline(never)]
     fn print_some<K: Sink>(&mut self, lines: &[Line], sink: &mut K) -> Result<(), Failed>
@@ -83,8 +87,10 @@ impl Page {
         Ok(())
     }
 
-    /// Writes what waits, so that nothing waits any more. Where nothing waits the sink isn't called.
-    /// At `Failed` a front of it was written, and the page is as before.
+    /// Writes what waits, so that nothing waits any more. Where nothing waits it doesn't call the
+    /// sink. It returns `Failed` only where the sink's count of faults rose or stands at 2^64-1; a
+    /// front of what waits was written then, and the page stays as it was.
+    /// Rule: this project's own.
     #[inline(never)]
     pub fn flush<K: Sink>(&mut self, sink: &mut K) -> Result<(), Failed>
         ensures ok { OnOk result (Appends (K.written sink.old) (K.written sink.new) self.old) }
@@ -135,7 +141,7 @@ impl Page {
     }
 }
 
-/// So many bytes.
+/// Returns so many bytes, all zero.
 fn filled(alloc: Global, len: usize) -> Result<Vec<u8>, AllocError>
     ensures { IfOk result (λ bytes. vec_len bytes ≡ len) }
 {

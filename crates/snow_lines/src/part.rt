@@ -14,11 +14,15 @@ use snow_base::{Bytes, Failed, Id, NodeId, Sink};
 use snow_sample::Draw;
 
 /// A part of a line. Each but the first word begins with a space.
+/// Rule: this project's own.
 pub trait Part {
     /// Its bytes.
     ghost text: { Self → List ℕ };
 
-    /// Appends it to the bytes that wait. At `Failed` a front of both was written.
+    /// Appends the part's text to the bytes that wait. It returns `Failed` only where the sink's
+    /// count of faults rose or stands at 2^64-1; a front of what waited and of the text was written
+    /// then.
+    /// Rule: this project's own.
     fn put_into<G: Gather, K: Sink>(&self, out: &mut G, sink: &mut K) -> Result<(), Failed>
         ensures ok { OnOk result (Gathers (K.written sink.old) (G.waiting out.old) (K.written sink.new) (G.waiting out.new) (text self.now)) }
         ensures err { OnErr result (AppendsFront (K.written sink.old) (K.written sink.new) (G.waiting out.old ++ text self.now)) }
@@ -95,6 +99,7 @@ impl Part for Times {
 }
 
 /// The first word of a line that asks a node for a block, and the number of the get.
+/// Rule: this project's own.
 #[derive(Drop)]
 pub struct Get(pub u32);
 
@@ -108,6 +113,7 @@ impl Part for Get {
 }
 
 /// The first word of a line of a frame that is passed over, and the number of the frame.
+/// Rule: this project's own.
 #[derive(Drop)]
 pub struct Skipped(pub u64);
 
@@ -123,6 +129,7 @@ impl Part for Skipped {
 }
 
 /// Why a frame is passed over, which is the last word of its line, with its newline.
+/// Rule: this project's own.
 #[derive(Drop)]
 pub struct LastKind(pub SkipKind);
 
@@ -165,6 +172,7 @@ impl Part for Id {
 }
 
 /// A node and an identifier, which are the last words of a line, with its newline.
+/// Rule: this project's own.
 #[derive(Drop)]
 pub struct NodeAndId<'a>(pub &'a NodeId, pub &'a Id);
 
@@ -199,7 +207,7 @@ impl Part for Draw {
     }
 }
 
-/// The word of a draw whose count has one digit, behind a space.
+/// Returns the word of a draw whose count has one digit, behind a space.
 #[inline(always)]
 fn short_word(draw: &Draw) -> [u8; 43]
     requires { draw.now.count < 10 }
@@ -224,7 +232,7 @@ impl Part for Bytes {
     }
 }
 
-/// So many bytes of a block have their digits made at a time.
+/// The digits of so many bytes of a block are made at a time.
 const SOME: usize = 64;
 
 /// Appends the digits of bytes.
@@ -260,7 +268,9 @@ fn put_some<G: Gather, K: Sink>(
     out.put(digits, sink)
 }
 
-/// Appends one part and then another.
+/// Appends one part and then another. It returns `Failed` as `Part::put_into` does, with a front of
+/// the text written.
+/// Rule: this project's own.
 pub fn put_two<A: Part, B: Part, G: Gather, K: Sink>(
     out: &mut G,
     a: &A,
@@ -275,7 +285,8 @@ pub fn put_two<A: Part, B: Part, G: Gather, K: Sink>(
     b.put_into(out, sink)
 }
 
-/// Appends one part and then two.
+/// Appends one part and then two, and fails as `put_two` does.
+/// Rule: this project's own.
 pub fn put_three<A: Part, B: Part, C: Part, G: Gather, K: Sink>(
     out: &mut G,
     a: &A,
@@ -291,8 +302,9 @@ pub fn put_three<A: Part, B: Part, C: Part, G: Gather, K: Sink>(
     put_two(out, b, c, sink)
 }
 
-/// Appends one part and then three. It is put in place, so that the word of a line is known where it is
-/// written.
+/// Appends one part and then three, and fails as `put_two` does. The compiler puts it where it is
+/// called, so that the word of a line is known where it is written.
+/// Rule: this project's own.
 #[inline(always)]
 pub fn put_four<A: Part, B: Part, C: Part, D: Part, G: Gather, K: Sink>(
     out: &mut G,
@@ -310,7 +322,8 @@ pub fn put_four<A: Part, B: Part, C: Part, D: Part, G: Gather, K: Sink>(
     put_three(out, b, c, d, sink)
 }
 
-/// Appends one part and then four.
+/// Appends one part and then four, and fails as `put_two` does.
+/// Rule: this project's own.
 pub fn put_five<A: Part, B: Part, C: Part, D: Part, E: Part, G: Gather, K: Sink>(
     out: &mut G,
     a: &A,
@@ -328,7 +341,8 @@ pub fn put_five<A: Part, B: Part, C: Part, D: Part, E: Part, G: Gather, K: Sink>
     put_four(out, b, c, d, e, sink)
 }
 
-/// Appends parts, one after another.
+/// Appends parts, one after another, and fails as `put_two` does. Of no parts it appends nothing.
+/// Rule: this project's own.
 #[tactic(auto, using(crate::proofs::Waiting::gathers_none))]
 pub fn put_all<T: Part, G: Gather, K: Sink>(
     out: &mut G,

@@ -16,7 +16,10 @@ use crate::whole::word_and_id;
 use crate::why::QueryWhy;
 use snow_base::{Failed, Sink};
 
-/// Writes a line, a piece at a time. At `Failed` a front of it was written. It takes no memory.
+/// Writes a line with its newline, a piece at a time. It returns `Failed` only where the sink's
+/// count of faults rose or stands at 2^64-1; a front of the line was written then. It takes no
+/// memory.
+/// Rule: this project's own.
 #[tactic(auto, using(crate::proofs::Waiting::gathers_whole))]
 pub fn print<K: Sink>(line: &Line, sink: &mut K) -> Result<(), Failed>
     ensures ok { OnOk result (Appends (K.written sink.old) (K.written sink.new) (text line.now)) }
@@ -26,7 +29,9 @@ pub fn print<K: Sink>(line: &Line, sink: &mut K) -> Result<(), Failed>
     put_line(&mut AtOnce, line, sink)
 }
 
-/// Writes lines, one after another. At `Failed` a front of their text was written.
+/// Writes lines, one after another. It returns `Failed` only where the sink's count of faults rose
+/// or stands at 2^64-1; a front of their text was written then.
+/// Rule: this project's own.
 #[tactic(auto, using(snow_base::proofs::Known::appends_none, snow_base::proofs::Known::appends_then))]
 pub fn print_all<K: Sink>(lines: &[Line], sink: &mut K) -> Result<(), Failed>
     ensures ok { OnOk result (Appends (K.written sink.old) (K.written sink.new) (texts lines.now)) }
@@ -39,8 +44,10 @@ pub fn print_all<K: Sink>(lines: &[Line], sink: &mut K) -> Result<(), Failed>
     Ok(())
 }
 
-/// Appends a line to the bytes that wait. At `Failed` a front of both was written. Those that come most
-/// often are few pieces.
+/// Appends a line to the bytes that wait, in few pieces where the line is one that comes often. It
+/// returns `Failed` only where the sink's count of faults rose or stands at 2^64-1; a front of what
+/// waited and of the line was written then.
+/// Rule: this project's own.
 #[tactic(auto, unfolding(crate::specs::Text::text))]
 #[inline(always)]
 pub fn put_line<G: Gather, K: Sink>(out: &mut G, line: &Line, sink: &mut K) -> Result<(), Failed>

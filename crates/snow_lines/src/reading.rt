@@ -13,8 +13,9 @@ use crate::line::Line;
 use crate::words::Words;
 use std::alloc::{AllocError, Global};
 
-/// The line whose text the bytes are, and none where they are no line's text. It fails for want of
-/// memory alone.
+/// Returns the line whose text the bytes are, newline included, or `None` exactly where they are no
+/// line's text. On want of memory it returns `AllocError`.
+/// Rule: this project's own.
 #[tactic(auto, using(crate::proofs::Again::line_found, crate::proofs::Again::line_only))]
 pub fn read(alloc: Global, bytes: &[u8]) -> Result<Option<Line>, AllocError>
     ensures found { IfOk result (λ r. IfSome r (λ l. IsLine l × (bytes.now ≡ text l))) }

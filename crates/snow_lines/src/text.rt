@@ -5,8 +5,9 @@ use crate::digits::{id_digits, marked};
 use snow_base::Id;
 use std::marker::Model;
 
-/// A short text that is built in place, of at most `ROOM` bytes. It takes no memory. Contracts see its
+/// A short text of at most `ROOM` bytes, built in place. It takes no memory. Contracts see its
 /// bytes.
+/// Rule: this project's own.
 #[derive(Drop)]
 pub struct Text<const ROOM: usize> {
     bytes: [u8; ROOM],
@@ -24,7 +25,8 @@ impl<const ROOM: usize> Model for Text<ROOM> {
 }
 
 impl<const ROOM: usize> Text<ROOM> {
-    /// No bytes.
+    /// Returns the empty text.
+    /// Rule: this project's own.
     pub fn new() -> Self
         ensures { result ≡ [] }
     {
@@ -34,7 +36,8 @@ impl<const ROOM: usize> Text<ROOM> {
         }
     }
 
-    /// Its bytes.
+    /// Returns its bytes, at most `ROOM`.
+    /// Rule: this project's own.
     pub fn as_slice(&self) -> &[u8]
         ensures text { result.now ≡ self.now }
         ensures length { length self.now ≤ ROOM }
@@ -42,7 +45,8 @@ impl<const ROOM: usize> Text<ROOM> {
         &self.bytes[..self.len]
     }
 
-    /// Appends a piece.
+    /// Appends a piece, for which there is room.
+    /// Rule: this project's own.
     pub fn push(&mut self, piece: &[u8])
         requires { length self.old + length piece.now ≤ ROOM }
         ensures text { self.new ≡ self.old ++ piece.now }
@@ -54,7 +58,8 @@ impl<const ROOM: usize> Text<ROOM> {
         self.len = end;
     }
 
-    /// Appends a mark and a number in decimal behind it.
+    /// Appends a mark and a number below 2^64 in decimal behind it. There is room for 21 bytes.
+    /// Rule: this project's own.
     pub fn push_number(&mut self, mark: u8, number: u64)
         requires { length self.old + 21 ≤ ROOM }
         ensures text { self.new ≡ self.old ++ mark ∷ decimal number }
@@ -64,7 +69,8 @@ impl<const ROOM: usize> Text<ROOM> {
         self.push(marked(mark, number, &mut buffer));
     }
 
-    /// Appends a mark and the digits of an identifier behind it.
+    /// Appends a mark and the 64 digits of an identifier behind it. There is room for 65 bytes.
+    /// Rule: this project's own.
     pub fn push_id(&mut self, mark: u8, id: &Id)
         requires { length self.old + 65 ≤ ROOM }
         ensures text { self.new ≡ self.old ++ mark ∷ encode_lower id.now }

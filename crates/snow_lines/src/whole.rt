@@ -7,7 +7,9 @@ ghost use Rattle.snow_lines.specs.Text.{spaced};
 use crate::digits::{write_id, write_node};
 use snow_base::{Id, NodeId};
 
-/// A line of a word of six letters and an identifier.
+/// Returns a whole line of a word of six bytes, a space and an identifier, with its newline: 72
+/// bytes.
+/// Rule: this project's own.
 #[inline(always)]
 pub fn word_and_id(word: &[u8; 6], id: &Id) -> [u8; 72]
     ensures { result ≡ word.now ++ (spaced (encode_lower id.now) ++ 10 ∷ []) }
@@ -19,7 +21,9 @@ pub fn word_and_id(word: &[u8; 6], id: &Id) -> [u8; 72]
     line
 }
 
-/// The end of a line that asks a node for a block: the words of both, and a newline.
+/// Returns the end of a line that asks a node for a block: a node and an identifier, each behind a
+/// space, and a newline: 107 bytes.
+/// Rule: this project's own.
 #[inline(always)]
 pub fn node_and_id(node: &NodeId, id: &Id) -> [u8; 107]
     ensures { result ≡ spaced (encode_lower node.now) ++ (spaced (encode_lower id.now) ++ 10 ∷ []) }

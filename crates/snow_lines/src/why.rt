@@ -1,7 +1,8 @@
 use crate::field::Field;
 use crate::kind::is;
 
-/// Why a block is given up.
+/// Why a `drop` line gives a block up.
+/// Rule: this project's own.
 #[derive(Clone, Copy, PartialEq, Eq)]
 pub enum DropWhy {
     /// Its parent isn't on the board.
@@ -14,7 +15,8 @@ pub enum DropWhy {
     Old,
 }
 
-/// Why a query isn't sent.
+/// Why a `drop-query` line sends no query.
+/// Rule: this project's own.
 #[derive(Clone, Copy, PartialEq, Eq)]
 pub enum QueryWhy {
     /// There is no room for another poll.
@@ -25,7 +27,8 @@ pub enum QueryWhy {
     Words,
 }
 
-/// Why bootstrapping begins again.
+/// Why a `restart` line begins bootstrapping again.
+/// Rule: this project's own.
 #[derive(Clone, Copy, PartialEq, Eq)]
 pub enum RestartWhy {
     /// Too little came back of the accepted frontier.
@@ -34,7 +37,8 @@ pub enum RestartWhy {
     Accepted,
 }
 
-/// Why a frame is passed over.
+/// Why a `skip` line passes a frame over.
+/// Rule: this project's own.
 #[derive(Clone, Copy, PartialEq, Eq)]
 pub enum SkipKind {
     /// Its first byte is no tag.
@@ -63,7 +67,7 @@ impl DropWhy {
     ghost use Rattle.std.specs.Prelude.{◌≡◌, ◌≤◌, length};
     ghost use Rattle.snow_lines.specs.Text.{spaced, why_word};
 
-    /// Its word with a space in front.
+    /// Returns its word with a space in front.
     pub(crate) fn spaced_word(&self) -> &'static [u8]
         ensures word { result.now ≡ spaced (why_word self.now) }
         ensures short { length result.now ≤ 12 }
@@ -81,7 +85,7 @@ impl QueryWhy {
     ghost use Rattle.std.specs.Prelude.{◌≡◌, ◌≤◌, length};
     ghost use Rattle.snow_lines.specs.Text.{spaced, query_word};
 
-    /// Its word with a space in front.
+    /// Returns its word with a space in front.
     pub(crate) fn spaced_word(&self) -> &'static [u8]
         ensures word { result.now ≡ spaced (query_word self.now) }
         ensures short { length result.now ≤ 12 }
@@ -98,7 +102,7 @@ impl RestartWhy {
     ghost use Rattle.std.specs.Prelude.{◌≡◌, ◌≤◌, length};
     ghost use Rattle.snow_lines.specs.Text.{spaced, restart_word};
 
-    /// Its word with a space in front.
+    /// Returns its word with a space in front.
     pub(crate) fn spaced_word(&self) -> &'static [u8]
         ensures word { result.now ≡ spaced (restart_word self.now) }
         ensures short { length result.now ≤ 12 }
@@ -114,7 +118,7 @@ impl SkipKind {
     ghost use Rattle.std.specs.Prelude.{◌≡◌, ◌≤◌, [], ◌∷◌, ◌++◌, length, take};
     ghost use Rattle.snow_lines.specs.Text.{spaced, kind_word};
 
-    /// Its word with a space in front.
+    /// Returns its word with a space in front.
     pub(crate) fn spaced_word(&self) -> &'static [u8]
         ensures word { result.now ≡ spaced (kind_word self.now) }
         ensures short { length result.now ≤ 12 }
@@ -133,8 +137,8 @@ impl SkipKind {
         }
     }
 
-    /// The end of a line: its word with a space in front and a newline, at the front of a piece of a known
-    /// length, and how long they are.
+    /// Returns the end of a line: its word with a space in front and a newline, at the front of a
+    /// piece of a known length, and how long they are.
     #[inline(always)]
     pub(crate) fn line_end(&self) -> (&'static [u8; 8], usize)
         ensures end { take result.1 result.0.now ≡ spaced (kind_word self.now) ++ 10 ∷ [] }

@@ -9,7 +9,8 @@ use snow_sample::Draws;
 use std::alloc::{AllocError, Global};
 use std::marker::Model;
 
-/// The words of some bytes, of which each is taken once. Contracts see those that are left.
+/// The words of some bytes, each of which is taken once. Contracts see those that are left.
+/// Rule: this project's own.
 #[derive(Drop)]
 pub struct Words<'a> {
     rest: Option<&'a [u8]>,
@@ -26,14 +27,17 @@ impl<'a> Model for Words<'a> {
 }
 
 impl<'a> Words<'a> {
-    /// The words of these bytes, cut at each space.
+    /// Returns the words of these bytes, cut at each space. Between two spaces stands an empty
+    /// word.
+    /// Rule: this project's own.
     pub fn new(bytes: &'a [u8]) -> Self
         ensures { result ≡ slice_split (λ b. b == 32) bytes.now }
     {
         Words { rest: Some(bytes) }
     }
 
-    /// Takes the next word.
+    /// Takes the next word and returns it, or `None` exactly where none is left.
+    /// Rule: this project's own.
     pub fn next(&mut self) -> Option<&'a [u8]>
         ensures word { option_map (λ w. w.now) result ≡ first self.old }
         ensures rest { self.new ≡ drop 1 self.old }
@@ -51,14 +55,17 @@ impl<'a> Words<'a> {
         }
     }
 
-    /// Whether no word is left.
+    /// Returns whether no word is left. Where one is left it takes it.
+    /// Rule: this project's own.
     pub fn is_at_end(&mut self) -> bool
         ensures { result ≡ is_none (first self.old) }
     {
         self.next().is_none()
     }
 
-    /// Takes the next word for what it stands for.
+    /// Takes the next word and returns what it stands for. It returns `None` where no word is left
+    /// or it stands for no such thing.
+    /// Rule: this project's own.
     #[tactic(auto, unfolding(crate::specs::Reading::field))]
     pub fn take<T: Field>(&mut self) -> Option<T>
         ensures { Reads result self.new (field T.read self.old) }
@@ -66,7 +73,9 @@ impl<'a> Words<'a> {
         T::of(self.next()?)
     }
 
-    /// Takes a node and a number.
+    /// Takes two words and returns the node and the number for which they stand, or `None` where
+    /// they stand for none.
+    /// Rule: this project's own.
     #[tactic(auto, unfolding(crate::specs::Reading::told_at))]
     pub fn told(&mut self) -> Option<(NodeId, u32)>
         ensures { Reads result self.new (told_at self.old) }
@@ -76,7 +85,9 @@ impl<'a> Words<'a> {
         Some((node, number))
     }
 
-    /// Takes all words, which are identifiers.
+    /// Returns the identifiers for which all words left stand, or `None` where one of them stands
+    /// for none. On want of memory it returns `AllocError`.
+    /// Rule: this project's own.
     #[tactic(auto, using(crate::proofs::Cutting::listing))]
     pub fn ids(&mut self, alloc: Global) -> Result<Option<Ids>, AllocError>
         ensures { IfOk result (λ r. r ≡ items (bytes_of 32) self.old) }
@@ -91,7 +102,9 @@ impl<'a> Words<'a> {
         Ok(Some(ids))
     }
 
-    /// Takes all words, which are draws.
+    /// Returns the draws for which all words left stand, or `None` where one of them stands for
+    /// none. On want of memory it returns `AllocError`.
+    /// Rule: this project's own.
     #[tactic(auto, using(crate::proofs::Cutting::listing))]
     pub fn draws(&mut self, alloc: Global) -> Result<Option<Draws>, AllocError>
         ensures { IfOk result (λ r. r ≡ items draw_of self.old) }
@@ -106,7 +119,9 @@ impl<'a> Words<'a> {
         Ok(Some(draws))
     }
 
-    /// Takes all words, which are blocks.
+    /// Returns the blocks for which all words left stand, or `None` where one of them stands for
+    /// none. On want of memory it returns `AllocError`.
+    /// Rule: this project's own.
     #[tactic(auto, using(crate::proofs::Cutting::listing))]
     pub fn blocks(&mut self, alloc: Global) -> Result<Option<Blocks>, AllocError>
         ensures { IfOk result (λ r. r ≡ items block_of self.old) }

@@ -15,13 +15,15 @@ use std::alloc::{AllocError, Global};
 use std::marker::Model;
 
 /// What waits for a block.
+/// Rule: this project's own.
 pub trait Keyed: Drop {
     ghost use Rattle.std.specs.Prelude.{◌≡◌, ℕ, List};
 
     /// The block that it waits for.
     ghost key: { Self → List ℕ };
 
-    /// The block that it waits for.
+    /// Returns the block for which it waits.
+    /// Rule: this project's own.
     fn key(&self) -> Id
         ensures { result ≡ key self.now };
 }
@@ -35,7 +37,9 @@ pub(crate) struct Slot<T> {
     pub(crate) mark: Mark,
 }
 
-/// Items in order of arrival, each with what is remembered of it, and an index by what they wait for.
+/// Items in order of arrival, each with what is remembered of it, and an index by what they wait
+/// for.
+/// Rule: this project's own.
 #[derive(Drop)]
 pub struct Lineup<T: Keyed> {
     pub(crate) slots: Vec<Slot<T>>,
@@ -58,7 +62,8 @@ impl<T: Keyed> Model for Lineup<T> {
 }
 
 impl<T: Keyed> Lineup<T> {
-    /// Nothing waits. It takes no memory.
+    /// Returns the lineup without items. It takes no memory.
+    /// Rule: this project's own.
     pub fn new(alloc: Global) -> Self
         ensures { result ≡ [] }
     {
@@ -70,14 +75,17 @@ impl<T: Keyed> Lineup<T> {
         }
     }
 
-    /// How many items there are.
+    /// Returns how many items there are.
+    /// Rule: this project's own.
     pub fn len(&self) -> usize
         ensures { result ≡ length self.now }
     {
         self.slots.len()
     }
 
-    /// Appends an item, of which nothing is remembered. After want of memory all is as before.
+    /// Appends an item, marked `New`. On want of memory it returns `AllocError`, and all stays as
+    /// it was.
+    /// Rule: this project's own.
     pub fn push(&mut self, item: T) -> Result<(), AllocError>
         ensures ok { OnOk result (self.new ≡ self.old ++ (item, New) ∷ []) }
         ensures err { OnErr result (self.new ≡ self.old) }
@@ -114,7 +122,9 @@ impl<T: Keyed> Lineup<T> {
         Ok(())
     }
 
-    /// Whether it is plain that something is remembered of each item, and that none is ripe.
+    /// Returns `true` only where each item is marked and none is ripe. It may return `false` there
+    /// too: it doesn't look at the items.
+    /// Rule: this project's own.
     pub fn rests(&self) -> bool
         ensures new { result ≡ true → All (λ s. has New s ≡ false) self.now }
         ensures ripe { result ≡ true → All (λ s. has Ripe s ≡ false) self.now }
@@ -122,8 +132,9 @@ impl<T: Keyed> Lineup<T> {
         self.windows.are_empty()
     }
 
-    /// Where the one item stands of which nothing is remembered, where it is plain that there is no
-    /// other and that none is ripe.
+    /// Returns the place of the only item marked `New`, where no item is ripe. It may return `None`
+    /// there too: it doesn't look at the items.
+    /// Rule: this project's own.
     pub fn lone(&self) -> Option<usize>
         ensures there { IfSome result (λ at. at < length self.now) }
         ensures new { IfSome result (λ at. IsOnlyAt New self.now at) }
@@ -132,7 +143,9 @@ impl<T: Keyed> Lineup<T> {
         self.windows.lone(self.slots.len())
     }
 
-    /// Where the first item with this mark stands, or how many items there are.
+    /// Returns where the first item with this mark stands, or how many items there are where none
+    /// has it. The items and their marks stay.
+    /// Rule: this project's own.
     pub fn first(&mut self, mark: Mark) -> usize
         ensures at { result ≡ position_or_len (has mark) self.old }
         ensures same { self.new ≡ self.old }
@@ -143,7 +156,8 @@ impl<T: Keyed> Lineup<T> {
         at
     }
 
-    /// The item at a place.
+    /// Returns the item at a place, which is below `len`.
+    /// Rule: this project's own.
     pub fn item(&self, at: usize) -> &T
         requires { at < length self.now }
         ensures { HoldsAt (λ s. result.now ≡ s.0) self.now at }
@@ -151,7 +165,8 @@ impl<T: Keyed> Lineup<T> {
         &self.slots[at].item
     }
 
-    /// Remembers something of the item at a place.
+    /// Marks the item at a place, which is below `len`.
+    /// Rule: this project's own.
     pub fn set(&mut self, at: usize, mark: Mark)
         requires { at < length self.old }
         ensures { HoldsAt (λ s. self.new ≡ slice_set self.old at (s.0, mark)) self.old at }
@@ -160,7 +175,9 @@ impl<T: Keyed> Lineup<T> {
         self.windows = self.windows.marked(at, mark);
     }
 
-    /// Takes the item at a place out. It takes no memory.
+    /// Takes the item at a place, which is below `len`, out and returns it. The others stay in
+    /// their order. It takes no memory.
+    /// Rule: this project's own.
     pub fn take(&mut self, at: usize) -> T
         requires { at < length self.old }
         ensures taken { HoldsAt (λ s. result ≡ s.0) self.old at }
@@ -172,7 +189,8 @@ impl<T: Keyed> Lineup<T> {
         take_slot(&mut self.slots, at)
     }
 
-    /// Forgets what is remembered of any item.
+    /// Marks each item `New`.
+    /// Rule: this project's own.
     pub fn forget_marks(&mut self)
         ensures { self.new ≡ map forgotten self.old }
     {

@@ -11,8 +11,9 @@ use crate::window::Windows;
 use snow_base::Id;
 
 impl<T: Keyed> Lineup<T> {
-    /// Forgets what is remembered of the items that wait for a block. Mostly that is the last item
-    /// alone, of which no index is asked.
+    /// Marks the items `New` that wait for a block; the others keep their marks. Mostly that is the
+    /// last item alone, for which it asks no index.
+    /// Rule: this project's own.
     #[inline(always)]
     pub fn wake(&mut self, key: &Id)
         ensures { self.new ≡ map (woken T.key key.now) self.old }

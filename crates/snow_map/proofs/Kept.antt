@@ -10,7 +10,7 @@ use Rattle.std.proofs.lemmas.Bool.{eqb-true, eq-eqb, true≢false}
 use Rattle.std.proofs.lemmas.Option.{same_Some}
 use Rattle.snow_map.specs.Entries.{value_of, HasAt}
 use Rattle.snow_map.specs.Kept.{place_of, gives, entries_of, is_own, is_far_by, IsPlaced, IsKept}
-use Rattle.snow_map.proofs.Lists.{split_on, clash, same_id, id_itself, same_cases, one_added, one_left}
+use Rattle.snow_map.proofs.Lists.{split_on, clash, same_id, id_itself, same_cases, or_none, one_added, one_left}
 use Rattle.snow_map.proofs.Seats.{Near, found, all_distinct}
 
 -- the parts of a map that is changed at an identifier
@@ -48,10 +48,6 @@ none_there (Some x) is = absurd (true≢false is)
 no_value : {X : Type 0} (o : Option X) (b : Bool) → o ≡ None → cond b o o ≡ None
 no_value o true none = none
 no_value o false none = none
-
-or_none : {X : Type 0} (o : Option X) → option_or o None ≡ o
-or_none None = refl
-or_none (Some x) = refl
 
 -- a map without entries
 pub none_kept : {V : Type 0} (near : Near V) (far : List (List ℕ × V)) → near ≡ [] → far ≡ [] → IsKept near far

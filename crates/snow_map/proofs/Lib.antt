@@ -1,3 +1,4 @@
 mod Lists
 mod Seats
+mod Grouped
 mod Kept

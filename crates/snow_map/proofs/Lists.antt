@@ -1,5 +1,5 @@
 -- Entries as a list: look-ups in order, in two lists, and what lists that give the same have in common.
-use Rattle.std.proofs.Common.{◌≡◌, ℕ, Bool, true, false, cond, List, [], ◌∷◌, ◌++◌, None, Some, Result, Ok, Err, bytes_eq, refl, sym, ap, ap₂, subst, ◌∙◌}
+use Rattle.std.proofs.Common.{◌≡◌, ℕ, Bool, true, false, cond, List, [], ◌∷◌, ◌++◌, Option, None, Some, Result, Ok, Err, bytes_eq, refl, sym, ap, ap₂, subst, ◌∙◌}
 use Rattle.std.specs.Cmp.{IsEquivalence}
 use Rattle.std.specs.Cmp.Lexicographic.{slice_cmp}
 use Rattle.std.specs.List.{IsDistinct, AllByRecursion}
@@ -25,6 +25,10 @@ when_err (Err e) a = a
 pub split_on : {P : Type 0} (b : Bool) → (b ≡ true → P) → (b ≡ false → P) → P
 split_on true holds fails = holds refl
 split_on false holds fails = fails refl
+
+pub or_none : {X : Type 0} (o : Option X) → option_or o None ≡ o
+or_none None = refl
+or_none (Some x) = refl
 
 -- a test is not both
 pub clash : {P : Type 0} (b : Bool) → b ≡ true → b ≡ false → P
@@ -75,6 +79,21 @@ module _ {V : Type 0} where
   pub one_more : (id : List ℕ) (v : V) (es : List (List ℕ × V)) → value_of es id ≡ None → IsDistinct bytes_eq (keys_of es) → IsDistinct bytes_eq (id ∷ keys_of es)
   one_more id v es none once = IsDistinct-cons bytes_eq id (keys_of es) (no_key id es (none_passes_from_lookup (bytes_eq id) es none)) once
 
+  none_of : (id : List ℕ) (es : List (List ℕ × V)) → AllByRecursion (λ y. bytes_eq id y ≡ false) (keys_of es) → value_of es id ≡ None
+  none_of id [] all = refl
+  none_of id (e ∷ es) all = ap (λ b. cond b (Some e.1) (value_of es id)) all.0 ∙ none_of id es all.1
+
+  -- two lists of which none gives what the other does
+  pub both_once : (xs ys : List (List ℕ × V)) → IsDistinct bytes_eq (keys_of xs) → IsDistinct bytes_eq (keys_of ys) → ((id : List ℕ) (v : V) → value_of xs id ≡ Some v → value_of ys id ≡ None)
+      → IsDistinct bytes_eq (keys_of (xs ++ ys))
+  both_once [] ys s t apart = t
+  both_once (x ∷ xs) ys s t apart =
+      one_more x.0 x.1 (xs ++ ys) (appended xs ys x.0 ∙ ap₂ option_or (none_of x.0 xs (IsDistinct-head bytes_eq x.0 (keys_of xs) s)) (apart x.0 x.1 (ap (λ b. cond b (Some x.1) (value_of xs x.0)) (id_itself x.0))))
+      (both_once xs ys (IsDistinct-tail bytes_eq x.0 (keys_of xs) s) t
+      (λ id v is. split_on (bytes_eq id x.0)
+      (λ u. apart id x.1 (ap (λ b. cond b (Some x.1) (value_of xs id)) u))
+      (λ f. apart id v (ap (λ b. cond b (Some x.1) (value_of xs id)) f ∙ is))))
+
   fewer : (test : List ℕ → Bool) (p : List ℕ → Bool) (es : List (List ℕ × V)) → AllByRecursion (λ y. p y ≡ false) (keys_of es) → AllByRecursion (λ y. p y ≡ false) (keys_of (remove_entry test es))
   fewer test p [] all = tt
   fewer test p (e ∷ es) all =
@@ -92,10 +111,6 @@ module _ {V : Type 0} where
             IsDistinct-cons bytes_eq e.0 (keys_of (remove_entry test es)) (fewer test (bytes_eq e.0) es (IsDistinct-head bytes_eq e.0 (keys_of es) once))
             (still_once test es (IsDistinct-tail bytes_eq e.0 (keys_of es) once))
       ]
-
-  none_of : (id : List ℕ) (es : List (List ℕ × V)) → AllByRecursion (λ y. bytes_eq id y ≡ false) (keys_of es) → value_of es id ≡ None
-  none_of id [] all = refl
-  none_of id (e ∷ es) all = ap (λ b. cond b (Some e.1) (value_of es id)) all.0 ∙ none_of id es all.1
 
   -- an entry may be taken to the front
   front_taken : (ys : List (List ℕ × V)) (id : List ℕ) (v : V) → value_of ys id ≡ Some v → IsPermutation ((id, v) ∷ remove_entry (bytes_eq id) ys) ys

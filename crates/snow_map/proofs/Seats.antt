@@ -13,32 +13,39 @@ use Rattle.snow_map.proofs.Lists.{split_on, same_id, appended, one_more}
 abbrev pub Near : Type 0 → Type 0
 Near V = List (ℕ × (List ℕ × V))
 
-module _ {V : Type 0} where
-  abbrev pub ArePlaced : Near V → List (List ℕ × V) → Type 0
-  ArePlaced near far = (place : ℕ) (e : List ℕ × V) → lookup (nat_eq place) near ≡ Some e → IsPlaced far place e
-
-  none_at : (place : ℕ) (near : Near V) → AllByRecursion (λ y. nat_eq place y ≡ false) (keys_of near) → lookup (nat_eq place) near ≡ None
+-- what stands under seats, each of which stands once
+module _ {X : Type 0} where
+  none_at : (place : ℕ) (near : List (ℕ × X)) → AllByRecursion (λ y. nat_eq place y ≡ false) (keys_of near) → lookup (nat_eq place) near ≡ None
   none_at place [] all = refl
   none_at place (x ∷ near) all = ap (λ b. cond b (Some x.1) (lookup (nat_eq place) near)) all.0 ∙ none_at place near all.1
 
   -- the front's seat is nobody's behind it
-  front_alone : (x : ℕ × (List ℕ × V)) (near : Near V) → IsDistinct nat_eq (keys_of (x ∷ near)) → lookup (nat_eq x.0) near ≡ None
+  pub front_alone : (x : ℕ × X) (near : List (ℕ × X)) → IsDistinct nat_eq (keys_of (x ∷ near)) → lookup (nat_eq x.0) near ≡ None
   front_alone x near unique = none_at x.0 near (IsDistinct-head nat_eq x.0 (keys_of near) unique)
 
-  front_here : (x : ℕ × (List ℕ × V)) (near : Near V) → lookup (nat_eq x.0) (x ∷ near) ≡ Some x.1
+  pub front_here : (x : ℕ × X) (near : List (ℕ × X)) → lookup (nat_eq x.0) (x ∷ near) ≡ Some x.1
   front_here x near = ap (λ b. cond b (Some x.1) (lookup (nat_eq x.0) near)) (eq-eqb x.0 x.0 refl)
 
-  behind : (x : ℕ × (List ℕ × V)) (near : Near V) (place : ℕ) → nat_eq place x.0 ≡ false → lookup (nat_eq place) (x ∷ near) ≡ lookup (nat_eq place) near
+  pub behind : (x : ℕ × X) (near : List (ℕ × X)) (place : ℕ) → nat_eq place x.0 ≡ false → lookup (nat_eq place) (x ∷ near) ≡ lookup (nat_eq place) near
   behind x near place apart = ap (λ b. cond b (Some x.1) (lookup (nat_eq place) near)) apart
 
-  rest_placed : (x : ℕ × (List ℕ × V)) (near : Near V) (far : List (List ℕ × V)) → IsDistinct nat_eq (keys_of (x ∷ near)) → ArePlaced (x ∷ near) far → ArePlaced near far
-  rest_placed x near far unique placed place e is =
+  -- what is so of each is so of each behind the front
+  pub rest_so : (P : ℕ → X → Type 0) (x : ℕ × X) (near : List (ℕ × X)) → IsDistinct nat_eq (keys_of (x ∷ near))
+      → ((place : ℕ) (e : X) → lookup (nat_eq place) (x ∷ near) ≡ Some e → P place e) → (place : ℕ) (e : X) → lookup (nat_eq place) near ≡ Some e → P place e
+  rest_so P x near unique all place e is =
       split_on (nat_eq place x.0)
       (λ t. absurd (none_some (sym (ap (λ p. lookup (nat_eq p) near) (eqb-true place x.0 t) ∙ front_alone x near unique) ∙ is)))
-      (λ f. placed place e (behind x near place f ∙ is))
+      (λ f. all place e (behind x near place f ∙ is))
     where
-      none_some : {e : List ℕ × V} → None ≡ Some e → ⊥
+      none_some : {e : X} → None ≡ Some e → ⊥
       none_some h = cc
+
+module _ {V : Type 0} where
+  abbrev pub ArePlaced : Near V → List (List ℕ × V) → Type 0
+  ArePlaced near far = (place : ℕ) (e : List ℕ × V) → lookup (nat_eq place) near ≡ Some e → IsPlaced far place e
+
+  rest_placed : (x : ℕ × (List ℕ × V)) (near : Near V) (far : List (List ℕ × V)) → IsDistinct nat_eq (keys_of (x ∷ near)) → ArePlaced (x ∷ near) far → ArePlaced near far
+  rest_placed x near far unique placed = rest_so (IsPlaced far) x near unique placed
 
   -- an identifier is looked for under its seat
   pub found_near : (near : Near V) (far : List (List ℕ × V)) (id : List ℕ) → IsDistinct nat_eq (keys_of near) → ArePlaced near far

@@ -7,21 +7,24 @@ ghost use Rattle.std.specs.Option.{option_copied};
 ghost use Rattle.snow_map.specs.Entries.{value_of, HasAt};
 ghost use Rattle.snow_map.specs.Kept.{is_far};
 
-use crate::{far, near};
+use crate::far::Far;
+use crate::near;
 use snow_base::Id;
 use std::alloc::{AllocError, Global};
-use std::collections::{BTreeMap, HashMap};
+use std::collections::HashMap;
 use std::marker::Model;
 
-/// Values by identifier, at most one for each. Contracts see the entries, in no order that is told.
+/// Values by identifier, at most one for each. Contracts see the entries, in no order that they
+/// tell.
 ///
-/// An entry stands under its identifier's seat, which few others share, or in order of identifiers
-/// where that seat is taken. So a look-up takes a step for most identifiers, and a search among at
-/// most as many as there are for those that a sender chose to share a seat.
+/// An entry stands under its identifier's seat, one of 65,536. Where another identifier has that
+/// seat, it stands beside it, in order of identifiers. So a look-up takes a step or two for most
+/// identifiers, and a search in order only among those that a sender chose to share a seat.
+/// Rule: this project's own.
 #[derive(Drop)]
 pub struct IdMap<V> {
     near: HashMap<u32, (Id, V)>,
-    far: BTreeMap<Id, V>,
+    far: Far<V>,
 }
 
 impl<V> Model for IdMap<V> {
@@ -30,23 +33,26 @@ impl<V> Model for IdMap<V> {
 
     ghost Value = { List (List ℕ × V) };
 
-    ghost view = { λ a. entries_of a.near.entries a.far.entries };
+    ghost view = { λ a. entries_of a.near.entries a.far };
 
-    ghost invariant = { λ a. IsKept a.near.entries a.far.entries };
+    ghost invariant = { λ a. IsKept a.near.entries a.far };
 }
 
 impl<V: Drop> IdMap<V> {
-    /// No value. It takes no memory.
+    /// Returns the empty map. It takes no memory.
+    /// Rule: this project's own.
     pub fn new(alloc: Global) -> Self
         ensures { result ≡ [] }
     {
         IdMap {
             near: HashMap::new(alloc),
-            far: BTreeMap::new(alloc),
+            far: Far::new(alloc),
         }
     }
 
-    /// The value at an identifier. No identifier stands twice.
+    /// Returns the value at an identifier, or `None` exactly where there is none. No identifier
+    /// stands twice.
+    /// Rule: this project's own.
     #[inline(always)]
     pub fn get(&self, id: &Id) -> Option<&V>
         ensures value { option_copied result ≡ value_of self.now id.now }
@@ -54,11 +60,12 @@ impl<V: Drop> IdMap<V> {
     {
         match near::value(&self.near, id) {
             Some(value) => Some(value),
-            None => far::value(&self.far, id),
+            None => self.far.value(id),
         }
     }
 
-    /// Whether there is a value at an identifier.
+    /// Returns whether there is a value at an identifier.
+    /// Rule: this project's own.
     #[inline(always)]
     pub fn contains_key(&self, id: &Id) -> bool
         ensures { result ≡ is_some (value_of self.now id.now) }
@@ -66,8 +73,10 @@ impl<V: Drop> IdMap<V> {
         self.get(id).is_some()
     }
 
-    /// Puts a value at an identifier, and returns the one that was there. It takes no memory where
-    /// there was one. On want of memory all is as before.
+    /// Puts a value at an identifier, and returns the one that was there, or `None` where there was
+    /// none. All other entries stay. Where there was a value the call takes no memory and can't
+    /// fail. On want of memory it returns `AllocError`, and the map stays as it was.
+    /// Rule: this project's own.
     #[inline(always)]
     pub fn insert(&mut self, id: Id, value: V) -> Result<Option<V>, AllocError>
         ensures before { IfOk result (λ before. before ≡ value_of self.old id) }
@@ -77,13 +86,15 @@ impl<V: Drop> IdMap<V> {
         ensures succeeds { IsSome (value_of self.old id) → IsOk result }
     {
         if is_far(&self.near, &self.far, &id) {
-            far::put(&mut self.far, id, value)
+            self.far.put(id, value)
         } else {
             near::put(&mut self.near, id, value)
         }
     }
 
-    /// Takes the value at an identifier out. It takes no memory.
+    /// Takes the value at an identifier out and returns it, or `None` exactly where there is none.
+    /// All other entries stay. It takes no memory.
+    /// Rule: this project's own.
     #[inline(always)]
     pub fn remove(&mut self, id: &Id) -> Option<V>
         ensures value { result ≡ value_of self.old id.now }
@@ -93,18 +104,18 @@ impl<V: Drop> IdMap<V> {
         if near::has(&self.near, id) {
             near::take(&mut self.near, id)
         } else {
-            far::take(&mut self.far, id)
+            self.far.take(id)
         }
     }
 }
 
 // Whether an identifier's entry belongs in the order: another has its seat, or it stands there.
 #[inline(always)]
-fn is_far<V: Drop>(near: &HashMap<u32, (Id, V)>, far: &BTreeMap<Id, V>, id: &Id) -> bool
-    ensures { result ≡ is_far near.now.entries far.now.entries id.now }
+fn is_far<V: Drop>(near: &HashMap<u32, (Id, V)>, far: &Far<V>, id: &Id) -> bool
+    ensures { result ≡ is_far near.now.entries far.now id.now }
 {
     match near::is_mine(near, id) {
         Some(is_mine) => !is_mine,
-        None => far::value(far, id).is_some(),
+        None => far.value(id).is_some(),
     }
 }

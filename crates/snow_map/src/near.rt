@@ -10,8 +10,10 @@ use snow_base::Id;
 use std::alloc::AllocError;
 use std::collections::HashMap;
 
-/// The number that the first and the last four bytes of an identifier spell together, so that
-/// numbers in place of digests don't share one.
+/// Returns a number below 2^32 that tells most identifiers apart: the first four bytes, read with
+/// the lowest first, plus the last four, read with the highest first, without the carry. So
+/// identifiers that hold small numbers at either end don't share one.
+/// Rule: this project's own.
 #[inline(always)]
 pub fn seat_of(id: &Id) -> usize
     ensures seat { result ≡ seat_of id.now }
@@ -23,9 +25,10 @@ pub fn seat_of(id: &Id) -> usize
     first.wrapping_add(last) as usize
 }
 
-// Its seat among 65,536. As few as these, chosen ones can't share much in the kit's map either.
+/// Returns an identifier's seat among 65,536. As few as these, chosen ones can't share much in the
+/// kit's map either.
 #[inline(always)]
-fn place_of(id: &Id) -> u32
+pub(crate) fn place_of(id: &Id) -> u32
     ensures { result ≡ place_of id.now }
 {
     (seat_of(id) % 65536) as u32

@@ -1,4 +1,4 @@
-//! What every node does with its board and its chain: a block is admitted, a poll applied.
+//! What every node does with its board and its chain: it admits a block, and applies a poll.
 
 ghost use Rattle.std.specs.Prelude.{◌≡◌, ◌+◌, ◌≤◌, ◌==◌, None, length, IfOk, OnOk, OnErr};
 ghost use Rattle.snow_base.specs.Gathered.{one_each};
@@ -21,7 +21,11 @@ use std::alloc::AllocError;
 /// The most blocks that may be pending.
 const MOST_PENDING: usize = 4096;
 
-/// Why a block that isn't on the board can't be issued, whatever its chain says; nothing where it can.
+/// Returns why a block that isn't on the board can't be issued, whatever its chain says: `Parent`
+/// where its parent isn't on the board, `Full` where 4,096 blocks are pending, `Invalid` where its
+/// height isn't its parent's plus one. It returns the first that holds, or `None` exactly where
+/// none does.
+/// Rule: AvalancheGo, snow/consensus/snowman.
 #[tactic(auto, using(crate::proofs::Offers::unopposed))]
 pub fn opposition<B: Board>(board: &B, block: &Header) -> Option<DropWhy>
     requires { height_of (B.board board.now) block.now.id ≡ None }
@@ -41,15 +45,17 @@ pub fn opposition<B: Board>(board: &B, block: &Header) -> Option<DropWhy>
     }
 }
 
-/// Whether a height is one more than another, as whole numbers.
+/// Returns whether a height is one more than another, as whole numbers.
 fn is_above(height: u64, below: u64) -> bool
     ensures { result ≡ (height == below + 1) }
 {
     height > below && height - below == 1
 }
 
-/// Issues a block, if it is valid; whether it was. After want of memory all is as before: the state of
-/// a valid block is taken back out of the chain where the board has no room for it.
+/// Issues a block, if its chain finds it valid, and returns whether it did. An invalid block
+/// changes nothing. On want of memory it returns `AllocError`, and all stays as it was: where the
+/// board has no room for a valid block, it takes the block's state back out of the chain.
+/// Rule: AvalancheGo, snow/consensus/snowman.
 #[tactic(auto, using(crate::proofs::Offers::may_take_back))]
 pub fn admit<C: Chain, B: Board>(
     board: &mut B,
@@ -76,7 +82,9 @@ pub fn admit<C: Chain, B: Board>(
     Ok(true)
 }
 
-/// Applies a poll to the board, and tells the chain what it decided. It takes no memory.
+/// Records a poll of at most K votes on the board, and tells the chain what it decided. It takes no
+/// memory and can't fail.
+/// Rule: AvalancheGo, snow/consensus/snowman.
 #[tactic(auto, using(crate::proofs::Offers::poll_keeps))]
 pub fn apply<C: Chain, B: Board>(board: &mut B, chain: &mut C, votes: &Bag)
     requires steady { IsSteady (B.board board.old) (C.held chain.old) }
@@ -91,7 +99,9 @@ pub fn apply<C: Chain, B: Board>(board: &mut B, chain: &mut C, votes: &Bag)
     telling::tell(chain, board.decisions());
 }
 
-/// The same of a poll with one vote for each of these identifiers. After want of memory all is as before.
+/// Records a poll with one vote for each of these identifiers, at most K, and tells the chain what
+/// it decided. On want of memory it returns `AllocError`, and all stays as it was.
+/// Rule: AvalancheGo, snow/consensus/snowman.
 #[tactic(auto, using(crate::proofs::Offers::poll_keeps))]
 pub fn apply_votes<C: Chain, B: Board>(
     board: &mut B,

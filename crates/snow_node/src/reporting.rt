@@ -9,7 +9,9 @@ use snow_lines::{DropWhy, Line, Lines};
 use snow_plain::{Board, Decision};
 use std::alloc::AllocError;
 
-/// Writes a line.
+/// Appends a line to the log. On want of memory it returns `Halt::Memory`, and the log stays as it
+/// was.
+/// Rule: this project's own.
 #[tactic(auto, using(crate::proofs::Logs::logs_nothing))]
 pub fn write(line: Line, log: &mut Lines) -> Result<(), Halt>
     ensures memory { OnErr result (result ≡ Err Halt.Memory) }
@@ -19,7 +21,9 @@ pub fn write(line: Line, log: &mut Lines) -> Result<(), Halt>
     Ok(())
 }
 
-/// Writes that a block is given up.
+/// Appends the line that gives a block up. On want of memory it returns `Halt::Memory`, and the log
+/// stays as it was.
+/// Rule: this project's own.
 pub fn drop_block(id: Id, why: DropWhy, log: &mut Lines) -> Result<(), Halt>
     ensures memory { OnErr result (result ≡ Err Halt.Memory) }
     ensures lines { Tells result log.old log.new (Line.Drop id why ∷ []) }
@@ -27,8 +31,10 @@ pub fn drop_block(id: Id, why: DropWhy, log: &mut Lines) -> Result<(), Halt>
     write(Line::Drop { id, why }, log)
 }
 
-/// The lines of the last poll's decisions, and that of the preference where it changed. Each line
-/// stands apart, since most polls bring none.
+/// Appends the lines of the last poll's decisions, and that of the preference where it isn't
+/// `before`. On want of memory it returns `AllocError`, and the log has a front of these lines
+/// more.
+/// Rule: this project's own.
 #[inline]
 #[tactic(auto, using(crate::proofs::Logs::logging))]
 pub fn tell<B: Board>(board: &B, before: &Id, log: &mut Lines) -> Result<(), AllocError>
@@ -41,7 +47,7 @@ pub fn tell<B: Board>(board: &B, before: &Id, log: &mut Lines) -> Result<(), All
     tell_preference(before, &board.preference(), log)
 }
 
-/// A line for each decision.
+/// Appends a line for each decision.
 #[tactic(auto, using(crate::proofs::Logs::logging))]
 fn tell_decisions(decisions: &[Decision], log: &mut Lines) -> Result<(), AllocError>
     ensures ok { OnOk result (log.new ≡ log.old ++ map model.decision_line decisions.now) }
@@ -53,7 +59,7 @@ fn tell_decisions(decisions: &[Decision], log: &mut Lines) -> Result<(), AllocEr
     Ok(())
 }
 
-/// The line of a decision is appended.
+/// Appends the line of a decision.
 #[inline(never)]
 fn tell_decision(decision: &Decision, log: &mut Lines) -> Result<(), AllocError>
     ensures ok { OnOk result (log.new ≡ log.old ++ model.decision_line decision.now ∷ []) }
@@ -62,7 +68,7 @@ fn tell_decision(decision: &Decision, log: &mut Lines) -> Result<(), AllocError>
     log.push(line_of(decision))
 }
 
-/// A line where the preference changed.
+/// Appends a line where the preference changed.
 #[tactic(auto, using(crate::proofs::Logs::logging))]
 fn tell_preference(before: &Id, after: &Id, log: &mut Lines) -> Result<(), AllocError>
     ensures ok { OnOk result (log.new ≡ log.old ++ model.preference_line before.now after.now) }
@@ -74,7 +80,7 @@ fn tell_preference(before: &Id, after: &Id, log: &mut Lines) -> Result<(), Alloc
     tell_preferred(after, log)
 }
 
-/// The line of a new preference is appended.
+/// Appends the line of a new preference.
 #[inline(never)]
 fn tell_preferred(id: &Id, log: &mut Lines) -> Result<(), AllocError>
     ensures ok { OnOk result (log.new ≡ log.old ++ Line.Prefer id.now ∷ []) }
@@ -83,7 +89,7 @@ fn tell_preferred(id: &Id, log: &mut Lines) -> Result<(), AllocError>
     log.push(Line::Prefer { id: *id })
 }
 
-/// The line of a decision.
+/// Returns the line of a decision.
 fn line_of(decision: &Decision) -> Line
     ensures { result ≡ model.decision_line decision.now }
 {

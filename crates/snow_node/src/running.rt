@@ -43,7 +43,9 @@ use std::mem;
 /// The most random words that wait.
 const MOST_WORDS: usize = 65_536;
 
-/// A node that runs, over any chain and any board. Contracts see the node of the definitions.
+/// A node that runs, over any chain and any board. Contracts see the node of the definitions. It
+/// appends its lines to a log. After a stop its caller only drops it.
+/// Rule: AvalancheGo, snow/engine/snowman.
 #[derive(Drop)]
 pub struct Running<C: Chain, B: Board> {
     params: Params,
@@ -98,7 +100,9 @@ impl<C: Chain, B: Board> Model for Running<C, B> {
 }
 
 impl<C: Chain, B: Board> Running<C, B> {
-    /// The node that begins to run above this block, whose state alone its chain holds.
+    /// Returns the node that begins to run above this block, whose state alone its chain holds. The
+    /// numbers go on behind the last one drawn. On want of memory it returns `AllocError`.
+    /// Rule: AvalancheGo, snow/engine/snowman.
     pub fn above(
         alloc: Global,
         params: Params,
@@ -142,7 +146,10 @@ impl<C: Chain, B: Board> Running<C, B> {
         }
     }
 
-    /// One event, which came in this frame.
+    /// Takes one event, which came in this frame. It returns `SecondStart` at a Start, `Requests`
+    /// where a number is needed and all are used up, and `Memory` on want of memory. The log has
+    /// all lines before the stop, after `Memory` a front of the event's lines.
+    /// Rule: AvalancheGo, snow/engine/snowman.
     #[inline(never)]
     #[tactic(auto, unfolding(crate::specs::Turning::runs_on), using(crate::proofs::Logs::logs_nothing))]
     pub fn step(&mut self, frame: u64, event: &Event, log: &mut Lines) -> Result<(), Halt>
@@ -173,7 +180,9 @@ impl<C: Chain, B: Board> Running<C, B> {
         }
     }
 
-    /// A block came, in this frame.
+    /// Takes a block that came in this frame, as `step` does, with its bytes where they stand. It
+    /// returns what `step` does.
+    /// Rule: AvalancheGo, snow/engine/snowman.
     #[tactic(auto, unfolding(crate::specs::Turning::runs_on), using(crate::proofs::Logs::logs_nothing))]
     pub fn receive(&mut self, frame: u64, block: &SentBlock, log: &mut Lines) -> Result<(), Halt>
         ensures answer { Turns result self.new (model.runs_on C.rules B.answer self.old frame (as_event block.now)).1 }
@@ -182,7 +191,7 @@ impl<C: Chain, B: Board> Running<C, B> {
         self.take_block(frame, &block.node, block.request, block.bytes, log)
     }
 
-    /// A block came, and the event ends.
+    /// Takes a block, and ends the event.
     fn take_block(
         &mut self,
         frame: u64,
@@ -198,8 +207,9 @@ impl<C: Chain, B: Board> Running<C, B> {
         self.round(log)
     }
 
-    /// A vote came, whose bytes may stand where they came. It stands apart, so that it has no room for
-    /// what other events bring.
+    /// Takes a vote, as `step` does a Chits, with its bytes where they stand. It returns what
+    /// `step` does. It is a function apart, so that it has no room for what other events bring.
+    /// Rule: AvalancheGo, snow/engine/snowman.
     #[inline(never)]
     pub fn hear_vote(
         &mut self,
@@ -216,7 +226,7 @@ impl<C: Chain, B: Board> Running<C, B> {
         self.take_vote(number, &peer, &id, log)
     }
 
-    /// A vote came, and the event ends.
+    /// Takes a vote, and ends the event.
     fn take_vote(
         &mut self,
         number: u32,
@@ -231,7 +241,9 @@ impl<C: Chain, B: Board> Running<C, B> {
         self.round(log)
     }
 
-    /// A peer won't answer, whose bytes may stand where they came. It stands apart, as the vote does.
+    /// Takes that a peer won't answer, as `step` does a Timeout, with its bytes where they stand.
+    /// It returns what `step` does. It is a function apart, as `hear_vote` is.
+    /// Rule: AvalancheGo, snow/engine/snowman.
     #[inline(never)]
     pub fn lapse(&mut self, number: u32, peer: &[u8; 20], log: &mut Lines) -> Result<(), Halt>
         ensures answer { Turns result self.new (then_comes (hearing.timed_out C.rules B.answer self.old number peer.now) (model.rounded B.answer)).1 }
@@ -241,7 +253,7 @@ impl<C: Chain, B: Board> Running<C, B> {
         self.take_timeout(number, &peer, log)
     }
 
-    /// A peer won't answer, and the event ends.
+    /// Takes that a peer won't answer, and ends the event.
     fn take_timeout(&mut self, number: u32, peer: &NodeId, log: &mut Lines) -> Result<(), Halt>
         ensures answer { Turns result self.new (then_comes (hearing.timed_out C.rules B.answer self.old number peer.now) (model.rounded B.answer)).1 }
         ensures lines { Tells result log.old log.new (then_comes (hearing.timed_out C.rules B.answer self.old number peer.now) (model.rounded B.answer)).0 }
@@ -250,7 +262,7 @@ impl<C: Chain, B: Board> Running<C, B> {
         self.round(log)
     }
 
-    /// The end of an event: queries follow where a poll was recorded.
+    /// Ends an event: it makes queries where a poll was recorded.
     fn round(&mut self, log: &mut Lines) -> Result<(), Halt>
         ensures answer { Turns result self.new (model.rounded B.answer self.old).1 }
         ensures lines { Tells result log.old log.new (model.rounded B.answer self.old).0 }
@@ -262,7 +274,7 @@ impl<C: Chain, B: Board> Running<C, B> {
         self.repoll(log)
     }
 
-    /// Whether the words would be too many.
+    /// Returns whether the words would be too many.
     fn overflows(&self, words: &Nums) -> bool
         ensures { result ≡ nat_lt 65536 (length self.now.words + length words.now) }
     {
@@ -270,7 +282,7 @@ impl<C: Chain, B: Board> Running<C, B> {
     }
 
     #[tactic(auto, using(crate::proofs::Logs::logs_nothing))]
-    /// Words came; they may bring queries where no poll runs.
+    /// Takes words, which may bring queries where no poll runs.
     fn take_words(&mut self, frame: u64, words: &Nums, log: &mut Lines) -> Result<(), Halt>
         ensures answer { Turns result self.new (model.words_came B.answer self.old frame words.now).1 }
         ensures lines { Tells result log.old log.new (model.words_came B.answer self.old frame words.now).0 }
@@ -286,7 +298,7 @@ impl<C: Chain, B: Board> Running<C, B> {
         }
     }
 
-    /// A new roster is in force, unless something is wrong with it.
+    /// Puts a new roster in force, unless something is wrong with it.
     fn take_nodes(&mut self, frame: u64, nodes: &Nodes, log: &mut Lines) -> Result<(), Halt>
         ensures answer { Turns result self.new (model.roster_came self.old frame (model.members nodes.now) (first_fault (model.members nodes.now))).1 }
         ensures lines { Tells result log.old log.new (model.roster_came self.old frame (model.members nodes.now) (first_fault (model.members nodes.now))).0 }
@@ -305,7 +317,7 @@ impl<C: Chain, B: Board> Running<C, B> {
     }
 }
 
-/// The board above a block, what peers are served then, and a queue in which nothing waits.
+/// Returns the board above a block, what peers are served then, and a queue in which nothing waits.
 fn fresh<B: Board>(
     alloc: Global,
     params: Params,
@@ -327,7 +339,7 @@ fn fresh<B: Board>(
     }
 }
 
-/// What peers are served above this block, and a queue in which nothing waits.
+/// Returns what peers are served above this block, and a queue in which nothing waits.
 fn lists(alloc: Global, last: Id) -> Result<(Getter, Queue), AllocError>
     ensures served { IfOk result (λ made. made.0 ≡ serving_from last) }
     ensures lists { IfOk result (λ made. lists_of made.1 ≡ begun last) }
@@ -342,7 +354,7 @@ fn lists(alloc: Global, last: Id) -> Result<(Getter, Queue), AllocError>
     }
 }
 
-/// A frame is passed over.
+/// Writes that a frame is passed over.
 fn skip(frame: u64, kind: SkipKind, log: &mut Lines) -> Result<(), Halt>
     ensures memory { OnErr result (result ≡ Err Halt.Memory) }
     ensures lines { Tells result log.old log.new (Line.Skip frame kind ∷ []) }
@@ -350,7 +362,9 @@ fn skip(frame: u64, kind: SkipKind, log: &mut Lines) -> Result<(), Halt>
     write(Line::Skip { frame, kind }, log)
 }
 
-/// The roster of these nodes.
+/// Returns the roster of these nodes, or the first fault that holds, as `Roster::new` does. On want
+/// of memory it returns `Memory`.
+/// Rule: AvalancheGo, snow/engine/snowman.
 pub fn roster_of(alloc: Global, nodes: &Nodes) -> Result<Roster, RosterFault>
     ensures { IsRosterOf (model.members nodes.now) result }
 {
@@ -358,7 +372,7 @@ pub fn roster_of(alloc: Global, nodes: &Nodes) -> Result<Roster, RosterFault>
     Roster::new(alloc, members.as_slice())
 }
 
-/// Nodes as a roster has them.
+/// Returns the nodes as a roster has them.
 fn members_of(alloc: Global, nodes: &Nodes) -> Result<Vec<Node>, AllocError>
     ensures { IfOk result (λ members. members.items ≡ model.members nodes.now) }
 {

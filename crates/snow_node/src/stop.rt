@@ -6,7 +6,10 @@ use snow_sample::RosterFault;
 use snow_store::BootStop;
 use std::alloc::AllocError;
 
-/// Why an engine doesn't start, or goes no further.
+/// Why an engine doesn't start, or stops. `Engine::start` returns `Params`, `Roster`, `State` or
+/// `Memory`; `Engine::step` returns `Boot`, `SecondStart`, `Requests` or `Memory`. The caller then
+/// only drops the engine.
+/// Rule: this project's own.
 #[derive(Clone, Copy, Debug)]
 pub enum EngineStop {
     /// The parameters of the Start are refused.
@@ -25,8 +28,9 @@ pub enum EngineStop {
     Memory,
 }
 
-/// Why a node goes no further, in a word. A stop that has more to tell is kept aside where it comes to
-/// be, so that no answer has room for it where all goes well.
+/// Why a node stops, in one byte. A stop that has more to tell stands aside where it came to be, so
+/// that a `Result` has no room for it where all goes well.
+/// Rule: this project's own.
 #[derive(Clone, Copy, Debug)]
 pub enum Halt {
     /// A Start came though the run has begun.
@@ -35,14 +39,15 @@ pub enum Halt {
     Requests,
     /// Memory ran out.
     Memory,
-    /// The stop is kept aside.
+    /// The stop stands aside.
     Kept,
 }
 
 impl Halt {
     ghost use Rattle.snow_node.specs.Stopping.{stop_for};
 
-    /// The stop that this word tells, with the one that is kept aside.
+    /// Returns the stop that this one stands for: `kept` where it is `Kept`.
+    /// Rule: this project's own.
     pub fn stop(self, kept: &EngineStop) -> EngineStop
         ensures { result ≡ stop_for kept.now self }
     {

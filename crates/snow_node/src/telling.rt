@@ -5,7 +5,8 @@ ghost use Rattle.snow_node.specs.Telling.{with_decision, with_decisions};
 use snow_chain::Chain;
 use snow_plain::Decision;
 
-/// The chain is told each decision, in order. It takes no memory.
+/// Tells the chain each decision, in order: it accepts or rejects the block. It takes no memory.
+/// Rule: AvalancheGo, snow/consensus/snowman.
 pub fn tell<C: Chain>(chain: &mut C, decisions: &[Decision])
     requires { MayFollow (C.held chain.old) decisions.now }
     ensures { C.held chain.new ≡ with_decisions (C.held chain.old) decisions.now }
@@ -15,7 +16,7 @@ pub fn tell<C: Chain>(chain: &mut C, decisions: &[Decision])
     }
 }
 
-/// The chain is told one decision.
+/// Tells the chain one decision.
 fn tell_one<C: Chain>(chain: &mut C, decision: &Decision)
     requires { MayTell (C.held chain.old) decision.now.id decision.now.accepted }
     ensures { C.held chain.new ≡ with_decision (C.held chain.old) decision.now }

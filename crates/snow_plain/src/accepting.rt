@@ -48,8 +48,11 @@ fn drop_decided(pending: &mut Vec<Pending>, decisions: &[Decision])
     pending.retain(|entry| !is_decided(decisions, &entry.block.id));
 }
 
-/// Accepts the pending block at this place, and rejects those that don't descend from it. All these
-/// are taken out, and told in order: the accepted one first, then the others in order of issue.
+/// Accepts the pending block at this place, which exists, and rejects those that don't descend from
+/// it. It takes all these out of `pending` and appends them to `decisions`: the accepted one first,
+/// then the others in order of issue. It returns the accepted block. `decisions` has room for all,
+/// so it takes no memory.
+/// Rule: AvalancheGo, snow/consensus/snowman.
 pub fn take_accepted(
     pending: &mut Vec<Pending>,
     last: &Id,

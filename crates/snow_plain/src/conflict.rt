@@ -6,7 +6,9 @@ use snow_flake::{Params, Rule};
 use std::alloc::{AllocError, Global};
 use std::marker::Model;
 
-/// The counters of one block's children, one for each bit list with which the bits of a child begin.
+/// The counters of one block's children, one for each bit list with which the bits of a child
+/// begin.
+/// Rule: AvalancheGo, snow/consensus/snowball.
 #[derive(Drop)]
 pub struct Conflict {
     tree: Tree,
@@ -34,7 +36,8 @@ impl Conflict {
     ghost use Rattle.snow_base.specs.Votes.{IsInBitOrder, total_count};
     ghost use Rattle.snow_plain.specs.Conflict.{Blank, with_child, all_polled, votes_on, leads_to, decides};
 
-    /// No counters, before a child is issued.
+    /// Returns no counters, as before a child is issued. It takes no memory.
+    /// Rule: AvalancheGo, snow/consensus/snowball.
     pub fn new(alloc: Global) -> Self
         ensures { result ≡ Blank }
     {
@@ -44,8 +47,9 @@ impl Conflict {
         }
     }
 
-    /// Adds a child: fresh counters for its bits where none stood, up to a decided counter of the
-    /// other bit. After want of memory the counters are as before.
+    /// Adds a child: its bits get fresh counters where none stood, up to a decided counter of the
+    /// other bit. On want of memory it returns `AllocError`, and the counters stay as they were.
+    /// Rule: AvalancheGo, snow/consensus/snowball.
     pub fn add(&mut self, child: &Id) -> Result<(), AllocError>
         ensures ok { OnOk result (self.new ≡ with_child (bits child.now) self.old) }
         ensures err { OnErr result (self.new ≡ self.old) }
@@ -53,8 +57,10 @@ impl Conflict {
         tree::add(&mut self.tree, self.alloc, child, 0)
     }
 
-    /// Every counter takes the bit step with its own votes, and those behind a decided counter of
-    /// the other bit go. The votes are those for children. It takes no memory.
+    /// Lets every counter make the bit step with its own votes, and drops those behind a decided
+    /// counter of the other bit. The votes are those for children, in bit order, fewer than 2^32.
+    /// It takes no memory.
+    /// Rule: AvalancheGo, snow/consensus/snowball.
     pub fn poll(&mut self, params: &Params, votes: &[Vote])
         requires order { IsInBitOrder votes.now }
         requires total { total_count votes.now < 2 ^ 32 }
@@ -63,14 +69,16 @@ impl Conflict {
         tree::poll(&mut self.tree, params, votes, 0);
     }
 
-    /// Whether the counters lead to this identifier, each by its answer.
+    /// Returns whether the counters lead to this identifier, each by its answer.
+    /// Rule: AvalancheGo, snow/consensus/snowball.
     pub fn leads_to<R: Rule>(&self, id: &Id) -> bool
         ensures { result ≡ leads_to R.answer self.now id.now }
     {
         tree::leads_to::<R>(&self.tree, id, 0)
     }
 
-    /// Whether decided counters alone lead to this identifier.
+    /// Returns whether decided counters alone lead to this identifier.
+    /// Rule: AvalancheGo, snow/consensus/snowball.
     pub fn decides(&self, id: &Id) -> bool
         ensures { result ≡ decides self.now id.now }
     {

@@ -55,9 +55,11 @@ fn poll_pending(
     }
 }
 
-/// All counters take the bit step with the votes that came to their block. The votes climb from
-/// where they are, past the latest block first, and `children` is where those that came to a block
-/// are counted by child. It takes no memory where this has places for them.
+/// Lets all counters make the bit step with the votes that came to their block. The votes climb
+/// from where they are, past the latest block first, and `children` counts those that came to a
+/// block by child. Each count is above 0, and all are fewer than 2^32 votes. It takes no memory,
+/// since `children` has places for them.
+/// Rule: AvalancheGo, snow/consensus/snowman.
 pub fn poll_all(
     params: &Params,
     last: &Id,

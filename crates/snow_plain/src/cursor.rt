@@ -4,6 +4,7 @@ use snow_base::{Bag, Header, Id, Vote};
 
 /// Votes for a block on their way up its line: they look for their own block first, then for its
 /// parent, and so on, past the latest pending block first.
+/// Rule: AvalancheGo, snow/consensus/snowman.
 #[derive(Clone, Copy)]
 pub struct Cursor {
     /// The next block on the line.
@@ -56,7 +57,9 @@ impl Cursor {
 ghost use Rattle.snow_plain.specs.Cursors.{started, moved, votes_at, cursor_total};
 ghost use Rattle.snow_plain.specs.Conflict.{votes_on};
 
-/// All votes at their own blocks. It takes no memory.
+/// Puts all votes at their own blocks, in place of what `cursors` held. `cursors` has room for
+/// them, so it takes no memory.
+/// Rule: AvalancheGo, snow/consensus/snowman.
 pub fn start_all(cursors: &mut Vec<Cursor>, votes: &[Vote])
     requires { length votes.now ≤ vec_capacity cursors.old }
     ensures cursors { cursors.new.items ≡ map started votes.now }
@@ -68,7 +71,8 @@ pub fn start_all(cursors: &mut Vec<Cursor>, votes: &[Vote])
     }
 }
 
-/// All votes after a block.
+/// Moves all votes past a block: those that looked for it look for its parent next.
+/// Rule: AvalancheGo, snow/consensus/snowman.
 pub fn advance(cursors: &mut [Cursor], block: &Header)
     ensures { cursors.new ≡ map (moved block.now) cursors.old }
 {
@@ -77,7 +81,10 @@ pub fn advance(cursors: &mut [Cursor], block: &Header)
     }
 }
 
-/// The votes that came to a parent, by its children. It takes no memory where the bag has places.
+/// Puts the votes that came to a parent into `children`, by the child through which they came.
+/// Their counts are above 0 and add up to less than 2^32. It takes no memory, since the bag has
+/// places for them.
+/// Rule: AvalancheGo, snow/consensus/snowman.
 pub fn gather(cursors: &[Cursor], parent: &Id, children: &mut Bag)
     requires places { length cursors.now ≤ children.old.room + length children.old.list }
     requires counts { All (λ c. 0 < c.count) cursors.now }

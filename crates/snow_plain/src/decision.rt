@@ -1,6 +1,7 @@
 use snow_base::Id;
 
-/// That a block was accepted, or rejected.
+/// Tells that a block was accepted, or rejected.
+/// Rule: AvalancheGo, snow/consensus/snowman.
 #[derive(Clone, Copy, Debug, PartialEq, Eq)]
 pub struct Decision {
     pub accepted: bool,

@@ -7,7 +7,9 @@ use crate::pending::Pending;
 use snow_base::{Header, Id};
 use std::alloc::AllocError;
 
-/// A block was issued: its parent's counters take it in. After want of memory all is as before.
+/// Adds a block that was issued to its parent's counters. On want of memory it returns
+/// `AllocError`, and all counters stay as they were.
+/// Rule: AvalancheGo, snow/consensus/snowman.
 pub fn issue_below(
     last: &Id,
     counters: &mut Conflict,

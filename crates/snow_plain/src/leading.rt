@@ -6,6 +6,7 @@ use snow_base::{Header, Id};
 use snow_flake::Rule;
 
 /// The preference of a board, and whether it is known that no block stands above it.
+/// Rule: AvalancheGo, snow/consensus/snowman.
 #[derive(Clone, Copy)]
 pub struct Leading {
     pub block: Id,
@@ -13,8 +14,9 @@ pub struct Leading {
 }
 
 impl Leading {
-    /// The same after a child was issued, with the state then. The answers are walked only where
-    /// the child stands on the preference, and that wasn't known to be the top.
+    /// Returns the preference after a child was issued, with the state then. It walks the answers
+    /// only where the child stands on the preference and that wasn't known to be the top.
+    /// Rule: AvalancheGo, snow/consensus/snowman.
     pub fn after_issue<R: Rule>(self, state: &State, child: &Header) -> Leading
         ensures { result ≡ leading_after R.answer self state.now child.now }
     {

@@ -8,10 +8,11 @@ use snow_flake::{Params, Rule};
 use std::alloc::{AllocError, Global};
 use std::marker::{Model, PhantomData};
 
-/// A board with one counter for each bit list, all of which take the bit step at each poll. The
-/// rule says how they answer. A poll goes once over all counters, and for each pending block once
-/// over the votes; then once over the pending blocks for each decision. An issue goes once over the
+/// A board with one counter for each bit list, all of which make the bit step at each poll. `R`
+/// says how they answer. A poll goes once over all counters, and for each pending block once over
+/// the votes; then once over the pending blocks for each decision. An issue goes once over the
 /// pending blocks, and walks the answers only for the first block on the preference after a poll.
+/// Rule: AvalancheGo, snow/consensus/snowman.
 #[derive(Drop)]
 pub struct PlainBoard<R: Rule> {
     state: State,

@@ -5,8 +5,9 @@ ghost use Rattle.snow_plain.specs.Alike.{GivesAll};
 use crate::board::Board;
 use snow_base::Bag;
 
-/// Records votes that stand for all alike ones, as those of a poll that was closed early: whichever of
-/// them had come, every board would be left as it is now, with the same decisions.
+/// Records votes, at most K, that stand for all alike ones, as those of a poll that closed early.
+/// Whichever of these had come, they would leave the board as it is now, with the same decisions.
+/// Rule: AvalancheGo, snow/consensus/snowman.
 pub fn record_for_all<B: Board>(board: &mut B, votes: &Bag)
     requires { total_count votes.now.list ≤ (B.board board.old).parameters.k }
     ensures { GivesAll (B.board board.old) votes.now.list (B.board board.new) (B.decided board.new) }

@@ -12,6 +12,7 @@ use std::marker::Model;
 
 /// The last accepted block and the pending ones in order of issue, with the counters of their
 /// children, and the parameters of the polls.
+/// Rule: AvalancheGo, snow/consensus/snowman.
 #[derive(Drop)]
 pub struct State {
     params: Params,
@@ -55,7 +56,8 @@ impl State {
     ghost use Rattle.snow_plain.specs.Reached.{MayIssue};
     ghost use Rattle.snow_plain.specs.Acceptance.{Accepts};
 
-    /// Nothing is pending above this block.
+    /// Returns the state where nothing is pending above this block.
+    /// Rule: AvalancheGo, snow/consensus/snowman.
     pub fn begin(alloc: Global, params: Params, last: Id, height: u64) -> Self
         ensures { result ≡ begin params last height }
     {
@@ -68,7 +70,9 @@ impl State {
         }
     }
 
-    /// A block is issued: no other stands above it. After want of memory all is as before.
+    /// Issues a block as `Board::issue` may; no pending block stands above it then. On want of
+    /// memory it returns `AllocError`, and all stays as it was.
+    /// Rule: AvalancheGo, snow/consensus/snowman.
     pub fn issue(&mut self, alloc: Global, child: Header) -> Result<(), AllocError>
         requires { MayIssue self.old child }
         ensures ok { OnOk result (self.new ≡ issued self.old child) }
@@ -84,32 +88,40 @@ impl State {
         Ok(())
     }
 
-    /// How many votes a poll may have.
+    /// Returns K, from 1 to 1,024: how many votes a poll has at most.
+    /// Rule: the Snow family paper.
     pub fn k(&self) -> u32
         ensures { result ≡ self.now.parameters.k }
     {
         self.params.k()
     }
 
+    /// Returns the last accepted block.
+    /// Rule: AvalancheGo, snow/consensus/snowman.
     pub fn last(&self) -> Id
         ensures { result ≡ self.now.last }
     {
         self.last
     }
 
+    /// Returns the height of the last accepted block, below 2^64.
+    /// Rule: AvalancheGo, snow/consensus/snowman.
     pub fn height(&self) -> u64
         ensures { result ≡ self.now.height }
     {
         self.height
     }
 
+    /// Returns how many blocks are pending.
+    /// Rule: AvalancheGo, snow/consensus/snowman.
     pub fn pending_len(&self) -> usize
         ensures { result ≡ length self.now.pending }
     {
         self.pending.len()
     }
 
-    /// What a pending block says of itself, and nothing for any other.
+    /// Returns what a pending block says of itself, or `None` for any other.
+    /// Rule: AvalancheGo, snow/consensus/snowman.
     pub fn block(&self, id: &Id) -> Option<Header>
         ensures { result ≡ option_map (λ q. q.block) (block_of self.now id.now) }
     {
@@ -121,18 +133,24 @@ impl State {
         None
     }
 
+    /// Returns whether a block is pending.
+    /// Rule: AvalancheGo, snow/consensus/snowman.
     pub fn is_pending(&self, id: &Id) -> bool
         ensures { result ≡ is_pending self.now id.now }
     {
         self.block(id).is_some()
     }
 
+    /// Returns the parent of a pending block, or `None` for any other.
+    /// Rule: AvalancheGo, snow/consensus/snowman.
     pub fn parent_of(&self, id: &Id) -> Option<Id>
         ensures { result ≡ parent_of self.now id.now }
     {
         self.block(id).map(|block| block.parent)
     }
 
+    /// Returns the height of a block on the board, below 2^64, or `None` for any other.
+    /// Rule: AvalancheGo, snow/consensus/snowman.
     pub fn height_of(&self, id: &Id) -> Option<u64>
         ensures { result ≡ height_of self.now id.now }
     {
@@ -142,7 +160,8 @@ impl State {
         self.block(id).map(|block| block.height)
     }
 
-    /// The block to which the answers lead from the last accepted one.
+    /// Returns the block to which the answers lead from the last accepted one.
+    /// Rule: AvalancheGo, snow/consensus/snowman.
     #[tactic(auto, unfolding(crate::specs::Preference::path_from))]
     pub fn preference<R: Rule>(&self) -> Id
         ensures { result ≡ preferred R.answer self.now }
@@ -158,7 +177,9 @@ impl State {
         at
     }
 
-    /// Whether a block is on the path from the last accepted block to the preference, both included.
+    /// Returns whether a block is on the path from the last accepted block to the preference, both
+    /// included.
+    /// Rule: AvalancheGo, snow/consensus/snowman.
     #[tactic(auto, unfolding(crate::specs::Preference::path_from))]
     pub fn is_preferred<R: Rule>(&self, id: &Id) -> bool
         ensures { result ≡ is_preferred R.answer self.now id.now }
@@ -180,9 +201,10 @@ impl State {
         false
     }
 
-    /// Every counter takes the bit step with the votes below its own block. The votes are walked in
-    /// `cursors`, and those that came to a block are counted by child in `children`: it takes no
-    /// memory where both have room for them.
+    /// Lets every counter make the bit step with the votes below its own block. The counts are
+    /// above 0 and add up to less than 2^32. It walks the votes in `cursors`, and counts those that
+    /// came to a block by child in `children`. Both have room for them, so it takes no memory.
+    /// Rule: AvalancheGo, snow/consensus/snowman.
     pub fn count(&mut self, votes: &[Vote], cursors: &mut Vec<Cursor>, children: &mut Bag)
         requires room { length votes.now ≤ vec_capacity cursors.old }
         requires places { length votes.now ≤ children.old.room + length children.old.list }
@@ -245,8 +267,10 @@ impl State {
         }
     }
 
-    /// Accepts children of the last accepted block while decided counters lead to one, and tells
-    /// the decisions in order.
+    /// Accepts children of the last accepted block while decided counters lead to one, and appends
+    /// the decisions in order. `decisions` has room for one of each pending block, so it takes no
+    /// memory.
+    /// Rule: AvalancheGo, snow/consensus/snowman.
     pub fn settle(&mut self, decisions: &mut Vec<Decision>)
         requires { vec_len decisions.old + length self.old.pending ≤ vec_capacity decisions.old }
         ensures board { self.new ≡ (settled (length self.old.pending) self.old).0 }

@@ -16,13 +16,16 @@ use snow_flake::{Binary, Params, Rule, Snowflake, Unary};
 use std::alloc::{AllocError, Global};
 
 /// A tree of instances: one for the next bit, and what is below each of its sides.
+/// Rule: AvalancheGo, snow/consensus/snowball.
 #[derive(Drop)]
 pub enum Tree {
     Leaf,
     Fork(Binary, Box<Tree>, Box<Tree>),
 }
 
-/// Adds a child's fresh counters from a bit on. After want of memory the tree is as before.
+/// Adds a child's fresh counters from a bit on. On want of memory it returns `AllocError`, and the
+/// tree stays as it was.
+/// Rule: AvalancheGo, snow/consensus/snowball.
 pub fn add(tree: &mut Tree, alloc: Global, child: &Id, bit: u16) -> Result<(), AllocError>
     requires { depth (counters_of tree.old) + bit ≤ 256 }
     ensures ok { OnOk result (counters_of tree.new ≡ with_child (drop bit (bits child.now)) (counters_of tree.old)) }
@@ -75,7 +78,9 @@ fn link(alloc: Global, side: bool, below: Tree) -> Result<Tree, AllocError>
     })
 }
 
-/// Each counter from a bit on takes the bit step with its votes. All votes agree below that bit.
+/// Lets each counter from a bit on make the bit step with its votes. All votes agree below that
+/// bit; they are fewer than 2^32.
+/// Rule: AvalancheGo, snow/consensus/snowball.
 #[cycle(poll)]
 pub fn poll(tree: &mut Tree, params: &Params, votes: &[Vote], bit: u16)
     requires deep { depth (counters_of tree.old) + bit ≤ 256 }
@@ -92,7 +97,7 @@ pub fn poll(tree: &mut Tree, params: &Params, votes: &[Vote], bit: u16)
     }
 }
 
-// The same for one side of a counter; a side that the counter rules out is dropped.
+// Polls one side of a counter, and drops a side that the counter rules out.
 #[cycle(poll)]
 fn poll_side(side: &mut Tree, params: &Params, votes: &[Vote], bit: u16, is_open: bool)
     requires deep { depth (counters_of side.old) + bit ≤ 256 }
@@ -143,7 +148,8 @@ fn is_decided_as(counter: &Binary, side: bool) -> bool
     counter.is_final() && counter.preference::<Snowflake>() == side
 }
 
-/// Whether the answers lead to the bits of this identifier from a bit on.
+/// Returns whether the answers lead to the bits of this identifier from a bit on.
+/// Rule: AvalancheGo, snow/consensus/snowball.
 pub fn leads_to<R: Rule>(tree: &Tree, id: &Id, bit: u16) -> bool
     requires { depth (counters_of tree.now) + bit ≤ 256 }
     ensures { result ≡ pointwise beq (chosen R.answer (counters_of tree.now)) (drop bit (bits id.now)) }
@@ -157,7 +163,8 @@ pub fn leads_to<R: Rule>(tree: &Tree, id: &Id, bit: u16) -> bool
     }
 }
 
-/// Whether decided counters alone lead to the bits of this identifier from a bit on.
+/// Returns whether decided counters alone lead to the bits of this identifier from a bit on.
+/// Rule: AvalancheGo, snow/consensus/snowball.
 pub fn decides(tree: &Tree, id: &Id, bit: u16) -> bool
     requires { depth (counters_of tree.now) + bit ≤ 256 }
     ensures { result ≡ option_map_or (λ path. pointwise beq path (drop bit (bits id.now))) (decided_path (counters_of tree.now)) false }

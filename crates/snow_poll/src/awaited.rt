@@ -148,7 +148,7 @@ impl Awaited {
         }
     }
 
-    // The same by a walk of the node's class.
+    // The number of a node, by a walk of its class.
     #[inline(always)]
     fn walk(&self, node: &NodeId) -> usize
         ensures { IsNumberOf self.now.waits.items node.now result }

@@ -1,5 +1,5 @@
-//! The table of polls: each counts the replies of the nodes that were drawn, and is closed as soon
-//! as no reply can change what it does.
+//! The table of polls. A poll counts the replies of the nodes that it drew, and closes as soon as
+//! no reply can change what it does.
 #![tactic(auto)]
 
 mod awaited;

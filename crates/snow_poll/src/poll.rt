@@ -44,8 +44,8 @@ impl Poll {
     ghost use Rattle.snow_poll.specs.Closing.{is_closed};
     ghost use Rattle.snow_poll.specs.Table.{new_poll};
 
-    /// A poll over these draws, without replies, in the room of one that left and of its votes. What
-    /// it will need beyond that is made here.
+    /// Returns a poll over these draws, without replies, in the room of one that left and of its
+    /// votes. It makes what it will need beyond that.
     pub(crate) fn begin(
         alloc: Global,
         left: Option<Box<Nodes>>,
@@ -70,22 +70,22 @@ impl Poll {
         })
     }
 
-    /// Its number.
+    /// Returns its number.
     pub(crate) fn number(&self) -> u32
         ensures { result ≡ self.now.number }
     {
         self.number
     }
 
-    /// Whether it awaits a reply of this node.
+    /// Returns whether it awaits a reply of this node.
     pub(crate) fn awaits(&self, node: &NodeId) -> bool
         ensures { result ≡ awaits self.now node.now }
     {
         self.nodes.awaited.contains(node)
     }
 
-    /// Counts the reply of a node, if it awaits one: whether it did. Else nothing changes. It takes
-    /// no memory.
+    /// Counts the reply of a node, if it awaits one, and returns whether it did. Else nothing
+    /// changes. It takes no memory.
     #[inline(always)]
     pub(crate) fn count(&mut self, node: &NodeId, id: &Option<Id>) -> bool
         ensures awaited { result ≡ awaits self.old node.now }
@@ -103,7 +103,7 @@ impl Poll {
         true
     }
 
-    /// Whether it is closed, by one of the four cases.
+    /// Returns whether it is closed, by one of the four cases.
     pub(crate) fn is_closed(&self, params: &Params) -> bool
         ensures closed { result ≡ is_closed params.now self.now }
         ensures good { AreGood params.now }
@@ -112,7 +112,7 @@ impl Poll {
         closes(params, reach, self.outstanding, self.most)
     }
 
-    /// Its votes. What it kept of its nodes is left for one that is begun later.
+    /// Returns its votes. It leaves what it kept of its nodes for a poll that is begun later.
     pub(crate) fn into_votes(self, left: &mut Option<Box<Nodes>>) -> Bag
         ensures votes { result.list ≡ votes_of self }
         ensures within { received self + outstanding self ≤ draw_count self.draws }

@@ -20,7 +20,9 @@ use thiserror::Error;
 // How many polls are in the table at most.
 const MOST_POLLS: usize = 1024;
 
-/// Why no poll is begun.
+/// Why `Polls::begin` begins no poll: `Full` exactly at 1,024 polls, `Memory` on want of memory.
+/// The table stays as it was.
+/// Rule: this project's own.
 #[derive(Clone, Copy, Debug, PartialEq, Eq, Error)]
 pub enum PollFault {
     /// There are 1,024 polls in the table.
@@ -41,7 +43,8 @@ impl From<AllocError> for PollFault {
     }
 }
 
-/// What became of a reply.
+/// What `Polls::vote` did with a reply.
+/// Rule: AvalancheGo, snow/consensus/snowman/poll.
 #[derive(Clone, Copy, Debug, PartialEq, Eq)]
 pub enum Answered {
     /// It was counted.
@@ -50,7 +53,8 @@ pub enum Answered {
     NotAwaited,
 }
 
-/// A closed poll that left the table.
+/// A closed poll that left the table, with the votes that its nodes gave, at most K.
+/// Rule: AvalancheGo, snow/consensus/snowman/poll.
 #[derive(Debug, Drop)]
 pub struct Closed {
     /// Its number.
@@ -62,12 +66,12 @@ pub struct Closed {
 /// The table of polls, at most 1,024 of them. Contracts see the parameters, and the list of polls
 /// in order of beginning, each with its number, its draws and its replies.
 ///
-/// A poll counts the reply of each node that was drawn as often as that node was drawn, and once
-/// only. It is closed where nothing is outstanding, where no identifier can reach AlphaPreference,
-/// where one has AlphaPreference and none can reach AlphaConfidence, or where one has
-/// AlphaConfidence, as in AvalancheGo's early termination. Only the front poll leaves, and only
-/// while it is closed; until it leaves, its late replies count. The room of the one that left last is
-/// used by the next one that is begun.
+/// A poll counts the reply of each node as often as the node was drawn, and once only. It is closed
+/// where nothing is outstanding, where no identifier can reach AlphaPreference, where one has
+/// AlphaPreference and none can reach AlphaConfidence, or where one has AlphaConfidence. Only the
+/// front poll leaves, and only while it is closed; until it leaves, its late replies count. The
+/// next poll that is begun uses the room of the one that left last.
+/// Rule: AvalancheGo, snow/consensus/snowman/poll.
 #[derive(Debug, Drop)]
 pub struct Polls {
     alloc: Global,
@@ -94,7 +98,8 @@ impl Model for Polls {
 impl Polls {
     ghost use Rattle.snow_poll.specs.Table.{no_polls, has_number, begun, is_awaited, voted, answer, finished, shortened, StandsForFront};
 
-    /// The table without polls. It takes no memory.
+    /// Returns the table without polls. It takes no memory.
+    /// Rule: AvalancheGo, snow/consensus/snowman/poll.
     pub fn new(alloc: Global, params: Params) -> Polls
         ensures { result ≡ no_polls params }
     {
@@ -108,9 +113,10 @@ impl Polls {
         }
     }
 
-    /// Begins a poll over draws that add up to K, no node twice, under a number that isn't in the
-    /// table. `Full` comes exactly where 1,024 polls are in the table. All room that the poll will
-    /// need is made here; after `Full` and after want of memory the table is as before.
+    /// Begins a poll over draws that add up to K, of distinct nodes, under a number that isn't in
+    /// the table. It makes all room that the poll will need. It returns `Full` exactly where 1,024
+    /// polls are in the table, and `Memory` on want of memory; at both the table stays as it was.
+    /// Rule: AvalancheGo, snow/consensus/snowman/poll.
     pub fn begin(&mut self, number: u32, draws: &Draws) -> Result<(), PollFault>
         requires number { has_number self.old.polls number ≡ false }
         requires whole { draw_count draws.now ≡ self.old.parameters.k }
@@ -131,8 +137,9 @@ impl Polls {
         Ok(())
     }
 
-    /// Whether a poll of this number awaits a reply of this node: the node was drawn for it and has
-    /// not replied.
+    /// Returns whether a poll of this number awaits a reply of this node: it drew the node, and the
+    /// node has neither replied nor been dropped.
+    /// Rule: AvalancheGo, snow/consensus/snowman/poll.
     pub fn awaits(&self, number: u32, node: &NodeId) -> bool
         ensures { result ≡ is_awaited self.now.polls number node.now }
     {
@@ -142,9 +149,10 @@ impl Polls {
         }
     }
 
-    /// Counts the reply of a node to the poll of a number: an identifier, or none where the node
-    /// gives no vote. `NotAwaited` comes exactly where `awaits` is false, and nothing changed then.
-    /// It takes no memory.
+    /// Counts the reply of a node to the poll of a number: an identifier, or `None` where the node
+    /// gives no vote. It returns `NotAwaited` exactly where `awaits` is false, and nothing changes
+    /// then; else `Counted`. It takes no memory.
+    /// Rule: AvalancheGo, snow/consensus/snowman/poll.
     #[inline(always)]
     pub fn vote(&mut self, number: u32, node: &NodeId, id: Option<Id>) -> Answered
         ensures answer { result ≡ answer self.old.polls number node.now }
@@ -170,8 +178,8 @@ impl Polls {
         }
     }
 
-    // The same as `vote`, for the poll of any number. It looks at what a reply names, so that no copy of
-    // that is made where the poll is in front.
+    // What `vote` does, for the poll of any number. It borrows what a reply names, so that no copy of that
+    // is made where the poll is in front.
     #[inline(never)]
     fn vote_behind(&mut self, number: u32, node: &NodeId, id: &Option<Id>) -> Answered
         ensures answer { result ≡ answer self.old.polls number node.now }
@@ -187,10 +195,11 @@ impl Polls {
         Answered::Counted
     }
 
-    /// Takes the front poll out where it is closed. There is none exactly where no poll is in the
-    /// table or the front one isn't closed; nothing changes then. The votes stand for those of each
-    /// completion of the poll: they are alike to them, so a board makes the same of both. It takes
-    /// no memory.
+    /// Takes the front poll out where it is closed, and returns it. It returns `None` exactly where
+    /// no poll is in the table or the front one isn't closed; nothing changes then. The votes, at
+    /// most K, stand for those of each completion of the poll: they are alike to them, so a board
+    /// makes the same of both. It takes no memory.
+    /// Rule: AvalancheGo, snow/consensus/snowman/poll.
     #[inline(always)]
     pub fn take_finished(&mut self) -> Option<Closed>
         ensures found { option_map (λ c. (c.number, c.votes.list)) result ≡ finished self.old.parameters self.old.polls }
@@ -233,14 +242,17 @@ impl Polls {
         Some(Closed { number, votes })
     }
 
-    /// Takes the votes of a poll that left back: their room is used by the next one that is begun.
+    /// Takes back the votes of a poll that left, so that the next poll uses their room. The table
+    /// stays as it is for contracts.
+    /// Rule: this project's own.
     pub fn take_back(&mut self, votes: Bag)
         ensures { self.new ≡ self.old }
     {
         self.spare = votes;
     }
 
-    /// How many polls there are.
+    /// Returns how many polls are in the table, at most 1,024.
+    /// Rule: AvalancheGo, snow/consensus/snowman/poll.
     pub fn len(&self) -> usize
         ensures len { result ≡ length self.now.polls }
         ensures few { result ≤ 1024 }

@@ -1,6 +1,7 @@
 use snow_base::{Id, NodeId};
 
-/// A node's reply to a poll: the identifier that it votes for, or none.
+/// A node's reply to a poll: the identifier for which it votes, or none.
+/// Rule: AvalancheGo, snow/consensus/snowman/poll.
 #[derive(Clone, Copy, Debug)]
 pub struct Reply {
     /// The node.

@@ -1,4 +1,4 @@
-//! Which entry came last of those whose identifiers share a seat.
+//! The entries that came last, by the seats of their identifiers.
 ghost use Rattle.std.specs.Prelude.{◌≡◌, ◌<◌, get_or, length, slice_set, IfOk};
 ghost use Rattle.snow_recent.specs.Index.{seat_of};
 
@@ -9,8 +9,8 @@ use std::marker::Model;
 // How many seats there are.
 const SEATS: usize = 131_072;
 
-/// For each seat a number: where there is an entry of the seat, that of the one which came last.
-/// Contracts see the numbers.
+/// Maps each seat to the number of the entry of that seat that came last. Contracts see the
+/// numbers.
 #[derive(Drop)]
 pub(crate) struct Heads {
     numbers: Vec<u32>,
@@ -27,13 +27,13 @@ impl Model for Heads {
 }
 
 impl Heads {
-    /// A number for each seat, which is that of no entry for a long time.
+    /// Returns a number for each seat, that of an entry which is gone long since.
     pub(crate) fn new(alloc: Global) -> Result<Heads, AllocError> {
         let numbers = filled(alloc, SEATS)?;
         Ok(Heads { numbers })
     }
 
-    /// The number at an identifier's seat.
+    /// Returns the number at an identifier's seat.
     pub(crate) fn number(&self, id: &Id) -> u32
         ensures { result ≡ get_or self.now (seat_of id.now) 0 }
     {
@@ -49,7 +49,7 @@ impl Heads {
     }
 }
 
-/// The seat of an identifier.
+/// Returns the seat of an identifier.
 #[inline(always)]
 pub(crate) fn seat_of(id: &Id) -> usize
     ensures seat { result ≡ seat_of id.now }

@@ -1,6 +1,6 @@
-//! Where the latest entry of an identifier stands: numbers in the order of identifiers, one for each.
-//! They rise by one from entry to entry, and go on from 0 after 2^32-1, so what is forgotten moves
-//! none.
+//! Where the latest entry of an identifier stands: numbers in the order of identifiers, one for
+//! each. They rise by one from entry to entry, and go on from 0 after 2^32-1, so forgetting an
+//! entry changes none.
 ghost use Rattle.std.specs.Prelude.{◌≡◌, ◌==◌, ◌+◌, ◌-◌, ◌<◌, ◌≤◌, ◌||◌, true, false, [], length, get_or};
 ghost use Rattle.std.specs.List.{slice_get, concat};
 ghost use Rattle.std.specs.Option.{option_copied};

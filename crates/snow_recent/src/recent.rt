@@ -17,9 +17,10 @@ use std::marker::Model;
 
 /// The last `MOST` entries that came. Contracts see the list of them, the latest last.
 ///
-/// The latest entry of an identifier mostly stands at the head of its seat, and else in a table, so
-/// that identifiers of senders' choice cost little more than any others. All room is made with the
-/// list, so that no other call takes memory.
+/// The latest entry of an identifier mostly stands at the head of its seat, and else in a table. So
+/// identifiers that a sender chooses cost little more than any others. It makes all room when it is
+/// made, so that no later call takes memory.
+/// Rule: this project's own.
 #[derive(Drop)]
 pub struct Recent<T: Named, const MOST: usize> {
     entries: VecDeque<T>,
@@ -42,7 +43,9 @@ impl<T: Named, const MOST: usize> Model for Recent<T, MOST> {
 }
 
 impl<T: Named, const MOST: usize> Recent<T, MOST> {
-    /// No entry, and room for all that there will ever be.
+    /// Returns the empty list, with room for all `MOST` entries, a number from 1 to 2^32-1. On want
+    /// of memory it returns `AllocError`.
+    /// Rule: this project's own.
     pub fn new(alloc: Global) -> Result<Self, AllocError>
         requires some { 0 < MOST }
         requires fits { MOST < 2 ^ 32 }
@@ -59,15 +62,17 @@ impl<T: Named, const MOST: usize> Recent<T, MOST> {
         })
     }
 
-    /// Appends an entry. Where `MOST` entries are there, the oldest one is forgotten. It takes no
-    /// memory.
+    /// Appends an entry. Where `MOST` entries are there, the oldest one goes. It takes no memory.
+    /// Rule: this project's own.
     pub fn push(&mut self, entry: T)
         ensures { self.new ≡ with_latest MOST self.old entry }
     {
         let _forgotten = self.exchange(entry);
     }
 
-    /// Appends an entry, and gives the oldest one back where it is forgotten. It takes no memory.
+    /// Appends an entry. Where `MOST` entries are there, the oldest one goes and is returned; else
+    /// it returns `None`. It takes no memory.
+    /// Rule: this project's own.
     #[inline(always)]
     pub fn exchange(&mut self, entry: T) -> Option<T>
         ensures list { self.new ≡ with_latest MOST self.old entry }
@@ -91,7 +96,8 @@ impl<T: Named, const MOST: usize> Recent<T, MOST> {
         None
     }
 
-    /// How many entries there are: at most `MOST`.
+    /// Returns how many entries there are, at most `MOST`.
+    /// Rule: this project's own.
     pub fn len(&self) -> usize
         ensures len { result ≡ length self.now }
         ensures most { result ≤ MOST }
@@ -101,7 +107,9 @@ impl<T: Named, const MOST: usize> Recent<T, MOST> {
         self.entries.len()
     }
 
-    /// The latest entry of an identifier. Mostly the head of its seat tells, without a call.
+    /// Returns the latest entry of an identifier, or `None` exactly where it has none. Mostly the
+    /// head of its seat tells, without a call.
+    /// Rule: this project's own.
     #[inline(always)]
     pub fn latest(&self, id: &Id) -> Option<&T>
         ensures { option_copied result ≡ latest T.id self.now id.now }
@@ -117,14 +125,16 @@ impl<T: Named, const MOST: usize> Recent<T, MOST> {
         latest_filed(&self.table, &self.entries, self.first, id)
     }
 
-    /// The entry that came last.
+    /// Returns the entry that came last, or `None` exactly where the list is empty.
+    /// Rule: this project's own.
     pub fn newest(&self) -> Option<&T>
         ensures { option_copied result ≡ last_or None self.now }
     {
         index::entry_at(&self.entries, self.entries.len().saturating_sub(1))
     }
 
-    /// Whether there is an entry of an identifier.
+    /// Returns whether there is an entry of an identifier.
+    /// Rule: this project's own.
     pub fn holds(&self, id: &Id) -> bool
         ensures { result ≡ is_some (latest T.id self.now id.now) }
     {

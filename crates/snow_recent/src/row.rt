@@ -12,7 +12,7 @@ pub(crate) const ROW: usize = 128;
 const HALF: usize = 64;
 
 /// At most 128 numbers, each with a key, which tells where to look first for it. Contracts see the
-/// numbers. All room is made with the row.
+/// numbers. A row makes all its room when it is made.
 #[derive(Drop)]
 pub(crate) struct Row {
     numbers: Vec<u32>,
@@ -30,7 +30,7 @@ impl Model for Row {
 }
 
 impl Row {
-    /// No number, and room for 128.
+    /// Returns no number, and room for 128.
     pub(crate) fn new(alloc: Global) -> Result<Row, AllocError>
         ensures { IfOk result (λ row. row ≡ []) }
     {
@@ -52,12 +52,13 @@ impl Row {
         self.numbers.as_slice()
     }
 
-    /// Where the first number stands whose key isn't below this one, where keys rise.
+    /// Returns where the first number stands whose key isn't below this one, where keys rise.
     pub(crate) fn find(&self, key: u32) -> usize {
         self.keys.partition_point(|other| *other < key)
     }
 
-    /// Whether the key of the last number is below this one, as it is where there is no number.
+    /// Returns whether the key of the last number is below this one, as it is where there is no
+    /// number.
     pub(crate) fn ends_below(&self, key: u32) -> bool {
         match self.keys.last() {
             Some(last) => *last < key,
@@ -73,7 +74,7 @@ impl Row {
         self.numbers[at] = number;
     }
 
-    /// Puts a number in.
+    /// Puts a number in at a place, for which there is room.
     pub(crate) fn insert(&mut self, at: usize, number: u32, key: u32)
         requires within { at ≤ length self.old }
         requires room { length self.old < 128 }
@@ -94,7 +95,7 @@ impl Row {
         self.keys.remove(at);
     }
 
-    /// Its upper half goes to an empty row.
+    /// Moves the upper half to an empty row.
     pub(crate) fn halve(&mut self, upper: &mut Row)
         requires most { length self.old ≤ 128 }
         requires some { 64 ≤ length self.old }
@@ -110,7 +111,7 @@ impl Row {
         self.keys.truncate(HALF);
     }
 
-    /// The numbers of another row come behind its own.
+    /// Appends the numbers of another row.
     pub(crate) fn join(&mut self, other: &mut Row)
         requires { length self.old + length other.old ≤ 128 }
         ensures own { self.new ≡ self.old ++ other.old }

@@ -1,4 +1,4 @@
-//! How entries take seats, and what the table has of those that gave way.
+//! How entries take seats, and what the table has of those that gave theirs up.
 ghost use Rattle.std.specs.Prelude.{◌≡◌, ◌==◌, ◌<◌, ◌&&◌, not, bytes_eq, length};
 ghost use Rattle.std.specs.List.{concat};
 ghost use Rattle.snow_recent.specs.Index.{id_of, IsRising, gives_way, seated, seat_of, HasNoSeated, without_oldest};
@@ -27,7 +27,8 @@ fn is_other(head: &Id, id: &Id) -> bool
     head != id && seat_of(head) == seat_of(id)
 }
 
-/// An identifier takes its seat, at which this number stands: it is filed, if its entry gives way.
+/// Gives a seat to an identifier. It files the number that stands there in the table, if its entry
+/// gives way.
 pub(crate) fn take_seat<T: Named>(
     table: &mut Table,
     entries: &VecDeque<T>,
@@ -45,7 +46,7 @@ pub(crate) fn take_seat<T: Named>(
     }
 }
 
-/// Takes the number of the oldest entry out of the table, if it is there. It isn't where it still has
+/// Takes the number of the oldest entry out of the table. It isn't there where the entry still has
 /// its seat.
 pub(crate) fn forget_oldest<T: Named>(
     table: &mut Table,

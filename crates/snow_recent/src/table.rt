@@ -1,6 +1,6 @@
 //! Numbers in the order of the identifiers of their entries, cut into rows, so that one that comes
-//! or leaves moves only the others of its row. Rows next to one another have 64 numbers together at
-//! least, which bounds how many rows there are: all are made with the table.
+//! or leaves moves only the others of its row. Rows next to one another have at least 64 numbers
+//! together. So there are only so many rows, and the table makes all when it is made.
 ghost use Rattle.std.specs.Prelude.{◌≡◌, ℕ, ◌+◌, ◌-◌, ◌<◌, ◌≤◌, ◌^◌, [], ◌∷◌, ◌++◌, All, length, take, get_or, nat_lt, replicate, IfOk, vec_capacity};
 ghost use Rattle.std.specs.List.{concat};
 ghost use Rattle.snow_recent.specs.Index.{id_of, IsRising, without_oldest, filed};
@@ -37,7 +37,7 @@ impl Model for Table {
 }
 
 impl Table {
-    /// No number, and room for as many as there will ever be.
+    /// Returns no number, and room for as many as there will ever be.
     pub(crate) fn new(alloc: Global, most: usize) -> Result<Table, AllocError>
         requires { most < 2 ^ 32 }
         ensures rows { IfOk result (λ made. made.rows ≡ [] ∷ []) }
@@ -51,8 +51,8 @@ impl Table {
         Ok(Table { rows, spare, most })
     }
 
-    /// The number of an identifier's latest entry. Mostly the place that its first bytes lead to tells,
-    /// and the one before.
+    /// Returns the number of an identifier's latest entry. Mostly the place to which its first
+    /// bytes lead tells, or the one before.
     pub(crate) fn latest<T: Named>(&self, entries: &VecDeque<T>, first: u32, id: &Id) -> Option<u32>
         requires { IsRising (id_of T.id entries.now.items first) (concat self.now.rows) }
         ensures { IsLatest (id_of T.id entries.now.items first) (concat self.now.rows) id.now result }
@@ -71,7 +71,7 @@ impl Table {
         self.search(entries, first, id)
     }
 
-    // The same, where the first bytes don't tell.
+    // The number of the latest entry, by a search where the first bytes don't tell.
     fn search<T: Named>(&self, entries: &VecDeque<T>, first: u32, id: &Id) -> Option<u32>
         requires { IsRising (id_of T.id entries.now.items first) (concat self.now.rows) }
         ensures { IsLatest (id_of T.id entries.now.items first) (concat self.now.rows) id.now result }
@@ -99,7 +99,7 @@ impl Table {
         join_last(&mut self.rows, &mut self.spare, at);
     }
 
-    /// Files the number of a new entry: it replaces the number of an older entry of the identifier.
+    /// Files the number of a new entry, in place of that of an older entry of its identifier.
     #[inline(never)]
     pub(crate) fn file<T: Named>(&mut self, entries: &VecDeque<T>, first: u32, number: u32)
         requires order { IsRising (id_of T.id entries.now.items first) (concat self.old.rows) }

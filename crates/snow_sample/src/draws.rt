@@ -4,7 +4,8 @@ use snow_base::NodeId;
 use std::alloc::{AllocError, Global};
 use std::marker::Model;
 
-/// How often a node was drawn.
+/// A node of 20 bytes, and how often a sample drew it.
+/// Rule: AvalancheGo, utils/sampler.
 #[derive(Clone, Copy, Debug, PartialEq, Eq)]
 pub struct Draw {
     /// The node.
@@ -13,7 +14,9 @@ pub struct Draw {
     pub count: u32,
 }
 
-/// The draws of a sample, in order of first draw. Contracts see the list of them.
+/// The draws of a sample, in order of first draw. Contracts see the list of them. Each has a count
+/// of at least 1.
+/// Rule: AvalancheGo, utils/sampler.
 #[derive(Debug, Drop)]
 pub struct Draws {
     draws: Vec<Draw>,
@@ -34,7 +37,8 @@ impl Draws {
     ghost use Rattle.snow_sample.specs.Kept.{is_at, one_more};
     ghost use Rattle.snow_sample.specs.Sampling.{draw_count};
 
-    /// No draws. It takes no memory.
+    /// Returns the empty list of draws. It takes no memory.
+    /// Rule: AvalancheGo, utils/sampler.
     pub fn new(alloc: Global) -> Draws
         ensures { result ≡ [] }
     {
@@ -43,7 +47,9 @@ impl Draws {
         }
     }
 
-    /// Appends a draw, of a count of at least 1. After want of memory the draws are as before.
+    /// Appends a draw, whose count is at least 1. On want of memory it returns `AllocError`, and
+    /// the draws stay as they were.
+    /// Rule: AvalancheGo, utils/sampler.
     pub fn push(&mut self, draw: Draw) -> Result<(), AllocError>
         requires { 1 ≤ draw.count }
         ensures ok { OnOk result (self.new ≡ self.old ++ draw ∷ []) }
@@ -68,7 +74,8 @@ impl Draws {
         Ok(())
     }
 
-    /// The draws, in order.
+    /// Returns the draws in order of first draw, each with a count of at least 1.
+    /// Rule: AvalancheGo, utils/sampler.
     pub fn list(&self) -> &[Draw]
         ensures list { result.now ≡ self.now }
         ensures counts { All (λ d. 1 ≤ d.count) result.now }
@@ -103,6 +110,7 @@ impl Draws {
     }
 
     /// Takes all draws out. It takes no memory.
+    /// Rule: AvalancheGo, utils/sampler.
     pub fn clear(&mut self)
         ensures { self.new ≡ [] }
     {

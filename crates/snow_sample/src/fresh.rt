@@ -5,8 +5,9 @@ use std::alloc::AllocError;
 // So many zeros are written at a time.
 const SOME: usize = 256;
 
-/// So many zeros, written over whatever is in this room, as for the numbers of chains that have no
-/// item yet. It grows where it is too small.
+/// Returns so many zeros, written over whatever stands in this room. It takes memory only where the
+/// room is too small. On want of memory it returns `AllocError`, and the room is gone.
+/// Rule: this project's own.
 pub fn zeros(mut room: Vec<u32>, count: usize) -> Result<Vec<u32>, AllocError>
     ensures { IfOk result (λ made. made.items ≡ replicate count 0) }
 {
@@ -14,7 +15,7 @@ pub fn zeros(mut room: Vec<u32>, count: usize) -> Result<Vec<u32>, AllocError>
     Ok(room)
 }
 
-// The same where the room stands.
+// Writes so many zeros over what stands in the room.
 pub(crate) fn write_zeros(room: &mut Vec<u32>, count: usize) -> Result<(), AllocError>
     ensures { OnOk result (room.new.items ≡ replicate count 0) }
 {

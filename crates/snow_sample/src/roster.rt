@@ -9,7 +9,9 @@ use std::alloc::{AllocError, Global};
 use std::marker::Model;
 use thiserror::Error;
 
-/// A node, and how many units of weight it has.
+/// A node of 20 bytes, and its weight: how many units it has, below 2^64. A roster takes no node of
+/// weight 0.
+/// Rule: AvalancheGo, utils/sampler.
 #[derive(Clone, Copy, Debug, PartialEq, Eq)]
 pub struct Node {
     /// The node.
@@ -18,7 +20,9 @@ pub struct Node {
     pub weight: u64,
 }
 
-/// Why nodes are no roster: the first of these that holds.
+/// Why `Roster::new` refuses nodes. Where more than one holds, it returns the first in this order;
+/// `Memory` may come instead of each answer.
+/// Rule: this project's own.
 #[derive(Clone, Copy, Debug, PartialEq, Eq, Error)]
 pub enum RosterFault {
     #[error("there is no node")]
@@ -44,8 +48,9 @@ impl From<AllocError> for RosterFault {
     }
 }
 
-/// Nodes that are sampled by weight: at least one, no two the same, each with weight, and at most
-/// 2^63-1 units in all. Contracts see the list of the nodes.
+/// Nodes that are sampled by weight: at least one, no two the same, each with a weight of at least
+/// 1, and at most 2^63-1 units in all. Contracts see the list of the nodes.
+/// Rule: AvalancheGo, utils/sampler.
 #[derive(Debug, Drop)]
 pub struct Roster {
     nodes: Vec<Node>,
@@ -69,8 +74,11 @@ impl Model for Roster {
 }
 
 impl Roster {
-    /// The roster of these nodes, in their order. `Duplicate` names the first node that stands
-    /// earlier too, and `ZeroWeight` the first without weight.
+    /// Returns the roster of these nodes, in their order, or the first fault that holds. `Empty`
+    /// comes where there is no node. `Duplicate` names the first node that stands earlier too.
+    /// `ZeroWeight` names the first node of weight 0. `TooHeavy` comes where the weights add up to
+    /// 2^63 or more. On want of memory it returns `Memory`.
+    /// Rule: this project's own.
     pub fn new(alloc: Global, nodes: &[Node]) -> Result<Roster, RosterFault>
         ensures { IsRosterOf nodes.now result }
     {
@@ -97,7 +105,8 @@ impl Roster {
         })
     }
 
-    /// How many units of weight there are in all.
+    /// Returns how many units of weight there are in all, from 1 to 2^63-1.
+    /// Rule: AvalancheGo, utils/sampler.
     pub fn total(&self) -> u64
         ensures total { result ≡ total_weight self.now }
         ensures small { result < 2 ^ 63 }
@@ -105,7 +114,9 @@ impl Roster {
         self.total
     }
 
-    /// The nodes, in order.
+    /// Returns the nodes, in the order in which they were given. None of the faults of
+    /// `RosterFault` holds of them.
+    /// Rule: AvalancheGo, utils/sampler.
     pub fn nodes(&self) -> &[Node]
         ensures nodes { result.now ≡ self.now }
         ensures good { first_fault result.now ≡ None }

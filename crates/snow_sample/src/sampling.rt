@@ -13,7 +13,9 @@ use crate::words::Words;
 use std::alloc::AllocError;
 use thiserror::Error;
 
-/// Why there is no sample.
+/// Why `Roster::sample` draws no sample: `TooFewUnits` where there are fewer units than draws,
+/// `WordsOut` where the words don't suffice, `Memory` on want of memory.
+/// Rule: AvalancheGo, utils/sampler.
 #[derive(Clone, Copy, Debug, PartialEq, Eq, Error)]
 pub enum SampleFault {
     #[error("there are only {total} units of weight")]
@@ -37,10 +39,12 @@ impl From<AllocError> for SampleFault {
 
 impl Roster {
     /// Draws `k` units of weight without replacement, by the words at the front of `words`, and
-    /// leaves in `out` how often each node was drawn. At a fault no draws are left: `TooFewUnits`
-    /// comes where there are fewer than `k` units, and leaves the words as they were; `WordsOut`
-    /// comes where the words don't suffice, and leaves none; after want of memory some first words
-    /// may be gone.
+    /// leaves in `out` how often it drew each node, in order of first draw; the counts add up to
+    /// `k`. It returns `TooFewUnits` exactly where there are fewer than `k` units, and leaves the
+    /// words as they were. It returns `WordsOut` where the words don't suffice, and leaves none. On
+    /// want of memory it returns `Memory`, and some of the first words may be gone. At each fault
+    /// `out` is empty.
+    /// Rule: the Snow family paper and AvalancheGo, utils/sampler.
     pub fn sample(&self, k: u32, words: &mut Words, out: &mut Draws) -> Result<(), SampleFault>
         ensures sample { OnOk result (sample_of self.now k words.old ≡ Ok (out.new, words.new)) }
         ensures few { total_weight self.now < k → result ≡ Err (SampleFault.TooFewUnits (total_weight self.now)) }
@@ -110,7 +114,7 @@ pub(crate) fn draw_all(
     draw_more(roster, k, words, room, out)
 }
 
-// The same where some may suffice.
+// Draws where the words may suffice.
 #[inline(never)]
 fn draw_more(
     roster: &Roster,

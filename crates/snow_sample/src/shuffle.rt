@@ -86,7 +86,7 @@ impl Shuffle {
         Ok(unit)
     }
 
-    // The same where the map has moves. It stands apart, since few samples need it.
+    // Draws where the map has moves. It is a function apart, since few samples need it.
     #[inline(never)]
     fn draw_later(&mut self, at: u64, r: u64) -> Result<u64, AllocError>
         requires chained { AreMoves self.old.mask self.old.moved.items self.old.lasts.items }

@@ -10,9 +10,11 @@ use crate::sampling::{SampleFault, draw_all, draw_one};
 use std::alloc::{AllocError, Global};
 use std::marker::Model;
 
-/// Random words, first in first out, at most 65,536 of them. Contracts see the list of them.
+/// Random words below 2^64, first in first out, at most 65,536 of them. Contracts see the list of
+/// them.
 ///
-/// The room of a sample stays with the words that it took, for the next one.
+/// The room that a sample works in stays beside the words, for the next sample.
+/// Rule: this project's own.
 #[derive(Debug, Drop)]
 pub struct Words {
     line: Line,
@@ -28,7 +30,8 @@ impl Model for Words {
 }
 
 impl Words {
-    /// No words. It takes no memory.
+    /// Returns the empty queue of words. It takes no memory.
+    /// Rule: this project's own.
     pub fn new(alloc: Global) -> Words
         ensures { result ≡ [] }
     {
@@ -38,8 +41,9 @@ impl Words {
         }
     }
 
-    /// Appends words, where at most 65,536 stand there afterwards. After want of memory those that
-    /// stood there are as before.
+    /// Appends these words. At most 65,536 stand there afterwards. On want of memory it returns
+    /// `AllocError`, and the words that stood there stay as they were.
+    /// Rule: this project's own.
     pub fn push_all(&mut self, words: &[u64]) -> Result<(), AllocError>
         requires { length self.old + length words.now ≤ 65536 }
         ensures ok { OnOk result (self.new ≡ self.old ++ words.now) }
@@ -48,7 +52,8 @@ impl Words {
         self.line.push_all(words)
     }
 
-    /// How many words there are.
+    /// Returns how many words there are, at most 65,536.
+    /// Rule: this project's own.
     pub fn len(&self) -> usize
         ensures len { result ≡ length self.now }
         ensures small { result ≤ 65536 }

@@ -1,6 +1,7 @@
 use snow_base::Id;
 
 /// Which of the missed identifiers no open request may name yet.
+/// Rule: this project's own.
 #[derive(Clone, Copy)]
 pub enum Due {
     /// None.

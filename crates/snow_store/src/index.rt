@@ -7,6 +7,7 @@ use std::alloc::AllocError;
 use std::collections::BTreeMap;
 
 /// The two lowest heights at which children of a block are kept.
+/// Rule: this project's own.
 #[derive(Clone, Copy)]
 pub struct Children {
     /// The lowest height.

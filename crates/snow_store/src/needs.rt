@@ -1,5 +1,6 @@
-//! The identifiers that the targets miss, each with how many of them miss it: whoever misses a block that
-//! is then kept misses from then on what the run of that block misses, so no other target is looked at.
+//! The identifiers that the targets miss, each with how many targets miss it. A target that misses
+//! a block misses, once that block is kept, what the block's run misses. So the store looks at no
+//! other target.
 ghost use Rattle.std.specs.Prelude.{◌≡◌, ◌<◌, ℕ, Bool, List, true, false, ◌||◌, bytes_eq, IfOk, OnOk};
 ghost use Rattle.std.specs.List.{IsDistinct};
 ghost use Rattle.snow_store.specs.Keeping as keeping;
@@ -21,7 +22,8 @@ use snow_map::IdHashing;
 use std::alloc::AllocError;
 use std::collections::BTreeMap;
 
-/// Whether an identifier is among these.
+/// Returns whether an identifier is among these.
+/// Rule: AvalancheGo, snow/engine/snowman/bootstrap.
 pub fn has(ids: &IndexSet<Id, IdHashing>, id: &Id) -> bool
     ensures { result ≡ has_id ids.now.keys id.now }
 {
@@ -45,7 +47,8 @@ fn names(missed: &Option<Id>, id: &Id) -> bool
     }
 }
 
-/// Whether nothing is missed.
+/// Returns whether the targets miss nothing.
+/// Rule: AvalancheGo, snow/engine/snowman/bootstrap.
 pub fn is_met(needs: &BTreeMap<Id, u64>) -> bool
     ensures { (f : Fetch) → HasNeeds needs.now f → result ≡ is_whole f }
 {
@@ -55,7 +58,9 @@ pub fn is_met(needs: &BTreeMap<Id, u64>) -> bool
     }
 }
 
-/// What the targets miss is gathered anew.
+/// Gathers anew what the targets miss, with how many of them miss it. The store is whole. On want
+/// of memory it returns `AllocError`.
+/// Rule: AvalancheGo, snow/engine/snowman/bootstrap.
 pub fn gather<H: Kept>(
     store: &Store<H>,
     targets: &IndexSet<Id, IdHashing>,
@@ -107,8 +112,11 @@ fn leave(needs: &mut BTreeMap<Id, u64>, missed: &Option<Id>) -> Result<(), Alloc
     Ok(())
 }
 
-/// A block was taken, of whose identifier it is told what it missed before, as a target. What is missed
-/// then is known again, and the answer is what is due.
+/// Renews what the targets miss, once the store has taken a block with this verdict. `before` is
+/// what the block's identifier missed before, as a target. It returns what is due then, and notes a
+/// target as found where the block is low. The store is whole. On want of memory it returns
+/// `AllocError`.
+/// Rule: AvalancheGo, snow/engine/snowman/bootstrap.
 pub fn renew<H: Kept>(
     store: &Store<H>,
     targets: &IndexSet<Id, IdHashing>,
@@ -139,7 +147,7 @@ pub fn renew<H: Kept>(
     }
 }
 
-// The same where it is kept.
+// Renews what is missed where the block is kept.
 fn renew_kept<H: Kept>(
     store: &Store<H>,
     targets: &IndexSet<Id, IdHashing>,
@@ -238,7 +246,7 @@ fn due_with(needs: &BTreeMap<Id, u64>, id: Id, due: Due) -> Due
     }
 }
 
-// The same where one is due, if it is still missed.
+// What is due where one was due before, if it is still missed.
 fn due_both(needs: &BTreeMap<Id, u64>, id: Id, other: Id) -> Due
     ensures id { is_due result id ≡ true }
     ensures others { (q : List ℕ) → has_need needs.now q ≡ true → is_due result q ≡ false → bytes_eq other q ≡ false }
@@ -249,7 +257,7 @@ fn due_both(needs: &BTreeMap<Id, u64>, id: Id, other: Id) -> Due
     Due::One(id)
 }
 
-// The same where a block is too low: nobody misses it, and a target that came so is found.
+// Renews what is missed where a block is too low: nobody misses it, and a target that came so is found.
 fn renew_low(
     targets: &IndexSet<Id, IdHashing>,
     found: &mut IndexSet<Id, IdHashing>,

@@ -2,7 +2,9 @@ use snow_base::Id;
 use std::alloc::AllocError;
 use thiserror::Error;
 
-/// Why bootstrapping stops.
+/// Why bootstrapping stops. `Conflict`, `Fork`, `Refused` and `Full` are what the blocks themselves
+/// show. `Requests` comes where all 2^32-1 numbers are drawn, and `Memory` on want of memory.
+/// Rule: AvalancheGo, snow/engine/snowman/bootstrap.
 #[derive(Clone, Copy, Debug, PartialEq, Eq, Error)]
 pub enum BootStop {
     /// At a height stands one block, and another belongs there.

@@ -19,12 +19,13 @@ use std::alloc::{AllocError, Global};
 use std::collections::BTreeMap;
 use std::marker::Model;
 
-/// The most blocks that are kept.
+/// A store keeps at most so many blocks.
 const MOST_KEPT: usize = 32_768;
 
-/// The last accepted block, and the blocks that are kept above it, each found by its height, by its
-/// identifier and by its parent. Contracts see the kept blocks, and whether all is kept as it should
-/// be: not after want of memory, after which a store is only let go.
+/// The last accepted block, and at most 32,768 blocks that are kept above it. It finds each by its
+/// height, by its identifier and by its parent. Contracts see the kept blocks, and whether the
+/// store is whole. After want of memory it isn't, and its caller only drops it.
+/// Rule: AvalancheGo, snow/engine/snowman/bootstrap.
 #[derive(Drop)]
 pub struct Store<H: Kept> {
     last: Id,
@@ -53,7 +54,8 @@ impl<H: Kept> Model for Store<H> {
 }
 
 impl<H: Kept> Store<H> {
-    /// No block is kept above the last accepted one. It takes no memory.
+    /// Returns the store that keeps no block above the last accepted one. It takes no memory.
+    /// Rule: AvalancheGo, snow/engine/snowman/bootstrap.
     pub fn begin(alloc: Global, last: Id, height: u64) -> Self
         ensures { result ≡ record { whole = true; store = record { last = last; height = height; kept = [] } } }
     {
@@ -70,21 +72,24 @@ impl<H: Kept> Store<H> {
         }
     }
 
-    /// The last accepted block.
+    /// Returns the last accepted block.
+    /// Rule: AvalancheGo, snow/engine/snowman/bootstrap.
     pub fn last(&self) -> Id
         ensures { result ≡ self.now.store.last }
     {
         self.last
     }
 
-    /// Its height.
+    /// Returns the height of the last accepted block, below 2^64.
+    /// Rule: AvalancheGo, snow/engine/snowman/bootstrap.
     pub fn height(&self) -> u64
         ensures { result ≡ self.now.store.height }
     {
         self.height
     }
 
-    /// The kept blocks fit one another.
+    /// Tells contracts that the kept blocks of a whole store fit one another. It does nothing.
+    /// Rule: this project's own.
     pub fn links(&self)
         requires { self.now.whole ≡ true }
         ensures { IsLinked self.now.store }
@@ -92,7 +97,9 @@ impl<H: Kept> Store<H> {
         let _count = self.kept.len();
     }
 
-    /// The kept block at a height.
+    /// Returns the kept block at a height, or `None` exactly where none is kept there. The store is
+    /// whole.
+    /// Rule: AvalancheGo, snow/engine/snowman/bootstrap.
     pub fn at(&self, height: u64) -> Option<&KeptBlock>
         requires { self.now.whole ≡ true }
         ensures { option_copied result ≡ held self.now.store.kept height }
@@ -103,7 +110,7 @@ impl<H: Kept> Store<H> {
         }
     }
 
-    /// The kept block at the height above one.
+    /// Returns the kept block at the height above one.
     fn above_of(&self, height: u64) -> Option<&KeptBlock>
         requires { self.now.whole ≡ true }
         ensures { option_copied result ≡ held self.now.store.kept (height + 1) }
@@ -115,7 +122,9 @@ impl<H: Kept> Store<H> {
         }
     }
 
-    /// The highest height at which an identifier is kept.
+    /// Returns the highest height at which an identifier is kept, or `None` exactly where it isn't.
+    /// The store is whole.
+    /// Rule: AvalancheGo, snow/engine/snowman/bootstrap.
     pub fn top(&self, id: &Id) -> Option<u64>
         requires { self.now.whole ≡ true }
         ensures { result ≡ top_of self.now.store.kept id.now }
@@ -123,7 +132,7 @@ impl<H: Kept> Store<H> {
         self.tops.get(id).copied()
     }
 
-    /// The lowest kept child of a block that isn't right above its height.
+    /// Returns the lowest kept child of a block that isn't right above its height.
     fn stray(&self, header: &Header) -> Option<&KeptBlock>
         requires { self.now.whole ≡ true }
         ensures { option_copied result ≡ stray self.now.store.kept header.now.id header.now.height }
@@ -135,7 +144,7 @@ impl<H: Kept> Store<H> {
         }
     }
 
-    /// Where a kept child of a block is at a wrong height.
+    /// Returns the stop where a kept child of a block is at a wrong height.
     fn refused(&self, header: &Header) -> Option<BootStop>
         requires { self.now.whole ≡ true }
         ensures { result ≡ child_stop (stray self.now.store.kept header.now.id header.now.height) }
@@ -146,7 +155,7 @@ impl<H: Kept> Store<H> {
         })
     }
 
-    /// What becomes of a block that is taken: the first of the rules that applies.
+    /// Returns what becomes of a block that is taken: the first of the rules that applies.
     #[tactic(auto, unfolding(crate::specs::Keeping::taken))]
     fn judge(&self, header: &Header) -> Result<Verdict, BootStop>
         requires { self.now.whole ≡ true }
@@ -164,7 +173,7 @@ impl<H: Kept> Store<H> {
         }
     }
 
-    /// The same for a block above the last accepted one, at a height that is free.
+    /// Returns what becomes of a block above the last accepted one, at a height that is free.
     fn judge_free(&self, header: &Header) -> Result<Verdict, BootStop>
         requires whole { self.now.whole ≡ true }
         requires above { self.now.store.height < header.now.height }
@@ -179,7 +188,7 @@ impl<H: Kept> Store<H> {
         }
     }
 
-    /// Where a block doesn't fit the blocks around it.
+    /// Returns the stop where a block doesn't fit the blocks around it.
     fn misplaced(&self, header: &Header) -> Option<BootStop>
         requires whole { self.now.whole ≡ true }
         requires above { self.now.store.height < header.now.height }
@@ -194,7 +203,7 @@ impl<H: Kept> Store<H> {
         self.above(header)
     }
 
-    /// Where the block below, if one is kept, isn't the parent.
+    /// Returns the stop where the block below, if one is kept, isn't the parent.
     fn below(&self, header: &Header) -> Option<BootStop>
         requires whole { self.now.whole ≡ true }
         requires above { self.now.store.height < header.now.height }
@@ -211,7 +220,7 @@ impl<H: Kept> Store<H> {
         })
     }
 
-    /// Where the block above, if one is kept, has another parent.
+    /// Returns the stop where the block above, if one is kept, has another parent.
     fn above(&self, header: &Header) -> Option<BootStop>
         requires { self.now.whole ≡ true }
         ensures { result ≡ above_stop header.now (held self.now.store.kept (header.now.height + 1)) }
@@ -227,7 +236,7 @@ impl<H: Kept> Store<H> {
         })
     }
 
-    /// Where a block right above the last accepted one has another parent.
+    /// Returns the stop where a block right above the last accepted one has another parent.
     fn fork(&self, header: &Header) -> Option<BootStop>
         requires { self.now.store.height < header.now.height }
         ensures { result ≡ fork_stop self.now.store header.now }
@@ -241,7 +250,14 @@ impl<H: Kept> Store<H> {
         None
     }
 
-    /// Takes a block: it is kept, or not, or it stops the run.
+    /// Takes a block into a whole store, by the first of these that applies. It stops the run with
+    /// `Refused` where a kept child of the block has a height other than one more. It returns `Low`
+    /// where the block's height is at most the last accepted one, and `Known` where the block is
+    /// kept at its height. It stops with `Conflict` where another block is kept there, with `Full`
+    /// where 32,768 blocks are kept, with `Fork` where the block is right above the last accepted
+    /// one and has another parent, and with `Conflict` where it doesn't fit the block below or
+    /// above. Else it keeps the block and returns `Keeps`. On want of memory it returns `Memory`.
+    /// Rule: AvalancheGo, snow/engine/snowman/bootstrap.
     pub fn take(&mut self, header: &Header, bytes: &[u8]) -> Result<Verdict, BootStop>
         requires { self.old.whole ≡ true }
         ensures answer { Answers result (taken self.old.store header.now) }
@@ -274,8 +290,10 @@ impl<H: Kept> Store<H> {
         Ok(())
     }
 
-    /// What is missed below the run of held heights that ends at one: the parent of its lowest block,
-    /// unless that is right above the last accepted block.
+    /// Returns what is missed below the run of held heights that holds this one: the parent of the
+    /// run's lowest block. It returns `None` where that block is right above the last accepted one.
+    /// The store is whole.
+    /// Rule: AvalancheGo, snow/engine/snowman/bootstrap.
     pub fn wanted_at(&self, height: u64) -> Option<Id>
         requires whole { self.now.whole ≡ true }
         requires held { held_heights self.now.store.kept height ≡ true }
@@ -287,8 +305,10 @@ impl<H: Kept> Store<H> {
         }
     }
 
-    /// What a target misses, of which it is known whether it was found at or below the last accepted
-    /// height: what is missed below its highest block, or itself.
+    /// Returns what a target misses: what is missed below its highest kept block, or the target
+    /// itself where it isn't kept. It returns `None` where the target misses nothing. `found` tells
+    /// whether the target was found at or below the last accepted height. The store is whole.
+    /// Rule: AvalancheGo, snow/engine/snowman/bootstrap.
     pub fn missed(&self, target: &Id, found: bool) -> Option<Id>
         requires { self.now.whole ≡ true }
         ensures { (noted : List (List ℕ)) → found ≡ has_id noted target.now → result ≡ missed_from self.now.store noted target.now (highest self.now.store.kept target.now) }

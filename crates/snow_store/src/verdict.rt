@@ -1,4 +1,5 @@
-/// What becomes of a block that is taken.
+/// What `Store::take` did with a block.
+/// Rule: AvalancheGo, snow/engine/snowman/bootstrap.
 #[derive(Clone, Copy)]
 pub enum Verdict {
     /// It is kept.

@@ -64,9 +64,9 @@ fn accept<R: Rule>(
     tell(decisions, child, tree.rejected());
 }
 
-/// Accepts the child of the last accepted block to which decided counters alone lead, and rejects those
-/// that don't descend from it. The answer is whether there is one. It takes no memory where there is room
-/// for a decision on each pending block.
+/// Accepts the child of the last accepted block to which decided counters alone lead, and rejects
+/// those that don't descend from it. It returns whether there is such a child. It takes no memory
+/// where there is room for a decision on each pending block.
 #[inline(never)]
 pub(crate) fn accept_next<R: Rule>(
     params: &Params,

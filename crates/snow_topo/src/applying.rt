@@ -19,9 +19,9 @@ use snow_plain::Decision;
 use snow_tree::Tree;
 use std::sync::ledger::Ledger;
 
-/// A poll whose votes have begun to climb: every counter takes the bit step with its own votes, and then
-/// blocks are accepted and rejected. After it one poll more was recorded. The answer is false only where
-/// the board prefers what it preferred. It takes no memory where there is room for the votes by child, and
+/// Records a poll whose votes have begun to climb: every counter makes the bit step with its own
+/// votes, and then the board accepts and rejects blocks. It returns `false` only where the board
+/// prefers what it preferred. It takes no memory where there is room for the votes by child, and
 /// for a decision on each pending block.
 pub(crate) fn apply<R: Rule, L: Ledger>(
     params: &Params,

@@ -64,7 +64,7 @@ fn climb_all<R: Rule, L: Ledger>(
     moved
 }
 
-// The same where one climber stands on the ladder and looks for a pending block: nothing is put on until he
+// Climbs where one climber stands on the ladder and looks for a pending block: nothing is put on until he
 // has passed them all.
 fn climb_lone<R: Rule, L: Ledger>(
     params: &Params,
@@ -99,8 +99,8 @@ fn climb_lone<R: Rule, L: Ledger>(
     moved
 }
 
-/// The pending blocks for which there are votes are visited, the latest first, and no others. The answer
-/// is false only where none leads elsewhere then. It takes no memory where the bag has places.
+/// Visits the pending blocks for which there are votes, the latest first, and no others. It returns
+/// `false` only where each of them leads where it led. It takes no memory where the bag has places.
 pub(crate) fn climb<R: Rule, L: Ledger>(
     params: &Params,
     tree: &mut Tree<Load<R>>,

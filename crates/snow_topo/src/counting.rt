@@ -58,10 +58,10 @@ fn record_root<R: Rule, L: Ledger>(
     }
 }
 
-/// Every counter of the board takes the bit step with its own votes, which have begun to climb: those of
-/// the blocks for which there are AlphaPreference votes in their trees, all others by the number of the
-/// poll. The answer is false only where the board prefers what it preferred. It takes no memory where
-/// there is room for the votes by child.
+/// Lets every counter of the board make the bit step with its own votes, which have begun to climb.
+/// Blocks with AlphaPreference votes below them do so in their trees, all others by the number of
+/// the poll. It returns `false` only where the board prefers what it preferred. It takes no memory
+/// where there is room for the votes by child.
 pub(crate) fn count<R: Rule, L: Ledger>(
     params: &Params,
     root: &mut Load<R>,

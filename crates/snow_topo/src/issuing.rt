@@ -82,9 +82,9 @@ fn take_back<R: Rule>(tree: &mut Tree<Load<R>>)
     let _ = tree.take_back();
 }
 
-/// A block is issued: it is the last pending one, without children, and its parent has one child more.
-/// It costs what its parent's tree costs, however many blocks are pending. After want of memory all is
-/// as before, but that no block is told as rejected any more.
+/// Issues a block: it becomes the last pending one, without children, and its parent has one child
+/// more. It costs what its parent's tree costs, however many blocks are pending. On want of memory
+/// all stays as it was, but `rejected` is empty then.
 pub(crate) fn issue<R: Rule>(
     alloc: Global,
     params: &Params,

@@ -15,7 +15,8 @@ use snow_base::{Header, Id};
 use snow_flake::{Params, Rule};
 use snow_tree::Tree;
 
-/// Where a block on the board stands; nothing for the last accepted one, which is told without looking it up.
+/// Returns where a block on the board stands, or `None` for the last accepted one, for which it
+/// looks nothing up.
 pub(crate) fn place_on<R: Rule>(tree: &Tree<Load<R>>, id: &Id) -> Option<usize>
     ensures { result ≡ place_in (tree.now).pending id.now }
 {
@@ -43,7 +44,7 @@ fn kept_at<'a, R: Rule>(
     }
 }
 
-/// What is kept of a block on the board.
+/// Returns what the board keeps of a block on it.
 #[inline(always)]
 pub(crate) fn kept_of<'a, R: Rule>(
     root: &'a Load<R>,
@@ -84,7 +85,7 @@ fn next_of<'a, R: Rule>(
     Some((next, below))
 }
 
-/// The preference, by a walk from child to child.
+/// Returns the preference, by a walk from child to child.
 pub(crate) fn preference_of<R: Rule>(
     params: &Params,
     polls: u64,
@@ -128,8 +129,8 @@ fn passes<R: Rule>(
     false
 }
 
-/// Whether a block is on the path to the preference. Nothing is walked for the last accepted block and
-/// for a block without children, which is on the path where it is its end.
+/// Returns whether a block is on the path to the preference. It doesn't walk for the last accepted
+/// block, nor for a block without children, which is on the path where it is its end.
 pub(crate) fn is_preferred<R: Rule>(
     params: &Params,
     polls: u64,
@@ -155,8 +156,8 @@ pub(crate) fn is_preferred<R: Rule>(
     }
 }
 
-/// Whether a block on the board, which stands at this place, is the preference, and no block stands above it: it
-/// has no tree of children.
+/// Returns whether a block on the board, which stands at this place, is the preference and has no
+/// tree of children, so that no block stands above it.
 pub(crate) fn is_top<R: Rule>(
     params: &Params,
     polls: u64,
@@ -186,8 +187,9 @@ pub(crate) fn is_top<R: Rule>(
     }
 }
 
-/// The preference follows a child that was issued: at once where no block stood above its parent, which was
-/// the preference then. Nothing is walked where the child doesn't stand above the preference.
+/// Makes the preference follow a child that was issued: at once where no block stood above its
+/// parent, which was the preference then. It doesn't walk where the child doesn't stand above the
+/// preference.
 pub(crate) fn follow_child<R: Rule>(
     params: &Params,
     polls: u64,
@@ -210,7 +212,7 @@ pub(crate) fn follow_child<R: Rule>(
     }
 }
 
-/// The preference follows a poll; where this moved none it stays.
+/// Makes the preference follow a poll. Where the poll moved none it stays.
 pub(crate) fn follow_poll<R: Rule>(
     params: &Params,
     polls: u64,

@@ -13,16 +13,18 @@ use std::alloc::{AllocError, Global};
 use std::marker::Model;
 use std::sync::ledger::Ledger;
 
-/// What the board keeps of a block: the tree of its children, once it has one, and the number of the
-/// poll that this recorded last. Polls since then have failed the tree, which none of them touched.
-/// Contracts see the children with their counters, and that number.
+/// What the board keeps of a block: the tree of its children, once it has one, and the number of
+/// the poll that this recorded last. Polls since then have failed the tree, which none of them
+/// touched. Contracts see the children with their counters, and that number.
+/// Rule: this project's own.
 #[derive(Debug, Drop)]
 pub struct Load<R: Rule> {
     trie: Contest<R>,
     recorded: u64,
 }
 
-/// The tree of a block's children. It stands apart, so that the blocks, of which many have none, are small.
+/// The tree of a block's children, in a box of its own, so that the blocks, of which many have
+/// none, are small.
 pub(crate) type Contest<R> = Option<Box<Trie<R>>>;
 
 impl<R: Rule> Model for Load<R> {
@@ -116,7 +118,7 @@ impl<R: Rule> Load<R> {
     ghost use Rattle.snow_topo.specs.Leading.{leads_in};
     ghost use Rattle.snow_topo.specs.Renewed.{renewed};
 
-    /// That of a block without children.
+    /// Returns what the board keeps of a block without children.
     pub(crate) fn new() -> Self
         ensures { result ≡ bare }
     {
@@ -126,7 +128,7 @@ impl<R: Rule> Load<R> {
         }
     }
 
-    /// The tree of the children, if there are some.
+    /// Returns the tree of the children, or `None` where there is none.
     pub(crate) fn trie(&self) -> Option<&Trie<R>>
         ensures contest { option_map contest_of (option_copied result) ≡ (self.now).contest }
         ensures few { IfSome (option_copied result) HasFewNodes }
@@ -137,8 +139,8 @@ impl<R: Rule> Load<R> {
         }
     }
 
-    /// A child was issued: it is added to the tree, which is made for the first one, in the place of a
-    /// spare one where there is one. After want of memory all is as before.
+    /// Adds a child that was issued to the tree. It makes the tree for the first child, in the
+    /// place of a spare one where there is one. On want of memory all stays as it was.
     pub(crate) fn add(
         &mut self,
         alloc: Global,
@@ -159,13 +161,13 @@ impl<R: Rule> Load<R> {
         }
     }
 
-    /// The tree, which isn't needed here any more.
+    /// Takes the tree out, as the block needs it no more.
     #[inline(always)]
     pub(crate) fn take_tree(&mut self) -> Contest<R> {
         self.trie.take()
     }
 
-    /// Whether decided counters alone lead anywhere.
+    /// Returns whether decided counters alone lead anywhere.
     pub(crate) fn is_decided(&self) -> bool
         ensures { result ≡ false → HasDecided (counters_in (self.now).contest) None }
     {
@@ -175,7 +177,7 @@ impl<R: Rule> Load<R> {
         }
     }
 
-    /// The child to which decided counters alone lead.
+    /// Returns the child to which decided counters alone lead, or `None`.
     pub(crate) fn decided(&self) -> Option<Id>
         ensures { HasDecided (counters_in (self.now).contest) result }
     {
@@ -185,8 +187,8 @@ impl<R: Rule> Load<R> {
         }
     }
 
-    /// The children take the bit step of the next poll with these votes. The answer is whether they
-    /// lead elsewhere then. It takes no memory.
+    /// Lets the children make the bit step of the next poll with these votes, and returns whether
+    /// they lead elsewhere then. It takes no memory.
     #[inline(always)]
     pub(crate) fn record<L: Ledger>(
         &mut self,
@@ -211,7 +213,8 @@ impl<R: Rule> Load<R> {
         }
     }
 
-    /// The number of the last poll is 1 from here on, where this was recorded, and all before it are 0.
+    /// Renumbers: the last poll is 1 from here on, where this tree recorded it, and all before it
+    /// are 0.
     pub(crate) fn renew(&mut self, polls: u64)
         ensures { self.new ≡ renewed polls self.old }
     {

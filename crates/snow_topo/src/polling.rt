@@ -19,9 +19,9 @@ use snow_plain::Decision;
 use snow_tree::Tree;
 use std::sync::ledger::Ledger;
 
-/// A whole poll, whose votes have begun to climb. The preference follows it. The answer is how many polls
-/// there were, as they are counted from here on. It takes no memory where the board stood and there is room
-/// for the votes by child.
+/// Records a whole poll, whose votes have begun to climb, and lets the preference follow it. It
+/// returns the new number of polls. It takes no memory where the board stood and there is room for
+/// the votes by child.
 pub(crate) fn record<R: Rule, L: Ledger>(
     params: &Params,
     polls: u64,

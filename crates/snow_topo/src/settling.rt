@@ -9,7 +9,7 @@ use snow_flake::{Params, Rule};
 use snow_plain::Decision;
 use snow_tree::Tree;
 
-/// Accepts children of the last accepted block while decided counters lead to one, and tells the
+/// Accepts children of the last accepted block while decided counters lead to one, and appends the
 /// decisions in order. It takes no memory where there is room for one on each pending block.
 pub(crate) fn settle<R: Rule>(
     params: &Params,

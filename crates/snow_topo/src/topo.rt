@@ -25,9 +25,11 @@ use std::marker::{Brand, Model};
 use std::sync::ledger::{Blank, Ledger};
 
 /// A board whose counters stand in compressed trees, one for each block that has children. A poll
-/// visits the trees of the blocks below which there are AlphaPreference votes, and no others; these have
-/// failed by the number of the poll. An issue costs the tree of the parent. The preference is kept, and
-/// walked anew from child to child only where a poll moved it. The rule says how the counters answer.
+/// visits the trees of the blocks below which there are AlphaPreference votes, and no others; these
+/// have failed by the number of the poll. An issue costs the tree of the parent. The board keeps
+/// the preference, and walks it anew from child to child only where a poll moved it. `R` says how
+/// the counters answer.
+/// Rule: AvalancheGo, snow/consensus/snowman.
 #[derive(Debug, Drop)]
 pub struct Topo<R: Rule> {
     params: Params,
@@ -75,7 +77,7 @@ fn apply_alone<R: Rule, L: Ledger>(board: &mut Topo<R>, votes: &Bag, blank: Blan
     board.apply_counted(votes, &mut steps);
 }
 
-// The same with one vote for each of these identifiers.
+// Records a poll with one vote for each of these identifiers, with a counter of its own.
 fn apply_votes_alone<R: Rule, L: Ledger>(board: &mut Topo<R>, ids: &[Id], blank: Blank)
     requires name { blank.name ≡ L.name }
     requires parts { blank.parts ≡ L.parts }
@@ -89,8 +91,10 @@ fn apply_votes_alone<R: Rule, L: Ledger>(board: &mut Topo<R>, ids: &[Id], blank:
 }
 
 impl<R: Rule> Topo<R> {
-    /// `apply_poll` with its steps counted. A step is a node of a tree that is visited, or the failing of
-    /// a tree.
+    /// Does what `apply_poll` does with at most K votes, and counts its steps. A step is a node of
+    /// a tree that is visited, or the failing of a tree; `most_steps` bounds them. It takes no
+    /// memory and can't fail.
+    /// Rule: AvalancheGo, snow/consensus/snowman.
     pub fn apply_counted<L: Ledger>(&mut self, votes: &Bag, steps: &mut Steps<L>)
         requires { total_count votes.now.list ≤ (self.old).board.parameters.k }
         ensures board { (self.new).board ≡ (poll (self.old).board votes.now.list).0 }
@@ -113,7 +117,9 @@ impl<R: Rule> Topo<R> {
         self.polls = polls;
     }
 
-    /// `apply_votes` with its steps counted. It takes no memory.
+    /// Does what `apply_votes` does with at most K identifiers, and counts its steps, which
+    /// `most_steps` bounds. It takes no memory and can't fail.
+    /// Rule: AvalancheGo, snow/consensus/snowman.
     pub fn apply_votes_counted<L: Ledger>(&mut self, ids: &[Id], steps: &mut Steps<L>)
         requires { length ids.now ≤ (self.old).board.parameters.k }
         ensures board { (self.new).board ≡ (poll (self.old).board (one_each ids.now)).0 }
@@ -137,8 +143,10 @@ impl<R: Rule> Topo<R> {
         self.polls = polls;
     }
 
-    /// The tree of a block's children; none where the block isn't on the board or has no child there.
-    /// Its counters are those of the board, or the board's are what failing makes of them.
+    /// Returns the tree of a block's children, or `None` exactly where the block isn't on the board
+    /// or has no child there. Its counters are those of the board, or the board's are what failing
+    /// makes of them.
+    /// Rule: AvalancheGo, snow/consensus/snowman.
     pub fn trie_of(&self, parent: &Id) -> Option<&Trie<R>>
         ensures some { is_some result ≡ (is_on (self.now).board.last (blocks_of (self.now).board.pending) parent.now && has_pending_child (self.now).board.pending parent.now) }
         ensures counters { IfSome (option_copied result) (λ t. AreKept (self.now).board.parameters (counters_on (self.now).board parent.now) t.counters) }

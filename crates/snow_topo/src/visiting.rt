@@ -43,8 +43,8 @@ fn record_at<R: Rule, L: Ledger>(
     }
 }
 
-// The same with the votes that were taken off the ladder last. Few visits come to it, and those that
-// don't are to be short.
+// Records the votes that were taken off the ladder last. Few visits come to it, and those that don't are
+// to be short.
 #[inline(never)]
 fn record_came<R: Rule, L: Ledger>(
     params: &Params,
@@ -72,7 +72,7 @@ fn record_came<R: Rule, L: Ledger>(
     record_at(tree, at, polls, votes_in(is_one, &one, children), steps)
 }
 
-/// Whether so many votes are AlphaPreference.
+/// Returns whether so many votes are at least AlphaPreference.
 pub(crate) fn has_quorum(params: &Params, count: u32) -> bool
     ensures value { result ≡ nat_le params.now.alpha_preference count }
     ensures good { AreGood params.now }
@@ -117,8 +117,8 @@ fn record_quorum<R: Rule, L: Ledger>(
     }
 }
 
-/// The latest block for which votes look is visited: what is kept of its children takes the next poll
-/// with the votes that came to it, and these go on to its parent. The answer is whether it leads
+/// Visits the latest block for which votes look: what is kept of its children takes the next poll
+/// with the votes that came to it, and these go on to its parent. It returns whether that leads
 /// elsewhere then, or another did before. It takes no memory where the bag has places.
 #[inline(always)]
 pub(crate) fn visit<R: Rule, L: Ledger>(
@@ -185,9 +185,9 @@ fn record_lone<R: Rule, L: Ledger>(
     record_at(tree, at, polls, slice::from_ref(&one), steps)
 }
 
-/// The block for which votes look that climb alone is visited: what is kept of its children takes the next
-/// poll with them. The answer is whether it leads elsewhere then, or another did before. It takes no
-/// memory.
+/// Visits the block for which votes look that climb alone: what is kept of its children takes the
+/// next poll with them. It returns whether that leads elsewhere then, or another did before. It
+/// takes no memory.
 #[inline(always)]
 pub(crate) fn visit_lone<R: Rule, L: Ledger>(
     params: &Params,

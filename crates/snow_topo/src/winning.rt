@@ -49,8 +49,8 @@ fn first_alike(ids: &[Id], id: &Id) -> Option<Id>
     }
 }
 
-/// The child of the last accepted block to which decided counters alone lead. Children are looked at
-/// only where there is one, or none has its bits.
+/// Returns the child of the last accepted block to which decided counters alone lead, or `None`. It
+/// looks at children only where there is one, or none has its bits.
 pub(crate) fn next_child<R: Rule>(
     params: &Params,
     root: &Load<R>,

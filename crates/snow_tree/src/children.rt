@@ -27,7 +27,7 @@ impl Model for Children {
 impl Children {
     ghost use Rattle.std.specs.Prelude.{◌≡◌, ◌-◌, [], ◌∷◌, ◌++◌, length, take, OnOk, OnErr};
 
-    /// No child. It takes no memory.
+    /// Returns no child. It takes no memory.
     pub(crate) fn new(alloc: Global) -> Self
         ensures { result ≡ [] }
     {
@@ -37,7 +37,7 @@ impl Children {
         }
     }
 
-    /// Appends a child. After want of memory all is as before. The first one stands here at once.
+    /// Appends a child. The first one stands in place. On want of memory all stays as it was.
     #[inline(always)]
     pub(crate) fn push(&mut self, id: Id) -> Result<(), AllocError>
         ensures ok { OnOk result (self.new ≡ self.old ++ id ∷ []) }
@@ -80,7 +80,8 @@ impl Children {
         self.several.truncate(len.saturating_sub(1));
     }
 
-    /// These take the place of others. Where they are in no list, the room of the others' is kept.
+    /// Puts these in the place of the others. Where these are in no list, it keeps the room of the
+    /// others' list.
     pub(crate) fn replace(&mut self, by: Children)
         ensures { self.new ≡ by }
     {

@@ -1,4 +1,4 @@
-//! Which number an identifier is told.
+//! A table that tells an identifier's number from its slot.
 ghost use Rattle.std.specs.Prelude.{◌≡◌, ◌==◌, ◌<◌, ◌≤◌, ℕ, List, [], length, slice_set, OnOk};
 ghost use Rattle.snow_tree.specs.Hints.{slot_of, hint_of};
 
@@ -10,8 +10,8 @@ use std::marker::Model;
 // There are no more slots than these: that is sixteen for each of 4,096 blocks, and 512 KB.
 const MOST_SLOTS: usize = 1 << 16;
 
-/// A number for each slot, which all identifiers of the slot are told: that of the entry that was put
-/// last. Contracts see the numbers.
+/// Maps each slot to the number of the entry that was put there last; all identifiers of the slot
+/// share it. Contracts see the numbers.
 #[derive(Debug, Drop)]
 pub(crate) struct Hints {
     numbers: Vec<usize>,
@@ -29,7 +29,7 @@ impl Model for Hints {
 }
 
 impl Hints {
-    /// No slot. It takes no memory.
+    /// Returns no slot. It takes no memory.
     pub(crate) fn new(alloc: Global) -> Self
         ensures { result ≡ [] }
     {
@@ -38,8 +38,8 @@ impl Hints {
         }
     }
 
-    /// Makes slots for one more entry than so many: sixteen for each, so that few share one. What an
-    /// identifier was told it is still told then.
+    /// Makes slots for one more entry than so many: sixteen for each, so that few entries share
+    /// one. Each identifier has the number that it had.
     #[inline(always)]
     pub(crate) fn make_room(&mut self, entries: usize) -> Result<(), AllocError>
         ensures told { (id : List ℕ) → hint_of self.new id ≡ hint_of self.old id }
@@ -67,7 +67,7 @@ impl Hints {
         self.numbers.extend_from_within(..)
     }
 
-    /// The number that an identifier is told.
+    /// Returns the number in an identifier's slot.
     #[inline(always)]
     pub(crate) fn number(&self, id: &Id) -> usize
         ensures { result ≡ hint_of self.now id.now }
@@ -75,7 +75,8 @@ impl Hints {
         self.numbers.get(self.slot_of(id)).copied().unwrap_or(0)
     }
 
-    /// Those that share an identifier's slot are told another number.
+    /// Puts a number into an identifier's slot. All identifiers that share it have that number
+    /// then.
     #[inline(always)]
     pub(crate) fn set(&mut self, id: &Id, number: usize)
         requires { 0 < length self.old }
@@ -85,7 +86,7 @@ impl Hints {
         self.numbers[slot] = number;
     }
 
-    /// Whether two identifiers share a slot.
+    /// Returns whether two identifiers share a slot.
     #[inline(always)]
     pub(crate) fn share(&self, id: &Id, other: &Id) -> bool
         requires { 0 < length self.now }

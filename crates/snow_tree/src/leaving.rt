@@ -86,9 +86,10 @@ fn take_among<T: Drop>(
     }
 }
 
-/// Takes the child out that is accepted, and all that don't descend from it. These are told in order
-/// of issue. What is known of its children and its load take the place of others, and the answer is its
-/// height. Where it is the only child it was issued first, and no other block is touched. It takes no memory.
+/// Takes the child out that is accepted, and all blocks that don't descend from it. It appends
+/// these to `rejected` in order of issue, puts the child's children and load in place of the
+/// others, and returns the child's height. An only child is at the front, so no other block
+/// changes. It takes no memory.
 #[inline(always)]
 pub(crate) fn take_accepted<T: Drop>(
     nodes: &mut Row<T>,

@@ -62,7 +62,7 @@ fn unlink_at<T>(nodes: &mut Row<T>, at: usize)
     }
 }
 
-/// The last child of a block was taken back.
+/// Takes the last child of a block out of the block's children.
 pub(crate) fn unlink<T>(first: &mut Children, nodes: &mut Row<T>, last: &Id, parent: &Id)
     requires { has_block (blocks_of nodes.old.entries) last.now ≡ false }
     ensures first { first.new ≡ unlinked parent.now last.now first.old }
@@ -78,8 +78,8 @@ pub(crate) fn unlink<T>(first: &mut Children, nodes: &mut Row<T>, last: &Id, par
     }
 }
 
-/// Room for one more block, with the block among the children of its parent, which stands at this place.
-/// After want of memory all is as before.
+/// Makes room for one more block, and puts the block among the children of its parent, which stands
+/// at this place. On want of memory all stays as it was.
 pub(crate) fn make_room<T>(
     first: &mut Children,
     nodes: &mut Row<T>,

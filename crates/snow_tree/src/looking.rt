@@ -9,14 +9,14 @@ ghost use Rattle.snow_tree.specs.Nodes.{block_of, blocks_of};
 use crate::row::Row;
 use snow_base::{Header, Id};
 
-/// Where the block of an identifier stands in order of issue.
+/// Returns where the block of an identifier stands in order of issue, or `None`.
 pub(crate) fn place_of<T>(nodes: &Row<T>, id: &Id) -> Option<usize>
     ensures { result ≡ position (λ e. bytes_eq e.0 id.now) nodes.now.entries }
 {
     nodes.get_index_of(id)
 }
 
-/// Where the block of an identifier and its parent stand, where the first is known at once.
+/// Returns where the block of an identifier and its parent stand, where a look at one slot tells.
 #[inline(always)]
 pub(crate) fn guess<T>(nodes: &Row<T>, id: &Id) -> Option<(usize, Option<usize>)>
     ensures place { IfSome result (λ r. position (λ e. bytes_eq e.0 id.now) nodes.now.entries ≡ Some r.0) }
@@ -26,7 +26,7 @@ pub(crate) fn guess<T>(nodes: &Row<T>, id: &Id) -> Option<(usize, Option<usize>)
     Some((place, nodes.parent_of(place)))
 }
 
-/// The block at a place.
+/// Returns the block at a place.
 pub(crate) fn block_at<T>(nodes: &Row<T>, place: usize) -> Option<Header>
     ensures { result ≡ option_map block_of (slice_get nodes.now.entries place) }
 {
@@ -40,7 +40,7 @@ pub(crate) fn block_at<T>(nodes: &Row<T>, place: usize) -> Option<Header>
     }
 }
 
-/// The child of the last accepted block on the line of a block.
+/// Returns the child of the last accepted block on the line of a block, or `None`.
 pub(crate) fn ancestor<T>(nodes: &Row<T>, last: &Id, id: &Id) -> Option<Id>
     requires grown { IsGrown last.now (reverse (blocks_of nodes.now.entries)) }
     ensures { result ≡ option_map (λ b. b.id) (child_on (blocks_of nodes.now.entries) last.now id.now) }

@@ -2,7 +2,8 @@ use crate::children::Children;
 use snow_base::Id;
 use std::collections::VecDeque;
 
-/// A pending block, with its children and its load. Its identifier is the key under which it stands.
+/// A pending block, with its children and its load. Its identifier is the key under which it
+/// stands.
 #[derive(Debug, Drop)]
 pub(crate) struct Node<T> {
     // Its number, which is higher than those of all that were issued before, and that of its parent. They

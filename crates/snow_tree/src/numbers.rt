@@ -1,4 +1,4 @@
-//! Which numbers the entries of a row have, by their identifiers.
+//! The numbers of a row's entries, by their identifiers.
 ghost use Rattle.std.specs.Prelude.{◌≡◌, ◌<◌, ◌≤◌, ℕ, List, [], None, Some, OnOk, cond, length, slice_set, bytes_eq};
 ghost use Rattle.std.specs.HashMap.{get, spare};
 ghost use Rattle.snow_tree.specs.Hints.{slot_of, hint_of};
@@ -12,8 +12,8 @@ use snow_map::IdHashing;
 use std::alloc::{AllocError, Global};
 use std::collections::HashMap;
 
-/// Most are told by hints. The map has just those that aren't, because an identifier of the same slot came
-/// later: so a block that comes and goes mostly leaves it alone.
+/// The slots of `Hints` tell most of them. The map has just the others, whose slot tells a later
+/// entry of another identifier. So a block that comes and goes mostly leaves the map alone.
 #[derive(Debug, Drop)]
 pub(crate) struct Numbers {
     pub(crate) map: HashMap<Id, usize, IdHashing>,
@@ -21,7 +21,7 @@ pub(crate) struct Numbers {
 }
 
 impl Numbers {
-    /// No number. It takes no memory.
+    /// Returns no number. It takes no memory.
     pub(crate) fn new(alloc: Global) -> Self
         ensures map { (id : List ℕ) → get bytes_eq result.map id ≡ None }
         ensures hints { result.hints ≡ [] }
@@ -32,7 +32,8 @@ impl Numbers {
         }
     }
 
-    /// Makes room for one more entry than so many. No number changes, nor what is told.
+    /// Makes room for one more entry than so many. No number changes, and each slot tells what it
+    /// told.
     #[inline(always)]
     pub(crate) fn reserve_one(&mut self, entries: usize) -> Result<(), AllocError>
         ensures map { (id : List ℕ) → get bytes_eq self.new.map id ≡ get bytes_eq self.old.map id }
@@ -45,7 +46,7 @@ impl Numbers {
         self.map.reserve(1)
     }
 
-    /// The number that an identifier is told. Whoever asks compares.
+    /// Returns the number in an identifier's slot. The caller compares identifiers.
     #[inline(always)]
     pub(crate) fn told(&self, id: &Id) -> usize
         ensures { result ≡ hint_of self.now.hints id.now }
@@ -53,8 +54,8 @@ impl Numbers {
         self.hints.number(id)
     }
 
-    /// The number of an identifier that isn't told it. It stands apart, so that few registers are kept for
-    /// what is mostly spared.
+    /// Returns the number of an identifier whose slot tells another. It is a function apart, so
+    /// that few registers are kept for what is mostly spared.
     #[inline(never)]
     pub(crate) fn look_up(&self, id: &Id) -> Option<usize>
         ensures { result ≡ get bytes_eq self.now.map id.now }
@@ -66,7 +67,8 @@ impl Numbers {
         self.map.get(id).copied()
     }
 
-    /// An identifier comes, and is told its number. An entry that was told its own there gives way.
+    /// Puts the number of a new identifier into its slot. An entry that had its own number there
+    /// goes to the map.
     #[inline(always)]
     pub(crate) fn take_slot<T>(&mut self, entries: &Entries<T>, id: &Id, number: usize)
         requires slots { 0 < length self.old.hints }
@@ -110,7 +112,7 @@ impl Numbers {
         let _ = added.unwrap();
     }
 
-    /// An entry leaves that has this number.
+    /// Takes the number of an entry out that leaves.
     #[inline(always)]
     pub(crate) fn forget(&mut self, id: &Id, number: usize)
         requires { get bytes_eq self.old.map id.now ≡ untold (hint_of self.old.hints id.now) (Some number) }

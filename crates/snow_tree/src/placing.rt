@@ -10,7 +10,7 @@ use crate::node::Entries;
 use crate::numbers::Numbers;
 use snow_base::Id;
 
-/// The number of the node at a place.
+/// Returns the number of the node at a place.
 #[inline(always)]
 pub(crate) fn number_of<T>(entries: &Entries<T>, place: usize) -> usize
     ensures some { (e : List ℕ × Node T) → slice_get entries.now.items place ≡ Some e → result ≡ e.1.number }
@@ -44,8 +44,9 @@ fn count_lower<T>(entries: &Entries<T>, len: usize, number: usize) -> usize
     low
 }
 
-/// The place of a number among the first so many nodes. Where none left from between, it is as far behind
-/// the first as the number is above the first's; else it is searched for in logarithmic time.
+/// Returns the place of a number among the first so many nodes, or `None`. Where none left from
+/// between, the place is the number less the first node's; else a search finds it in logarithmic
+/// time.
 #[inline(always)]
 pub(crate) fn place_of_number<T>(entries: &Entries<T>, len: usize, number: usize) -> Option<usize>
     requires order { AreInOrder (edges_of (take len entries.now.items)) }
@@ -63,7 +64,7 @@ pub(crate) fn place_of_number<T>(entries: &Entries<T>, len: usize, number: usize
     None
 }
 
-/// The place of an identifier, where the slots tell its number. The map isn't asked.
+/// Returns the place of an identifier, where its slot tells its number. It doesn't ask the map.
 #[inline(always)]
 pub(crate) fn place_told<T>(entries: &Entries<T>, numbers: &Numbers, id: &Id) -> Option<usize>
     requires { (next : ℕ) × IsNumbered (edges_of entries.now.items) (get bytes_eq numbers.now.map) numbers.now.hints next }
@@ -77,7 +78,7 @@ pub(crate) fn place_told<T>(entries: &Entries<T>, numbers: &Numbers, id: &Id) ->
     }
 }
 
-/// The place of an identifier.
+/// Returns the place of an identifier.
 pub(crate) fn place_of_id<T>(entries: &Entries<T>, numbers: &Numbers, id: &Id) -> Option<usize>
     requires { (next : ℕ) × IsNumbered (edges_of entries.now.items) (get bytes_eq numbers.now.map) numbers.now.hints next }
     ensures { result ≡ position (λ e. bytes_eq e.id id.now) (edges_of entries.now.items) }

@@ -15,8 +15,8 @@ use std::alloc::{AllocError, Global};
 use std::collections::VecDeque;
 use std::marker::Model;
 
-/// Nodes in order of issue, each found by its identifier, by its number and by its place. A number never
-/// changes: so where others leave, nothing is looked up for those that stay.
+/// Nodes in order of issue, each found by its identifier, by its number and by its place. A number
+/// never changes, so where others leave, the row looks nothing up for those that stay.
 #[derive(Debug, Drop)]
 pub(crate) struct Row<T> {
     entries: Entries<T>,
@@ -46,7 +46,7 @@ impl<T> Row<T> {
     ghost use Rattle.std.specs.Borrow.{sem};
     ghost use Rattle.snow_tree.specs.Lent.{lends_children_at, lends_load_at};
 
-    /// No node. It takes no memory.
+    /// Returns no node. It takes no memory.
     pub(crate) fn new(alloc: Global) -> Self
         ensures { result.entries ≡ [] }
     {
@@ -57,7 +57,7 @@ impl<T> Row<T> {
         }
     }
 
-    /// How many nodes there are. No identifier stands twice.
+    /// Returns how many nodes there are. No identifier stands twice.
     pub(crate) fn len(&self) -> usize
         ensures len { result ≡ length self.now.entries }
         ensures small { result < 2 ^ 63 }
@@ -68,7 +68,7 @@ impl<T> Row<T> {
         self.entries.len()
     }
 
-    /// The place of an identifier.
+    /// Returns the place of an identifier.
     pub(crate) fn get_index_of(&self, id: &Id) -> Option<usize>
         ensures index { result ≡ position (bytes_eq id.now) (keys_of self.now.entries) }
         ensures unique { IsDistinct bytes_eq (keys_of self.now.entries) }
@@ -76,7 +76,7 @@ impl<T> Row<T> {
         place_of_id(&self.entries, &self.numbers, id)
     }
 
-    /// The place of an identifier, where the map needn't be asked.
+    /// Returns the place of an identifier, where its slot tells it without the map.
     #[inline(always)]
     pub(crate) fn guess(&self, id: &Id) -> Option<usize>
         ensures { IfSome result (λ at. position (bytes_eq id.now) (keys_of self.now.entries) ≡ Some at) }
@@ -84,7 +84,7 @@ impl<T> Row<T> {
         place_told(&self.entries, &self.numbers, id)
     }
 
-    /// The place of the parent of the node at a place. No identifier is looked up.
+    /// Returns the place of the parent of the node at a place. It looks no identifier up.
     pub(crate) fn parent_of(&self, place: usize) -> Option<usize>
         ensures { (e : List ℕ × Node T) → slice_get self.now.entries place ≡ Some e → result ≡ position (λ x. bytes_eq x.0 e.1.parent) self.now.entries }
     {
@@ -94,7 +94,7 @@ impl<T> Row<T> {
         }
     }
 
-    /// The identifier and the node at a place.
+    /// Returns the identifier and the node at a place.
     pub(crate) fn get_index(&self, place: usize) -> Option<(&Id, &Node<T>)>
         ensures { option_map (λ e. (e.0.now, e.1.now)) result ≡ slice_get self.now.entries place }
     {
@@ -104,8 +104,8 @@ impl<T> Row<T> {
         }
     }
 
-    /// The node of an identifier. It stands apart, so that of a node that is only looked for nothing is
-    /// copied.
+    /// Returns the node of an identifier. It is a function apart, so that a caller that only looks
+    /// copies nothing.
     #[inline(never)]
     pub(crate) fn get(&self, id: &Id) -> Option<&Node<T>>
         ensures value { option_copied result ≡ lookup (bytes_eq id.now) self.now.entries }
@@ -117,7 +117,7 @@ impl<T> Row<T> {
         }
     }
 
-    /// The load at a place, to write.
+    /// Returns the load at a place, to write.
     pub(crate) fn load_mut(&mut self, place: usize) -> Option<&mut T>
         ensures* writes_back { sem 𝓛 (lends_load_at T.row self.entry place result) }
         ensures value { option_copied_mut result ≡ option_map (λ n. n.load) (slice_get (values_of self.old.entries) place) }
@@ -128,7 +128,7 @@ impl<T> Row<T> {
         }
     }
 
-    /// The children of the node at a place, to write.
+    /// Returns the children of the node at a place, to write.
     pub(crate) fn children_mut(&mut self, place: usize) -> Option<&mut Children>
         ensures* writes_back { sem 𝓛 (lends_children_at T.row self.entry place result) }
         ensures value { option_copied_mut result ≡ option_map (λ n. n.children) (slice_get (values_of self.old.entries) place) }
@@ -139,7 +139,7 @@ impl<T> Row<T> {
         }
     }
 
-    /// Makes room for one more node. After want of memory all is as before.
+    /// Makes room for one more node. On want of memory all stays as it was.
     pub(crate) fn reserve_one(&mut self) -> Result<(), AllocError>
         ensures entries { self.new.entries ≡ self.old.entries }
         ensures next { self.new.next ≡ self.old.next }
@@ -153,14 +153,14 @@ impl<T> Row<T> {
         self.numbers.reserve_one(self.entries.len())
     }
 
-    /// The number of the next node.
+    /// Returns the number of the next node.
     pub(crate) fn next(&self) -> usize
         ensures { result ≡ self.now.next }
     {
         self.next
     }
 
-    /// The number of the node at a place, and 0 for no place.
+    /// Returns the number of the node at a place, and 0 for no place.
     pub(crate) fn number_at(&self, at: Option<usize>) -> usize
         ensures { result ≡ number_at self.now.entries at }
     {
@@ -170,7 +170,8 @@ impl<T> Row<T> {
         }
     }
 
-    /// Appends a node, for which there is room. Its parent stands at this place, and it has the next number.
+    /// Appends a node, for which there is room and whose parent stands at this place. The node has
+    /// the next number.
     #[inline(always)]
     pub(crate) fn push(&mut self, id: Id, node: Node<T>, at: Option<usize>)
         requires room { 0 < self.old.spare }
@@ -187,7 +188,7 @@ impl<T> Row<T> {
         self.entries.push_back_reserved((id, node));
     }
 
-    /// Takes the last node out.
+    /// Takes the last node out and returns it.
     pub(crate) fn pop(&mut self) -> Option<(Id, Node<T>)>
         ensures entries { self.old.entries ≡ self.new.entries ++ option_to_list result }
         ensures found { IsSome result ↔ (0 < length self.old.entries) }
@@ -197,7 +198,8 @@ impl<T> Row<T> {
         Some(entry)
     }
 
-    /// Takes the node at a place out. It takes no memory, and moves those on the shorter side.
+    /// Takes the node at a place out and returns it. It takes no memory, and moves the nodes on the
+    /// shorter side.
     #[inline(always)]
     pub(crate) fn remove(&mut self, place: usize) -> Option<(Id, Node<T>)>
         ensures node { result ≡ slice_get self.old.entries place }
@@ -210,9 +212,9 @@ impl<T> Row<T> {
         self.entries.remove(place)
     }
 
-    /// Takes all nodes out above which neither the block of this number stands nor one that stays. They are
-    /// told in order of issue. It takes no memory: it is one pass, in which nothing is looked up for those
-    /// that stay.
+    /// Takes all nodes out above which neither the block of this number stands nor one that stays,
+    /// and appends them to `rejected` in order of issue. It is one pass, which looks nothing up for
+    /// those that stay. It takes no memory.
     pub(crate) fn sweep(&mut self, number: usize, rejected: &mut Vec<Id>)
     where
         T: Drop,

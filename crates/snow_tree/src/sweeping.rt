@@ -1,4 +1,4 @@
-//! The pass over the nodes in which those leave that don't stand above a block.
+//! The pass over the nodes that takes those out that don't stand above a block.
 ghost use Rattle.std.specs.Prelude.{◌≡◌, ℕ, List, ◌+◌, ◌<◌, ◌≤◌, ◌∷◌, ◌++◌, [], None, Some, bytes_eq, cond, length, slice_get, take, vec_len, vec_capacity};
 ghost use Rattle.std.specs.HashMap.{get};
 ghost use Rattle.snow_tree.specs.declared.node.Node.{Node};
@@ -39,8 +39,8 @@ fn tell<T>(entry: &(Id, Node<T>), numbers: &mut Numbers, rejected: &mut Vec<Id>)
     rejected.push_reserved(entry.0);
 }
 
-/// Takes all nodes out above which neither the block of this number stands nor one that stays. They are told
-/// in order of issue.
+/// Takes all nodes out above which neither the block of this number stands nor one that stays, and
+/// appends them to `rejected` in order of issue.
 pub(crate) fn sweep<T: Drop>(
     entries: &mut Entries<T>,
     numbers: &mut Numbers,

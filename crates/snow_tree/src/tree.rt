@@ -13,16 +13,19 @@ use snow_base::{Header, Id};
 use std::alloc::Global;
 use std::marker::Model;
 
-/// Want of memory. It hands the load back that was to be inserted.
+/// Want of memory in `Tree::insert` or `Tree::insert_at`. It hands back the load that was to be
+/// inserted, and the tree stays as it was.
+/// Rule: AvalancheGo, snow/consensus/snowman.
 #[derive(Debug, Drop)]
 pub struct TreeFull<T> {
     pub load: T,
 }
 
-/// The last accepted block and the pending ones above it in order of issue, each with a load, by
-/// identifier. Looking up a block, its parent or its children walks nothing. Contracts see the last
+/// The last accepted block and the pending ones above it in order of issue, each with a load. It
+/// finds a block, its parent and its children by identifier without a walk. Contracts see the last
 /// accepted block with its height, the pending blocks with their loads, and those that the last
 /// acceptance rejected.
+/// Rule: AvalancheGo, snow/consensus/snowman.
 #[derive(Debug, Drop)]
 pub struct Tree<T> {
     last: Id,
@@ -58,7 +61,9 @@ impl<T: Drop> Tree<T> {
     ghost use Rattle.snow_plain.specs.Grown.{IsGrown};
     ghost use Rattle.snow_tree.specs.Lending.{lends_load};
 
-    /// Nothing is pending above this block. It takes no memory.
+    /// Returns the tree where nothing is pending above this block, whose height is below 2^64. It
+    /// takes no memory.
+    /// Rule: AvalancheGo, snow/consensus/snowman.
     pub fn new(alloc: Global, last: Id, height: u64) -> Self
         ensures { result ≡ begun last height }
     {
@@ -72,7 +77,10 @@ impl<T: Drop> Tree<T> {
         }
     }
 
-    /// A block is issued, with a load. After want of memory all is as before, and the load comes back.
+    /// Puts a block behind the pending ones, with a load. Its identifier isn't in the tree, and its
+    /// parent is pending or the last accepted block. On want of memory it returns `TreeFull` with
+    /// the load, and the tree stays as it was.
+    /// Rule: AvalancheGo, snow/consensus/snowman.
     pub fn insert(&mut self, id: Id, parent: Id, height: u64, load: T) -> Result<(), TreeFull<T>>
         requires unknown { is_on (self.old).last (blocks_in (self.old).pending) id ≡ false }
         requires follows { is_on (self.old).last (blocks_in (self.old).pending) parent ≡ true }
@@ -85,7 +93,9 @@ impl<T: Drop> Tree<T> {
         self.insert_at(id, parent, at, height, load)
     }
 
-    /// The same where it is known at which place the parent stands, or that it is the last accepted block.
+    /// Does what `insert` does, where the caller knows the parent's place: `at` is that place, or
+    /// `None` where the parent is the last accepted block.
+    /// Rule: AvalancheGo, snow/consensus/snowman.
     #[inline(always)]
     pub fn insert_at(
         &mut self,
@@ -128,8 +138,9 @@ impl<T: Drop> Tree<T> {
         Ok(())
     }
 
-    /// Takes the block back that was issued last, and gives its load; nothing where none is pending. It
-    /// takes no memory.
+    /// Takes the block back that was issued last, and returns its load, or `None` exactly where
+    /// none is pending. It takes no memory.
+    /// Rule: AvalancheGo, snow/consensus/snowman.
     pub fn take_back(&mut self) -> Option<T>
         ensures load { result ≡ option_map (λ e. e.load) (slice_get (self.old).pending (length (self.old).pending - 1)) }
         ensures tree { self.new ≡ taken_back self.old }
@@ -144,7 +155,8 @@ impl<T: Drop> Tree<T> {
         Some(node.load)
     }
 
-    /// The last accepted block. Each pending one came after its parent.
+    /// Returns the last accepted block. Each pending one came after its parent.
+    /// Rule: AvalancheGo, snow/consensus/snowman.
     pub fn last(&self) -> Id
         ensures last { result ≡ (self.now).last }
         ensures grown { IsGrown (self.now).last (reverse (blocks_in (self.now).pending)) }
@@ -152,21 +164,25 @@ impl<T: Drop> Tree<T> {
         self.last
     }
 
-    /// Its height.
+    /// Returns the height of the last accepted block, below 2^64.
+    /// Rule: AvalancheGo, snow/consensus/snowman.
     pub fn last_height(&self) -> u64
         ensures { result ≡ (self.now).height }
     {
         self.height
     }
 
-    /// How many blocks are pending.
+    /// Returns how many blocks are pending.
+    /// Rule: AvalancheGo, snow/consensus/snowman.
     pub fn len(&self) -> usize
         ensures { result ≡ length (self.now).pending }
     {
         self.nodes.len()
     }
 
-    /// The block at a place in order of issue, and nothing past the last.
+    /// Returns the block at a place in order of issue, or `None` exactly where `place` is `len` or
+    /// more.
+    /// Rule: AvalancheGo, snow/consensus/snowman.
     pub fn at(&self, place: usize) -> Option<Id>
         ensures { result ≡ option_map (λ e. e.block.id) (slice_get (self.now).pending place) }
     {
@@ -176,14 +192,17 @@ impl<T: Drop> Tree<T> {
         }
     }
 
-    /// What the block at a place says of itself.
+    /// Returns what the block at a place says of itself, or `None` exactly where `place` is `len`
+    /// or more.
+    /// Rule: AvalancheGo, snow/consensus/snowman.
     pub fn block(&self, place: usize) -> Option<Header>
         ensures { result ≡ option_map (λ e. e.block) (slice_get (self.now).pending place) }
     {
         block_at(&self.nodes, place)
     }
 
-    /// What a pending block says of itself, and nothing for any other.
+    /// Returns what a pending block says of itself, or `None` exactly where it isn't pending.
+    /// Rule: AvalancheGo, snow/consensus/snowman.
     #[inline(always)]
     pub fn header_of(&self, id: &Id) -> Option<Header>
         ensures { result ≡ option_map (λ e. e.block) (entry_in (self.now).pending id.now) }
@@ -198,7 +217,9 @@ impl<T: Drop> Tree<T> {
         }
     }
 
-    /// Where a block stands in order of issue, and nothing where it isn't pending.
+    /// Returns where a block stands in order of issue, from 0, or `None` exactly where it isn't
+    /// pending.
+    /// Rule: AvalancheGo, snow/consensus/snowman.
     pub fn place_of(&self, id: &Id) -> Option<usize>
         ensures place { result ≡ place_in (self.now).pending id.now }
         ensures pending { is_some result ≡ has_block (blocks_in (self.now).pending) id.now }
@@ -206,8 +227,10 @@ impl<T: Drop> Tree<T> {
         place_of(&self.nodes, id)
     }
 
-    /// Where a block and its parent stand in order of issue, where the first is known at once. Nothing is
-    /// said of any other.
+    /// Returns where a block and its parent stand in order of issue, where a look at one slot
+    /// tells. It may return `None` for a pending block too. The parent has no place where it is the
+    /// last accepted block.
+    /// Rule: AvalancheGo, snow/consensus/snowman.
     #[inline(always)]
     pub fn guess(&self, id: &Id) -> Option<(usize, Option<usize>)>
         ensures place { IfSome result (λ r. place_in (self.now).pending id.now ≡ Some r.0) }
@@ -216,22 +239,27 @@ impl<T: Drop> Tree<T> {
         guess(&self.nodes, id)
     }
 
-    /// Where the parent of the block at a place stands, and nothing where that isn't pending. It compares
-    /// no identifiers: each block notes its parent's number.
+    /// Returns where the parent of the block at a place stands, or `None` where that isn't pending.
+    /// Each block notes its parent's number, so it compares no identifiers. Past the last place the
+    /// contract says nothing.
+    /// Rule: AvalancheGo, snow/consensus/snowman.
     pub fn parent_place(&self, place: usize) -> Option<usize>
         ensures { IfSome (slice_get (self.now).pending place) (λ e. result ≡ place_in (self.now).pending e.block.parent) }
     {
         self.nodes.parent_of(place)
     }
 
-    /// The children of the last accepted block in order of issue.
+    /// Returns the children of the last accepted block in order of issue.
+    /// Rule: AvalancheGo, snow/consensus/snowman.
     pub fn first_ids(&self) -> &[Id]
         ensures { result.now ≡ children_of (blocks_in (self.now).pending) (self.now).last }
     {
         self.children.list()
     }
 
-    /// The children of a block in order of issue; none where it isn't on the board or has none.
+    /// Returns the pending children of a block in order of issue. They are empty where the block
+    /// isn't on the board or has none.
+    /// Rule: AvalancheGo, snow/consensus/snowman.
     pub fn child_ids(&self, id: &Id) -> &[Id]
         ensures { result.now ≡ children_of (blocks_in (self.now).pending) id.now }
     {
@@ -244,7 +272,8 @@ impl<T: Drop> Tree<T> {
         }
     }
 
-    /// The load at a place.
+    /// Returns the load at a place, or `None` exactly where `place` is `len` or more.
+    /// Rule: AvalancheGo, snow/consensus/snowman.
     pub fn load(&self, place: usize) -> Option<&T>
         ensures { option_copied result ≡ option_map (λ e. e.load) (slice_get (self.now).pending place) }
     {
@@ -254,7 +283,9 @@ impl<T: Drop> Tree<T> {
         }
     }
 
-    /// The load at a place, to write.
+    /// Returns the load at a place, to write, or `None` exactly where `place` is `len` or more. All
+    /// else stays.
+    /// Rule: AvalancheGo, snow/consensus/snowman.
     pub fn load_mut(&mut self, place: usize) -> Option<&mut T>
         ensures* writes_back { sem 𝓛 (lends_load T.row self.entry place result) }
         ensures value { option_copied_mut result ≡ option_map (λ e. e.load) (slice_get (self.old).pending place) }
@@ -265,8 +296,9 @@ impl<T: Drop> Tree<T> {
         }
     }
 
-    /// The child of the last accepted block that a pending block is, or from which it descends, and
-    /// nothing where the block isn't pending. It walks up the block's line.
+    /// Returns the child of the last accepted block that a pending block is, or from which it
+    /// descends, or `None` exactly where the block isn't pending. It walks up the block's line.
+    /// Rule: AvalancheGo, snow/consensus/snowman.
     pub fn ancestor(&self, id: &Id) -> Option<Id>
         ensures ancestor { result ≡ ancestor_in self.now id.now }
         ensures pending { is_some result ≡ has_block (blocks_in (self.now).pending) id.now }
@@ -274,10 +306,12 @@ impl<T: Drop> Tree<T> {
         ancestor(&self.nodes, &self.last, id)
     }
 
-    /// A child of the last accepted block becomes the last accepted one, and its load takes the place of
-    /// another. All that don't descend from it go, with their loads. It takes no memory. Where the child is
-    /// the only one no other block is touched, whatever is pending; where others leave, it is one pass over
-    /// the pending blocks, in which no identifier of one that stays is looked up.
+    /// Makes a child of the last accepted block the last accepted one, and puts its load in place
+    /// of `load`. All blocks that don't descend from it go, with their loads; `rejected` names
+    /// them. It takes no memory. Where the child is the only one it touches no other block,
+    /// whatever is pending. Where others leave, it passes once over the pending blocks, and looks
+    /// up no identifier of one that stays.
+    /// Rule: AvalancheGo, snow/consensus/snowman.
     #[inline(always)]
     pub fn promote(&mut self, child: &Id, load: &mut T)
         requires child { option_map (λ e. e.block.parent) (entry_in (self.old).pending child.now) ≡ Some (self.old).last }
@@ -296,7 +330,9 @@ impl<T: Drop> Tree<T> {
         self.last = *child;
     }
 
-    /// The blocks that the last call of `promote` rejected, in order of issue; none after an issue.
+    /// Returns the blocks that the last call of `promote` rejected, in order of issue. They are
+    /// empty after an issue.
+    /// Rule: AvalancheGo, snow/consensus/snowman.
     pub fn rejected(&self) -> &[Id]
         ensures { result.now ≡ (self.now).rejected }
     {

@@ -8,8 +8,9 @@ ghost use Rattle.snow_trie.specs.Growing.{fork_of};
 use crate::run::Run;
 use snow_flake::{Binary, Params, Rule};
 
-/// A binary node: the counter of one bit, on which identifiers below it differ. `seen` is the number
-/// of the poll that visited it last.
+/// A binary node: the counter of one bit, on which identifiers below it differ. `seen` is the
+/// number of the poll that visited it last. Stamps are below 2^64.
+/// Rule: AvalancheGo, snow/consensus/snowball.
 #[derive(Clone, Copy, Debug)]
 pub struct Fork {
     pub counter: Binary,
@@ -17,7 +18,9 @@ pub struct Fork {
 }
 
 impl Fork {
-    /// The counter of a unary node as that of one bit, which all identifiers there had so far.
+    /// Returns the counter of a unary node as that of one bit. `bit` is what all identifiers there
+    /// had so far.
+    /// Rule: AvalancheGo, snow/consensus/snowball.
     pub fn of(run: &Run, bit: bool) -> Self
         ensures { result ≡ fork_of run.now bit }
     {
@@ -27,7 +30,9 @@ impl Fork {
         }
     }
 
-    /// The counter as it stands after this many polls: failed, where the last one didn't come here.
+    /// Returns the counter as it stands after this many polls: failed, where the last one didn't
+    /// come here.
+    /// Rule: AvalancheGo, snow/consensus/snowball.
     pub fn standing(&self, now: u64) -> Binary
         ensures { result ≡ standing_at now (self.now).seen (self.now).counter }
     {
@@ -47,8 +52,10 @@ impl Fork {
         }
     }
 
-    /// A poll comes with votes for both bits: those that reach AlphaPreference are
-    /// followed. The answer is whether the rule answers otherwise then.
+    /// Takes a poll with votes for both bits; the counter follows the one that has AlphaPreference
+    /// votes. `before` is the number of polls so far, below 2^64-1, and the stamp becomes one more.
+    /// It returns `false` only where the rule answers as it did.
+    /// Rule: AvalancheGo, snow/consensus/snowball.
     pub fn poll<R: Rule>(
         &mut self,
         params: &Params,
@@ -68,14 +75,16 @@ impl Fork {
         self.answer::<R>() != answer
     }
 
-    /// How the rule answers, whatever the stamp.
+    /// Returns how the rule answers, whatever the stamp.
+    /// Rule: AvalancheGo, snow/consensus/snowball.
     pub fn answer<R: Rule>(&self) -> bool
         ensures { (now : ℕ) → result ≡ answer_of R.answer (fork_counter now self.now) }
     {
         self.counter.preference::<R>()
     }
 
-    /// The stamp begins anew at 0, and says what it said after this many polls.
+    /// Puts the stamp to 0. The counter then says at 0 polls what it said after this many.
+    /// Rule: AvalancheGo, snow/consensus/snowball.
     pub fn restamp(&mut self, now: u64)
         ensures counter { fork_counter 0 self.new ≡ fork_counter now self.old }
         ensures seen { (self.new).seen ≡ 0 }

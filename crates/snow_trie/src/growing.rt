@@ -12,8 +12,10 @@ use snow_base::Id;
 use std::alloc::{AllocError, Global};
 use std::mem;
 
-/// Adds an identifier to the tree behind a decided prefix, which is a leader's. One that the prefix
-/// excludes is passed over. After want of memory the tree is as before.
+/// Adds an identifier to the tree behind a decided prefix, which is a leader's. It passes over one
+/// that the prefix excludes. On want of memory it returns `AllocError`, and the tree stays as it
+/// was.
+/// Rule: AvalancheGo, snow/consensus/snowball.
 pub fn add_behind(
     root: &mut Node,
     alloc: Global,

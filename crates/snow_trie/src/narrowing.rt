@@ -8,8 +8,10 @@ ghost use Rattle.snow_trie.specs.Polled.{IsNarrowed};
 use snow_base::{Id, Vote, split};
 use snow_flake::Params;
 
-/// The votes for identifiers that begin with the first bits of a leader. Once fewer than AlphaPreference
-/// are left, they are those for some of these bits.
+/// Returns the votes for identifiers that begin with the first `to` bits of a leader, `to` being at
+/// most 256. Once it sees that fewer than AlphaPreference are left, it may return those for some of
+/// these bits. The votes are at most K, in bit order.
+/// Rule: AvalancheGo, snow/consensus/snowball.
 #[inline(always)]
 pub fn narrowed<'a>(votes: &'a [Vote], leader: &Id, to: u16, params: &Params) -> &'a [Vote]
     requires order { IsInBitOrder votes.now }
@@ -26,7 +28,7 @@ pub fn narrowed<'a>(votes: &'a [Vote], leader: &Id, to: u16, params: &Params) ->
     }
 }
 
-// The same on bits that most trees don't have.
+// Narrows on bits that most trees don't have.
 #[inline(never)]
 fn narrowed_on<'a>(votes: &'a [Vote], leader: &Id, to: u16, params: &Params) -> &'a [Vote]
     requires order { IsInBitOrder votes.now }
@@ -47,7 +49,8 @@ fn narrowed_on<'a>(votes: &'a [Vote], leader: &Id, to: u16, params: &Params) -> 
     rest
 }
 
-/// How many votes there are in all: at most K.
+/// Returns how many votes there are in all, at most K.
+/// Rule: AvalancheGo, snow/consensus/snowball.
 pub fn total(params: &Params, votes: &[Vote]) -> u32
     requires { total_count votes.now ≤ params.now.k }
     ensures count { result ≡ total_count votes.now }

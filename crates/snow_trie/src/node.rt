@@ -11,8 +11,9 @@ use crate::run::Run;
 use snow_base::Id;
 use snow_flake::Rule;
 
-/// A node of the tree, with what is below it. Behind its last bit an identifier stands. A last unary
-/// node, up to that bit, is that identifier's own: it keeps nothing below it.
+/// A node of the tree, with what is below it. Behind its last bit an identifier stands. A last
+/// unary node, up to that bit, is that identifier's own: it keeps nothing below it.
+/// Rule: AvalancheGo, snow/consensus/snowball.
 #[derive(Debug, Drop)]
 pub enum Node {
     End(Id),
@@ -21,8 +22,9 @@ pub enum Node {
     Apart(Fork, Box<Node>, Box<Node>),
 }
 
-/// What stands from a bit on for an identifier that is added: a fresh unary node up to its end, or
-/// nothing behind the last bit.
+/// Returns what stands from a bit on for an identifier that is added: a fresh unary node up to its
+/// end, or nothing behind the last bit.
+/// Rule: AvalancheGo, snow/consensus/snowball.
 pub fn branch(id: &Id, at: u16) -> Node
     ensures { tree_of result ≡ branch id.now at }
 {
@@ -33,7 +35,9 @@ pub fn branch(id: &Id, at: u16) -> Node
     }
 }
 
-/// The first bit in which an identifier differs from the node, where this is a unary one.
+/// Returns the first bit at which an identifier differs from the node, where this is a unary one,
+/// or `None`.
+/// Rule: AvalancheGo, snow/consensus/snowball.
 pub fn parting(node: &Node, id: &Id, from: u16) -> Option<u16>
     requires { IsPlaced from (tree_of node.now) }
     ensures { result ≡ parting from id.now (tree_of node.now) }
@@ -45,7 +49,8 @@ pub fn parting(node: &Node, id: &Id, from: u16) -> Option<u16>
     }
 }
 
-/// How many nodes there are.
+/// Returns how many nodes there are, fewer than 2^64.
+/// Rule: AvalancheGo, snow/consensus/snowball.
 pub fn count(node: &Node) -> usize
     requires { size (tree_of node.now) < 2 ^ 64 }
     ensures { result ≡ size (tree_of node.now) }
@@ -58,7 +63,8 @@ pub fn count(node: &Node) -> usize
     }
 }
 
-/// The identifier to which the answers of the rule lead.
+/// Returns the identifier to which the answers of the rule lead.
+/// Rule: AvalancheGo, snow/consensus/snowball.
 pub fn preference<R: Rule>(node: &Node) -> &Id
     ensures { result.now ≡ preferred R.answer (tree_of node.now) }
 {
@@ -72,7 +78,8 @@ pub fn preference<R: Rule>(node: &Node) -> &Id
     }
 }
 
-/// An identifier that stands in the tree.
+/// Returns an identifier that stands in the tree.
+/// Rule: AvalancheGo, snow/consensus/snowball.
 pub fn first_leaf(node: &Node) -> &Id
     ensures { result.now ≡ first_leaf (tree_of node.now) }
 {

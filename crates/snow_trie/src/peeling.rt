@@ -97,10 +97,11 @@ fn is_decided(node: &Node) -> bool
     }
 }
 
-/// Takes the decided first nodes off a tree that begins at a bit behind a leader's first ones. The answer
-/// is the bit at which what is left begins, behind those of the leader then. Mostly nothing is taken off,
-/// or a last node, of which an identifier is left: so taking off more is a function of its own, which has
-/// the room for moves.
+/// Takes the decided first nodes off a tree that begins at a bit behind a leader's first ones. It
+/// returns the bit at which what is left begins, behind those of the leader then. Mostly it takes
+/// nothing off, or a last node, of which an identifier is left; a function of its own takes off
+/// more.
+/// Rule: AvalancheGo, snow/consensus/snowball.
 #[inline(always)]
 pub fn peel(root: &mut Node, leader: &mut Id, decided: u16) -> u16
     requires { IsPlaced decided (tree_of root.old) }
@@ -132,7 +133,7 @@ fn end(root: &mut Node, id: &Id)
     *root = Node::End(*id);
 }
 
-// The same where the first node is decided.
+// Takes off where the first node is decided.
 #[inline(never)]
 fn take_off(root: &mut Node, leader: &mut Id, decided: u16) -> u16
     requires { IsPlaced decided (tree_of root.old) }

@@ -20,8 +20,11 @@ fn either(one: bool, other: bool) -> bool
     one || other
 }
 
-/// A poll comes to a tree with these votes, so many, all for identifiers that go down it. The answer is
-/// false only where the tree leads where it led. A tree of one identifier is polled in place.
+/// Takes a poll with these votes to a tree. `count` is their number, at most K, and all are for
+/// identifiers that go down the tree, in bit order. `before` is the number of polls so far, below
+/// 2^64-1. It counts a step for each node that it visits, at least one. It returns `false` only
+/// where the tree leads where it led. It polls a tree of one identifier in place.
+/// Rule: AvalancheGo, snow/consensus/snowball.
 #[inline(always)]
 pub fn poll<R: Rule, L: Ledger>(
     root: &mut Node,
@@ -135,8 +138,9 @@ fn behind(votes: &[Vote], count: u32, front: u32) -> u32
     count - front
 }
 
-/// The number of polls so far, where the next one has a number too: at the end of 64 bits the
-/// stamps begin anew.
+/// Returns the number of polls so far, below 2^64-1, so that the next one has a number too. At the
+/// end of 64 bits it makes the stamps begin anew; else the tree stays as it was.
+/// Rule: AvalancheGo, snow/consensus/snowball.
 pub fn ready(root: &mut Node, polls: u64) -> u64
     ensures room { result + 1 < 2 ^ 64 }
     ensures tree { IsRestamped polls result (tree_of root.old) (tree_of root.new) }

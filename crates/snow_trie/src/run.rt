@@ -7,8 +7,10 @@ ghost use Rattle.snow_trie.specs.Growing.{fresh_run};
 use snow_base::Id;
 use snow_flake::{Params, Unary};
 
-/// A unary node: one counter for all bits from where it stands up to, not including, `to`. On these
-/// all identifiers below it agree with `id`. `seen` is the number of the poll that visited it last.
+/// A unary node: one counter for all bits from where it stands up to, not including, `to`, which is
+/// at most 256. On these all identifiers below it agree with `id`. `seen` is the number of the poll
+/// that visited it last.
+/// Rule: AvalancheGo, snow/consensus/snowball.
 #[derive(Clone, Copy, Debug)]
 pub struct Run {
     pub id: Id,
@@ -18,7 +20,8 @@ pub struct Run {
 }
 
 impl Run {
-    /// The node of an identifier that was just added, up to its end.
+    /// Returns the node of an identifier that was just added, up to its end.
+    /// Rule: AvalancheGo, snow/consensus/snowball.
     pub fn fresh(id: &Id) -> Self
         ensures { result ≡ fresh_run id.now }
     {
@@ -30,7 +33,9 @@ impl Run {
         }
     }
 
-    /// The counter as it stands after this many polls: failed, where the last one didn't come here.
+    /// Returns the counter as it stands after this many polls: failed, where the last one didn't
+    /// come here.
+    /// Rule: AvalancheGo, snow/consensus/snowball.
     pub fn standing(&self, now: u64) -> Unary
         ensures { (bit : Bool) → at_bit result bit ≡ standing_at now (self.now).seen (at_bit (self.now).counter bit) }
     {
@@ -41,7 +46,10 @@ impl Run {
         counter
     }
 
-    /// A poll comes with these votes, all for identifiers with the bits of this node.
+    /// Takes a poll with these votes, all for identifiers with the bits of this node. `before` is
+    /// the number of polls so far, below 2^64-1, and the stamp becomes one more. `id` and `to`
+    /// stay.
+    /// Rule: AvalancheGo, snow/consensus/snowball.
     pub fn poll(&mut self, params: &Params, votes: u32, before: u64)
         requires { before + 1 < 2 ^ 64 }
         ensures counter { (bit : Bool) → run_counter (before + 1) self.new bit ≡ stepped params.now
@@ -56,7 +64,9 @@ impl Run {
         self.seen = before + 1;
     }
 
-    /// The stamp begins anew at 0, and says what it said after this many polls.
+    /// Puts the stamp to 0. The counter then says at 0 polls what it said after this many. `id` and
+    /// `to` stay.
+    /// Rule: AvalancheGo, snow/consensus/snowball.
     pub fn restamp(&mut self, now: u64)
         ensures counter { (bit : Bool) → run_counter 0 self.new bit ≡ run_counter now self.old bit }
         ensures id { (self.new).id ≡ (self.old).id }

@@ -15,10 +15,11 @@ use std::sync::ledger::Ledger;
 // With the first one these are more identifiers than any memory holds.
 const MOST_MORE: usize = (1 << 48) - 1;
 
-/// The counters of one conflict as a compressed tree, by whose rule they answer. A poll visits only
+/// The counters of one conflict as a compressed tree; `R` says how they answer. A poll visits only
 /// nodes to which AlphaPreference votes come, so at most one at each bit; all others fail by their
-/// stamps. Contracts see the parameters, the identifiers that were given, the counters of the
-/// conflict with resets at once, and how many nodes there are.
+/// stamps. Contracts see the parameters, the identifiers that were given, the counters with resets
+/// at once, and how many nodes there are: at most three times the identifiers, less two.
+/// Rule: AvalancheGo, snow/consensus/snowball.
 #[derive(Debug, Drop)]
 pub struct Trie<R: Rule> {
     params: Params,
@@ -69,7 +70,9 @@ impl<R: Rule> Trie<R> {
     ghost use Rattle.snow_plain.specs.FailingLaw.{failed};
     ghost use Rattle.snow_trie.specs.Whole.{begun, HasFewNodes};
 
-    /// The counters where one identifier stands alone.
+    /// Returns the counters where one identifier stands alone: one node. On want of memory it
+    /// returns `AllocError`.
+    /// Rule: AvalancheGo, snow/consensus/snowball.
     #[inline(always)]
     pub fn new(alloc: Global, params: Params, id: Id) -> Result<Self, AllocError>
         ensures { IfOk result (λ trie. trie ≡ begun params id) }
@@ -88,8 +91,9 @@ impl<R: Rule> Trie<R> {
         })
     }
 
-    /// One identifier stands alone anew, whatever stood before. The room for others is kept. It takes no
-    /// memory.
+    /// Makes one identifier stand alone anew, with these parameters, whatever stood before. It
+    /// keeps the room for others, and takes no memory.
+    /// Rule: AvalancheGo, snow/consensus/snowball.
     #[inline(always)]
     pub fn begin_anew(&mut self, params: &Params, id: &Id)
         ensures { self.new ≡ begun params.now id.now }
@@ -103,9 +107,10 @@ impl<R: Rule> Trie<R> {
         self.root = Node::Last(Run::fresh(id));
     }
 
-    /// Adds an identifier: fresh counters for its bits where none stood, up to a decided counter of
-    /// the other bit. At most three nodes are made, and they are made first: after want of memory all
-    /// is as before.
+    /// Adds an identifier: its bits get fresh counters where none stood, up to a decided counter of
+    /// the other bit. It makes at most three nodes. On want of memory it returns `AllocError`, and
+    /// all stays as it was.
+    /// Rule: AvalancheGo, snow/consensus/snowball.
     pub fn add(&mut self, id: Id) -> Result<(), AllocError>
         ensures counters { OnOk result ((self.new).counters ≡ with_child (bits id) (self.old).counters) }
         ensures ids { OnOk result ((self.new).ids ≡ (self.old).ids ++ id ∷ []) }
@@ -123,9 +128,12 @@ impl<R: Rule> Trie<R> {
         Ok(())
     }
 
-    /// A poll with these votes, each for an identifier that was given: every counter takes the bit
-    /// step with its own votes, all at once, and those behind a decided counter of the other bit go.
-    /// A node that is visited is a step, and so is a poll that visits none. It takes no memory.
+    /// Records a poll with these votes, at most K, in bit order, each for an identifier that was
+    /// given. Every counter makes the bit step with its own votes, all at once, and those behind a
+    /// decided counter of the other bit go. It counts a step for each node that it visits, at least
+    /// one and at most as many as the tree has nodes. The parameters and the identifiers stay. It
+    /// takes no memory and can't fail.
+    /// Rule: AvalancheGo, snow/consensus/snowball.
     pub fn apply<L: Ledger>(&mut self, votes: &[Vote], steps: &mut Steps<L>)
         requires order { IsInBitOrder votes.now }
         requires most { total_count votes.now ≤ (self.old).parameters.k }
@@ -141,8 +149,9 @@ impl<R: Rule> Trie<R> {
         let _moved = self.record(votes, steps);
     }
 
-    /// The same, and whether it may have moved where the counters lead: the answer is false only where they
-    /// lead where they led.
+    /// Does what `apply` does, and returns whether it may have moved where the counters lead:
+    /// `false` only where they lead where they led.
+    /// Rule: AvalancheGo, snow/consensus/snowball.
     #[inline(always)]
     pub fn record<L: Ledger>(&mut self, votes: &[Vote], steps: &mut Steps<L>) -> bool
         requires order { IsInBitOrder votes.now }
@@ -181,7 +190,10 @@ impl<R: Rule> Trie<R> {
         is_elsewhere
     }
 
-    /// A poll without votes: one step, which touches no node. It takes no memory.
+    /// Records a poll without votes: each confidence of a counter that isn't final becomes 0. It is
+    /// one step, which touches no node. The answers, the parameters and the identifiers stay. It
+    /// takes no memory.
+    /// Rule: AvalancheGo, snow/consensus/snowball.
     pub fn fail<L: Ledger>(&mut self, steps: &mut Steps<L>)
         ensures trie { self.new ≡ record (self.old) { counters = failed (self.old).parameters (self.old).counters } }
         ensures few { HasFewNodes self.new }
@@ -194,7 +206,9 @@ impl<R: Rule> Trie<R> {
         self.polls = before + 1;
     }
 
-    /// The identifier to which the counters lead by their answers: one of those given.
+    /// Returns the identifier to which the counters lead by their answers. It is one of those
+    /// given.
+    /// Rule: AvalancheGo, snow/consensus/snowball.
     pub fn preference(&self) -> Id
         ensures bits { chosen R.answer (self.now).counters ≡ bits result }
         ensures given { Contains (self.now).ids result }
@@ -202,14 +216,16 @@ impl<R: Rule> Trie<R> {
         *node::preference::<R>(&self.root)
     }
 
-    /// Whether all counters that lead there are decided.
+    /// Returns whether decided counters alone lead to an identifier.
+    /// Rule: AvalancheGo, snow/consensus/snowball.
     pub fn is_final(&self) -> bool
         ensures { result ≡ is_some (decided_path (self.now).counters) }
     {
         self.decided == 256
     }
 
-    /// How many nodes the tree has.
+    /// Returns how many nodes the tree has: at most three times `choices`, less two.
+    /// Rule: AvalancheGo, snow/consensus/snowball.
     pub fn nodes(&self) -> usize
         ensures nodes { result ≡ (self.now).nodes }
         ensures few { HasFewNodes self.now }
@@ -218,7 +234,9 @@ impl<R: Rule> Trie<R> {
         node::count(&self.root).max(1)
     }
 
-    /// How many identifiers were given. The counters lead to one that stands alone, whatever they are.
+    /// Returns how many identifiers were given, at least one. Where one stands alone the counters
+    /// lead to it, whatever they are.
+    /// Rule: AvalancheGo, snow/consensus/snowball.
     pub fn choices(&self) -> usize
         ensures count { result ≡ length (self.now).ids }
         ensures alone { length (self.now).ids ≡ 1 → All (λ id. chosen R.answer (self.now).counters ≡ bits id) (self.now).ids }

@@ -7,8 +7,8 @@ use snow_base::{Failed, Source};
 use std::alloc::{AllocError, Global};
 use std::marker::Model;
 
-/// Bytes, and room behind them into which a source can read. The room is filled once, when it is
-/// made, and never cleared. Contracts see the bytes, and how many more find room.
+/// Bytes, and room behind them into which a source can read. The room is filled with zeros once,
+/// when it is made, and never cleared. Contracts see the bytes, and how many more fit.
 #[derive(Drop)]
 pub(crate) struct Buffer {
     bytes: Vec<u8>,
@@ -27,7 +27,7 @@ impl Model for Buffer {
 }
 
 impl Buffer {
-    /// No bytes, and no room.
+    /// Returns no bytes, and no room.
     pub(crate) fn new(alloc: Global) -> Self
         ensures { result.bytes ≡ [] }
     {
@@ -37,28 +37,28 @@ impl Buffer {
         }
     }
 
-    /// The bytes.
+    /// Returns the bytes.
     pub(crate) fn as_slice(&self) -> &[u8]
         ensures bytes { result.now ≡ self.now.bytes }
     {
         &self.bytes[..self.len]
     }
 
-    /// How many bytes there are.
+    /// Returns how many bytes there are.
     pub(crate) fn len(&self) -> usize
         ensures { result ≡ length self.now.bytes }
     {
         self.len
     }
 
-    /// How many more find room.
+    /// Returns how many more find room.
     pub(crate) fn room(&self) -> usize
         ensures { result ≡ self.now.room }
     {
         self.bytes.len() - self.len
     }
 
-    /// Lets so many bytes in front go.
+    /// Takes so many bytes off the front.
     #[tactic(auto, using(crate::proofs::Behind::moved))]
     pub(crate) fn let_go(&mut self, n: usize)
         requires { n ≤ length self.old.bytes }
@@ -68,7 +68,7 @@ impl Buffer {
         self.len -= n;
     }
 
-    /// Makes room for so many more. After want of memory all is as before.
+    /// Makes room for so many more. On want of memory all stays as it was.
     #[tactic(auto, using(crate::proofs::Behind::grown))]
     pub(crate) fn make_room(&mut self, more: usize) -> Result<(), AllocError>
         requires { more < 2 ^ 63 }
@@ -94,8 +94,8 @@ impl Buffer {
         self.len = end;
     }
 
-    /// Reads at most so many bytes behind the others, and answers how many: none at the end alone. At
-    /// `Failed` nothing was taken.
+    /// Reads at most so many bytes behind the others, and returns how many: none at the end alone.
+    /// At `Failed` it has taken nothing.
     #[tactic(auto, using(crate::proofs::Behind::read_behind))]
     pub(crate) fn read<S: Source>(&mut self, source: &mut S, most: usize) -> Result<usize, Failed>
         requires some { 0 < most }

@@ -11,13 +11,14 @@ use snow_base::Source;
 use std::alloc::{AllocError, Global};
 use std::marker::Model;
 
-/// So many bytes are read at a time at most.
+/// A read takes at most so many bytes.
 const PIECE: usize = 65_536;
 
-/// Bytes that are left are moved to the front as soon as so many times as many were worked.
+/// The bytes that are left move to the front as soon as so many times as many were worked.
 const TIMES: usize = 8;
 
-/// Why no bytes were read.
+/// Why `Decoder::read_from` took no bytes. The decoder stays as it was.
+/// Rule: this project's own.
 #[derive(Clone, Copy, Debug, PartialEq, Eq)]
 pub enum ReadFault {
     /// The source failed.
@@ -26,8 +27,9 @@ pub enum ReadFault {
     Memory,
 }
 
-/// Gives the frames of a stream that comes in pieces. Contracts see how many frames were given, and
+/// Finds the frames of a stream that comes in pieces. Contracts see how many frames it gave, and
 /// the bytes behind them.
+/// Rule: this project's own.
 #[derive(Drop)]
 pub struct Decoder {
     bytes: Buffer,
@@ -51,7 +53,8 @@ impl Decoder {
     ghost use Rattle.snow_wire.specs.Stream.{IsNext, fed, fresh, taken};
     ghost use Rattle.snow_wire.specs.contracts.decoder.Decoder.{the_row};
 
-    /// A decoder that got nothing yet. It takes no memory.
+    /// Returns a decoder that got no byte yet. It takes no memory.
+    /// Rule: this project's own.
     pub fn new(alloc: Global) -> Self
         ensures { result ≡ fresh }
     {
@@ -62,8 +65,10 @@ impl Decoder {
         }
     }
 
-    /// Takes the next piece of the stream: its bytes come behind those that are left. After want of
-    /// memory all is as before. The bytes of frames that were given are let go once room is needed.
+    /// Puts the next piece of the stream behind the bytes that are left. On want of memory it
+    /// returns `AllocError`, and all stays as it was. Where it needs room it lets the bytes of
+    /// frames go that were given already.
+    /// Rule: this project's own.
     pub fn feed(&mut self, piece: &[u8]) -> Result<(), AllocError>
         ensures ok { OnOk result (self.new ≡ fed self.old piece.now) }
         ensures err { OnErr result (self.new ≡ self.old) }
@@ -74,8 +79,12 @@ impl Decoder {
         Ok(())
     }
 
-    /// Reads the next piece of the stream from a source, in place behind the bytes that are left: at
-    /// most `most` bytes, and none at the end alone. At a fault nothing was taken.
+    /// Reads the next piece of the stream from a source, in place behind the bytes that are left,
+    /// and returns how many bytes came: at most `most`, which is at least 1, and none at the end
+    /// alone. It returns `ReadFault::Source` only where the source's count of faults rose or stands
+    /// at 2^64-1, and `ReadFault::Memory` on want of memory. At a fault the decoder stays as it
+    /// was, and the source has lost no byte.
+    /// Rule: this project's own.
     pub fn read_from<S: Source>(&mut self, source: &mut S, most: u64) -> Result<usize, ReadFault>
         requires { 0 < most }
         ensures took { IfOk result (λ n. TakesIn (S.left source.old) (S.left source.new) self.old.rest self.new.rest n) }
@@ -114,8 +123,12 @@ impl Decoder {
         }
     }
 
-    /// The next frame, or none where the bytes so far hold no further whole frame. A length above
-    /// 2,097,152 is refused, and again at each later call. Takes no memory.
+    /// Takes the next frame off and returns it. It returns `Ok(None)` exactly where the bytes so
+    /// far hold no further whole frame and no length above 2,097,152; fewer than 2,097,156 bytes
+    /// are left then. It returns `TooLong` exactly where the next length is above 2,097,152, and
+    /// again at each later call. In these two cases all stays as it was. Fewer than 2^64-1 frames
+    /// were given before. It takes no memory.
+    /// Rule: this project's own.
     pub fn next(&mut self) -> Result<Option<Frame<'_>>, TooLong>
         requires { self.old.given < 2 ^ 64 - 1 }
         ensures answer { IsNext self.old result }
@@ -142,14 +155,16 @@ impl Decoder {
         }))
     }
 
-    /// How many bytes came behind the frames that were given.
+    /// Returns how many bytes came behind the frames that were given.
+    /// Rule: this project's own.
     pub fn rest_len(&self) -> usize
         ensures { result ≡ length self.now.rest }
     {
         self.bytes.len() - self.start
     }
 
-    /// How many frames were given.
+    /// Returns how many frames were given, below 2^64.
+    /// Rule: this project's own.
     pub fn given(&self) -> u64
         ensures { result ≡ self.now.given }
     {

@@ -9,9 +9,11 @@ use crate::skip::Skip;
 use crate::{messages, questions, setup};
 use std::alloc::Global;
 
-/// The event that all bytes of a payload spell. A payload that spells none is refused with the first
-/// thing that goes wrong, reading from the front; a range is checked as soon as its field is read. It is
-/// put where it is called, so that the event isn't moved on its way out.
+/// Returns the event that all bytes of a payload spell. An event that is in range and spelled so is
+/// always found, except on want of memory. Any other payload is refused with the first thing that
+/// goes wrong, read from the front; a field's range is checked as soon as the field is read. `Tag`,
+/// `Short`, `Extra` and `Count` say what it is. On want of memory it returns `Skip::Memory`.
+/// Rule: this project's own.
 #[inline(always)]
 pub fn decode(alloc: Global, payload: &[u8]) -> Result<Event, Skip>
     // The answer is what reading gives, unless memory ran out.
@@ -34,9 +36,10 @@ fn whole(alloc: Global, payload: &[u8]) -> Result<Event, Skip>
     fields(alloc, tag, reader.rest())
 }
 
-/// The event whose fields are all that stands behind this tag. The functions for the tags aren't put into
-/// one another, so that the room of one kind of event costs no other kind anything; and each looks
-/// itself whether bytes are left, so that its event is where it belongs as soon as it is made.
+/// Returns the event whose fields are all that stands behind this tag. The functions for the tags
+/// aren't put into one another, so that the room of one kind of event costs no other kind anything;
+/// and each looks itself whether bytes are left, so that its event is where it belongs as soon as
+/// it is made.
 #[tactic(auto, unfolding(crate::specs::Reading::fields_at))]
 #[inline(always)]
 fn fields(alloc: Global, tag: u8, behind: &[u8]) -> Result<Event, Skip>

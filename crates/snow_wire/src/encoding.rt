@@ -6,8 +6,10 @@ use crate::field::{Field, write_counted, write_sized, write_u32, write_u64};
 use snow_base::{Bytes, Id, Items, NodeId};
 use std::alloc::{AllocError, Global};
 
-/// The one spelling of an event whose counts and lengths are in their ranges; an error is want of
-/// memory.
+/// Returns the one spelling of an event whose counts and lengths are in their ranges: a block has
+/// at most 65,536 bytes, a Poll 1,024 votes, an Ancestors 2,048 blocks, a Line 1,100,000 bytes, and
+/// any other list 4,096 items. On want of memory it returns `AllocError`; it refuses nothing else.
+/// Rule: this project's own.
 pub fn encode(alloc: Global, event: &Event) -> Result<Bytes, AllocError>
     requires { IsWithinLimits event.now }
     ensures { IfOk result (λ bytes. bytes ≡ spelling event.now) }
@@ -17,7 +19,7 @@ pub fn encode(alloc: Global, event: &Event) -> Result<Bytes, AllocError>
     Ok(out)
 }
 
-/// Appends that spelling.
+/// Appends the event's spelling.
 #[tactic(auto, unfolding(crate::specs::Spelling::spelling))]
 fn write(out: &mut Bytes, event: &Event) -> Result<(), AllocError>
     requires { IsWithinLimits event.now }
@@ -80,7 +82,7 @@ fn sent(out: &mut Bytes, tag: u8, node: &NodeId, request: u32) -> Result<(), All
     write_u32(out, request)
 }
 
-/// The same with an identifier.
+/// Appends a tag, a node, a request and an identifier.
 fn with_id(out: &mut Bytes, tag: u8, node: &NodeId, request: u32, id: &Id) -> Result<(), AllocError>
     ensures { OnOk result (out.new ≡ out.old ++ tag ∷ sender node.now request ++ id.now) }
 {
@@ -88,7 +90,7 @@ fn with_id(out: &mut Bytes, tag: u8, node: &NodeId, request: u32, id: &Id) -> Re
     out.append(id.as_bytes())
 }
 
-/// The same with bytes behind their length.
+/// Appends a tag, a node, a request, and bytes behind their length.
 fn with_bytes(
     out: &mut Bytes,
     tag: u8,
@@ -103,7 +105,7 @@ fn with_bytes(
     write_sized(out, bytes)
 }
 
-/// The same with a counted list.
+/// Appends a tag, a node, a request and a counted list.
 fn with_list<T: Field>(
     out: &mut Bytes,
     tag: u8,

@@ -1,6 +1,9 @@
 use snow_base::{Blocks, Bytes, Id, Ids, NodeId, Nodes, Nums};
 
-/// How a run begins: the parameters of the polls, the last accepted block, and who is asked.
+/// How a run begins: the parameters of the polls, the last accepted block with the chain's state
+/// there, of at most 4,096 numbers, and at most 4,096 nodes with their weights. Reading a Start
+/// doesn't check the parameters, the state or the nodes.
+/// Rule: this project's own.
 #[derive(Drop)]
 pub struct Start {
     /// How many units are sampled for a poll.
@@ -26,7 +29,9 @@ pub struct Start {
 }
 
 /// One thing that happens to a node. In a message `node` is the peer that sent it and `request` the
-/// number of the request that it belongs to.
+/// number of the request that it belongs to. A request number is below 2^32, and 0 means that
+/// nobody asked.
+/// Rule: this project's own.
 #[derive(Drop)]
 pub enum Event {
     /// The run begins.

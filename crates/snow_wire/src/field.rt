@@ -97,7 +97,7 @@ impl Field for Bytes {
     }
 }
 
-/// A count that is at most the limit, and so many items.
+/// Returns a count that is at most the limit, and so many items.
 #[tactic(auto, unfolding(crate::specs::Reading::counted_at))]
 pub(crate) fn read_counted<T: Field>(
     alloc: Global,
@@ -110,7 +110,8 @@ pub(crate) fn read_counted<T: Field>(
     read_items(alloc, reader, count)
 }
 
-/// The same of identifiers, whose bytes are taken at once.
+/// Returns a count that is at most the limit, and so many identifiers, whose bytes it takes at
+/// once.
 #[tactic(auto, unfolding(crate::specs::Reading::counted_at))]
 pub(crate) fn read_ids(alloc: Global, reader: &mut Reader, limit: u16) -> Result<Ids, Skip>
     ensures { Reads result reader.new (counted_at (bytes_at 32) limit reader.old) }
@@ -119,7 +120,7 @@ pub(crate) fn read_ids(alloc: Global, reader: &mut Reader, limit: u16) -> Result
     reader.ids(alloc, count)
 }
 
-/// The same of numbers of eight bytes.
+/// Returns a count that is at most the limit, and so many numbers of eight bytes.
 #[tactic(auto, unfolding(crate::specs::Reading::counted_at))]
 pub(crate) fn read_words(alloc: Global, reader: &mut Reader, limit: u16) -> Result<Nums, Skip>
     ensures { Reads result reader.new (counted_at (number_at 8) limit reader.old) }
@@ -162,7 +163,7 @@ pub(crate) fn write_u64(out: &mut Bytes, n: u64) -> Result<(), AllocError>
     out.append(&n.to_be_bytes())
 }
 
-/// Four bytes of length, and so many bytes.
+/// Appends four bytes of length, and so many bytes.
 pub(crate) fn write_sized(out: &mut Bytes, bytes: &Bytes) -> Result<(), AllocError>
     requires { length bytes.now < 2 ^ 32 }
     ensures { OnOk result (out.new ≡ out.old ++ sized bytes.now) }
@@ -171,7 +172,7 @@ pub(crate) fn write_sized(out: &mut Bytes, bytes: &Bytes) -> Result<(), AllocErr
     out.append(bytes.list())
 }
 
-/// Two bytes of count, and so many items.
+/// Appends two bytes of count, and so many items.
 pub(crate) fn write_counted<T: Field>(out: &mut Bytes, items: &Items<T>) -> Result<(), AllocError>
     requires count { length items.now < 2 ^ 16 }
     requires fits { All (λ x. T.fits x) items.now }

@@ -7,7 +7,8 @@ use byteorder::{BigEndian, ByteOrder};
 /// The greatest length of a frame's payload.
 const MAX_LENGTH: u32 = 2_097_152;
 
-/// A frame of a stream.
+/// A frame of a stream: its place, counted from 1, and its payload of at most 2,097,152 bytes.
+/// Rule: this project's own.
 #[derive(Clone, Copy, Debug, PartialEq, Eq)]
 pub struct Frame<'a> {
     /// The frame's place in the stream, counted from 1.
@@ -16,7 +17,8 @@ pub struct Frame<'a> {
     pub payload: &'a [u8],
 }
 
-/// A length word that no frame has: it says more than 2,097,152.
+/// Tells of a length word that no frame has, since it says more than 2,097,152.
+/// Rule: this project's own.
 #[derive(Clone, Copy, Debug, PartialEq, Eq)]
 pub struct TooLong {
     /// The place in the stream that the frame would have.
@@ -25,8 +27,10 @@ pub struct TooLong {
     pub length: u32,
 }
 
-/// The payload of the first frame, and the bytes behind the frame. None where the bytes begin with
-/// no whole frame, or with a length above 2,097,152.
+/// Returns the payload of the first frame, and the bytes behind the frame; with the four bytes of
+/// the length these are all bytes. It returns `None` exactly where the bytes begin with no whole
+/// frame, or with a length above 2,097,152.
+/// Rule: this project's own.
 #[tactic(auto, unfolding(crate::specs::Frame::first_of))]
 pub fn first_frame(bytes: &[u8]) -> Option<(&[u8], &[u8])>
     ensures first { option_map (λ first. (first.0.now, first.1.now)) result ≡ first_of bytes.now }
@@ -43,7 +47,7 @@ pub fn first_frame(bytes: &[u8]) -> Option<(&[u8], &[u8])>
     Some(behind.split_at(length as usize))
 }
 
-/// The length word in front, where it is above 2,097,152.
+/// Returns the length word in front, where it is above 2,097,152.
 pub(crate) fn too_long(bytes: &[u8]) -> Option<u32>
     ensures { result ≡ (if is_too_long bytes.now then Some (length_word bytes.now) else None) }
 {

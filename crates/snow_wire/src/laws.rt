@@ -4,16 +4,19 @@ ghost use Rattle.snow_wire.specs.Spelling.{IsInRange, spelling};
 ghost use Rattle.snow_wire.specs.Reading.{IsBytes, event_of};
 ghost use Rattle.snow_wire.specs.Frame.{AreFrames, IsPayload, frame, frames_of};
 
-/// Each event in range is read back from its spelling, and no other payload is read as it.
+/// Each event in range is read back from its spelling, and no other payload is read as it. No
+/// payload is read as an event that is out of range.
+/// Rule: this project's own.
 pub fn one_spelling()
     ensures again { (event : Event) → IsInRange event → event_of (spelling event) ≡ Ok event }
     ensures only { (payload : List ℕ) (event : Event) → IsBytes payload → event_of payload ≡ Ok event
         → IsInRange event × (payload ≡ spelling event) }
 {}
 
-/// A stream is frames and a rest in one way, which going from the front finds. More bytes only come
-/// behind the frames, so it doesn't matter how a stream is cut into pieces. No frame's bytes begin
-/// another frame's.
+/// A stream is frames and a rest in just one way, which reading from the front finds; more bytes
+/// come behind the frames and change none, so it doesn't matter how a stream is cut into pieces. No
+/// frame's bytes begin another frame's.
+/// Rule: this project's own.
 pub fn one_reading()
     ensures found { (bytes : List ℕ) → IsBytes bytes → AreFrames bytes (frames_of bytes).0 (frames_of bytes).1 }
     ensures only { (bytes : List ℕ) (payloads : List (List ℕ)) (rest : List ℕ) → AreFrames bytes payloads rest

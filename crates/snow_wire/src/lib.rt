@@ -1,4 +1,5 @@
-//! Frames and events: how a stream of bytes is read as events, and how an event is spelled.
+//! Frames and events: how the program reads a stream of bytes as events, and how it spells an
+//! event.
 #![tactic(auto)]
 
 mod buffer;

@@ -1,4 +1,4 @@
-//! Messages of peers, read behind their tag.
+//! Reads the messages of peers behind their tag.
 
 ghost use Rattle.snow_wire.specs.Reading.{Gives, to_end, counted_at, id_at, block_at, sender_at, message_at};
 ghost use Rattle.snow_wire.specs.declared.event.Event.TheVariants as event;

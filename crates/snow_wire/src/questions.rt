@@ -1,4 +1,4 @@
-//! Questions of peers, read behind their tag.
+//! Reads the questions of peers behind their tag.
 
 ghost use Rattle.snow_wire.specs.Reading.{Gives, to_end, counted_at, id_at, sender_at, message_at};
 ghost use Rattle.snow_wire.specs.declared.event.Event.TheVariants as event;

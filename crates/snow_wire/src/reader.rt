@@ -37,14 +37,14 @@ impl<'a> Reader<'a> {
         self.rest.len()
     }
 
-    /// The bytes that are left.
+    /// Returns the bytes that are left.
     pub(crate) fn rest(&self) -> &'a [u8]
         ensures { result.now ≡ self.now }
     {
         self.rest
     }
 
-    /// Refuses bytes that are left.
+    /// Refuses the payload where bytes are left.
     pub(crate) fn end(&self) -> Result<(), Skip>
         ensures { IsEnd result self.now }
     {
@@ -54,7 +54,7 @@ impl<'a> Reader<'a> {
         Ok(())
     }
 
-    /// So many bytes.
+    /// Takes so many bytes and returns them.
     #[tactic(auto, unfolding(crate::specs::Reading::bytes_at))]
     fn take(&mut self, n: usize) -> Result<&'a [u8], Skip>
         ensures read { ReadsAs (λ front. front.now) result self.new (bytes_at n self.old) }
@@ -120,7 +120,7 @@ impl<'a> Reader<'a> {
         Ok(number)
     }
 
-    /// A count that is at most the limit.
+    /// Returns a count that is at most the limit.
     #[tactic(auto, unfolding(crate::specs::Reading::limited_at))]
     pub(crate) fn count(&mut self, limit: u16) -> Result<u16, Skip>
         ensures read { Reads result self.new (limited_at 2 limit self.old) }
@@ -133,7 +133,7 @@ impl<'a> Reader<'a> {
         Ok(count)
     }
 
-    /// A byte that is 0 or 1.
+    /// Returns a byte that is 0 or 1.
     #[tactic(auto, unfolding(crate::specs::Reading::flag_at, crate::specs::Reading::limited_at))]
     pub(crate) fn flag(&mut self) -> Result<bool, Skip>
         ensures { Reads result self.new (flag_at self.old) }
@@ -145,7 +145,7 @@ impl<'a> Reader<'a> {
         }
     }
 
-    /// The bytes of an identifier, where they stand.
+    /// Returns the bytes of an identifier, where they stand.
     #[tactic(auto, unfolding(crate::specs::Reading::bytes_at))]
     pub(crate) fn id(&mut self) -> Result<&'a [u8; 32], Skip>
         ensures read { ReadsAs (λ id. id.now) result self.new (bytes_at 32 self.old) }
@@ -160,7 +160,7 @@ impl<'a> Reader<'a> {
         }
     }
 
-    /// The bytes of so many identifiers, which are taken at once.
+    /// Returns the bytes of so many identifiers, which are taken at once.
     #[tactic(auto, using(crate::proofs::Together::ids_read))]
     pub(crate) fn id_bytes(&mut self, count: u16) -> Result<&'a [u8], Skip>
         ensures read { ReadsAs (λ bytes. first_chunks 32 (length bytes.now / 32) bytes.now) result self.new (items_at (bytes_at 32) count self.old) }
@@ -169,7 +169,7 @@ impl<'a> Reader<'a> {
         self.take(32 * usize::from(count))
     }
 
-    /// The same, as a list of them.
+    /// Takes so many identifiers and returns them as a list.
     pub(crate) fn ids(&mut self, alloc: Global, count: u16) -> Result<Ids, Skip>
         ensures { Reads result self.new (items_at (bytes_at 32) count self.old) }
     {
@@ -177,7 +177,7 @@ impl<'a> Reader<'a> {
         Ok(ids_in(alloc, bytes)?)
     }
 
-    /// So many numbers of eight bytes, whose bytes are taken at once.
+    /// Returns so many numbers of eight bytes, whose bytes are taken at once.
     pub(crate) fn words(&mut self, alloc: Global, count: u16) -> Result<Nums, Skip>
         ensures { Reads result self.new (items_at (number_at 8) count self.old) }
     {
@@ -185,7 +185,7 @@ impl<'a> Reader<'a> {
         Ok(words_in(alloc, bytes)?)
     }
 
-    /// The bytes of a node, where they stand.
+    /// Returns the bytes of a node, where they stand.
     #[tactic(auto, unfolding(crate::specs::Reading::bytes_at))]
     pub(crate) fn node(&mut self) -> Result<&'a [u8; 20], Skip>
         ensures read { ReadsAs (λ node. node.now) result self.new (bytes_at 20 self.old) }
@@ -200,7 +200,7 @@ impl<'a> Reader<'a> {
         }
     }
 
-    /// A length that is at most the limit, and so many bytes, where they stand.
+    /// Returns a length that is at most the limit, and so many bytes, where they stand.
     #[tactic(auto, unfolding(crate::specs::Reading::sized_at, crate::specs::Reading::limited_at))]
     pub(crate) fn slice(&mut self, limit: u32) -> Result<&'a [u8], Skip>
         ensures read { ReadsAs (λ bytes. bytes.now) result self.new (sized_at limit self.old) }
@@ -213,7 +213,7 @@ impl<'a> Reader<'a> {
         self.take(len as usize)
     }
 
-    /// The same, as bytes of their own.
+    /// Takes a length that is at most the limit and so many bytes, and returns a copy of them.
     pub(crate) fn sized(&mut self, alloc: Global, limit: u32) -> Result<Bytes, Skip>
         ensures { Reads result self.new (sized_at limit self.old) }
     {
@@ -222,7 +222,7 @@ impl<'a> Reader<'a> {
     }
 }
 
-/// The identifiers whose bytes stand one behind another.
+/// Returns the identifiers whose bytes stand one behind another.
 fn ids_in(alloc: Global, bytes: &[u8]) -> Result<Ids, AllocError>
     ensures { IfOk result (λ ids. ids ≡ first_chunks 32 (length bytes.now / 32) bytes.now) }
 {
@@ -231,7 +231,7 @@ fn ids_in(alloc: Global, bytes: &[u8]) -> Result<Ids, AllocError>
     Ok(ids)
 }
 
-/// The same, in the room of a list, in place of what it held.
+/// Puts the identifiers of these bytes into a list, in place of what it held.
 #[inline(always)]
 pub(crate) fn put_ids(ids: &mut Ids, bytes: &[u8]) -> Result<(), AllocError>
     ensures { OnOk result (ids.new ≡ first_chunks 32 (length bytes.now / 32) bytes.now) }
@@ -240,7 +240,7 @@ pub(crate) fn put_ids(ids: &mut Ids, bytes: &[u8]) -> Result<(), AllocError>
     ids.replace(chunks)
 }
 
-/// The numbers whose bytes stand one behind another.
+/// Returns the numbers whose bytes stand one behind another.
 #[tactic(auto, using(crate::proofs::Together::words_more))]
 fn words_in(alloc: Global, bytes: &[u8]) -> Result<Nums, AllocError>
     ensures { IfOk result (λ words. words ≡ map (big_number 8) (first_chunks 8 (length bytes.now / 8) bytes.now)) }
@@ -253,8 +253,8 @@ fn words_in(alloc: Global, bytes: &[u8]) -> Result<Nums, AllocError>
     Ok(words)
 }
 
-/// The identifier of these bytes. They go through registers, as a vector: a plain copy would be put
-/// aside until there is known to be room for it.
+/// Returns the identifier of these bytes. They go through registers, as a vector: a plain copy
+/// would be put aside until there is known to be room for it.
 #[tactic(auto, using(crate::proofs::Together::whole_id))]
 #[inline(always)]
 pub(crate) fn id_of(bytes: &[u8; 32]) -> Id

@@ -11,7 +11,8 @@ use crate::skip::Skip;
 use snow_base::{Ids, NodeId};
 use std::alloc::AllocError;
 
-/// A block that came, its bytes still where they stand in the payload of its frame.
+/// A Block event whose bytes still stand in the payload of its frame.
+/// Rule: this project's own.
 #[derive(Clone, Copy, Debug, PartialEq, Eq)]
 pub struct SentBlock<'a> {
     /// The peer that sent it.
@@ -22,7 +23,8 @@ pub struct SentBlock<'a> {
     pub bytes: &'a [u8],
 }
 
-/// A vote that came, its bytes still where they stand in the payload of its frame.
+/// A Chits event whose bytes still stand in the payload of its frame.
+/// Rule: this project's own.
 #[derive(Clone, Copy, Debug, PartialEq, Eq)]
 pub struct SentVote<'a> {
     /// The peer that sent it.
@@ -33,7 +35,8 @@ pub struct SentVote<'a> {
     pub id: &'a [u8; 32],
 }
 
-/// A timeout that came: a peer won't reply. Its bytes still stand in the payload of its frame.
+/// A Timeout event whose bytes still stand in the payload of its frame: a peer won't reply.
+/// Rule: this project's own.
 #[derive(Clone, Copy, Debug, PartialEq, Eq)]
 pub struct SentTimeout<'a> {
     /// The peer that won't reply.
@@ -48,8 +51,9 @@ const VOTE: usize = 57;
 /// The length of each payload that spells a timeout.
 const TIMEOUT: usize = 25;
 
-/// The block that a payload brings, where it spells a Block: the event that `decode` gives, and no
-/// byte of the block is copied. It takes no memory. None for all other payloads.
+/// Returns the block that a payload brings, where it spells a Block: the event that `decode` gives,
+/// with no byte of the block copied. It returns `None` for all other payloads. It takes no memory.
+/// Rule: this project's own.
 pub fn block_in(payload: &[u8]) -> Option<SentBlock<'_>>
     ensures found { IfSome result (λ block. event_of payload.now ≡ Ok (as_event block)) }
     ensures none { IfNone result ((node : List ℕ) (request : ℕ) (bytes : List ℕ)
@@ -66,7 +70,7 @@ pub fn block_in(payload: &[u8]) -> Option<SentBlock<'_>>
     }
 }
 
-/// The fields of a Block behind its tag, where no bytes are behind them.
+/// Returns the fields of a Block behind its tag, where no bytes are behind them.
 fn only_block<'a>(reader: &mut Reader<'a>) -> Option<SentBlock<'a>>
     ensures found { IfSome result (λ block. message_at block_at event.Block reader.old ≡ Ok (as_event block, [])) }
     ensures none { IfNone result ((e : Event) → message_at block_at event.Block reader.old ≢ Ok (e, [])) }
@@ -82,7 +86,7 @@ fn only_block<'a>(reader: &mut Reader<'a>) -> Option<SentBlock<'a>>
     }
 }
 
-/// The fields of a Block behind its tag.
+/// Returns the fields of a Block behind its tag.
 #[tactic(auto, unfolding(crate::specs::Reading::message_at))]
 pub(crate) fn read_block<'a>(reader: &mut Reader<'a>) -> Result<SentBlock<'a>, Skip>
     ensures read { ReadsAs (λ block. as_event block) result reader.new (message_at block_at event.Block reader.old) }
@@ -98,8 +102,9 @@ pub(crate) fn read_block<'a>(reader: &mut Reader<'a>) -> Result<SentBlock<'a>, S
     })
 }
 
-/// The vote that a payload brings, where it spells a Chits: the event that `decode` gives, and no byte
-/// is copied. It takes no memory. None for all other payloads.
+/// Returns the vote that a payload brings, where it spells a Chits: the event that `decode` gives,
+/// with no byte copied. It returns `None` for all other payloads. It takes no memory.
+/// Rule: this project's own.
 #[inline(always)]
 pub fn vote_in(payload: &[u8]) -> Option<SentVote<'_>>
     ensures found { IfSome result (λ vote. event_of payload.now ≡ Ok (as_vote vote)) }
@@ -112,7 +117,7 @@ pub fn vote_in(payload: &[u8]) -> Option<SentVote<'_>>
     }
 }
 
-/// What stands behind this tag, where a payload begins with it and is this long.
+/// Returns what stands behind this tag, where a payload begins with it and is this long.
 #[inline(always)]
 fn behind(payload: &[u8], tag: u8, long: usize) -> Option<Reader<'_>>
     ensures found { IfSome result (λ rest. number_at 1 payload.now ≡ Ok (tag, rest)) }
@@ -129,7 +134,7 @@ fn behind(payload: &[u8], tag: u8, long: usize) -> Option<Reader<'_>>
     if first == tag { Some(reader) } else { None }
 }
 
-/// What stands behind this tag, where a payload begins with it.
+/// Returns what stands behind this tag, where a payload begins with it.
 fn behind_tag(payload: &[u8], tag: u8) -> Option<Reader<'_>>
     ensures found { IfSome result (λ rest. number_at 1 payload.now ≡ Ok (tag, rest)) }
     ensures none { IfNone result ((rest : List ℕ) → number_at 1 payload.now ≢ Ok (tag, rest)) }
@@ -141,7 +146,7 @@ fn behind_tag(payload: &[u8], tag: u8) -> Option<Reader<'_>>
     if first == tag { Some(reader) } else { None }
 }
 
-/// The fields of a Chits behind its tag, where no bytes are behind them.
+/// Returns the fields of a Chits behind its tag, where no bytes are behind them.
 #[inline(always)]
 fn only_vote<'a>(reader: &mut Reader<'a>) -> Option<SentVote<'a>>
     ensures found { IfSome result (λ vote. message_at id_at event.Chits reader.old ≡ Ok (as_vote vote, [])) }
@@ -158,7 +163,7 @@ fn only_vote<'a>(reader: &mut Reader<'a>) -> Option<SentVote<'a>>
     }
 }
 
-/// The fields of a Chits behind its tag.
+/// Returns the fields of a Chits behind its tag.
 #[tactic(auto, unfolding(crate::specs::Reading::message_at))]
 #[inline(always)]
 pub(crate) fn read_vote<'a>(reader: &mut Reader<'a>) -> Result<SentVote<'a>, Skip>
@@ -171,8 +176,9 @@ pub(crate) fn read_vote<'a>(reader: &mut Reader<'a>) -> Result<SentVote<'a>, Ski
     Ok(SentVote { node, request, id })
 }
 
-/// The timeout that a payload brings, where it spells a Timeout: the event that `decode` gives, and no byte
-/// is copied. It takes no memory. None for all other payloads.
+/// Returns the timeout that a payload brings, where it spells a Timeout: the event that `decode`
+/// gives, with no byte copied. It returns `None` for all other payloads. It takes no memory.
+/// Rule: this project's own.
 #[inline(always)]
 pub fn timeout_in(payload: &[u8]) -> Option<SentTimeout<'_>>
     ensures found { IfSome result (λ timeout. event_of payload.now ≡ Ok (as_timeout timeout)) }
@@ -184,7 +190,7 @@ pub fn timeout_in(payload: &[u8]) -> Option<SentTimeout<'_>>
     }
 }
 
-/// The fields of a Timeout behind its tag, where no bytes are behind them.
+/// Returns the fields of a Timeout behind its tag, where no bytes are behind them.
 #[inline(always)]
 fn only_timeout<'a>(reader: &mut Reader<'a>) -> Option<SentTimeout<'a>>
     ensures found { IfSome result (λ timeout. sender_at event.Timeout reader.old ≡ Ok (as_timeout timeout, [])) }
@@ -201,7 +207,7 @@ fn only_timeout<'a>(reader: &mut Reader<'a>) -> Option<SentTimeout<'a>>
     }
 }
 
-/// The fields of a Timeout behind its tag.
+/// Returns the fields of a Timeout behind its tag.
 #[tactic(auto, unfolding(crate::specs::Reading::sender_at))]
 #[inline(always)]
 pub(crate) fn read_timeout<'a>(reader: &mut Reader<'a>) -> Result<SentTimeout<'a>, Skip>
@@ -213,8 +219,10 @@ pub(crate) fn read_timeout<'a>(reader: &mut Reader<'a>) -> Result<SentTimeout<'a
     Ok(SentTimeout { node, request })
 }
 
-/// Puts the votes of a Poll into a list, in place of what it held, where a payload spells one: then it is
-/// the event that `decode` gives. False for all other payloads.
+/// Puts the votes of a payload that spells a Poll into `ids`, in place of what the list held, and
+/// returns `true`: `decode` gives the Poll of these identifiers. It returns `false` for all other
+/// payloads. On want of memory it returns `AllocError`.
+/// Rule: this project's own.
 #[inline(always)]
 pub fn poll_in(payload: &[u8], ids: &mut Ids) -> Result<bool, AllocError>
     ensures found { result ≡ Ok true → event_of payload.now ≡ Ok (event.Poll ids.new) }
@@ -229,7 +237,7 @@ pub fn poll_in(payload: &[u8], ids: &mut Ids) -> Result<bool, AllocError>
     }
 }
 
-/// The bytes of the votes of a Poll that a payload spells.
+/// Returns the bytes of the votes of a Poll that a payload spells.
 #[inline(always)]
 fn votes_in(payload: &[u8]) -> Option<&[u8]>
     ensures found { IfSome result (λ bytes. event_of payload.now ≡ Ok (as_poll bytes)) }
@@ -246,7 +254,7 @@ fn votes_in(payload: &[u8]) -> Option<&[u8]>
     }
 }
 
-/// The fields of a Poll behind its tag, where no bytes are behind them.
+/// Returns the fields of a Poll behind its tag, where no bytes are behind them.
 #[inline(always)]
 fn only_votes<'a>(reader: &mut Reader<'a>) -> Option<&'a [u8]>
     ensures found { IfSome result (λ bytes. single_at (counted_at id_at 1024) event.Poll reader.old ≡ Ok (as_poll bytes, [])) }
@@ -263,7 +271,7 @@ fn only_votes<'a>(reader: &mut Reader<'a>) -> Option<&'a [u8]>
     }
 }
 
-/// The fields of a Poll behind its tag.
+/// Returns the fields of a Poll behind its tag.
 #[tactic(auto, unfolding(crate::specs::Reading::single_at, crate::specs::Reading::counted_at))]
 #[inline(always)]
 fn read_votes<'a>(reader: &mut Reader<'a>) -> Result<&'a [u8], Skip>
@@ -275,8 +283,10 @@ fn read_votes<'a>(reader: &mut Reader<'a>) -> Result<&'a [u8], Skip>
     Ok(bytes)
 }
 
-/// The text of the line that a payload records, where it spells a Line: the event that `decode` gives,
-/// and no byte is copied. It takes no memory. None for all other payloads.
+/// Returns the text of the line that a payload records, where it spells a Line: the event that
+/// `decode` gives, with no byte copied. It returns `None` for all other payloads. It takes no
+/// memory.
+/// Rule: this project's own.
 pub fn line_in(payload: &[u8]) -> Option<&[u8]>
     ensures found { IfSome result (λ text. event_of payload.now ≡ Ok (as_line text)) }
     ensures none { IfNone result ((text : List ℕ) → event_of payload.now ≢ Ok (event.Line text)) }
@@ -287,7 +297,7 @@ pub fn line_in(payload: &[u8]) -> Option<&[u8]>
     }
 }
 
-/// The field of a Line behind its tag, where no bytes are behind it.
+/// Returns the field of a Line behind its tag, where no bytes are behind it.
 fn only_line<'a>(reader: &mut Reader<'a>) -> Option<&'a [u8]>
     ensures found { IfSome result (λ text. single_at (sized_at 1100000) event.Line reader.old ≡ Ok (as_line text, [])) }
     ensures none { IfNone result ((e : Event) → single_at (sized_at 1100000) event.Line reader.old ≢ Ok (e, [])) }
@@ -303,7 +313,7 @@ fn only_line<'a>(reader: &mut Reader<'a>) -> Option<&'a [u8]>
     }
 }
 
-/// The field of a Line behind its tag.
+/// Returns the field of a Line behind its tag.
 #[tactic(auto, unfolding(crate::specs::Reading::single_at))]
 fn read_line<'a>(reader: &mut Reader<'a>) -> Result<&'a [u8], Skip>
     ensures read { ReadsAs (λ text. as_line text) result reader.new (single_at (sized_at 1100000) event.Line reader.old) }

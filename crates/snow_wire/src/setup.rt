@@ -1,4 +1,4 @@
-//! Events that come from no peer, read behind their tag.
+//! Reads the events that come from no peer behind their tag.
 
 ghost use Rattle.snow_wire.specs.Reading.{Gives, to_end, counted_at, number_at, id_at, block_at, weighed_at, sized_at, start_at, single_at};
 ghost use Rattle.snow_wire.specs.declared.event.Event.TheVariants as event;

@@ -2,8 +2,9 @@ ghost use Rattle.std.specs.Prelude.{◌≡◌};
 
 use std::alloc::AllocError;
 
-/// Why a payload isn't an event: the first thing that goes wrong, read from the front; or want of
+/// Why `decode` finds no event: the first thing that goes wrong, read from the front, or want of
 /// memory.
+/// Rule: this project's own.
 #[derive(Clone, Copy, Debug, PartialEq, Eq)]
 pub enum Skip {
     /// The first byte is no event's tag.

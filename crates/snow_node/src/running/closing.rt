@@ -20,7 +20,7 @@ use snow_plain::{Board, Decision};
 use snow_poll::Answered;
 
 impl<C: Chain, B: Board> Running<C, B> {
-    /// A peer's vote is counted, or that it gives none, and closed polls leave.
+    /// Counts a peer's vote, or that it gives none, and lets closed polls leave.
     pub(super) fn tally(
         &mut self,
         number: u32,
@@ -35,8 +35,8 @@ impl<C: Chain, B: Board> Running<C, B> {
         self.close_polls(log)
     }
 
-    /// A peer's vote is counted where it is awaited, or that it gives none; whether it was. It is put in
-    /// place, so that the vote isn't copied once more.
+    /// Counts a peer's vote, or that it gives none, where its poll awaits it, and returns whether
+    /// it did. It is inlined, so that the vote isn't copied once more.
     #[inline(always)]
     pub(super) fn enter(&mut self, number: u32, peer: &NodeId, vote: Option<Id>) -> Answered
         ensures answer { result ≡ answer self.old.polls.polls number peer.now }
@@ -46,8 +46,8 @@ impl<C: Chain, B: Board> Running<C, B> {
         self.polls.vote(number, peer, vote)
     }
 
-    /// Polls leave while the front one is closed, and their votes are recorded. It is put in place, since
-    /// most replies close no poll.
+    /// Lets polls leave while the front one is closed, and records their votes. It is inlined,
+    /// since most replies close no poll.
     #[inline(always)]
     pub(super) fn close_polls(&mut self, log: &mut Lines) -> Result<(), Halt>
         ensures answer { Turns result self.new (model.closed_out B.answer self.old).1 }
@@ -57,7 +57,8 @@ impl<C: Chain, B: Board> Running<C, B> {
         Ok(())
     }
 
-    /// The front poll leaves if it is closed, and its held replies with it; whether it did.
+    /// Lets the front poll leave if it is closed, and its held replies with it. It returns whether
+    /// the poll left.
     #[inline(always)]
     fn close_one(&mut self, log: &mut Lines) -> Result<bool, Halt>
         ensures answer { Answers result self.new (model.one_closed B.answer self.old).1 }
@@ -72,8 +73,9 @@ impl<C: Chain, B: Board> Running<C, B> {
         recorded
     }
 
-    /// Votes are recorded, and chain and queue told what they decided, which peers are served then. It
-    /// stands apart, so that a reply that closes no poll doesn't pay for it.
+    /// Records votes, tells chain and queue what they decided, makes what peers are served follow,
+    /// and returns `true`. It is a function apart, so that a reply that closes no poll doesn't pay
+    /// for it.
     #[inline(never)]
     fn record(&mut self, votes: &Bag, log: &mut Lines) -> Result<bool, Halt>
         requires { total_count votes.now.list ≤ self.old.board.parameters.k }
@@ -91,7 +93,7 @@ impl<C: Chain, B: Board> Running<C, B> {
     }
 }
 
-/// Each decided block is gone. It takes no memory.
+/// Enters each decided block in the gone list. It takes no memory.
 fn bury(queue: &mut Queue, decisions: &[Decision])
     ensures lists { lists_of queue.new ≡ model.all_gone (lists_of queue.old) decisions.now }
     ensures knows { (board : Board) → Knows queue.old board → Knows queue.new board }

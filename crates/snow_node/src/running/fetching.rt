@@ -1,4 +1,4 @@
-//! Blocks that are asked for by a node that runs.
+//! How a node that runs asks for blocks.
 
 ghost use Rattle.std.specs.Prelude.{◌≡◌, None, IfSome, OnOk};
 ghost use Rattle.snow_issue.specs.Lists.{has_number};
@@ -15,8 +15,8 @@ use snow_lines::{Line, Lines};
 use snow_plain::Board;
 
 impl<C: Chain, B: Board> Running<C, B> {
-    /// A peer is asked for the parent of a block that came last and waits, if it is wanted. Then mostly
-    /// nothing is to be done.
+    /// Asks a peer for the parent of a block that came last and waits, if the parent is wanted.
+    /// Then mostly nothing is to be done.
     pub(super) fn fetch_parent(
         &mut self,
         peer: &NodeId,
@@ -37,8 +37,8 @@ impl<C: Chain, B: Board> Running<C, B> {
         Ok(())
     }
 
-    /// The queue remembers that a block which came last can wait on, and so can its child if that came
-    /// right before it.
+    /// Remembers that a block which came last can wait on, and so can its child if that came right
+    /// before it.
     fn rest(&mut self, block: &Header)
         requires { AreBothOff self.old.board block.now }
         ensures { self.new ≡ self.old }
@@ -48,7 +48,7 @@ impl<C: Chain, B: Board> Running<C, B> {
     }
 
     #[tactic(auto, using(crate::proofs::Logs::logs_nothing))]
-    /// A peer is asked for a block, by a number of its own. It is put in place, since most blocks that wait
+    /// Asks a peer for a block, by a number of its own. It is inlined, since most blocks that wait
     /// ask for their parent.
     #[inline(always)]
     fn fetch(&mut self, peer: &NodeId, id: Id, log: &mut Lines) -> Result<(), Halt>
@@ -69,7 +69,7 @@ impl<C: Chain, B: Board> Running<C, B> {
         Ok(())
     }
 
-    /// A peer is asked for a block, if nothing is known of it.
+    /// Asks a peer for a block, if nothing is known of it.
     #[inline(never)]
     pub(super) fn fetch_unknown(
         &mut self,
@@ -87,8 +87,8 @@ impl<C: Chain, B: Board> Running<C, B> {
         }
     }
 
-    /// An open get is closed; the block that it asked for. Where no get has the number, what is known
-    /// of the queue stays known, so that nothing is looked for.
+    /// Closes an open get, and returns the block for which it asked. Where no get has the number,
+    /// the node still knows what it knew of the queue, so it looks for nothing.
     pub(super) fn close_get(&mut self, number: u32, peer: &NodeId) -> Option<Id>
         ensures found { result ≡ model.asked_by self.old.queue number peer.now }
         ensures node { self.new ≡ model.without_get self.old number peer.now }
@@ -100,14 +100,15 @@ impl<C: Chain, B: Board> Running<C, B> {
         None
     }
 
-    /// Whether a get with this number is open.
+    /// Returns whether a get with this number is open.
     fn has_get(&self, number: u32) -> bool
         ensures { result ≡ has_number self.now.queue.gets number }
     {
         self.queue.has_number(number)
     }
 
-    /// The same, whatever number it has.
+    /// Closes the get of this number and peer without that look, and returns the block for which it
+    /// asked.
     fn close_numbered(&mut self, number: u32, peer: &NodeId) -> Option<Id>
         ensures found { result ≡ model.asked_by self.old.queue number peer.now }
         ensures node { self.new ≡ model.without_get self.old number peer.now }

@@ -22,7 +22,8 @@ use snow_poll::Answered;
 use std::alloc::AllocError;
 
 impl<C: Chain, B: Board> Running<C, B> {
-    /// A block of no request came, or the answer to a get; one that no get awaits is passed over.
+    /// Takes a block for which nobody asked, or the answer to a get. It passes over one that no get
+    /// awaits.
     pub(super) fn receive_block(
         &mut self,
         frame: u64,
@@ -44,8 +45,8 @@ impl<C: Chain, B: Board> Running<C, B> {
         self.read_block(frame, peer, bytes, &asked, log)
     }
 
-    /// Bytes of a block came for which nobody asked. It stands apart, so that the bytes of a block that was
-    /// asked for are read in place.
+    /// Takes a block's bytes for which nobody asked. It is a function apart, so that the bytes of a
+    /// block that was asked for are read in place.
     #[inline(never)]
     fn read_unasked(
         &mut self,
@@ -60,7 +61,7 @@ impl<C: Chain, B: Board> Running<C, B> {
         self.read_block(frame, peer, bytes, &None, log)
     }
 
-    /// Bytes of a block came, where this one was asked for, and all that it brings is done.
+    /// Takes a block's bytes, where this block was asked for, and does all that this brings.
     #[inline(always)]
     fn read_block(
         &mut self,
@@ -82,7 +83,7 @@ impl<C: Chain, B: Board> Running<C, B> {
         self.bring(peer, &header, bytes, log)
     }
 
-    /// Bytes of no block are passed over, and all that is to do is done.
+    /// Passes over bytes that are no block's, and does all that is to do.
     fn skip_block(&mut self, frame: u64, log: &mut Lines) -> Result<(), Halt>
         ensures answer { Turns result self.new (then_comes (with_line (line.Skip frame kind.Block) self.old) (settled C.rules B.answer)).1 }
         ensures lines { Tells result log.old log.new (then_comes (with_line (line.Skip frame kind.Block) self.old) (settled C.rules B.answer)).0 }
@@ -92,8 +93,8 @@ impl<C: Chain, B: Board> Running<C, B> {
         self.settle(log)
     }
 
-    /// A block is placed as it comes where that would be the first thing to do, or else offered to the
-    /// queue, and all that it brings is done.
+    /// Places a block as it comes where that would be the first thing to do, or else offers it to
+    /// the queue, and does all that this brings.
     fn bring(
         &mut self,
         peer: &NodeId,
@@ -113,7 +114,8 @@ impl<C: Chain, B: Board> Running<C, B> {
         self.settle(log)
     }
 
-    /// Whether a block is ready as it comes, and would be the first thing to do: then it needn't wait.
+    /// Returns whether a block is ready as it comes and would be the first thing to do. Then it
+    /// needn't wait.
     fn is_next(&self, block: &Header) -> bool
         ensures { result ≡ true → model.IsNext self.now block.now }
     {
@@ -124,7 +126,7 @@ impl<C: Chain, B: Board> Running<C, B> {
     }
 
     #[tactic(auto, using(crate::proofs::Logs::logs_nothing))]
-    /// A block that would be the first thing to do is placed, and all that it brings is done.
+    /// Places a block that would be the first thing to do, and does all that this brings.
     fn place_at_once(&mut self, block: &Header, bytes: &[u8], log: &mut Lines) -> Result<(), Halt>
         requires { model.IsNext self.old block.now }
         ensures answer { Turns result self.new (then_comes (placed C.rules B.answer self.old block.now bytes.now) (settled C.rules B.answer)).1 }
@@ -135,7 +137,7 @@ impl<C: Chain, B: Board> Running<C, B> {
         self.place_and_settle(block, bytes, log)
     }
 
-    /// The bytes of a block that came as the node's own, in room that is kept, if there is such.
+    /// Returns a copy of the bytes of a block that came, in room that is kept, if there is some.
     #[inline(always)]
     fn own(&mut self, bytes: &[u8]) -> Result<Bytes, AllocError>
         ensures bytes { IfOk result (λ own. own ≡ bytes.now) }
@@ -144,7 +146,8 @@ impl<C: Chain, B: Board> Running<C, B> {
         self.room.list(bytes)
     }
 
-    /// The queue forgets what it remembers of a block's children, so that the block may be issued.
+    /// Lets the queue forget what it remembers of a block's children, so that the block may be
+    /// issued.
     fn forget_children(&mut self, id: &Id)
         ensures { self.new ≡ self.old }
     {
@@ -153,7 +156,7 @@ impl<C: Chain, B: Board> Running<C, B> {
     }
 
     #[tactic(auto, using(crate::proofs::Logs::logs_nothing))]
-    /// A block is offered to the queue, and its parent asked for where that is unknown.
+    /// Offers a block to the queue, and asks for its parent where nothing is known of that.
     fn offer(
         &mut self,
         peer: &NodeId,
@@ -179,7 +182,7 @@ impl<C: Chain, B: Board> Running<C, B> {
         }
     }
 
-    /// A vote came. Most are for the block that they name, and are counted as they come.
+    /// Takes a vote. Most votes are for the block that they name, and count as they come.
     #[inline(always)]
     pub(super) fn receive_vote(
         &mut self,
@@ -197,8 +200,8 @@ impl<C: Chain, B: Board> Running<C, B> {
         self.receive_other(number, peer, id, log)
     }
 
-    /// Whether a reply isn't held, and would be the first thing to do and a vote for the block that it
-    /// names if it is awaited.
+    /// Returns whether a reply isn't held, and would be the first thing to do and a vote for the
+    /// block that it names, if its poll awaits it.
     #[inline(always)]
     fn counts_as_named(&self, number: u32, peer: &NodeId, id: &Id) -> bool
         ensures first { result ≡ true → model.IsFirst self.now id.now (Some id.now) }
@@ -213,8 +216,9 @@ impl<C: Chain, B: Board> Running<C, B> {
         }
     }
 
-    /// The same for any vote. Whether it is awaited is asked first, so that one that isn't costs no walk.
-    /// It stands apart, so that a vote for the block that it names doesn't pay for the room of another.
+    /// Takes any other vote. It asks first whether the poll awaits it, so that one that isn't
+    /// awaited costs no walk. It is a function apart, so that a vote for the block that it names
+    /// doesn't pay for its room.
     #[inline(never)]
     fn receive_other(
         &mut self,
@@ -235,8 +239,8 @@ impl<C: Chain, B: Board> Running<C, B> {
         }
     }
 
-    /// The vote of a reply where it would be the first thing to do if it is awaited: then it needn't be
-    /// held.
+    /// Returns the vote of a reply that would be the first thing to do, if its poll awaits it: then
+    /// it needn't be held.
     fn vote_at_once(&self, id: &Id) -> Option<Option<Id>>
         ensures { IfSome result (λ vote. model.IsFirst self.now id.now vote) }
     {
@@ -246,8 +250,8 @@ impl<C: Chain, B: Board> Running<C, B> {
         }
     }
 
-    /// A vote is counted where it is awaited, and all that it brings is done. So its poll and its node
-    /// are found once.
+    /// Counts a vote where its poll awaits it, and does all that this brings. So it looks its poll
+    /// and its node up once.
     #[inline(always)]
     fn count(
         &mut self,
@@ -265,7 +269,7 @@ impl<C: Chain, B: Board> Running<C, B> {
         }
     }
 
-    /// Closed polls leave, and all that this brings is done.
+    /// Lets closed polls leave, and does all that this brings.
     #[inline(always)]
     fn close_and_settle(&mut self, log: &mut Lines) -> Result<(), Halt>
         ensures answer { Turns result self.new (then_comes (closed_out B.answer self.old) (settled C.rules B.answer)).1 }
@@ -275,7 +279,7 @@ impl<C: Chain, B: Board> Running<C, B> {
         self.settle(log)
     }
 
-    /// A reply that is awaited is held, and all that it brings is done.
+    /// Holds a reply that its poll awaits, and does all that this brings.
     fn hold_and_settle(
         &mut self,
         number: u32,
@@ -291,7 +295,7 @@ impl<C: Chain, B: Board> Running<C, B> {
         self.settle(log)
     }
 
-    /// Whether a poll awaits a peer of which it holds no reply yet.
+    /// Returns whether a poll awaits a peer of which it holds no reply yet.
     fn awaits(&self, number: u32, peer: &NodeId) -> bool
         ensures { result ≡ model.waits_for self.now number peer.now }
     {
@@ -299,7 +303,7 @@ impl<C: Chain, B: Board> Running<C, B> {
     }
 
     #[tactic(auto, using(crate::proofs::Logs::logs_nothing))]
-    /// A reply is held, and its block asked for where that is unknown.
+    /// Holds a reply, and asks for its block where nothing is known of that.
     fn hold(&mut self, number: u32, peer: &NodeId, id: Id, log: &mut Lines) -> Result<(), Halt>
         requires { model.waits_for self.old number peer.now ≡ true }
         ensures answer { Turns result self.new (model.vote_held self.old number peer.now id).1 }
@@ -314,7 +318,7 @@ impl<C: Chain, B: Board> Running<C, B> {
         self.fetch_unknown(peer, id, log)
     }
 
-    /// A get is closed, or a vote lost; then all that this brings is done.
+    /// Closes a get, or counts a lost vote, and does all that this brings.
     pub(super) fn time_out(
         &mut self,
         number: u32,
@@ -328,7 +332,7 @@ impl<C: Chain, B: Board> Running<C, B> {
         self.settle(log)
     }
 
-    /// A get is closed, or a vote lost.
+    /// Closes a get, or counts a lost vote.
     fn give_up_on(&mut self, number: u32, peer: &NodeId, log: &mut Lines) -> Result<(), Halt>
         ensures answer { Turns result self.new (model.given_up_on B.answer self.old number peer.now (model.asked_by self.old.queue number peer.now)).1 }
         ensures lines { Tells result log.old log.new (model.given_up_on B.answer self.old number peer.now (model.asked_by self.old.queue number peer.now)).0 }
@@ -339,7 +343,7 @@ impl<C: Chain, B: Board> Running<C, B> {
         }
     }
 
-    /// A peer gives no vote, and closed polls leave.
+    /// Notes that a peer gives no vote, and lets closed polls leave.
     fn lose_vote(&mut self, number: u32, peer: &NodeId, log: &mut Lines) -> Result<(), Halt>
         ensures answer { Turns result self.new (model.vote_lost B.answer self.old number peer.now).1 }
         ensures lines { Tells result log.old log.new (model.vote_lost B.answer self.old number peer.now).0 }
@@ -351,7 +355,7 @@ impl<C: Chain, B: Board> Running<C, B> {
     }
 }
 
-/// Whether a block is another than the one that was asked for.
+/// Returns whether a block is another than the one that was asked for.
 fn is_other(asked: &Option<Id>, id: &Id) -> bool
     ensures { result ≡ model.is_other asked.now id.now }
 {

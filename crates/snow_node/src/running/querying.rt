@@ -17,14 +17,17 @@ use std::mem;
 const MOST_POLLS: usize = 1024;
 
 impl<C: Chain, B: Board> Running<C, B> {
-    /// Takes back the draws of a query that was written, so that the next one has their room.
+    /// Takes back the draws of a query that was written, so that the next query uses their room.
+    /// The node stays as it is for contracts.
+    /// Rule: this project's own.
     pub fn take_back(&mut self, draws: Draws)
         ensures { self.new ≡ self.old }
     {
         self.spare = draws;
     }
 
-    /// A query for the preference; whether it was sent. It is put in place up to where nodes are drawn.
+    /// Makes a query for the preference, and returns whether it sent it. It is inlined up to where
+    /// nodes are drawn.
     #[inline(always)]
     pub(super) fn query(&mut self, log: &mut Lines) -> Result<bool, Halt>
         ensures answer { Answers result self.new (model.queried B.answer self.old).1 }
@@ -40,8 +43,9 @@ impl<C: Chain, B: Board> Running<C, B> {
         self.draw_and_send(log)
     }
 
-    /// Nodes are drawn, and asked for the preference; whether they were. It stands apart, so that a query
-    /// that isn't sent for want of words doesn't pay for the room of a sample.
+    /// Draws nodes and asks them for the preference, and returns whether it did. It is a function
+    /// apart, so that a query that isn't sent for want of words doesn't pay for the room of a
+    /// sample.
     #[inline(never)]
     fn draw_and_send(&mut self, log: &mut Lines) -> Result<bool, Halt>
         requires { length self.old.polls.polls < 1024 }
@@ -60,7 +64,7 @@ impl<C: Chain, B: Board> Running<C, B> {
         }
     }
 
-    /// The query is sent to those drawn.
+    /// Sends the query to those drawn.
     #[tactic(auto, using(crate::proofs::Logs::logs_nothing))]
     fn send(&mut self, draws: Draws, log: &mut Lines) -> Result<bool, Halt>
         requires room { length self.old.polls.polls < 1024 }
@@ -84,7 +88,7 @@ impl<C: Chain, B: Board> Running<C, B> {
         Ok(true)
     }
 
-    /// The query isn't sent.
+    /// Writes that it doesn't send the query.
     fn drop_query(&mut self, why: QueryWhy, log: &mut Lines) -> Result<bool, Halt>
         ensures answer { Answers result self.new (model.not_sent self.old why).1 }
         ensures lines { Tells result log.old log.new (model.not_sent self.old why).0 }
@@ -93,14 +97,14 @@ impl<C: Chain, B: Board> Running<C, B> {
         Ok(false)
     }
 
-    /// Whether a block is pending and fewer polls run than may.
+    /// Returns whether a block is pending and fewer polls run than may.
     fn lacks_polls(&self) -> bool
         ensures { result ≡ model.lacks_polls self.now }
     {
         self.board.pending_len() > 0 && self.polls.len() < self.params.repolls() as usize
     }
 
-    /// One query more where polls are lacking; whether it was sent.
+    /// Makes one query more where polls are lacking, and returns whether it sent it.
     fn repoll_one(&mut self, log: &mut Lines) -> Result<bool, Halt>
         ensures answer { Answers result self.new (model.one_repolled B.answer self.old).1 }
         ensures lines { Tells result log.old log.new (model.one_repolled B.answer self.old).0 }
@@ -112,7 +116,7 @@ impl<C: Chain, B: Board> Running<C, B> {
         }
     }
 
-    /// Queries until enough polls run or one isn't sent.
+    /// Makes queries until enough polls run or it sends one not.
     pub(super) fn repoll(&mut self, log: &mut Lines) -> Result<(), Halt>
         ensures answer { Turns result self.new (model.repolled B.answer self.old).1 }
         ensures lines { Tells result log.old log.new (model.repolled B.answer self.old).0 }
@@ -122,7 +126,7 @@ impl<C: Chain, B: Board> Running<C, B> {
     }
 }
 
-/// Whether there are units enough for a sample, and no word is left to draw one by.
+/// Returns whether there are units enough for a sample, and no word is left to draw one by.
 #[tactic(auto, using(crate::proofs::Wordless::out_of_words))]
 fn lacks_words(params: &Params, roster: &Roster, words: &Words) -> bool
     ensures sample { result ≡ true → sample_of roster.now params.now.k words.now ≡ Err SampleFault.WordsOut }

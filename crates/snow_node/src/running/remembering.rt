@@ -1,4 +1,4 @@
-//! What the node knows of that which its queue remembers of the board.
+//! How far the node can trust what its queue remembers of the board.
 
 ghost use Rattle.std.specs.Prelude.{◌≡◌};
 ghost use Rattle.snow_node.specs.Remembering as model;
@@ -6,8 +6,9 @@ ghost use Rattle.snow_node.specs.Remembering as model;
 use snow_base::Id;
 use snow_issue::Work;
 
-/// What is known of that which the queue remembers of its waiting blocks, so that they needn't all be
-/// looked at anew.
+/// How far the node can trust what the queue remembers of its waiting blocks, so that it needn't
+/// look at all of them anew.
+/// Rule: this project's own.
 #[derive(Clone, Copy)]
 pub enum Remembered {
     /// Nothing: it may be wrong.
@@ -23,7 +24,8 @@ pub enum Remembered {
 }
 
 impl Remembered {
-    /// Once this was taken out of the queue.
+    /// Returns what holds once the queue gave this step out.
+    /// Rule: this project's own.
     pub fn taken(work: &Option<Work>) -> Remembered
         ensures { result ≡ model.when_taken work.now }
     {
@@ -35,7 +37,8 @@ impl Remembered {
         }
     }
 
-    /// Once some blocks or replies are to be looked at.
+    /// Returns what holds once some blocks or replies are to be looked at.
+    /// Rule: this project's own.
     pub fn woken(&self) -> Remembered
         ensures { result ≡ model.when_woken self.now }
     {
@@ -47,7 +50,8 @@ impl Remembered {
         }
     }
 
-    /// Once some were looked at, and whether it is plain that nothing is to be done.
+    /// Returns what holds once some were looked at. `rests` tells whether nothing is to be done.
+    /// Rule: this project's own.
     pub fn looked(&self, rests: bool) -> Remembered
         ensures { result ≡ model.when_looked self.now rests }
     {
@@ -58,7 +62,9 @@ impl Remembered {
         }
     }
 
-    /// Once nothing is remembered of the children of this block, which may then be issued.
+    /// Returns what holds once nothing is remembered of the children of this block, which may then
+    /// be issued.
+    /// Rule: this project's own.
     pub fn next(&self, id: &Id) -> Remembered
         ensures { result ≡ model.when_next self.now id.now }
     {
@@ -68,7 +74,8 @@ impl Remembered {
         }
     }
 
-    /// Once this block was issued.
+    /// Returns what holds once this block was issued.
+    /// Rule: this project's own.
     pub fn issued(&self, id: &Id) -> Remembered
         ensures { result ≡ model.when_issued self.now id.now }
     {
@@ -82,7 +89,8 @@ impl Remembered {
         }
     }
 
-    /// Once a poll was recorded.
+    /// Returns what holds once a poll was recorded.
+    /// Rule: this project's own.
     pub fn polled(&self) -> Remembered
         ensures { result ≡ model.when_polled self.now }
     {

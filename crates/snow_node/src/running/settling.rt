@@ -37,8 +37,8 @@ impl<C: Chain, B: Board> Running<C, B> {
         self.settle_all(log)
     }
 
-    /// The same where it isn't known whether anything is to do. It stands apart, so that an event that
-    /// leaves nothing to do doesn't pay for it.
+    /// Does all that is to do, where it isn't known whether anything is. It is a function apart, so
+    /// that an event that leaves nothing to do doesn't pay for it.
     #[inline(never)]
     fn settle_all(&mut self, log: &mut Lines) -> Result<(), Halt>
         ensures answer { Turns result self.new (model.settled C.rules B.answer self.old).1 }
@@ -48,7 +48,7 @@ impl<C: Chain, B: Board> Running<C, B> {
         Ok(())
     }
 
-    /// Whether it is known that nothing is to do.
+    /// Returns whether it is known that nothing is to do.
     fn is_idle(&self) -> bool
         ensures { result ≡ true → IsIdle self.now.queue self.now.board }
     {
@@ -58,7 +58,7 @@ impl<C: Chain, B: Board> Running<C, B> {
         }
     }
 
-    /// Does the first thing that is to do; whether there was any.
+    /// Does the first thing that is to do, and returns whether there was any.
     fn settle_one(&mut self, log: &mut Lines) -> Result<bool, Halt>
         ensures answer { Answers result self.new (model.one_settled C.rules B.answer self.old).1 }
         ensures lines { Tells result log.old log.new (model.one_settled C.rules B.answer self.old).0 }
@@ -80,7 +80,7 @@ impl<C: Chain, B: Board> Running<C, B> {
         work
     }
 
-    /// Does what was taken out of the queue, as there was something.
+    /// Does what it took out of the queue, if there was anything, and returns whether there was.
     fn carry_out(&mut self, work: Work, log: &mut Lines) -> Result<bool, Halt>
         requires { MayWork self.old.board self.old.queue work }
         ensures answer { Answers result self.new (model.carried_out C.rules B.answer self.old work).1 }
@@ -90,7 +90,7 @@ impl<C: Chain, B: Board> Running<C, B> {
         Ok(true)
     }
 
-    /// Does what was taken out of the queue.
+    /// Does what it took out of the queue.
     fn work(&mut self, work: Work, log: &mut Lines) -> Result<(), Halt>
         requires { MayWork self.old.board self.old.queue work }
         ensures answer { Turns result self.new (model.done C.rules B.answer self.old work).1 }
@@ -106,7 +106,7 @@ impl<C: Chain, B: Board> Running<C, B> {
         }
     }
 
-    /// A block whose parent is on the board is placed, and all that it brings is done.
+    /// Places a block whose parent is on the board, and does all that this brings.
     pub(super) fn place_and_settle(
         &mut self,
         block: &Header,
@@ -121,8 +121,8 @@ impl<C: Chain, B: Board> Running<C, B> {
         self.settle(log)
     }
 
-    /// A block whose parent is on the board is issued, unless something stands against it. It is put in place,
-    /// so that nothing is moved to it.
+    /// Issues a block whose parent is on the board, unless something stands against it. It is
+    /// inlined, so that nothing is moved to it.
     #[inline(always)]
     fn place(&mut self, block: &Header, bytes: Bytes, log: &mut Lines) -> Result<(), Halt>
         requires { IsApart self.old.board self.old.queue.waiting block.now.id }
@@ -141,7 +141,7 @@ impl<C: Chain, B: Board> Running<C, B> {
     }
 
     #[tactic(auto, using(crate::proofs::Logs::logs_nothing))]
-    /// A block is issued, if it is valid, and served then.
+    /// Issues a block, if it is valid, and then serves it.
     fn issue(&mut self, block: &Header, bytes: Bytes, log: &mut Lines) -> Result<(), Halt>
         requires may { MayIssue self.old.board block.now }
         requires apart { IsApart self.old.board self.old.queue.waiting block.now.id }
@@ -163,7 +163,7 @@ impl<C: Chain, B: Board> Running<C, B> {
         self.ask_on_the_way(&block.id, log)
     }
 
-    /// An invalid block is gone, with its parent.
+    /// Enters an invalid block in the gone list, with its parent.
     fn refuse(&mut self, block: &Header, log: &mut Lines) -> Result<(), Halt>
         ensures answer { Turns result self.new (model.refused self.old block.now).1 }
         ensures lines { Tells result log.old log.new (model.refused self.old block.now).0 }
@@ -172,7 +172,7 @@ impl<C: Chain, B: Board> Running<C, B> {
         drop_block(block.id, DropWhy::Invalid, log)
     }
 
-    /// A block that was issued is asked about where it is on the way to the preference.
+    /// Makes a query where a block that was issued is on the way to the preference.
     fn ask_on_the_way(&mut self, id: &Id, log: &mut Lines) -> Result<(), Halt>
         ensures answer { Turns result self.new (model.asked_on_the_way B.answer id.now self.old).1 }
         ensures lines { Tells result log.old log.new (model.asked_on_the_way B.answer id.now self.old).0 }
@@ -183,8 +183,8 @@ impl<C: Chain, B: Board> Running<C, B> {
         Ok(())
     }
 
-    /// Whether a block is on the way to the preference. The preference itself is told without walking
-    /// there.
+    /// Returns whether a block is on the way to the preference. It tells the preference itself
+    /// without walking there.
     #[tactic(auto, using(crate::proofs::Preferred::preference_leads))]
     fn leads(&self, id: &Id) -> bool
         ensures { result ≡ is_preferred B.answer self.now.board id.now }
@@ -192,7 +192,7 @@ impl<C: Chain, B: Board> Running<C, B> {
         self.board.preference() == *id || self.board.is_preferred(id)
     }
 
-    /// A held reply votes for what its block stands for, and closed polls leave.
+    /// Counts a held reply as a vote for what its block stands for, and lets closed polls leave.
     fn hear(&mut self, reply: &Held, log: &mut Lines) -> Result<(), Halt>
         ensures answer { Turns result self.new (model.heard B.answer self.old reply.now).1 }
         ensures lines { Tells result log.old log.new (model.heard B.answer self.old reply.now).0 }
@@ -202,8 +202,8 @@ impl<C: Chain, B: Board> Running<C, B> {
     }
 }
 
-/// Takes the first thing that is to do out of a queue, of which this is known. It is put in place, so
-/// that what was taken out isn't copied once more.
+/// Takes the first thing that is to do out of a queue that can be trusted so far. It is inlined, so
+/// that what it takes isn't copied once more.
 #[inline(always)]
 fn take_next<B: Board>(queue: &mut Queue, board: &B, remembered: &Remembered) -> Option<Work>
     requires { Remembers (B.board board.now) queue.old remembered.now }

@@ -21,7 +21,7 @@ use snow_wire::Event;
 use std::alloc::AllocError;
 
 impl<C: Chain, B: Board> Running<C, B> {
-    /// A peer's question is answered.
+    /// Answers a peer's question.
     #[inline(never)]
     #[tactic(auto, using(crate::proofs::Logs::logs_nothing))]
     pub(super) fn reply(&self, question: &Event, log: &mut Lines) -> Result<(), Halt>
@@ -33,8 +33,9 @@ impl<C: Chain, B: Board> Running<C, B> {
     }
 }
 
-/// Issues a block, if it is valid, and serves it then; whether it was. After want of memory all is as
-/// before: the state of a valid block is taken back out of the chain where there is no room for it.
+/// Issues a block, if it is valid, then serves it, and returns whether it did. On want of memory
+/// all stays as it was: it takes the state of a valid block back out of the chain where there is no
+/// room for the block.
 #[tactic(auto, using(crate::proofs::Offers::may_take_back))]
 pub(super) fn take_up<C: Chain, B: Board>(
     board: &mut B,
@@ -65,7 +66,7 @@ pub(super) fn take_up<C: Chain, B: Board>(
     Ok(true)
 }
 
-/// Puts a block on the board, and serves it. After want of memory all is as before.
+/// Puts a block on the board, and serves it. On want of memory all stays as it was.
 #[tactic(auto, using(crate::proofs::Supplying::new_to_serve))]
 fn seat<B: Board>(
     board: &mut B,
@@ -90,8 +91,8 @@ fn seat<B: Board>(
     Ok(())
 }
 
-/// What peers are served follows the decisions. The room of bytes that aren't served any more is kept. It
-/// needs no memory.
+/// Makes what peers are served follow the decisions. It keeps the room of bytes that aren't served
+/// any more. It needs no memory.
 pub(super) fn follow(served: &mut Getter, room: &mut SpareBytes, decisions: &[Decision])
     ensures { served.new ≡ model.with_decisions served.old decisions.now }
 {
@@ -102,7 +103,7 @@ pub(super) fn follow(served: &mut Getter, room: &mut SpareBytes, decisions: &[De
     }
 }
 
-/// What peers are served follows one decision. It gives bytes back that aren't served any more.
+/// Makes what peers are served follow one decision. It returns bytes that aren't served any more.
 #[inline(always)]
 fn follow_one(served: &mut Getter, decision: &Decision) -> Option<Bytes>
     ensures { served.new ≡ model.with_decision served.old decision.now }
