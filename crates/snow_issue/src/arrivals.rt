@@ -55,8 +55,8 @@ fn unfile_node(polls: &mut BTreeMap<u32, BTreeMap<NodeId, u64>>, number: u32, no
     nodes.is_empty()
 }
 
-/// Appends a reply to the others, and keeps its number under its block. After want of memory all is
-/// as before.
+/// Appends a reply to the others, and keeps its number under its block. On want of memory all
+/// stays as it was.
 pub(crate) fn keep(
     backlog: &mut Backlog,
     blocks: &mut BTreeMap<Id, BTreeSet<u64>>,

@@ -70,8 +70,8 @@ impl Backlog {
         self.items.len()
     }
 
-    /// Appends a reply that isn't quiet, whose number is above all others. After want of memory all is
-    /// as before.
+    /// Appends a reply that isn't quiet, whose number is above all others. On want of memory all
+    /// stays as it was.
     pub(crate) fn push(&mut self, arrival: u64, reply: Held) -> Result<(), AllocError>
         requires { (a : ℕ) (k : Kept) → at_arrival self.old a ≡ Some k → a < arrival }
         ensures ok { let kept : Kept = record { reply = reply; quiet = false } in OnOk result (self.new ≡ self.old ++ (arrival, kept) ∷ []) }
