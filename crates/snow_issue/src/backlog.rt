@@ -126,7 +126,7 @@ impl Backlog {
         let Some(kept) = self.items.get_mut(&arrival) else {
             return;
         };
-        kept.quiet = true;
+        *kept = Kept { reply, quiet: true };
     }
 
     /// Takes the reply with this number out, if there is one. It takes no memory.

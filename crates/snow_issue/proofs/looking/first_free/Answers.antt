@@ -1,5 +1,5 @@
 -- Replies that aren't free are passed by, and that is remembered of them.
-use Rattle.std.proofs.Common.{◌≡◌, ◌<◌, length, get_or, set, find, refl, sym, ap, ◌∙◌, subst, arith}
+use Rattle.std.proofs.Common.{◌≡◌, ◌<◌, true, List, length, get_or, set, find, refl, sym, ap, ◌∙◌, subst, arith}
 use Rattle.std.specs.List.{position_or_len}
 use Rattle.std.proofs.lemmas.List.{length-map}
 use Rattle.snow_issue.specs.declared.work.Held.{Held}

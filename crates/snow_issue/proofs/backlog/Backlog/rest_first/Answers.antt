@@ -13,7 +13,7 @@ invariant_of-self-2 c =
     let heap = c.first_in.new.fresh in
     let after = c.pop.new.self in
     let old : Kept = record { reply = c.args.reply; quiet = false } in
-    let quiet : Kept = record { reply = c.in-Some-get_mut.kept.now.reply; quiet = true } in
+    let quiet : Kept = record { reply = c.args.reply; quiet = true } in
     let first = subst (λ (es : Entries). IsFirst es c.args.arrival c.args.reply) (sym c.self.view_is) c.requires in
     let same : c.args.arrival ≡ c.in-Some.field-0.0 = one_first es c.args.arrival c.in-Some.field-0.0 c.args.reply c.in-Some.field-0.1 first c.in-Some.ensures.first in
     let x = some_is c.pop.result (c.pop.ensures.variant.1 c.in-Some.ensures.some) in
