@@ -19,3 +19,4 @@ mod Taken
 mod Rested
 mod Resting
 mod Stepped
+mod Descending
