@@ -1,15 +1,14 @@
 -- Lemmas on the replies of a poll that leaves: they go one by one, and then none is left.
-use Rattle.std.proofs.Common.{◌≡◌, ℕ, ◌==◌, Bool, true, false, not, ◌&&◌, cond, List, [], ◌∷◌, map, filter, Option, Some, None, refl, sym, ap, ◌∙◌, subst}
+use Rattle.std.proofs.Common.{◌≡◌, ℕ, ◌==◌, Bool, true, false, not, ◌&&◌, cond, List, [], ◌∷◌, map, filter, Some, None, refl, sym, ap, ◌∙◌}
 use Rattle.std.specs.BTreeMap.{BTreeMap, get, is_at}
 use Rattle.std.specs.Cmp.Lexicographic.{slice_cmp}
 use Rattle.std.specs.List.Sorted.{IsStrictlySortedBy}
 use Rattle.std.specs.Map.{keys_of, remove_entry, lookup}
 use Rattle.std.specs.Ordering.{nat_cmp}
-use Rattle.std.proofs.lemmas.Bool.{both_ways, false_from_ne_true, eqb-true, eq-eqb}
-use Rattle.snow_issue.specs.declared.backlog.Kept.{Kept}
+use Rattle.std.proofs.lemmas.Bool.{eqb-true, eq-eqb}
 use Rattle.snow_issue.specs.Arrivals.{Entries, PollMap, at_arrival, seat_of, IsFiled, stays, filed, filed_apart, number_of_node, IsLeaving, AreGone}
 use Rattle.snow_issue.proofs.Stocked.{same_number, number_itself, each}
-use Rattle.snow_issue.proofs.Numbered.{Numbers, Names, key_back, filed_same, filed_taken, is_of}
+use Rattle.snow_issue.proofs.Numbered.{Numbers, Names, key_back, filed_same, filed_taken}
 use Rattle.snow_issue.proofs.Seated.{seats_filtered, all_stay, one_leaves}
 
 abbrev pub Nodes : Type 0

@@ -1,30 +1,24 @@
 -- Lemmas on held replies by their numbers of arrival, and on the numbers by block and by poll and node.
-use Rattle.std.proofs.Common.{◌≡◌, ℕ, suc, ◌<◌, ◌≤◌, ◌+◌, ◌==◌, Bool, true, false, not, ◌&&◌, ◌||◌, cond, List, [], ◌∷◌, ◌++◌, length, get_or, set, map, filter, find, All, Option, Some, None, Less, Equal, Greater, refl, sym, ap, ◌∙◌, subst, arith, ⊎_elim}
+use Rattle.std.proofs.Common.{◌≡◌, ℕ, ◌<◌, ◌+◌, ◌==◌, Bool, true, false, ◌&&◌, ◌||◌, cond, List, [], ◌∷◌, map, All, Option, Some, None, Less, Equal, Greater, refl, sym, ap, ◌∙◌, arith}
 use Rattle.std.specs.BTreeMap.{BTreeMap, get, is_at}
 use Rattle.std.specs.Cmp.Lexicographic.{slice_cmp}
-use Rattle.std.specs.List.{list_any, remove, position_or_len}
+use Rattle.std.specs.List.{list_any}
 use Rattle.std.specs.List.Sorted.{IsStrictlySortedBy}
-use Rattle.std.specs.Map.{keys_of, set_value, remove_entry}
+use Rattle.std.specs.Map.{keys_of}
 use Rattle.std.specs.Option.{option_map, is_some}
 use Rattle.std.specs.Ordering.{nat_cmp, is_eq}
 use Rattle.std.specs.Str.{bytes_eq}
 use Rattle.std.specs.declared.cmp.Ordering.{Ordering}
 use Rattle.std.proofs.lemmas.Bool.{both_ways, false_from_ne_true, eqb-true, eq-eqb, and_parts}
-use Rattle.std.proofs.lemmas.List.{map-append}
 use Rattle.std.proofs.lemmas.List.Elements.{All-head, All-tail}
-use Rattle.std.proofs.lemmas.List.Folds.{list_any_none}
 use Rattle.std.proofs.lemmas.Map.Lookups.{CmpEqualImpliesEq, exact_bytes}
 use Rattle.std.proofs.lemmas.Map.Text.{is_eq-slice_cmp}
 use Rattle.snow_issue.specs.declared.backlog.Kept.{Kept}
 use Rattle.snow_issue.specs.declared.work.Held.{Held}
-use Rattle.snow_lineup.specs.declared.marks.Mark.{Mark}
-use Rattle.snow_lineup.specs.declared.marks.Mark.TheVariants.{New, Quiet}
-use Rattle.snow_lineup.specs.Marks.{has}
-use Rattle.snow_lineup.specs.Index.{woken}
 use Rattle.snow_issue.specs.Lists.{holds_in, is_reply}
 use Rattle.snow_issue.specs.Known.{items_of}
-use Rattle.snow_issue.specs.Arrivals.{Entries, at_arrival, mark_of, seat_of, loud, woken_among, IsFirst, AreQuiet, reply_key, IsFiled, stays, filed_apart}
-use Rattle.snow_issue.proofs.Stocked.{same_number, number_itself, number_apart, none_before, behind_first, first_there, each}
+use Rattle.snow_issue.specs.Arrivals.{Entries, at_arrival, seat_of, reply_key, IsFiled}
+use Rattle.snow_issue.proofs.Stocked.{same_number, number_itself, number_apart, each}
 use Rattle.snow_lineup.proofs.Booleans.{or_true}
 use Rattle.snow_lineup.proofs.Noted.{same_id, id_itself}
 

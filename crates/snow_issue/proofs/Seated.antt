@@ -1,5 +1,5 @@
 -- Lemmas on what is seen of held replies: the first one to be looked at, those that are woken, and those of a poll.
-use Rattle.std.proofs.Common.{◌≡◌, ℕ, suc, ◌<◌, ◌≤◌, ◌+◌, ◌==◌, Bool, true, false, not, ◌&&◌, ◌||◌, cond, List, [], ◌∷◌, ◌++◌, length, get_or, set, map, filter, find, All, Option, Some, None, refl, sym, ap, ◌∙◌, subst, arith, ⊎_elim}
+use Rattle.std.proofs.Common.{◌≡◌, ℕ, suc, ◌≤◌, ◌+◌, ◌==◌, Bool, true, false, not, ◌&&◌, ◌||◌, cond, List, [], ◌∷◌, ◌++◌, get_or, set, map, filter, find, All, Option, Some, None, refl, sym, ap, ◌∙◌, arith}
 use Rattle.std.specs.BTreeMap.{is_at}
 use Rattle.std.specs.List.{list_any, remove, position_or_len}
 use Rattle.std.specs.List.Sorted.{IsStrictlySortedBy}
@@ -7,7 +7,6 @@ use Rattle.std.specs.Map.{keys_of, set_value, remove_entry}
 use Rattle.std.specs.Option.{option_map}
 use Rattle.std.specs.Ordering.{nat_cmp}
 use Rattle.std.specs.Str.{bytes_eq}
-use Rattle.std.proofs.lemmas.Bool.{both_ways, false_from_ne_true}
 use Rattle.std.proofs.lemmas.List.{map-append}
 use Rattle.std.proofs.lemmas.List.Elements.{All-head, All-tail}
 use Rattle.snow_issue.specs.declared.backlog.Kept.{Kept}
@@ -18,7 +17,7 @@ use Rattle.snow_lineup.specs.Marks.{has}
 use Rattle.snow_lineup.specs.Index.{woken}
 use Rattle.snow_issue.specs.Known.{items_of}
 use Rattle.snow_issue.specs.Arrivals.{Entries, at_arrival, mark_of, seat_of, loud, woken_among, IsFirst, AreQuiet, stays}
-use Rattle.snow_issue.proofs.Stocked.{same_number, number_itself, number_apart, none_before, behind_first, first_there, each}
+use Rattle.snow_issue.proofs.Stocked.{none_before, behind_first, first_there, each}
 use Rattle.snow_lineup.proofs.Booleans.{or_false}
 
 -- ---- the first one that isn't quiet

@@ -1,4 +1,4 @@
-use Rattle.std.proofs.Common.{◌≡◌, ℕ, true, cond, ◌&&◌, List, ap, ◌∙◌}
+use Rattle.std.proofs.Common.{true, cond, ◌&&◌, ap, ◌∙◌}
 use Rattle.std.specs.BTreeMap.{is_at}
 use Rattle.std.specs.Ordering.{nat_cmp}
 use Rattle.snow_issue.specs.Arrivals.{names}

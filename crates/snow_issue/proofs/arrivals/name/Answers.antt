@@ -1,6 +1,5 @@
-use Rattle.std.proofs.Common.{◌≡◌, ℕ, true, false, None, Some, cond, ◌&&◌, List, refl, sym, ap, ◌∙◌}
+use Rattle.std.proofs.Common.{true, Some, cond, ◌&&◌, sym, ap, ◌∙◌}
 use Rattle.std.specs.BTreeMap.{get, is_at}
-use Rattle.std.specs.BTreeSet.{contains}
 use Rattle.std.specs.Cmp.Lexicographic.{slice_cmp}
 use Rattle.std.specs.List.{list_any}
 use Rattle.std.specs.Option.{is_some}

@@ -1,5 +1,5 @@
 -- The top of the heap is the number of a reply that is to be looked at, or it goes.
-use Rattle.std.proofs.Common.{◌≡◌, ◌-◌, ◌+◌, List, ◌∷◌, Some, refl, sym, ap, ◌∙◌, arith}
+use Rattle.std.proofs.Common.{◌≡◌, ◌-◌, refl, arith}
 use Rattle.std.specs.BinaryHeap.{heap_items, heap_len, heap_capacity}
 use Rattle.snow_issue.proofs.Stocked.{is_first, stocked_popped, some_is, same_top}
 use Rattle.snow_issue.proofs.backlog.first_in.Goals as goal

@@ -1,4 +1,4 @@
-use Rattle.std.proofs.Common.{◌≡◌, ◌-◌, ◌+◌, List, ◌∷◌, arith}
+use Rattle.std.proofs.Common.{◌-◌, arith}
 use Rattle.std.specs.BinaryHeap.{heap_items}
 use Rattle.snow_issue.proofs.Stocked.{noted_itself, noted_more}
 use Rattle.snow_issue.proofs.backlog.note.Goals as goal

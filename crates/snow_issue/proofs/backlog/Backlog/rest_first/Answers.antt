@@ -1,5 +1,5 @@
 -- The number at the top of the heap goes, and its reply becomes quiet.
-use Rattle.std.proofs.Common.{◌≡◌, ◌+◌, ℕ, true, false, List, ◌∷◌, Some, refl, sym, ap, ◌∙◌, subst}
+use Rattle.std.proofs.Common.{◌≡◌, ◌+◌, true, false, refl, sym, ap, ◌∙◌, subst}
 use Rattle.std.specs.BinaryHeap.{heap_items, heap_len, heap_capacity}
 use Rattle.std.specs.Option.{is_some}
 use Rattle.snow_issue.specs.declared.backlog.Kept.{Kept}

@@ -1,4 +1,4 @@
-use Rattle.std.proofs.Common.{◌≡◌, List, find, sym, ap, ◌∙◌}
+use Rattle.std.proofs.Common.{List, find, sym, ap, ◌∙◌}
 use Rattle.std.specs.Option.{option_map}
 use Rattle.snow_issue.specs.declared.work.Held.{Held}
 use Rattle.snow_lineup.specs.declared.marks.Mark.{Mark}

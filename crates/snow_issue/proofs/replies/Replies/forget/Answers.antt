@@ -1,5 +1,5 @@
 -- The replies of a poll go, by the numbers of its nodes.
-use Rattle.std.proofs.Common.{◌≡◌, not, ◌==◌, List, filter, sym, ap, ◌∙◌}
+use Rattle.std.proofs.Common.{not, ◌==◌, filter, sym, ap, ◌∙◌}
 use Rattle.snow_issue.specs.declared.work.Held.{Held}
 use Rattle.snow_lineup.specs.declared.marks.Mark.{Mark}
 use Rattle.snow_issue.specs.Arrivals.{filed, names, AreGone}

@@ -1,5 +1,5 @@
 -- The new reply has the next number; after want of memory none has it.
-use Rattle.std.proofs.Common.{◌≡◌, ℕ, None, false, cond, List, sym, ap, ◌∙◌, subst}
+use Rattle.std.proofs.Common.{◌≡◌, None, false, cond, List, sym, ap, ◌∙◌, subst}
 use Rattle.snow_issue.specs.declared.work.Held.{Held}
 use Rattle.snow_lineup.specs.declared.marks.Mark.{Mark}
 use Rattle.snow_issue.specs.Lists.{holds_in}

@@ -1,5 +1,5 @@
 -- The first new reply leaves, and its numbers with it.
-use Rattle.std.proofs.Common.{◌≡◌, false, None, cond, List, map, sym, ap, ◌∙◌}
+use Rattle.std.proofs.Common.{false, None, cond, List, map, ap, ◌∙◌}
 use Rattle.std.specs.BTreeMap.{is_at}
 use Rattle.std.specs.List.{remove}
 use Rattle.std.specs.Map.{remove_entry}

@@ -1,12 +1,11 @@
 -- Each reply that names the block is among those whose numbers are kept under it.
-use Rattle.std.proofs.Common.{◌≡◌, List, [], map, sym, ap, ◌∙◌, subst}
+use Rattle.std.proofs.Common.{[], map, sym, ap, ◌∙◌, subst}
 use Rattle.std.specs.List.Sorted.{IsStrictlySortedBy}
 use Rattle.std.specs.Map.{keys_of}
 use Rattle.std.specs.Option.{option_map}
 use Rattle.std.specs.Ordering.{nat_cmp}
 use Rattle.snow_issue.specs.declared.backlog.Kept.{Kept}
 use Rattle.snow_issue.specs.declared.work.Held.{Held}
-use Rattle.snow_lineup.specs.declared.marks.Mark.{Mark}
 use Rattle.snow_lineup.specs.Index.{woken}
 use Rattle.snow_issue.specs.Arrivals.{Entries, at_arrival, filed, names, has_number_in, seat_of}
 use Rattle.snow_issue.proofs.Numbered.{filed_by, all_named}
