@@ -1,13 +1,12 @@
 -- Lemmas on the index of a lineup: places and keys, and the rows in which they stand.
-use Rattle.std.proofs.Common.{◌≡◌, ℕ, ◌<◌, ◌≤◌, ◌+◌, ◌-◌, zero, suc, Bool, true, false, ◌||◌, cond, List, [], ◌∷◌, ◌++◌, map, take, drop, length, get_or, set, filter, All, refl, sym, ap, ◌∙◌, subst, arith, ⊎_elim}
+use Rattle.std.proofs.Common.{◌≡◌, ℕ, ◌<◌, ◌≤◌, ◌+◌, ◌-◌, zero, suc, Bool, true, false, ◌||◌, cond, List, [], ◌∷◌, ◌++◌, map, take, drop, length, get_or, set, All, refl, sym, ap, ◌∙◌, subst, arith, ⊎_elim}
 use Rattle.std.specs.List.{AllPairs, remove}
 use Rattle.std.specs.Str.{bytes_eq}
 use Rattle.std.proofs.lemmas.Bool.{eq-eqb, ne_eqb, cases_lt}
 use Rattle.std.proofs.Math.Seq.{take-append_seam}
 use Rattle.std.proofs.lemmas.List.{length-append, get_or_default, get_or-map, length-map, map-append, take-map, drop-map, map-set}
 use Rattle.std.proofs.lemmas.List.Edits.{length-remove, get_or-remove_below, get_or-remove_above}
-use Rattle.std.proofs.lemmas.List.Elements.{All-push, All-append, All-take, All-drop, All-filter, All-map, filter_passes}
-use Rattle.std.proofs.lemmas.List.Kept.{AllPairs-filter}
+use Rattle.std.proofs.lemmas.List.Elements.{All-push, All-append, All-take, All-drop}
 use Rattle.std.proofs.lemmas.List.Quantifiers.{all_pairs_push, all_pairs_remove}
 use Rattle.snow_lineup.specs.declared.lineup.Slot.{Slot}
 use Rattle.snow_lineup.specs.declared.marks.Mark.{Mark}
@@ -40,13 +39,6 @@ pub AllPairs_unmap : {X Y : Type 0} (R : Y → Y → Type 0) (f : X → Y) (xs :
 AllPairs_unmap R f xs h i j d less within =
     subst (λ a. R a (f (get_or xs j d))) (get_or-map f xs i d (f d) (omega (arith, less, within)))
     (subst (λ b. R (get_or (map f xs) i (f d)) b) (get_or-map f xs j d (f d) within) (h i j (f d) less (omega (arith, length-map xs f, within))))
-
-pub AllPairs_map : {X Y : Type 0} (R : Y → Y → Type 0) (f : X → Y) (xs : List X) → AllPairs (λ x y. R (f x) (f y)) xs → AllPairs R (map f xs)
-AllPairs_map R f [] h i j e less within = absurd (omega (arith, less, within))
-AllPairs_map R f (x ∷ xs) h i j e less within =
-    let long : j < length (x ∷ xs) = omega (arith, length-map (x ∷ xs) f, within) in
-    subst (λ a. R a (get_or (map f (x ∷ xs)) j e)) (sym (get_or-map f (x ∷ xs) i x e (omega (arith, less, long))))
-    (subst (λ b. R (f (get_or (x ∷ xs) i x)) b) (sym (get_or-map f (x ∷ xs) j x e long)) (h i j x less long))
 
 -- ---- the same items in the same places
 

@@ -1,10 +1,9 @@
 -- Lemmas on windows: where a mark may stand, after each change.
-use Rattle.std.proofs.Common.{◌≡◌, ℕ, ◌<◌, ◌≤◌, ◌+◌, ◌-◌, Bool, true, false, cond, List, [], ◌∷◌, ◌++◌, map, length, min, max, ltb, get_or, set, filter, All, refl, sym, ap, ◌∙◌, subst, arith, ⊎_elim}
+use Rattle.std.proofs.Common.{◌≡◌, ℕ, ◌<◌, ◌≤◌, ◌+◌, ◌-◌, Bool, true, false, cond, List, [], ◌∷◌, ◌++◌, map, length, min, max, ltb, get_or, set, All, refl, sym, ap, ◌∙◌, subst, arith, ⊎_elim}
 use Rattle.std.specs.List.{remove, position_or_len}
 use Rattle.std.proofs.lemmas.Bool.{cases_eq, cases_lt, lt-ltb, le-ltb, false_from_ne_true, both_ways}
 use Rattle.std.proofs.lemmas.List.{length-set, length_push, get_or-set_same, get_or-set_other, get_or_push, get_or_append_left, get_or-map, length-map}
 use Rattle.std.proofs.lemmas.List.Edits.{length-remove, get_or-remove_below, get_or-remove_above}
-use Rattle.std.proofs.lemmas.List.Elements.{All-filter}
 use Rattle.std.proofs.lemmas.List.Sums.{fails_before_first, position_or_len_is}
 use Rattle.snow_lineup.specs.declared.marks.Mark.{Mark}
 use Rattle.snow_lineup.specs.declared.marks.Mark.TheVariants.{New, Quiet, Ripe}
@@ -12,7 +11,7 @@ use Rattle.snow_lineup.specs.declared.window.Window.{Window}
 use Rattle.snow_lineup.specs.declared.window.Windows.{Windows}
 use Rattle.snow_lineup.specs.Marks.{has}
 use Rattle.snow_lineup.specs.Index.{forgotten}
-use Rattle.snow_lineup.specs.Windows.{IsWithin, AreWithin, no_windows, all_places, no_place, all_fresh, with_place, marked, moved, closed_up, all_closed_up, window_of, from_first, narrowed}
+use Rattle.snow_lineup.specs.Windows.{IsWithin, AreWithin, no_windows, no_place, all_fresh, with_place, marked, moved, closed_up, all_closed_up, window_of, from_first, narrowed}
 
 pub within_nothing : {T : Type 0} → AreWithin {T = T} [] no_windows
 within_nothing = record { fresh = λ k d h. absurd (omega (arith, h)); ripe = λ k d h. absurd (omega (arith, h)) }

@@ -1,5 +1,5 @@
 -- The index of a lineup: at which places the items of a key stand.
-use Rattle.std.specs.Prelude.{◌≡◌, ℕ, ◌<◌, ◌≤◌, Bool, true, false, ◌==◌, List, [], ◌++◌, filter, not, All, unwrap_or, bytes_eq, if◌then◌else◌}
+use Rattle.std.specs.Prelude.{◌≡◌, ℕ, ◌<◌, ◌≤◌, Bool, false, ◌==◌, List, [], ◌++◌, filter, not, All, unwrap_or, bytes_eq, if◌then◌else◌}
 use Rattle.std.specs.List.{list_any, AllPairs}
 use Rattle.std.specs.HashMap as hash
 use Rattle.std.specs.HashMap.{HashMap}
