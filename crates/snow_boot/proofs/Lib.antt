@@ -13,9 +13,11 @@ mod Inquired
 mod Owed
 mod Promised
 mod Quiet
+mod Reaching
 mod Replied
 mod Requested
 mod Started
+mod Stepping
 mod Surveyed
 mod Underway
 mod Weighed

@@ -9,6 +9,7 @@ pub mod Executing
 pub mod Fetching
 pub mod OutcomeLaw
 pub mod Promising
+pub mod Reached
 pub mod Replying
 pub mod Requesting
 pub mod Surveying

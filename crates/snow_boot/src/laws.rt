@@ -1,5 +1,6 @@
 //! Laws of bootstrapping, each a function that does nothing and ensures the law.
 ghost use Rattle.snow_boot.specs.OutcomeLaw.{AskedLaw, AskedOnceLaw, ExecutionLaw, QuietLaw, EndLaw};
+ghost use Rattle.snow_boot.specs.Reached.{ReachedLinkedLaw};
 
 /// Once the node asked for what targets miss, open requests name each identifier that one of them
 /// misses.
@@ -33,4 +34,11 @@ pub fn quiet_law()
 /// Rule: this project's own.
 pub fn end_law()
     ensures { EndLaw }
+{}
+
+/// The kept blocks of each node that can be reached fit one another: that is the premise of the laws
+/// about their paths.
+/// Rule: this project's own.
+pub fn reached_linked_law()
+    ensures { ReachedLinkedLaw }
 {}

@@ -16,7 +16,9 @@ mod stage;
 mod survey;
 
 pub use boot::Boot;
-pub use laws::{asked_law, asked_once_law, end_law, execution_law, quiet_law};
+pub use laws::{
+    asked_law, asked_once_law, end_law, execution_law, quiet_law, reached_linked_law,
+};
 pub use question::{Candidate, Question};
 pub use snow_store::{
     BootStop, Children, KeptBlock, Verdict, linked_law, path_law, progress_law, run_law,

@@ -2,7 +2,7 @@ pub mod Cases
 pub mod Counting
 mod Holding
 pub mod Indexed
-mod Linked
+pub mod Linked
 pub mod Missing
 mod Needed
 mod Progress
