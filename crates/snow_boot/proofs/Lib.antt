@@ -18,6 +18,7 @@ mod Replied
 mod Requested
 mod Started
 mod Stepping
+mod Stopping
 mod Surveyed
 mod Underway
 mod Weighed

@@ -59,7 +59,7 @@ both_asked : (one : Asked) (more : List Get → ℕ → Asked) → list_any acce
 both_asked (lines, Err why) more e h = e
 both_asked (lines, Ok (requests, drawn)) more e h = list_any-append accepts lines (more requests drawn).0 ∙ rw (e, h requests drawn) refl
 
-all_asked : (nodes : List Node) (f : Fetch) (targets : List (List ℕ)) (requests : List Get) (drawn : ℕ) → list_any accepts (asked nodes f targets requests drawn).0 ≡ false
+pub all_asked : (nodes : List Node) (f : Fetch) (targets : List (List ℕ)) (requests : List Get) (drawn : ℕ) → list_any accepts (asked nodes f targets requests drawn).0 ≡ false
 unfolding asked
 all_asked nodes f [] requests drawn = refl
 all_asked nodes f (t ∷ targets) requests drawn =

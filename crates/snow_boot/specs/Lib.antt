@@ -12,4 +12,5 @@ pub mod Promising
 pub mod Reached
 pub mod Replying
 pub mod Requesting
+pub mod StoppedLaw
 pub mod Surveying

@@ -1,6 +1,7 @@
 //! Laws of bootstrapping, each a function that does nothing and ensures the law.
 ghost use Rattle.snow_boot.specs.OutcomeLaw.{AskedLaw, AskedOnceLaw, ExecutionLaw, QuietLaw, EndLaw};
 ghost use Rattle.snow_boot.specs.Reached.{ReachedLinkedLaw};
+ghost use Rattle.snow_boot.specs.StoppedLaw.{StoppedLaw};
 
 /// Once the node asked for what targets miss, open requests name each identifier that one of them
 /// misses.
@@ -41,4 +42,13 @@ pub fn end_law()
 /// Rule: this project's own.
 pub fn reached_linked_law()
     ensures { ReachedLinkedLaw }
+{}
+
+/// An event that stops bootstrapping accepts no block, but where a block is refused: so at a fork, at
+/// a conflict, where as many blocks are kept as may be, and where no number is left. The definition
+/// knows no want of memory.
+/// Rule: this project's own.
+#[tactic(auto, using(crate::proofs::Stopping::stops_early))]
+pub fn stopped_law()
+    ensures { StoppedLaw }
 {}
