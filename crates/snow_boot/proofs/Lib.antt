@@ -14,6 +14,7 @@ mod Owed
 mod Promised
 mod Quiet
 mod Reaching
+mod Refusing
 mod Replied
 mod Requested
 mod Started

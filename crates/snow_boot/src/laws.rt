@@ -1,7 +1,7 @@
 //! Laws of bootstrapping, each a function that does nothing and ensures the law.
 ghost use Rattle.snow_boot.specs.OutcomeLaw.{AskedLaw, AskedOnceLaw, ExecutionLaw, QuietLaw, EndLaw};
 ghost use Rattle.snow_boot.specs.Reached.{ReachedLinkedLaw};
-ghost use Rattle.snow_boot.specs.StoppedLaw.{StoppedLaw};
+ghost use Rattle.snow_boot.specs.StoppedLaw.{StoppedLaw, RefusedLaw};
 
 /// Once the node asked for what targets miss, open requests name each identifier that one of them
 /// misses.
@@ -51,4 +51,12 @@ pub fn reached_linked_law()
 #[tactic(auto, using(crate::proofs::Stopping::stops_early))]
 pub fn stopped_law()
     ensures { StoppedLaw }
+{}
+
+/// Where a block that comes is refused there is no line. Else a block of the path of the highest kept
+/// target is refused, no target misses a block, and just the blocks below it were accepted.
+/// Rule: this project's own.
+#[tactic(auto, using(crate::proofs::Refusing::refuses))]
+pub fn refused_law()
+    ensures { RefusedLaw }
 {}
