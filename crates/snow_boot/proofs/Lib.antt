@@ -7,6 +7,7 @@ mod Ended
 mod Examples
 mod Executed
 mod Fetched
+mod Finishing
 mod Followed
 mod Heard
 mod Inquired

@@ -7,6 +7,7 @@ pub mod Coursing
 pub mod Electing
 pub mod Executing
 pub mod Fetching
+pub mod FinishLaw
 pub mod OutcomeLaw
 pub mod Promising
 pub mod Reached

@@ -1,5 +1,6 @@
 //! Laws of bootstrapping, each a function that does nothing and ensures the law.
 ghost use Rattle.snow_boot.specs.OutcomeLaw.{AskedLaw, AskedOnceLaw, ExecutionLaw, QuietLaw, EndLaw};
+ghost use Rattle.snow_boot.specs.FinishLaw.{FinishLaw};
 ghost use Rattle.snow_boot.specs.Reached.{ReachedLinkedLaw};
 ghost use Rattle.snow_boot.specs.StoppedLaw.{StoppedLaw, RefusedLaw};
 
@@ -59,4 +60,12 @@ pub fn stopped_law()
 #[tactic(auto, using(crate::proofs::Refusing::refuses))]
 pub fn refused_law()
     ensures { RefusedLaw }
+{}
+
+/// Where a node that can be reached is done, no target misses a block. From right above the last
+/// accepted block to the height of the highest kept target just the block at each height was
+/// accepted, once and upwards, and every other kept target is one of these.
+/// Rule: this project's own.
+pub fn finish_law()
+    ensures { FinishLaw }
 {}

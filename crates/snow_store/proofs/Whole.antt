@@ -49,7 +49,7 @@ higher_bounds b c = by_test (nat_lt b.header.height c.header.height) refl
     by_test false e = (omega arith, grind (arith, nat_tests), inl refl)
 
 -- where no target is kept, none is
-none_kept : (kept : List KeptBlock) (targets : List (List ℕ)) (u : List ℕ) (c : KeptBlock) {P : Type 0} → highest_target kept targets ≡ None → has_id targets u ≡ true
+pub none_kept : (kept : List KeptBlock) (targets : List (List ℕ)) (u : List ℕ) (c : KeptBlock) {P : Type 0} → highest_target kept targets ≡ None → has_id targets u ≡ true
     → highest kept u ≡ Some c → P
 unfolding highest_target
 none_kept kept [] u c e among is = clash true refl (sym among)
