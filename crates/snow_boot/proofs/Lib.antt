@@ -10,6 +10,7 @@ mod Fetched
 mod Finishing
 mod Followed
 mod Heard
+mod Helping
 mod Inquired
 mod Owed
 mod Promised

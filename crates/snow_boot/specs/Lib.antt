@@ -11,6 +11,7 @@ pub mod FinishLaw
 pub mod OutcomeLaw
 pub mod Promising
 pub mod Reached
+pub mod ReplyLaw
 pub mod Replying
 pub mod Requesting
 pub mod StoppedLaw

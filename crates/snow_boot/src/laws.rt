@@ -2,6 +2,7 @@
 ghost use Rattle.snow_boot.specs.OutcomeLaw.{AskedLaw, AskedOnceLaw, ExecutionLaw, QuietLaw, EndLaw};
 ghost use Rattle.snow_boot.specs.FinishLaw.{FinishLaw};
 ghost use Rattle.snow_boot.specs.Reached.{ReachedLinkedLaw};
+ghost use Rattle.snow_boot.specs.ReplyLaw.{ReplyLaw};
 ghost use Rattle.snow_boot.specs.StoppedLaw.{StoppedLaw, RefusedLaw};
 
 /// Once the node asked for what targets miss, open requests name each identifier that one of them
@@ -68,4 +69,12 @@ pub fn refused_law()
 /// Rule: this project's own.
 pub fn finish_law()
     ensures { FinishLaw }
+{}
+
+/// Where a target misses a block, a reply to a request for it that begins with that block never
+/// comes in vain: the block is kept at a height that was free, or the target is found, or
+/// bootstrapping stops or is done.
+/// Rule: this project's own.
+pub fn reply_law()
+    ensures { ReplyLaw }
 {}

@@ -18,7 +18,7 @@ mod survey;
 pub use boot::Boot;
 pub use laws::{
     asked_law, asked_once_law, end_law, execution_law, finish_law, quiet_law, reached_linked_law,
-    refused_law, stopped_law,
+    refused_law, reply_law, stopped_law,
 };
 pub use question::{Candidate, Question};
 pub use snow_store::{

@@ -1,11 +1,11 @@
 pub mod Cases
 pub mod Counting
-mod Holding
+pub mod Holding
 pub mod Indexed
 pub mod Linked
 pub mod Missing
 mod Needed
-mod Progress
+pub mod Progress
 pub mod Renewed
 pub mod Storing
 mod Straying
