@@ -42,7 +42,7 @@ closed (At c z o) (false ∷ front) rest h = closed z front rest h
 closed (At c z o) (true ∷ front) rest h = closed o front rest h
 
 -- after the bit steps a counter is the step of the one before
-polled_from : (p : Parameters) (votes : List Bool → ℕ) (counters : Counters) (place : List Bool) (c : Counter) → counter_at (all_polled p votes counters) place ≡ Some c
+pub polled_from : (p : Parameters) (votes : List Bool → ℕ) (counters : Counters) (place : List Bool) (c : Counter) → counter_at (all_polled p votes counters) place ≡ Some c
     → (b : Counter) × (counter_at counters place ≡ Some b) × (stepped p b (votes (place ++ false ∷ [])) (votes (place ++ true ∷ [])) ≡ c)
 polled_from p votes counters place c h =
     step_of (λ b. stepped p b (votes (place ++ false ∷ [])) (votes (place ++ true ∷ []))) (counter_at counters place) (is_excluded (stepped_at p votes counters) place)

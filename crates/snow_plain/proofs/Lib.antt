@@ -32,3 +32,8 @@ pub mod Confidence
 pub mod Heights
 pub mod Pruning
 pub mod FlakeDecides
+pub mod Room
+pub mod Stopping
+pub mod Backing
+pub mod Led
+pub mod Topmost

@@ -184,7 +184,7 @@ any_filtered p test (q ∷ pending) h =
     (λ s. rw (t, s) rest))
 
 -- so a block that is on the board after an acceptance has the children that it had
-children_promoted : (board : Board) (child : Pending) (id : List ℕ) (place : List Bool) → IsGrown board.last (reverse (blocks_of board.pending)) → winner board ≡ Some child
+pub children_promoted : (board : Board) (child : Pending) (id : List ℕ) (place : List Bool) → IsGrown board.last (reverse (blocks_of board.pending)) → winner board ≡ Some child
     → is_on (promoted board child).last (blocks_of (promoted board child).pending) id ≡ true
     → has_child_from (blocks_of (promoted board child).pending) id place ≡ has_child_from (blocks_of board.pending) id place
 unfolding promoted

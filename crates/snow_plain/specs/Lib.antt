@@ -23,3 +23,6 @@ pub mod ConfidenceLaw
 pub mod QuorumLaw
 pub mod Keeping
 pub mod KeepingLaw
+pub mod SettledLaw
+pub mod RoomLaw
+pub mod PreferenceLaw

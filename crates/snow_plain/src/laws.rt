@@ -7,6 +7,9 @@ ghost use Rattle.snow_plain.specs.StandingLaw.{StandingLaw, ChildrenStayLaw, Non
 ghost use Rattle.snow_plain.specs.ConfidenceLaw.{ConfidenceLaw};
 ghost use Rattle.snow_plain.specs.QuorumLaw.{OneQuorumLaw};
 ghost use Rattle.snow_plain.specs.KeepingLaw.{KeepingLaw};
+ghost use Rattle.snow_plain.specs.SettledLaw.{NoWinnerLaw, EnoughStepsLaw};
+ghost use Rattle.snow_plain.specs.RoomLaw.{RoomLaw};
+ghost use Rattle.snow_plain.specs.PreferenceLaw.{PreferenceEndsLaw};
 
 /// The counters of a conflict are a map from bit lists: those that are the same at each list are
 /// the same.
@@ -135,4 +138,31 @@ pub fn confidence_law()
 #[tactic(auto, using(crate::proofs::Pruning::never_read))]
 pub fn keeping_law()
     ensures { KeepingLaw }
+{}
+
+/// A poll leaves no child of the last accepted block to which decided counters alone lead: all that
+/// are decided are accepted.
+#[tactic(auto, using(crate::proofs::Stopping::no_winner))]
+pub fn settled_law()
+    ensures { NoWinnerLaw }
+{}
+
+/// The steps that a poll's acceptances are counted down from are never what ends them: with any
+/// greater number the same board and the same decisions come out.
+#[tactic(auto, using(crate::proofs::Stopping::enough_steps))]
+pub fn enough_steps_law()
+    ensures { EnoughStepsLaw }
+{}
+
+/// A board that can be reached has at most 4,096 pending blocks.
+#[tactic(auto, using(crate::proofs::Room::room))]
+pub fn room_law()
+    ensures { RoomLaw }
+{}
+
+/// The preference of a board that can be reached has no pending child: it is the end of a whole
+/// path, by every rule that answers the bit on which preference and flake agree.
+#[tactic(auto, using(crate::proofs::Topmost::preference_ends))]
+pub fn preference_ends_law()
+    ensures { PreferenceEndsLaw }
 {}
