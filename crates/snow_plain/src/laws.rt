@@ -142,6 +142,7 @@ pub fn keeping_law()
 
 /// A poll leaves no child of the last accepted block to which decided counters alone lead: all that
 /// are decided are accepted.
+/// Rule: this project's own.
 #[tactic(auto, using(crate::proofs::Stopping::no_winner))]
 pub fn settled_law()
     ensures { NoWinnerLaw }
@@ -149,12 +150,14 @@ pub fn settled_law()
 
 /// The steps that a poll's acceptances are counted down from are never what ends them: with any
 /// greater number the same board and the same decisions come out.
+/// Rule: this project's own.
 #[tactic(auto, using(crate::proofs::Stopping::enough_steps))]
 pub fn enough_steps_law()
     ensures { EnoughStepsLaw }
 {}
 
 /// A board that can be reached has at most 4,096 pending blocks.
+/// Rule: this project's own.
 #[tactic(auto, using(crate::proofs::Room::room))]
 pub fn room_law()
     ensures { RoomLaw }
@@ -162,6 +165,7 @@ pub fn room_law()
 
 /// The preference of a board that can be reached has no pending child: it is the end of a whole
 /// path, by every rule that answers the bit on which preference and flake agree.
+/// Rule: this project's own.
 #[tactic(auto, using(crate::proofs::Topmost::preference_ends))]
 pub fn preference_ends_law()
     ensures { PreferenceEndsLaw }
