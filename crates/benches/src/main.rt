@@ -1,9 +1,10 @@
 //! Times parts of the engine, each by itself. Words say which: `samples`, `polls`, `queue`, `tries`,
-//! `codec`. With no word all are timed, in this order. What was done is told on standard output, and
+//! `codec`, `ledgers`. With no word all are timed, in this order. What was done is told on standard output, and
 //! how long it took on standard error.
 #![tactic(auto)]
 
 mod codec;
+mod ledgers;
 mod polls;
 mod queue;
 mod random;
@@ -14,7 +15,7 @@ use anyhow::bail;
 use std::env;
 
 /// What is timed where no word says it.
-const ALL: [&str; 5] = ["samples", "polls", "queue", "tries", "codec"];
+const ALL: [&str; 6] = ["samples", "polls", "queue", "tries", "codec", "ledgers"];
 
 fn main(rt: HostRuntime) -> anyhow::Result<()> {
     let words: Vec<String> = env::args(&rt)?.skip(1).collect(rt.alloc())?;
@@ -42,6 +43,7 @@ fn time(rt: &HostRuntime, word: &str) -> anyhow::Result<()> {
         "queue" => queue::time(rt),
         "tries" => tries::time(rt),
         "codec" => codec::time(rt),
+        "ledgers" => ledgers::time(rt),
         _ => bail!("nothing to time is named {word}"),
     }
 }

@@ -171,7 +171,7 @@ impl Survey {
     pub(crate) fn named(&self) -> Result<Ids, AllocError>
         ensures { IfOk result (λ ids. ids ≡ map (λ c. c.id) self.now.candidates) }
     {
-        let ids = listed(self.alloc, self.candidates.keys().as_slice())?;
+        let ids = Ids::from_slice(self.alloc, self.candidates.keys().as_slice())?;
         Ok(ids)
     }
 
@@ -216,15 +216,4 @@ fn is_none(weights: &BTreeMap<NodeId, u64>) -> bool
         Some(_) => false,
         None => true,
     }
-}
-
-// The list of these identifiers.
-fn listed(alloc: Global, ids: &[Id]) -> Result<Ids, AllocError>
-    ensures { IfOk result (λ list. list ≡ ids.now) }
-{
-    let mut list = Ids::with_capacity(alloc, ids.len())?;
-    for id in ids {
-        list.push(*id)?;
-    }
-    Ok(list)
 }

@@ -130,7 +130,7 @@ impl Getter {
                 told.insert(*id)?;
             }
         }
-        listed(self.alloc, told.as_slice())
+        Ids::from_slice(self.alloc, told.as_slice())
     }
 
     // The bytes of a block and of its ancestors, as far as they are served.
@@ -154,15 +154,4 @@ impl Getter {
         }
         Ok(blocks)
     }
-}
-
-// The list of these identifiers.
-fn listed(alloc: Global, ids: &[Id]) -> Result<Ids, AllocError>
-    ensures { IfOk result (λ list. list ≡ ids.now) }
-{
-    let mut list = Ids::with_capacity(alloc, ids.len())?;
-    for id in ids {
-        list.push(*id)?;
-    }
-    Ok(list)
 }

@@ -15,3 +15,4 @@ mod Taken
 mod Rested
 mod Resting
 mod Stepped
+mod Descending

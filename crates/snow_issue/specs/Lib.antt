@@ -3,6 +3,7 @@ pub mod Lists
 pub mod Offering
 pub mod Settling
 pub mod Bubbling
+pub mod BubblingLaw
 pub mod Known
 pub mod KnownLaw
 pub mod Index

@@ -19,7 +19,7 @@ mod work;
 
 pub use gets::Gets;
 pub use gone::Gone;
-pub use laws::{issue_stays_known_law, poll_stays_known_law};
+pub use laws::{bubbling_law, issue_stays_known_law, poll_stays_known_law};
 pub use queue::Queue;
 pub use spare::SpareBytes;
 pub use work::{Get, Held, Offered, Waiting, Work};

@@ -28,6 +28,12 @@ one_block first below bytes is =
     let all = given_under (is_state first && are_good first [] ts) (Some (after first ts)) below inner.1 in
     ((and_parts (is_state first) (are_good first [] ts) all.0).1, sym (same_Some (after first ts) below all.1))
 
+-- the state of a valid block is one
+pub next_is_state : (first below : List ℕ) (bytes : List ℕ) → is_state first ≡ true → next first bytes ≡ Some below → is_state below ≡ true
+next_is_state first below bytes state is =
+    let one = one_block first below bytes is in
+    ap is_state one.1 ∙ state_after first (transfers_of bytes) state one.0
+
 pub follow : (first last : List ℕ) (blocks : List (List ℕ)) → is_state first ≡ true → followed first blocks ≡ Some last → Followed first blocks last
 follow first last [] state is = record {
   good = refl;
@@ -39,7 +45,7 @@ follow first last (bytes ∷ blocks) state is =
     option_and_then_some (λ below. followed below blocks) (next first bytes) last is (λ below step rest.
     let one = one_block first below bytes step in
     let covered = covers_all first ts one.0 in
-    let under : is_state below ≡ true = ap is_state one.1 ∙ state_after first ts state one.0 in
+    let under : is_state below ≡ true = next_is_state first below bytes state step in
     let later = follow below last blocks under rest in
     record {
       good = are_good_more first [] ts us ∙ and_from (are_good first [] ts) (are_good first ts us) one.0

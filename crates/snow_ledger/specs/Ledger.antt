@@ -1,10 +1,10 @@
 -- The ledger: a state is the balance and the next sequence of each account, and transfers change it. What an account has after a list of
 -- transfers is said by sums of whole numbers over the list.
-use Rattle.std.specs.Prelude.{ℕ, ◌+◌, ◌-◌, ◌*◌, ◌/◌, Bool, true, not, ◌&&◌, List, [], ◌∷◌, ◌++◌, length, Option, Some, None, is_some, slice_index, nat_le, nat_lt, ◌==◌, if◌then◌else◌, flat_map}
+use Rattle.std.specs.Prelude.{◌≡◌, ℕ, ◌+◌, ◌-◌, ◌*◌, ◌/◌, Bool, true, not, ◌&&◌, List, [], ◌∷◌, ◌++◌, length, Option, Some, None, is_some, slice_index, nat_le, nat_lt, ◌==◌, if◌then◌else◌, flat_map}
 use Rattle.std.specs.List.{range_with_len, sum_by}
 use mathlib.Core.Path.{ap}
 use Rattle.snow_base.specs.declared.header.Header.{Header}
-use Rattle.snow_chain.specs.Chain.{Rules, NeedsHeader}
+use Rattle.snow_chain.specs.Chain.{Rules, NeedsHeader, Held, state_of}
 use Rattle.snow_ledger.specs.declared.transfers.Transfer.{Transfer}
 use Rattle.snow_ledger.specs.Blocks.{header_of, transfers_of}
 
@@ -33,6 +33,10 @@ total state = sum_by (held state) (accounts_of state)
 -- whether a list is a state: two numbers for each of one or more accounts, whose balances add up to at most 2^64-1
 unfoldable pub is_state : List ℕ → Bool
 is_state state = nat_le 1 (accounts state) && length state == 2 * accounts state && nat_le (total state) 18446744073709551615
+
+-- each list of numbers that is held is a state
+pub record HoldsStates (held : Held) : Type 0 where
+  pub each : (id state : List ℕ) → state_of held id ≡ Some state → is_state state ≡ true
 
 -- ---- after a list of transfers
 

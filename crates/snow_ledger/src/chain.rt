@@ -1,10 +1,10 @@
 ghost use Rattle.std.specs.Prelude.{◌≡◌, IfOk};
 ghost use Rattle.std.specs.Option.{option_map};
 ghost use Rattle.snow_chain.specs.Chain.{next_on};
-ghost use Rattle.snow_ledger.specs.Ledger.{ledger_rules};
+ghost use Rattle.snow_ledger.specs.Ledger.{ledger_rules, HoldsStates};
 
 use crate::block::header_of;
-use crate::state::{is_state, next, numbers};
+use crate::state::{is_state, next};
 use snow_base::{Header, Id, Nums};
 use snow_chain::{Chain, ChainFault, States};
 use std::alloc::{AllocError, Global};
@@ -23,12 +23,15 @@ pub struct LedgerChain {
 impl Model for LedgerChain {
     ghost use Rattle.snow_chain.specs.Chain.{Held};
     ghost use Rattle.snow_chain.specs.Coded.{coded_held};
+    ghost use Rattle.snow_ledger.specs.Ledger.{HoldsStates};
 
     ghost Value = { Held };
 
     ghost coded = { coded_held };
 
     ghost view = { λ a. a.states };
+
+    ghost invariant = { λ a. HoldsStates a.states };
 }
 
 impl LedgerChain {
@@ -100,11 +103,12 @@ impl Chain for LedgerChain {
 
     ghost held = { λ chain. chain };
 
+    #[tactic(auto, using(crate::proofs::Holding::after_begin))]
     fn begin(alloc: Global, last: Id, state: &[u64]) -> Result<Self, ChainFault> {
         if !is_state(state) {
             return Err(ChainFault::State);
         }
-        let states = States::begin(alloc, last, numbers(alloc, state)?)?;
+        let states = States::begin(alloc, last, Nums::from_slice(alloc, state)?)?;
         Ok(LedgerChain { states })
     }
 
@@ -112,6 +116,7 @@ impl Chain for LedgerChain {
         header_of(bytes)
     }
 
+    #[tactic(auto, using(crate::proofs::Holding::after_hold, crate::proofs::Holding::next_on_is_state))]
     fn verify(&mut self, parent: &Id, id: &Id, bytes: &[u8]) -> Result<bool, AllocError> {
         let Some(state) = next_on(&self.states, parent, bytes)? else {
             return Ok(false);
@@ -133,6 +138,7 @@ impl Chain for LedgerChain {
 
 // The state of a block with these bytes on a parent, where the parent's is held and the block is valid.
 fn next_on(states: &States, parent: &Id, bytes: &[u8]) -> Result<Option<Nums>, AllocError>
+    requires { HoldsStates states.now }
     ensures { IfOk result (λ made. made ≡ next_on ledger_rules states.now parent.now bytes.now) }
 {
     match states.state_of(parent) {

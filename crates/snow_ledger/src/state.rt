@@ -27,32 +27,21 @@ fn total(state: &[u64]) -> u128
     sum
 }
 
-// The state of a block on this one, where the block is valid. All is tested before any memory is taken
-// but the transfers, which are made in a copy.
+// The state of a block on this one, where the block is valid. Its transfers are made in a copy, and
+// that copy is the state.
 #[tactic(auto, using(crate::proofs::Blocks::next_unread, crate::proofs::Blocks::next_moved, crate::proofs::Blocks::next_refused))]
 pub(crate) fn next(alloc: Global, state: &[u64], bytes: &[u8]) -> Result<Option<Nums>, AllocError>
+    requires { is_state state.now ≡ true }
     ensures { IfOk result (λ made. made ≡ next state.now bytes.now) }
 {
     if !is_whole(bytes) {
         return Ok(None);
     }
-    if !is_state(state) {
-        return Ok(None);
-    }
-    let mut moved = copy(alloc, state)?;
+    let mut moved = Vec::from_slice(alloc, state)?;
     if !move_all(moved.as_mut_slice(), bytes) {
         return Ok(None);
     }
-    Ok(Some(numbers(alloc, moved.as_slice())?))
-}
-
-// The numbers of a state, to be changed.
-fn copy(alloc: Global, state: &[u64]) -> Result<Vec<u64>, AllocError>
-    ensures { IfOk result (λ copied. copied.items ≡ state.now) }
-{
-    let mut copied = Vec::with_capacity(alloc, state.len())?;
-    copied.extend_from_slice(state)?;
-    Ok(copied)
+    Ok(Some(Nums::from_vec(moved)))
 }
 
 // Makes all transfers of a block, one after another, up to the first that isn't good after those before
@@ -117,15 +106,4 @@ fn move_between(state: &mut [u64], from: usize, to: usize, amount: u64)
     state[2 * from] = left;
     state[2 * from + 1] = sequence;
     state[2 * to] = reached;
-}
-
-// The list of some numbers.
-pub(crate) fn numbers(alloc: Global, state: &[u64]) -> Result<Nums, AllocError>
-    ensures { IfOk result (λ list. list ≡ state.now) }
-{
-    let mut list = Nums::with_capacity(alloc, state.len())?;
-    for number in state {
-        list.push(*number)?;
-    }
-    Ok(list)
 }

@@ -18,3 +18,7 @@ pub mod Preferred
 pub mod Supplying
 pub mod Undecided
 pub mod Remembering
+pub mod Counts
+pub mod Opening
+pub mod Calm
+pub mod AtRest

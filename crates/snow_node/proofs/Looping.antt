@@ -45,7 +45,7 @@ abbrev pub AtOk : {T : Type 0} → (T → Type 0) → Result T EngineStop → Ty
 AtOk P (Ok x) = P x
 AtOk P (Err s) = Unit {0}
 
-at_then : (S T : Type 0) (P : S → Type 0) (Q : T → Type 0) (lines : List Line) (r : Result S EngineStop) (f : S → Comes T)
+pub at_then : (S T : Type 0) (P : S → Type 0) (Q : T → Type 0) (lines : List Line) (r : Result S EngineStop) (f : S → Comes T)
     → AtOk P r → ((x : S) → P x → AtOk Q (f x).1) → AtOk Q (going_on lines r f).1
 at_then S T P Q lines (Err s) f p h = tt
 at_then S T P Q lines (Ok x) f p h = h x p
@@ -60,7 +60,7 @@ not_made T A x y r d e =
     flag (Ok p) = p.1
     flag (Err s) = false
 
-at_ok : (T : Type 0) (P : T → Type 0) (r : Result T EngineStop) (x : T) → AtOk P r → r ≡ Ok x → P x
+pub at_ok : (T : Type 0) (P : T → Type 0) (r : Result T EngineStop) (x : T) → AtOk P r → r ≡ Ok x → P x
 at_ok T P r x p e = subst (AtOk P) e p
 
 -- ---- queries

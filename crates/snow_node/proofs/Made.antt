@@ -27,7 +27,7 @@ module _ (T : Type 0) (size : T → ℕ) (step : T → Comes (T × Bool)) where
   Falls = (x y : T) → (step x).1 ≡ Ok (y, true) → size y < size x
 
   -- more times than what is there change nothing
-  enough : Falls → (n m : ℕ) (x : T) → size x < n → size x < m → again n step x ≡ again m step x
+  pub enough : Falls → (n m : ℕ) (x : T) → size x < n → size x < m → again n step x ≡ again m step x
   unfolding again
   enough falls zero m x a b = absurd (omega arith)
   enough falls (suc n) zero x a b = absurd (omega arith)

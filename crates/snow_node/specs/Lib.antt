@@ -3,11 +3,13 @@ pub mod Closing
 pub mod CompletionLaw
 pub mod Hearing
 pub mod Kept
+pub mod LoopsLaw
 pub mod Matching
 pub mod Outcome
 pub mod Placing
 pub mod Querying
 pub mod Remembering
+pub mod RestLaw
 pub mod Running
 pub mod RunningCode
 pub mod Settling

@@ -9,7 +9,7 @@ mod stop;
 mod telling;
 
 pub use admitting::{admit, apply, apply_votes, opposition};
-pub use laws::completion_law;
+pub use laws::{completion_law, loops_law, rest_law};
 pub use reporting::{tell, write};
 pub use running::{Running, roster_of};
 pub use stop::{EngineStop, Halt};

@@ -11,9 +11,8 @@ returns c =
     let s = c.args.state.now in
     let ts = transfers_of c.args.bytes.now in
     let whole : is_whole c.args.bytes.now ≡ true = grind arith in
-    let state : is_state s ≡ true = grind arith in
-    let at : c.as_mut_slice.result.now ≡ s = cc (c.as_mut_slice.ensures.value, c.in_ok-moved.ensures) in
+    let at : c.as_mut_slice.result.now ≡ s = cc (c.as_mut_slice.ensures.value, c.in_ok-moved.ensures.items) in
     let good : are_good s [] ts ≡ true = grind (arith, at, c.move_all.ensures.good) in
     let made : c.move_all.new.state ≡ after s ts = grind (arith, at, c.move_all.ensures.good, c.move_all.ensures.after) in
-    let is : c.in_ok-numbers.field-0 ≡ after s ts = grind (arith, common_steps, made, c.as_mut_slice.ensures.writes_back, c.as_slice.ensures.value, c.in_ok-numbers.ensures) in
-    ap Some is ∙ sym (next_moved s c.args.bytes.now whole state good)
+    let is : c.from_vec.result ≡ after s ts = grind (arith, common_steps, made, c.from_vec.ensures, c.in_ok-moved.ensures.items, c.in_ok-moved.ensures.len, c.as_mut_slice.ensures.len) in
+    ap Some is ∙ sym (next_moved s c.args.bytes.now whole c.requires good)
