@@ -12,7 +12,7 @@ use snow_base::{Blocks, Bytes, Id, Ids, NodeId};
 use snow_lines::{Line, Lines};
 use snow_map::IdHashing;
 use snow_wire::Event;
-use std::alloc::{AllocError, Global};
+use std::alloc::AllocError;
 
 // How many blocks a chain has.
 const MOST_BLOCKS: usize = 64;

@@ -1,8 +1,8 @@
 -- Each list that is held stays a state.
-use Rattle.std.proofs.Common.{◌≡◌, ℕ, Bool, true, false, cond, List, Option, Some, None, refl, sym, subst, ◌∙◌}
+use Rattle.std.proofs.Common.{◌≡◌, ℕ, Bool, true, false, cond, List, Option, Some, None, sym, subst, ◌∙◌}
 use Rattle.std.specs.Ordering.{nat_cmp, eq_by_cmp}
 use Rattle.std.specs.Cmp.Lexicographic.{slice_cmp, nat_list_cmp_total}
-use Rattle.std.specs.FinMap.{empty, get, get-empty, get-insert, get-remove}
+use Rattle.std.specs.FinMap.{empty, get-empty, get-insert, get-remove}
 use Rattle.std.proofs.lemmas.Option.{option_and_then_some}
 use Rattle.snow_chain.specs.Chain.{Held, state_of, next_on, begun, with_state, accepted, rejected}
 use Rattle.snow_ledger.specs.Ledger.{is_state, next, ledger_rules, HoldsStates}

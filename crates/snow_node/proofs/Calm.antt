@@ -1,5 +1,5 @@
 -- Lemmas on what a node that runs does until nothing is to be done: queries, closing and settling leave no closed poll in front.
-use Rattle.std.proofs.Common.{◌≡◌, ℕ, zero, suc, ◌+◌, ◌<◌, ◌==◌, Bool, true, false, cond, nat_lt, nat_le, List, [], ◌∷◌, ◌++◌, length, Option, Some, None, is_some, Result, Ok, Err, if◌then◌else◌, refl, sym, ap, ◌∙◌, subst, arith}
+use Rattle.std.proofs.Common.{◌≡◌, ℕ, zero, suc, ◌<◌, Bool, true, false, cond, nat_le, List, length, Option, Some, None, Result, Ok, Err, refl, sym, ap, ◌∙◌, arith}
 use Rattle.std.proofs.lemmas.Bool.{true≢false}
 use Rattle.snow_base.specs.Numbers.{next_number}
 use Rattle.snow_base.specs.declared.header.Header.{Header}
@@ -7,46 +7,32 @@ use Rattle.snow_base.specs.declared.vote.Vote.{Vote}
 use Rattle.snow_flake.specs.Parameters.{Parameters, AreGood}
 use Rattle.snow_flake.specs.Rule.{Answer}
 use Rattle.snow_sample.specs.declared.draws.Draw.{Draw}
-use Rattle.snow_sample.specs.declared.roster.Node.{Node as Member}
-use Rattle.snow_sample.specs.declared.roster.RosterFault.{RosterFault}
 use Rattle.snow_sample.specs.declared.sampling.SampleFault.{SampleFault}
 use Rattle.snow_sample.specs.declared.sampling.SampleFault.TheVariants as fault
-use Rattle.snow_sample.specs.Roster.{first_fault}
 use Rattle.snow_sample.specs.Sampling.{sample_of}
-use Rattle.snow_plain.specs.Board.{Board, height_of}
+use Rattle.snow_plain.specs.Board.{height_of}
 use Rattle.snow_plain.specs.Preference.{is_preferred}
 use Rattle.snow_plain.specs.Poll.{poll}
 use Rattle.snow_plain.proofs.Cases.{split_on}
 use Rattle.snow_plain.proofs.Polled.{poll_parameters}
 use Rattle.snow_chain.specs.Chain.{Rules, next_on}
-use Rattle.snow_lines.specs.declared.line.Line.{Line}
 use Rattle.snow_lines.specs.declared.why.DropWhy.{DropWhy}
 use Rattle.snow_lines.specs.declared.why.DropWhy.TheVariants as why
-use Rattle.snow_wire.specs.declared.event.Event.{Event}
-use Rattle.snow_wire.specs.declared.event.Event.TheVariants as event
-use Rattle.snow_poll.specs.Table.{Table, finished}
-use Rattle.snow_issue.specs.declared.work.Held.{Held}
-use Rattle.snow_issue.specs.declared.work.Offered.{Offered}
-use Rattle.snow_issue.specs.declared.work.Offered.TheVariants as offer
-use Rattle.snow_issue.specs.declared.work.Waiting.{Waiting}
+use Rattle.snow_poll.specs.Table.{finished}
 use Rattle.snow_issue.specs.declared.work.Work.{Work}
 use Rattle.snow_issue.specs.declared.work.Work.TheVariants as work
 use Rattle.snow_issue.specs.Bubbling.{bubbled}
 use Rattle.snow_issue.specs.Lists.{Lists}
-use Rattle.snow_issue.specs.Offering.{offered, wanted}
 use Rattle.snow_issue.specs.Settling.{work_of, IsIdle}
 use Rattle.snow_node.specs.declared.stop.EngineStop.{EngineStop}
 use Rattle.snow_node.specs.Outcome.{Comes, quietly, going_on, then_comes, where_made}
 use Rattle.snow_node.specs.Again.{again, all_made}
-use Rattle.snow_node.specs.Running.{Running, begun_above}
+use Rattle.snow_node.specs.Running.{Running}
 use Rattle.snow_node.specs.Placing.{opposed}
 use Rattle.snow_node.specs.Querying.{queried, sampled, lacks_polls, one_repolled, lacking, repolled}
 use Rattle.snow_node.specs.Closing.{front_closed, one_closed, running_polls, closed_out, with_vote, tallied}
 use Rattle.snow_node.specs.Settling.{with_block, issued_by, placed_by, done, worked, without_work, one_settled, left_to_do, settled, asked_on_the_way}
-use Rattle.snow_node.specs.Hearing.{fetched_if, taken_in, brought, is_other, read_as, asked_by, without_get, block_read, block_answers, block_came, waits_for, fetched_unknown, vote_held, vote_came, vote_lost, given_up_on, timed_out}
-use Rattle.snow_node.specs.Turning.{members, words_came, roster_came, rounded, runs_on}
-use Rattle.snow_node.specs.RestLaw.{Runs, Began, Went, IsAtRest}
-use Rattle.snow_node.proofs.Made.{Falls, enough}
+use Rattle.snow_node.proofs.Made.{Falls}
 use Rattle.snow_node.proofs.Looping.{AtOk, at_then, at_ok, repolls_fall, polls_fall, settling_falls}
 use Rattle.snow_node.proofs.Opening.{sample_counts, front_stays}
 

@@ -1,5 +1,5 @@
 -- Lemmas on a poll that begins: it is open.
-use Rattle.std.proofs.Common.{◌≡◌, ℕ, zero, suc, ◌+◌, ◌-◌, ◌<◌, ◌≤◌, ◌==◌, Bool, true, false, not, ◌||◌, nat_lt, List, [], ◌∷◌, ◌++◌, map, fold, filter, length, bytes_eq, Option, Some, None, Result, Ok, Err, if◌then◌else◌, refl, sym, ap, ◌∙◌, arith}
+use Rattle.std.proofs.Common.{◌≡◌, ℕ, zero, suc, ◌+◌, ◌-◌, ◌==◌, Bool, true, false, not, nat_lt, List, [], ◌∷◌, ◌++◌, map, fold, filter, length, bytes_eq, Option, Some, None, Result, Ok, Err, if◌then◌else◌, refl, sym, ap, ◌∙◌, arith}
 use Rattle.std.specs.Option.{option_and_then}
 use Rattle.std.proofs.lemmas.Bool.{le-ltb, ne_eqb}
 use Rattle.std.proofs.lemmas.List.Sums.{sum_by-cons}
@@ -12,7 +12,7 @@ use Rattle.snow_sample.specs.declared.sampling.SampleFault.TheVariants as fault
 use Rattle.snow_sample.specs.Roster.{total_weight, owner}
 use Rattle.snow_sample.specs.Sampling.{swapped, with_unit, drawn_from, drawn, counted, draws_of, or_out, sample_of, draw_count}
 use Rattle.snow_sample.specs.Words.{choice}
-use Rattle.snow_poll.specs.Poll.{Poll, has_replied, unanswered, outstanding}
+use Rattle.snow_poll.specs.Poll.{Poll, has_replied, outstanding}
 use Rattle.snow_poll.specs.Closing.{is_closed}
 use Rattle.snow_poll.specs.Table.{new_poll, finished}
 use Rattle.snow_plain.proofs.Cases.{split_on}

@@ -1,10 +1,12 @@
 pub mod Depths
+pub mod Alone
 pub mod Examples
 pub mod Growing
 pub mod Polling
 pub mod Walking
 pub mod Cases
 pub mod Grown
+pub mod Placed
 pub mod Issued
 pub mod Kept
 pub mod Judged

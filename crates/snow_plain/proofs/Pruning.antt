@@ -34,7 +34,7 @@ pruned (Node i z o) =
 -- ---- one conflict
 
 -- the bit step of an instance is that of its counter
-instance_stepped : (p : Parameters) (s : Standing) (final : Bool) (m n : ℕ) → let i : Instance = record { standing = s; final = final } in
+pub instance_stepped : (p : Parameters) (s : Standing) (final : Bool) (m n : ℕ) → let i : Instance = record { standing = s; final = final } in
     counter_of (polled p i m n) ≡ stepped p (counter_of i) m n
 instance_stepped p s true m n = refl
 instance_stepped p s false m n = refl

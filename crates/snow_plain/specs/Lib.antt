@@ -2,9 +2,11 @@ pub mod Conflict
 pub mod CountersCode
 pub mod Walk
 pub mod Trees
+pub mod Alone
 pub mod Board
 pub mod BoardCode
 pub mod Grown
+pub mod Places
 pub mod Poll
 pub mod Preference
 pub mod Ending

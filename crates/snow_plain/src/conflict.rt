@@ -1,5 +1,6 @@
 ghost use Rattle.std.specs.Prelude.{◌≡◌, ◌^◌, ◌<◌, OnOk, OnErr};
 
+use crate::lone::{Lone, poll_alone, spread};
 use crate::tree::{self, Tree};
 use snow_base::{Id, Vote};
 use snow_flake::{Params, Rule};
@@ -8,27 +9,31 @@ use std::marker::Model;
 
 /// The counters of one block's children, one for each bit list with which the bits of a child
 /// begin.
+///
+/// As long as there is one child, and no votes for others come, one instance stands for all its
+/// counters: a poll and a look at them take one step. The tree is then kept as the child's issue left
+/// it, since a poll that needs it takes no memory.
 /// Rule: AvalancheGo, snow/consensus/snowball.
 #[derive(Drop)]
 pub struct Conflict {
+    lone: Option<Lone>,
     tree: Tree,
     alloc: Global,
 }
 
 impl Model for Conflict {
-    ghost use Rattle.std.specs.Prelude.{◌≤◌};
+    ghost use Rattle.snow_plain.specs.Alone.{counters_seen, IsKept};
     ghost use Rattle.snow_plain.specs.Conflict.{Counters};
     ghost use Rattle.snow_plain.specs.CountersCode.{coded_counters};
-    ghost use Rattle.snow_plain.specs.Walk.{depth};
     ghost use Rattle.snow_plain.specs.Trees.{counters_of};
 
     ghost Value = { Counters };
 
     ghost coded = { coded_counters };
 
-    ghost view = { λ a. counters_of a.tree };
+    ghost view = { λ a. counters_seen a.lone (counters_of a.tree) };
 
-    ghost invariant = { λ a. depth (counters_of a.tree) ≤ 256 };
+    ghost invariant = { λ a. IsKept a.lone (counters_of a.tree) };
 }
 
 impl Conflict {
@@ -42,6 +47,7 @@ impl Conflict {
         ensures { result ≡ Blank }
     {
         Conflict {
+            lone: None,
             tree: Tree::Leaf,
             alloc,
         }
@@ -54,7 +60,13 @@ impl Conflict {
         ensures ok { OnOk result (self.new ≡ with_child (bits child.now) self.old) }
         ensures err { OnErr result (self.new ≡ self.old) }
     {
-        tree::add(&mut self.tree, self.alloc, child, 0)
+        spread(&mut self.tree, &mut self.lone);
+        if !self.tree.is_leaf() {
+            return tree::add(&mut self.tree, self.alloc, child, 0);
+        }
+        tree::add(&mut self.tree, self.alloc, child, 0)?;
+        self.lone = Some(Lone::new(child));
+        Ok(())
     }
 
     /// Lets every counter make the bit step with its own votes, and drops those behind a decided
@@ -66,6 +78,10 @@ impl Conflict {
         requires total { total_count votes.now < 2 ^ 32 }
         ensures { self.new ≡ all_polled params.now (votes_on votes.now) self.old }
     {
+        if poll_alone(&mut self.lone, params, votes) {
+            return;
+        }
+        spread(&mut self.tree, &mut self.lone);
         tree::poll(&mut self.tree, params, votes, 0);
     }
 
@@ -74,7 +90,10 @@ impl Conflict {
     pub fn leads_to<R: Rule>(&self, id: &Id) -> bool
         ensures { result ≡ leads_to R.answer self.now id.now }
     {
-        tree::leads_to::<R>(&self.tree, id, 0)
+        match &self.lone {
+            Some(lone) => lone.is(id),
+            None => tree::leads_to::<R>(&self.tree, id, 0),
+        }
     }
 
     /// Returns whether decided counters alone lead to this identifier.
@@ -82,6 +101,9 @@ impl Conflict {
     pub fn decides(&self, id: &Id) -> bool
         ensures { result ≡ decides self.now id.now }
     {
-        tree::decides(&self.tree, id, 0)
+        match &self.lone {
+            Some(lone) => lone.decides(id),
+            None => tree::decides(&self.tree, id, 0),
+        }
     }
 }

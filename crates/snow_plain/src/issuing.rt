@@ -1,22 +1,26 @@
-ghost use Rattle.std.specs.Prelude.{◌≡◌, OnOk, OnErr, reverse, map};
+ghost use Rattle.std.specs.Prelude.{◌≡◌, ◌<◌, IfSome, OnOk, OnErr, length, reverse, map};
 ghost use Rattle.snow_plain.specs.Board.{blocks_of, with_counters, with_issued};
 ghost use Rattle.snow_plain.specs.Grown.{IsGrown};
+ghost use Rattle.snow_plain.specs.Places.{place_from};
 
 use crate::conflict::Conflict;
 use crate::pending::Pending;
 use snow_base::{Header, Id};
 use std::alloc::AllocError;
 
-/// Adds a block that was issued to its parent's counters. On want of memory it returns
-/// `AllocError`, and all counters stay as they were.
+/// Adds a block that was issued to its parent's counters. A parent that is pending stands at the
+/// place `above`. On want of memory it returns `AllocError`, and all counters stay as they were.
 /// Rule: AvalancheGo, snow/consensus/snowman.
 pub fn issue_below(
     last: &Id,
     counters: &mut Conflict,
     pending: &mut [Pending],
+    above: Option<usize>,
     child: &Header,
 ) -> Result<(), AllocError>
-    requires { IsGrown last.now (reverse (blocks_of pending.old)) }
+    requires grown { IsGrown last.now (reverse (blocks_of pending.old)) }
+    requires above { above ≡ place_from 0 (blocks_of pending.old) child.now.parent }
+    requires within { IfSome above (λ at. at < length pending.old) }
     ensures counters { OnOk result (counters.new ≡ with_issued child.now last.now counters.old) }
     ensures pending { OnOk result (pending.new ≡ map (with_counters (with_issued child.now)) pending.old) }
     ensures counters_stay { OnErr result (counters.new ≡ counters.old) }
@@ -25,10 +29,8 @@ pub fn issue_below(
     if child.parent == *last {
         return counters.add(&child.id);
     }
-    for entry in pending.iter_mut() {
-        if entry.block.id == child.parent {
-            return entry.counters.add(&child.id);
-        }
+    match above {
+        Some(at) => pending[at].counters.add(&child.id),
+        None => Ok(()),
     }
-    Ok(())
 }

@@ -9,9 +9,11 @@ use std::alloc::{AllocError, Global};
 use std::marker::{Model, PhantomData};
 
 /// A board with one counter for each bit list, all of which make the bit step at each poll. `R`
-/// says how they answer. A poll goes once over all counters, and for each pending block once over
-/// the votes; then once over the pending blocks for each decision. An issue goes once over the
-/// pending blocks, and walks the answers only for the first block on the preference after a poll.
+/// says how they answer. A poll goes once over the pending blocks, with the votes and the counters
+/// of each: one instance where a block has one child and no votes for others came, else all. Each
+/// acceptance goes over the pending blocks once more, and over the decisions for each. A block is
+/// found by its identifier without a walk. An issue makes up to 256 counters, and walks the answers
+/// only for the first block on the preference after a poll.
 /// Rule: AvalancheGo, snow/consensus/snowman.
 #[derive(Drop)]
 pub struct PlainBoard<R: Rule> {

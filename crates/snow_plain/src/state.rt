@@ -5,13 +5,14 @@ use crate::cursor::{Cursor, start_all};
 use crate::decision::Decision;
 use crate::issuing::issue_below;
 use crate::pending::Pending;
+use crate::places::{Places, no_places, place, place_all, place_of, reserve_one};
 use snow_base::{Bag, Header, Id, Vote};
 use snow_flake::{Params, Rule};
 use std::alloc::{AllocError, Global};
 use std::marker::Model;
 
 /// The last accepted block and the pending ones in order of issue, with the counters of their
-/// children, and the parameters of the polls.
+/// children, the parameters of the polls, and the place of each pending block by its identifier.
 /// Rule: AvalancheGo, snow/consensus/snowman.
 #[derive(Drop)]
 pub struct State {
@@ -20,13 +21,15 @@ pub struct State {
     height: u64,
     counters: Conflict,
     pending: Vec<Pending>,
+    places: Places,
 }
 
 impl Model for State {
-    ghost use Rattle.std.specs.Prelude.{reverse};
+    ghost use Rattle.std.specs.Prelude.{bytes_eq};
+    ghost use Rattle.std.specs.HashMap.{get, hash_map_len};
     ghost use Rattle.snow_plain.specs.Board.{Board, blocks_of};
     ghost use Rattle.snow_plain.specs.BoardCode.{coded_board};
-    ghost use Rattle.snow_plain.specs.Grown.{IsGrown};
+    ghost use Rattle.snow_plain.specs.Places.{IsIndexed};
 
     ghost Value = { Board };
 
@@ -40,7 +43,7 @@ impl Model for State {
       pending = s.pending.items;
     } };
 
-    ghost invariant = { λ s. IsGrown s.last (reverse (blocks_of s.pending.items)) };
+    ghost invariant = { λ s. IsIndexed s.last (get bytes_eq s.places) (hash_map_len s.places) (blocks_of s.pending.items) };
 }
 
 impl State {
@@ -67,6 +70,7 @@ impl State {
             height,
             counters: Conflict::new(alloc),
             pending: Vec::new(alloc),
+            places: no_places(alloc),
         }
     }
 
@@ -80,11 +84,21 @@ impl State {
         ensures err { OnErr result (self.new ≡ self.old) }
     {
         self.pending.reserve(1)?;
-        issue_below(&self.last, &mut self.counters, &mut self.pending, &child)?;
+        reserve_one(&mut self.places)?;
+        let at = self.pending.len();
+        let above = place_of(&self.places, &child.parent);
+        issue_below(
+            &self.last,
+            &mut self.counters,
+            &mut self.pending,
+            above,
+            &child,
+        )?;
         self.pending.push_reserved(Pending {
             block: child,
             counters: Conflict::new(alloc),
         });
+        place(&mut self.places, &child.id, at);
         Ok(())
     }
 
@@ -125,12 +139,10 @@ impl State {
     pub fn block(&self, id: &Id) -> Option<Header>
         ensures { result ≡ option_map (λ q. q.block) (block_of self.now id.now) }
     {
-        for entry in &self.pending {
-            if entry.block.id == *id {
-                return Some(entry.block);
-            }
+        match place_of(&self.places, id) {
+            Some(at) => Some(self.pending[at].block),
+            None => None,
         }
-        None
     }
 
     /// Returns whether a block is pending.
@@ -244,6 +256,7 @@ impl State {
         ensures fewer { vec_len decisions.new + length self.new.pending ≤ vec_len decisions.old + length self.old.pending }
     {
         let child = take_accepted(&mut self.pending, &self.last, at, decisions);
+        place_all(&mut self.places, &self.pending);
         let Pending { block, counters } = child;
         self.last = block.id;
         self.height = block.height;

@@ -7,6 +7,7 @@ ghost use Rattle.snow_base.specs.Split.{AgreeBelow};
 ghost use Rattle.snow_base.specs.Votes.{IsInBitOrder, total_count};
 ghost use Rattle.snow_flake.specs.Counter.{admits, fresh, stepped};
 ghost use Rattle.snow_flake.specs.Instance.{counter_of};
+ghost use Rattle.snow_plain.specs.Alone.{filled, is_blank};
 ghost use Rattle.snow_plain.specs.Conflict.{Blank, At, with_child, all_polled, chosen, decided_path};
 ghost use Rattle.snow_plain.specs.Walk.{depth, is_decided_as, votes_from};
 ghost use Rattle.snow_plain.specs.Trees.{counters_of};
@@ -21,6 +22,16 @@ use std::alloc::{AllocError, Global};
 pub enum Tree {
     Leaf,
     Fork(Binary, Box<Tree>, Box<Tree>),
+}
+
+impl Tree {
+    /// Returns whether no counter stands.
+    /// Rule: this project's own.
+    pub fn is_leaf(&self) -> bool
+        ensures { result ≡ is_blank (counters_of self.now) }
+    {
+        matches!(self, Tree::Leaf)
+    }
 }
 
 /// Adds a child's fresh counters from a bit on. On want of memory it returns `AllocError`, and the
@@ -76,6 +87,20 @@ fn link(alloc: Global, side: bool, below: Tree) -> Result<Tree, AllocError>
     } else {
         Tree::Fork(counter, below, other)
     })
+}
+
+/// Puts an instance in place of each counter, at the bit that the counter has as its flake.
+/// Rule: this project's own.
+#[tactic(auto, unfolding(crate::specs::Alone::filled))]
+pub fn fill(tree: &mut Tree, single: &Unary)
+    ensures { counters_of tree.new ≡ filled single.now (counters_of tree.old) }
+{
+    let Tree::Fork(counter, zeros, ones) = tree else {
+        return;
+    };
+    *counter = single.extend(counter.preference::<Snowflake>());
+    fill(zeros, single);
+    fill(ones, single);
 }
 
 /// Lets each counter from a bit on make the bit step with its votes. All votes agree below that

@@ -1,25 +1,23 @@
-use Rattle.std.proofs.Common.{sym, ap, ◌∙◌, take_all, map, arith}
+use Rattle.std.proofs.Common.{sym, ◌∙◌}
 use Rattle.std.proofs.lemmas.Result.{on_ok_weaker}
-use Rattle.snow_plain.specs.Board.{blocks_of}
-use Rattle.snow_plain.specs.Grown.{has_block}
-use Rattle.snow_plain.proofs.Issued.{after_issue, none_issued, last_issued, one_issued}
+use Rattle.snow_plain.proofs.Issued.{none_issued, last_issued, one_issued}
+use Rattle.snow_plain.proofs.Placed.{first_at, not_found_has}
 use Rattle.snow_plain.proofs.issuing.issue_below.Goals as goal
 
 pub returns-then-eq-clause-pending : goal.returns-then-eq-clause-pending
 returns-then-eq-clause-pending c =
-    on_ok_weaker c.add.result (λ _. sym (last_issued c.args.last.now c.args.child.now c.args.pending.now c.requires cc)) c.add.ensures.ok
+    on_ok_weaker c.add.result (λ _. sym (last_issued c.args.last.now c.args.child.now c.args.pending.now c.requires.grown cc)) c.add.ensures.ok
 
-pub returns-then-eq-2-clause-pending : goal.returns-then-eq-2-clause-pending
-returns-then-eq-2-clause-pending c =
-    let same = c.loop-entry.invariant.0 in
-    on_ok_weaker c.add-then-eq-2.result
-    (λ e. one_issued c.args.last.now c.args.child.now c.loop-entry.pending c.loop-entry.entry-index c.entry-item.result c.add-then-eq-2.new.self
-    (rw same c.requires) (omega arith) c.loop-entry.invariant.1 (cc) e
-    ∙ ap (map (after_issue c.args.child.now)) same)
-    c.add-then-eq-2.ensures.ok
+pub returns-in-Some-clause-pending : goal.returns-in-Some-clause-pending
+returns-in-Some-clause-pending c =
+    let pending = c.args.pending.now in
+    let at = c.in-Some.at in
+    let d = c.index-pending-at.result in
+    let found = first_at at c.args.child.now.parent pending (sym c.requires.above ∙ c.in-Some.is) in
+    on_ok_weaker c.add-in-Some.result
+    (λ e. one_issued c.args.last.now c.args.child.now pending at d c.add-in-Some.new.self c.requires.grown found.within found.before (found.here d) e)
+    c.add-in-Some.ensures.ok
 
-pub returns-clause-pending : goal.returns-clause-pending
-returns-clause-pending c =
-    let same = c.loop-entry.invariant.0 in
-    let none = ap (λ l. has_block (blocks_of l) c.args.child.now.parent) (sym (take_all c.loop-entry.entry-index c.loop-entry.pending (omega arith))) ∙ c.loop-entry.invariant.1 in
-    sym (none_issued c.args.child.now c.loop-entry.pending none) ∙ ap (map (after_issue c.args.child.now)) same
+pub returns-in-None-clause-pending : goal.returns-in-None-clause-pending
+returns-in-None-clause-pending c =
+    sym (none_issued c.args.child.now c.args.pending.now (not_found_has 0 c.args.child.now.parent c.args.pending.now (sym c.requires.above ∙ c.in-None.is)))

@@ -1,4 +1,5 @@
-use Rattle.std.proofs.Common.{List, length, reverse, slice_get, true, sym, ap, subst, arith}
+use Rattle.std.proofs.Common.{List, length, reverse, slice_get, true, sym, ap, ◌∙◌, subst, arith}
+use Rattle.std.proofs.lemmas.List.{length-map}
 use Rattle.snow_plain.specs.declared.pending.Pending.{Pending}
 use Rattle.snow_plain.specs.Board.{Board, blocks_of}
 use Rattle.snow_plain.specs.Grown.{IsGrown}
@@ -6,12 +7,28 @@ use Rattle.snow_plain.specs.Acceptance.{Accepts}
 use Rattle.snow_plain.proofs.Kept.{descendants_grown}
 use Rattle.snow_plain.proofs.Taken.{accepted}
 use Rattle.snow_plain.proofs.state.State.accept.Goals as goal
+use Rattle.snow_plain.proofs.state.State.accept.Goals.{After-take_accepted-child}
+
+-- the blocks that are left stand above the child
+grown : (c : After-take_accepted-child) → IsGrown c.take_accepted-child.result.block.id (reverse (blocks_of c.take_accepted-child.new.pending.items))
+grown c =
+    let child = c.take_accepted-child.result in
+    subst (λ (l : List Pending). IsGrown child.block.id (reverse (blocks_of l))) (sym c.take_accepted-child.ensures.left)
+    (descendants_grown c.self.inside.last child.block.id c.self.inside.pending.items c.self.invariant.grown)
+
+pub place_all-requires-clause-grown : goal.place_all-requires-clause-grown
+place_all-requires-clause-grown c =
+    let at = (goal.at.place_all-requires-clause-grown c).After-take_accepted-child in
+    (c.take_accepted-child.result.block.id, rw c.deref.ensures.value (grown at))
 
 pub invariant_of-self : goal.invariant_of-self
 invariant_of-self c =
-    let child = c.take_accepted-child.result in
-    subst (λ (l : List Pending). IsGrown child.block.id (reverse (blocks_of l))) (sym c.take_accepted-child.ensures.left)
-    (descendants_grown c.self.inside.last child.block.id c.self.inside.pending.items c.self.invariant)
+    let at = (goal.at.invariant_of-self c).After-take_accepted-child in
+    record {
+      grown = grown at;
+      places = rw c.deref.ensures.value at c.place_all.ensures.places;
+      entries = c.place_all.ensures.entries ∙ ap length c.deref.ensures.value ∙ sym (length-map c.take_accepted-child.new.pending.items (λ q. q.block));
+    }
 
 pub returns-clause-accepts : goal.returns-clause-accepts
 returns-clause-accepts c =

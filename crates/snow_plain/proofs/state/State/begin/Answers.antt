@@ -2,4 +2,4 @@ use Rattle.snow_plain.specs.Grown.{Bare}
 use Rattle.snow_plain.proofs.state.State.begin.Goals as goal
 
 pub invariant_of-result : goal.invariant_of-result
-invariant_of-result c = rw c.new-2.ensures.items Bare
+invariant_of-result c = rw c.new-2.ensures.items (record { grown = Bare; places = c.no_places.ensures.places; entries = c.no_places.ensures.entries })

@@ -1,5 +1,6 @@
-use Rattle.std.proofs.Common.{◌≡◌, ◌<◌, List, All, map, reverse, sym, ap, ◌∙◌, subst}
+use Rattle.std.proofs.Common.{◌≡◌, ◌<◌, List, All, map, bytes_eq, sym, ap, ◌∙◌, subst}
 use Rattle.std.specs.Vec.{with_items}
+use Rattle.std.specs.HashMap.{get, hash_map_len}
 use Rattle.std.proofs.lemmas.List.{with_items_is}
 use Rattle.snow_base.specs.declared.header.Header.{Header}
 use Rattle.snow_plain.specs.declared.cursor.Cursor.{Cursor}
@@ -8,7 +9,7 @@ use Rattle.snow_plain.specs.Conflict.{Counters, all_polled}
 use Rattle.snow_plain.specs.Board.{Board, blocks_of}
 use Rattle.snow_plain.specs.Poll.{counted}
 use Rattle.snow_plain.specs.Cursors.{started, moved_past, votes_at, polled}
-use Rattle.snow_plain.specs.Grown.{IsGrown}
+use Rattle.snow_plain.specs.Places.{IsIndexed}
 use Rattle.snow_plain.proofs.Swept.{counts_started, blocks-polled}
 use Rattle.snow_plain.proofs.Climbed.{counted_is}
 use Rattle.snow_plain.proofs.state.State.count.Goals as goal
@@ -34,7 +35,7 @@ left c =
 pub invariant_of-self : goal.invariant_of-self
 invariant_of-self c =
     let same = ap blocks_of (left (goal.at.invariant_of-self c).After-poll_all) ∙ blocks-polled c.self.inside.params (map started c.args.votes.now) c.self.inside.pending.items in
-    subst (λ (l : List Header). IsGrown c.self.inside.last (reverse l)) (sym same) c.self.invariant
+    subst (λ (l : List Header). IsIndexed c.self.inside.last (get bytes_eq c.self.inside.places) (hash_map_len c.self.inside.places) l) (sym same) c.self.invariant
 
 pub returns-clause-board : goal.returns-clause-board
 returns-clause-board c =
@@ -50,5 +51,5 @@ returns-clause-board c =
     in
     ap (with c.poll_all.new.counters) (left at)
     ∙ ap (λ x. with x (polled inside.params (map started votes) inside.pending.items)) counters
-    ∙ counted_is old votes c.self.invariant
+    ∙ counted_is old votes c.self.invariant.grown
     ∙ ap (λ b. counted b votes) c.self.view_is

@@ -1,0 +1,15 @@
+use Rattle.std.proofs.Common.{Option, sym, ap, ◌∙◌}
+use Rattle.snow_plain.specs.declared.lone.Lone.{Lone}
+use Rattle.snow_plain.specs.Conflict.{Counters, leads_to}
+use Rattle.snow_plain.specs.Trees.{counters_of}
+use Rattle.snow_plain.specs.Alone.{counters_seen}
+use Rattle.snow_plain.proofs.Alone.{leads_alone}
+use Rattle.snow_plain.proofs.conflict.Conflict.leads_to.Goals as goal
+
+pub returns-in-Some : goal.returns-in-Some
+returns-in-Some g c =
+    let lone = c.in-Some.lone in
+    c.is.ensures
+    ∙ sym (leads_alone g.R.Rule.answer lone.counter lone.child c.args.id.now g.met.R.Rule.agrees)
+    ∙ ap (λ (o : Option Lone). leads_to g.R.Rule.answer (counters_seen o (counters_of c.self.inside.tree)) c.args.id.now) (sym c.in-Some.is)
+    ∙ ap (λ (counters : Counters). leads_to g.R.Rule.answer counters c.args.id.now) c.self.view_is
