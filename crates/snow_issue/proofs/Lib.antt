@@ -9,7 +9,11 @@ mod Looked
 mod Named
 mod Preferred
 pub mod Remembered
-mod Replied
+mod Stocked
+mod Numbered
+mod Seated
+mod Departed
+mod Next
 mod Settled
 mod Taken
 mod Rested

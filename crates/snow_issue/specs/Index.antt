@@ -1,16 +1,11 @@
--- The indexes of a queue: heights by identifier, gets by number and by identifier, held replies by poll and node.
+-- The indexes of a queue: heights by identifier, gets by number and by identifier.
 use Rattle.std.specs.Prelude.{◌≡◌, ℕ, Bool, false, List, [], ◌∷◌, find, Option, Some, None, bytes_eq}
 use Rattle.std.specs.List.{list_any}
-use Rattle.std.specs.BTreeMap.{BTreeMap, get}
-use Rattle.std.specs.BTreeSet.{BTreeSet, contains}
-use Rattle.std.specs.Option.{option_map, option_map_or}
-use Rattle.std.specs.Cmp.Lexicographic.{slice_cmp}
-use Rattle.std.specs.Ordering.{nat_cmp}
+use Rattle.std.specs.Option.{option_map}
 use Rattle.snow_issue.specs.declared.get_map.Asked.{Asked}
 use Rattle.snow_issue.specs.declared.work.Waiting.{Waiting}
 use Rattle.snow_issue.specs.declared.work.Get.{Get}
-use Rattle.snow_issue.specs.declared.work.Held.{Held}
-use Rattle.snow_issue.specs.Lists.{asked_in, holds_in}
+use Rattle.snow_issue.specs.Lists.{asked_in}
 
 -- the height of the waiting block of an identifier
 abbrev pub height_among : List Waiting → List ℕ → Option ℕ
@@ -39,16 +34,3 @@ pub record HasAsked (has : List ℕ → Bool) (gets : List Get) : Type 0 where
 abbrev pub StandsAlone : Option Get → List Get → Type 0
 StandsAlone None others = Unit {0}
 StandsAlone (Some get) others = others ≡ []
-
--- whether the map has a node's reply to a poll
-abbrev pub has_reply : BTreeMap ℕ (BTreeSet (List ℕ)) → ℕ → List ℕ → Bool
-has_reply polls number node = option_map_or (λ nodes. contains (slice_cmp nat_cmp) nodes node) (get nat_cmp polls number) false
-
--- the number of a reply's poll, and its node, in one list
-abbrev pub reply_key : Held → List ℕ
-reply_key h = h.number ∷ h.node
-
--- the map has each held reply by poll and node, and none is held twice
-pub record HasReplies (polls : BTreeMap ℕ (BTreeSet (List ℕ))) (held : List Held) : Type 0 where
-  pub known : (number : ℕ) (node : List ℕ) → has_reply polls number node ≡ holds_in held number node
-  pub apart : AreNamedApart reply_key held

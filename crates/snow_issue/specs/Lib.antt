@@ -7,4 +7,5 @@ pub mod BubblingLaw
 pub mod Known
 pub mod KnownLaw
 pub mod Index
+pub mod Arrivals
 pub mod Keeping

@@ -2,6 +2,8 @@
 //! blocks that are gone.
 #![tactic(auto)]
 
+mod arrivals;
+mod backlog;
 mod bubbling;
 mod get_map;
 mod gets;

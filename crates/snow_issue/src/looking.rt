@@ -1,4 +1,4 @@
-ghost use Rattle.std.specs.Prelude.{◌≡◌, ◌<◌, true, false, All, length};
+ghost use Rattle.std.specs.Prelude.{◌≡◌, ◌<◌, true, false, All, length, find, IsSome};
 ghost use Rattle.std.specs.List.{position_or_len};
 ghost use Rattle.snow_plain.specs.Board as model;
 ghost use Rattle.snow_lineup.specs.declared.marks.Mark.TheVariants.{New};
@@ -92,23 +92,22 @@ fn is_free(waiting: &WaitingList, gets: &Gets, reply: &Held) -> bool
     !(waiting.waits(&reply.id) || gets.asks_for(&reply.id))
 }
 
-/// Where the earliest free reply stands, or how many replies are held. Each reply of which nothing
-/// was remembered is looked at, up to there.
-pub(crate) fn first_free(replies: &mut Replies, waiting: &WaitingList, gets: &Gets) -> usize
+/// The earliest free reply, which is then the first one that is to be looked at. Each reply before it of
+/// which nothing was remembered is looked at.
+pub(crate) fn first_free(replies: &mut Replies, waiting: &WaitingList, gets: &Gets) -> Option<Held>
     requires { All (Rests (items_of waiting.now) gets.now) replies.old }
-    ensures first { result ≡ position_or_len (is_free_by (items_of waiting.now) gets.now) (items_of replies.old) }
+    ensures found { result ≡ find (is_free_by (items_of waiting.now) gets.now) (items_of replies.old) }
+    ensures first { IsSome result → position_or_len (has New) replies.new ≡ position_or_len (is_free_by (items_of waiting.now) gets.now) (items_of replies.old) }
     ensures same { items_of replies.new ≡ items_of replies.old }
     ensures rests { All (Rests (items_of waiting.now) gets.now) replies.new }
 {
     loop {
-        let at = replies.first(Mark::New);
-        if at >= replies.len() {
-            return at;
-        }
-        let reply = replies.reply(at);
+        let Some(reply) = replies.first_new() else {
+            return None;
+        };
         if is_free(waiting, gets, &reply) {
-            return at;
+            return Some(reply);
         }
-        replies.set(at, Mark::Quiet);
+        replies.rest_first();
     }
 }

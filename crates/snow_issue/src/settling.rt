@@ -154,10 +154,11 @@ impl Queue {
         ensures gone { self.new.gone ≡ self.old.gone }
         ensures limits { AreWithinLimits (lists_of self.new) }
     {
-        let at = looking::first_free(&mut self.replies, &self.waiting, &self.gets);
-        if at >= self.replies.len() {
+        let free = looking::first_free(&mut self.replies, &self.waiting, &self.gets);
+        let Some(reply) = free else {
             return None;
-        }
-        Some(self.replies.take(at))
+        };
+        self.replies.take_first();
+        Some(reply)
     }
 }

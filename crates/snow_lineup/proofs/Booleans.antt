@@ -25,7 +25,3 @@ cond_or true true = refl
 cond_or true false = refl
 cond_or false true = refl
 cond_or false false = refl
-
-pub both_same : {A : Type 0} (b : Bool) (x : A) → cond b x x ≡ x
-both_same true x = refl
-both_same false x = refl

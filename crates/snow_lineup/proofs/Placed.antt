@@ -1,10 +1,10 @@
 -- Lemmas on places: the slot of a place, and what is forgotten of the slots of a row.
-use Rattle.std.proofs.Common.{◌≡◌, ℕ, ◌<◌, ◌≤◌, ◌==◌, ltb, Bool, true, false, not, ◌&&◌, ◌||◌, cond, List, [], ◌∷◌, ◌++◌, map, filter, length, get_or, set, All, Option, Some, None, append-nil, refl, sym, ap, ◌∙◌, subst, arith, ⊎_elim}
+use Rattle.std.proofs.Common.{◌≡◌, ℕ, ◌<◌, ◌≤◌, ◌==◌, ltb, Bool, true, false, ◌||◌, cond, List, [], ◌∷◌, ◌++◌, map, length, get_or, set, All, Option, Some, None, append-nil, refl, sym, ap, ◌∙◌, subst, arith, ⊎_elim}
 use Rattle.std.specs.List.{AllPairs, position_or_len}
 use Rattle.std.specs.List.Sorted.{IsPartitionedBy, IsPartitionPoint}
 use Rattle.std.specs.Option.{option_to_list}
 use Rattle.std.specs.Str.{bytes_eq}
-use Rattle.std.proofs.lemmas.Bool.{cases_eq, cases_lt, eq-eqb, ne_eqb, eqb-true, eqb-false, ltb-true, ltb-false, lt-ltb, both_ways}
+use Rattle.std.proofs.lemmas.Bool.{cases_eq, cases_lt, eq-eqb, ne_eqb, eqb-true, eqb-false, ltb-true, ltb-false, lt-ltb}
 use Rattle.std.proofs.lemmas.List.{length-set, get_or-set_same, get_or-set_other, get_or-map, length-map, get_or_default, same_lists}
 use Rattle.std.proofs.lemmas.List.Elements.{All-head, All-tail}
 use Rattle.std.proofs.lemmas.List.Folds.{list_any-append}
@@ -12,8 +12,7 @@ use Rattle.std.proofs.lemmas.List.Sums.{position_or_len_is, fails_before_first, 
 use Rattle.snow_lineup.specs.declared.lineup.Slot.{Slot}
 use Rattle.snow_lineup.specs.declared.marks.Mark.{Mark}
 use Rattle.snow_lineup.specs.declared.marks.Mark.TheVariants.{New}
-use Rattle.snow_lineup.proofs.Tagged.{other_left, unused_left}
-use Rattle.snow_lineup.specs.Index.{RowMap, row_of, left_by, KeepsRows, has_place, tag_of, seat_of, woken, woken_at, reset, forgotten}
+use Rattle.snow_lineup.specs.Index.{has_place, tag_of, seat_of, woken, woken_at, reset, forgotten}
 
 abbrev pub Rises : {T : Type 0} → List (Slot T) → Type 0
 Rises slots = AllPairs (λ s t. s.place < t.place) slots
@@ -174,56 +173,3 @@ tags_reset key (s ∷ slots) = ap (λ l. tag_of key s ∷ l) (tags_reset key slo
 pub seats_reset : {T : Type 0} (slots : List (Slot T)) → map seat_of (map reset slots) ≡ map forgotten (map seat_of slots)
 seats_reset [] = refl
 seats_reset (s ∷ slots) = ap (λ l. (s.item, New) ∷ l) (seats_reset slots)
-
--- ---- places go out of their rows
-
--- the place of an item that doesn't pass goes, and those that pass keep theirs
-pub keeps_left : {T : Type 0} (stays : Slot T → Bool) (slots : List (Slot T)) (before mid now : RowMap) (at : ℕ) (s : Slot T) (key : List ℕ) → Rises slots → at < length slots
-    → s ≡ get_or slots at s → stays s ≡ false → KeepsRows stays slots before mid
-    → ((q : List ℕ) → row_of now q ≡ cond (bytes_eq key q) (left_by s.place (row_of mid q)) (row_of mid q))
-    → KeepsRows stays slots before now
-keeps_left {T} stays slots before mid now at s key rises there is goes kept change k d within passes id =
-    let here : get_or slots at d ≡ s = get_or_default slots at d s there ∙ sym is in
-    let place : (get_or slots at d).place ≡ s.place = ap (λ (s : Slot T). s.place) here in
-    let apart : (get_or slots k d).place ≡ s.place → ⊥ = λ e.
-    ⊎_elim
-    (λ (less : k < at). let l = rises k at d less there in omega (arith, l, place, e))
-    (λ (more : at ≤ k). ⊎_elim
-    (λ (less : at < k). let l = rises at k d less within in omega (arith, l, place, e))
-    (λ (le : k ≤ at).
-    let same : k ≡ at = omega (arith, le, more) in
-    both_ways (stays s) goes (sym (ap stays (ap (λ k. get_or slots k d) same ∙ here)) ∙ passes))
-    (cases_lt at k))
-    (cases_lt k at) in
-    ap (has_place (get_or slots k d).place) (change id)
-    ∙ other_left (bytes_eq key id) (row_of mid id) s.place (get_or slots k d).place apart
-    ∙ kept k d within passes id
-
-pub seats_filtered : {T : Type 0} (test : T → Bool) (slots : List (Slot T)) → map seat_of (filter (λ s. test s.item) slots) ≡ filter (λ s. test s.0) (map seat_of slots)
-seats_filtered test [] = refl
-seats_filtered {T} test (s ∷ slots) =
-    let rest = seats_filtered test slots in
-    let Goal : Bool → Type 0 = λ b. map seat_of (cond b (s ∷ filter (λ s. test s.item) slots) (filter (λ s. test s.item) slots))
-    ≡ cond b ((s.item, s.mark) ∷ filter (λ s. test s.0) (map seat_of slots)) (filter (λ s. test s.0) (map seat_of slots)) in
-    elim (test s.item) as Goal [ true ↦ ap (λ l. (s.item, s.mark) ∷ l) rest | false ↦ rest ]
-
--- the place of an item goes out of its row, where it is of the group that leaves
-pub keeps_row : {T : Type 0} (group : T → ℕ) (key : T → List ℕ) (number : ℕ) (slots : List (Slot T)) (before mid now : RowMap) (at : ℕ) (s : Slot T) → Rises slots → at < length slots
-    → s ≡ get_or slots at s → KeepsRows (λ s. not (group s.item == number)) slots before mid
-    → ((q : List ℕ) → row_of now q ≡ cond ((group s.item == number) && bytes_eq (key s.item) q) (left_by s.place (row_of mid q)) (row_of mid q))
-    → KeepsRows (λ s. not (group s.item == number)) slots before now
-keeps_row {T} group key number slots before mid now at s rises there is kept change =
-    let stays : Slot T → Bool = λ s. not (group s.item == number) in
-    let Goal : Bool → Type 0 = λ b. (group s.item == number) ≡ b
-    → ((q : List ℕ) → row_of now q ≡ cond (b && bytes_eq (key s.item) q) (left_by s.place (row_of mid q)) (row_of mid q)) → KeepsRows stays slots before now in
-    (elim (group s.item == number) as Goal [
-      | true ↦ λ e change. keeps_left stays slots before mid now at s (key s.item) rises there is (ap not e) kept change
-      | false ↦ λ e change k d within passes id. ap (has_place (get_or slots k d).place) (change id) ∙ kept k d within passes id
-    ]) refl change
-
-pub unused_row : (b : Bool) (key : List ℕ) (gone : ℕ) (before mid now : RowMap)
-    → ((id : List ℕ) (place : ℕ) → has_place place (row_of before id) ≡ false → has_place place (row_of mid id) ≡ false)
-    → ((q : List ℕ) → row_of now q ≡ cond (b && bytes_eq key q) (left_by gone (row_of mid q)) (row_of mid q))
-    → (id : List ℕ) (place : ℕ) → has_place place (row_of before id) ≡ false → has_place place (row_of now id) ≡ false
-unused_row b key gone before mid now kept change id place none =
-    ap (has_place place) (change id) ∙ unused_left (b && bytes_eq key id) (row_of mid id) gone place (kept id place none)

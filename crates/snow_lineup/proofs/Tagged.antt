@@ -1,17 +1,16 @@
 -- Lemmas on the index of a lineup: places and keys, and the rows in which they stand.
-use Rattle.std.proofs.Common.{◌≡◌, ℕ, ◌<◌, ◌≤◌, ◌+◌, ◌-◌, zero, suc, Bool, true, false, ◌||◌, cond, List, [], ◌∷◌, ◌++◌, map, take, drop, length, get_or, set, filter, All, refl, sym, ap, ◌∙◌, subst, arith, ⊎_elim}
+use Rattle.std.proofs.Common.{◌≡◌, ℕ, ◌<◌, ◌≤◌, ◌+◌, ◌-◌, zero, suc, Bool, true, false, ◌||◌, cond, List, [], ◌∷◌, ◌++◌, map, take, drop, length, get_or, set, All, refl, sym, ap, ◌∙◌, subst, arith, ⊎_elim}
 use Rattle.std.specs.List.{AllPairs, remove}
 use Rattle.std.specs.Str.{bytes_eq}
 use Rattle.std.proofs.lemmas.Bool.{eq-eqb, ne_eqb, cases_lt}
 use Rattle.std.proofs.Math.Seq.{take-append_seam}
 use Rattle.std.proofs.lemmas.List.{length-append, get_or_default, get_or-map, length-map, map-append, take-map, drop-map, map-set}
 use Rattle.std.proofs.lemmas.List.Edits.{length-remove, get_or-remove_below, get_or-remove_above}
-use Rattle.std.proofs.lemmas.List.Elements.{All-push, All-append, All-take, All-drop, All-filter, All-map, filter_passes}
-use Rattle.std.proofs.lemmas.List.Kept.{AllPairs-filter}
+use Rattle.std.proofs.lemmas.List.Elements.{All-push, All-append, All-take, All-drop}
 use Rattle.std.proofs.lemmas.List.Quantifiers.{all_pairs_push, all_pairs_remove}
 use Rattle.snow_lineup.specs.declared.lineup.Slot.{Slot}
 use Rattle.snow_lineup.specs.declared.marks.Mark.{Mark}
-use Rattle.snow_lineup.specs.Index.{RowMap, row_of, has_place, left_by, tag_of, seat_of, IsIndexed, KeepsRows}
+use Rattle.snow_lineup.specs.Index.{RowMap, row_of, has_place, left_by, tag_of, seat_of, IsIndexed}
 use Rattle.snow_lineup.proofs.Noted.{id_itself, id_turned, has_pushed, has_left, none_left}
 use Rattle.snow_lineup.proofs.Booleans.{or_false, or_true}
 
@@ -40,13 +39,6 @@ pub AllPairs_unmap : {X Y : Type 0} (R : Y → Y → Type 0) (f : X → Y) (xs :
 AllPairs_unmap R f xs h i j d less within =
     subst (λ a. R a (f (get_or xs j d))) (get_or-map f xs i d (f d) (omega (arith, less, within)))
     (subst (λ b. R (get_or (map f xs) i (f d)) b) (get_or-map f xs j d (f d) within) (h i j (f d) less (omega (arith, length-map xs f, within))))
-
-pub AllPairs_map : {X Y : Type 0} (R : Y → Y → Type 0) (f : X → Y) (xs : List X) → AllPairs (λ x y. R (f x) (f y)) xs → AllPairs R (map f xs)
-AllPairs_map R f [] h i j e less within = absurd (omega (arith, less, within))
-AllPairs_map R f (x ∷ xs) h i j e less within =
-    let long : j < length (x ∷ xs) = omega (arith, length-map (x ∷ xs) f, within) in
-    subst (λ a. R a (get_or (map f (x ∷ xs)) j e)) (sym (get_or-map f (x ∷ xs) i x e (omega (arith, less, long))))
-    (subst (λ b. R (f (get_or (x ∷ xs) i x)) b) (sym (get_or-map f (x ∷ xs) j x e long)) (h i j x less long))
 
 -- ---- the same items in the same places
 
@@ -155,26 +147,4 @@ indexed_remove tags at gone before now next there is_gone is change =
           ∙ other_left (bytes_eq gone.1 id) (row_of before id) gone.0 (get_or (remove tags at) k d).0 apart
           ∙ kept k d within id;
       unused = λ id place high. ap (has_place place) (change id) ∙ unused_left (bytes_eq gone.1 id) (row_of before id) gone.0 place (is.unused id place high);
-    }
-
--- ---- the items that pass
-
-pub indexed_filter : {T : Type 0} (key : T → List ℕ) (stays : Slot T → Bool) (slots : List (Slot T)) (before now : RowMap) (next : ℕ)
-    → IsIndexed (map (tag_of key) slots) before next → KeepsRows stays slots before now
-    → ((id : List ℕ) (place : ℕ) → has_place place (row_of before id) ≡ false → has_place place (row_of now id) ≡ false)
-    → IsIndexed (map (tag_of key) (filter stays slots)) now next
-indexed_filter {T} key stays slots before now next is kept unused =
-    let Found : Slot T → Type 0 = λ s. stays s ≡ true → (id : List ℕ) → has_place s.place (row_of now id) ≡ bytes_eq id (key s.item) in
-    let before_found = All_unmap (λ (t : Tag). (id : List ℕ) → has_place t.0 (row_of before id) ≡ bytes_eq id t.1) (tag_of key) slots is.found in
-    let found : All Found slots = λ k d within passes id. kept k d within passes id ∙ before_found k d within id in
-    let passed : All (λ (s : Slot T). stays s ≡ true) (filter stays slots) = filter_passes stays slots in
-    let left : All Found (filter stays slots) = All-filter stays Found slots found in
-    record {
-      rising = AllPairs_map (λ (a : Tag) (b : Tag). a.0 < b.0) (tag_of key) (filter stays slots)
-          (AllPairs-filter (λ (s : Slot T) (t : Slot T). s.place < t.place) stays slots (AllPairs_unmap (λ (a : Tag) (b : Tag). a.0 < b.0) (tag_of key) slots is.rising));
-      below = All-map (λ (t : Tag). t.0 < next) (tag_of key) (filter stays slots)
-          (All-filter stays (λ (s : Slot T). s.place < next) slots (All_unmap (λ (t : Tag). t.0 < next) (tag_of key) slots is.below));
-      found = All-map (λ (t : Tag). (id : List ℕ) → has_place t.0 (row_of now id) ≡ bytes_eq id t.1) (tag_of key) (filter stays slots)
-          (λ k d within. left k d within (passed k d within));
-      unused = λ id place high. unused id place (is.unused id place high);
     }

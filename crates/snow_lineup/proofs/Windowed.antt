@@ -1,10 +1,9 @@
 -- Lemmas on windows: where a mark may stand, after each change.
-use Rattle.std.proofs.Common.{◌≡◌, ℕ, ◌<◌, ◌≤◌, ◌+◌, ◌-◌, Bool, true, false, cond, List, [], ◌∷◌, ◌++◌, map, length, min, max, ltb, get_or, set, filter, All, refl, sym, ap, ◌∙◌, subst, arith, ⊎_elim}
+use Rattle.std.proofs.Common.{◌≡◌, ℕ, ◌<◌, ◌≤◌, ◌+◌, ◌-◌, Bool, true, false, cond, List, [], ◌∷◌, ◌++◌, map, length, min, max, ltb, get_or, set, All, refl, sym, ap, ◌∙◌, subst, arith, ⊎_elim}
 use Rattle.std.specs.List.{remove, position_or_len}
 use Rattle.std.proofs.lemmas.Bool.{cases_eq, cases_lt, lt-ltb, le-ltb, false_from_ne_true, both_ways}
 use Rattle.std.proofs.lemmas.List.{length-set, length_push, get_or-set_same, get_or-set_other, get_or_push, get_or_append_left, get_or-map, length-map}
 use Rattle.std.proofs.lemmas.List.Edits.{length-remove, get_or-remove_below, get_or-remove_above}
-use Rattle.std.proofs.lemmas.List.Elements.{All-filter}
 use Rattle.std.proofs.lemmas.List.Sums.{fails_before_first, position_or_len_is}
 use Rattle.snow_lineup.specs.declared.marks.Mark.{Mark}
 use Rattle.snow_lineup.specs.declared.marks.Mark.TheVariants.{New, Quiet, Ripe}
@@ -12,7 +11,7 @@ use Rattle.snow_lineup.specs.declared.window.Window.{Window}
 use Rattle.snow_lineup.specs.declared.window.Windows.{Windows}
 use Rattle.snow_lineup.specs.Marks.{has}
 use Rattle.snow_lineup.specs.Index.{forgotten}
-use Rattle.snow_lineup.specs.Windows.{IsWithin, AreWithin, no_windows, all_places, no_place, all_fresh, with_place, marked, moved, closed_up, all_closed_up, left_of, all_left, window_of, from_first, narrowed}
+use Rattle.snow_lineup.specs.Windows.{IsWithin, AreWithin, no_windows, no_place, all_fresh, with_place, marked, moved, closed_up, all_closed_up, window_of, from_first, narrowed}
 
 pub within_nothing : {T : Type 0} → AreWithin {T = T} [] no_windows
 within_nothing = record { fresh = λ k d h. absurd (omega (arith, h)); ripe = λ k d h. absurd (omega (arith, h)) }
@@ -137,21 +136,6 @@ within_removed seats w at there is = record {
 
 pub no_mark : {T : Type 0} (mark : Mark) (seats : List (T × Mark)) (w : Window) → IsWithin mark seats w → w.high ≤ w.low → All (λ s. has mark s ≡ false) seats
 no_mark mark seats w is none k d within = false_from_ne_true (has mark (get_or seats k d)) (λ t. let both = is k d within t in omega (arith, both, none))
-
-filter_within : {T : Type 0} (mark : Mark) (p : T × Mark → Bool) (seats : List (T × Mark)) (w : Window) → IsWithin mark seats w
-    → IsWithin mark (filter p seats) (left_of w (length (filter p seats)))
-filter_within {T} mark p seats w is =
-    let left = filter p seats in
-    let Goal : Bool → Type 0 = λ b. IsWithin mark left (cond b (all_places (length left)) no_place) in
-    ⊎_elim
-    (λ (h : w.low < w.high). subst Goal (sym (lt-ltb w.low w.high h)) (λ k d within marked. (omega arith, within)))
-    (λ (h : w.high ≤ w.low). subst Goal (sym (le-ltb w.low w.high h)) (λ k d within marked.
-    absurd (both_ways (has mark (get_or left k d)) (All-filter p (λ (s : T × Mark). has mark s ≡ false) seats (no_mark mark seats w is h) k d within) marked)))
-    (cases_lt w.low w.high)
-
-pub within_filtered : {T : Type 0} (p : T × Mark → Bool) (seats : List (T × Mark)) (w : Windows) → AreWithin seats w
-    → AreWithin (filter p seats) (all_left w (length (filter p seats)))
-within_filtered p seats w is = record { fresh = filter_within New p seats w.fresh is.fresh; ripe = filter_within Ripe p seats w.ripe is.ripe }
 
 -- ---- the first item with a mark
 

@@ -1,5 +1,5 @@
 -- The index of a lineup: at which places the items of a key stand.
-use Rattle.std.specs.Prelude.{◌≡◌, ℕ, ◌<◌, ◌≤◌, Bool, true, false, ◌==◌, List, [], ◌++◌, filter, not, All, unwrap_or, bytes_eq, if◌then◌else◌}
+use Rattle.std.specs.Prelude.{◌≡◌, ℕ, ◌<◌, ◌≤◌, Bool, false, ◌==◌, List, [], ◌++◌, filter, not, All, unwrap_or, bytes_eq, if◌then◌else◌}
 use Rattle.std.specs.List.{list_any, AllPairs}
 use Rattle.std.specs.HashMap as hash
 use Rattle.std.specs.HashMap.{HashMap}
@@ -61,8 +61,3 @@ woken key id s = (s.0, if bytes_eq id (key s.0) then New else s.1)
 -- the same in the slots, by their places
 abbrev pub woken_at : {T : Type 0} → List ℕ → Slot T → Slot T
 woken_at places s = record s { mark = if has_place s.place places then New else s.mark }
-
--- the items that pass keep their places in the rows
-abbrev pub KeepsRows : {T : Type 0} → (Slot T → Bool) → List (Slot T) → RowMap → RowMap → Type 0
-KeepsRows stays slots before now =
-    All (λ s. stays s ≡ true → (id : List ℕ) → has_place s.place (row_of now id) ≡ has_place s.place (row_of before id)) slots

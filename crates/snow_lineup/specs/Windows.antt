@@ -53,13 +53,6 @@ closed_up window at = record { low = moved at window.low; high = moved at window
 abbrev pub all_closed_up : Windows → ℕ → Windows
 all_closed_up windows at = record { fresh = closed_up windows.fresh at; ripe = closed_up windows.ripe at }
 
--- after some items went, so many being left: no place stays no place
-abbrev pub left_of : Window → ℕ → Window
-left_of window len = if nat_lt window.low window.high then all_places len else no_place
-
-abbrev pub all_left : Windows → ℕ → Windows
-all_left windows len = record { fresh = left_of windows.fresh len; ripe = left_of windows.ripe len }
-
 -- where a mark may stand among so many items
 abbrev pub window_of : Windows → Mark → ℕ → Window
 window_of windows New len = windows.fresh

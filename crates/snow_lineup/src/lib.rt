@@ -2,13 +2,11 @@
 //! remembered of it, so that what was looked at and didn't change is passed by.
 #![tactic(auto)]
 
-mod leaving;
 mod lineup;
 mod marks;
 mod rows;
 mod waking;
 mod window;
 
-pub use leaving::Grouped;
 pub use lineup::{Keyed, Lineup};
 pub use marks::Mark;

@@ -138,17 +138,6 @@ impl Rows {
         }
     }
 
-    /// A place of a key goes, if the key has it. It takes no memory where the key has one.
-    pub(crate) fn leave(&mut self, key: &Id, place: u64)
-        ensures { (q : List ℕ) → row_of self.new.rows q ≡ (if bytes_eq key.now q then left_by place (row_of self.old.rows q) else row_of self.old.rows q) }
-    {
-        if self.rows.before.is_empty() {
-            leave_last(&mut self.rows.last, key, place);
-        } else {
-            self.thin(key, place);
-        }
-    }
-
     // The same where a key has several places.
     #[inline(never)]
     fn thin(&mut self, key: &Id, place: u64)

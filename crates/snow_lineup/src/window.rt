@@ -1,5 +1,5 @@
 ghost use Rattle.std.specs.Prelude.{◌≡◌, ◌+◌, ◌<◌, ◌≤◌, ◌^◌, true, IfSome};
-ghost use Rattle.snow_lineup.specs.Windows.{no_place, all_places, with_place, closed_up, left_of, from_first, all_fresh, no_windows, marked, all_closed_up, all_left, window_of, narrowed};
+ghost use Rattle.snow_lineup.specs.Windows.{no_place, all_places, with_place, closed_up, from_first, all_fresh, no_windows, marked, all_closed_up, window_of, narrowed};
 
 use crate::marks::Mark;
 
@@ -54,16 +54,6 @@ impl Window {
             } else {
                 self.high
             },
-        }
-    }
-
-    fn left(self, len: usize) -> Window
-        ensures { result ≡ left_of self len }
-    {
-        if self.low < self.high {
-            Window::all(len)
-        } else {
-            Window::empty()
         }
     }
 
@@ -136,16 +126,6 @@ impl Windows {
         Windows {
             fresh: self.fresh.without(at),
             ripe: self.ripe.without(at),
-        }
-    }
-
-    /// After items went, so many being left.
-    pub(crate) fn left(self, len: usize) -> Windows
-        ensures { result ≡ all_left self len }
-    {
-        Windows {
-            fresh: self.fresh.left(len),
-            ripe: self.ripe.left(len),
         }
     }
 

@@ -6,8 +6,8 @@ use Rattle.snow_lineup.specs.Marks.{has}
 use Rattle.snow_issue.proofs.Looked.{IsChecking}
 use Rattle.snow_issue.proofs.looking.first_free.Given as goal
 
-abbrev pub invariant-loop-at : goal.invariant-loop-at
-invariant-loop-at l = IsChecking l.initial.replies l.replies (items_of l.waiting) l.gets
+abbrev pub invariant-loop-reply : goal.invariant-loop-reply
+invariant-loop-reply l = IsChecking l.initial.replies l.replies (items_of l.waiting) l.gets
 
-abbrev pub decreases-loop-at : goal.decreases-loop-at
-decreases-loop-at l = length l.replies - position_or_len (has New) l.replies
+abbrev pub decreases-loop-reply : goal.decreases-loop-reply
+decreases-loop-reply l = length l.replies - position_or_len (has New) l.replies

@@ -5,7 +5,7 @@ use Rattle.snow_lineup.specs.declared.marks.Mark.{Mark}
 use Rattle.snow_issue.specs.Lists.{Lists, after_forgotten}
 use Rattle.snow_issue.specs.Known.{Seen, items_of, lists_of}
 use Rattle.snow_issue.specs.Keeping.{Rests}
-use Rattle.snow_issue.proofs.Replied.{items_filtered}
+use Rattle.snow_issue.proofs.Seated.{items_filtered}
 use Rattle.snow_issue.proofs.Settled.{kept_replies}
 use Rattle.snow_issue.proofs.queue.Queue.forget.Goals as goal
 

@@ -1,25 +1,33 @@
-use Rattle.std.proofs.Common.{◌≡◌, List, false, sym, ap, ◌∙◌, subst}
+-- The new reply has the next number; after want of memory none has it.
+use Rattle.std.proofs.Common.{◌≡◌, None, false, cond, List, sym, ap, ◌∙◌, subst}
 use Rattle.snow_issue.specs.declared.work.Held.{Held}
-use Rattle.snow_lineup.specs.declared.marks.Mark.TheVariants.{New}
+use Rattle.snow_lineup.specs.declared.marks.Mark.{Mark}
 use Rattle.snow_issue.specs.Lists.{holds_in}
 use Rattle.snow_issue.specs.Known.{items_of}
-use Rattle.snow_issue.specs.Index.{HasReplies}
-use Rattle.snow_issue.proofs.Replied.{held_pushed, held_undone}
-use Rattle.snow_issue.proofs.Taken.{items_pushed}
+use Rattle.snow_issue.specs.Arrivals.{Entries, IsFiled, filed, names}
+use Rattle.snow_issue.proofs.Numbered.{is_of, no_number, filed_same, filed_names, filed_pushed, filed_undone}
 use Rattle.snow_issue.proofs.replies.Replies.push.Goals as goal
+use Rattle.snow_issue.proofs.replies.Replies.push.Goals.{After-keep}
+
+new : (c : After-keep) → filed c.self.inside.polls c.args.reply.number c.args.reply.node ≡ None
+new c =
+    let inside = c.self.inside in
+    let reply = c.args.reply in
+    no_number inside.backlog (filed inside.polls) (names inside.blocks) inside.next reply.number reply.node c.self.invariant
+    (subst (λ (l : List (Held × Mark)). holds_in (items_of l) reply.number reply.node ≡ false) (sym c.self.view_is) c.requires)
 
 pub invariant_of-self-in-Err : goal.invariant_of-self-in-Err
 invariant_of-self-in-Err c =
     let inside = c.self.inside in
     let reply = c.args.reply in
-    let new = subst (λ l. holds_in (items_of l) reply.number reply.node ≡ false) (sym c.self.view_is) c.requires in
-    subst (λ (l : List Held). HasReplies c.leave.new.polls l) (sym (ap items_of c.in-Err.ensures.err))
-    (held_undone inside.polls c.enter.new.polls c.leave.new.polls (items_of inside.lineup) reply c.self.invariant new c.in_ok-enter.ensures.ok c.leave.ensures)
+    subst (λ (es : Entries). IsFiled es (filed c.unfile.new.polls) (names c.keep.new.blocks) inside.next) (sym c.in-Err.ensures.err)
+    (filed_same inside.backlog (filed inside.polls) (filed c.unfile.new.polls) (names c.keep.new.blocks) inside.next
+    (filed_names inside.backlog (filed inside.polls) (names inside.blocks) (names c.keep.new.blocks) inside.next c.self.invariant c.in-Err.ensures.others)
+    (λ n node. c.unfile.ensures n node ∙ ap (cond (is_of reply n node) None) (c.in_ok-file.ensures.ok n node)
+    ∙ filed_undone (filed inside.polls) reply inside.next n node (new (goal.at.invariant_of-self-in-Err c).After-keep)))
 
-pub invariant_of-self-in_default : goal.invariant_of-self-in_default
-invariant_of-self-in_default c =
+pub invariant_of-self-2 : goal.invariant_of-self-2
+invariant_of-self-2 c =
     let inside = c.self.inside in
-    let reply = c.args.reply in
-    let new = subst (λ l. holds_in (items_of l) reply.number reply.node ≡ false) (sym c.self.view_is) c.requires in
-    subst (λ (l : List Held). HasReplies c.enter.new.polls l) (sym (ap items_of c.in_default.ensures.ok ∙ items_pushed inside.lineup reply New))
-    (held_pushed inside.polls c.enter.new.polls (items_of inside.lineup) reply c.self.invariant new c.in_ok-enter.ensures.ok)
+    filed_pushed inside.backlog c.keep.new.backlog (filed inside.polls) (filed c.file.new.polls) (names inside.blocks) (names c.keep.new.blocks) inside.next c.args.reply
+    c.self.invariant (new (goal.at.invariant_of-self-2 c).After-keep) c.in_default.ensures.sorted c.in_default.ensures.there c.in_ok-file.ensures.ok c.in_default.ensures.named c.in_default.ensures.others

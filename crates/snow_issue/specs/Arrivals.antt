@@ -1,0 +1,123 @@
+-- Held replies by their numbers of arrival, and the indexes of these numbers: by block, and by poll and node.
+use Rattle.std.specs.Prelude.{◌≡◌, ℕ, ◌+◌, ◌<◌, ◌≤◌, Bool, true, false, ◌==◌, ◌&&◌, List, ◌∷◌, not, filter, Option, Some, None, bytes_eq, if◌then◌else◌}
+use Rattle.std.specs.BinaryHeap.{IsHeap}
+use Rattle.std.specs.BTreeMap.{BTreeMap, get, is_at}
+use Rattle.std.specs.BTreeSet.{BTreeSet, contains}
+use Rattle.std.specs.Cmp.Lexicographic.{slice_cmp}
+use Rattle.std.specs.List.{list_any, sum_by}
+use Rattle.std.specs.List.Sorted.{IsStrictlySortedBy}
+use Rattle.std.specs.Map.{lookup, keys_of, values_of}
+use Rattle.std.specs.Option.{option_map, option_map_or, option_and_then}
+use Rattle.std.specs.Ordering.{nat_cmp}
+use Rattle.snow_issue.specs.declared.backlog.Kept.{Kept}
+use Rattle.snow_issue.specs.declared.work.Held.{Held}
+use Rattle.snow_lineup.specs.declared.marks.Mark.{Mark}
+use Rattle.snow_lineup.specs.declared.marks.Mark.TheVariants.{New, Quiet}
+
+-- the replies with their numbers, in order of arrival
+abbrev pub Entries : Type 0
+Entries = List (ℕ × Kept)
+
+-- the reply of a number
+abbrev pub at_arrival : Entries → ℕ → Option Kept
+at_arrival es a = lookup (is_at (nat_cmp a)) es
+
+-- what is remembered of a reply
+abbrev pub mark_of : Kept → Mark
+mark_of k = if k.quiet then Quiet else New
+
+-- a reply, and what is remembered of it
+abbrev pub seat_of : ℕ × Kept → Held × Mark
+seat_of e = (e.1.reply, mark_of e.1)
+
+-- nothing is remembered of a reply
+abbrev pub loud : Kept → Kept
+loud k = record k { quiet = false }
+
+-- the same, where it has one of these numbers and names a block
+abbrev pub woken_among : List ℕ → List ℕ → ℕ × Kept → ℕ × Kept
+woken_among numbers id e = (e.0, if list_any (is_at (nat_cmp e.0)) numbers && bytes_eq id e.1.reply.id then loud e.1 else e.1)
+
+-- a number in the heap: so far is it below the greatest one
+abbrev pub stands_for : ℕ → ℕ → Bool
+stands_for a x = (x + a) == 18446744073709551615
+
+abbrev pub is_noted : List ℕ → ℕ → Bool
+is_noted heap a = list_any (stands_for a) heap
+
+-- how much room a reply takes up in the heap when it is woken
+abbrev pub weight : Kept → ℕ
+weight k = if k.quiet then 1 else 0
+
+-- the numbers of the replies of which nothing is remembered are in the heap, and there is room in it for the others
+pub record IsBacklog (es : Entries) (heap : List ℕ) (len room : ℕ) : Type 0 where
+  pub sorted : IsStrictlySortedBy nat_cmp (keys_of es)
+  pub order : IsHeap nat_cmp heap
+  pub noted : (a : ℕ) (k : Kept) → at_arrival es a ≡ Some k → k.quiet ≡ false → is_noted heap a ≡ true
+  pub enough : len + sum_by weight (values_of es) ≤ room
+
+-- the earliest reply of which nothing is remembered
+pub record IsFirst (es : Entries) (a : ℕ) (reply : Held) : Type 0 where
+  pub there : at_arrival es a ≡ Some (record { reply = reply; quiet = false })
+  pub least : (b : ℕ) (k : Kept) → at_arrival es b ≡ Some k → k.quiet ≡ false → a ≤ b
+
+-- something is remembered of each
+abbrev pub AreQuiet : Entries → Type 0
+AreQuiet es = (a : ℕ) (k : Kept) → at_arrival es a ≡ Some k → k.quiet ≡ true
+
+-- the numbers of the replies that name a block
+abbrev pub BlockMap : Type 0
+BlockMap = BTreeMap (List ℕ) (BTreeSet ℕ)
+
+-- the numbers of the replies to a poll, by node
+abbrev pub PollMap : Type 0
+PollMap = BTreeMap ℕ (BTreeMap (List ℕ) ℕ)
+
+abbrev pub has_number_in : Option (BTreeSet ℕ) → ℕ → Bool
+has_number_in numbers a = option_map_or (λ s. contains nat_cmp s a) numbers false
+
+-- whether a number is kept under a block
+abbrev pub names : BlockMap → List ℕ → ℕ → Bool
+names blocks id a = has_number_in (get (slice_cmp nat_cmp) blocks id) a
+
+abbrev pub number_of_node : Option (BTreeMap (List ℕ) ℕ) → List ℕ → Option ℕ
+number_of_node nodes node = option_and_then (λ m. get (slice_cmp nat_cmp) m node) nodes
+
+-- the number of a node's reply to a poll
+abbrev pub filed : PollMap → ℕ → List ℕ → Option ℕ
+filed polls n node = number_of_node (get nat_cmp polls n) node
+
+-- the same where the nodes of one poll stand apart
+abbrev pub filed_apart : ℕ → BTreeMap (List ℕ) ℕ → (ℕ → List ℕ → Option ℕ) → ℕ → List ℕ → Option ℕ
+filed_apart number nodes others n node = if is_at (nat_cmp number) n then get (slice_cmp nat_cmp) nodes node else others n node
+
+-- the number of a reply's poll, and its node, in one list
+abbrev pub reply_key : Held → List ℕ
+reply_key h = h.number ∷ h.node
+
+-- each number is below the next one, the numbers by poll and node are those of the replies, and each is kept under its block
+pub record IsFiled (es : Entries) (number_at : ℕ → List ℕ → Option ℕ) (named : List ℕ → ℕ → Bool) (next : ℕ) : Type 0 where
+  pub sorted : IsStrictlySortedBy nat_cmp (keys_of es)
+  pub below : (a : ℕ) (k : Kept) → at_arrival es a ≡ Some k → a < next
+  pub found : (a : ℕ) (k : Kept) → at_arrival es a ≡ Some k → number_at k.reply.number k.reply.node ≡ Some a
+  pub real : (n : ℕ) (node : List ℕ) (a : ℕ) → number_at n node ≡ Some a → option_map (λ k. reply_key k.reply) (at_arrival es a) ≡ Some (n ∷ node)
+  pub named_so : (a : ℕ) (k : Kept) → at_arrival es a ≡ Some k → named k.reply.id a ≡ true
+
+-- whether a reply isn't of a poll
+abbrev pub stays : ℕ → ℕ × Kept → Bool
+stays number e = not (e.1.reply.number == number)
+
+-- replies of a poll go one by one: those of other polls stay, and nodes has the numbers of those that are left
+pub record IsLeaving (number : ℕ) (before now : Entries) (nodes : BTreeMap (List ℕ) ℕ) (others : ℕ → List ℕ → Option ℕ) (named : List ℕ → ℕ → Bool) (next : ℕ) : Type 0 where
+  pub filed : IsFiled now (filed_apart number nodes others) named next
+  pub same : filter (stays number) now ≡ filter (stays number) before
+
+-- the replies of a poll went
+pub record AreGone (number : ℕ) (before now : Entries) (others : ℕ → List ℕ → Option ℕ) (named : List ℕ → ℕ → Bool) (next : ℕ) : Type 0 where
+  pub filed : IsFiled now (λ n node. if is_at (nat_cmp number) n then None else others n node) named next
+  pub same : filter (stays number) now ≡ filter (stays number) before
+
+-- whichever poll it is whose nodes have these numbers, its replies went
+abbrev pub LeavesEach : Entries → (List ℕ → ℕ → Bool) → BTreeMap (List ℕ) ℕ → Entries → (List ℕ → ℕ → Bool) → Type 0
+LeavesEach before named nodes now names =
+    (number : ℕ) (others : ℕ → List ℕ → Option ℕ) (next : ℕ) → IsFiled before (filed_apart number nodes others) named next → AreGone number before now others names next

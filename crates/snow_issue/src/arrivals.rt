@@ -1,0 +1,160 @@
+ghost use Rattle.std.specs.Prelude.{◌≡◌, ℕ, ◌<◌, ◌&&◌, ◌∷◌, ◌++◌, [], List, map, true, false, Some, None, OnOk, OnErr, if◌then◌else◌};
+ghost use Rattle.std.specs.BTreeMap.{is_at};
+ghost use Rattle.std.specs.Bool.{OnTrue};
+ghost use Rattle.std.specs.Cmp.Lexicographic.{slice_cmp};
+ghost use Rattle.std.specs.Ordering.{nat_cmp};
+ghost use Rattle.std.specs.List.Sorted.{IsStrictlySortedBy};
+ghost use Rattle.std.specs.Map.{keys_of, remove_entry};
+ghost use Rattle.snow_issue.specs.declared.backlog.Kept.{Kept};
+ghost use Rattle.snow_issue.specs.Arrivals.{at_arrival, woken_among, filed, names, LeavesEach};
+
+use crate::backlog::Backlog;
+use crate::work::Held;
+use snow_base::{Id, NodeId};
+use std::alloc::{AllocError, Global};
+use std::collections::{BTreeMap, BTreeSet};
+
+/// Notes the number of a reply by its poll and node. On want of memory all stays as it was.
+pub(crate) fn file(
+    polls: &mut BTreeMap<u32, BTreeMap<NodeId, u64>>,
+    alloc: Global,
+    reply: &Held,
+    arrival: u64,
+) -> Result<(), AllocError>
+    ensures ok { OnOk result ((n : ℕ) (other : List ℕ) → filed polls.new n other ≡ (if is_at (nat_cmp reply.now.number) n && is_at (slice_cmp nat_cmp reply.now.node) other then Some arrival else filed polls.old n other)) }
+    ensures err { OnErr result ((n : ℕ) (other : List ℕ) → filed polls.new n other ≡ filed polls.old n other) }
+{
+    if let Some(nodes) = polls.get_mut(&reply.number) {
+        nodes.insert(reply.node, arrival)?;
+        return Ok(());
+    }
+    let mut nodes = BTreeMap::new(alloc);
+    nodes.insert(reply.node, arrival)?;
+    polls.insert(reply.number, nodes)?;
+    Ok(())
+}
+
+/// The number of a node's reply to a poll goes.
+pub(crate) fn unfile(polls: &mut BTreeMap<u32, BTreeMap<NodeId, u64>>, number: u32, node: &NodeId)
+    ensures { (n : ℕ) (other : List ℕ) → filed polls.new n other ≡ (if is_at (nat_cmp number) n && is_at (slice_cmp nat_cmp node.now) other then None else filed polls.old n other) }
+{
+    if unfile_node(polls, number, node) {
+        let _ = polls.remove(&number);
+    }
+}
+
+// The same, but that a poll stays where it has no node any more. Whether it is so.
+fn unfile_node(polls: &mut BTreeMap<u32, BTreeMap<NodeId, u64>>, number: u32, node: &NodeId) -> bool
+    ensures left { (n : ℕ) (other : List ℕ) → filed polls.new n other ≡ (if is_at (nat_cmp number) n && is_at (slice_cmp nat_cmp node.now) other then None else filed polls.old n other) }
+    ensures none { OnTrue result ((other : List ℕ) → filed polls.new number other ≡ None) }
+{
+    let Some(nodes) = polls.get_mut(&number) else {
+        return false;
+    };
+    let _ = nodes.remove(node);
+    nodes.is_empty()
+}
+
+/// Appends a reply to the others, and keeps its number under its block. On want of memory all
+/// stays as it was.
+pub(crate) fn keep(
+    backlog: &mut Backlog,
+    blocks: &mut BTreeMap<Id, BTreeSet<u64>>,
+    alloc: Global,
+    reply: &Held,
+    arrival: u64,
+) -> Result<(), AllocError>
+    requires { (a : ℕ) (k : Kept) → at_arrival backlog.old a ≡ Some k → a < arrival }
+    ensures ok { let kept : Kept = record { reply = reply.now; quiet = false } in OnOk result (backlog.new ≡ backlog.old ++ (arrival, kept) ∷ []) }
+    ensures err { OnErr result (backlog.new ≡ backlog.old) }
+    ensures there { let kept : Kept = record { reply = reply.now; quiet = false } in OnOk result ((a : ℕ) → at_arrival backlog.new a ≡ (if is_at (nat_cmp arrival) a then Some kept else at_arrival backlog.old a)) }
+    ensures sorted { OnOk result (IsStrictlySortedBy nat_cmp (keys_of backlog.new)) }
+    ensures named { OnOk result (names blocks.new reply.now.id arrival ≡ true) }
+    ensures others { (q : List ℕ) (a : ℕ) → is_at (nat_cmp arrival) a ≡ false → names blocks.new q a ≡ names blocks.old q a }
+{
+    name(blocks, alloc, reply.id, arrival)?;
+    if let Err(error) = backlog.push(arrival, *reply) {
+        unname(blocks, &reply.id, arrival);
+        return Err(error);
+    }
+    Ok(())
+}
+
+// Keeps a number under a block. On want of memory all stays as it was.
+fn name(
+    blocks: &mut BTreeMap<Id, BTreeSet<u64>>,
+    alloc: Global,
+    id: Id,
+    arrival: u64,
+) -> Result<(), AllocError>
+    ensures ok { OnOk result ((q : List ℕ) (a : ℕ) → names blocks.new q a ≡ (if is_at (slice_cmp nat_cmp id) q && is_at (nat_cmp arrival) a then true else names blocks.old q a)) }
+    ensures err { OnErr result ((q : List ℕ) (a : ℕ) → names blocks.new q a ≡ names blocks.old q a) }
+{
+    if let Some(numbers) = blocks.get_mut(&id) {
+        numbers.insert(arrival)?;
+        return Ok(());
+    }
+    let mut numbers = BTreeSet::new(alloc);
+    numbers.insert(arrival)?;
+    blocks.insert(id, numbers)?;
+    Ok(())
+}
+
+// A number goes from under a block.
+fn unname(blocks: &mut BTreeMap<Id, BTreeSet<u64>>, id: &Id, arrival: u64)
+    ensures { (q : List ℕ) (a : ℕ) → names blocks.new q a ≡ (if is_at (slice_cmp nat_cmp id.now) q && is_at (nat_cmp arrival) a then false else names blocks.old q a) }
+{
+    if unname_number(blocks, id, arrival) {
+        let _ = blocks.remove(id);
+    }
+}
+
+// The same, but that a block stays where it has no number any more. Whether it is so.
+fn unname_number(blocks: &mut BTreeMap<Id, BTreeSet<u64>>, id: &Id, arrival: u64) -> bool
+    ensures left { (q : List ℕ) (a : ℕ) → names blocks.new q a ≡ (if is_at (slice_cmp nat_cmp id.now) q && is_at (nat_cmp arrival) a then false else names blocks.old q a) }
+    ensures none { OnTrue result ((a : ℕ) → names blocks.new id.now a ≡ false) }
+{
+    let Some(numbers) = blocks.get_mut(id) else {
+        return false;
+    };
+    let _ = numbers.remove(&arrival);
+    numbers.is_empty()
+}
+
+/// The reply with a number goes, if there is one.
+pub(crate) fn drop_one(
+    backlog: &mut Backlog,
+    blocks: &mut BTreeMap<Id, BTreeSet<u64>>,
+    arrival: u64,
+)
+    ensures rest { backlog.new ≡ remove_entry (is_at (nat_cmp arrival)) backlog.old }
+    ensures sorted { IsStrictlySortedBy nat_cmp (keys_of backlog.new) }
+    ensures left { (a : ℕ) → at_arrival backlog.new a ≡ (if is_at (nat_cmp arrival) a then None else at_arrival backlog.old a) }
+    ensures others { (q : List ℕ) (a : ℕ) → is_at (nat_cmp arrival) a ≡ false → names blocks.new q a ≡ names blocks.old q a }
+{
+    if let Some(reply) = backlog.take(arrival) {
+        unname(blocks, &reply.id, arrival);
+    }
+}
+
+/// The replies of a poll go, whose numbers are given by node.
+pub(crate) fn drop_each(
+    backlog: &mut Backlog,
+    blocks: &mut BTreeMap<Id, BTreeSet<u64>>,
+    mut nodes: BTreeMap<NodeId, u64>,
+)
+    ensures { LeavesEach backlog.old (names blocks.old) nodes backlog.new (names blocks.new) }
+{
+    while let Some((_, arrival)) = nodes.pop_first() {
+        drop_one(backlog, blocks, arrival);
+    }
+}
+
+/// The replies with these numbers that name this block aren't quiet any more.
+pub(crate) fn wake_each(backlog: &mut Backlog, numbers: &BTreeSet<u64>, id: &Id)
+    ensures { backlog.new ≡ map (woken_among numbers.now.keys id.now) backlog.old }
+{
+    for arrival in numbers {
+        backlog.wake(*arrival, id);
+    }
+}
