@@ -236,6 +236,12 @@ abbrev pub ReadFor : {S : Type 0} → (S → Option (List ℕ)) → Option Comma
 ReadFor left (Some (command.Drill r seed blocks)) before after = after ≡ before
 ReadFor left other before after = IsAtEnd (left after)
 
+-- a drill, whatever the source tells: nothing is read, the status is `Done` and its lines are written, unless a sink fault or want of memory ended it
+abbrev pub DrilledFor : {S : Type 0} → Option Command → Status → S → S → Option (List ℕ) → Option (List ℕ) → Type 0
+DrilledFor (Some (command.Drill r seed blocks)) given source_before source_after before after =
+    IsAnswer given (Some (finish.Ended end.Done)) × Wrote given before after (drill_text r seed blocks) × (source_after ≡ source_before)
+DrilledFor other given source_before source_after before after = ⊤
+
 -- words that ask for nothing are answered before anything is read or written
 abbrev pub IsUsage : {S O : Type 0} → Status → S → S → O → O → Type 0
 IsUsage given source_before source_after out_before out_after =

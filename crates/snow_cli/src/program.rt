@@ -61,6 +61,8 @@ pub fn top<S: Source, O: Sink, E: Sink>(
         (S.left source.old) (S.left source.new) (O.written out.old) (O.written out.new) }
     // At `Done` a stream was read to its end, and a drill has read nothing.
     ensures read { result ≡ Status.Done → model.ReadFor S.left (command_of (map string_bytes words.now.items)) source.old source.new }
+    // A drill reads nothing, and its answer holds for every source, also one that tells nothing.
+    ensures drill { model.DrilledFor (command_of (map string_bytes words.now.items)) result source.old source.new (O.written out.old) (O.written out.new) }
     ensures fault { model.HasFault result (S.faults source.old) (S.faults source.new) (O.faults out.old) (O.faults out.new) }
     // The line on standard error is the model's, or that of the exception.
     ensures error_line { IfSome (S.left source.old) (λ bytes. model.TookLine (E.written err.old) (E.written err.new) (E.faults err.old) (E.faults err.new)
@@ -92,6 +94,7 @@ fn perform<S: Source, O: Sink>(
     ensures broken { model.status_of (Some result) ≡ Status.SourceFault
         → model.BrokeFor (Some command) (S.left source.old) (S.left source.new) (O.written out.old) (O.written out.new) }
     ensures read { model.status_of (Some result) ≡ Status.Done → model.ReadFor S.left (Some command) source.old source.new }
+    ensures drill { model.DrilledFor (Some command) (model.status_of (Some result)) source.old source.new (O.written out.old) (O.written out.new) }
     ensures fault { model.HasFault (model.status_of (Some result)) (S.faults source.old) (S.faults source.new) (O.faults out.old) (O.faults out.new) }
 {
     match command {

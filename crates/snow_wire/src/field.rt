@@ -4,6 +4,7 @@ ghost use Rattle.snow_wire.specs.Reading.{Fault, Reads, bytes_at, number_at, siz
 
 use crate::reader::Reader;
 use crate::skip::Skip;
+use byteorder::{BigEndian, ByteOrder};
 use snow_base::{Bytes, Id, Ids, Items, NodeId, Nums};
 use std::alloc::{AllocError, Global};
 
@@ -146,21 +147,27 @@ fn read_items<T: Field>(alloc: Global, reader: &mut Reader, count: u16) -> Resul
 fn write_u16(out: &mut Bytes, n: u16) -> Result<(), AllocError>
     ensures { OnOk result (out.new ≡ out.old ++ number 2 n) }
 {
-    out.append(&n.to_be_bytes())
+    let mut bytes = [0; 2];
+    BigEndian::write_u16(&mut bytes, n);
+    out.append(&bytes)
 }
 
 #[tactic(auto, unfolding(crate::specs::Spelling::number))]
 pub(crate) fn write_u32(out: &mut Bytes, n: u32) -> Result<(), AllocError>
     ensures { OnOk result (out.new ≡ out.old ++ number 4 n) }
 {
-    out.append(&n.to_be_bytes())
+    let mut bytes = [0; 4];
+    BigEndian::write_u32(&mut bytes, n);
+    out.append(&bytes)
 }
 
 #[tactic(auto, unfolding(crate::specs::Spelling::number))]
 pub(crate) fn write_u64(out: &mut Bytes, n: u64) -> Result<(), AllocError>
     ensures { OnOk result (out.new ≡ out.old ++ number 8 n) }
 {
-    out.append(&n.to_be_bytes())
+    let mut bytes = [0; 8];
+    BigEndian::write_u64(&mut bytes, n);
+    out.append(&bytes)
 }
 
 /// Appends four bytes of length, and so many bytes.
