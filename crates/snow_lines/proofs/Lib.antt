@@ -5,8 +5,10 @@ pub mod Fielded
 pub mod Figures
 pub mod Joined
 pub mod Named
+pub mod Placed
 pub mod Printed
 pub mod Shown
+pub mod Sixteen
 pub mod Spelled
 pub mod Values
 pub mod Waiting

@@ -5,12 +5,14 @@ mod digits;
 mod field;
 mod gathering;
 mod kind;
+mod lanes;
 mod line;
 mod page;
 mod part;
 mod printing;
 mod reading;
 mod text;
+mod whole;
 mod why;
 mod words;
 

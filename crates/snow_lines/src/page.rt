@@ -118,6 +118,27 @@ impl Page {
         self.bytes[self.len..end].copy_from_slice(piece);
         self.len = end;
     }
+
+    /// Takes so many bytes off the end.
+    #[inline(always)]
+    fn shorten(&mut self, n: usize)
+        requires { n ≤ length self.old }
+        ensures { self.new ≡ take (length self.old - n) self.old }
+    {
+        self.len -= n;
+    }
+
+    /// Appends the first bytes of a piece, for all of which there is room.
+    #[tactic(auto, using(crate::proofs::Placed::shortened))]
+    #[inline(always)]
+    fn append_front(&mut self, piece: &[u8], len: usize)
+        requires room { length self.old + length piece.now ≤ 65536 }
+        requires len { len ≤ length piece.now }
+        ensures { self.new ≡ self.old ++ take len piece.now }
+    {
+        self.append(piece);
+        self.shorten(piece.len() - len);
+    }
 }
 
 /// Returns so many bytes, all zero.
@@ -132,13 +153,18 @@ fn filled(alloc: Global, len: usize) -> Result<Vec<u8>, AllocError>
 impl Gather for Page {
     ghost waiting = { λ page. page };
 
-    #[tactic(auto, using(crate::proofs::Waiting::gathers_waiting, crate::proofs::Waiting::gathers_written, snow_base::proofs::Known::front_of_more))]
     #[inline(always)]
     fn put<K: Sink>(&mut self, piece: &[u8], sink: &mut K) -> Result<(), Failed> {
+        self.put_front(piece, piece.len(), sink)
+    }
+
+    #[tactic(auto, using(crate::proofs::Waiting::gathers_waiting, crate::proofs::Waiting::gathers_written, snow_base::proofs::Known::front_of_more))]
+    #[inline(always)]
+    fn put_front<K: Sink>(&mut self, piece: &[u8], len: usize, sink: &mut K) -> Result<(), Failed> {
         if piece.len() > ROOM - self.len {
             self.flush(sink)?;
         }
-        self.append(piece);
+        self.append_front(piece, len);
         Ok(())
     }
 }
