@@ -13,7 +13,7 @@ use snow_chain::Chain;
 use snow_engine::{End, Runner, Task};
 use snow_lines::{Line, SkipKind};
 use snow_plain::Board;
-use snow_wire::line_in;
+use snow_wire::View;
 use std::alloc::Global;
 
 /// The run as the model makes it from the frames that came, with the lines of its last event, and
@@ -72,9 +72,9 @@ impl<C: Chain, B: Board> Follower<C, B> {
         if self.is_fresh() {
             return self.take_first(frame, payload);
         }
-        match line_in(payload) {
-            Some(text) => self.take_line(text),
-            None => self.take_event(frame, payload),
+        match View::read(payload) {
+            Ok(View::Line(text)) => self.take_line(text),
+            _ => self.take_event(frame, payload),
         }
     }
 
