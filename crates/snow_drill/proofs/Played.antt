@@ -1,12 +1,10 @@
 -- A player goes where the drill goes.
-use Rattle.std.proofs.Common.{◌≡◌, ℕ, ◌+◌, List, [], ◌∷◌, ◌++◌, Result, Ok, Err, Some, inl, inr, sym, ap, ◌∙◌, subst, fold}
+use Rattle.std.proofs.Common.{◌≡◌, ℕ, ◌+◌, List, [], ◌∷◌, ◌++◌, Result, Ok, Err, Some, sym, ap, ◌∙◌, subst, fold}
 use Rattle.std.specs.Prelude.{IfOk}
-use Rattle.std.proofs.lemmas.List.Sums.{fold-append}
 use Rattle.std.proofs.lemmas.Result.{IfOk-weaker}
 use Rattle.sha2.specs.Sha256.{sha256}
 use Rattle.snow_base.specs.declared.header.Header.{Header}
 use Rattle.snow_lines.specs.declared.line.Line.{Line}
-use Rattle.snow_lines.specs.declared.line.Line.TheVariants as line
 use Rattle.snow_lines.specs.Text.{texts}
 use Rattle.snow_wire.specs.declared.event.Event.{Event}
 use Rattle.snow_wire.specs.declared.event.Event.TheVariants as event
@@ -19,22 +17,16 @@ use Rattle.snow_drill.specs.Made.{height_in, chosen_by, voted_by, bytes_of, head
 use Rattle.snow_drill.specs.First.{node}
 use Rattle.snow_drill.specs.Drill.{Step, Drill, comes, with_event, timed_out, with_timeouts, with_words, with_vote, with_votes, with_answer, with_bytes, with_child, with_block, played, opened}
 use Rattle.snow_drill.specs.Summary.{summary_of, drilled}
-use Rattle.snow_drill.specs.Following.{Takes, IsLeftOf, Digests, Plays, Opens, Follows}
+use Rattle.snow_drill.specs.Following.{Takes, Digests, Plays, Opens, Follows}
 
 module _ {N : Type 0} (step : Step N) where
-  -- a query asks for no block
-  timed_out_left : (before after : List Line) (d : Drill N) → IsLeftOf before after → fold (timed_out step) d after ≡ fold (timed_out step) d before
-  timed_out_left before after d (inl same) = ap (fold (timed_out step) d) (sym same)
-  timed_out_left before after d (inr lacks) =
-      sym (ap (fold (timed_out step) d) lacks.whole ∙ fold-append (timed_out step) d after (line.Query lacks.number lacks.id lacks.draws ∷ []))
-
   -- an event and its Timeouts
   pub follows_made : (p mid after : Player N) (e : Event) (log : List Line) → Follows p mid (λ d. with_event step d e)
-      → ((d : Drill N) → Plays p d → IsLeftOf (comes step d e).0 log)
+      → ((d : Drill N) → Plays p d → log ≡ (comes step d e).0)
       → Follows mid after (λ d. fold (timed_out step) d log) → Follows p after (λ d. with_timeouts step d e)
   unfolding with_timeouts
   follows_made p mid after e log first logs later d h =
-      subst (λ (d : Drill N). Plays after d) (timed_out_left (comes step d e).0 log (with_event step d e) (logs d h)) (later (with_event step d e) (first d h))
+      subst (λ (lines : List Line). Plays after (fold (timed_out step) (with_event step d e) lines)) (logs d h) (later (with_event step d e) (first d h))
 
   -- values were taken of the generator
   turned : (p : Player N) (g x : ℕ) (d : Drill N) → g ≡ x → Plays p d → Plays (record p { generator = g }) (record d { x = x })

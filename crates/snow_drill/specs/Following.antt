@@ -1,12 +1,10 @@
 -- What the code of a drill keeps, beside the drill of the definitions.
-use Rattle.std.specs.Prelude.{◌≡◌, ◌⊎◌, ℕ, List, [], ◌∷◌, ◌++◌, Option, Some, None, Ok, Err, ⊤}
+use Rattle.std.specs.Prelude.{◌≡◌, ℕ, List, ◌∷◌, ◌++◌, Option, Some, None, Ok, Err, ⊤}
 use Rattle.std.specs.Io.KnownBytes.{Appends}
 use Rattle.sha2.specs.declared.Sha256.{Sha256}
 use Rattle.sha2.specs.Hashers.{Holds256}
 use Rattle.snow_base.specs.Outside.{AppendsFront, Rose}
-use Rattle.snow_sample.specs.declared.draws.Draw.{Draw}
 use Rattle.snow_lines.specs.declared.line.Line.{Line}
-use Rattle.snow_lines.specs.declared.line.Line.TheVariants as line
 use Rattle.snow_lines.specs.Text.{texts}
 use Rattle.snow_engine.specs.declared.end.End.{End}
 use Rattle.snow_engine.specs.declared.end.End.TheVariants as end
@@ -21,17 +19,6 @@ use Rattle.snow_drill.specs.Drill.{Drill, opened}
 abbrev pub Takes : Option Asked → Told → Told → Type 0
 Takes None before after = (before.asked ≡ []) × (after ≡ before)
 Takes (Some query) before after = (later : List Asked) × (before.asked ≡ query ∷ later) × (after ≡ answering before later)
-
--- the query that stood last among these lines is gone
-pub record LacksQuery (before after : List Line) : Type 0 where
-  pub number : ℕ
-  pub id : List ℕ
-  pub draws : List Draw
-  pub whole : before ≡ after ++ line.Query number id draws ∷ []
-
--- these lines are left, of which a query that stood last may be gone
-abbrev pub IsLeftOf : List Line → List Line → Type 0
-IsLeftOf before after = (before ≡ after) ⊎ LacksQuery before after
 
 -- this text was digested, but for its end, which waits
 pub record DigestsBut (hasher : Sha256) (waiting text : List ℕ) : Type 0 where

@@ -2,16 +2,14 @@ ghost use Rattle.std.specs.Prelude.{◌≡◌, ℕ, [], ◌++◌, List, fold, On
 ghost use Rattle.sha2.specs.Hashers.{Holds256};
 ghost use Rattle.snow_lines.specs.Text.{texts};
 ghost use Rattle.snow_lines.specs.declared.line.Line as told;
-ghost use Rattle.snow_lines.specs.declared.line.Line.TheVariants as kind;
 ghost use Rattle.snow_drill.specs.Told.{untold, noted};
-ghost use Rattle.snow_drill.specs.Following.{Digests, DigestsBut, IsLeftOf};
+ghost use Rattle.snow_drill.specs.Following.{Digests, DigestsBut};
 
 use crate::scratch::Scratch;
 use crate::tally::Tally;
 use sha2::{Digest, Sha256};
 use snow_base::Bytes;
-use snow_lines::{Line, Lines, print_all};
-use snow_sample::Draws;
+use snow_lines::{Line, print_all};
 use std::alloc::{AllocError, Global};
 
 /// So many bytes of text are digested at once.
@@ -45,31 +43,14 @@ impl Account {
         }
     }
 
-    /// Counts and digests the lines of a log, which were written. It takes a query that stands last
-    /// out of the log. Most events bring no lines, so what they cost stands apart. On want of
-    /// memory it returns `AllocError`.
+    /// Counts and digests lines that were written. On want of memory it returns `AllocError`.
     /// Rule: this project's own.
-    #[inline(always)]
-    pub fn keep(&mut self, log: &mut Lines) -> Result<(), AllocError>
-        ensures told { OnOk result (self.new.tally ≡ fold noted self.old.tally log.old) }
-        ensures digest { OnOk result ((past : List told.Line) → Digests self.old past → Digests self.new (past ++ log.old)) }
-        ensures left { OnOk result (IsLeftOf log.old log.new) }
+    pub fn keep(&mut self, lines: &[Line]) -> Result<(), AllocError>
+        ensures told { OnOk result (self.new.tally ≡ fold noted self.old.tally lines.now) }
+        ensures digest { OnOk result ((past : List told.Line) → Digests self.old past → Digests self.new (past ++ lines.now)) }
     {
-        if log.list().is_empty() {
-            return Ok(());
-        }
-        self.keep_all(log)
-    }
-
-    // Keeps each line of a log.
-    #[inline(never)]
-    fn keep_all(&mut self, log: &mut Lines) -> Result<(), AllocError>
-        ensures told { OnOk result (self.new.tally ≡ fold noted self.old.tally log.old) }
-        ensures digest { OnOk result ((past : List told.Line) → Digests self.old past → Digests self.new (past ++ log.old)) }
-        ensures left { OnOk result (IsLeftOf log.old log.new) }
-    {
-        digest(&mut self.hasher, &mut self.scratch, log.list())?;
-        note_all(&mut self.tally, log)
+        digest(&mut self.hasher, &mut self.scratch, lines)?;
+        note_each(&mut self.tally, lines)
     }
 
     /// Digests what waits, as no more lines come. The tally stays.
@@ -79,52 +60,6 @@ impl Account {
         ensures digest { (lines : List told.Line) → Digests self.old lines → Holds256 self.new.hasher (texts lines) }
     {
         take_in(&mut self.hasher, &mut self.scratch);
-    }
-}
-
-// Notes the lines of a log, one after another. A query that stands last is taken out, so that its draws
-// needn't be copied.
-fn note_all(tally: &mut Tally, log: &mut Lines) -> Result<(), AllocError>
-    ensures told { OnOk result (tally.new ≡ fold noted tally.old log.old) }
-    ensures left { OnOk result (IsLeftOf log.old log.new) }
-{
-    match log.list().last() {
-        Some(Line::Query { .. }) => note_last(tally, log),
-        _ => note_each(tally, log.list()),
-    }
-}
-
-// Keeps the last line, and takes a query out.
-#[inline(never)]
-fn note_last(tally: &mut Tally, log: &mut Lines) -> Result<(), AllocError>
-    ensures told { OnOk result (tally.new ≡ fold noted tally.old log.old) }
-    ensures left { OnOk result (IsLeftOf log.old log.new) }
-{
-    match log.pop() {
-        Some(Line::Query { number, draws, .. }) => note_query(tally, log.list(), number, draws),
-        Some(line) => {
-            log.push(line)?;
-            note_each(tally, log.list())
-        }
-        None => Ok(()),
-    }
-}
-
-// Notes lines, and then a query of any block with these draws.
-fn note_query(
-    tally: &mut Tally,
-    lines: &[Line],
-    number: u32,
-    draws: Draws,
-) -> Result<(), AllocError>
-    ensures { (id : List ℕ) → OnOk result (tally.new ≡ noted (fold noted tally.old lines.now) (kind.Query number id draws)) }
-{
-    match note_each(tally, lines) {
-        Ok(()) => tally.ask(number, draws),
-        Err(fault) => {
-            drop(draws);
-            Err(fault)
-        }
     }
 }
 
@@ -153,7 +88,6 @@ fn digest(hasher: &mut Sha256, scratch: &mut Scratch, lines: &[Line]) -> Result<
 }
 
 // Digests what waits.
-#[inline(never)]
 fn take_in(hasher: &mut Sha256, scratch: &mut Scratch)
     ensures digest { (past : List ℕ) → Holds256 hasher.old past → Holds256 hasher.new (past ++ scratch.old.bytes) }
     ensures empty { scratch.new.bytes ≡ [] }

@@ -1,4 +1,4 @@
-ghost use Rattle.std.specs.Prelude.{◌≡◌, ◌==◌, [], fold, map, if◌then◌else◌, OnOk};
+ghost use Rattle.std.specs.Prelude.{◌≡◌, ◌==◌, [], fold, if◌then◌else◌, OnOk};
 ghost use Rattle.snow_drill.specs.Drill as model;
 ghost use Rattle.snow_drill.specs.Made.{newest};
 ghost use Rattle.snow_drill.specs.Following.{Follows};
@@ -7,7 +7,6 @@ use crate::driven::Driven;
 use crate::player::Player;
 use crate::tally::Asked;
 use snow_base::{Header, Id, NodeId};
-use snow_sample::Draw;
 use snow_wire::{Named, View};
 use std::alloc::AllocError;
 
@@ -34,12 +33,12 @@ impl<E: Driven> Player<E> {
         }))
     }
 
-    // The votes of the nodes of draws in the poll of a number, one after another.
-    fn vote_all(&mut self, number: u32, draws: &[Draw]) -> Result<(), AllocError>
-        ensures { OnOk result (Follows self.old self.new (λ d. fold (model.with_vote E.step number) d (map (λ draw. draw.node) draws.now))) }
+    // The votes of nodes in the poll of a number, one after another.
+    fn vote_all(&mut self, number: u32, nodes: &[NodeId]) -> Result<(), AllocError>
+        ensures { OnOk result (Follows self.old self.new (λ d. fold (model.with_vote E.step number) d nodes.now)) }
     {
-        for draw in draws {
-            self.vote(number, &draw.node)?;
+        for node in nodes {
+            self.vote(number, node)?;
         }
         Ok(())
     }
@@ -50,7 +49,7 @@ impl<E: Driven> Player<E> {
             fold (model.with_vote E.step query.now.number) (model.with_words E.step 20 d) query.now.nodes)) }
     {
         self.words(20)?;
-        self.vote_all(query.number, query.nodes.draws())
+        self.vote_all(query.number, query.nodes.list())
     }
 
     /// Answers the oldest query that isn't answered. Where there is none it does nothing. On want

@@ -121,7 +121,7 @@ fn opened(alloc: Global, log: &mut Lines) -> Result<Account, AllocError>
     ensures digest { IfOk result (λ account. Digests account log.old) }
 {
     let mut account = Account::new(alloc);
-    match account.keep(log) {
+    match account.keep(log.list()) {
         Ok(()) => Ok(account),
         Err(fault) => {
             drop(account);

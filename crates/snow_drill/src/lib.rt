@@ -9,7 +9,6 @@ mod driven;
 mod generator;
 mod made;
 mod making;
-mod peers;
 mod player;
 mod scratch;
 mod stepping;

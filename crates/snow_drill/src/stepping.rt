@@ -1,6 +1,6 @@
 ghost use Rattle.std.specs.Prelude.{◌≡◌, [], fold, OnOk};
 ghost use Rattle.snow_drill.specs.Drill as model;
-ghost use Rattle.snow_drill.specs.Following.{Plays, Follows, IsLeftOf};
+ghost use Rattle.snow_drill.specs.Following.{Plays, Follows};
 ghost use Rattle.snow_wire.specs.Viewed.{as_event};
 
 use crate::driven::Driven;
@@ -16,14 +16,14 @@ impl<E: Driven> Player<E> {
         fn event(&mut self, event: View<'_>, log: &mut Lines) -> Result<(), AllocError>
         requires { log.old ≡ [] }
         ensures follows { OnOk result (Follows self.old self.new (λ d. model.with_event E.step d (as_event event))) }
-        ensures lines { OnOk result ((d : model.Drill E) → Plays self.old d → IsLeftOf (model.comes E.step d (as_event event)).0 log.new) }
+        ensures lines { OnOk result ((d : model.Drill E) → Plays self.old d → log.new ≡ (model.comes E.step d (as_event event)).0) }
     {
         let Some(frame) = self.frame.checked_add(1) else {
             return Err(AllocError);
         };
         self.node.drive(frame, event, log)?;
         self.frame = frame;
-        self.account.keep(log)
+        self.account.keep(log.list())
     }
 
     // A node that was asked for a block gives none.

@@ -1,10 +1,8 @@
-ghost use Rattle.std.specs.Prelude.{◌≡◌, ◌+◌, ℕ, List, OnOk, IfOk};
-ghost use Rattle.snow_lines.specs.declared.line.Line.TheVariants as told;
+ghost use Rattle.std.specs.Prelude.{◌≡◌, ◌+◌, map, OnOk, IfOk};
 ghost use Rattle.snow_drill.specs.Told.{untold, noted};
 ghost use Rattle.snow_drill.specs.Following.{Takes};
 
-use crate::peers::Peers;
-use snow_base::Id;
+use snow_base::{Id, Items, NodeId};
 use snow_lines::Line;
 use snow_sample::Draws;
 use std::alloc::{AllocError, Global};
@@ -16,7 +14,7 @@ use std::marker::Model;
 #[derive(Drop)]
 pub struct Asked {
     pub number: u32,
-    pub nodes: Peers,
+    pub nodes: Items<NodeId>,
 }
 
 /// What a drill keeps of the lines so far. Its counts are below 2^64.
@@ -122,22 +120,14 @@ impl Tally {
             }
             Line::Reject { .. } => count(&mut self.rejected),
             Line::Query { number, draws, .. } => {
-                let draws = copy_of(self.alloc, draws)?;
-                self.ask(*number, draws)
+                self.asked.push_back(Asked {
+                    number: *number,
+                    nodes: nodes_of(self.alloc, draws)?,
+                })?;
+                Ok(())
             }
             _ => Ok(()),
         }
-    }
-
-    /// Notes a query that was written, with its draws, whatever block it names. On want of memory
-    /// it returns `AllocError`.
-    /// Rule: this project's own.
-    pub fn ask(&mut self, number: u32, draws: Draws) -> Result<(), AllocError>
-        ensures { (id : List ℕ) → OnOk result (self.new ≡ noted self.old (told.Query number id draws)) }
-    {
-        let nodes = Peers::of(draws);
-        self.asked.push_back(Asked { number, nodes })?;
-        Ok(())
     }
 
     /// Takes the oldest query that isn't answered, counts it as answered, and returns it, or `None`
@@ -165,13 +155,13 @@ fn count(number: &mut u64) -> Result<(), AllocError>
     Ok(())
 }
 
-// A copy of these draws.
-fn copy_of(alloc: Global, draws: &Draws) -> Result<Draws, AllocError>
-    ensures { IfOk result (λ copy. copy ≡ draws.now) }
+// The nodes of these draws.
+fn nodes_of(alloc: Global, draws: &Draws) -> Result<Items<NodeId>, AllocError>
+    ensures { IfOk result (λ nodes. nodes ≡ map (λ draw. draw.node) draws.now) }
 {
-    let mut copy = Draws::new(alloc);
+    let mut nodes = Items::new(alloc);
     for draw in draws.list() {
-        copy.push(*draw)?;
+        nodes.push(draw.node)?;
     }
-    Ok(copy)
+    Ok(nodes)
 }

@@ -2,7 +2,7 @@
 use Rattle.std.proofs.Common.{fold, take}
 use Rattle.snow_drill.specs.Drill.{timed_out}
 use Rattle.snow_drill.specs.Following.{Follows}
-use Rattle.snow_drill.proofs.player.Player.time_out_all.Given as goal
+use Rattle.snow_drill.proofs.player.Player.time_outs.Given as goal
 
 abbrev pub invariant-loop-line : goal.invariant-loop-line
 invariant-loop-line g l =
