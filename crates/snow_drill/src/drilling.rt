@@ -109,7 +109,7 @@ fn begin<E: Driven>(
             alloc,
         }),
         Err(fault) => {
-            node.let_go();
+            node.discard();
             Err(fault)
         }
     }

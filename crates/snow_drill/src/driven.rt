@@ -27,7 +27,7 @@ pub(crate) trait Driven: Sized {
         ensures lines { OnOk result (log.new ≡ (step self.old frame (as_event event)).0) };
 
     /// Drops it.
-    fn let_go(self);
+    fn discard(self);
 }
 
 impl<C: Chain, B: Board> Driven for Engine<C, B> {
@@ -40,7 +40,7 @@ impl<C: Chain, B: Board> Driven for Engine<C, B> {
         }
     }
 
-    fn let_go(self) {
-        self.let_go();
+    fn discard(self) {
+        self.discard();
     }
 }

@@ -36,7 +36,7 @@ impl<E: Driven> Player<E> {
             log,
             alloc: _,
         } = self;
-        node.let_go();
+        node.discard();
         drop(made);
         drop(log);
         account

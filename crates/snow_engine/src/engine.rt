@@ -129,7 +129,7 @@ impl<C: Chain, B: Board> Engine<C, B> {
 
     /// Drops the engine. A call of it is one step in a proof, where dropping a whole node is many.
     /// Rule: this project's own.
-    pub fn let_go(self) {
+    pub fn discard(self) {
         drop(self);
     }
 }

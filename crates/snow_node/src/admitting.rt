@@ -96,7 +96,7 @@ pub fn apply<C: Chain, B: Board>(board: &mut B, chain: &mut C, votes: &Bag)
     ensures parameters { (B.board board.new).parameters ≡ (B.board board.old).parameters }
 {
     board.apply_poll(votes);
-    telling::tell(chain, board.decisions());
+    telling::notify_chain(chain, board.decisions());
 }
 
 /// Records a poll with one vote for each of these identifiers, at most K, and tells the chain what
@@ -120,6 +120,6 @@ pub fn apply_votes<C: Chain, B: Board>(
     ensures parameters { (B.board board.new).parameters ≡ (B.board board.old).parameters }
 {
     board.apply_votes(ids)?;
-    telling::tell(chain, board.decisions());
+    telling::notify_chain(chain, board.decisions());
     Ok(())
 }

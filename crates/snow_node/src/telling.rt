@@ -7,17 +7,17 @@ use snow_plain::Decision;
 
 /// Tells the chain each decision, in order: it accepts or rejects the block. It takes no memory.
 /// Rule: AvalancheGo, snow/consensus/snowman.
-pub fn tell<C: Chain>(chain: &mut C, decisions: &[Decision])
+pub fn notify_chain<C: Chain>(chain: &mut C, decisions: &[Decision])
     requires { MayFollow (C.held chain.old) decisions.now }
     ensures { C.held chain.new ≡ with_decisions (C.held chain.old) decisions.now }
 {
     for decision in decisions {
-        tell_one(chain, decision);
+        notify_of_one(chain, decision);
     }
 }
 
 /// Tells the chain one decision.
-fn tell_one<C: Chain>(chain: &mut C, decision: &Decision)
+fn notify_of_one<C: Chain>(chain: &mut C, decision: &Decision)
     requires { MayTell (C.held chain.old) decision.now.id decision.now.accepted }
     ensures { C.held chain.new ≡ with_decision (C.held chain.old) decision.now }
 {

@@ -10,7 +10,7 @@ ghost use Rattle.snow_node.specs.Stepping.{Answers, Tells, Turns};
 use crate::admitting::apply;
 use crate::reporting::tell;
 use crate::running::Running;
-use crate::running::supplying::follow;
+use crate::running::supplying::serve_decisions;
 use crate::stop::Halt;
 use snow_base::{Bag, Id, NodeId};
 use snow_chain::Chain;
@@ -78,8 +78,8 @@ impl<C: Chain, B: Board> Running<C, B> {
     {
         let before = self.board.preference();
         apply(&mut self.board, &mut self.chain, votes);
-        bury(&mut self.queue, self.board.decisions());
-        follow(&mut self.served, &mut self.room, self.board.decisions());
+        mark_gone(&mut self.queue, self.board.decisions());
+        serve_decisions(&mut self.served, &mut self.room, self.board.decisions());
         self.recorded = true;
         self.remembered = self.remembered.polled();
         tell(&self.board, &before, log)?;
@@ -88,7 +88,7 @@ impl<C: Chain, B: Board> Running<C, B> {
 }
 
 /// Enters each decided block in the gone list. It takes no memory.
-fn bury(queue: &mut Queue, decisions: &[Decision])
+fn mark_gone(queue: &mut Queue, decisions: &[Decision])
     ensures lists { lists_of queue.new ≡ model.all_gone (lists_of queue.old) decisions.now }
     ensures knows { (board : Board) → Knows queue.old board → Knows queue.new board }
     ensures seats { queue.new.seats ≡ queue.old.seats }

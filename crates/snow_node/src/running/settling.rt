@@ -16,7 +16,7 @@ use crate::admitting::opposition;
 use crate::reporting::{drop_block, tell};
 use crate::running::Running;
 use crate::running::remembering::Remembered;
-use crate::running::supplying::take_up;
+use crate::running::supplying::verify_and_issue;
 use crate::stop::Halt;
 use snow_base::{Bytes, Header, Id};
 use snow_chain::Chain;
@@ -144,7 +144,7 @@ impl<C: Chain, B: Board> Running<C, B> {
         ensures lines { Tells result log.old log.new (model.issued_by B.answer self.old block.now bytes (next_on C.rules self.old.chain block.now.parent bytes)).0 }
     {
         let before = self.board.preference();
-        if !take_up(
+        if !verify_and_issue(
             &mut self.board,
             &mut self.chain,
             &mut self.served,

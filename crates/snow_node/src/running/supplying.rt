@@ -17,7 +17,7 @@ use std::alloc::AllocError;
 /// all stays as it was: it takes the state of a valid block back out of the chain where there is no
 /// room for the block.
 #[tactic(auto, using(crate::proofs::Offers::may_take_back))]
-pub(super) fn take_up<C: Chain, B: Board>(
+pub(super) fn verify_and_issue<C: Chain, B: Board>(
     board: &mut B,
     chain: &mut C,
     served: &mut Getter,
@@ -39,7 +39,7 @@ pub(super) fn take_up<C: Chain, B: Board>(
     if !chain.verify(&block.parent, &block.id, bytes.list())? {
         return Ok(false);
     }
-    if let Err(error) = seat(board, served, block, bytes) {
+    if let Err(error) = issue_and_serve(board, served, block, bytes) {
         chain.reject(&block.id);
         return Err(error);
     }
@@ -48,7 +48,7 @@ pub(super) fn take_up<C: Chain, B: Board>(
 
 /// Puts a block on the board, and serves it. On want of memory all stays as it was.
 #[tactic(auto, using(crate::proofs::Supplying::new_to_serve))]
-fn seat<B: Board>(
+fn issue_and_serve<B: Board>(
     board: &mut B,
     served: &mut Getter,
     block: &Header,
@@ -73,18 +73,18 @@ fn seat<B: Board>(
 
 /// Makes what peers are served follow the decisions. It keeps the room of bytes that aren't served
 /// any more. It needs no memory.
-pub(super) fn follow(served: &mut Getter, room: &mut SpareBytes, decisions: &[Decision])
+pub(super) fn serve_decisions(served: &mut Getter, room: &mut SpareBytes, decisions: &[Decision])
     ensures { served.new ≡ model.with_decisions served.old decisions.now }
 {
     for decision in decisions {
-        if let Some(bytes) = follow_one(served, decision) {
+        if let Some(bytes) = serve_decision(served, decision) {
             room.keep(bytes);
         }
     }
 }
 
 /// Makes what peers are served follow one decision. It returns bytes that aren't served any more.
-fn follow_one(served: &mut Getter, decision: &Decision) -> Option<Bytes>
+fn serve_decision(served: &mut Getter, decision: &Decision) -> Option<Bytes>
     ensures { served.new ≡ model.with_decision served.old decision.now }
 {
     if decision.accepted {

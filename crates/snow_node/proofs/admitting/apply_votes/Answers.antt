@@ -6,8 +6,8 @@ use Rattle.snow_plain.proofs.OneEach.{total_each}
 use Rattle.snow_node.proofs.Recorded.{may_be_told, steady_told}
 use Rattle.snow_node.proofs.admitting.apply_votes.Goals as goal
 
-pub tell-requires : goal.tell-requires
-tell-requires g c =
+pub notify_chain-requires : goal.notify_chain-requires
+notify_chain-requires g c =
     let votes = one_each c.args.ids.now in
     let few : total_count votes ≤ (g.B.Board.board c.args.board.now).parameters.k = omega (arith, total_each c.args.ids.now, c.requires.few) in
     may_be_told (g.B.Board.board c.args.board.now) (g.C.Chain.held c.args.chain.now) votes c.decisions.result.now c.requires.steady few
@@ -17,6 +17,6 @@ pub returns-clause-steady : goal.returns-clause-steady
 returns-clause-steady g c =
     let votes = one_each c.args.ids.now in
     let few : total_count votes ≤ (g.B.Board.board c.args.board.now).parameters.k = omega (arith, total_each c.args.ids.now, c.requires.few) in
-    steady_told (g.B.Board.board c.args.board.now) (g.B.Board.board c.apply_votes.new.self) (g.C.Chain.held c.args.chain.now) (g.C.Chain.held c.tell.new.chain)
+    steady_told (g.B.Board.board c.args.board.now) (g.B.Board.board c.apply_votes.new.self) (g.C.Chain.held c.args.chain.now) (g.C.Chain.held c.notify_chain.new.chain)
     votes c.decisions.result.now c.requires.steady few
-    (c.decisions.ensures ∙ c.in_ok-apply_votes.ensures.decided) c.in_ok-apply_votes.ensures.board c.tell.ensures
+    (c.decisions.ensures ∙ c.in_ok-apply_votes.ensures.decided) c.in_ok-apply_votes.ensures.board c.notify_chain.ensures

@@ -14,26 +14,26 @@ use Rattle.snow_node.proofs.running.Running.issue.Goals as goal
 
 pub invariant_of-self-in_err-tell : goal.invariant_of-self-in_err-tell
 invariant_of-self-in_err-tell g c = (
-  kept_admitted c.self.inside.params (g.B.Board.board c.self.inside.board) (g.C.Chain.held c.self.inside.chain) c.self.inside.polls (lists_of c.self.inside.queue) c.self.inside.numbers c.self.invariant.0 c.in_ok-take_up.field-0 (g.B.Board.board c.take_up.new.board) (g.C.Chain.held c.take_up.new.chain) (g.B.Board.decided c.take_up.new.board) c.args.block.now
+  kept_admitted c.self.inside.params (g.B.Board.board c.self.inside.board) (g.C.Chain.held c.self.inside.chain) c.self.inside.polls (lists_of c.self.inside.queue) c.self.inside.numbers c.self.invariant.0 c.in_ok-verify_and_issue.field-0 (g.B.Board.board c.verify_and_issue.new.board) (g.C.Chain.held c.verify_and_issue.new.chain) (g.B.Board.decided c.verify_and_issue.new.board) c.args.block.now
       (next_on g.C.Chain.rules (g.C.Chain.held c.self.inside.chain) c.args.block.now.parent c.args.bytes)
-      c.if-not-branch.false c.in_ok-take_up.ensures.admits c.take_up.ensures.steady
+      c.if-not-branch.false c.in_ok-verify_and_issue.ensures.admits c.verify_and_issue.ensures.steady
       (subst (λ (n : Running). IsApart n.board n.queue.waiting c.args.block.now.id) (sym c.self.view_is) c.requires.apart),
-  subst (λ (k : Remembered). Remembers (g.B.Board.board c.take_up.new.board) c.self.inside.queue k) (sym c.issued-self-inside.ensures)
-      (remembers_admitted (g.B.Board.board c.self.inside.board) (g.C.Chain.held c.self.inside.chain) c.self.inside.queue c.self.inside.remembered c.in_ok-take_up.field-0 (g.B.Board.board c.take_up.new.board) (g.C.Chain.held c.take_up.new.chain) (g.B.Board.decided c.take_up.new.board) c.args.block.now
-      (next_on g.C.Chain.rules (g.C.Chain.held c.self.inside.chain) c.args.block.now.parent c.args.bytes) c.if-not-branch.false c.in_ok-take_up.ensures.admits c.self.invariant.1),
-  c.take_up.ensures.serves,
+  subst (λ (k : Remembered). Remembers (g.B.Board.board c.verify_and_issue.new.board) c.self.inside.queue k) (sym c.issued-self-inside.ensures)
+      (remembers_admitted (g.B.Board.board c.self.inside.board) (g.C.Chain.held c.self.inside.chain) c.self.inside.queue c.self.inside.remembered c.in_ok-verify_and_issue.field-0 (g.B.Board.board c.verify_and_issue.new.board) (g.C.Chain.held c.verify_and_issue.new.chain) (g.B.Board.decided c.verify_and_issue.new.board) c.args.block.now
+      (next_on g.C.Chain.rules (g.C.Chain.held c.self.inside.chain) c.args.block.now.parent c.args.bytes) c.if-not-branch.false c.in_ok-verify_and_issue.ensures.admits c.self.invariant.1),
+  c.verify_and_issue.ensures.serves,
 )
 
 pub invariant_of-self-2 : goal.invariant_of-self-2
 invariant_of-self-2 g c = (
-  kept_admitted c.self.inside.params (g.B.Board.board c.self.inside.board) (g.C.Chain.held c.self.inside.chain) c.self.inside.polls (lists_of c.self.inside.queue) c.self.inside.numbers c.self.invariant.0 c.in_ok-take_up.field-0 (g.B.Board.board c.take_up.new.board) (g.C.Chain.held c.take_up.new.chain) (g.B.Board.decided c.take_up.new.board) c.args.block.now
+  kept_admitted c.self.inside.params (g.B.Board.board c.self.inside.board) (g.C.Chain.held c.self.inside.chain) c.self.inside.polls (lists_of c.self.inside.queue) c.self.inside.numbers c.self.invariant.0 c.in_ok-verify_and_issue.field-0 (g.B.Board.board c.verify_and_issue.new.board) (g.C.Chain.held c.verify_and_issue.new.chain) (g.B.Board.decided c.verify_and_issue.new.board) c.args.block.now
       (next_on g.C.Chain.rules (g.C.Chain.held c.self.inside.chain) c.args.block.now.parent c.args.bytes)
-      c.if-not-branch.false c.in_ok-take_up.ensures.admits c.take_up.ensures.steady
+      c.if-not-branch.false c.in_ok-verify_and_issue.ensures.admits c.verify_and_issue.ensures.steady
       (subst (λ (n : Running). IsApart n.board n.queue.waiting c.args.block.now.id) (sym c.self.view_is) c.requires.apart),
-  subst (λ (k : Remembered). Remembers (g.B.Board.board c.take_up.new.board) c.self.inside.queue k) (sym c.issued-self-inside.ensures)
-      (remembers_admitted (g.B.Board.board c.self.inside.board) (g.C.Chain.held c.self.inside.chain) c.self.inside.queue c.self.inside.remembered c.in_ok-take_up.field-0 (g.B.Board.board c.take_up.new.board) (g.C.Chain.held c.take_up.new.chain) (g.B.Board.decided c.take_up.new.board) c.args.block.now
-      (next_on g.C.Chain.rules (g.C.Chain.held c.self.inside.chain) c.args.block.now.parent c.args.bytes) c.if-not-branch.false c.in_ok-take_up.ensures.admits c.self.invariant.1),
-  c.take_up.ensures.serves,
+  subst (λ (k : Remembered). Remembers (g.B.Board.board c.verify_and_issue.new.board) c.self.inside.queue k) (sym c.issued-self-inside.ensures)
+      (remembers_admitted (g.B.Board.board c.self.inside.board) (g.C.Chain.held c.self.inside.chain) c.self.inside.queue c.self.inside.remembered c.in_ok-verify_and_issue.field-0 (g.B.Board.board c.verify_and_issue.new.board) (g.C.Chain.held c.verify_and_issue.new.chain) (g.B.Board.decided c.verify_and_issue.new.board) c.args.block.now
+      (next_on g.C.Chain.rules (g.C.Chain.held c.self.inside.chain) c.args.block.now.parent c.args.bytes) c.if-not-branch.false c.in_ok-verify_and_issue.ensures.admits c.self.invariant.1),
+  c.verify_and_issue.ensures.serves,
 )
 
 pub returns-in_err-tell-clause-lines : goal.returns-in_err-tell-clause-lines
@@ -50,9 +50,9 @@ returns-in_err-tell-clause-lines g c =
       words = c.self.inside.words;
       last = c.self.inside.numbers;
       recorded = c.self.inside.recorded;
-    }) c.in_ok-take_up.field-0 (g.B.Board.board c.take_up.new.board) (g.C.Chain.held c.take_up.new.chain) c.take_up.new.served (g.B.Board.decided c.take_up.new.board) c.args.block.now c.args.bytes
+    }) c.in_ok-verify_and_issue.field-0 (g.B.Board.board c.verify_and_issue.new.board) (g.C.Chain.held c.verify_and_issue.new.chain) c.verify_and_issue.new.served (g.B.Board.decided c.verify_and_issue.new.board) c.args.block.now c.args.bytes
     (next_on g.C.Chain.rules (g.C.Chain.held c.self.inside.chain) c.args.block.now.parent c.args.bytes)
-    c.preference-before.result c.if-not-branch.false c.in_ok-take_up.ensures.admits c.in_ok-take_up.ensures.served c.preference-before.ensures c.args.log.now c.tell.new.log c.in_err-tell.ensures.err))
+    c.preference-before.result c.if-not-branch.false c.in_ok-verify_and_issue.ensures.admits c.in_ok-verify_and_issue.ensures.served c.preference-before.ensures c.args.log.now c.tell.new.log c.in_err-tell.ensures.err))
 
 pub returns-clause-lines : goal.returns-clause-lines
 returns-clause-lines g c =
@@ -67,7 +67,7 @@ returns-clause-lines g c =
       words = c.self.inside.words;
       last = c.self.inside.numbers;
       recorded = c.self.inside.recorded;
-    }) c.in_ok-take_up.field-0 (g.B.Board.board c.take_up.new.board) (g.C.Chain.held c.take_up.new.chain) c.take_up.new.served (g.B.Board.decided c.take_up.new.board) c.args.block.now c.args.bytes
+    }) c.in_ok-verify_and_issue.field-0 (g.B.Board.board c.verify_and_issue.new.board) (g.C.Chain.held c.verify_and_issue.new.chain) c.verify_and_issue.new.served (g.B.Board.decided c.verify_and_issue.new.board) c.args.block.now c.args.bytes
     (next_on g.C.Chain.rules (g.C.Chain.held c.self.inside.chain) c.args.block.now.parent c.args.bytes)
-    c.preference-before.result c.if-not-branch.false c.in_ok-take_up.ensures.admits c.in_ok-take_up.ensures.served c.preference-before.ensures c.ask_on_the_way.result c.args.log.now c.tell.new.log c.ask_on_the_way.new.log
+    c.preference-before.result c.if-not-branch.false c.in_ok-verify_and_issue.ensures.admits c.in_ok-verify_and_issue.ensures.served c.preference-before.ensures c.ask_on_the_way.result c.args.log.now c.tell.new.log c.ask_on_the_way.new.log
     c.in_ok-tell.ensures.ok c.ask_on_the_way.ensures.lines)

@@ -1,9 +1,9 @@
 -- The next decision may be told, and then the rest.
 use Rattle.snow_node.proofs.Told.{next_may, next_told}
-use Rattle.snow_node.proofs.telling.tell.Goals as goal
+use Rattle.snow_node.proofs.telling.notify_chain.Goals as goal
 
-pub tell_one-requires : goal.tell_one-requires
-tell_one-requires g c =
+pub notify_of_one-requires : goal.notify_of_one-requires
+notify_of_one-requires g c =
     (next_may (g.C.Chain.held c.loop-decision.chain) c.args.decisions.now c.loop-decision.decision-index c.decision-item.result
     c.loop-decision-test.true c.decision-item.is c.loop-decision.invariant.rest).0
 
@@ -13,7 +13,7 @@ loop-decision-preserved g c =
     let rest = (next_may held c.args.decisions.now c.loop-decision.decision-index c.decision-item.result
     c.loop-decision-test.true c.decision-item.is c.loop-decision.invariant.rest).1 in
     record {
-      told = next_told (g.C.Chain.held c.args.chain.now) held (g.C.Chain.held c.tell_one.new.chain) c.args.decisions.now c.loop-decision.decision-index
-          c.decision-item.result c.loop-decision-test.true c.decision-item.is c.loop-decision.invariant.told c.tell_one.ensures;
-      rest = rw c.tell_one.ensures rest;
+      told = next_told (g.C.Chain.held c.args.chain.now) held (g.C.Chain.held c.notify_of_one.new.chain) c.args.decisions.now c.loop-decision.decision-index
+          c.decision-item.result c.loop-decision-test.true c.decision-item.is c.loop-decision.invariant.told c.notify_of_one.ensures;
+      rest = rw c.notify_of_one.ensures rest;
     }

@@ -1,6 +1,6 @@
 -- A block that has its seat is served, and one that hasn't isn't.
 use Rattle.snow_node.proofs.Supplying.{serves_issued, served_back, serves_as}
-use Rattle.snow_node.proofs.running.supplying.seat.Goals as goal
+use Rattle.snow_node.proofs.running.supplying.issue_and_serve.Goals as goal
 
 pub returns-in-Err-clause-unserved : goal.returns-in-Err-clause-unserved
 returns-in-Err-clause-unserved g c =

@@ -3,7 +3,7 @@ use Rattle.std.proofs.Common.{◌≡◌, take}
 use Rattle.snow_plain.specs.Board.{Board}
 use Rattle.snow_issue.specs.Known.{Knows, lists_of}
 use Rattle.snow_node.specs.Closing.{all_gone}
-use Rattle.snow_node.proofs.running.closing.bury.Given as goal
+use Rattle.snow_node.proofs.running.closing.mark_gone.Given as goal
 
 abbrev pub invariant-loop-decision : goal.invariant-loop-decision
 invariant-loop-decision l = record {

@@ -5,7 +5,7 @@ use Rattle.snow_plain.specs.declared.decision.Decision.{Decision}
 use Rattle.snow_issue.specs.Known.{lists_of}
 use Rattle.snow_issue.specs.Lists.{Lists, after_gone}
 use Rattle.snow_node.specs.Closing.{all_gone}
-use Rattle.snow_node.proofs.running.closing.bury.Goals as goal
+use Rattle.snow_node.proofs.running.closing.mark_gone.Goals as goal
 
 abbrev one_gone : Lists → Decision → Lists
 one_gone lists d = after_gone lists (record { id = d.id; parent = None })

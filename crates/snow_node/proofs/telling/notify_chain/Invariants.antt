@@ -2,7 +2,7 @@
 use Rattle.std.proofs.Common.{◌≡◌, take, drop}
 use Rattle.snow_node.specs.Matching.{MayFollow}
 use Rattle.snow_node.specs.Telling.{with_decisions}
-use Rattle.snow_node.proofs.telling.tell.Given as goal
+use Rattle.snow_node.proofs.telling.notify_chain.Given as goal
 
 abbrev pub invariant-loop-decision : goal.invariant-loop-decision
 invariant-loop-decision g l = record {
