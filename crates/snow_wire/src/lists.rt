@@ -21,6 +21,7 @@ pub fn ids_of(alloc: Global, ids: &[[u8; 32]]) -> Result<Ids, AllocError>
 /// Returns a list of these numbers, each the highest byte first. On want of memory it returns
 /// `AllocError`.
 /// Rule: this project's own.
+#[tactic(auto, using(crate::proofs::Together::one_made))]
 pub fn words_of(alloc: Global, words: &[[u8; 8]]) -> Result<Nums, AllocError>
     ensures { IfOk result (λ made. made ≡ map (big_number 8) words.now) }
 {
@@ -34,6 +35,7 @@ pub fn words_of(alloc: Global, words: &[[u8; 8]]) -> Result<Nums, AllocError>
 /// Returns a list of these nodes, each with its weight: 20 bytes, and the weight in 8, the highest
 /// first. On want of memory it returns `AllocError`.
 /// Rule: this project's own.
+#[tactic(auto, using(crate::proofs::Together::one_made))]
 pub fn nodes_of(alloc: Global, nodes: &[[u8; 28]]) -> Result<Nodes, AllocError>
     ensures { IfOk result (λ made. made ≡ map weighed_in nodes.now) }
 {

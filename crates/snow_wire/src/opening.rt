@@ -49,8 +49,8 @@ impl<'a> Opening<'a> {
         let boot = reader.flag()?;
         let last = reader.id()?;
         let height = reader.u64()?;
-        let state = reader.word_list(4096)?;
-        let nodes = reader.node_list(4096)?;
+        let state = reader.words(4096)?;
+        let nodes = reader.nodes(4096)?;
         Ok(Opening {
             k,
             alpha_preference,

@@ -1,4 +1,4 @@
-ghost use Rattle.std.specs.Prelude.{◌≡◌, length, map, IfOk};
+ghost use Rattle.std.specs.Prelude.{◌≡◌, ◌<◌, ◌≤◌, length, map, IfOk};
 ghost use Rattle.byteorder.specs.Endian.{big_number};
 ghost use Rattle.snow_wire.specs.Reading.{IsEnd, Reads, ReadsAs, bytes_at, number_at, limited_at, flag_at, counted_at, sized_at, weighed_at};
 ghost use Rattle.snow_wire.specs.Viewed.{weighed_in};
@@ -151,36 +151,33 @@ impl<'a> Reader<'a> {
         }
     }
 
-    /// Returns a count that is at most the limit, and so many identifiers, where they stand.
+    /// Returns a count that is at most the limit, and so many items of one width, where they stand.
     #[tactic(auto, unfolding(crate::specs::Reading::counted_at))]
-    pub(crate) fn id_list(&mut self, limit: u16) -> Result<&'a [[u8; 32]], Fault>
-        ensures { ReadsAs (λ ids. ids.now) result self.new (counted_at (bytes_at 32) limit self.old) }
+    pub(crate) fn list<const N: usize>(&mut self, limit: u16) -> Result<&'a [[u8; N]], Fault>
+        requires some { 0 < N }
+        requires few { N ≤ 32 }
+        ensures { ReadsAs (λ list. list.now) result self.new (counted_at (bytes_at N) limit self.old) }
     {
         let count = self.count(limit)?;
-        let (ids, _) = self.take(32 * usize::from(count))?.as_chunks::<32>();
-        Ok(ids)
+        let bytes = self.take(N * usize::from(count))?;
+        let (list, _) = bytes.as_chunks::<N>();
+        Ok(list)
     }
 
     /// Returns a count that is at most the limit, and so many numbers of eight bytes, where they
     /// stand.
-    #[tactic(auto, unfolding(crate::specs::Reading::counted_at))]
-    pub(crate) fn word_list(&mut self, limit: u16) -> Result<&'a [[u8; 8]], Fault>
+    pub(crate) fn words(&mut self, limit: u16) -> Result<&'a [[u8; 8]], Fault>
         ensures { ReadsAs (λ words. map (big_number 8) words.now) result self.new (counted_at (number_at 8) limit self.old) }
     {
-        let count = self.count(limit)?;
-        let (words, _) = self.take(8 * usize::from(count))?.as_chunks::<8>();
-        Ok(words)
+        self.list::<8>(limit)
     }
 
     /// Returns a count that is at most the limit, and so many nodes with their weights, where they
     /// stand.
-    #[tactic(auto, unfolding(crate::specs::Reading::counted_at))]
-    pub(crate) fn node_list(&mut self, limit: u16) -> Result<&'a [[u8; 28]], Fault>
+    pub(crate) fn nodes(&mut self, limit: u16) -> Result<&'a [[u8; 28]], Fault>
         ensures { ReadsAs (λ nodes. map weighed_in nodes.now) result self.new (counted_at weighed_at limit self.old) }
     {
-        let count = self.count(limit)?;
-        let (nodes, _) = self.take(28 * usize::from(count))?.as_chunks::<28>();
-        Ok(nodes)
+        self.list::<28>(limit)
     }
 
     /// Returns the bytes of a node, where they stand.

@@ -95,7 +95,7 @@ impl<'a> Listing<'a> {
     {
         let node = reader.node()?;
         let request = reader.u32()?;
-        let ids = reader.id_list(4096)?;
+        let ids = reader.list::<32>(4096)?;
         Ok(Listing { node, request, ids })
     }
 }
