@@ -3,7 +3,7 @@ use Rattle.std.proofs.Common.{◌≡◌, false, sym, ap, ◌∙◌}
 use Rattle.snow_issue.specs.Lists.{waits, is_asked}
 use Rattle.snow_issue.specs.Known.{Seen, lists_of}
 use Rattle.snow_issue.proofs.Bubbled.{vote_is}
-use Rattle.snow_issue.proofs.queue.Queue.vote_found.Goals as goal
+use Rattle.snow_issue.proofs.queue.Queue.vote_at_once.Goals as goal
 
 pub returns-in-Some : goal.returns-in-Some
 returns-in-Some g c =
