@@ -2,6 +2,7 @@
 ghost use Rattle.std.specs.Prelude.{◌≡◌, [], ◌∷◌, ◌++◌, map, IfOk, OnOk, OnErr};
 ghost use Rattle.std.specs.Option.{option_map_or};
 ghost use Rattle.snow_lines.specs.declared.line.Line.TheVariants as line;
+ghost use Rattle.snow_wire.specs.Viewed.{as_event};
 ghost use Rattle.snow_getter.specs.Serving.{held};
 ghost use Rattle.snow_getter.specs.Chain.{chain};
 ghost use Rattle.snow_getter.specs.Answer.{answer, accepted_among, chain_told};
@@ -11,7 +12,7 @@ use indexmap::IndexSet;
 use snow_base::{Blocks, Bytes, Id, Ids, NodeId};
 use snow_lines::{Line, Lines};
 use snow_map::IdHashing;
-use snow_wire::Event;
+use snow_wire::{Listing, Named, View};
 use std::alloc::AllocError;
 
 // How many blocks a chain has.
@@ -32,102 +33,86 @@ impl Getter {
     pub fn answer(
         &self,
         preference: Id,
-        question: &Event,
+        question: &View<'_>,
         log: &mut Lines,
     ) -> Result<(), AllocError>
-        ensures ok { OnOk result (log.new ≡ log.old ++ answer self.now preference question.now) }
+        ensures ok { OnOk result (log.new ≡ log.old ++ answer self.now preference (as_event question.now)) }
         ensures err { OnErr result (log.new ≡ log.old) }
     {
         match question {
-            Event::AskQuery { node, request } => log.push(Line::ToChits {
-                node: *node,
-                number: *request,
+            View::AskQuery(asked) => log.push(Line::ToChits {
+                node: NodeId::from_bytes(*asked.node),
+                number: asked.request,
                 preference,
                 last: self.last(),
             }),
-            Event::AskFrontier { node, request } => log.push(Line::ToFrontier {
-                node: *node,
-                number: *request,
+            View::AskFrontier(asked) => log.push(Line::ToFrontier {
+                node: NodeId::from_bytes(*asked.node),
+                number: asked.request,
                 id: self.last(),
             }),
-            Event::AskAccepted { node, request, ids } => {
-                self.tell_accepted(*node, *request, ids.list(), log)
-            }
-            Event::AskAncestors { node, request, id } => {
-                self.tell_chain(*node, *request, id, log)
-            }
-            Event::AskBlock { node, request, id } => self.tell_block(*node, *request, id, log),
+            View::AskAccepted(asked) => self.tell_accepted(asked, log),
+            View::AskAncestors(asked) => self.tell_chain(asked, log),
+            View::AskBlock(asked) => self.tell_block(asked, log),
             _ => Ok(()),
         }
     }
 
-    // A node is told which of these identifiers are held accepted.
-    fn tell_accepted(
-        &self,
-        node: NodeId,
-        number: u32,
-        ids: &[Id],
-        log: &mut Lines,
-    ) -> Result<(), AllocError>
-        ensures ok { OnOk result (log.new ≡ log.old ++ line.ToAccepted node number (accepted_among self.now ids.now) ∷ []) }
+    // A node is told which of the identifiers that it names are held accepted.
+    fn tell_accepted(&self, asked: &Listing<'_>, log: &mut Lines) -> Result<(), AllocError>
+        ensures ok { OnOk result (log.new ≡ log.old ++ line.ToAccepted asked.now.node.now asked.now.request (accepted_among self.now asked.now.ids.now) ∷ []) }
         ensures err { OnErr result (log.new ≡ log.old) }
     {
-        let ids = self.accepted_among(ids)?;
-        log.push(Line::ToAccepted { node, number, ids })
+        let ids = self.accepted_among(asked.ids)?;
+        log.push(Line::ToAccepted {
+            node: NodeId::from_bytes(*asked.node),
+            number: asked.request,
+            ids,
+        })
     }
 
     // A node is given a block and its ancestors, where the block is served.
-    fn tell_chain(
-        &self,
-        node: NodeId,
-        number: u32,
-        id: &Id,
-        log: &mut Lines,
-    ) -> Result<(), AllocError>
-        ensures ok { OnOk result (log.new ≡ log.old ++ chain_told node number (chain self.now id.now)) }
+    fn tell_chain(&self, asked: &Named<'_>, log: &mut Lines) -> Result<(), AllocError>
+        ensures ok { OnOk result (log.new ≡ log.old ++ chain_told asked.now.node.now asked.now.request (chain self.now asked.now.id.now)) }
         ensures err { OnErr result (log.new ≡ log.old) }
     {
-        let blocks = self.chain(id)?;
+        let blocks = self.chain(&Id::from_bytes(*asked.id))?;
         if blocks.list().is_empty() {
             return Ok(());
         }
         log.push(Line::ToAncestors {
-            node,
-            number,
+            node: NodeId::from_bytes(*asked.node),
+            number: asked.request,
             blocks,
         })
     }
 
     // A node is given a block, where it is served.
-    fn tell_block(
-        &self,
-        node: NodeId,
-        number: u32,
-        id: &Id,
-        log: &mut Lines,
-    ) -> Result<(), AllocError>
-        ensures ok { OnOk result (log.new ≡ log.old ++ option_map_or (λ b. line.ToBlock node number b.bytes ∷ []) (held self.now id.now) []) }
+    fn tell_block(&self, asked: &Named<'_>, log: &mut Lines) -> Result<(), AllocError>
+        ensures ok { OnOk result (log.new ≡ log.old ++ option_map_or (λ b. line.ToBlock asked.now.node.now asked.now.request b.bytes ∷ []) (held self.now asked.now.id.now) []) }
         ensures err { OnErr result (log.new ≡ log.old) }
     {
-        let Some(block) = self.held(id) else {
+        let id = Id::from_bytes(*asked.id);
+        let Some(block) = self.held(&id) else {
             return Ok(());
         };
         let bytes = Bytes::from_slice(self.alloc, block.bytes)?;
         log.push(Line::ToBlock {
-            node,
-            number,
+            node: NodeId::from_bytes(*asked.node),
+            number: asked.request,
             bytes,
         })
     }
 
     // Those of the identifiers that are held accepted, in order, each once.
-    fn accepted_among(&self, ids: &[Id]) -> Result<Ids, AllocError>
+    fn accepted_among(&self, ids: &[[u8; 32]]) -> Result<Ids, AllocError>
         ensures { IfOk result (λ told. told ≡ accepted_among self.now ids.now) }
     {
         let mut told: IndexSet<Id, IdHashing> = IndexSet::with_hasher(self.alloc, IdHashing::new());
-        for id in ids {
-            if self.is_accepted(id) {
-                told.insert(*id)?;
+        for bytes in ids {
+            let id = Id::from_bytes(*bytes);
+            if self.is_accepted(&id) {
+                told.insert(id)?;
             }
         }
         Ids::from_slice(self.alloc, told.as_slice())

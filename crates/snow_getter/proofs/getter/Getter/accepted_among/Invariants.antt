@@ -3,5 +3,5 @@ use Rattle.std.proofs.Common.{◌≡◌, take}
 use Rattle.snow_getter.specs.Answer.{accepted_among}
 use Rattle.snow_getter.proofs.getter.Getter.accepted_among.Given as goal
 
-abbrev pub invariant-loop-id : goal.invariant-loop-id
-invariant-loop-id l = l.told.keys ≡ accepted_among l.self (take l.id-index l.ids)
+abbrev pub invariant-loop-bytes : goal.invariant-loop-bytes
+invariant-loop-bytes l = l.told.keys ≡ accepted_among l.self (take l.bytes-index l.ids)
