@@ -211,7 +211,6 @@ impl<C: Chain, B: Board> Running<C, B> {
         ensures memory { OnErr result (result ≡ Err Halt.Memory) }
         ensures lines { Tells result log.old log.new (answer self.now.served (preferred B.answer self.now.board) (as_event question)) }
     {
-        let question = question.to_event(self.alloc)?;
         self.served
             .answer(self.board.preference(), &question, log)?;
         Ok(())
