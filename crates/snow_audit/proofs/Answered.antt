@@ -14,8 +14,8 @@ use Rattle.snow_engine.specs.declared.task.Task.{Task}
 use Rattle.snow_engine.specs.declared.end.End.{End}
 use Rattle.snow_engine.specs.declared.end.End.TheVariants as end
 use Rattle.snow_engine.specs.Staging.{Node}
-use Rattle.snow_node.specs.declared.stop.EngineStop.{EngineStop}
-use Rattle.snow_node.specs.Outcome.{Comes}
+use Rattle.snow_engine.specs.declared.stop.EngineStop.{EngineStop}
+use Rattle.snow_engine.specs.Staging.{Comes}
 use Rattle.snow_engine.specs.Node.{started, step}
 use Rattle.snow_engine.specs.declared.end.BadKind.TheVariants as kind
 use Rattle.snow_engine.specs.Run.{Stand, Fresh, Going, Stopped, standing, came, after_frame, opened, followed, end_behind, read}

@@ -13,7 +13,7 @@ use snow_chain::Chain;
 use snow_engine::{End, Runner, Task};
 use snow_lines::{Line, SkipKind};
 use snow_plain::Board;
-use snow_wire::line_in;
+use snow_wire::View;
 use std::alloc::Global;
 
 /// The run as the model makes it from the frames that came, with the lines of its last event, and
@@ -72,9 +72,9 @@ impl<C: Chain, B: Board> Follower<C, B> {
         if self.is_fresh() {
             return self.take_first(frame, payload);
         }
-        match line_in(payload) {
-            Some(text) => self.take_line(text),
-            None => self.take_event(frame, payload),
+        match View::read(payload) {
+            Ok(View::Line(text)) => self.take_line(text),
+            _ => self.take_event(frame, payload),
         }
     }
 
@@ -190,7 +190,7 @@ impl<C: Chain, B: Board> Follower<C, B> {
         match self.runner.work(self.events, payload) {
             Ok(None) => Ok(()),
             Ok(Some(kind)) => self.pass_over(kind),
-            Err(_) => self.stops(frame),
+            Err(how) => self.stops(frame, how),
         }
     }
 
@@ -217,10 +217,10 @@ impl<C: Chain, B: Board> Follower<C, B> {
 
     /// Notes that the run stopped in a frame. The stop names the frame among all, where the run
     /// counts events alone.
-    fn stops(&mut self, frame: u64) -> Result<(), AuditEnd>
-        ensures stop { OnOk result (self.new.stop ≡ Some (at_frame self.old.runner.end frame)) }
-        ensures memory { OnErr result ((result ≡ Err (audit.Stopped end.Memory)) × (self.old.runner.end ≡ end.Memory)) }
-        ensures other { OnOk result (self.old.runner.end ≡ end.Memory → ⊥) }
+    fn stops(&mut self, frame: u64, how: End) -> Result<(), AuditEnd>
+        ensures stop { OnOk result (self.new.stop ≡ Some (at_frame how frame)) }
+        ensures memory { OnErr result ((result ≡ Err (audit.Stopped end.Memory)) × (how ≡ end.Memory)) }
+        ensures other { OnOk result (how ≡ end.Memory → ⊥) }
         ensures kept { OnErr result (self.new.stop ≡ self.old.stop) }
         ensures log { self.new.runner.log ≡ self.old.runner.log }
         ensures task { self.new.runner.task ≡ self.old.runner.task }
@@ -228,7 +228,7 @@ impl<C: Chain, B: Board> Follower<C, B> {
         ensures lines { self.new.lines ≡ self.old.lines }
         ensures at { self.new.at ≡ self.old.at }
     {
-        let end = match self.runner.end {
+        let end = match how {
             End::Memory => return Err(AuditEnd::Stopped(End::Memory)),
             End::BadInput { kind, .. } => End::BadInput { frame, kind },
             end => end,

@@ -11,7 +11,7 @@ use Rattle.snow_lines.specs.Text.{text}
 use Rattle.snow_chain.specs.Tally.{tally_rules}
 use Rattle.snow_engine.specs.declared.task.Task.TheVariants as task
 use Rattle.snow_engine.specs.Node.{started}
-use Rattle.snow_node.specs.Outcome.{Comes}
+use Rattle.snow_engine.specs.Staging.{Comes}
 use Rattle.snow_drill.specs.Generator.{last_of, values}
 use Rattle.snow_drill.specs.Told.{nobody}
 use Rattle.snow_drill.specs.First.{node, nodes, first}

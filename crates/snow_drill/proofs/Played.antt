@@ -10,7 +10,7 @@ use Rattle.snow_lines.specs.declared.line.Line.TheVariants as line
 use Rattle.snow_lines.specs.Text.{texts}
 use Rattle.snow_wire.specs.declared.event.Event.{Event}
 use Rattle.snow_wire.specs.declared.event.Event.TheVariants as event
-use Rattle.snow_node.specs.Outcome.{Comes}
+use Rattle.snow_engine.specs.Staging.{Comes}
 use Rattle.snow_drill.specs.declared.player.Player.{Player}
 use Rattle.snow_drill.specs.declared.tally.Asked.{Asked}
 use Rattle.snow_drill.specs.Generator.{following, last_of, values, picked}

@@ -10,7 +10,7 @@ use Rattle.snow_lines.specs.declared.line.Line.TheVariants as line
 use Rattle.snow_lines.specs.Text.{texts}
 use Rattle.snow_engine.specs.declared.end.End.{End}
 use Rattle.snow_engine.specs.declared.end.End.TheVariants as end
-use Rattle.snow_node.specs.Outcome.{Comes}
+use Rattle.snow_engine.specs.Staging.{Comes}
 use Rattle.snow_drill.specs.declared.account.Account.{Account}
 use Rattle.snow_drill.specs.declared.player.Player.{Player}
 use Rattle.snow_drill.specs.declared.tally.Asked.{Asked}

@@ -3,7 +3,7 @@ use Rattle.std.specs.Prelude.{ℕ, List, [], ◌∷◌, ◌++◌, codes, decimal
 use Rattle.hex.specs.Hex.{encode_lower}
 use Rattle.sha2.specs.Sha256.{sha256}
 use Rattle.snow_lines.specs.Text.{texts}
-use Rattle.snow_node.specs.Outcome.{Comes}
+use Rattle.snow_engine.specs.Staging.{Comes}
 use Rattle.snow_drill.specs.Told.{Told}
 use Rattle.snow_drill.specs.Drill.{Step, Drill, played, opened}
 

@@ -7,9 +7,8 @@ use crate::driven::Driven;
 use crate::player::Player;
 use crate::tally::Asked;
 use snow_base::{Header, Id, NodeId};
-use snow_lines::Lines;
 use snow_sample::Draw;
-use snow_wire::{Event, SentVote};
+use snow_wire::{Named, View};
 use std::alloc::AllocError;
 
 impl<E: Driven> Player<E> {
@@ -19,37 +18,28 @@ impl<E: Driven> Player<E> {
         ensures { OnOk result (Follows self.old self.new (λ d. model.with_words E.step n d)) }
     {
         let words = self.generator.values(self.alloc, n)?;
-        let event = Event::Words { words };
-        let came = self.make(&event);
-        // (by a call: what lets go of an event is many steps)
-        drop(event);
-        came
+        self.make(View::Words(&words))
     }
 
-    // A node's vote in the poll of a number. The log is empty before and after.
-    #[inline(always)]
-    fn vote(&mut self, number: u32, node: &NodeId, log: &mut Lines) -> Result<(), AllocError>
-        requires { log.old ≡ [] }
-        ensures follows { OnOk result (Follows self.old self.new (λ d. model.with_vote E.step number d node.now)) }
-        ensures empty { OnOk result (log.new ≡ []) }
+    // A node's vote in the poll of a number.
+    fn vote(&mut self, number: u32, node: &NodeId) -> Result<(), AllocError>
+        ensures { OnOk result (Follows self.old self.new (λ d. model.with_vote E.step number d node.now)) }
     {
         let picked = self.generator.pick(16);
         let id = voted(self.made.list(), &self.account.tally.tip(), picked);
-        let vote = SentVote {
+        self.make(View::Chits(Named {
             node: node.as_bytes(),
             request: number,
             id: id.as_bytes(),
-        };
-        self.make_vote(&vote, log)
+        }))
     }
 
-    // The votes of the nodes of draws in the poll of a number, one after another. The log is empty before.
-    fn vote_all(&mut self, number: u32, draws: &[Draw], log: &mut Lines) -> Result<(), AllocError>
-        requires { log.old ≡ [] }
+    // The votes of the nodes of draws in the poll of a number, one after another.
+    fn vote_all(&mut self, number: u32, draws: &[Draw]) -> Result<(), AllocError>
         ensures { OnOk result (Follows self.old self.new (λ d. fold (model.with_vote E.step number) d (map (λ draw. draw.node) draws.now))) }
     {
         for draw in draws {
-            self.vote(number, &draw.node, log)?;
+            self.vote(number, &draw.node)?;
         }
         Ok(())
     }
@@ -60,10 +50,7 @@ impl<E: Driven> Player<E> {
             fold (model.with_vote E.step query.now.number) (model.with_words E.step 20 d) query.now.nodes)) }
     {
         self.words(20)?;
-        let mut log = self.take_log();
-        let came = self.vote_all(query.number, query.nodes.draws(), &mut log);
-        self.log = log;
-        came
+        self.vote_all(query.number, query.nodes.draws())
     }
 
     /// Answers the oldest query that isn't answered. Where there is none it does nothing. On want

@@ -1,19 +1,19 @@
 ghost use Rattle.std.specs.Prelude.{◌≡◌, [], Ok, OnOk};
 ghost use Rattle.snow_engine.specs.Node.{step};
-ghost use Rattle.snow_wire.specs.Sent.{as_vote};
+ghost use Rattle.snow_wire.specs.Viewed.{as_event};
 
 use snow_chain::Chain;
 use snow_engine::Engine;
 use snow_lines::Lines;
 use snow_plain::Board;
-use snow_wire::{Event, SentVote};
+use snow_wire::View;
 use std::alloc::AllocError;
 
 /// A node that a drill drives by events. The drill doesn't look into it, and drops it by a call:
 /// dropping a whole node is many steps, which the engine's crate proves once.
 pub(crate) trait Driven: Sized {
     ghost use Rattle.std.specs.Prelude.{◌≡◌, [], Ok, OnOk};
-    ghost use Rattle.snow_wire.specs.Sent.{as_vote};
+    ghost use Rattle.snow_wire.specs.Viewed.{as_event};
     ghost use Rattle.snow_drill.specs.Drill.{Step};
 
     /// What an event makes of it, and its lines.
@@ -21,16 +21,10 @@ pub(crate) trait Driven: Sized {
 
     /// Gives the node the event of a frame, whose lines go to an empty log. A stop, to which no
     /// drill comes, counts as want of memory.
-    fn drive(&mut self, frame: u64, event: &Event, log: &mut Lines) -> Result<(), AllocError>
+    fn drive(&mut self, frame: u64, event: View<'_>, log: &mut Lines) -> Result<(), AllocError>
         requires { log.old ≡ [] }
-        ensures node { OnOk result ((step self.old frame event.now).1 ≡ Ok self.new) }
-        ensures lines { OnOk result (log.new ≡ (step self.old frame event.now).0) };
-
-    /// Gives the node a vote, and makes no event of it.
-    fn drive_vote(&mut self, frame: u64, vote: &SentVote, log: &mut Lines) -> Result<(), AllocError>
-        requires { log.old ≡ [] }
-        ensures node { OnOk result ((step self.old frame (as_vote vote.now)).1 ≡ Ok self.new) }
-        ensures lines { OnOk result (log.new ≡ (step self.old frame (as_vote vote.now)).0) };
+        ensures node { OnOk result ((step self.old frame (as_event event)).1 ≡ Ok self.new) }
+        ensures lines { OnOk result (log.new ≡ (step self.old frame (as_event event)).0) };
 
     /// Drops it.
     fn let_go(self);
@@ -39,21 +33,8 @@ pub(crate) trait Driven: Sized {
 impl<C: Chain, B: Board> Driven for Engine<C, B> {
     ghost step = { step C.rules B.answer };
 
-    fn drive(&mut self, frame: u64, event: &Event, log: &mut Lines) -> Result<(), AllocError> {
+    fn drive(&mut self, frame: u64, event: View<'_>, log: &mut Lines) -> Result<(), AllocError> {
         match self.step(frame, event, log) {
-            Ok(()) => Ok(()),
-            Err(_) => Err(AllocError),
-        }
-    }
-
-    #[inline(always)]
-    fn drive_vote(
-        &mut self,
-        frame: u64,
-        vote: &SentVote,
-        log: &mut Lines,
-    ) -> Result<(), AllocError> {
-        match self.take_vote(frame, vote, log) {
             Ok(()) => Ok(()),
             Err(_) => Err(AllocError),
         }

@@ -1,7 +1,7 @@
 ghost use Rattle.std.specs.Prelude.{◌≡◌, ◌<◌, OnOk, IfOk};
+ghost use Rattle.snow_wire.specs.Viewed.{words_in};
 ghost use Rattle.snow_drill.specs.Generator.{following, last_of, values, picked};
 
-use snow_base::Nums;
 use std::alloc::{AllocError, Global};
 use std::marker::Model;
 
@@ -51,16 +51,17 @@ impl Generator {
         (self.next() >> 33) % m
     }
 
-    /// Makes the next values, so many, and returns them. On want of memory it returns `AllocError`.
+    /// Makes the next values, so many, and returns each in eight bytes, the highest first. On want
+    /// of memory it returns `AllocError`.
     /// Rule: this project's own.
     #[tactic(auto, unfolding(crate::specs::Generator::values, crate::specs::Generator::last_of))]
-    pub fn values(&mut self, alloc: Global, n: u32) -> Result<Nums, AllocError>
-        ensures values { IfOk result (λ list. list ≡ values n self.old) }
+    pub fn values(&mut self, alloc: Global, n: u32) -> Result<Vec<[u8; 8]>, AllocError>
+        ensures values { IfOk result (λ list. words_in list.items ≡ values n self.old) }
         ensures state { OnOk result (self.new ≡ last_of n self.old) }
     {
-        let mut list = Nums::with_capacity(alloc, n as usize)?;
+        let mut list = Vec::with_capacity(alloc, n as usize)?;
         for _ in 0..n {
-            list.push(self.next())?;
+            list.push(self.next().to_be_bytes())?;
         }
         Ok(list)
     }

@@ -7,8 +7,8 @@ use crate::driven::Driven;
 use crate::made::Made;
 use crate::player::Player;
 use sha2::{Digest, Sha256};
-use snow_base::{Bytes, Header, Id, NodeId};
-use snow_wire::Event;
+use snow_base::{Bytes, Header, Id};
+use snow_wire::{Brought, View};
 use std::alloc::{AllocError, Global};
 
 impl<E: Driven> Player<E> {
@@ -27,14 +27,11 @@ impl<E: Driven> Player<E> {
             parent,
             height,
         })?;
-        let event = Event::Block {
-            node: NodeId::from_bytes([1; 20]),
+        self.make(View::Block(Brought {
+            node: &[1; 20],
             request: 0,
-            bytes,
-        };
-        let came = self.make(&event);
-        drop(event);
-        came
+            bytes: bytes.list(),
+        }))
     }
 
     /// Makes a new block of this number, whose parent is the tip, or one time in four the tip's

@@ -2,12 +2,12 @@
 use Rattle.std.proofs.Common.{ℕ, List, Option, Result, Err, refl, ap}
 use Rattle.snow_lines.specs.declared.line.Line.{Line}
 use Rattle.snow_lines.specs.declared.why.SkipKind.{SkipKind}
-use Rattle.snow_node.specs.declared.stop.EngineStop.{EngineStop}
-use Rattle.snow_node.specs.declared.stop.EngineStop.TheVariants as stop
+use Rattle.snow_engine.specs.declared.stop.EngineStop.{EngineStop}
+use Rattle.snow_engine.specs.declared.stop.EngineStop.TheVariants as stop
 use Rattle.snow_engine.specs.Staging.{Node}
 use Rattle.snow_engine.specs.Run.{standing, end_at}
 use Rattle.snow_engine.specs.Serving.{Stands, LogsFrame}
-use Rattle.snow_node.specs.Stopping.{Logs, StopsAs}
+use Rattle.snow_engine.specs.Stopping.{Logs, StopsAs}
 
 -- the run stands at the end that the stop is
 pub stands_in : (frame : ℕ) (s : EngineStop) (now : Option Node) (expected : Result Node EngineStop)

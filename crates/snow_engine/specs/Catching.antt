@@ -11,13 +11,12 @@ use Rattle.snow_lines.specs.declared.why.SkipKind.TheVariants as kind
 use Rattle.snow_store.specs.declared.stop.BootStop.{BootStop}
 use Rattle.snow_boot.specs.Booting.{Boot, Next, Going, Done, Outcome, begun, started as asked_first, frontier_came, accepted_came, ancestors_came, timeout_came, stored_came}
 use Rattle.snow_engine.specs.declared.stage.Stage.TheVariants as stage
-use Rattle.snow_node.specs.declared.stop.EngineStop.{EngineStop}
-use Rattle.snow_node.specs.declared.stop.EngineStop.TheVariants as stop
-use Rattle.snow_node.specs.Outcome.{Comes, quietly, with_line, stops}
+use Rattle.snow_engine.specs.declared.stop.EngineStop.{EngineStop}
+use Rattle.snow_engine.specs.declared.stop.EngineStop.TheVariants as stop
+use Rattle.snow_node.specs.Outcome.{quietly, with_line, stops}
 use Rattle.snow_engine.specs.Booting.{Booting}
 use Rattle.snow_node.specs.Running.{begun_above}
-use Rattle.snow_node.specs.Stepping.{stop_of_boot}
-use Rattle.snow_engine.specs.Staging.{Node}
+use Rattle.snow_engine.specs.Staging.{Node, Comes, stop_of_boot}
 use Rattle.snow_node.specs.Turning.{members}
 
 -- ---- what comes of bootstrapping

@@ -14,7 +14,7 @@ use Rattle.snow_lines.specs.declared.line.Line.TheVariants as line
 use Rattle.snow_lines.specs.declared.why.DropWhy.{DropWhy}
 use Rattle.snow_lines.specs.declared.why.DropWhy.TheVariants as why
 use Rattle.snow_lines.specs.declared.why.SkipKind.TheVariants as kind
-use Rattle.snow_node.specs.declared.stop.EngineStop.TheVariants as stop
+use Rattle.snow_node.specs.declared.stop.Halt.TheVariants as halt
 use Rattle.snow_node.specs.Outcome.{Comes, quietly, with_line, stops}
 use Rattle.snow_node.specs.Telling.{told, with_decisions}
 use Rattle.snow_node.specs.Placing.{opposed}
@@ -71,7 +71,7 @@ recorded answer node frame ids =
 
 -- a node that decides takes blocks and polls; a second Start stops it, and every other event is passed over
 unfoldable pub decides_on : Rules → Answer → Deciding → ℕ → Event → Comes Deciding
-decides_on rules answer node frame (event.Start s) = stops stop.SecondStart
+decides_on rules answer node frame (event.Start s) = stops halt.SecondStart
 decides_on rules answer node frame (event.Block from request bytes) = received rules answer node frame bytes (rules.header_of bytes)
 decides_on rules answer node frame (event.Poll ids) = recorded answer node frame ids
 decides_on rules answer node frame _ = with_line (line.Skip frame kind.Task) node

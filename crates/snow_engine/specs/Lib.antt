@@ -7,3 +7,4 @@ pub mod NodeCode
 pub mod Run
 pub mod Serving
 pub mod Staging
+pub mod Stopping

@@ -12,13 +12,13 @@ use Rattle.snow_wire.specs.declared.event.Start.{Start}
 use Rattle.snow_engine.specs.declared.stage.Stage.TheVariants as stage
 use Rattle.snow_engine.specs.declared.task.Task.{Task}
 use Rattle.snow_engine.specs.declared.task.Task.TheVariants as task
-use Rattle.snow_node.specs.declared.stop.EngineStop.{EngineStop}
-use Rattle.snow_node.specs.declared.stop.EngineStop.TheVariants as stop
-use Rattle.snow_node.specs.Outcome.{Comes, quietly, stops}
+use Rattle.snow_engine.specs.declared.stop.EngineStop.{EngineStop}
+use Rattle.snow_engine.specs.declared.stop.EngineStop.TheVariants as stop
+use Rattle.snow_node.specs.Outcome.{quietly, stops}
 use Rattle.snow_engine.specs.Catching.{boots_first, boots_on}
 use Rattle.snow_engine.specs.Deciding.{Deciding, decides_on}
 use Rattle.snow_node.specs.Running.{Running, begun_above}
-use Rattle.snow_engine.specs.Staging.{Node, staged, goes_as}
+use Rattle.snow_engine.specs.Staging.{Node, Comes, begun_as, goes_as}
 use Rattle.snow_node.specs.Turning.{members, runs_on}
 
 -- ---- the start
@@ -54,7 +54,7 @@ runs_with rules s p None = if rules.takes s.state then begun_by s p else stops s
 -- the node of a task, where the parameters pass their check
 abbrev pub begins_with : Rules → Task → Start → Result Parameters ParamFault → Comes Node
 begins_with rules task s (Err fault) = stops (stop.Params fault)
-begins_with rules task.Decide s (Ok p) = ([], staged stage.Deciding (decides_with rules s p))
+begins_with rules task.Decide s (Ok p) = ([], begun_as stage.Deciding (decides_with rules s p))
 begins_with rules task.Run s (Ok p) = runs_with rules s p (first_fault (members s.nodes))
 
 -- what a Start makes: a node that bootstraps asks for frontiers at once, and no other writes a line

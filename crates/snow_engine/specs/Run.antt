@@ -4,21 +4,22 @@ use Rattle.snow_flake.specs.Rule.{Answer}
 use Rattle.snow_chain.specs.Chain.{Rules}
 use Rattle.snow_wire.specs.declared.event.Event.{Event}
 use Rattle.snow_wire.specs.declared.event.Event.TheVariants as event
-use Rattle.snow_wire.specs.Reading.{Fault, Tag, Short, Extra, Count, event_of}
+use Rattle.snow_wire.specs.declared.fault.Fault.{Fault}
+use Rattle.snow_wire.specs.declared.fault.Fault.TheVariants.{Tag, Short, Extra, Count}
+use Rattle.snow_wire.specs.Reading.{event_of}
 use Rattle.snow_wire.specs.Frame.{frames_of, is_too_long}
 use Rattle.snow_lines.specs.declared.line.Line.{Line}
 use Rattle.snow_lines.specs.declared.line.Line.TheVariants as line
 use Rattle.snow_lines.specs.declared.why.SkipKind.{SkipKind}
 use Rattle.snow_lines.specs.declared.why.SkipKind.TheVariants as skip
 use Rattle.snow_engine.specs.declared.task.Task.{Task}
-use Rattle.snow_node.specs.declared.stop.EngineStop.{EngineStop}
-use Rattle.snow_node.specs.declared.stop.EngineStop.TheVariants as stop
+use Rattle.snow_engine.specs.declared.stop.EngineStop.{EngineStop}
+use Rattle.snow_engine.specs.declared.stop.EngineStop.TheVariants as stop
 use Rattle.snow_engine.specs.declared.end.BadKind.TheVariants as kind
 use Rattle.snow_engine.specs.declared.end.End.{End}
 use Rattle.snow_engine.specs.declared.end.End.TheVariants as end
-use Rattle.snow_node.specs.Outcome.{Comes}
 use Rattle.snow_engine.specs.Node.{started, step}
-use Rattle.snow_engine.specs.Staging.{Node}
+use Rattle.snow_engine.specs.Staging.{Node, Comes}
 
 -- where a run stands: before its first frame, at a node, or at its end
 pub data Stand : Type 0 where

@@ -15,11 +15,9 @@ use Rattle.snow_engine.specs.declared.task.Task.{Task}
 use Rattle.snow_engine.specs.declared.end.BadKind.TheVariants as kind
 use Rattle.snow_engine.specs.declared.end.End.{End}
 use Rattle.snow_engine.specs.declared.end.End.TheVariants as end
-use Rattle.snow_engine.specs.declared.end.Over.{Over}
-use Rattle.snow_node.specs.declared.stop.EngineStop.{EngineStop}
 use Rattle.snow_engine.specs.Ends.{is_stop}
 use Rattle.snow_engine.specs.Staging.{Node}
-use Rattle.snow_engine.specs.Run.{Stand, Fresh, Going, Stopped, end_at, after_frame, after_frames, is_stopped, lines_of, shows_stop}
+use Rattle.snow_engine.specs.Run.{Stand, Fresh, Going, Stopped, after_frame, after_frames, is_stopped, lines_of, shows_stop}
 use Rattle.snow_node.specs.Stepping.{LogsFront}
 
 -- where a run stands that has this node, or none yet
@@ -39,16 +37,6 @@ abbrev pub Stands : {T : Type 0} → Result T End → Option Node → Stand → 
 Stands (Ok x) now expected = expected ≡ stand_of now
 Stands (Err end.Memory) now expected = ⊤
 Stands (Err e) now expected = (is_stop e ≡ true) × (expected ≡ Stopped e)
-
--- an answer, and where a step stopped the end of the run that this makes at this frame
-abbrev pub ends_in : {T : Type 0} → ℕ → Result T EngineStop → Result T End
-ends_in frame (Ok x) = Ok x
-ends_in frame (Err stop) = Err (end_at frame stop)
-
--- an answer, and where the run is over the end that was kept
-abbrev pub ends_by : {T : Type 0} → End → Result T Over → Result T End
-ends_by kept (Ok x) = Ok x
-ends_by kept (Err over) = Err kept
 
 -- what is told of a frame: that it was passed over, which stands in no log, or what was logged
 abbrev pub told : {E : Type 0} → ℕ → Result (Option SkipKind) E → List Line → List Line

@@ -8,15 +8,18 @@ ghost use Rattle.snow_chain.specs.Chain.{next_on};
 ghost use Rattle.snow_engine.specs.Deciding as model;
 ghost use Rattle.snow_engine.specs.Node.{decides_with};
 ghost use Rattle.snow_node.specs.Placing.{opposed};
-ghost use Rattle.snow_node.specs.Stepping.{Tells, Starts, Turns};
+ghost use Rattle.snow_engine.specs.Stopping.{Starts};
+ghost use Rattle.snow_node.specs.Stepping.{Tells, Turns};
+ghost use Rattle.snow_wire.specs.Viewed.{as_event};
 
+use crate::stop::EngineStop;
 use snow_base::{Header, Ids};
 use snow_chain::Chain;
 use snow_flake::Params;
 use snow_lines::{DropWhy, Line, Lines, SkipKind};
-use snow_node::{EngineStop, Halt, admit, apply_votes, opposition, tell, write};
+use snow_node::{Halt, admit, apply_votes, opposition, tell, write};
 use snow_plain::Board;
-use snow_wire::{Event, Start};
+use snow_wire::{Start, View};
 use std::alloc::Global;
 use std::marker::Model;
 
@@ -28,6 +31,8 @@ pub struct Deciding<C: Chain, B: Board> {
     params: Params,
     board: B,
     chain: C,
+    /// Room for the votes of a poll.
+    ids: Ids,
 }
 
 impl<C: Chain, B: Board> Model for Deciding<C, B> {
@@ -60,6 +65,7 @@ impl<C: Chain, B: Board> Deciding<C, B> {
             params,
             board,
             chain,
+            ids: Ids::new(alloc),
         })
     }
 
@@ -68,14 +74,14 @@ impl<C: Chain, B: Board> Deciding<C, B> {
     /// event's lines.
     /// Rule: AvalancheGo, snow/consensus/snowman.
     #[tactic(auto, unfolding(crate::specs::Deciding::decides_on), using(snow_node::proofs::Logs::logs_nothing))]
-    pub fn step(&mut self, frame: u64, event: &Event, log: &mut Lines) -> Result<(), Halt>
-        ensures answer { Turns result self.new (model.decides_on C.rules B.answer self.old frame event.now).1 }
-        ensures lines { Tells result log.old log.new (model.decides_on C.rules B.answer self.old frame event.now).0 }
+    pub fn step(&mut self, frame: u64, event: View<'_>, log: &mut Lines) -> Result<(), Halt>
+        ensures answer { Turns result self.new (model.decides_on C.rules B.answer self.old frame (as_event event)).1 }
+        ensures lines { Tells result log.old log.new (model.decides_on C.rules B.answer self.old frame (as_event event)).0 }
     {
         match event {
-            Event::Start(_) => Err(Halt::SecondStart),
-            Event::Block { bytes, .. } => self.receive(frame, bytes.list(), log),
-            Event::Poll { ids } => self.record(frame, ids, log),
+            View::Start(_) => Err(Halt::SecondStart),
+            View::Block(block) => self.on_block(frame, block.bytes, log),
+            View::Poll(votes) => self.on_poll(frame, votes, log),
             _ => write(
                 Line::Skip {
                     frame,
@@ -86,10 +92,8 @@ impl<C: Chain, B: Board> Deciding<C, B> {
         }
     }
 
-    /// Takes a block's bytes, which came in this frame, as `step` does a Block. It returns `Memory`
-    /// on want of memory.
-    /// Rule: AvalancheGo, snow/consensus/snowman.
-    pub fn receive(&mut self, frame: u64, bytes: &[u8], log: &mut Lines) -> Result<(), Halt>
+    /// Takes a block's bytes.
+    fn on_block(&mut self, frame: u64, bytes: &[u8], log: &mut Lines) -> Result<(), Halt>
         ensures answer { Turns result self.new (model.received C.rules B.answer self.old frame bytes.now (C.rules.header_of bytes.now)).1 }
         ensures lines { Tells result log.old log.new (model.received C.rules B.answer self.old frame bytes.now (C.rules.header_of bytes.now)).0 }
     {
@@ -156,16 +160,13 @@ impl<C: Chain, B: Board> Deciding<C, B> {
         Ok(())
     }
 
-    /// Takes a poll with one vote for each of these identifiers, as `step` does a Poll. More than K
-    /// votes write a line and change nothing else. It returns `Memory` on want of memory. It is a
-    /// function apart, so that the step of every other frame keeps no room for it.
-    /// Rule: AvalancheGo, snow/consensus/snowman.
-    #[inline(never)]
-    pub fn record(&mut self, frame: u64, ids: &Ids, log: &mut Lines) -> Result<(), Halt>
-        ensures answer { Turns result self.new (model.recorded B.answer self.old frame ids.now).1 }
-        ensures lines { Tells result log.old log.new (model.recorded B.answer self.old frame ids.now).0 }
+    /// Records a poll with one vote for each of these identifiers. More than K votes write a line
+    /// and change nothing else.
+    fn on_poll(&mut self, frame: u64, votes: &[[u8; 32]], log: &mut Lines) -> Result<(), Halt>
+        ensures answer { Turns result self.new (model.recorded B.answer self.old frame votes.now).1 }
+        ensures lines { Tells result log.old log.new (model.recorded B.answer self.old frame votes.now).0 }
     {
-        if ids.list().len() > self.params.k() as usize {
+        if votes.len() > self.params.k() as usize {
             return write(
                 Line::Skip {
                     frame,
@@ -174,8 +175,9 @@ impl<C: Chain, B: Board> Deciding<C, B> {
                 log,
             );
         }
+        self.ids.replace(votes)?;
         let before = self.board.preference();
-        apply_votes(&mut self.board, &mut self.chain, ids.list())?;
+        apply_votes(&mut self.board, &mut self.chain, self.ids.list())?;
         tell(&self.board, &before, log)?;
         Ok(())
     }

@@ -1,9 +1,9 @@
 ghost use Rattle.std.specs.Prelude.{◌≡◌};
 ghost use Rattle.snow_engine.specs.Run.{end_at};
 
+use crate::stop::EngineStop;
 use snow_boot::BootStop;
 use snow_flake::ParamFault;
-use snow_node::EngineStop;
 use snow_sample::RosterFault;
 
 /// What is wrong with an input, at the frame at which the run stops. `Params`, `Roster` and `State`
@@ -70,8 +70,3 @@ impl End {
         End::BadInput { frame, kind }
     }
 }
-
-/// Tells that the run is over. How it ended stands aside.
-/// Rule: this project's own.
-#[derive(Clone, Copy, Debug, PartialEq, Eq)]
-pub struct Over;

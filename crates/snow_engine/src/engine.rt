@@ -2,25 +2,24 @@ ghost use Rattle.std.specs.Prelude.{◌≡◌, true, IfOk};
 ghost use Rattle.snow_flake.specs.Parameters.{AreGood, checked};
 ghost use Rattle.snow_sample.specs.Roster.{first_fault};
 ghost use Rattle.snow_chain.specs.Chain.{begun};
-ghost use Rattle.snow_wire.specs.Sent.{as_event, as_timeout, as_vote};
-ghost use Rattle.snow_wire.specs.declared.event.Event.TheVariants as event;
+ghost use Rattle.snow_wire.specs.Viewed.{as_event};
 ghost use Rattle.snow_engine.specs.Node as model;
-ghost use Rattle.snow_node.specs.Stepping.{Starts, Tells, Turns};
-ghost use Rattle.snow_node.specs.Stopping.{Logs, Steps, stops_by};
+ghost use Rattle.snow_engine.specs.Stopping.{Logs, Starts, Steps};
 ghost use Rattle.snow_node.specs.Turning.{members};
 
 use crate::booting::Booting;
 use crate::deciding::Deciding;
 use crate::stage::{Node, Stage};
+use crate::stop::EngineStop;
 use crate::task::Task;
-use snow_base::{Ids, NodeId, Numbers};
+use snow_base::Numbers;
 use snow_chain::Chain;
 use snow_flake::{ParamFault, Params};
-use snow_lines::{Line, Lines, SkipKind};
-use snow_node::{EngineStop, Halt, Running, roster_of, write};
+use snow_lines::Lines;
+use snow_node::{Running, roster_of};
 use snow_plain::Board;
-use snow_sample::{Draws, Roster, Words};
-use snow_wire::{Event, SentBlock, SentTimeout, SentVote, Start};
+use snow_sample::{Roster, Words};
+use snow_wire::{Start, View};
 use std::alloc::Global;
 use std::marker::Model;
 use std::mem;
@@ -32,6 +31,7 @@ use std::mem;
 #[derive(Drop)]
 pub struct Engine<C: Chain, B: Board> {
     stage: Node<C, B>,
+    alloc: Global,
 }
 
 impl<C: Chain, B: Board> Model for Engine<C, B> {
@@ -70,7 +70,7 @@ impl<C: Chain, B: Board> Engine<C, B> {
             Task::Decide => Stage::Deciding(Deciding::start(alloc, first, params)?),
             Task::Run => begin(alloc, first, params, log)?,
         };
-        Ok(Engine { stage })
+        Ok(Engine { stage, alloc })
     }
 
     /// Takes one event, which came in this frame. It returns `SecondStart` at a second Start,
@@ -78,199 +78,43 @@ impl<C: Chain, B: Board> Engine<C, B> {
     /// and `Memory` on want of memory. After a stop the caller only drops the engine. The log has
     /// all lines before the stop, after `Memory` a front of the event's lines.
     /// Rule: AvalancheGo, snow/engine/snowman.
-    pub fn step(&mut self, frame: u64, event: &Event, log: &mut Lines) -> Result<(), EngineStop>
-        ensures answer { Steps result self.new (model.step C.rules B.answer self.old frame event.now).1 }
-        ensures lines { Logs result log.old log.new (model.step C.rules B.answer self.old frame event.now).0 }
-    {
-        let mut kept = EngineStop::Memory;
-        match self.turn(frame, event, log, &mut kept) {
-            Ok(()) => Ok(()),
-            Err(halt) => Err(halt.stop(&kept)),
-        }
-    }
-
-    /// Takes one vote, which came in this frame, as `step` does its Chits, and returns what `step`
-    /// does. It makes no event of it, and only looks at its bytes.
-    /// Rule: AvalancheGo, snow/engine/snowman.
-    #[inline(always)]
-    #[tactic(auto, using(crate::proofs::Staged::stopped, crate::proofs::Staged::told))]
-    pub fn take_vote(
+    #[tactic(auto, using(crate::proofs::Staged::turned, crate::proofs::Staged::halted, crate::proofs::Staged::logged))]
+    pub fn step(
         &mut self,
         frame: u64,
-        vote: &SentVote,
+        event: View<'_>,
         log: &mut Lines,
     ) -> Result<(), EngineStop>
-        ensures answer { Steps result self.new (model.step C.rules B.answer self.old frame (as_vote vote.now)).1 }
-        ensures lines { Logs result log.old log.new (model.step C.rules B.answer self.old frame (as_vote vote.now)).0 }
-    {
-        match self.hear(frame, vote, log) {
-            Ok(()) => Ok(()),
-            Err(halt) => Err(halt.stop(&EngineStop::Memory)),
-        }
-    }
-
-    /// Takes one event. It returns a short stop; one that has more to tell stands aside.
-    #[tactic(auto, using(crate::proofs::Staged::turned, crate::proofs::Staged::stopped, crate::proofs::Staged::told))]
-    pub(crate) fn turn(
-        &mut self,
-        frame: u64,
-        event: &Event,
-        log: &mut Lines,
-        kept: &mut EngineStop,
-    ) -> Result<(), Halt>
-        ensures answer { Steps (stops_by kept.new result) self.new (model.step C.rules B.answer self.old frame event.now).1 }
-        ensures lines { Logs (stops_by kept.new result) log.old log.new (model.step C.rules B.answer self.old frame event.now).0 }
+        ensures answer { Steps result self.new (model.step C.rules B.answer self.old frame (as_event event)).1 }
+        ensures lines { Logs result log.old log.new (model.step C.rules B.answer self.old frame (as_event event)).0 }
     {
         match &mut self.stage {
-            Stage::Deciding(node) => node.step(frame, event, log),
-            Stage::Booting(_) => self.catch_up(frame, event, log, kept),
-            Stage::Running(node) => node.step(frame, event, log),
+            Stage::Deciding(node) => match node.step(frame, event, log) {
+                Ok(()) => Ok(()),
+                Err(halt) => Err(EngineStop::from(halt)),
+            },
+            Stage::Booting(_) => self.catch_up(frame, event, log),
+            Stage::Running(node) => match node.step(frame, event, log) {
+                Ok(()) => Ok(()),
+                Err(halt) => Err(EngineStop::from(halt)),
+            },
             Stage::Ended => Ok(()),
         }
     }
 
-    /// Takes a Block whose bytes stand where they came. It copies them only where it keeps the
-    /// block, and puts no stop aside.
-    #[tactic(auto, unfolding(crate::specs::Deciding::decides_on, crate::specs::Catching::boots_on), using(crate::proofs::Staged::turned))]
-    pub(crate) fn receive(
-        &mut self,
-        frame: u64,
-        block: &SentBlock,
-        log: &mut Lines,
-    ) -> Result<(), Halt>
-        ensures answer { Turns result self.new (model.step C.rules B.answer self.old frame (as_event block.now)).1 }
-        ensures lines { Tells result log.old log.new (model.step C.rules B.answer self.old frame (as_event block.now)).0 }
-    {
-        match &mut self.stage {
-            Stage::Deciding(node) => node.receive(frame, block.bytes, log),
-            Stage::Booting(_) => write(
-                Line::Skip {
-                    frame,
-                    kind: SkipKind::Stage,
-                },
-                log,
-            ),
-            Stage::Running(node) => node.receive(frame, block, log),
-            Stage::Ended => Ok(()),
-        }
-    }
-
-    /// Takes a Chits whose bytes stand where they came. A node that bootstraps awaits no vote.
-    #[inline(always)]
-    #[tactic(auto, unfolding(crate::specs::Deciding::decides_on, crate::specs::Catching::boots_on, snow_node::specs::Turning::runs_on), using(crate::proofs::Staged::turned))]
-    pub(crate) fn hear(&mut self, frame: u64, vote: &SentVote, log: &mut Lines) -> Result<(), Halt>
-        ensures answer { Turns result self.new (model.step C.rules B.answer self.old frame (as_vote vote.now)).1 }
-        ensures lines { Tells result log.old log.new (model.step C.rules B.answer self.old frame (as_vote vote.now)).0 }
-    {
-        match &mut self.stage {
-            Stage::Deciding(_) => write(
-                Line::Skip {
-                    frame,
-                    kind: SkipKind::Task,
-                },
-                log,
-            ),
-            Stage::Running(node) => node.hear_vote(vote.request, vote.node, vote.id, log),
-            Stage::Booting(_) | Stage::Ended => Ok(()),
-        }
-    }
-
-    /// Takes a Timeout whose bytes stand where they came. A node that bootstraps may await it, and
-    /// its stop may stand aside.
-    #[inline(always)]
-    #[tactic(auto, unfolding(crate::specs::Deciding::decides_on, snow_node::specs::Turning::runs_on), using(crate::proofs::Staged::turned, crate::proofs::Staged::stopped, crate::proofs::Staged::told))]
-    pub(crate) fn lapse(
-        &mut self,
-        frame: u64,
-        timeout: &SentTimeout,
-        log: &mut Lines,
-        kept: &mut EngineStop,
-    ) -> Result<(), Halt>
-        ensures answer { Steps (stops_by kept.new result) self.new (model.step C.rules B.answer self.old frame (as_timeout timeout.now)).1 }
-        ensures lines { Logs (stops_by kept.new result) log.old log.new (model.step C.rules B.answer self.old frame (as_timeout timeout.now)).0 }
-    {
-        match &mut self.stage {
-            Stage::Deciding(_) => write(
-                Line::Skip {
-                    frame,
-                    kind: SkipKind::Task,
-                },
-                log,
-            ),
-            Stage::Booting(_) => self.give_up(frame, timeout, log, kept),
-            Stage::Running(node) => node.lapse(timeout.request, timeout.node, log),
-            Stage::Ended => Ok(()),
-        }
-    }
-
-    /// Takes a Poll whose votes stand in a list that is used again.
-    #[inline(always)]
-    #[tactic(auto, unfolding(crate::specs::Deciding::decides_on, crate::specs::Catching::boots_on, snow_node::specs::Turning::runs_on), using(crate::proofs::Staged::turned))]
-    pub(crate) fn record(&mut self, frame: u64, ids: &Ids, log: &mut Lines) -> Result<(), Halt>
-        ensures answer { Turns result self.new (model.step C.rules B.answer self.old frame (event.Poll ids.now)).1 }
-        ensures lines { Tells result log.old log.new (model.step C.rules B.answer self.old frame (event.Poll ids.now)).0 }
-    {
-        match &mut self.stage {
-            Stage::Deciding(node) => node.record(frame, ids, log),
-            Stage::Booting(_) | Stage::Running(_) => write(
-                Line::Skip {
-                    frame,
-                    kind: SkipKind::Task,
-                },
-                log,
-            ),
-            Stage::Ended => Ok(()),
-        }
-    }
-
-    /// Takes back the draws of a query that was written, for the next one of a node that runs.
-    pub(crate) fn take_back(&mut self, draws: Draws)
-        ensures { self.new ≡ self.old }
-    {
-        match &mut self.stage {
-            Stage::Running(node) => node.take_back(draws),
-            _ => drop(draws),
-        }
-    }
-
-    /// Gives a timeout to a node that bootstraps. It is a function apart, so that no other node's
-    /// pays for the room of an event.
-    #[inline(never)]
-    fn give_up(
-        &mut self,
-        frame: u64,
-        timeout: &SentTimeout,
-        log: &mut Lines,
-        kept: &mut EngineStop,
-    ) -> Result<(), Halt>
-        requires { model.is_booting self.old ≡ true }
-        ensures answer { Steps (stops_by kept.new result) self.new (model.step C.rules B.answer self.old frame (as_timeout timeout.now)).1 }
-        ensures lines { Logs (stops_by kept.new result) log.old log.new (model.step C.rules B.answer self.old frame (as_timeout timeout.now)).0 }
-    {
-        let event = Event::Timeout {
-            node: NodeId::from_bytes(*timeout.node),
-            request: timeout.request,
-        };
-        let caught_up = self.catch_up(frame, &event, log, kept);
-        drop(event);
-        caught_up
-    }
-
-    /// Gives one event to a node that bootstraps. At a stop, which stands aside, it drops the node.
-    /// It is a function apart, so that no other node's event pays for the room of a node that is
-    /// moved.
-    #[inline(never)]
+    /// Gives one event to a node that bootstraps. At a stop it drops the node.
+    #[tactic(auto, using(snow_node::proofs::Logs::logs_nothing))]
     fn catch_up(
         &mut self,
         frame: u64,
-        event: &Event,
+        event: View<'_>,
         log: &mut Lines,
-        kept: &mut EngineStop,
-    ) -> Result<(), Halt>
+    ) -> Result<(), EngineStop>
         requires { model.is_booting self.old ≡ true }
-        ensures answer { Steps (stops_by kept.new result) self.new (model.step C.rules B.answer self.old frame event.now).1 }
-        ensures lines { Logs (stops_by kept.new result) log.old log.new (model.step C.rules B.answer self.old frame event.now).0 }
+        ensures answer { Steps result self.new (model.step C.rules B.answer self.old frame (as_event event)).1 }
+        ensures lines { Logs result log.old log.new (model.step C.rules B.answer self.old frame (as_event event)).0 }
     {
+        let event = event.to_event(self.alloc)?;
         let node = match mem::replace(&mut self.stage, Stage::Ended) {
             Stage::Booting(node) => node,
             other => {
@@ -278,16 +122,15 @@ impl<C: Chain, B: Board> Engine<C, B> {
                 return Ok(());
             }
         };
-        match node.step(frame, event, log) {
-            Ok(stage) => {
-                drop(mem::replace(&mut self.stage, stage));
-                Ok(())
-            }
-            Err(stop) => {
-                *kept = stop;
-                Err(Halt::Kept)
-            }
-        }
+        let stage = node.step(frame, &event, log)?;
+        drop(mem::replace(&mut self.stage, stage));
+        Ok(())
+    }
+
+    /// Drops the engine. A call of it is one step in a proof, where dropping a whole node is many.
+    /// Rule: this project's own.
+    pub fn let_go(self) {
+        drop(self);
     }
 }
 

@@ -9,11 +9,12 @@ mod runner;
 mod serving;
 mod session;
 mod stage;
+mod stop;
 mod task;
 
-pub use end::{BadKind, End, Over};
+pub use end::{BadKind, End};
 pub use engine::Engine;
 pub use runner::Runner;
 pub use serving::{LIMIT, serve};
-pub use snow_node::EngineStop;
+pub use stop::EngineStop;
 pub use task::Task;

@@ -82,8 +82,8 @@ impl<C: Chain, B: Board> Session<C, B> {
             if taken == 0 {
                 return self.end_of_input();
             }
-            if let Err(_) = self.work(out) {
-                return self.runner.end;
+            if let Err(end) = self.work(out) {
+                return end;
             }
             room -= taken as u64;
         }

@@ -6,9 +6,9 @@ ghost use Rattle.snow_lines.specs.declared.line.Line.TheVariants as line;
 ghost use Rattle.snow_wire.specs.Frame.{first_of, is_too_long};
 ghost use Rattle.snow_wire.specs.Stream.{fresh};
 ghost use Rattle.snow_engine.specs.Run.{end_behind};
-ghost use Rattle.snow_engine.specs.Serving.{stand_of, ends_by, told, has_sink_failed, Goes, GathersLines, WritesLines, SinkFails, one_worked, all_worked};
+ghost use Rattle.snow_engine.specs.Serving.{stand_of, told, has_sink_failed, Goes, GathersLines, WritesLines, SinkFails, one_worked, all_worked};
 
-use crate::end::{BadKind, End, Over};
+use crate::end::{BadKind, End};
 use crate::runner::Runner;
 use crate::task::Task;
 use snow_base::{Failed, Sink};
@@ -68,62 +68,46 @@ impl<C: Chain, B: Board> Session<C, B> {
         }
     }
 
-    /// Returns whether the run is over, as the sink failed.
-    fn has_sink_failed(&self, worked: &Result<(), Over>) -> bool
-        ensures { result ≡ has_sink_failed (ends_by self.now.runner.end worked.now) }
-    {
-        match self.runner.end {
-            End::SinkFault => worked.is_err(),
-            _ => false,
-        }
-    }
-
     /// Works the first frame that the decoder holds, and gathers its lines. It returns `false`
     /// where the decoder holds no whole frame.
-    fn work_next<O: Sink>(&mut self, out: &mut O) -> Result<bool, Over>
+    fn work_next<O: Sink>(&mut self, out: &mut O) -> Result<bool, End>
         requires { self.old.decoder.given < 2 ^ 64 - 1 }
-        ensures goes { Goes (ends_by self.new.runner.end result) self.new.runner.engine self.new.decoder
+        ensures goes { Goes result self.new.runner.engine self.new.decoder
             (one_worked C.rules B.answer self.old.runner.task (stand_of self.old.runner.engine) self.old.decoder) }
-        ensures lines { GathersLines (ends_by self.new.runner.end result) (O.written out.old) self.old.page (O.written out.new) self.new.page
+        ensures lines { GathersLines result (O.written out.old) self.old.page (O.written out.new) self.new.page
             (one_worked C.rules B.answer self.old.runner.task (stand_of self.old.runner.engine) self.old.decoder).lines }
         ensures one { IfOk result (λ found. found ≡ is_some (first_of self.old.decoder.rest)) }
         ensures fine { result ≡ Ok false → is_too_long self.old.decoder.rest ≡ false }
-        ensures fault { SinkFails (ends_by self.new.runner.end result) (O.faults out.old) (O.faults out.new) }
+        ensures fault { SinkFails result (O.faults out.old) (O.faults out.new) }
         ensures later { O.faults out.old ≤ O.faults out.new }
         ensures task { self.new.runner.task ≡ self.old.runner.task }
     {
         match self.decoder.next() {
-            Err(long) => {
-                self.runner.end = End::BadInput {
-                    frame: long.number,
-                    kind: BadKind::Length,
-                };
-                Err(Over)
-            }
+            Err(long) => Err(End::BadInput {
+                frame: long.number,
+                kind: BadKind::Length,
+            }),
             Ok(None) => Ok(false),
             Ok(Some(frame)) => {
                 let number = frame.number;
                 let worked = self.runner.work(number, frame.payload);
                 match gather(&mut self.page, number, &worked, self.runner.log.list(), out) {
                     Ok(()) => worked.map(|_| true),
-                    Err(_) => {
-                        self.runner.end = End::SinkFault;
-                        Err(Over)
-                    }
+                    Err(_) => Err(End::SinkFault),
                 }
             }
         }
     }
 
     /// Works all whole frames that the decoder holds, and gathers their lines.
-    fn work_frames<O: Sink>(&mut self, out: &mut O) -> Result<(), Over>
+    fn work_frames<O: Sink>(&mut self, out: &mut O) -> Result<(), End>
         requires { 4 * self.old.decoder.given + length self.old.decoder.rest ≤ 2 ^ 40 }
-        ensures goes { Goes (ends_by self.new.runner.end result) self.new.runner.engine self.new.decoder
+        ensures goes { Goes result self.new.runner.engine self.new.decoder
             (all_worked C.rules B.answer self.old.runner.task (stand_of self.old.runner.engine) self.old.decoder) }
-        ensures lines { GathersLines (ends_by self.new.runner.end result) (O.written out.old) self.old.page (O.written out.new) self.new.page
+        ensures lines { GathersLines result (O.written out.old) self.old.page (O.written out.new) self.new.page
             (all_worked C.rules B.answer self.old.runner.task (stand_of self.old.runner.engine) self.old.decoder).lines }
         ensures fine { OnOk result (is_too_long self.new.decoder.rest ≡ false) }
-        ensures fault { SinkFails (ends_by self.new.runner.end result) (O.faults out.old) (O.faults out.new) }
+        ensures fault { SinkFails result (O.faults out.old) (O.faults out.new) }
         ensures later { O.faults out.old ≤ O.faults out.new }
         ensures task { self.new.runner.task ≡ self.old.runner.task }
     {
@@ -135,40 +119,46 @@ impl<C: Chain, B: Board> Session<C, B> {
     /// written before, nor behind. Where the run ends it returns `Over`, and the runner's `end`
     /// tells how. At most 2^40 bytes came.
     /// Rule: this project's own.
-    pub fn work<O: Sink>(&mut self, out: &mut O) -> Result<(), Over>
+    pub fn work<O: Sink>(&mut self, out: &mut O) -> Result<(), End>
         requires small { 4 * self.old.decoder.given + length self.old.decoder.rest ≤ 2 ^ 40 }
         requires empty { self.old.page ≡ [] }
-        ensures goes { Goes (ends_by self.new.runner.end result) self.new.runner.engine self.new.decoder
+        ensures goes { Goes result self.new.runner.engine self.new.decoder
             (all_worked C.rules B.answer self.old.runner.task (stand_of self.old.runner.engine) self.old.decoder) }
-        ensures lines { WritesLines (ends_by self.new.runner.end result) (O.written out.old) (O.written out.new)
+        ensures lines { WritesLines result (O.written out.old) (O.written out.new)
             (all_worked C.rules B.answer self.old.runner.task (stand_of self.old.runner.engine) self.old.decoder).lines }
         ensures fine { OnOk result (is_too_long self.new.decoder.rest ≡ false) }
         ensures empty { OnOk result (self.new.page ≡ []) }
-        ensures fault { SinkFails (ends_by self.new.runner.end result) (O.faults out.old) (O.faults out.new) }
+        ensures fault { SinkFails result (O.faults out.old) (O.faults out.new) }
         ensures later { O.faults out.old ≤ O.faults out.new }
         ensures task { self.new.runner.task ≡ self.old.runner.task }
     {
         let worked = self.work_frames(out);
-        if self.has_sink_failed(&worked) {
+        if has_sink_failed(&worked) {
             return worked;
         }
         match self.page.flush(out) {
             Ok(()) => worked,
-            Err(_) => {
-                self.runner.end = End::SinkFault;
-                Err(Over)
-            }
+            Err(_) => Err(End::SinkFault),
         }
+    }
+}
+
+/// Returns whether the run is over, as the sink failed.
+fn has_sink_failed(worked: &Result<(), End>) -> bool
+    ensures { result ≡ has_sink_failed worked.now }
+{
+    match worked {
+        Err(End::SinkFault) => true,
+        _ => false,
     }
 }
 
 /// Gathers the lines of a frame that was worked.
 #[tactic(auto, using(crate::proofs::Worked::one_text))]
-#[inline(always)]
 fn gather<O: Sink>(
     page: &mut Page,
     frame: u64,
-    worked: &Result<Option<SkipKind>, Over>,
+    worked: &Result<Option<SkipKind>, End>,
     log: &[Line],
     out: &mut O,
 ) -> Result<(), Failed>
@@ -182,9 +172,7 @@ fn gather<O: Sink>(
     }
 }
 
-/// Gathers the line of a frame that is passed over. It is a function apart, so that no other frame
-/// pays for the room of a line.
-#[inline(never)]
+/// Gathers the line of a frame that is passed over.
 #[tactic(auto, using(crate::proofs::Worked::one_text))]
 fn print_skip<O: Sink>(
     page: &mut Page,

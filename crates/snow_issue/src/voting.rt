@@ -21,7 +21,6 @@ impl Queue {
     /// Returns whether a reply's vote is the very block that it names and may be counted as it
     /// comes: the block is pending, and neither waits nor is asked for. Mostly that is so.
     /// Rule: AvalancheGo, snow/engine/snowman.
-    #[inline(always)]
     pub fn is_own_vote<B: Board>(&self, id: &Id, board: &B) -> bool
         ensures is { result ≡ is_own_vote (lists_of self.now) (B.board board.now) id.now }
         ensures vote { result ≡ true → vote_at_once (lists_of self.now) (B.board board.now) id.now ≡ Some (Some id.now) }
@@ -36,19 +35,7 @@ impl Queue {
     /// done. The vote may be none. It returns `None` where the reply has to be held: its block
     /// waits, is asked for, or is to be asked for.
     /// Rule: AvalancheGo, snow/engine/snowman.
-    #[inline(always)]
     pub fn vote_at_once<B: Board>(&self, id: &Id, board: &B) -> Option<Option<Id>>
-        ensures { result ≡ vote_at_once (lists_of self.now) (B.board board.now) id.now }
-    {
-        if self.is_own_vote(id, board) {
-            return Some(Some(*id));
-        }
-        self.vote_found(id, board)
-    }
-
-    // The vote at once, whatever the reply's block is.
-    #[inline(never)]
-    fn vote_found<B: Board>(&self, id: &Id, board: &B) -> Option<Option<Id>>
         ensures { result ≡ vote_at_once (lists_of self.now) (B.board board.now) id.now }
     {
         if self.gets.asks_for(id) || self.waiting.waits(id) {

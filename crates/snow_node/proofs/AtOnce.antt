@@ -12,7 +12,7 @@ use Rattle.snow_poll.specs.Table.{is_awaited, answer as answer_of}
 use Rattle.snow_issue.specs.Lists.{Lists, after_held, with_waiting, holds_in}
 use Rattle.snow_issue.specs.Settling.{work_of, after}
 use Rattle.snow_issue.proofs.Idle.{first_to_do, counts, next_to_do, next_parts, next_waits}
-use Rattle.snow_node.specs.declared.stop.EngineStop.{EngineStop}
+use Rattle.snow_node.specs.declared.stop.Halt.{Halt}
 use Rattle.snow_node.specs.Outcome.{Comes, quietly, after_lines, going_on, then_comes, where_made}
 use Rattle.snow_node.specs.Running.{Running}
 use Rattle.snow_node.specs.Closing.{tallied}
@@ -26,7 +26,7 @@ made_then : (first : Comes Running) (next : Running → Comes Running)
     → then_comes (then_comes first (λ n. quietly (n, true))) (where_made next) ≡ then_comes first next
 made_then first next = by first.0 first.1
   where
-    by : (lines : List Line) (r : Result Running EngineStop) → then_comes (going_on lines r (λ n. quietly (n, true))) (where_made next) ≡ going_on lines r next
+    by : (lines : List Line) (r : Result Running Halt) → then_comes (going_on lines r (λ n. quietly (n, true))) (where_made next) ≡ going_on lines r next
     by lines (Err s) = refl
     by lines (Ok x) = ap (λ (l : List Line). after_lines l (next x)) (append-nil lines)
 

@@ -24,7 +24,7 @@ use Rattle.snow_issue.specs.declared.work.Work.TheVariants as work
 use Rattle.snow_issue.specs.Bubbling.{bubbled}
 use Rattle.snow_issue.specs.Lists.{Lists}
 use Rattle.snow_issue.specs.Settling.{work_of, IsIdle}
-use Rattle.snow_node.specs.declared.stop.EngineStop.{EngineStop}
+use Rattle.snow_node.specs.declared.stop.Halt.{Halt}
 use Rattle.snow_node.specs.Outcome.{Comes, quietly, going_on, then_comes, where_made}
 use Rattle.snow_node.specs.Again.{again, all_made}
 use Rattle.snow_node.specs.Running.{Running}
@@ -50,7 +50,7 @@ module _ (T : Type 0) (size : T → ℕ) (step : T → Comes (T × Bool)) (falls
       below : (i j : ℕ) → i < j → j < suc n → i < n
       below i j p q = omega arith
 
-      by : ((y : T) → size y < n → Before y → AtOk (λ y. Before y × After y) (again n step y).1) → (r : Result (T × Bool) EngineStop) → (step x).1 ≡ r
+      by : ((y : T) → size y < n → Before y → AtOk (λ y. Before y × After y) (again n step y).1) → (r : Result (T × Bool) Halt) → (step x).1 ≡ r
           → AtOk (λ y. Before y × After y) (going_on (step x).0 r (where_made (again n step))).1
       by rest (Err s) e = tt
       by rest (Ok (y, true)) e = rest y (below (size y) (size x) (falls x y e) few) (kept x y true h e)
@@ -60,12 +60,12 @@ module _ (T : Type 0) (size : T → ℕ) (step : T → Comes (T × Bool)) (falls
   made x h = made_again (suc (size x)) x (omega arith) h
 
 -- the same once more is known of what comes
-at_more : (T : Type 0) (P Q : T → Type 0) (r : Result T EngineStop) → ((x : T) → P x → Q x) → AtOk P r → AtOk Q r
+at_more : (T : Type 0) (P Q : T → Type 0) (r : Result T Halt) → ((x : T) → P x → Q x) → AtOk P r → AtOk Q r
 at_more T P Q (Ok x) up h = up x h
 at_more T P Q (Err s) up h = tt
 
 -- whatever comes
-some_ok : (r : Result Running EngineStop) → AtOk (λ n. Unit {0}) r
+some_ok : (r : Result Running Halt) → AtOk (λ n. Unit {0}) r
 some_ok (Ok n) = tt
 some_ok (Err s) = tt
 

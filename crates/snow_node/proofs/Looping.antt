@@ -29,7 +29,7 @@ use Rattle.snow_issue.specs.declared.work.Work.{Work}
 use Rattle.snow_issue.specs.declared.work.Work.TheVariants as work
 use Rattle.snow_issue.specs.Lists.{Lists, after_gone, after_forgotten}
 use Rattle.snow_issue.specs.Settling.{work_of, after, IsIdle}
-use Rattle.snow_node.specs.declared.stop.EngineStop.{EngineStop}
+use Rattle.snow_node.specs.declared.stop.Halt.{Halt}
 use Rattle.snow_node.specs.Outcome.{Comes, quietly, going_on, then_comes, where_made}
 use Rattle.snow_node.specs.Again.{again}
 use Rattle.snow_node.specs.Running.{Running}
@@ -41,26 +41,26 @@ use Rattle.snow_node.proofs.Working.{amount, work_smaller}
 
 -- ---- what holds of what comes, if it doesn't stop
 
-abbrev pub AtOk : {T : Type 0} → (T → Type 0) → Result T EngineStop → Type 0
+abbrev pub AtOk : {T : Type 0} → (T → Type 0) → Result T Halt → Type 0
 AtOk P (Ok x) = P x
 AtOk P (Err s) = Unit {0}
 
-pub at_then : (S T : Type 0) (P : S → Type 0) (Q : T → Type 0) (lines : List Line) (r : Result S EngineStop) (f : S → Comes T)
+pub at_then : (S T : Type 0) (P : S → Type 0) (Q : T → Type 0) (lines : List Line) (r : Result S Halt) (f : S → Comes T)
     → AtOk P r → ((x : S) → P x → AtOk Q (f x).1) → AtOk Q (going_on lines r f).1
 at_then S T P Q lines (Err s) f p h = tt
 at_then S T P Q lines (Ok x) f p h = h x p
 
 -- a step that wasn't made is none that was
-not_made : (T A : Type 0) (x y : T) (r : Result (T × Bool) EngineStop) → r ≡ Ok (x, false) → r ≡ Ok (y, true) → A
+not_made : (T A : Type 0) (x y : T) (r : Result (T × Bool) Halt) → r ≡ Ok (x, false) → r ≡ Ok (y, true) → A
 not_made T A x y r d e =
     let flags : false ≡ true = sym (ap flag d) ∙ ap flag e in
     absurd cc
   where
-    flag : Result (T × Bool) EngineStop → Bool
+    flag : Result (T × Bool) Halt → Bool
     flag (Ok p) = p.1
     flag (Err s) = false
 
-pub at_ok : (T : Type 0) (P : T → Type 0) (r : Result T EngineStop) (x : T) → AtOk P r → r ≡ Ok x → P x
+pub at_ok : (T : Type 0) (P : T → Type 0) (r : Result T Halt) (x : T) → AtOk P r → r ≡ Ok x → P x
 at_ok T P r x p e = subst (AtOk P) e p
 
 -- ---- queries

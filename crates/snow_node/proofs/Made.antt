@@ -1,8 +1,6 @@
 -- A step that is made again and again: the law of it, and what a loop knows on its way.
 use Rattle.std.proofs.Common.{◌≡◌, ℕ, zero, suc, ◌<◌, Bool, true, false, List, [], ◌++◌, append_assoc, append-nil, Result, Ok, Err, refl, sym, ap, ◌∙◌, subst, arith}
 use Rattle.snow_lines.specs.declared.line.Line.{Line}
-use Rattle.snow_node.specs.declared.stop.EngineStop.{EngineStop}
-use Rattle.snow_node.specs.declared.stop.EngineStop.TheVariants as stop
 use Rattle.snow_node.specs.declared.stop.Halt.{Halt}
 use Rattle.snow_node.specs.declared.stop.Halt.TheVariants as halt
 use Rattle.snow_node.specs.Outcome.{Comes, after_lines, going_on, then_comes, where_made}
@@ -16,7 +14,7 @@ after_more {T = T} a b later = ap (λ (l : List Line). (l, later.1)) (sym (appen
 
 module _ (T : Type 0) (size : T → ℕ) (step : T → Comes (T × Bool)) where
   -- what a step comes to decides what follows
-  same_after : (lines : List Line) (r : Result (T × Bool) EngineStop) (f g : T → Comes T) → ((y : T) → r ≡ Ok (y, true) → f y ≡ g y)
+  same_after : (lines : List Line) (r : Result (T × Bool) Halt) (f g : T → Comes T) → ((y : T) → r ≡ Ok (y, true) → f y ≡ g y)
       → going_on lines r (where_made f) ≡ going_on lines r (where_made g)
   same_after lines (Err s) f g h = refl
   same_after lines (Ok (x, true)) f g h = ap (after_lines lines) (h x refl)
@@ -62,8 +60,8 @@ module _ (T : Type 0) (size : T → ℕ) (step : T → Comes (T × Bool)) where
 
   module _ (falls : Falls) (first : T) (log : List Line) (now : T) (log_now : List Line) (along : Along first log now log_now) where
     -- what comes of all, by what comes of the next step
-    by_step : (r : Result (T × Bool) EngineStop) → (step now).1 ≡ r → all first ≡ after_lines along.front (going_on (step now).0 r (where_made all))
-    by_step r e = along.same ∙ ap (after_lines along.front) (one_then falls now ∙ ap (λ (x : Result (T × Bool) EngineStop). going_on (step now).0 x (where_made all)) e)
+    by_step : (r : Result (T × Bool) Halt) → (step now).1 ≡ r → all first ≡ after_lines along.front (going_on (step now).0 r (where_made all))
+    by_step r e = along.same ∙ ap (after_lines along.front) (one_then falls now ∙ ap (λ (x : Result (T × Bool) Halt). going_on (step now).0 x (where_made all)) e)
 
     -- the lines of the next step too
     grown_more : (log_next lines : List Line) → log_next ≡ log_now ++ lines → log_next ≡ log ++ (along.front ++ lines)
@@ -89,7 +87,7 @@ module _ (T : Type 0) (size : T → ℕ) (step : T → Comes (T × Bool)) where
         )
 
     -- a step came to a stop
-    ended : (s : EngineStop) (log_next : List Line) → (step now).1 ≡ Err s → log_next ≡ log_now ++ (step now).0
+    ended : (s : Halt) (log_next : List Line) → (step now).1 ≡ Err s → log_next ≡ log_now ++ (step now).0
         → ((all first).1 ≡ Err s) × (log_next ≡ log ++ (all first).0)
     ended s log_next a l =
         let all_is = by_step (Err s) a in (
@@ -102,18 +100,17 @@ module _ (T : Type 0) (size : T → ℕ) (step : T → Comes (T × Bool)) where
         → HaltsAs s (all first).1 × Tells {T = Unit {0}} (Err s) log log_next (all first).0
     stopped halt.Memory log_next a l = (tt, ran_out (step now).1 refl)
       where
-        ran_out : (r : Result (T × Bool) EngineStop) → (step now).1 ≡ r → LogsFront log log_next (all first).0
+        ran_out : (r : Result (T × Bool) Halt) → (step now).1 ≡ r → LogsFront log log_next (all first).0
         ran_out r e =
             let front : LogsFront log log_next (along.front ++ (step now).0) = logs_then_front log log_now log_next along.front (step now).0 (along.front ++ (step now).0) along.grown l refl in
             behind r (ap (λ (c : Comes T). c.0) (by_step r e)) front
           where
-            behind : (r : Result (T × Bool) EngineStop) → (all first).0 ≡ (after_lines along.front (going_on (step now).0 r (where_made all))).0
+            behind : (r : Result (T × Bool) Halt) → (all first).0 ≡ (after_lines along.front (going_on (step now).0 r (where_made all))).0
                 → LogsFront log log_next (along.front ++ (step now).0) → LogsFront log log_next (all first).0
             behind (Err s) e p = subst (λ (ls : List Line). LogsFront log log_next ls) (sym e) p
             behind (Ok (x, true)) e p =
                 logs_front_of_more log log_next (along.front ++ (step now).0) (all x).0 (all first).0 p (append_assoc along.front (step now).0 (all x).0 ∙ sym e)
             behind (Ok (x, false)) e p =
                 logs_front_of_more log log_next (along.front ++ (step now).0) [] (all first).0 p (append_assoc along.front (step now).0 [] ∙ sym e)
-    stopped halt.SecondStart log_next a l = ended stop.SecondStart log_next a l
-    stopped halt.Requests log_next a l = ended stop.Requests log_next a l
-    stopped halt.Kept log_next a l = absurd a
+    stopped halt.SecondStart log_next a l = ended halt.SecondStart log_next a l
+    stopped halt.Requests log_next a l = ended halt.Requests log_next a l

@@ -1,7 +1,6 @@
 -- One call behind another: its stops and its lines are those of both.
 use Rattle.std.proofs.Common.{◌≡◌, List, ◌++◌, append_assoc, Result, Ok, Err, refl, sym, ap, ◌∙◌, subst}
 use Rattle.snow_lines.specs.declared.line.Line.{Line}
-use Rattle.snow_node.specs.declared.stop.EngineStop.{EngineStop}
 use Rattle.snow_node.specs.declared.stop.Halt.{Halt}
 use Rattle.snow_node.specs.declared.stop.Halt.TheVariants as halt
 use Rattle.snow_node.specs.Outcome.{Comes, after_lines, going_on, then_comes}
@@ -19,24 +18,22 @@ module _ (A T : Type 0) (first : Comes A) (next : A → Comes T) where
   -- the first call stopped
   pub stop_first : (s : Halt) → HaltsAs s first.1 → HaltsAs s (then_comes first next).1
   stop_first halt.Memory e = tt
-  stop_first halt.SecondStart e = ap (λ (r : Result A EngineStop). (going_on first.0 r next).1) e
-  stop_first halt.Requests e = ap (λ (r : Result A EngineStop). (going_on first.0 r next).1) e
-  stop_first halt.Kept e = absurd e
+  stop_first halt.SecondStart e = ap (λ (r : Result A Halt). (going_on first.0 r next).1) e
+  stop_first halt.Requests e = ap (λ (r : Result A Halt). (going_on first.0 r next).1) e
 
   pub lines_first : (B C : Type 0) (s : Halt) (before after : List Line) → HaltsAs s first.1 → Tells {T = B} (Err s) before after first.0
       → Tells {T = C} (Err s) before after (then_comes first next).0
   lines_first B C halt.Memory before after e l = by first.1
     where
-      by : (r : Result A EngineStop) → LogsFront before after (going_on first.0 r next).0
+      by : (r : Result A Halt) → LogsFront before after (going_on first.0 r next).0
       by (Err s) = l
       by (Ok x) = logs_front_of_more before after first.0 (next x).0 (first.0 ++ (next x).0) l refl
-  lines_first B C halt.SecondStart before after e l = l ∙ ap (λ (r : Result A EngineStop). before ++ (going_on first.0 r next).0) (sym e)
-  lines_first B C halt.Requests before after e l = l ∙ ap (λ (r : Result A EngineStop). before ++ (going_on first.0 r next).0) (sym e)
-  lines_first B C halt.Kept before after e l = absurd e
+  lines_first B C halt.SecondStart before after e l = l ∙ ap (λ (r : Result A Halt). before ++ (going_on first.0 r next).0) (sym e)
+  lines_first B C halt.Requests before after e l = l ∙ ap (λ (r : Result A Halt). before ++ (going_on first.0 r next).0) (sym e)
 
   -- the first call went well, and the second follows
   pub then_is : (x : A) → first.1 ≡ Ok x → then_comes first next ≡ after_lines first.0 (next x)
-  then_is x e = ap (λ (r : Result A EngineStop). going_on first.0 r next) e
+  then_is x e = ap (λ (r : Result A Halt). going_on first.0 r next) e
 
   pub lines_then : (C : Type 0) (result : Result C Halt) (x : A) (before mid after : List Line) → first.1 ≡ Ok x → mid ≡ before ++ first.0 → Tells result mid after (next x).0
       → Tells result before after (then_comes first next).0

@@ -14,7 +14,6 @@ pub mod Running
 pub mod RunningCode
 pub mod Settling
 pub mod Stepping
-pub mod Stopping
 pub mod Supplying
 pub mod Telling
 pub mod Turning

@@ -1,22 +1,22 @@
 -- What a step of a node comes to: its lines, and then what it leaves, or why the node goes no further.
 use Rattle.std.specs.Prelude.{Bool, true, false, List, [], ◌∷◌, ◌++◌, Result, Ok, Err}
 use Rattle.snow_lines.specs.declared.line.Line.{Line}
-use Rattle.snow_node.specs.declared.stop.EngineStop.{EngineStop}
+use Rattle.snow_node.specs.declared.stop.Halt.{Halt}
 
 -- lines, and then something or a stop; the lines before a stop stand
 abbrev pub Comes : Type 0 → Type 0
-Comes T = List Line × Result T EngineStop
+Comes T = List Line × Result T Halt
 
 -- it comes without a line
-abbrev pub quietly : {T : Type 0} → T → Comes T
+abbrev pub quietly : {S T : Type 0} → T → List Line × Result T S
 quietly x = ([], Ok x)
 
 -- it comes with one line
-abbrev pub with_line : {T : Type 0} → Line → T → Comes T
+abbrev pub with_line : {S T : Type 0} → Line → T → List Line × Result T S
 with_line l x = (l ∷ [], Ok x)
 
 -- a stop
-abbrev pub stops : {T : Type 0} → EngineStop → Comes T
+abbrev pub stops : {S T : Type 0} → S → List Line × Result T S
 stops stop = ([], Err stop)
 
 -- lines stand before
@@ -24,7 +24,7 @@ abbrev pub after_lines : {T : Type 0} → List Line → Comes T → Comes T
 after_lines lines later = (lines ++ later.0, later.1)
 
 -- these lines, and then the stop, or what follows
-abbrev pub going_on : {S T : Type 0} → List Line → Result S EngineStop → (S → Comes T) → Comes T
+abbrev pub going_on : {S T : Type 0} → List Line → Result S Halt → (S → Comes T) → Comes T
 going_on lines (Err stop) next = (lines, Err stop)
 going_on lines (Ok x) next = after_lines lines (next x)
 

@@ -10,7 +10,7 @@ use Rattle.snow_lines.specs.declared.line.Line.TheVariants as line
 use Rattle.snow_lines.specs.declared.why.QueryWhy.{QueryWhy}
 use Rattle.snow_lines.specs.declared.why.QueryWhy.TheVariants as why
 use Rattle.snow_poll.specs.Table.{begun}
-use Rattle.snow_node.specs.declared.stop.EngineStop.TheVariants as stop
+use Rattle.snow_node.specs.declared.stop.Halt.TheVariants as halt
 use Rattle.snow_node.specs.Outcome.{Comes, quietly, with_line, stops}
 use Rattle.snow_node.specs.Again.{all_made}
 use Rattle.snow_node.specs.Running.{Running, numbered}
@@ -28,7 +28,7 @@ sent answer draws node number =
 abbrev pub sampled : Answer → Running → Result (List Draw × List ℕ) SampleFault → Comes (Running × Bool)
 sampled answer node (Err (fault.TooFewUnits total)) = not_sent node why.Units
 sampled answer node (Err fault.WordsOut) = not_sent (record node { words = [] }) why.Words
-sampled answer node (Err fault.Memory) = stops stop.Memory
+sampled answer node (Err fault.Memory) = stops halt.Memory
 sampled answer node (Ok (draws, left)) = numbered (record node { words = left }) (sent answer draws)
 
 -- a query for the preference, and whether it was sent

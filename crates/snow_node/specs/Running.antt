@@ -9,7 +9,7 @@ use Rattle.snow_getter.specs.Serving.{Serving, serving_from}
 use Rattle.snow_poll.specs.Table.{Table, no_polls}
 use Rattle.snow_issue.specs.Lists.{Lists}
 use Rattle.snow_issue.specs.Lists as lists
-use Rattle.snow_node.specs.declared.stop.EngineStop.TheVariants as stop
+use Rattle.snow_node.specs.declared.stop.Halt.TheVariants as halt
 use Rattle.snow_node.specs.Outcome.{Comes, stops}
 
 -- the board, what the chain holds, what peers are served, the roster in force, the polls that run, the blocks and replies that wait,
@@ -41,7 +41,7 @@ begun_above p roster words drawn last height state = record {
 
 -- what follows once a number was drawn, which the node then has as its last one
 abbrev pub with_number : {T : Type 0} → Running → Option ℕ → (Running → ℕ → Comes T) → Comes T
-with_number node None next = stops stop.Requests
+with_number node None next = stops halt.Requests
 with_number node (Some number) next = next (record node { last = number }) number
 
 abbrev pub numbered : {T : Type 0} → Running → (Running → ℕ → Comes T) → Comes T

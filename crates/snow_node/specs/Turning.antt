@@ -11,7 +11,7 @@ use Rattle.snow_wire.specs.declared.event.Event.{Event}
 use Rattle.snow_wire.specs.declared.event.Event.TheVariants as event
 use Rattle.snow_lines.specs.declared.line.Line.TheVariants as line
 use Rattle.snow_lines.specs.declared.why.SkipKind.TheVariants as kind
-use Rattle.snow_node.specs.declared.stop.EngineStop.TheVariants as stop
+use Rattle.snow_node.specs.declared.stop.Halt.TheVariants as halt
 use Rattle.snow_node.specs.Outcome.{Comes, quietly, with_line, stops, then_comes}
 use Rattle.snow_node.specs.Running.{Running}
 use Rattle.snow_node.specs.Querying.{repolled}
@@ -52,7 +52,7 @@ rounded answer node = if node.recorded then repolled answer (record node { recor
 -- a node that runs takes all events but polls and lines; a second Start stops it. Stored blocks are for a node that bootstraps; an
 -- answer that nobody awaits changes nothing
 unfoldable pub runs_on : Rules → Answer → Running → ℕ → Event → Comes Running
-runs_on rules answer node frame (event.Start s) = stops stop.SecondStart
+runs_on rules answer node frame (event.Start s) = stops halt.SecondStart
 runs_on rules answer node frame (event.Block peer number bytes) = then_comes (block_came rules answer node frame peer number bytes) (rounded answer)
 runs_on rules answer node frame (event.Poll ids) = with_line (line.Skip frame kind.Task) node
 runs_on rules answer node frame (event.Words words) = words_came answer node frame words

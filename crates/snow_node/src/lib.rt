@@ -12,4 +12,4 @@ pub use admitting::{admit, apply, apply_votes, opposition};
 pub use laws::{completion_law, loops_law, rest_law};
 pub use reporting::{tell, write};
 pub use running::{Running, roster_of};
-pub use stop::{EngineStop, Halt};
+pub use stop::Halt;

@@ -35,7 +35,6 @@ pub fn drop_block(id: Id, why: DropWhy, log: &mut Lines) -> Result<(), Halt>
 /// `before`. On want of memory it returns `AllocError`, and the log has a front of these lines
 /// more.
 /// Rule: this project's own.
-#[inline]
 #[tactic(auto, using(crate::proofs::Logs::logging))]
 pub fn tell<B: Board>(board: &B, before: &Id, log: &mut Lines) -> Result<(), AllocError>
     ensures ok { OnOk result (log.new ≡ log.old ++ (map model.decision_line (B.decided board.now)
@@ -60,7 +59,6 @@ fn tell_decisions(decisions: &[Decision], log: &mut Lines) -> Result<(), AllocEr
 }
 
 /// Appends the line of a decision.
-#[inline(never)]
 fn tell_decision(decision: &Decision, log: &mut Lines) -> Result<(), AllocError>
     ensures ok { OnOk result (log.new ≡ log.old ++ model.decision_line decision.now ∷ []) }
     ensures err { OnErr result (log.new ≡ log.old) }
@@ -81,7 +79,6 @@ fn tell_preference(before: &Id, after: &Id, log: &mut Lines) -> Result<(), Alloc
 }
 
 /// Appends the line of a new preference.
-#[inline(never)]
 fn tell_preferred(id: &Id, log: &mut Lines) -> Result<(), AllocError>
     ensures ok { OnOk result (log.new ≡ log.old ++ Line.Prefer id.now ∷ []) }
     ensures err { OnErr result (log.new ≡ log.old) }

@@ -1,9 +1,11 @@
 //! A node that runs: it asks other nodes, and decides by what they answer.
 
-ghost use Rattle.std.specs.Prelude.{◌≡◌, ◌+◌, ◌-◌, ◌^◌, ◌≤◌, [], ◌∷◌, ◌++◌, length, nat_lt, Err, IfOk, OnOk, OnErr};
+ghost use Rattle.std.specs.Prelude.{◌≡◌, ◌+◌, ◌-◌, ◌^◌, ◌≤◌, [], ◌∷◌, ◌++◌, length, Err, IfOk, OnOk, OnErr};
 ghost use Rattle.snow_flake.specs.Parameters.{AreGood};
 ghost use Rattle.snow_sample.specs.Roster.{first_fault, IsRosterOf};
-ghost use Rattle.snow_wire.specs.Sent.{as_event};
+ghost use Rattle.snow_getter.specs.Answer.{answer};
+ghost use Rattle.snow_plain.specs.Preference.{preferred};
+ghost use Rattle.snow_wire.specs.Viewed.{as_event, nodes_in, words_in};
 ghost use Rattle.snow_plain.specs.Board.{begin};
 ghost use Rattle.snow_chain.specs.Alone.{IsAlone, last_state};
 ghost use Rattle.snow_getter.specs.Serving.{serving_from};
@@ -26,7 +28,7 @@ mod supplying;
 use crate::reporting::write;
 use crate::running::remembering::Remembered;
 use crate::stop::Halt;
-use snow_base::{Id, NodeId, Nodes, Numbers, Nums};
+use snow_base::{Id, NodeId, Nodes, Numbers};
 use snow_chain::Chain;
 use snow_flake::Params;
 use snow_getter::Getter;
@@ -34,8 +36,8 @@ use snow_issue::{Queue, SpareBytes};
 use snow_lines::{Line, Lines, SkipKind};
 use snow_plain::Board;
 use snow_poll::Polls;
-use snow_sample::{Draws, Node, Roster, RosterFault, Words};
-use snow_wire::{Event, SentBlock};
+use snow_sample::{Node, Roster, RosterFault, Words};
+use snow_wire::{Brought, Named, Sender, View, nodes_of, words_of};
 use std::alloc::{AllocError, Global};
 use std::marker::Model;
 use std::mem;
@@ -57,8 +59,6 @@ pub struct Running<C: Chain, B: Board> {
     polls: Polls,
     queue: Queue,
     words: Words,
-    /// Draws that came back. Only their room counts.
-    spare: Draws,
     /// Room of bytes of blocks that went.
     room: SpareBytes,
     numbers: Numbers,
@@ -130,7 +130,6 @@ impl<C: Chain, B: Board> Running<C, B> {
                 polls: Polls::new(alloc, params),
                 queue,
                 words,
-                spare: Draws::new(alloc),
                 room: SpareBytes::none(alloc),
                 numbers,
                 recorded: false,
@@ -150,116 +149,70 @@ impl<C: Chain, B: Board> Running<C, B> {
     /// where a number is needed and all are used up, and `Memory` on want of memory. The log has
     /// all lines before the stop, after `Memory` a front of the event's lines.
     /// Rule: AvalancheGo, snow/engine/snowman.
-    #[inline(never)]
     #[tactic(auto, unfolding(crate::specs::Turning::runs_on), using(crate::proofs::Logs::logs_nothing))]
-    pub fn step(&mut self, frame: u64, event: &Event, log: &mut Lines) -> Result<(), Halt>
-        ensures answer { Turns result self.new (model.runs_on C.rules B.answer self.old frame event.now).1 }
-        ensures lines { Tells result log.old log.new (model.runs_on C.rules B.answer self.old frame event.now).0 }
+    pub fn step(&mut self, frame: u64, event: View<'_>, log: &mut Lines) -> Result<(), Halt>
+        ensures answer { Turns result self.new (model.runs_on C.rules B.answer self.old frame (as_event event)).1 }
+        ensures lines { Tells result log.old log.new (model.runs_on C.rules B.answer self.old frame (as_event event)).0 }
     {
         match event {
-            Event::Start(_) => Err(Halt::SecondStart),
-            Event::Block {
-                node,
-                request,
-                bytes,
-            } => self.take_block(frame, node, *request, bytes.list(), log),
-            Event::Chits { node, request, id } => {
-                self.hear_vote(*request, node.as_bytes(), id.as_bytes(), log)
-            }
-            Event::Timeout { node, request } => self.lapse(*request, node.as_bytes(), log),
-            Event::Words { words } => self.take_words(frame, words, log),
-            Event::Validators { nodes } => self.take_nodes(frame, nodes, log),
-            Event::Frontier { .. } | Event::Accepted { .. } | Event::Ancestors { .. } => Ok(()),
-            Event::Poll { .. } | Event::Line { .. } => skip(frame, SkipKind::Task, log),
-            Event::Stored { .. } => skip(frame, SkipKind::Stage, log),
-            question @ (Event::AskQuery { .. }
-            | Event::AskFrontier { .. }
-            | Event::AskAccepted { .. }
-            | Event::AskAncestors { .. }
-            | Event::AskBlock { .. }) => self.reply(&question, log),
+            View::Start(_) => Err(Halt::SecondStart),
+            View::Block(block) => self.on_block(frame, block, log),
+            View::Chits(vote) => self.on_chits(vote, log),
+            View::Timeout(timeout) => self.on_timeout(timeout, log),
+            View::Words(words) => self.on_words(frame, words, log),
+            View::Validators(nodes) => self.on_validators(frame, nodes, log),
+            View::Frontier(_) | View::Accepted(_) | View::Ancestors(_) => Ok(()),
+            View::Poll(_) | View::Line(_) => skip(frame, SkipKind::Task, log),
+            View::Stored(_) => skip(frame, SkipKind::Stage, log),
+            question @ (View::AskQuery(_)
+            | View::AskFrontier(_)
+            | View::AskAccepted(_)
+            | View::AskAncestors(_)
+            | View::AskBlock(_)) => self.on_question(question, log),
         }
     }
 
-    /// Takes a block that came in this frame, as `step` does, with its bytes where they stand. It
-    /// returns what `step` does.
-    /// Rule: AvalancheGo, snow/engine/snowman.
-    #[tactic(auto, unfolding(crate::specs::Turning::runs_on), using(crate::proofs::Logs::logs_nothing))]
-    pub fn receive(&mut self, frame: u64, block: &SentBlock, log: &mut Lines) -> Result<(), Halt>
-        ensures answer { Turns result self.new (model.runs_on C.rules B.answer self.old frame (as_event block.now)).1 }
-        ensures lines { Tells result log.old log.new (model.runs_on C.rules B.answer self.old frame (as_event block.now)).0 }
-    {
-        self.take_block(frame, &block.node, block.request, block.bytes, log)
-    }
-
     /// Takes a block, and ends the event.
-    fn take_block(
-        &mut self,
-        frame: u64,
-        peer: &NodeId,
-        number: u32,
-        bytes: &[u8],
-        log: &mut Lines,
-    ) -> Result<(), Halt>
-        ensures answer { Turns result self.new (then_comes (hearing.block_came C.rules B.answer self.old frame peer.now number bytes.now) (model.rounded B.answer)).1 }
-        ensures lines { Tells result log.old log.new (then_comes (hearing.block_came C.rules B.answer self.old frame peer.now number bytes.now) (model.rounded B.answer)).0 }
+    fn on_block(&mut self, frame: u64, block: Brought<'_>, log: &mut Lines) -> Result<(), Halt>
+        ensures answer { Turns result self.new (then_comes (hearing.block_came C.rules B.answer self.old frame block.node.now block.request block.bytes.now) (model.rounded B.answer)).1 }
+        ensures lines { Tells result log.old log.new (then_comes (hearing.block_came C.rules B.answer self.old frame block.node.now block.request block.bytes.now) (model.rounded B.answer)).0 }
     {
-        self.receive_block(frame, peer, number, bytes, log)?;
+        let peer = NodeId::from_bytes(*block.node);
+        self.receive_block(frame, &peer, block.request, block.bytes, log)?;
         self.round(log)
-    }
-
-    /// Takes a vote, as `step` does a Chits, with its bytes where they stand. It returns what
-    /// `step` does. It is a function apart, so that it has no room for what other events bring.
-    /// Rule: AvalancheGo, snow/engine/snowman.
-    #[inline(never)]
-    pub fn hear_vote(
-        &mut self,
-        number: u32,
-        peer: &[u8; 20],
-        id: &[u8; 32],
-        log: &mut Lines,
-    ) -> Result<(), Halt>
-        ensures answer { Turns result self.new (then_comes (hearing.vote_came C.rules B.answer self.old number peer.now id.now) (model.rounded B.answer)).1 }
-        ensures lines { Tells result log.old log.new (then_comes (hearing.vote_came C.rules B.answer self.old number peer.now id.now) (model.rounded B.answer)).0 }
-    {
-        let peer = NodeId::from_bytes(*peer);
-        let id = Id::from_bytes(*id);
-        self.take_vote(number, &peer, &id, log)
     }
 
     /// Takes a vote, and ends the event.
-    fn take_vote(
-        &mut self,
-        number: u32,
-        peer: &NodeId,
-        id: &Id,
-        log: &mut Lines,
-    ) -> Result<(), Halt>
-        ensures answer { Turns result self.new (then_comes (hearing.vote_came C.rules B.answer self.old number peer.now id.now) (model.rounded B.answer)).1 }
-        ensures lines { Tells result log.old log.new (then_comes (hearing.vote_came C.rules B.answer self.old number peer.now id.now) (model.rounded B.answer)).0 }
+    fn on_chits(&mut self, vote: Named<'_>, log: &mut Lines) -> Result<(), Halt>
+        ensures answer { Turns result self.new (then_comes (hearing.vote_came C.rules B.answer self.old vote.request vote.node.now vote.id.now) (model.rounded B.answer)).1 }
+        ensures lines { Tells result log.old log.new (then_comes (hearing.vote_came C.rules B.answer self.old vote.request vote.node.now vote.id.now) (model.rounded B.answer)).0 }
     {
-        self.receive_vote(number, peer, id, log)?;
+        let peer = NodeId::from_bytes(*vote.node);
+        let id = Id::from_bytes(*vote.id);
+        self.receive_vote(vote.request, &peer, &id, log)?;
         self.round(log)
-    }
-
-    /// Takes that a peer won't answer, as `step` does a Timeout, with its bytes where they stand.
-    /// It returns what `step` does. It is a function apart, as `hear_vote` is.
-    /// Rule: AvalancheGo, snow/engine/snowman.
-    #[inline(never)]
-    pub fn lapse(&mut self, number: u32, peer: &[u8; 20], log: &mut Lines) -> Result<(), Halt>
-        ensures answer { Turns result self.new (then_comes (hearing.timed_out C.rules B.answer self.old number peer.now) (model.rounded B.answer)).1 }
-        ensures lines { Tells result log.old log.new (then_comes (hearing.timed_out C.rules B.answer self.old number peer.now) (model.rounded B.answer)).0 }
-    {
-        let peer = NodeId::from_bytes(*peer);
-        self.take_timeout(number, &peer, log)
     }
 
     /// Takes that a peer won't answer, and ends the event.
-    fn take_timeout(&mut self, number: u32, peer: &NodeId, log: &mut Lines) -> Result<(), Halt>
-        ensures answer { Turns result self.new (then_comes (hearing.timed_out C.rules B.answer self.old number peer.now) (model.rounded B.answer)).1 }
-        ensures lines { Tells result log.old log.new (then_comes (hearing.timed_out C.rules B.answer self.old number peer.now) (model.rounded B.answer)).0 }
+    fn on_timeout(&mut self, timeout: Sender<'_>, log: &mut Lines) -> Result<(), Halt>
+        ensures answer { Turns result self.new (then_comes (hearing.timed_out C.rules B.answer self.old timeout.request timeout.node.now) (model.rounded B.answer)).1 }
+        ensures lines { Tells result log.old log.new (then_comes (hearing.timed_out C.rules B.answer self.old timeout.request timeout.node.now) (model.rounded B.answer)).0 }
     {
-        self.time_out(number, peer, log)?;
+        let peer = NodeId::from_bytes(*timeout.node);
+        self.time_out(timeout.request, &peer, log)?;
         self.round(log)
+    }
+
+    /// Answers a peer's question.
+    #[tactic(auto, using(crate::proofs::Logs::logs_nothing))]
+    fn on_question(&self, question: View<'_>, log: &mut Lines) -> Result<(), Halt>
+        ensures memory { OnErr result (result ≡ Err Halt.Memory) }
+        ensures lines { Tells result log.old log.new (answer self.now.served (preferred B.answer self.now.board) (as_event question)) }
+    {
+        let question = question.to_event(self.alloc)?;
+        self.served
+            .answer(self.board.preference(), &question, log)?;
+        Ok(())
     }
 
     /// Ends an event: it makes queries where a poll was recorded.
@@ -274,45 +227,41 @@ impl<C: Chain, B: Board> Running<C, B> {
         self.repoll(log)
     }
 
-    /// Returns whether the words would be too many.
-    fn overflows(&self, words: &Nums) -> bool
-        ensures { result ≡ nat_lt 65536 (length self.now.words + length words.now) }
-    {
-        words.list().len() > MOST_WORDS - self.words.len()
-    }
-
-    #[tactic(auto, using(crate::proofs::Logs::logs_nothing))]
     /// Takes words, which may bring queries where no poll runs.
-    fn take_words(&mut self, frame: u64, words: &Nums, log: &mut Lines) -> Result<(), Halt>
-        ensures answer { Turns result self.new (model.words_came B.answer self.old frame words.now).1 }
-        ensures lines { Tells result log.old log.new (model.words_came B.answer self.old frame words.now).0 }
+    #[tactic(auto, using(crate::proofs::Logs::logs_nothing))]
+    fn on_words(&mut self, frame: u64, words: &[[u8; 8]], log: &mut Lines) -> Result<(), Halt>
+        ensures answer { Turns result self.new (model.words_came B.answer self.old frame (words_in words.now)).1 }
+        ensures lines { Tells result log.old log.new (model.words_came B.answer self.old frame (words_in words.now)).0 }
     {
-        if self.overflows(words) {
+        if words.len() > MOST_WORDS - self.words.len() {
             return skip(frame, SkipKind::Full, log);
         }
+        let words = words_of(self.alloc, words)?;
         self.words.push_all(words.list())?;
-        if self.polls.len() == 0 {
-            self.repoll(log)
-        } else {
-            Ok(())
+        if self.polls.len() > 0 {
+            return Ok(());
         }
+        self.repoll(log)
     }
 
     /// Puts a new roster in force, unless something is wrong with it.
-    fn take_nodes(&mut self, frame: u64, nodes: &Nodes, log: &mut Lines) -> Result<(), Halt>
-        ensures answer { Turns result self.new (model.roster_came self.old frame (model.members nodes.now) (first_fault (model.members nodes.now))).1 }
-        ensures lines { Tells result log.old log.new (model.roster_came self.old frame (model.members nodes.now) (first_fault (model.members nodes.now))).0 }
+    fn on_validators(&mut self, frame: u64, nodes: &[[u8; 28]], log: &mut Lines) -> Result<(), Halt>
+        ensures answer { Turns result self.new (model.roster_came self.old frame (model.members (nodes_in nodes.now)) (first_fault (model.members (nodes_in nodes.now)))).1 }
+        ensures lines { Tells result log.old log.new (model.roster_came self.old frame (model.members (nodes_in nodes.now)) (first_fault (model.members (nodes_in nodes.now)))).0 }
     {
-        match roster_of(self.alloc, nodes) {
+        let nodes = nodes_of(self.alloc, nodes)?;
+        match roster_of(self.alloc, &nodes) {
             Ok(roster) => {
                 drop(mem::replace(&mut self.roster, roster));
                 Ok(())
             }
             Err(RosterFault::Memory) => Err(Halt::Memory),
-            Err(RosterFault::Empty) => skip(frame, SkipKind::Nodes, log),
-            Err(RosterFault::Duplicate { .. }) => skip(frame, SkipKind::Nodes, log),
-            Err(RosterFault::ZeroWeight { .. }) => skip(frame, SkipKind::Nodes, log),
-            Err(RosterFault::TooHeavy) => skip(frame, SkipKind::Nodes, log),
+            Err(
+                RosterFault::Empty
+                | RosterFault::Duplicate { .. }
+                | RosterFault::ZeroWeight { .. }
+                | RosterFault::TooHeavy,
+            ) => skip(frame, SkipKind::Nodes, log),
         }
     }
 }

@@ -3,7 +3,8 @@ use Rattle.std.proofs.Common.{◌≡◌, ℕ, false, List, [], ◌∷◌, ◌++�
 use Rattle.snow_wire.specs.declared.event.Event.{Event}
 use Rattle.snow_wire.specs.declared.event.Event.TheVariants as event
 use Rattle.snow_wire.specs.Spelling.{number, spelling}
-use Rattle.snow_wire.specs.Reading.{Tag, Short, Extra, Count, bytes_at, number_at, limited_at, flag_at, sized_at, items_at, counted_at, start_at, single_at, message_at, fields_at, event_of}
+use Rattle.snow_wire.specs.declared.fault.Fault.TheVariants.{Tag, Short, Extra, Count}
+use Rattle.snow_wire.specs.Reading.{bytes_at, number_at, limited_at, flag_at, sized_at, items_at, counted_at, start_at, single_at, message_at, fields_at, event_of}
 use Rattle.snow_wire.specs.Frame.{first_of, frames_in, frames_of}
 
 -- an identifier by its first byte

@@ -5,7 +5,6 @@ pub mod Fields
 pub mod Listed
 pub mod Numbers
 pub mod Pieces
-pub mod Standing
 pub mod Starting
 pub mod Streams
 pub mod Tagged

@@ -1,8 +1,7 @@
 -- Reading items one after another, as a loop does.
 use Rattle.std.proofs.Common.{◌≡◌, ℕ, suc, ◌-◌, ◌+◌, ◌≤◌, ◌<◌, List, [], ◌∷◌, ◌++◌, Ok, Err, refl, sym, ap, ◌∙◌, append_assoc, append-nil, arith}
-use Rattle.snow_wire.specs.declared.skip.Skip.{Skip}
-use Rattle.snow_wire.specs.declared.skip.Skip.TheVariants as skip
-use Rattle.snow_wire.specs.Reading.{Fault, Read, Refuses, ◌>>=◌, items_at}
+use Rattle.snow_wire.specs.declared.fault.Fault.{Fault}
+use Rattle.snow_wire.specs.Reading.{Read, ◌>>=◌, items_at}
 
 -- items that were read, and those that reading goes on with
 abbrev pub behind : {A : Type 0} → List A → Read (List A) → Read (List A)
@@ -21,22 +20,14 @@ goes_on item front count i bytes x after total lt h so_far =
     let one : behind front (items_at item (count - i) bytes) ≡ behind (front ++ x ∷ []) (items_at item (count - (i + 1)) after) = rw (k, h) (regroup front x (items_at item (count - (i + 1)) after)) in
     sym one ∙ so_far
 
-ends_so : {A : Type 0} (item : List ℕ → Read A) (f : Fault) (front : List A) (count i : ℕ) (bytes : List ℕ) (total : Read (List A)) → i < count → item bytes ≡ Err f
+-- an item that is refused
+pub ends : {A : Type 0} (item : List ℕ → Read A) (f : Fault) (front : List A) (count i : ℕ) (bytes : List ℕ) (total : Read (List A)) → i < count → item bytes ≡ Err f
     → behind front (items_at item (count - i) bytes) ≡ total → total ≡ Err f
 unfolding items_at
-ends_so item f front count i bytes total lt h so_far =
+ends item f front count i bytes total lt h so_far =
     let k : count - i ≡ suc (count - (i + 1)) = omega arith in
     let one : behind front (items_at item (count - i) bytes) ≡ Err f = rw (k, h) refl in
     sym so_far ∙ one
-
--- an item that is refused
-pub ends : {A : Type 0} (item : List ℕ → Read A) (e : Skip) (front : List A) (count i : ℕ) (bytes : List ℕ) (total : Read (List A)) → i < count → Refuses e (item bytes)
-    → behind front (items_at item (count - i) bytes) ≡ total → Refuses e total
-ends item skip.Tag front count i bytes total lt h so_far = ends_so item _ front count i bytes total lt h so_far
-ends item skip.Short front count i bytes total lt h so_far = ends_so item _ front count i bytes total lt h so_far
-ends item skip.Extra front count i bytes total lt h so_far = ends_so item _ front count i bytes total lt h so_far
-ends item skip.Count front count i bytes total lt h so_far = ends_so item _ front count i bytes total lt h so_far
-ends item skip.Memory front count i bytes total lt h so_far = tt
 
 -- no item more
 pub is_done : {A : Type 0} (item : List ℕ → Read A) (front : List A) (count i : ℕ) (bytes : List ℕ) (total : Read (List A)) → count ≤ i

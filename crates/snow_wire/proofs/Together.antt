@@ -7,9 +7,9 @@ use Rattle.std.proofs.lemmas.Bool.Decides.{nat_tests}
 use Rattle.std.proofs.lemmas.List.{map-id, map_more, take_all, take-append-le, drop-append-le, take-append-drop, length-append, length-drop}
 use Rattle.byteorder.specs.Endian.{big_number}
 use Rattle.byteorder.specs.Numbers.{big_from-take}
-use Rattle.snow_wire.specs.declared.skip.Skip.{Skip}
-use Rattle.snow_wire.specs.declared.skip.Skip.TheVariants as skip
-use Rattle.snow_wire.specs.Reading.{Fault, Short, Read, ReadsAs, Refuses, bytes_at, number_at, items_at}
+use Rattle.snow_wire.specs.declared.fault.Fault.{Fault}
+use Rattle.snow_wire.specs.declared.fault.Fault.TheVariants.{Short}
+use Rattle.snow_wire.specs.Reading.{Read, ReadsAs, bytes_at, number_at, items_at}
 use Rattle.snow_wire.proofs.Fields.{unless}
 
 -- an item of so many bytes, which is made of them
@@ -40,10 +40,6 @@ word_short bytes short = rw short refl
 -- a number of eight bytes
 pub word_wide : IsWide 8 (number_at 8) (big_number 8)
 word_wide = record { whole = word_whole; short = word_short }
-
--- a vector that was taken from the bytes of an identifier
-pub whole_id : (xs : List ℕ) → length xs ≡ 32 → chunk 0 32 xs ≡ xs
-whole_id xs long = take_all 32 xs (omega arith)
 
 -- ---- all of them
 
@@ -84,11 +80,6 @@ ids_together size count bytes front rest len many e =
     taken_together 32 (bytes_at 32) (λ (id : List ℕ). id) id_wide size count bytes front rest len many e
     ∙ ap (λ (ids : List (List ℕ)). Ok (ids, rest)) (map-id (first_chunks 32 (length front / 32) front))
 
--- one number more
-pub words_more : (chunks : List (List ℕ)) (i : ℕ) (d : List ℕ) → i < length chunks
-    → map (big_number 8) (take (i + 1) chunks) ≡ map (big_number 8) (take i chunks) ++ big_number 8 (get_or chunks i d) ∷ []
-words_more chunks i d lt = map_more (big_number 8) chunks i d lt
-
 -- ---- too few
 
 too_few_behind : {A : Type 0} (width : ℕ) (item : List ℕ → Read A) (made : List ℕ → A) → IsWide width item made → (test : Bool) (count : ℕ) (bytes : List ℕ) → nat_lt (length bytes) width ≡ test
@@ -116,19 +107,3 @@ too_short {A = A} width item made wide f size count bytes same e =
     let g = failed (nat_lt (length bytes) size) Short f (take size bytes, drop size bytes) e in
     let less : length bytes < count * width = grind (arith, nat_tests, g.0) in
     subst (λ (d : Fault). items_at item count bytes ≡ Err d) g.1 (too_few width item made wide count bytes less)
-
--- their bytes were refused
-pub refused_together : {A : Type 0} (width : ℕ) (item : List ℕ → Read A) (made : List ℕ → A) → IsWide width item made → (e : Skip) (size count : ℕ) (bytes : List ℕ) → size ≡ count * width
-    → Refuses e (bytes_at size bytes) → Refuses e (items_at item count bytes)
-refused_together width item made wide skip.Tag size count bytes same h = too_short width item made wide _ size count bytes same h
-refused_together width item made wide skip.Short size count bytes same h = too_short width item made wide _ size count bytes same h
-refused_together width item made wide skip.Extra size count bytes same h = too_short width item made wide _ size count bytes same h
-refused_together width item made wide skip.Count size count bytes same h = too_short width item made wide _ size count bytes same h
-refused_together width item made wide skip.Memory size count bytes same h = tt
-
--- the bytes of so many identifiers, or why they were refused
-pub ids_read : (r : Result (Bor (List ℕ)) Skip) (left : List ℕ) (size count : ℕ) (bytes : List ℕ) → size ≡ count * 32
-    → ReadsAs (λ front. front.now) r left (bytes_at size bytes) → IfOk r (λ front. length front.now ≡ size)
-    → ReadsAs (λ front. first_chunks 32 (length front.now / 32) front.now) r left (items_at (bytes_at 32) count bytes)
-ids_read (Ok front) left size count bytes same read len = ids_together size count bytes front.now left (omega arith) (omega arith) read
-ids_read (Err e) left size count bytes same read len = refused_together 32 (bytes_at 32) (λ (id : List ℕ). id) id_wide e size count bytes same read

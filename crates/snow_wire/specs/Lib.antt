@@ -3,4 +3,4 @@ pub mod Reading
 pub mod Filling
 pub mod Frame
 pub mod Stream
-pub mod Sent
+pub mod Viewed

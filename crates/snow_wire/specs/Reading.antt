@@ -3,50 +3,31 @@ use Rattle.std.specs.Prelude.{◌≡◌, ℕ, zero, suc, ◌<◌, Bool, true, fa
 use Rattle.byteorder.specs.Endian.{big_number}
 use Rattle.snow_wire.specs.declared.event.Event.{Event}
 use Rattle.snow_wire.specs.declared.event.Event.TheVariants as event
+use Rattle.snow_wire.specs.declared.fault.Fault.{Fault}
+use Rattle.snow_wire.specs.declared.fault.Fault.TheVariants.{Tag, Short, Extra, Count}
 use Rattle.snow_wire.specs.declared.skip.Skip.{Skip}
 use Rattle.snow_wire.specs.declared.skip.Skip.TheVariants as skip
-
--- what goes wrong: no such tag, an end too soon, bytes that are left, a field out of its range
-pub data Fault : Type 0 where
-  Tag : Fault
-  Short : Fault
-  Extra : Fault
-  Count : Fault
-
--- what a function refused with is the fault that reading meets, unless memory ran out
-abbrev pub Refuses : {A : Type 0} → Skip → Result A Fault → Type 0
-Refuses skip.Tag read = read ≡ Err Tag
-Refuses skip.Short read = read ≡ Err Short
-Refuses skip.Extra read = read ≡ Err Extra
-Refuses skip.Count read = read ≡ Err Count
-Refuses skip.Memory read = Unit {0}
 
 -- what a function answered is what reading gives, unless memory ran out
 abbrev pub Gives : {A : Type 0} → Result A Skip → Result A Fault → Type 0
 Gives (Ok x) read = read ≡ Ok x
-Gives (Err e) read = Refuses e read
+Gives (Err (skip.Fault f)) read = read ≡ Err f
+Gives (Err skip.Memory) read = Unit {0}
 
--- the same for a function that left the bytes behind what it read, and answered what view sees
-abbrev pub ReadsAs : {X A : Type 0} → (X → A) → Result X Skip → List ℕ → Result (A × List ℕ) Fault → Type 0
+-- what a function answered, as view sees it, is what reading gives, and it left the bytes behind that
+abbrev pub ReadsAs : {X A : Type 0} → (X → A) → Result X Fault → List ℕ → Result (A × List ℕ) Fault → Type 0
 ReadsAs view (Ok x) rest read = read ≡ Ok (view x, rest)
-ReadsAs view (Err e) rest read = Refuses e read
+ReadsAs view (Err f) rest read = read ≡ Err f
 
 -- the same for an answer as it is
-abbrev pub Reads : {A : Type 0} → Result A Skip → List ℕ → Result (A × List ℕ) Fault → Type 0
-Reads (Ok x) rest read = read ≡ Ok (x, rest)
-Reads (Err e) rest read = Refuses e read
-
--- a function that takes no memory refuses for what reading meets alone
-abbrev pub TakesNoMemory : {A : Type 0} → Result A Skip → Type 0
-TakesNoMemory (Ok x) = Unit {0}
-TakesNoMemory (Err skip.Memory) = ⊥
-TakesNoMemory (Err e) = Unit {0}
+abbrev pub Reads : {A : Type 0} → Result A Fault → List ℕ → Result (A × List ℕ) Fault → Type 0
+Reads = ReadsAs (λ x. x)
 
 -- a function that wants no bytes left refuses where some are, and for nothing else
-abbrev pub IsEnd : {A : Type 0} → Result A Skip → List ℕ → Type 0
+abbrev pub IsEnd : {A : Type 0} → Result A Fault → List ℕ → Type 0
 IsEnd (Ok x) rest = (length rest == 0) ≡ true
-IsEnd (Err skip.Extra) rest = (length rest == 0) ≡ false
-IsEnd (Err e) rest = ⊥
+IsEnd (Err Extra) rest = (length rest == 0) ≡ false
+IsEnd (Err f) rest = ⊥
 
 -- each number is a byte's
 abbrev pub IsBytes : List ℕ → Type 0
@@ -91,6 +72,11 @@ items_at item (suc n) bytes = do
   first ← item bytes
   others ← items_at item n first.1
   Ok (first.0 ∷ others.0, others.1)
+
+-- the items that were read, or none
+abbrev pub items_in : {A : Type 0} → Read (List A) → List A
+items_in (Ok x) = x.0
+items_in (Err f) = []
 
 -- two bytes of count, which is at most the limit, and so many items
 unfoldable pub counted_at : {A : Type 0} → (List ℕ → Read A) → ℕ → List ℕ → Read (List A)

@@ -36,8 +36,7 @@ impl<C: Chain, B: Board> Running<C, B> {
     }
 
     /// Counts a peer's vote, or that it gives none, where its poll awaits it, and returns whether
-    /// it did. It is inlined, so that the vote isn't copied once more.
-    #[inline(always)]
+    /// it did.
     pub(super) fn enter(&mut self, number: u32, peer: &NodeId, vote: Option<Id>) -> Answered
         ensures answer { result ≡ answer self.old.polls.polls number peer.now }
         ensures node { self.new ≡ model.with_vote self.old number peer.now vote }
@@ -46,9 +45,7 @@ impl<C: Chain, B: Board> Running<C, B> {
         self.polls.vote(number, peer, vote)
     }
 
-    /// Lets polls leave while the front one is closed, and records their votes. It is inlined,
-    /// since most replies close no poll.
-    #[inline(always)]
+    /// Lets polls leave while the front one is closed, and records their votes.
     pub(super) fn close_polls(&mut self, log: &mut Lines) -> Result<(), Halt>
         ensures answer { Turns result self.new (model.closed_out B.answer self.old).1 }
         ensures lines { Tells result log.old log.new (model.closed_out B.answer self.old).0 }
@@ -59,7 +56,6 @@ impl<C: Chain, B: Board> Running<C, B> {
 
     /// Lets the front poll leave if it is closed, and its held replies with it. It returns whether
     /// the poll left.
-    #[inline(always)]
     fn close_one(&mut self, log: &mut Lines) -> Result<bool, Halt>
         ensures answer { Answers result self.new (model.one_closed B.answer self.old).1 }
         ensures lines { Tells result log.old log.new (model.one_closed B.answer self.old).0 }
@@ -74,9 +70,7 @@ impl<C: Chain, B: Board> Running<C, B> {
     }
 
     /// Records votes, tells chain and queue what they decided, makes what peers are served follow,
-    /// and returns `true`. It is a function apart, so that a reply that closes no poll doesn't pay
-    /// for it.
-    #[inline(never)]
+    /// and returns `true`.
     fn record(&mut self, votes: &Bag, log: &mut Lines) -> Result<bool, Halt>
         requires { total_count votes.now.list ≤ self.old.board.parameters.k }
         ensures answer { Answers result self.new (model.moved_on B.answer self.old (poll self.old.board votes.now.list)).1 }

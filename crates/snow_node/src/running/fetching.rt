@@ -48,9 +48,7 @@ impl<C: Chain, B: Board> Running<C, B> {
     }
 
     #[tactic(auto, using(crate::proofs::Logs::logs_nothing))]
-    /// Asks a peer for a block, by a number of its own. It is inlined, since most blocks that wait
-    /// ask for their parent.
-    #[inline(always)]
+    /// Asks a peer for a block, by a number of its own.
     fn fetch(&mut self, peer: &NodeId, id: Id, log: &mut Lines) -> Result<(), Halt>
         requires { MayFetch self.old.queue id }
         ensures answer { Turns result self.new (numbered self.old (model.fetched peer.now id)).1 }
@@ -70,7 +68,6 @@ impl<C: Chain, B: Board> Running<C, B> {
     }
 
     /// Asks a peer for a block, if nothing is known of it.
-    #[inline(never)]
     pub(super) fn fetch_unknown(
         &mut self,
         peer: &NodeId,

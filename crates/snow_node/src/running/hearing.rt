@@ -36,7 +36,7 @@ impl<C: Chain, B: Board> Running<C, B> {
         ensures lines { Tells result log.old log.new (model.block_came C.rules B.answer self.old frame peer.now number bytes.now).0 }
     {
         if number == 0 {
-            return self.read_unasked(frame, peer, bytes, log);
+            return self.read_block(frame, peer, bytes, &None, log);
         }
         let asked = self.close_get(number, peer);
         if asked.is_none() {
@@ -45,24 +45,7 @@ impl<C: Chain, B: Board> Running<C, B> {
         self.read_block(frame, peer, bytes, &asked, log)
     }
 
-    /// Takes a block's bytes for which nobody asked. It is a function apart, so that the bytes of a
-    /// block that was asked for are read in place.
-    #[inline(never)]
-    fn read_unasked(
-        &mut self,
-        frame: u64,
-        peer: &NodeId,
-        bytes: &[u8],
-        log: &mut Lines,
-    ) -> Result<(), Halt>
-        ensures answer { Turns result self.new (model.block_read C.rules B.answer self.old frame peer.now bytes.now None).1 }
-        ensures lines { Tells result log.old log.new (model.block_read C.rules B.answer self.old frame peer.now bytes.now None).0 }
-    {
-        self.read_block(frame, peer, bytes, &None, log)
-    }
-
     /// Takes a block's bytes, where this block was asked for, and does all that this brings.
-    #[inline(always)]
     fn read_block(
         &mut self,
         frame: u64,
@@ -138,7 +121,6 @@ impl<C: Chain, B: Board> Running<C, B> {
     }
 
     /// Returns a copy of the bytes of a block that came, in room that is kept, if there is some.
-    #[inline(always)]
     fn own(&mut self, bytes: &[u8]) -> Result<Bytes, AllocError>
         ensures bytes { IfOk result (λ own. own ≡ bytes.now) }
         ensures same { self.new ≡ self.old }
@@ -182,8 +164,9 @@ impl<C: Chain, B: Board> Running<C, B> {
         }
     }
 
-    /// Takes a vote. Most votes are for the block that they name, and count as they come.
-    #[inline(always)]
+    /// Takes a vote. Most votes are for the block that they name, and count as they come. Of any
+    /// other it asks first whether the poll awaits it, so that one that isn't awaited costs no walk
+    /// from block to parent.
     pub(super) fn receive_vote(
         &mut self,
         number: u32,
@@ -194,48 +177,29 @@ impl<C: Chain, B: Board> Running<C, B> {
         ensures answer { Turns result self.new (model.vote_came C.rules B.answer self.old number peer.now id.now).1 }
         ensures lines { Tells result log.old log.new (model.vote_came C.rules B.answer self.old number peer.now id.now).0 }
     {
-        if self.counts_as_named(number, peer, id) {
+        if self.queue.holds(number, peer) {
+            return Ok(());
+        }
+        if self.is_own_vote(id) {
             return self.count(number, peer, Some(*id), log);
         }
-        self.receive_other(number, peer, id, log)
-    }
-
-    /// Returns whether a reply isn't held, and would be the first thing to do and a vote for the
-    /// block that it names, if its poll awaits it.
-    #[inline(always)]
-    fn counts_as_named(&self, number: u32, peer: &NodeId, id: &Id) -> bool
-        ensures first { result ≡ true → model.IsFirst self.now id.now (Some id.now) }
-        ensures free { result ≡ true → holds_in self.now.queue.held number peer.now ≡ false }
-    {
-        if self.queue.holds(number, peer) {
-            return false;
-        }
-        match self.remembered {
-            Remembered::Idle => self.queue.is_own_vote(id, &self.board),
-            _ => false,
-        }
-    }
-
-    /// Takes any other vote. It asks first whether the poll awaits it, so that one that isn't
-    /// awaited costs no walk. It is a function apart, so that a vote for the block that it names
-    /// doesn't pay for its room.
-    #[inline(never)]
-    fn receive_other(
-        &mut self,
-        number: u32,
-        peer: &NodeId,
-        id: &Id,
-        log: &mut Lines,
-    ) -> Result<(), Halt>
-        ensures answer { Turns result self.new (model.vote_came C.rules B.answer self.old number peer.now id.now).1 }
-        ensures lines { Tells result log.old log.new (model.vote_came C.rules B.answer self.old number peer.now id.now).0 }
-    {
-        if !self.awaits(number, peer) {
+        if !self.polls.awaits(number, peer) {
             return Ok(());
         }
         match self.vote_at_once(id) {
             Some(vote) => self.count(number, peer, vote, log),
             None => self.hold_and_settle(number, peer, id, log),
+        }
+    }
+
+    /// Returns whether a reply would be the first thing to do, if its poll awaits it, and a vote
+    /// for the very block that it names.
+    fn is_own_vote(&self, id: &Id) -> bool
+        ensures { result ≡ true → model.IsFirst self.now id.now (Some id.now) }
+    {
+        match self.remembered {
+            Remembered::Idle => self.queue.is_own_vote(id, &self.board),
+            _ => false,
         }
     }
 
@@ -250,9 +214,7 @@ impl<C: Chain, B: Board> Running<C, B> {
         }
     }
 
-    /// Counts a vote where its poll awaits it, and does all that this brings. So it looks its poll
-    /// and its node up once.
-    #[inline(always)]
+    /// Counts a vote where its poll awaits it, and does all that this brings.
     fn count(
         &mut self,
         number: u32,
@@ -270,7 +232,6 @@ impl<C: Chain, B: Board> Running<C, B> {
     }
 
     /// Lets closed polls leave, and does all that this brings.
-    #[inline(always)]
     fn close_and_settle(&mut self, log: &mut Lines) -> Result<(), Halt>
         ensures answer { Turns result self.new (then_comes (closed_out B.answer self.old) (settled C.rules B.answer)).1 }
         ensures lines { Tells result log.old log.new (then_comes (closed_out B.answer self.old) (settled C.rules B.answer)).0 }

@@ -11,24 +11,12 @@ use snow_flake::Params;
 use snow_lines::{Line, Lines, QueryWhy};
 use snow_plain::Board;
 use snow_sample::{Draws, Roster, SampleFault, Words};
-use std::mem;
 
 /// The most polls that run at a time.
 const MOST_POLLS: usize = 1024;
 
 impl<C: Chain, B: Board> Running<C, B> {
-    /// Takes back the draws of a query that was written, so that the next query uses their room.
-    /// The node stays as it is for contracts.
-    /// Rule: this project's own.
-    pub fn take_back(&mut self, draws: Draws)
-        ensures { self.new ≡ self.old }
-    {
-        self.spare = draws;
-    }
-
-    /// Makes a query for the preference, and returns whether it sent it. It is inlined up to where
-    /// nodes are drawn.
-    #[inline(always)]
+    /// Makes a query for the preference, and returns whether it sent it.
     pub(super) fn query(&mut self, log: &mut Lines) -> Result<bool, Halt>
         ensures answer { Answers result self.new (model.queried B.answer self.old).1 }
         ensures lines { Tells result log.old log.new (model.queried B.answer self.old).0 }
@@ -43,16 +31,13 @@ impl<C: Chain, B: Board> Running<C, B> {
         self.draw_and_send(log)
     }
 
-    /// Draws nodes and asks them for the preference, and returns whether it did. It is a function
-    /// apart, so that a query that isn't sent for want of words doesn't pay for the room of a
-    /// sample.
-    #[inline(never)]
+    /// Draws nodes and asks them for the preference, and returns whether it did.
     fn draw_and_send(&mut self, log: &mut Lines) -> Result<bool, Halt>
         requires { length self.old.polls.polls < 1024 }
         ensures answer { Answers result self.new (model.queried B.answer self.old).1 }
         ensures lines { Tells result log.old log.new (model.queried B.answer self.old).0 }
     {
-        let mut draws = mem::replace(&mut self.spare, Draws::new(self.alloc));
+        let mut draws = Draws::new(self.alloc);
         match self
             .roster
             .sample(self.params.k(), &mut self.words, &mut draws)

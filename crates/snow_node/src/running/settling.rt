@@ -26,7 +26,6 @@ use snow_plain::Board;
 
 impl<C: Chain, B: Board> Running<C, B> {
     /// Does all that is to do with the blocks and replies that wait.
-    #[inline(always)]
     pub(super) fn settle(&mut self, log: &mut Lines) -> Result<(), Halt>
         ensures answer { Turns result self.new (model.settled C.rules B.answer self.old).1 }
         ensures lines { Tells result log.old log.new (model.settled C.rules B.answer self.old).0 }
@@ -37,9 +36,7 @@ impl<C: Chain, B: Board> Running<C, B> {
         self.settle_all(log)
     }
 
-    /// Does all that is to do, where it isn't known whether anything is. It is a function apart, so
-    /// that an event that leaves nothing to do doesn't pay for it.
-    #[inline(never)]
+    /// Does all that is to do, where it isn't known whether anything is.
     fn settle_all(&mut self, log: &mut Lines) -> Result<(), Halt>
         ensures answer { Turns result self.new (model.settled C.rules B.answer self.old).1 }
         ensures lines { Tells result log.old log.new (model.settled C.rules B.answer self.old).0 }
@@ -121,9 +118,7 @@ impl<C: Chain, B: Board> Running<C, B> {
         self.settle(log)
     }
 
-    /// Issues a block whose parent is on the board, unless something stands against it. It is
-    /// inlined, so that nothing is moved to it.
-    #[inline(always)]
+    /// Issues a block whose parent is on the board, unless something stands against it.
     fn place(&mut self, block: &Header, bytes: Bytes, log: &mut Lines) -> Result<(), Halt>
         requires { IsApart self.old.board self.old.queue.waiting block.now.id }
         ensures answer { Turns result self.new (model.placed_by B.answer self.old block.now bytes (next_on C.rules self.old.chain block.now.parent bytes)
@@ -202,9 +197,7 @@ impl<C: Chain, B: Board> Running<C, B> {
     }
 }
 
-/// Takes the first thing that is to do out of a queue that can be trusted so far. It is inlined, so
-/// that what it takes isn't copied once more.
-#[inline(always)]
+/// Takes the first thing that is to do out of a queue that can be trusted so far.
 fn take_next<B: Board>(queue: &mut Queue, board: &B, remembered: &Remembered) -> Option<Work>
     requires { Remembers (B.board board.now) queue.old remembered.now }
     ensures work { result ≡ work_of (lists_of queue.old) (B.board board.now) }

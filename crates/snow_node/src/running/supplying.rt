@@ -1,37 +1,17 @@
 ghost use Rattle.std.specs.Prelude.{◌≡◌, [], Err, IfOk, OnOk, OnErr};
 ghost use Rattle.snow_plain.specs.Board.{issued};
-ghost use Rattle.snow_plain.specs.Preference.{preferred};
 ghost use Rattle.snow_plain.specs.Reached.{MayIssue};
 ghost use Rattle.snow_chain.specs.Chain.{next_on};
-ghost use Rattle.snow_getter.specs.Answer.{answer};
 ghost use Rattle.snow_node.specs.Matching.{IsSteady, Admits};
 ghost use Rattle.snow_node.specs.Supplying as model;
 ghost use Rattle.snow_node.specs.Supplying.{Serves};
-ghost use Rattle.snow_node.specs.Stepping.{Tells};
 
-use crate::running::Running;
-use crate::stop::Halt;
 use snow_base::{Bytes, Header};
 use snow_chain::Chain;
 use snow_getter::Getter;
 use snow_issue::SpareBytes;
-use snow_lines::Lines;
 use snow_plain::{Board, Decision};
-use snow_wire::Event;
 use std::alloc::AllocError;
-
-impl<C: Chain, B: Board> Running<C, B> {
-    /// Answers a peer's question.
-    #[inline(never)]
-    #[tactic(auto, using(crate::proofs::Logs::logs_nothing))]
-    pub(super) fn reply(&self, question: &Event, log: &mut Lines) -> Result<(), Halt>
-        ensures memory { OnErr result (result ≡ Err Halt.Memory) }
-        ensures lines { Tells result log.old log.new (answer self.now.served (preferred B.answer self.now.board) question.now) }
-    {
-        self.served.answer(self.board.preference(), question, log)?;
-        Ok(())
-    }
-}
 
 /// Issues a block, if it is valid, then serves it, and returns whether it did. On want of memory
 /// all stays as it was: it takes the state of a valid block back out of the chain where there is no
@@ -104,7 +84,6 @@ pub(super) fn follow(served: &mut Getter, room: &mut SpareBytes, decisions: &[De
 }
 
 /// Makes what peers are served follow one decision. It returns bytes that aren't served any more.
-#[inline(always)]
 fn follow_one(served: &mut Getter, decision: &Decision) -> Option<Bytes>
     ensures { served.new ≡ model.with_decision served.old decision.now }
 {

@@ -8,7 +8,7 @@ use Rattle.snow_wire.specs.declared.frame.TooLong.{TooLong}
 use Rattle.snow_wire.proofs.Streams.{long_first}
 use Rattle.snow_engine.specs.declared.end.BadKind.TheVariants as kind
 use Rattle.snow_engine.specs.declared.end.End.TheVariants as end
-use Rattle.snow_engine.specs.Serving.{Halts, Worked, stand_of, ends_by, told, one_worked}
+use Rattle.snow_engine.specs.Serving.{Halts, Worked, stand_of, told, one_worked}
 use Rattle.snow_base.specs.Outside.{AppendsFront}
 use Rattle.snow_wire.specs.Stream.{taken}
 use Rattle.snow_engine.proofs.Worked.{failed_first, long_halts, none_worked}
@@ -32,6 +32,6 @@ pub returns-in-Err-gather-clause-lines : goal.returns-in-Err-gather-clause-lines
 returns-in-Err-gather-clause-lines g c =
     let frame = rw c.in-Ok-Some.field-0-is at c.in-Ok-Some.ensures.answer in
     failed_first g.C.Chain.rules g.B.Board.answer c.args.self.now.runner.task (stand_of c.args.self.now.runner.engine) c.args.self.now.decoder
-    c.in-Ok-Some.frame.payload.now (taken c.args.self.now.decoder).rest c.in-Ok-Some.frame.number (ends_by c.work-worked.new.self.end c.work-worked.result) (told c.in-Ok-Some.frame.number c.work-worked.result c.work-worked.new.self.log)
+    c.in-Ok-Some.frame.payload.now (taken c.args.self.now.decoder).rest c.in-Ok-Some.frame.number c.work-worked.result (told c.in-Ok-Some.frame.number c.work-worked.result c.work-worked.new.self.log)
     (g.O.Sink.written c.args.out.now) c.args.self.now.page (g.O.Sink.written c.gather.new.out) frame.0 frame.1 c.work-worked.ensures.lines
     (subst (λ (l : List Line). AppendsFront (g.O.Sink.written c.args.out.now) (g.O.Sink.written c.gather.new.out) (c.args.self.now.page ++ texts (told c.in-Ok-Some.frame.number c.work-worked.result l))) c.list.ensures c.in-Err-gather.ensures.err)

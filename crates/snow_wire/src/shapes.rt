@@ -1,0 +1,133 @@
+//! The shapes of the events that peers send, and how each is read behind its tag.
+ghost use Rattle.std.specs.Prelude.{◌≡◌, ℕ, List};
+ghost use Rattle.snow_wire.specs.Reading.{ReadsAs, block_at, counted_at, id_at, message_at, sender_at};
+ghost use Rattle.snow_wire.specs.declared.event.Event.{Event};
+
+use crate::fault::Fault;
+use crate::packed::Packed;
+use crate::reader::{MAX_BLOCK, Reader};
+
+/// A peer, and the number of the request that its message belongs to.
+/// Rule: this project's own.
+#[derive(Clone, Copy, Debug, PartialEq, Eq)]
+pub struct Sender<'a> {
+    /// The peer that sent it.
+    pub node: &'a [u8; 20],
+    /// The number of the request that it belongs to.
+    pub request: u32,
+}
+
+/// A peer's message that names one block.
+/// Rule: this project's own.
+#[derive(Clone, Copy, Debug, PartialEq, Eq)]
+pub struct Named<'a> {
+    /// The peer that sent it.
+    pub node: &'a [u8; 20],
+    /// The number of the request that it belongs to.
+    pub request: u32,
+    /// The block's identifier.
+    pub id: &'a [u8; 32],
+}
+
+/// A peer's message that names blocks.
+/// Rule: this project's own.
+#[derive(Clone, Copy, Debug, PartialEq, Eq)]
+pub struct Listing<'a> {
+    /// The peer that sent it.
+    pub node: &'a [u8; 20],
+    /// The number of the request that it belongs to.
+    pub request: u32,
+    /// The identifiers of at most 4,096 blocks.
+    pub ids: &'a [[u8; 32]],
+}
+
+/// A peer's message that brings one block.
+/// Rule: this project's own.
+#[derive(Clone, Copy, Debug, PartialEq, Eq)]
+pub struct Brought<'a> {
+    /// The peer that sent it.
+    pub node: &'a [u8; 20],
+    /// The number of the request that it belongs to.
+    pub request: u32,
+    /// The block's bytes, at most 65,536.
+    pub bytes: &'a [u8],
+}
+
+/// A peer's message that brings blocks.
+/// Rule: this project's own.
+#[derive(Drop)]
+pub struct Parcel<'a> {
+    /// The peer that sent it.
+    pub node: &'a [u8; 20],
+    /// The number of the request that it belongs to.
+    pub request: u32,
+    /// At most 2,048 blocks.
+    pub blocks: Packed<'a>,
+}
+
+impl<'a> Sender<'a> {
+    #[tactic(auto, unfolding(crate::specs::Reading::sender_at))]
+    pub(crate) fn read(reader: &mut Reader<'a>) -> Result<Self, Fault>
+        ensures { (made : List ℕ → ℕ → Event) → ReadsAs (λ s. made s.node.now s.request) result reader.new (sender_at made reader.old) }
+    {
+        let node = reader.node()?;
+        let request = reader.u32()?;
+        Ok(Sender { node, request })
+    }
+}
+
+impl<'a> Named<'a> {
+    #[tactic(auto, unfolding(crate::specs::Reading::message_at))]
+    pub(crate) fn read(reader: &mut Reader<'a>) -> Result<Self, Fault>
+        ensures { (made : List ℕ → ℕ → List ℕ → Event) → ReadsAs (λ n. made n.node.now n.request n.id.now) result reader.new (message_at id_at made reader.old) }
+    {
+        let node = reader.node()?;
+        let request = reader.u32()?;
+        let id = reader.id()?;
+        Ok(Named { node, request, id })
+    }
+}
+
+impl<'a> Listing<'a> {
+    #[tactic(auto, unfolding(crate::specs::Reading::message_at))]
+    pub(crate) fn read(reader: &mut Reader<'a>) -> Result<Self, Fault>
+        ensures { (made : List ℕ → ℕ → List (List ℕ) → Event) → ReadsAs (λ l. made l.node.now l.request l.ids.now) result reader.new (message_at (counted_at id_at 4096) made reader.old) }
+    {
+        let node = reader.node()?;
+        let request = reader.u32()?;
+        let ids = reader.id_list(4096)?;
+        Ok(Listing { node, request, ids })
+    }
+}
+
+impl<'a> Brought<'a> {
+    #[tactic(auto, unfolding(crate::specs::Reading::message_at))]
+    pub(crate) fn read(reader: &mut Reader<'a>) -> Result<Self, Fault>
+        ensures { (made : List ℕ → ℕ → List ℕ → Event) → ReadsAs (λ b. made b.node.now b.request b.bytes.now) result reader.new (message_at block_at made reader.old) }
+    {
+        let node = reader.node()?;
+        let request = reader.u32()?;
+        let bytes = reader.slice(MAX_BLOCK)?;
+        Ok(Brought {
+            node,
+            request,
+            bytes,
+        })
+    }
+}
+
+impl<'a> Parcel<'a> {
+    #[tactic(auto, unfolding(crate::specs::Reading::message_at))]
+    pub(crate) fn read(reader: &mut Reader<'a>) -> Result<Self, Fault>
+        ensures { (made : List ℕ → ℕ → List (List ℕ) → Event) → ReadsAs (λ p. made p.node.now p.request p.blocks) result reader.new (message_at (counted_at block_at 2048) made reader.old) }
+    {
+        let node = reader.node()?;
+        let request = reader.u32()?;
+        let blocks = Packed::read(reader, 2048)?;
+        Ok(Parcel {
+            node,
+            request,
+            blocks,
+        })
+    }
+}

@@ -1,0 +1,136 @@
+ghost use Rattle.std.specs.Prelude.{◌≡◌, IfOk};
+ghost use Rattle.snow_wire.specs.Reading.{ReadsAs, event_of, fields_at};
+ghost use Rattle.snow_wire.specs.Viewed.{as_event, seen};
+
+use crate::event::Event;
+use crate::fault::Fault;
+use crate::lists::{ids_of, nodes_of, words_of};
+use crate::opening::Opening;
+use crate::reader::{MAX_BLOCK, MAX_LINE, Reader};
+use crate::shapes::{Brought, Listing, Named, Parcel, Sender};
+use snow_base::Bytes;
+use std::alloc::{AllocError, Global};
+
+/// An event whose bytes still stand in the payload of its frame. The variants are those of `Event`,
+/// with the same limits. An identifier has 32 bytes, a word 8, and a node 20, with 8 of weight
+/// behind them; numbers are unsigned, the highest byte first.
+/// Rule: this project's own.
+#[derive(Drop)]
+pub enum View<'a> {
+    /// The run begins.
+    Start(Opening<'a>),
+    /// A block came.
+    Block(Brought<'a>),
+    /// A whole poll: the block that each vote is for.
+    Poll(&'a [[u8; 32]]),
+    /// Random numbers for later samples.
+    Words(&'a [[u8; 8]]),
+    /// A peer's vote.
+    Chits(Named<'a>),
+    /// A peer won't reply.
+    Timeout(Sender<'a>),
+    /// A peer's last accepted block.
+    Frontier(Named<'a>),
+    /// Those of the named blocks that a peer holds accepted.
+    Accepted(Listing<'a>),
+    /// A block and its ancestors.
+    Ancestors(Parcel<'a>),
+    /// A block that was stored earlier, as its bytes.
+    Stored(&'a [u8]),
+    /// A new set of nodes to ask.
+    Validators(&'a [[u8; 28]]),
+    /// A peer asks for this node's vote.
+    AskQuery(Sender<'a>),
+    /// A peer asks for the last accepted block.
+    AskFrontier(Sender<'a>),
+    /// A peer asks which of these blocks are accepted.
+    AskAccepted(Listing<'a>),
+    /// A peer asks for a block and its ancestors.
+    AskAncestors(Named<'a>),
+    /// A peer asks for a block.
+    AskBlock(Named<'a>),
+    /// A line that a run wrote, without the byte that ends it.
+    Line(&'a [u8]),
+}
+
+impl<'a> View<'a> {
+    /// Returns the event that all bytes of a payload spell, where they stand. A payload that spells
+    /// none is refused with the first thing that goes wrong, read from the front; a field's range
+    /// is checked as soon as the field is read. It takes no memory.
+    /// Rule: this project's own.
+    #[tactic(auto, unfolding(crate::specs::Reading::event_of))]
+    #[inline(always)]
+    pub fn read(payload: &'a [u8]) -> Result<Self, Fault>
+        ensures { seen result ≡ event_of payload.now }
+    {
+        let mut reader = Reader::new(payload);
+        let tag = reader.u8()?;
+        let view = fields(tag, &mut reader)?;
+        reader.end()?;
+        Ok(view)
+    }
+
+    /// Returns the same event with bytes of its own. On want of memory it returns `AllocError`.
+    /// Rule: this project's own.
+    pub fn to_event(&self, alloc: Global) -> Result<Event, AllocError>
+        ensures { IfOk result (λ event. event ≡ as_event self.now) }
+    {
+        match self {
+            View::Start(opening) => Ok(Event::Start(opening.to_start(alloc)?)),
+            View::Block(brought) => brought.block(alloc),
+            View::Poll(ids) => Ok(Event::Poll {
+                ids: ids_of(alloc, ids)?,
+            }),
+            View::Words(words) => Ok(Event::Words {
+                words: words_of(alloc, words)?,
+            }),
+            View::Chits(named) => Ok(named.chits()),
+            View::Timeout(sender) => Ok(sender.timeout()),
+            View::Frontier(named) => Ok(named.frontier()),
+            View::Accepted(listing) => listing.accepted(alloc),
+            View::Ancestors(parcel) => parcel.ancestors(alloc),
+            View::Stored(bytes) => Ok(Event::Stored {
+                bytes: Bytes::from_slice(alloc, bytes)?,
+            }),
+            View::Validators(nodes) => Ok(Event::Validators {
+                nodes: nodes_of(alloc, nodes)?,
+            }),
+            View::AskQuery(sender) => Ok(sender.ask_query()),
+            View::AskFrontier(sender) => Ok(sender.ask_frontier()),
+            View::AskAccepted(listing) => listing.ask_accepted(alloc),
+            View::AskAncestors(named) => Ok(named.ask_ancestors()),
+            View::AskBlock(named) => Ok(named.ask_block()),
+            View::Line(text) => Ok(Event::Line {
+                text: Bytes::from_slice(alloc, text)?,
+            }),
+        }
+    }
+}
+
+/// Returns the event with this tag whose fields stand in front.
+#[tactic(auto, unfolding(crate::specs::Reading::fields_at, crate::specs::Reading::single_at))]
+#[inline(always)]
+fn fields<'a>(tag: u8, reader: &mut Reader<'a>) -> Result<View<'a>, Fault>
+    ensures { ReadsAs as_event result reader.new (fields_at tag reader.old) }
+{
+    match tag {
+        1 => Ok(View::Start(Opening::read(reader)?)),
+        2 => Ok(View::Block(Brought::read(reader)?)),
+        3 => Ok(View::Poll(reader.id_list(1024)?)),
+        4 => Ok(View::Words(reader.word_list(4096)?)),
+        5 => Ok(View::Chits(Named::read(reader)?)),
+        6 => Ok(View::Timeout(Sender::read(reader)?)),
+        7 => Ok(View::Frontier(Named::read(reader)?)),
+        8 => Ok(View::Accepted(Listing::read(reader)?)),
+        9 => Ok(View::Ancestors(Parcel::read(reader)?)),
+        10 => Ok(View::Stored(reader.slice(MAX_BLOCK)?)),
+        11 => Ok(View::Validators(reader.node_list(4096)?)),
+        12 => Ok(View::AskQuery(Sender::read(reader)?)),
+        13 => Ok(View::AskFrontier(Sender::read(reader)?)),
+        14 => Ok(View::AskAccepted(Listing::read(reader)?)),
+        15 => Ok(View::AskAncestors(Named::read(reader)?)),
+        16 => Ok(View::AskBlock(Named::read(reader)?)),
+        17 => Ok(View::Line(reader.slice(MAX_LINE)?)),
+        _ => Err(Fault::Tag),
+    }
+}
