@@ -1,7 +1,8 @@
-ghost use Rattle.std.specs.Prelude.{◌≡◌, ◌<◌, OnOk, IfOk};
-ghost use Rattle.snow_wire.specs.Viewed.{words_in};
+ghost use Rattle.std.specs.Prelude.{◌≡◌, ◌<◌, map, OnOk, IfOk};
+ghost use Rattle.byteorder.specs.Endian.{big_number};
 ghost use Rattle.snow_drill.specs.Generator.{following, last_of, values, picked};
 
+use byteorder::{BigEndian, ByteOrder};
 use std::alloc::{AllocError, Global};
 use std::marker::Model;
 
@@ -56,12 +57,14 @@ impl Generator {
     /// Rule: this project's own.
     #[tactic(auto, unfolding(crate::specs::Generator::values, crate::specs::Generator::last_of))]
     pub fn values(&mut self, alloc: Global, n: u32) -> Result<Vec<[u8; 8]>, AllocError>
-        ensures values { IfOk result (λ list. words_in list.items ≡ values n self.old) }
+        ensures values { IfOk result (λ list. map (big_number 8) list.items ≡ values n self.old) }
         ensures state { OnOk result (self.new ≡ last_of n self.old) }
     {
         let mut list = Vec::with_capacity(alloc, n as usize)?;
         for _ in 0..n {
-            list.push(self.next().to_be_bytes())?;
+            let mut word = [0; 8];
+            BigEndian::write_u64(&mut word, self.next());
+            list.push(word)?;
         }
         Ok(list)
     }

@@ -5,7 +5,6 @@ pub mod Fielded
 pub mod Figures
 pub mod Joined
 pub mod Named
-pub mod Placed
 pub mod Printed
 pub mod Shown
 pub mod Sixteen

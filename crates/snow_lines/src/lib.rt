@@ -12,7 +12,6 @@ mod part;
 mod printing;
 mod reading;
 mod text;
-mod whole;
 mod why;
 mod words;
 

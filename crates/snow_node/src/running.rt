@@ -5,7 +5,7 @@ ghost use Rattle.snow_flake.specs.Parameters.{AreGood};
 ghost use Rattle.snow_sample.specs.Roster.{first_fault, IsRosterOf};
 ghost use Rattle.snow_getter.specs.Answer.{answer};
 ghost use Rattle.snow_plain.specs.Preference.{preferred};
-ghost use Rattle.snow_wire.specs.Viewed.{as_event, nodes_in, words_in};
+ghost use Rattle.snow_wire.specs.Viewed.{as_event};
 ghost use Rattle.snow_plain.specs.Board.{begin};
 ghost use Rattle.snow_chain.specs.Alone.{IsAlone, last_state};
 ghost use Rattle.snow_getter.specs.Serving.{serving_from};
@@ -28,7 +28,7 @@ mod supplying;
 use crate::reporting::write;
 use crate::running::remembering::Remembered;
 use crate::stop::Halt;
-use snow_base::{Id, NodeId, Nodes, Numbers};
+use snow_base::{Id, NodeId, Nodes, Numbers, Nums};
 use snow_chain::Chain;
 use snow_flake::Params;
 use snow_getter::Getter;
@@ -159,8 +159,10 @@ impl<C: Chain, B: Board> Running<C, B> {
             View::Block(block) => self.on_block(frame, block, log),
             View::Chits(vote) => self.on_chits(vote, log),
             View::Timeout(timeout) => self.on_timeout(timeout, log),
-            View::Words(words) => self.on_words(frame, words, log),
-            View::Validators(nodes) => self.on_validators(frame, nodes, log),
+            View::Words(words) => self.on_words(frame, &words_of(self.alloc, words)?, log),
+            View::Validators(nodes) => {
+                self.on_validators(frame, &nodes_of(self.alloc, nodes)?, log)
+            }
             View::Frontier(_) | View::Accepted(_) | View::Ancestors(_) => Ok(()),
             View::Poll(_) | View::Line(_) => skip(frame, SkipKind::Task, log),
             View::Stored(_) => skip(frame, SkipKind::Stage, log),
@@ -229,14 +231,13 @@ impl<C: Chain, B: Board> Running<C, B> {
 
     /// Takes words, which may bring queries where no poll runs.
     #[tactic(auto, using(crate::proofs::Logs::logs_nothing))]
-    fn on_words(&mut self, frame: u64, words: &[[u8; 8]], log: &mut Lines) -> Result<(), Halt>
-        ensures answer { Turns result self.new (model.words_came B.answer self.old frame (words_in words.now)).1 }
-        ensures lines { Tells result log.old log.new (model.words_came B.answer self.old frame (words_in words.now)).0 }
+    fn on_words(&mut self, frame: u64, words: &Nums, log: &mut Lines) -> Result<(), Halt>
+        ensures answer { Turns result self.new (model.words_came B.answer self.old frame words.now).1 }
+        ensures lines { Tells result log.old log.new (model.words_came B.answer self.old frame words.now).0 }
     {
-        if words.len() > MOST_WORDS - self.words.len() {
+        if words.list().len() > MOST_WORDS - self.words.len() {
             return skip(frame, SkipKind::Full, log);
         }
-        let words = words_of(self.alloc, words)?;
         self.words.push_all(words.list())?;
         if self.polls.len() > 0 {
             return Ok(());
@@ -245,12 +246,11 @@ impl<C: Chain, B: Board> Running<C, B> {
     }
 
     /// Puts a new roster in force, unless something is wrong with it.
-    fn on_validators(&mut self, frame: u64, nodes: &[[u8; 28]], log: &mut Lines) -> Result<(), Halt>
-        ensures answer { Turns result self.new (model.roster_came self.old frame (model.members (nodes_in nodes.now)) (first_fault (model.members (nodes_in nodes.now)))).1 }
-        ensures lines { Tells result log.old log.new (model.roster_came self.old frame (model.members (nodes_in nodes.now)) (first_fault (model.members (nodes_in nodes.now)))).0 }
+    fn on_validators(&mut self, frame: u64, nodes: &Nodes, log: &mut Lines) -> Result<(), Halt>
+        ensures answer { Turns result self.new (model.roster_came self.old frame (model.members nodes.now) (first_fault (model.members nodes.now))).1 }
+        ensures lines { Tells result log.old log.new (model.roster_came self.old frame (model.members nodes.now) (first_fault (model.members nodes.now))).0 }
     {
-        let nodes = nodes_of(self.alloc, nodes)?;
-        match roster_of(self.alloc, &nodes) {
+        match roster_of(self.alloc, nodes) {
             Ok(roster) => {
                 drop(mem::replace(&mut self.roster, roster));
                 Ok(())
