@@ -10,7 +10,7 @@ pub(crate) fn named(number: u16) -> Id {
     Id::from_bytes(bytes)
 }
 
-// The identifier that has the bytes of a number in its middle. Where a guess looks they are all alike.
+// The identifier that has the bytes of a number in its middle. Where a look-up looks first they are all alike.
 pub(crate) fn alike(number: u16) -> Id {
     let mut bytes = [0; 32];
     let [a, b] = number.to_be_bytes();

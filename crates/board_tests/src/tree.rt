@@ -17,7 +17,8 @@ pub(crate) fn issue(
     if tree.last() != parent && tree.place_of(&parent).is_none() {
         return Ok(());
     }
-    match tree.insert(id, parent, u64::from(number), number) {
+    let at = tree.place_of(&parent);
+    match tree.insert(id, parent, at, u64::from(number), number) {
         Ok(()) => Ok(()),
         Err(_) => Err(AllocError),
     }
@@ -149,7 +150,7 @@ fn promotes(rt: HostRuntime) -> Result<(), Fail> {
     Ok(())
 }
 
-// The same branches, of blocks whose identifiers differ where a guess looks.
+// The same branches, of blocks whose identifiers differ where a look-up looks first.
 const APART: [(u16, u16); 6] = [
     (256, 0),
     (512, 0),
@@ -159,34 +160,31 @@ const APART: [(u16, u16); 6] = [
     (1536, 256),
 ];
 
-// Whether a block is guessed to stand at a place, and its parent so.
-fn is_guessed(tree: &Tree<u16>, number: u16, at: usize, parent: Option<usize>) -> bool {
-    match tree.guess(&named(number)) {
-        Some((place, above)) => place == at && above == parent,
-        None => false,
-    }
+// Whether a block stands at a place, and its parent so.
+fn stands(tree: &Tree<u16>, number: u16, at: usize, parent: Option<usize>) -> bool {
+    tree.place_of(&named(number)) == Some(at) && tree.parent_place(at) == parent
 }
 
-// Whether the branches are guessed, and a block that isn't there isn't.
-fn are_guessed(tree: &Tree<u16>) -> bool {
-    is_guessed(tree, 256, 0, None)
-        && is_guessed(tree, 768, 2, Some(0))
-        && is_guessed(tree, 1280, 4, Some(2))
-        && tree.guess(&named(1792)).is_none()
+// Whether the branches stand, and a block that isn't there doesn't.
+fn all_stand(tree: &Tree<u16>) -> bool {
+    stands(tree, 256, 0, None)
+        && stands(tree, 768, 2, Some(0))
+        && stands(tree, 1280, 4, Some(2))
+        && tree.place_of(&named(1792)).is_none()
 }
 
-// Whether those that stay are, once the second branch is rejected.
-fn are_guessed_anew(tree: &mut Tree<u16>) -> bool {
+// Whether those that stay do, once the second branch is rejected.
+fn some_stand(tree: &mut Tree<u16>) -> bool {
     accept(tree, 256) == Some(256)
-        && is_guessed(tree, 768, 0, None)
-        && is_guessed(tree, 1280, 1, Some(0))
-        && tree.guess(&named(512)).is_none()
+        && stands(tree, 768, 0, None)
+        && stands(tree, 1280, 1, Some(0))
+        && tree.place_of(&named(512)).is_none()
 }
 
 #[test]
-fn guesses(rt: HostRuntime) -> Result<(), Fail> {
+fn places(rt: HostRuntime) -> Result<(), Fail> {
     let mut tree = grown(rt.alloc(), &APART)?;
-    assert!(rt; are_guessed(&tree) && are_guessed_anew(&mut tree));
+    assert!(rt; all_stand(&tree) && some_stand(&mut tree));
     drop(tree);
     Ok(())
 }

@@ -1,7 +1,5 @@
 -- Lemmas on votes that climb, with the places of the blocks for which they look.
 use Rattle.std.proofs.Common.{◌≡◌, ℕ, zero, suc, ◌+◌, ◌<◌, ◌≤◌, Bool, true, false, not, List, [], ◌∷◌, ◌++◌, length, get_or, take, map, filter, slice_get, nat_lt, bytes_eq, Option, Some, None, IfSome, All, Contains, IsPermutation, refl, sym, ap, subst, ◌∙◌, arith, if◌then◌else◌, append-nil, length-append, reverse}
-use Rattle.std.specs.Bool.{beq}
-use Rattle.std.specs.List.{starts_with}
 use Rattle.std.specs.Option.{option_map}
 use Rattle.std.proofs.lemmas.List.{map-append, length-map, get_or-map}
 use Rattle.std.proofs.lemmas.Grind.{common_steps}
@@ -10,19 +8,15 @@ use Rattle.std.proofs.lemmas.List.Sorted.{IsPermutation-append_right, IsPermutat
 use Rattle.std.proofs.lemmas.List.Elements.{All-cons, All-nil, All-filter, All-head, All-tail, All-map, filter_passes}
 use Rattle.std.proofs.lemmas.Option.{none-some, slice_get-map, slice_get-get_or}
 use Rattle.snow_base.specs.declared.header.Header.{Header}
-use Rattle.snow_base.specs.declared.vote.Vote.{Vote}
-use Rattle.snow_base.specs.Identifier.{bits}
-use Rattle.snow_base.specs.Votes.{total_count}
 use Rattle.snow_plain.specs.declared.cursor.Cursor.{Cursor}
-use Rattle.snow_plain.specs.Conflict.{votes_on}
 use Rattle.snow_plain.specs.Cursors.{child_at, cursor_total, votes_at, votes_for as of_child}
 use Rattle.snow_plain.specs.Grown.{IsGrown}
 use Rattle.snow_tree.specs.Held.{Entry, blocks_in, children_of, place_in}
 use Rattle.snow_plain.proofs.Cases.{split_on, same_id, id_same}
 use Rattle.snow_climb.specs.declared.climber.Climber.{Climber}
-use Rattle.snow_climb.specs.Climbing.{above, reach, parent_in, id_in, cursor_of, cursors_of, climber_total, passing, vote_in, count_at, merged, ArePlaced, AreBelow, CameBy, HasCome}
+use Rattle.snow_climb.specs.Climbing.{above, reach, parent_in, id_in, cursor_of, cursors_of, climber_total, passing, count_at, merged, ArePlaced, AreBelow, CameBy, HasCome}
 use Rattle.snow_climb.specs.Ladder.{under, up_from}
-use Rattle.snow_climb.proofs.Merged.{none_came, joined_at, come_by}
+use Rattle.snow_climb.proofs.Merged.{none_came, joined_at}
 use Rattle.snow_climb.proofs.Reached.{reach_within, reach_seen, at_reach, not_own, parent_is_last}
 
 -- what a read past the end gives
@@ -68,41 +62,6 @@ module _ {T : Type 0} where
   child_there (e ∷ pending) (suc at) h none = child_there pending at (omega (arith, h)) none
 
 -- ---- votes that came by one child alone
-
--- which stands in the row
-pub only_placed : {T : Type 0} (pending : List (Entry T)) (x : Climber) (came : List Climber) → came ≡ x ∷ [] → All (λ c. c.passed < length pending) came → x.passed < length pending
-only_placed pending x came is placed = All-head (λ c. c.passed < length pending) x [] (subst (All (λ c. c.passed < length pending)) is placed)
-
--- they came by it
-pub only_came : (bs : List Header) (parent : List ℕ) (x : Climber) (came : List Climber) → came ≡ x ∷ [] → All (HasCome bs parent) (cursors_of bs came) → HasCome bs parent (cursor_of bs x)
-only_came bs parent x came is come = All-head (HasCome bs parent) (cursor_of bs x) [] (subst (λ l. All (HasCome bs parent) (cursors_of bs l)) is come)
-
--- they are its votes
-only_at : (bs : List Header) (parent : List ℕ) (x : Climber) (front : List Bool) → child_at parent (cursor_of bs x) ≡ Some (cursor_of bs x).passed
-    → votes_on (vote_in bs x ∷ []) front ≡ votes_at (cursors_of bs (x ∷ [])) parent front
-only_at bs parent x front by =
-    let f : Vote → ℕ = λ v. if starts_with beq (bits v.id) front then v.count else 0 in
-    let h : Cursor → ℕ = λ c. of_child (child_at parent c) c.count front in
-    let own : h (cursor_of bs x) ≡ f (vote_in bs x) = ap (λ o. of_child o x.count front) by in
-    omega (arith, own, sum_by-cons f (vote_in bs x) [], sum_by-cons h (cursor_of bs x) [])
-
-pub only_votes : (bs : List Header) (parent : List ℕ) (x : Climber) (came : List Climber) → came ≡ x ∷ [] → All (HasCome bs parent) (cursors_of bs came)
-    → votes_on (vote_in bs x ∷ []) ≡ votes_at (cursors_of bs came) parent
-only_votes bs parent x came is come =
-    let by = come_by bs parent (cursor_of bs x) (only_came bs parent x came is come) in
-    let own : votes_on (vote_in bs x ∷ []) ≡ votes_at (cursors_of bs (x ∷ [])) parent = λ i front. only_at bs parent x front by i in
-    own ∙ ap (λ l. votes_at (cursors_of bs l) parent) (sym is)
-
--- for a child of the parent
-pub only_among : (bs : List Header) (parent : List ℕ) (x : Climber) (came : List Climber) → came ≡ x ∷ [] → All (HasCome bs parent) (cursors_of bs came)
-    → All (λ v. Contains (children_of bs parent) v.id) (vote_in bs x ∷ [])
-only_among bs parent x came is come =
-    All-cons (λ v. Contains (children_of bs parent) v.id) (vote_in bs x) [] (only_came bs parent x came is come).2 (All-nil (λ v. Contains (children_of bs parent) v.id))
-
--- and as many as came
-pub only_total : (bs : List Header) (x : Climber) (came : List Climber) → came ≡ x ∷ [] → total_count (vote_in bs x ∷ []) ≤ climber_total came
-only_total bs x came is =
-    omega (arith, ap climber_total is, sum_by-cons (λ (v : Vote). v.count) (vote_in bs x) [], sum_by-cons (λ (c : Climber). c.count) x [])
 
 -- all look below the highest
 pub below_places : (bs : List Header) (top : ℕ) (cs : List Climber) → ArePlaced bs cs → All (λ c. c.place ≤ top) cs → AreBelow bs top (cursors_of bs cs)

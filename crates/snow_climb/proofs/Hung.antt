@@ -224,20 +224,6 @@ none_hung heads words low high clear within covered = record {
   covered = covered;
 }
 
--- a bound that no rung passes
-pub not_higher : (links : List Link) (heads : List Head) (words : List ℕ) (low high taken most : ℕ) → length heads ≤ most → IsHung links heads words low high taken → IsHung links heads words low most taken
-not_higher links heads words low high taken most bound hung = record {
-  linked = hung.linked;
-  last = hung.last;
-  counted = hung.counted;
-  clear = hung.clear;
-  marked = hung.marked;
-  highest = λ i h lower. omega (arith, lower, hung.within, bound);
-  took = hung.took;
-  within = hung.within;
-  covered = hung.covered;
-}
-
 -- one more vote of a sum, as 32 bits hold it
 more_held : (own : Climber) (rest : List Climber) (n : ℕ) → n ≡ climber_total rest % 2 ^ 32 → (n + own.count) % 2 ^ 32 ≡ climber_total (own ∷ rest) % 2 ^ 32
 more_held own rest n is = omega (arith, is, sum_by-cons (λ (c : Climber). c.count) own rest)

@@ -7,5 +7,4 @@ pub mod Started
 pub mod Chains
 pub mod Hung
 pub mod Gatherings
-pub mod Mains
 pub mod Majorities

@@ -1,15 +1,15 @@
 -- Lemmas on votes of a poll that stand for all.
-use Rattle.std.proofs.Common.{◌≡◌, ℕ, ◌+◌, ◌<◌, ◌≤◌, Bool, true, false, List, [], ◌∷◌, All, length, bytes_eq, refl, sym, ap, ◌∙◌, arith, if◌then◌else◌}
+use Rattle.std.proofs.Common.{◌≡◌, ℕ, ◌+◌, ◌<◌, ◌≤◌, nat_lt, nat_le, Bool, true, false, List, [], ◌∷◌, All, length, bytes_eq, refl, sym, ap, ◌∙◌, arith, if◌then◌else◌}
 use Rattle.std.specs.List.{list_any}
+use Rattle.std.proofs.lemmas.Grind.{common_steps}
 use Rattle.std.proofs.lemmas.List.Sums.{sum_by-cons}
 use Rattle.snow_base.specs.declared.vote.Vote.{Vote}
 use Rattle.snow_base.specs.Gathered.{IsNamed, one_each}
 use Rattle.snow_flake.specs.Parameters.{Parameters}
-use Rattle.snow_flake.specs.Counter.{class}
+use Rattle.snow_flake.specs.Counter.{class, Low, High}
 use Rattle.snow_plain.proofs.Cases.{split_on, same_id}
 use Rattle.snow_climb.specs.Majority.{StandsForPoll, StandFor}
 use Rattle.snow_climb.specs.Starting.{share, votes_by, ids_by}
-use Rattle.snow_climb.proofs.Mains.{high_class, low_class}
 use Rattle.snow_climb.proofs.Started.{each_passes}
 
 -- one for each that passes
@@ -47,6 +47,28 @@ main_fails test main (x ∷ ids) t =
     (λ s. let most = most_one test x in rw s (omega (arith, most)))
     in
     omega (arith, own, main_fails test main ids t, sum_by-cons (one_of (λ id. bytes_eq id main)) x ids, sum_by-cons (one_of test) x ids)
+
+-- ---- classes
+
+high_class : (p : Parameters) (n : ℕ) → p.alpha_preference ≤ p.alpha_confidence → p.alpha_confidence ≤ n → class p n ≡ High
+high_class p n order high =
+    let no : nat_lt n p.alpha_preference ≡ false = not_less n p.alpha_preference (omega (arith, order, high)) in
+    let yes : nat_le p.alpha_confidence n ≡ true = no_more p.alpha_confidence n high in
+    rw (no, yes) refl
+  where
+    not_less : (a b : ℕ) → b ≤ a → nat_lt a b ≡ false
+    not_less a b h = grind (arith, common_steps)
+
+    no_more : (a b : ℕ) → a ≤ b → nat_le a b ≡ true
+    no_more a b h = grind (arith, common_steps)
+
+low_class : (p : Parameters) (n : ℕ) → n < p.alpha_preference → class p n ≡ Low
+low_class p n low =
+    let yes : nat_lt n p.alpha_preference ≡ true = less n p.alpha_preference low in
+    rw yes refl
+  where
+    less : (a b : ℕ) → a < b → nat_lt a b ≡ true
+    less a b h = grind (arith, common_steps)
 
 -- ---- one vote for all
 

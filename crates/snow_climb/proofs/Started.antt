@@ -105,18 +105,6 @@ pub one_waits : {T : Type 0} (pending : List (Entry T)) (id : List ℕ) (others 
     → HaveStarted pending (λ test. share test (record { id = id; count = 1 }) + others test) (λ test. (if test id then 1 else 0) + counted test) cs
 one_waits pending id others counted cs started = record { votes = started.votes; placed = started.placed; some = started.some; same = λ test. omega (arith, started.same test) }
 
--- a single one begins
-pub alone_started : {T : Type 0} (pending : List (Entry T)) (ids : List (List ℕ)) (id : List ℕ) (counted : (List ℕ → Bool) → ℕ) (cs ds : List Climber) → length ids ≡ 1 → id ≡ get_or ids 0 id
-    → IsPermutation (option_to_list (begun pending (record { id = id; count = 1 })) ++ cs) ds
-    → HaveStarted pending (λ test. 0) counted cs → HaveStarted pending (λ test. 0) (λ test. ids_by test ids + counted test) ds
-alone_started pending [] id counted cs ds one is next started = absurd (omega (arith, one))
-alone_started pending (x ∷ []) id counted cs ds one is next started =
-    let v : Vote = record { id = id; count = 1 } in
-    let more : (List ℕ → Bool) → ℕ = λ test. (if test id then 1 else 0) + counted test in
-    same_started pending (λ test. 0) (λ test. 0) more (λ test. ids_by test (x ∷ []) + counted test) ds (λ test. refl) (λ test. omega (arith, ap (λ y. ids_by test (y ∷ [])) is))
-    (one_started pending v (λ test. 0) more cs ds (omega arith) next (one_waits pending id (λ test. 0) counted cs started))
-alone_started pending (x ∷ y ∷ ids) id counted cs ds one is next started = absurd (omega (arith, one))
-
 -- ---- places where votes wait
 
 abbrev Weigh : Type 0

@@ -40,15 +40,6 @@ cursors_of blocks climbers = map (cursor_of blocks) climbers
 abbrev pub climber_total : List Climber → ℕ
 climber_total climbers = sum_by (λ c. c.count) climbers
 
--- votes that came to a parent by one child alone
-abbrev pub vote_in : List Header → Climber → Vote
-vote_in blocks c = record { id = id_in (slice_get blocks c.passed); count = c.count }
-
--- the votes that came to a parent, by its children: one for all that came by one, or those of a bag
-abbrev pub gathered : Bool → Vote → List Vote → List Vote
-gathered true one votes = one ∷ []
-gathered false one votes = votes
-
 -- so many votes that passed the block at a place
 abbrev pub passing : List Header → ℕ → ℕ → Climber
 passing blocks at count = record { place = reach blocks (parent_in (slice_get blocks at)); passed = at; count = count }

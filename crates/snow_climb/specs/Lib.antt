@@ -2,5 +2,4 @@ pub mod Climbing
 pub mod Ladder
 pub mod Rising
 pub mod Starting
-pub mod Gathering
 pub mod Majority

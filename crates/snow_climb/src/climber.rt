@@ -1,5 +1,5 @@
-ghost use Rattle.std.specs.Prelude.{◌≡◌, ◌+◌, ◌<◌, ◌≤◌, nat_lt, ◌∷◌, length, slice_get, IfSome, IsPermutation, if◌then◌else◌};
-ghost use Rattle.snow_tree.specs.Held.{blocks_in, place_in};
+ghost use Rattle.std.specs.Prelude.{◌≡◌, ◌+◌, ◌<◌, ◌≤◌, nat_lt, ◌∷◌, length, slice_get, IsPermutation, if◌then◌else◌};
+ghost use Rattle.snow_tree.specs.Held.{blocks_in};
 ghost use Rattle.snow_climb.specs.Climbing.{reach, parent_in, passing};
 ghost use Rattle.snow_climb.specs.Ladder.{KeepsRoom};
 
@@ -24,48 +24,20 @@ fn above(place: usize, len: usize) -> usize
     place + 1
 }
 
-// One more than the place of the parent of the block at a place, which is this one; 0 where that isn't
-// pending.
-#[inline(always)]
-fn parent_reach<T: Drop>(tree: &Tree<T>, at: usize, parent: Option<usize>) -> usize
-    requires within { at < length (tree.now).pending }
-    requires parent { IfSome (slice_get (tree.now).pending at) (λ e. parent ≡ place_in (tree.now).pending e.block.parent) }
+// One more than the place of the parent of the block at a place; 0 where that isn't pending.
+fn parent_reach<T: Drop>(tree: &Tree<T>, at: usize) -> usize
+    requires { at < length (tree.now).pending }
     ensures { result ≡ reach (blocks_in (tree.now).pending) (parent_in (slice_get (blocks_in (tree.now).pending) at)) }
 {
     let len = tree.len();
-    match parent {
+    match tree.parent_place(at) {
         Some(place) => above(place, len),
         None => 0,
     }
 }
 
-/// Puts votes that passed the block at a place on the ladder, to go on to its parent, which stands
-/// at this one. It takes no memory.
-#[inline(always)]
-pub(crate) fn go_on_to<T: Drop>(
-    tree: &Tree<T>,
-    ladder: &mut Ladder,
-    at: usize,
-    parent: Option<usize>,
-    count: u32,
-)
-    requires room { (ladder.old).put < (ladder.old).most }
-    requires within { at < length (tree.now).pending }
-    requires parent { IfSome (slice_get (tree.now).pending at) (λ e. parent ≡ place_in (tree.now).pending e.block.parent) }
-    requires below { reach (blocks_in (tree.now).pending) (parent_in (slice_get (blocks_in (tree.now).pending) at)) < (ladder.old).low }
-    ensures same { IsPermutation (passing (blocks_in (tree.now).pending) at count ∷ (ladder.old).climbers) (ladder.new).climbers }
-    ensures rest { ladder.new ≡ record (ladder.old) { climbers = (ladder.new).climbers; put = (ladder.old).put + 1 } }
-{
-    let place = parent_reach(tree, at, parent);
-    ladder.put(Climber {
-        place,
-        passed: at,
-        count,
-    });
-}
-
-/// Puts them on where it looks the parent's place up first.
-#[inline(always)]
+/// Puts votes that passed the block at a place on the ladder, to go on to its parent. It takes no
+/// memory.
 pub(crate) fn go_on<T: Drop>(tree: &Tree<T>, ladder: &mut Ladder, at: usize, count: u32)
     requires room { (ladder.old).put < (ladder.old).most }
     requires within { at < length (tree.now).pending }
@@ -73,14 +45,18 @@ pub(crate) fn go_on<T: Drop>(tree: &Tree<T>, ladder: &mut Ladder, at: usize, cou
     ensures same { IsPermutation (passing (blocks_in (tree.now).pending) at count ∷ (ladder.old).climbers) (ladder.new).climbers }
     ensures rest { ladder.new ≡ record (ladder.old) { climbers = (ladder.new).climbers; put = (ladder.old).put + 1 } }
 {
-    go_on_to(tree, ladder, at, tree.parent_place(at), count);
+    let place = parent_reach(tree, at);
+    ladder.put(Climber {
+        place,
+        passed: at,
+        count,
+    });
 }
 
 /// Puts so many votes that came to the block at a place on the ladder, to go on to its parent
 /// together; it puts nothing where `count` is 0. The block is pending, its parent's rung is below
 /// the one that was taken off last, and the ladder has room for one more. It takes no memory.
 /// Rule: AvalancheGo, snow/consensus/snowman.
-#[inline(always)]
 pub fn pass<T: Drop>(tree: &Tree<T>, at: usize, count: u32, ladder: &mut Ladder)
     requires room { (ladder.old).put < (ladder.old).most }
     requires within { at < length (tree.now).pending }
@@ -91,22 +67,6 @@ pub fn pass<T: Drop>(tree: &Tree<T>, at: usize, count: u32, ladder: &mut Ladder)
     ensures room { KeepsRoom ladder.old ladder.new }
 {
     if count > 0 {
-        ladder.put_below();
         go_on(tree, ladder, at, count);
-    }
-}
-
-/// Returns so many votes as they are once they passed the block at a place, which is pending.
-/// Rule: AvalancheGo, snow/consensus/snowman.
-#[inline(always)]
-pub fn past<T: Drop>(tree: &Tree<T>, at: usize, count: u32) -> Climber
-    requires { at < length (tree.now).pending }
-    ensures { result ≡ passing (blocks_in (tree.now).pending) at count }
-{
-    let place = parent_reach(tree, at, tree.parent_place(at));
-    Climber {
-        place,
-        passed: at,
-        count,
     }
 }

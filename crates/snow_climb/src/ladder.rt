@@ -34,7 +34,7 @@ pub struct Ladder {
     words: Vec<u64>,
     // Nobody stands on this rung or a higher one.
     low: usize,
-    // Nobody stands on a higher rung; the last number where this isn't kept.
+    // Nobody stands on a higher rung.
     high: usize,
     // Who was put last on the rung that was taken off last, as `next` of a link tells it.
     taken: usize,
@@ -81,7 +81,6 @@ fn unmark(words: &mut [u64], rung: usize)
 }
 
 // The highest rung whose bit is set in the first so many words; 0 where none is.
-#[inline(never)]
 fn highest(words: &[u64], count: usize) -> usize
     requires within { count ≤ length words.now }
     requires small { 64 * count < 2 ^ 64 }
@@ -100,7 +99,6 @@ fn highest(words: &[u64], count: usize) -> usize
 
 // The highest rung whose bit is set in a word or in one before it; 0 where none is. Most stand in the word
 // itself.
-#[inline(always)]
 fn highest_from(words: &[u64], at: usize) -> usize
     requires within { at < length words.now }
     requires small { 64 * at + 64 < 2 ^ 64 }
@@ -141,7 +139,7 @@ fn add_rung(heads: &mut Vec<Head>, words: &mut Vec<u64>) -> Result<(), AllocErro
 }
 
 impl Ladder {
-    ghost use Rattle.std.specs.Prelude.{[], ◌∷◌, ◌++◌, IfOk, IfSome, IsPermutation};
+    ghost use Rattle.std.specs.Prelude.{[], ◌∷◌, ◌++◌, IfOk, IsPermutation};
     ghost use Rattle.snow_climb.specs.Ladder.{under, up_from, IsReady};
 
     /// Returns a ladder for polls of so many votes, as long as nothing is pending. On want of
@@ -200,9 +198,7 @@ impl Ladder {
 
     /// Puts a climber on its rung, which is below all that were taken off. The ladder has room for
     /// one more, so it takes no memory.
-    /// Rule: this project's own.
-    #[inline(always)]
-    pub fn put(&mut self, climber: Climber)
+    pub(crate) fn put(&mut self, climber: Climber)
         requires below { climber.place < (self.old).low }
         requires room { (self.old).put < (self.old).most }
         ensures { self.new ≡ record (self.old) { climbers = (self.old).climbers ++ climber ∷ []; put = (self.old).put + 1 } }
@@ -228,27 +224,8 @@ impl Ladder {
         self.low
     }
 
-    /// Returns the only climber on the ladder. It may return `None` there too; it returns a climber
-    /// only where no other stands on the ladder.
+    /// Returns a rung above which nobody stands.
     /// Rule: this project's own.
-    #[inline(always)]
-    pub fn lone(&self) -> Option<Climber>
-        ensures { IfSome result (λ c. (self.now).climbers ≡ c ∷ []) }
-    {
-        if self.links.len() != 1 {
-            return None;
-        }
-        let climber = self.links[0].climber;
-        if climber.place < self.low {
-            Some(climber)
-        } else {
-            None
-        }
-    }
-
-    /// Returns a rung above which nobody stands. The caller asks it before any is taken off.
-    /// Rule: this project's own.
-    #[inline]
     pub fn top(&self) -> usize
         ensures { All (λ c. c.place ≤ result) (self.now).climbers }
     {
@@ -256,30 +233,9 @@ impl Ladder {
         highest_from(&self.words, bound / 64)
     }
 
-    /// Returns a rung above which nobody stands. It is quick too where the highest rung was just
-    /// taken off.
-    /// Rule: this project's own.
-    #[inline(always)]
-    pub fn top_left(&self) -> usize
-        ensures { All (λ c. c.place ≤ result) (self.now).climbers }
-    {
-        highest_from(&self.words, self.low / 64)
-    }
-
-    /// Notes that all who are put on from here on stand below a rung that was taken off. Then the
-    /// ladder needn't keep how high they stand.
-    #[inline(always)]
-    pub(crate) fn put_below(&mut self)
-        ensures { self.new ≡ self.old }
-    {
-        let _rungs = self.heads.len();
-        self.high = usize::MAX;
-    }
-
     /// Takes all off this rung, above which nobody stands; it is below those that were taken off
     /// before. It returns how many votes they are, modulo 2^32. It takes no memory.
     /// Rule: this project's own.
-    #[inline(always)]
     pub fn take(&mut self, rung: usize) -> u32
         requires below { rung < (self.old).low }
         requires highest { All (λ c. c.place ≤ rung) (self.old).climbers }
@@ -296,25 +252,8 @@ impl Ladder {
         head.count
     }
 
-    /// Returns the climber that was taken off last, where nobody else stood on its rung.
-    #[inline(always)]
-    pub(crate) fn only(&self) -> Option<Climber>
-        ensures { IfSome result (λ c. (self.now).came ≡ c ∷ []) }
-    {
-        if self.taken == 0 {
-            return None;
-        }
-        let link = self.links[self.taken - 1];
-        if link.next == 0 {
-            Some(link.climber)
-        } else {
-            None
-        }
-    }
-
     /// Returns those that were taken off last: the links of all, and who of them was put last on
     /// that rung, as `next` of a link tells it.
-    #[inline(always)]
     pub(crate) fn came(&self) -> (&[Link], usize)
         ensures linked { AreLinked result.0.now }
         ensures within { result.1 ≤ length result.0.now }

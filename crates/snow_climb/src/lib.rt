@@ -8,8 +8,8 @@ mod majority;
 mod naming;
 mod starting;
 
-pub use climber::{Climber, pass, past};
-pub use gathering::{gather, no_vote, votes_in, write_vote};
+pub use climber::{Climber, pass};
+pub use gathering::gather;
 pub use ladder::Ladder;
 pub use naming::named;
 pub use starting::{start_ids, start_votes};

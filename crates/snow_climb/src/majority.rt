@@ -9,7 +9,6 @@ use snow_flake::Params;
 const FIRST: usize = 16;
 
 // Some bits of an identifier, by its ends. They are enough for a guess.
-#[inline(always)]
 fn some_bits(id: &Id) -> u32 {
     let bytes = id.as_bytes();
     u32::from_le_bytes([bytes[0], bytes[1], bytes[30], bytes[31]])
@@ -17,7 +16,6 @@ fn some_bits(id: &Id) -> u32 {
 
 // A vote for what most of the first votes are for, if it is ahead: each vote for another takes one off.
 // Whoever asks counts all.
-#[inline(always)]
 fn guess_main(ids: &[Id]) -> Option<usize>
     requires { 0 < length ids.now }
     ensures { IfSome result (λ at. at < length ids.now) }
@@ -42,7 +40,6 @@ fn guess_main(ids: &[Id]) -> Option<usize>
 }
 
 // How many of these votes are for an identifier.
-#[inline(always)]
 fn count_for(ids: &[Id], main: &Id) -> u32
     requires { length ids.now < 2 ^ 32 }
     ensures { result ≡ ids_by (λ id. bytes_eq id main.now) ids.now }
@@ -59,7 +56,6 @@ fn count_for(ids: &[Id], main: &Id) -> u32
 /// Returns one vote that stands for all of a poll, or `None`. Where AlphaConfidence votes are for
 /// one identifier, all others are fewer than AlphaPreference, and no counter sees them. It guesses
 /// the identifier from the first votes, so it may return `None` where there is one.
-#[inline(never)]
 pub(crate) fn main_vote(params: &Params, ids: &[Id]) -> Option<Vote>
     requires { length ids.now ≤ params.now.k }
     ensures { IfSome result (λ one. StandsForPoll params.now ids.now one) }

@@ -9,7 +9,7 @@ ghost use Rattle.snow_climb.specs.Ladder.{KeepsRoom, IsReady};
 ghost use Rattle.snow_climb.specs.Majority.{StandFor};
 ghost use Rattle.snow_climb.specs.Starting.{share, votes_by, ids_by, HaveStarted, HaveGone, HaveBegun, IsLoaded, TakesMore};
 
-use crate::climber::{go_on, go_on_to};
+use crate::climber::go_on;
 use crate::ladder::Ladder;
 use crate::majority::main_vote;
 use crate::naming::all_named;
@@ -18,10 +18,8 @@ use snow_flake::Params;
 use snow_tree::Tree;
 use std::slice;
 
-// So many votes begin past their own block, where nothing tells at once where it stands. They count nowhere
-// where it isn't pending.
-#[inline(never)]
-fn start_found<T: Drop>(tree: &Tree<T>, ladder: &mut Ladder, id: &Id, count: u32)
+// So many votes begin past their own block; those for a block that isn't pending count nowhere.
+fn start<T: Drop>(tree: &Tree<T>, ladder: &mut Ladder, id: &Id, count: u32)
     requires room { (ladder.old).put < (ladder.old).most }
     requires low { length (tree.now).pending < (ladder.old).low }
     ensures same { let vote : Vote = record { id = id.now; count = count } in
@@ -36,26 +34,7 @@ fn start_found<T: Drop>(tree: &Tree<T>, ladder: &mut Ladder, id: &Id, count: u32
     }
 }
 
-// So many votes begin past their own block; those for a block that isn't pending count nowhere. It stands
-// apart, as the seats' loop needs its registers, and keeps none where the block is found at once.
-#[inline(never)]
-fn start<T: Drop>(tree: &Tree<T>, ladder: &mut Ladder, id: &Id, count: u32)
-    requires room { (ladder.old).put < (ladder.old).most }
-    requires low { length (tree.now).pending < (ladder.old).low }
-    ensures same { let vote : Vote = record { id = id.now; count = count } in
-        IsPermutation (option_to_list (begun (tree.now).pending vote) ++ (ladder.old).climbers) (ladder.new).climbers }
-    ensures put { (ladder.new).put ≤ (ladder.old).put + 1 }
-    ensures low { (ladder.new).low ≡ (ladder.old).low }
-    ensures room { KeepsRoom ladder.old ladder.new }
-{
-    match tree.guess(id) {
-        Some((at, parent)) => go_on_to(tree, ladder, at, parent, count),
-        None => start_found(tree, ladder, id, count),
-    }
-}
-
-// Votes that waited begin, if there are some. A seat where nobody waits costs one comparison.
-#[inline(always)]
+// Votes that waited begin, if there are some.
 fn let_go<T: Drop>(tree: &Tree<T>, ladder: &mut Ladder, vote: &Vote)
     requires room { (ladder.old).put + vote.now.count ≤ (ladder.old).most }
     requires low { length (tree.now).pending < (ladder.old).low }
@@ -122,28 +101,19 @@ fn count_one<T: Drop>(tree: &Tree<T>, ladder: &mut Ladder, waiting: &mut Vote, i
     }
 }
 
-// At which of eight seats votes for a block wait, by its first three bits. Seats are drained in reverse bit
-// order, so votes reach a parent already sorted.
-const FALLING: [u8; 8] = [7, 3, 5, 1, 6, 2, 4, 0];
+// At so many seats votes wait.
+const SEATS: usize = 16;
 
 // At which of so many seats, a power of two, votes for a block wait. Votes for different blocks mostly wait
 // at different seats.
-#[inline(always)]
 fn seat_of(id: &Id, seats: usize) -> usize
     requires { 0 < seats }
     ensures { result < seats }
 {
-    let first = id.as_bytes()[0];
-    let seat = if seats == 8 {
-        FALLING[usize::from(first % 8)]
-    } else {
-        first
-    };
-    usize::from(seat) & (seats - 1)
+    usize::from(id.as_bytes()[0]) & (seats - 1)
 }
 
 // One vote more for each of these identifiers.
-#[inline(always)]
 fn count_each<T: Drop>(tree: &Tree<T>, ladder: &mut Ladder, waiting: &mut [Vote], ids: &[Id])
     requires seats { 0 < length waiting.old }
     requires room { (ladder.old).put + total_count waiting.old + length ids.now ≤ (ladder.old).most }
@@ -163,7 +133,6 @@ fn count_each<T: Drop>(tree: &Tree<T>, ladder: &mut Ladder, waiting: &mut [Vote]
 }
 
 // Seats all votes, where nobody waits before or afterwards.
-#[inline(always)]
 fn seat_each<T: Drop>(tree: &Tree<T>, ladder: &mut Ladder, waiting: &mut [Vote], ids: &[Id])
     requires seats { 0 < length waiting.old }
     requires empty { (test : List ℕ → Bool) → votes_by test waiting.old ≡ 0 }
@@ -175,54 +144,16 @@ fn seat_each<T: Drop>(tree: &Tree<T>, ladder: &mut Ladder, waiting: &mut [Vote],
     let_all_go(tree, ladder, waiting);
 }
 
-// Seats all votes at a few seats. These stand on a frame of their own, which other polls don't pay for.
-#[inline(never)]
-fn seat_few<T: Drop>(tree: &Tree<T>, ladder: &mut Ladder, ids: &[Id])
-    requires { TakesMore (length (tree.now).pending) (length ids.now) ladder.old }
-    ensures { HaveGone (tree.now).pending ids.now ladder.old ladder.new }
-{
-    let nobody = Vote {
-        id: Id::from_bytes([0; 32]),
-        count: 0,
-    };
-    seat_each(tree, ladder, &mut [nobody; 8], ids);
-}
-
-// Seats all votes at many seats.
-#[inline(never)]
-fn seat_many<T: Drop>(tree: &Tree<T>, ladder: &mut Ladder, ids: &[Id])
-    requires { TakesMore (length (tree.now).pending) (length ids.now) ladder.old }
-    ensures { HaveGone (tree.now).pending ids.now ladder.old ladder.new }
-{
-    let nobody = Vote {
-        id: Id::from_bytes([0; 32]),
-        count: 0,
-    };
-    seat_each(tree, ladder, &mut [nobody; 32], ids);
-}
-
-// Starts a single vote, which needs no seat.
-fn let_one_go<T: Drop>(tree: &Tree<T>, ladder: &mut Ladder, ids: &[Id])
-    requires one { length ids.now ≡ 1 }
-    requires more { TakesMore (length (tree.now).pending) (length ids.now) ladder.old }
-    ensures { HaveGone (tree.now).pending ids.now ladder.old ladder.new }
-{
-    start(tree, ladder, &ids[0], 1);
-}
-
-// Starts votes so that most of those for one block go on as one. Many votes have more seats, and for fewer
-// than two it makes no seat ready.
+// Starts votes so that most of those for one block go on as one.
 fn let_each_go<T: Drop>(tree: &Tree<T>, ladder: &mut Ladder, ids: &[Id])
     requires { TakesMore (length (tree.now).pending) (length ids.now) ladder.old }
     ensures { HaveGone (tree.now).pending ids.now ladder.old ladder.new }
 {
-    if ids.len() > 64 {
-        seat_many(tree, ladder, ids);
-    } else if ids.len() > 1 {
-        seat_few(tree, ladder, ids);
-    } else if !ids.is_empty() {
-        let_one_go(tree, ladder, ids);
-    }
+    let nobody = Vote {
+        id: Id::from_bytes([0; 32]),
+        count: 0,
+    };
+    seat_each(tree, ladder, &mut [nobody; SEATS], ids);
 }
 
 // The votes of a poll, one for each of these identifiers, past its own block, where this is pending. It
@@ -246,7 +177,6 @@ fn start_each<T: Drop>(tree: &Tree<T>, ladder: &mut Ladder, ids: &[Id])
 /// K of them: a single vote, where one stands for all. The ladder is ready for the pending blocks
 /// and for so many votes, so it takes no memory.
 /// Rule: AvalancheGo, snow/consensus/snowman.
-#[inline(always)]
 pub fn start_ids<T: Drop>(params: &Params, tree: &Tree<T>, ladder: &mut Ladder, ids: &[Id])
     requires ready { IsReady (length (tree.now).pending) ladder.old }
     requires few { length ids.now ≤ (ladder.old).votes }

@@ -1,4 +1,4 @@
-ghost use Rattle.std.specs.Prelude.{◌≡◌, ℕ, ◌+◌, ◌-◌, ◌<◌, ◌^◌, ◌≤◌, ◌==◌, true, false, IfSome, All, bytes_eq, [], ◌∷◌, ◌++◌, List, map, take, length, nat_lt, slice_set, HoldsAt, IsErr, OnOk, OnErr, vec_len, vec_capacity, if◌then◌else◌};
+ghost use Rattle.std.specs.Prelude.{◌≡◌, ℕ, ◌+◌, ◌-◌, ◌<◌, ◌^◌, ◌≤◌, ◌==◌, true, false, IfSome, All, bytes_eq, [], ◌∷◌, ◌++◌, List, map, take, length, nat_lt, slice_set, HoldsAt, OnOk, OnErr, vec_len, vec_capacity, if◌then◌else◌};
 ghost use Rattle.std.specs.List.{AllPairs, position_or_len, remove};
 ghost use Rattle.std.specs.Option.{option_to_list};
 ghost use Rattle.snow_lineup.specs.Marks.{has, IsOnlyAt};
@@ -92,26 +92,6 @@ impl<T: Keyed> Lineup<T> {
     {
         // Places never come again, and there are more than a node lives to use.
         if self.next == u64::MAX {
-            return refused(item);
-        }
-        if self.slots.len() >= self.slots.capacity() {
-            return self.grow(item);
-        }
-        let at = self.slots.len();
-        put(&mut self.slots, &mut self.rows, item, self.next)?;
-        self.windows = self.windows.marked(at, Mark::New);
-        self.next += 1;
-        Ok(())
-    }
-
-    // The same where there is no room yet. A call, so that an item for which there is room is moved
-    // once.
-    #[inline(never)]
-    fn grow(&mut self, item: T) -> Result<(), AllocError>
-        ensures ok { OnOk result (self.new ≡ self.old ++ (item, New) ∷ []) }
-        ensures err { OnErr result (self.new ≡ self.old) }
-    {
-        if self.next == u64::MAX {
             return Err(AllocError);
         }
         self.slots.reserve(1)?;
@@ -199,14 +179,6 @@ impl<T: Keyed> Lineup<T> {
     }
 }
 
-// An item that can't be taken in goes. A call, so that an item that is taken in is moved once.
-#[inline(never)]
-fn refused<T: Drop>(_item: T) -> Result<(), AllocError>
-    ensures { IsErr result }
-{
-    Err(AllocError)
-}
-
 // Puts an item behind the others and its place into the row of its key. After want of memory all is as
 // before.
 fn put<T: Keyed>(
@@ -237,7 +209,6 @@ fn put<T: Keyed>(
 }
 
 // The last slot goes.
-#[inline(never)]
 fn cut_last<T: Drop>(slots: &mut Vec<Slot<T>>)
     ensures { slots.new.items ≡ take (length slots.old.items - 1) slots.old.items }
 {
@@ -264,19 +235,9 @@ fn bring_last<T: Drop>(slots: &mut Vec<Slot<T>>, at: usize)
     ensures some { 0 < vec_len slots.new }
 {
     if at + 1 != slots.len() {
-        move_last(slots, at);
+        let slot = slots.remove(at);
+        slots.push_reserved(slot);
     }
-}
-
-// The same where others stand behind it.
-#[inline(never)]
-fn move_last<T: Drop>(slots: &mut Vec<Slot<T>>, at: usize)
-    requires { at < length slots.old.items }
-    ensures last { HoldsAt (λ s. slots.new.items ≡ remove slots.old.items at ++ s ∷ []) slots.old.items at }
-    ensures some { 0 < vec_len slots.new }
-{
-    let slot = slots.remove(at);
-    slots.push_reserved(slot);
 }
 
 // The first slot with this mark in the window, or how many slots there are.

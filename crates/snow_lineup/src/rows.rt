@@ -93,7 +93,6 @@ impl Rows {
     }
 
     /// One place more of a key. After want of memory the rows are as before.
-    #[inline(never)]
     pub(crate) fn note(&mut self, key: Id, place: u64) -> Result<(), AllocError>
         ensures ok { OnOk result ((q : List ℕ) → row_of self.new.rows q ≡ (if bytes_eq key q then row_of self.old.rows q ++ place ∷ [] else row_of self.old.rows q)) }
         ensures err { OnErr result ((q : List ℕ) → row_of self.new.rows q ≡ row_of self.old.rows q) }
@@ -109,7 +108,6 @@ impl Rows {
 
     // What was the last place of a key comes to those before it. After want of memory it is the last one
     // again.
-    #[inline(never)]
     fn extend(&mut self, key: Id, last: u64) -> Result<(), AllocError>
         requires { IsSome (value_of self.old.rows.last key) }
         ensures ok { OnOk result ((q : List ℕ) → row_of self.new.rows q ≡ (if bytes_eq key q then row_before self.old.rows.before q ++ last ∷ option_to_list (value_of self.old.rows.last q) else row_of self.old.rows q)) }
@@ -125,7 +123,6 @@ impl Rows {
     }
 
     /// A place that a key has goes. It takes no memory where the key has one.
-    #[inline(never)]
     pub(crate) fn take(&mut self, key: &Id, place: u64)
         requires { has_place place (row_of self.old.rows key.now) ≡ true }
         ensures { (q : List ℕ) → row_of self.new.rows q ≡ (if bytes_eq key.now q then left_by place (row_of self.old.rows q) else row_of self.old.rows q) }
@@ -138,8 +135,7 @@ impl Rows {
         }
     }
 
-    // The same where a key has several places.
-    #[inline(never)]
+    // A place of a key that has several goes.
     fn thin(&mut self, key: &Id, place: u64)
         ensures { (q : List ℕ) → row_of self.new.rows q ≡ (if bytes_eq key.now q then left_by place (row_of self.old.rows q) else row_of self.old.rows q) }
     {

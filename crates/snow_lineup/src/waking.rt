@@ -14,7 +14,6 @@ impl<T: Keyed> Lineup<T> {
     /// Marks the items `New` that wait for a block; the others keep their marks. Mostly that is the
     /// last item alone, for which it asks no index.
     /// Rule: this project's own.
-    #[inline(always)]
     pub fn wake(&mut self, key: &Id)
         ensures { self.new ≡ map (woken T.key key.now) self.old }
     {
@@ -30,7 +29,6 @@ impl<T: Keyed> Lineup<T> {
     }
 
     // Whether it is plain that the last item waits for a block, and no other.
-    #[inline(always)]
     fn is_of_newest(&self, key: &Id) -> bool
         ensures there { result ≡ true → 0 < length self.now }
         ensures alone { result ≡ true → HoldsAt (λ s. map (woken T.key key.now) self.now ≡ slice_set self.now (length self.now - 1) (s.0, New)) self.now (length self.now - 1) }
@@ -47,8 +45,7 @@ impl<T: Keyed> Lineup<T> {
         self.slots[len - 1].item.key() == *key
     }
 
-    // The same wherever they stand.
-    #[inline(never)]
+    // Marks the items that wait for a block, wherever they stand.
     fn wake_key(&mut self, key: &Id)
         ensures { self.new ≡ map (woken T.key key.now) self.old }
     {
@@ -60,8 +57,7 @@ impl<T: Keyed> Lineup<T> {
         wake_last(&mut self.slots, &mut self.windows, last);
     }
 
-    // The same where a key has several places.
-    #[inline(never)]
+    // Marks the items that wait for a block of several places.
     fn wake_several(&mut self, key: &Id)
         ensures { self.new ≡ map (woken T.key key.now) self.old }
     {
@@ -99,7 +95,6 @@ fn search_place<T>(slots: &[Slot<T>], place: u64) -> usize
 
 // Forgets what is remembered of the item with this place, if there is one. It is looked for first
 // where it stands if no place before it is missing.
-#[inline(always)]
 fn wake_one<T>(slots: &mut [Slot<T>], windows: &mut Windows, place: u64)
     requires rising { AllPairs (λ s t. s.place < t.place) slots.old }
     requires within { AreWithin (map seat_of slots.old) windows.old }
@@ -114,8 +109,7 @@ fn wake_one<T>(slots: &mut [Slot<T>], windows: &mut Windows, place: u64)
     }
 }
 
-// The same, wherever it stands.
-#[inline(never)]
+// Forgets what is remembered of the item with this place, wherever it stands.
 fn wake_found<T>(slots: &mut [Slot<T>], windows: &mut Windows, place: u64)
     requires rising { AllPairs (λ s t. s.place < t.place) slots.old }
     requires within { AreWithin (map seat_of slots.old) windows.old }
@@ -164,7 +158,7 @@ fn wake_each<T>(slots: &mut [Slot<T>], windows: &mut Windows, places: &[u64])
     }
 }
 
-// The same where the last of the places stands apart.
+// Forgets what is remembered of the items with these places and the last one.
 fn wake_row<T>(slots: &mut [Slot<T>], windows: &mut Windows, before: &[u64], last: Option<u64>)
     requires rising { AllPairs (λ s t. s.place < t.place) slots.old }
     requires within { AreWithin (map seat_of slots.old) windows.old }

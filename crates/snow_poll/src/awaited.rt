@@ -44,8 +44,7 @@ pub(crate) struct Awaited {
 }
 
 impl Awaited {
-    // No node, and room for so many. Few polls need it made, so it stands apart.
-    #[inline(never)]
+    // No node, and room for so many.
     pub(crate) fn new(alloc: Global, nodes: usize) -> Result<Awaited, AllocError>
         ensures { IfOk result (λ made. nodes ≤ vec_capacity made.waits) }
     {
@@ -68,7 +67,6 @@ impl Awaited {
     }
 
     // Makes room for so many nodes. Those that were awaited are let go.
-    #[inline(never)]
     pub(crate) fn grow(&mut self, alloc: Global, nodes: usize) -> Result<(), AllocError>
         ensures { OnOk result (nodes ≤ vec_capacity self.new.waits) }
     {
@@ -138,7 +136,6 @@ impl Awaited {
     }
 
     // The number of a node, and 0 where it isn't there.
-    #[inline(always)]
     fn find(&self, node: &NodeId) -> usize
         ensures { IsNumberOf self.now.waits.items node.now result }
     {
@@ -149,7 +146,6 @@ impl Awaited {
     }
 
     // The number of a node, by a walk of its class.
-    #[inline(always)]
     fn walk(&self, node: &NodeId) -> usize
         ensures { IsNumberOf self.now.waits.items node.now result }
     {
@@ -166,7 +162,6 @@ impl Awaited {
 }
 
 // The number of a node by the map that has each, and 0 where it isn't there.
-#[inline(never)]
 fn number_of(numbers: &BTreeMap<NodeId, u32>, node: &NodeId) -> usize
     ensures { result ≡ number_in numbers.now node.now }
 {
@@ -177,7 +172,6 @@ fn number_of(numbers: &BTreeMap<NodeId, u32>, node: &NodeId) -> usize
 }
 
 // The number of each node.
-#[inline(never)]
 fn number_all(alloc: Global, waits: &[Wait]) -> Result<BTreeMap<NodeId, u32>, AllocError>
     requires { length waits.now < 2 ^ 32 }
     ensures { IfOk result (AreNumbers waits.now) }
@@ -192,7 +186,6 @@ fn number_all(alloc: Global, waits: &[Wait]) -> Result<BTreeMap<NodeId, u32>, Al
 }
 
 // Awaits the nodes of these draws, where none is awaited: the greatest rank of them.
-#[inline(always)]
 fn enter_all(waits: &mut Vec<Wait>, lasts: &mut Vec<u32>, mask: u64, draws: &[Draw]) -> u8
     requires chained { AreWaits mask waits.old.items lasts.old.items }
     requires counts { (node : List ℕ) → counts_at waits.old.items node ≡ None }
@@ -212,7 +205,6 @@ fn enter_all(waits: &mut Vec<Wait>, lasts: &mut Vec<u32>, mask: u64, draws: &[Dr
 }
 
 // Awaits the node of a draw, for which there is room, as often as it was drawn: its rank.
-#[inline(always)]
 fn enter(waits: &mut Vec<Wait>, lasts: &mut Vec<u32>, mask: u64, draw: &Draw) -> u8
     requires chained { AreWaits mask waits.old.items lasts.old.items }
     requires few { length waits.old.items + 1 < 2 ^ 32 }
@@ -237,7 +229,6 @@ fn enter(waits: &mut Vec<Wait>, lasts: &mut Vec<u32>, mask: u64, draw: &Draw) ->
 }
 
 // The rank of a node that comes after the one of a number in its class.
-#[inline(always)]
 fn rank_after(waits: &[Wait], number: u32) -> u8 {
     if number == 0 {
         return 0;
@@ -249,7 +240,6 @@ fn rank_after(waits: &[Wait], number: u32) -> u8 {
 }
 
 // The class of a node.
-#[inline(always)]
 fn class(node: &NodeId, mask: u64) -> usize
     ensures { result ≡ class_of mask node.now }
 {
@@ -258,7 +248,6 @@ fn class(node: &NodeId, mask: u64) -> usize
 
 // A node's first eight bytes and its last eight, which may count nodes, spread by a product. They are
 // read as they are where nodes are compared, which isn't done byte by byte then.
-#[inline(always)]
 fn spread(node: &NodeId) -> u64
     ensures { result ≡ spread_of node.now }
 {
@@ -267,7 +256,6 @@ fn spread(node: &NodeId) -> u64
 }
 
 // Eight bytes as a number, the first one the lowest.
-#[inline(always)]
 fn word(bytes: &[u8; 20], from: usize) -> u64
     requires { from ≤ 12 }
     ensures { result ≡ word_at from bytes.now }

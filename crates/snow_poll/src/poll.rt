@@ -11,7 +11,6 @@ use snow_flake::Params;
 use snow_sample::Draws;
 use std::alloc::{AllocError, Global};
 use std::marker::Model;
-use std::mem;
 
 /// A poll under way. Contracts see its number, its draws, and the replies in order of arrival.
 ///
@@ -86,7 +85,6 @@ impl Poll {
 
     /// Counts the reply of a node, if it awaits one, and returns whether it did. Else nothing
     /// changes. It takes no memory.
-    #[inline(always)]
     pub(crate) fn count(&mut self, node: &NodeId, id: &Option<Id>) -> bool
         ensures awaited { result ≡ awaits self.old node.now }
         ensures poll { self.new ≡ replied self.old node.now id.now }
@@ -118,17 +116,10 @@ impl Poll {
         ensures within { received self + outstanding self ≤ draw_count self.draws }
     {
         let Poll { nodes, votes, .. } = self;
-        if let Some(older) = mem::replace(left, Some(nodes)) {
-            let_go(older);
-        }
+        *left = Some(nodes);
         votes
     }
 }
-
-// Lets go what a poll kept of its nodes. That is rare, and it stands apart so that others don't pay
-// for it.
-#[inline(never)]
-fn let_go(_: Box<Nodes>) {}
 
 // Whether a poll is closed that can reach so many votes, of which so many are outstanding, and where
 // one identifier has the most.

@@ -153,7 +153,6 @@ impl Polls {
     /// gives no vote. It returns `NotAwaited` exactly where `awaits` is false, and nothing changes
     /// then; else `Counted`. It takes no memory.
     /// Rule: AvalancheGo, snow/consensus/snowman/poll.
-    #[inline(always)]
     pub fn vote(&mut self, number: u32, node: &NodeId, id: Option<Id>) -> Answered
         ensures answer { result ≡ answer self.old.polls number node.now }
         ensures table { self.new ≡ voted self.old number node.now id }
@@ -178,9 +177,7 @@ impl Polls {
         }
     }
 
-    // What `vote` does, for the poll of any number. It borrows what a reply names, so that no copy of that
-    // is made where the poll is in front.
-    #[inline(never)]
+    // What `vote` does, for the poll of any number.
     fn vote_behind(&mut self, number: u32, node: &NodeId, id: &Option<Id>) -> Answered
         ensures answer { result ≡ answer self.old.polls number node.now }
         ensures table { self.new ≡ voted self.old number node.now id.now }
@@ -200,7 +197,6 @@ impl Polls {
     /// most K, stand for those of each completion of the poll: they are alike to them, so a board
     /// makes the same of both. It takes no memory.
     /// Rule: AvalancheGo, snow/consensus/snowman/poll.
-    #[inline(always)]
     pub fn take_finished(&mut self) -> Option<Closed>
         ensures found { option_map (λ c. (c.number, c.votes.list)) result ≡ finished self.old.parameters self.old.polls }
         ensures table { self.new ≡ shortened self.old }
@@ -224,9 +220,7 @@ impl Polls {
         }
     }
 
-    // Takes out the front poll, which is closed. It stands apart, so that a reply which closes no poll
-    // doesn't pay for it.
-    #[inline(never)]
+    // Takes out the front poll, which is closed.
     fn take_front(&mut self) -> Option<Closed>
         requires closed { is_some (finished self.old.parameters self.old.polls) ≡ true }
         requires good { AreGood self.old.parameters }

@@ -40,7 +40,6 @@ impl Nodes {
     }
 
     // None, and room for so many.
-    #[inline(never)]
     fn new(alloc: Global, nodes: usize) -> Result<Box<Nodes>, AllocError> {
         let replies = Vec::new(alloc);
         let awaited = Awaited::new(alloc, nodes)?;

@@ -11,7 +11,6 @@ const FEW: usize = 8;
 // Gives votes, for which there is room, to what a reply names, and answers the most that one
 // identifier has then. Before, one has `most`.
 #[tactic(auto, using(crate::proofs::Counting::most_added))]
-#[inline(always)]
 pub(crate) fn give(votes: &mut Bag, most: u32, id: &Option<Id>, times: u32) -> u32
     requires some { 1 ≤ times }
     requires total { total_count votes.old.list + times < 2 ^ 32 }
@@ -32,8 +31,7 @@ pub(crate) fn give(votes: &mut Bag, most: u32, id: &Option<Id>, times: u32) -> u
     most.max(count(votes.entries(), id))
 }
 
-// How many votes an identifier has. It stands apart, since few polls are for many identifiers.
-#[inline(never)]
+// How many votes an identifier has.
 fn count(votes: &[Vote], id: &Id) -> u32
     requires { IsInBitOrder votes.now }
     ensures { result ≡ count_of votes.now id.now }

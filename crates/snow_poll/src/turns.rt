@@ -63,7 +63,6 @@ impl Turns {
     }
 
     // Keeps the turn of a number no longer. Where one poll runs at a time there is none.
-    #[inline(never)]
     fn forget(&mut self, number: u32)
         ensures turns { (m : ℕ) → get nat_cmp self.new.turns m ≡ (if number == m then None else get nat_cmp self.old.turns m) }
         ensures gone { self.new.gone ≡ self.old.gone }

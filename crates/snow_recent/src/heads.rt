@@ -50,7 +50,6 @@ impl Heads {
 }
 
 /// Returns the seat of an identifier.
-#[inline(always)]
 pub(crate) fn seat_of(id: &Id) -> usize
     ensures seat { result ≡ seat_of id.now }
     ensures there { result < 131072 }

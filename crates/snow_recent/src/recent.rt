@@ -73,7 +73,6 @@ impl<T: Named, const MOST: usize> Recent<T, MOST> {
     /// Appends an entry. Where `MOST` entries are there, the oldest one goes and is returned; else
     /// it returns `None`. It takes no memory.
     /// Rule: this project's own.
-    #[inline(always)]
     pub fn exchange(&mut self, entry: T) -> Option<T>
         ensures list { self.new ≡ with_latest MOST self.old entry }
         ensures all { option_to_list result ++ self.new ≡ self.old ++ entry ∷ [] }
@@ -84,7 +83,6 @@ impl<T: Named, const MOST: usize> Recent<T, MOST> {
     }
 
     // Forgets the oldest entry where `MOST` entries are there.
-    #[inline(always)]
     fn make_room(&mut self) -> Option<T>
         ensures rest { self.new ≡ (if nat_lt (length self.old) MOST then self.old else drop 1 self.old) }
         ensures all { option_to_list result ++ self.new ≡ self.old }
@@ -108,9 +106,8 @@ impl<T: Named, const MOST: usize> Recent<T, MOST> {
     }
 
     /// Returns the latest entry of an identifier, or `None` exactly where it has none. Mostly the
-    /// head of its seat tells, without a call.
+    /// head of its seat tells.
     /// Rule: this project's own.
-    #[inline(always)]
     pub fn latest(&self, id: &Id) -> Option<&T>
         ensures { option_copied result ≡ latest T.id self.now id.now }
     {
@@ -142,7 +139,6 @@ impl<T: Named, const MOST: usize> Recent<T, MOST> {
     }
 
     // Forgets the oldest entry, and gives it back.
-    #[inline(always)]
     fn forget_oldest(&mut self) -> Option<T>
         requires { 0 < length self.old }
         ensures rest { self.new ≡ drop 1 self.old }
@@ -168,9 +164,7 @@ impl<T: Named, const MOST: usize> Recent<T, MOST> {
     }
 }
 
-// The latest entry of an identifier that isn't the head of its seat. It stands apart, so that few registers
-// are kept for what the head mostly tells.
-#[inline(never)]
+// The latest entry of an identifier that isn't the head of its seat.
 fn latest_filed<'a, T: Named>(
     table: &Table,
     entries: &'a VecDeque<T>,

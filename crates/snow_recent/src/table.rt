@@ -86,7 +86,6 @@ impl Table {
     }
 
     /// Takes the number of the oldest entry out, if it is there.
-    #[inline(never)]
     pub(crate) fn take_oldest<T: Named>(&mut self, entries: &VecDeque<T>, first: u32)
         requires { IsRising (id_of T.id entries.now.items first) (concat self.old.rows) }
         ensures numbers { concat self.new.rows ≡ without_oldest first (concat self.old.rows) }
@@ -100,7 +99,6 @@ impl Table {
     }
 
     /// Files the number of a new entry, in place of that of an older entry of its identifier.
-    #[inline(never)]
     pub(crate) fn file<T: Named>(&mut self, entries: &VecDeque<T>, first: u32, number: u32)
         requires order { IsRising (id_of T.id entries.now.items first) (concat self.old.rows) }
         requires room { length (concat self.old.rows) < self.old.most }

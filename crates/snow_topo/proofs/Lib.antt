@@ -14,4 +14,3 @@ pub mod Endings
 pub mod Standings
 pub mod Polls
 pub mod Advancing
-pub mod Lone

@@ -3,12 +3,9 @@ use Rattle.std.proofs.Common.{◌≡◌, ℕ, zero, suc, ◌+◌, ◌<◌, Bool,
 use Rattle.std.specs.Option.{option_map}
 use Rattle.std.proofs.lemmas.Option.{none-some}
 use Rattle.snow_flake.specs.Parameters.{Parameters, AreGood}
-use Rattle.snow_flake.specs.Counter.{class}
 use Rattle.snow_plain.specs.Conflict.{all_polled}
 use Rattle.snow_plain.proofs.Failing.{few_fail}
-use Rattle.snow_plain.proofs.Same.{same_counters}
 use Rattle.snow_tree.specs.Held.{Entry, set_load}
-use Rattle.snow_topo.specs.Half.{HasTaken}
 use Rattle.snow_topo.specs.Kept.{Kept, shown, IsFit}
 use Rattle.snow_topo.proofs.Stamped.{later}
 
@@ -35,8 +32,3 @@ left_alone p polls children kept votes good fit few = (
 pub if_some : (o : Option (Entry Kept)) (P Q : Entry Kept → Type 0) → ((e : Entry Kept) → (o ≡ Some e) × P e → Q e) → IfSome o P → IfSome o Q
 if_some None P Q step h = tt
 if_some (Some e) P Q step h = step e (refl, h)
-
--- what took votes took all that are alike
-pub taken_alike : (p : Parameters) (polls : ℕ) (votes others : List Bool → ℕ) (old new : Kept) → ((front : List Bool) → class p (votes front) ≡ class p (others front))
-    → HasTaken p polls votes old new → HasTaken p polls others old new
-taken_alike p polls votes others old new alike took = λ children fit. ((took children fit).0 ∙ same_counters p votes others (shown p polls old) alike, (took children fit).1)

@@ -11,3 +11,4 @@ pub mod Gaining
 pub mod Walking
 pub mod Standing
 pub mod Costs
+pub mod Ballot

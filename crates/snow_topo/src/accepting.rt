@@ -67,7 +67,6 @@ fn accept<R: Rule>(
 /// Accepts the child of the last accepted block to which decided counters alone lead, and rejects
 /// those that don't descend from it. It returns whether there is such a child. It takes no memory
 /// where there is room for a decision on each pending block.
-#[inline(never)]
 pub(crate) fn accept_next<R: Rule>(
     params: &Params,
     polls: u64,

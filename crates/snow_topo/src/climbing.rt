@@ -1,4 +1,4 @@
-ghost use Rattle.std.specs.Prelude.{◌≡◌, ℕ, ◌+◌, ◌*◌, ◌^◌, ◌<◌, ◌≤◌, ◌||◌, false, List, [], ◌∷◌, length};
+ghost use Rattle.std.specs.Prelude.{◌≡◌, ℕ, ◌+◌, ◌*◌, ◌^◌, ◌<◌, ◌≤◌, ◌||◌, false, List, length};
 ghost use Rattle.snow_base.specs.declared.vote.Vote.{Vote};
 ghost use Rattle.snow_tree.specs.Held.{blocks_in};
 ghost use Rattle.snow_climb.specs.Starting.{HaveBegun, IsLoaded};
@@ -8,9 +8,9 @@ ghost use Rattle.snow_topo.specs.Recording.{recording_in};
 ghost use Rattle.snow_topo.specs.View.{AllFit};
 
 use crate::load::Load;
-use crate::visiting::{visit, visit_lone};
+use crate::visiting::visit;
 use snow_base::{Bag, Steps};
-use snow_climb::{Climber, Ladder, past};
+use snow_climb::Ladder;
 use snow_flake::{Params, Rule};
 use snow_tree::Tree;
 use std::sync::ledger::Ledger;
@@ -29,74 +29,6 @@ pub(crate) fn either(one: bool, other: bool) -> bool
     ensures { result ≡ (one || other) }
 {
     one || other
-}
-
-// The pending blocks for which there are votes are visited, the latest first, and no others. The answer is
-// false only where none leads elsewhere then. It takes no memory where the bag has places.
-fn climb_all<R: Rule, L: Ledger>(
-    params: &Params,
-    tree: &mut Tree<Load<R>>,
-    polls: u64,
-    ladder: &mut Ladder,
-    children: &mut Bag,
-    steps: &mut Steps<L>,
-) -> bool
-    requires room { polls + 1 < 2 ^ 64 }
-    requires places { length (ladder.old).climbers ≤ children.old.room + length children.old.list }
-    requires begun { (votes : List Vote) × HaveBegun params.now votes (tree.old).pending ladder.old }
-    requires loaded { IsLoaded (tree.old).pending ladder.old }
-    requires fit { AllFit params.now polls (tree.old).pending }
-    ensures climbed { HasClimbed params.now polls tree.old tree.new ladder.old ladder.new }
-    ensures places { children.old.room + length children.old.list ≤ children.new.room + length children.new.list }
-    ensures steady { result ≡ false → all_leads R.answer (tree.new).pending ≡ all_leads R.answer (tree.old).pending }
-    ensures steps { (votes : List Vote) → HaveBegun params.now votes (tree.old).pending ladder.old
-        → steps.new ≤ steps.old + 5 * recording_in params.now (blocks_in (tree.old).pending) votes (blocks_in (tree.old).pending) }
-{
-    let _k = params.k();
-    let _last = tree.last();
-    let mut moved = false;
-    let mut top = lower(ladder.top(), tree.len());
-    while top > 0 {
-        let at = top - 1;
-        moved = visit(params, tree, at, polls, ladder, children, steps, moved);
-        top = lower(ladder.top_left(), at);
-    }
-    moved
-}
-
-// Climbs where one climber stands on the ladder and looks for a pending block: nothing is put on until he
-// has passed them all.
-fn climb_lone<R: Rule, L: Ledger>(
-    params: &Params,
-    tree: &mut Tree<Load<R>>,
-    polls: u64,
-    ladder: &mut Ladder,
-    climber: &Climber,
-    steps: &mut Steps<L>,
-) -> bool
-    requires room { polls + 1 < 2 ^ 64 }
-    requires alone { (ladder.old).climbers ≡ climber.now ∷ [] }
-    requires pending { 0 < (climber.now).place }
-    requires begun { (votes : List Vote) × HaveBegun params.now votes (tree.old).pending ladder.old }
-    requires loaded { IsLoaded (tree.old).pending ladder.old }
-    requires fit { AllFit params.now polls (tree.old).pending }
-    ensures climbed { HasClimbed params.now polls tree.old tree.new ladder.old ladder.new }
-    ensures steady { result ≡ false → all_leads R.answer (tree.new).pending ≡ all_leads R.answer (tree.old).pending }
-    ensures steps { (votes : List Vote) → HaveBegun params.now votes (tree.old).pending ladder.old
-        → steps.new ≤ steps.old + 5 * recording_in params.now (blocks_in (tree.old).pending) votes (blocks_in (tree.old).pending) }
-{
-    let _k = params.k();
-    let _last = tree.last();
-    let _taken = ladder.take(climber.place);
-    let mut lone = *climber;
-    let mut moved = false;
-    while lone.place > 0 {
-        let at = lone.place - 1;
-        moved = visit_lone(params, tree, at, polls, &lone, steps, moved);
-        lone = past(tree, at, lone.count);
-    }
-    ladder.put(lone);
-    moved
 }
 
 /// Visits the pending blocks for which there are votes, the latest first, and no others. It returns
@@ -122,11 +54,13 @@ pub(crate) fn climb<R: Rule, L: Ledger>(
 {
     let _k = params.k();
     let _last = tree.last();
-    match ladder.lone() {
-        Some(climber) if climber.place > 0 => {
-            climb_lone(params, tree, polls, ladder, &climber, steps)
-        }
-        Some(_) => false,
-        None => climb_all(params, tree, polls, ladder, children, steps),
+    let mut moved = false;
+    let mut top = lower(ladder.top(), tree.len());
+    while top > 0 {
+        let at = top - 1;
+        let one = visit(params, tree, at, polls, ladder, children, steps);
+        moved = either(one, moved);
+        top = lower(ladder.top(), at);
     }
+    moved
 }

@@ -17,7 +17,7 @@ use crate::climbing::{climb, either};
 use crate::load::Load;
 use crate::visiting::has_quorum;
 use snow_base::{Bag, Steps};
-use snow_climb::{Ladder, gather, no_vote, votes_in};
+use snow_climb::{Ladder, gather};
 use snow_flake::{Params, Rule};
 use snow_tree::Tree;
 use std::sync::ledger::Ledger;
@@ -50,9 +50,8 @@ fn record_root<R: Rule, L: Ledger>(
 {
     let _k = params.k();
     if has_quorum(params, count) {
-        let mut one = no_vote();
-        let is_one = gather(params, tree, ladder, &mut one, children);
-        root.record(polls, votes_in(is_one, &one, children), steps)
+        gather(tree, ladder, children);
+        root.record(polls, children.entries(), steps)
     } else {
         false
     }

@@ -69,7 +69,7 @@ fn insert<R: Rule>(
     ensures ok { OnOk result (tree.new ≡ inserted tree.old child.now bare) }
     ensures err { OnErr result (tree.new ≡ tree.old) }
 {
-    match tree.insert_at(child.id, child.parent, at, child.height, Load::new()) {
+    match tree.insert(child.id, child.parent, at, child.height, Load::new()) {
         Ok(()) => Ok(()),
         Err(_) => Err(AllocError),
     }

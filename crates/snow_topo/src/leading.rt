@@ -45,7 +45,6 @@ fn kept_at<'a, R: Rule>(
 }
 
 /// Returns what the board keeps of a block on it.
-#[inline(always)]
 pub(crate) fn kept_of<'a, R: Rule>(
     root: &'a Load<R>,
     tree: &'a Tree<Load<R>>,

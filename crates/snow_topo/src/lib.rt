@@ -3,12 +3,12 @@
 
 mod accepting;
 mod applying;
+mod ballot;
 mod climbing;
 mod counting;
 mod issuing;
 mod leading;
 mod load;
-mod polling;
 mod renewing;
 mod replaying;
 mod settling;

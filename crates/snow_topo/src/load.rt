@@ -45,7 +45,6 @@ impl<R: Rule> Model for Load<R> {
 
 // A tree takes a poll with these votes, after it has failed where it didn't record the last poll. The
 // answer is false only where it leads where it led, as a tree of one child does whatever comes.
-#[inline(always)]
 fn catch_up<R: Rule, L: Ledger>(
     trie: &mut Trie<R>,
     is_behind: bool,
@@ -72,7 +71,6 @@ fn catch_up<R: Rule, L: Ledger>(
 }
 
 // The tree of one child, in the place of another where there is one.
-#[inline(always)]
 fn begin<R: Rule>(
     alloc: Global,
     params: &Params,
@@ -86,17 +84,11 @@ fn begin<R: Rule>(
             tree.begin_anew(params, id);
             Ok(tree)
         }
-        None => make(alloc, params, id),
+        None => {
+            let tree = Trie::new(alloc, *params, *id)?;
+            Ok(Box::new(alloc, tree)?)
+        }
     }
-}
-
-// The tree of one child, in a place of its own.
-#[inline(never)]
-fn make<R: Rule>(alloc: Global, params: &Params, id: &Id) -> Result<Box<Trie<R>>, AllocError>
-    ensures { IfOk result (λ tree. tree.value ≡ begun params.now id.now) }
-{
-    let tree = Trie::new(alloc, *params, *id)?;
-    Ok(Box::new(alloc, tree)?)
 }
 
 // The identifier to which decided counters alone lead.
@@ -162,7 +154,6 @@ impl<R: Rule> Load<R> {
     }
 
     /// Takes the tree out, as the block needs it no more.
-    #[inline(always)]
     pub(crate) fn take_tree(&mut self) -> Contest<R> {
         self.trie.take()
     }
@@ -189,7 +180,6 @@ impl<R: Rule> Load<R> {
 
     /// Lets the children make the bit step of the next poll with these votes, and returns whether
     /// they lead elsewhere then. It takes no memory.
-    #[inline(always)]
     pub(crate) fn record<L: Ledger>(
         &mut self,
         polls: u64,

@@ -23,12 +23,6 @@ impl<R: Rule> SpareTrees<R> {
         if self.trees.capacity() >= count {
             return Ok(());
         }
-        self.grow(count)
-    }
-
-    // Makes room where there is less.
-    #[inline(never)]
-    fn grow(&mut self, count: usize) -> Result<(), AllocError> {
         self.trees.reserve(count)
     }
 

@@ -6,16 +6,19 @@ ghost use Rattle.snow_plain.specs.Board.{blocks_of, counters_on};
 ghost use Rattle.snow_plain.specs.Ending.{has_pending_child};
 ghost use Rattle.snow_plain.specs.Grown.{is_on};
 ghost use Rattle.snow_plain.specs.Poll.{poll};
+ghost use Rattle.snow_topo.specs.Ballot.{votes_of};
 ghost use Rattle.snow_topo.specs.Costs.{most_steps};
 ghost use Rattle.snow_topo.specs.Standing.{AreKept};
 
+use crate::applying::apply;
+use crate::ballot::{Ballot, start};
 use crate::issuing::issue;
-use crate::leading::{follow_child, is_preferred, is_top, kept_of, place_on};
+use crate::leading::{follow_child, follow_poll, is_preferred, is_top, kept_of, place_on};
 use crate::load::Load;
-use crate::polling::record;
+use crate::renewing::renew;
 use crate::spare::SpareTrees;
 use snow_base::{Bag, Header, Id, Steps};
-use snow_climb::{Ladder, named, start_ids, start_votes};
+use snow_climb::{Ladder, named};
 use snow_flake::{Params, Rule};
 use snow_plain::{Board, Decision};
 use snow_tree::Tree;
@@ -64,30 +67,17 @@ impl<R: Rule> Model for Topo<R> {
         (vec_capacity a.decisions) (a.children.room + length a.children.list) };
 }
 
-// A poll whose steps nobody counts.
-fn apply_alone<R: Rule, L: Ledger>(board: &mut Topo<R>, votes: &Bag, blank: Blank)
+// Records a poll whose steps nobody counts.
+fn record_alone<R: Rule, L: Ledger>(board: &mut Topo<R>, ballot: Ballot, blank: Blank)
     requires name { blank.name ≡ L.name }
     requires parts { blank.parts ≡ L.parts }
     requires some { 0 < L.parts }
-    requires most { total_count votes.now.list ≤ (board.old).board.parameters.k }
-    ensures board { (board.new).board ≡ (poll (board.old).board votes.now.list).0 }
-    ensures decided { (board.new).decided ≡ (poll (board.old).board votes.now.list).1 }
+    requires most { total_count (votes_of ballot) ≤ (board.old).board.parameters.k }
+    ensures board { (board.new).board ≡ (poll (board.old).board (votes_of ballot.entry)).0 }
+    ensures decided { (board.new).decided ≡ (poll (board.old).board (votes_of ballot.entry)).1 }
 {
     let mut steps = Steps::<L>::new(blank);
-    board.apply_counted(votes, &mut steps);
-}
-
-// Records a poll with one vote for each of these identifiers, with a counter of its own.
-fn apply_votes_alone<R: Rule, L: Ledger>(board: &mut Topo<R>, ids: &[Id], blank: Blank)
-    requires name { blank.name ≡ L.name }
-    requires parts { blank.parts ≡ L.parts }
-    requires some { 0 < L.parts }
-    requires most { length ids.now ≤ (board.old).board.parameters.k }
-    ensures board { (board.new).board ≡ (poll (board.old).board (one_each ids.now)).0 }
-    ensures decided { (board.new).decided ≡ (poll (board.old).board (one_each ids.now)).1 }
-{
-    let mut steps = Steps::<L>::new(blank);
-    board.apply_votes_counted(ids, &mut steps);
+    board.record(ballot, &mut steps);
 }
 
 impl<R: Rule> Topo<R> {
@@ -101,20 +91,7 @@ impl<R: Rule> Topo<R> {
         ensures decided { (self.new).decided ≡ (poll (self.old).board votes.now.list).1 }
         ensures steps { steps.new ≤ steps.old + most_steps (self.old).board votes.now.list }
     {
-        start_votes(&self.tree, &mut self.ladder, votes.entries());
-        let polls = record(
-            &self.params,
-            self.polls,
-            &mut self.root,
-            &mut self.tree,
-            &mut self.preference,
-            &mut self.ladder,
-            &mut self.children,
-            &mut self.decisions,
-            &mut self.spare,
-            steps,
-        );
-        self.polls = polls;
+        self.record(Ballot::Counted(votes), steps);
     }
 
     /// Does what `apply_votes` does with at most K identifiers, and counts its steps, which
@@ -126,21 +103,39 @@ impl<R: Rule> Topo<R> {
         ensures decided { (self.new).decided ≡ (poll (self.old).board (one_each ids.now)).1 }
         ensures steps { steps.new ≤ steps.old + most_steps (self.old).board (one_each ids.now) }
     {
-        let _k = self.params.k();
-        start_ids(&self.params, &self.tree, &mut self.ladder, ids);
-        let polls = record(
+        self.record(Ballot::Each(ids), steps);
+    }
+
+    // Records a poll: every counter makes the bit step with its own votes, then the board accepts and
+    // rejects blocks, and the preference follows.
+    fn record<L: Ledger>(&mut self, ballot: Ballot, steps: &mut Steps<L>)
+        requires { total_count (votes_of ballot) ≤ (self.old).board.parameters.k }
+        ensures board { (self.new).board ≡ (poll (self.old).board (votes_of ballot.entry)).0 }
+        ensures decided { (self.new).decided ≡ (poll (self.old).board (votes_of ballot.entry)).1 }
+        ensures steps { steps.new ≤ steps.old + most_steps (self.old).board (votes_of ballot.entry) }
+    {
+        start(&self.params, &self.tree, &mut self.ladder, ballot);
+        let before = renew(self.polls, &mut self.root, &mut self.tree);
+        let moved = apply(
             &self.params,
-            self.polls,
+            before,
             &mut self.root,
             &mut self.tree,
-            &mut self.preference,
             &mut self.ladder,
             &mut self.children,
             &mut self.decisions,
             &mut self.spare,
             steps,
         );
-        self.polls = polls;
+        self.polls = before + 1;
+        follow_poll(
+            &self.params,
+            self.polls,
+            &self.root,
+            &self.tree,
+            &mut self.preference,
+            moved,
+        );
     }
 
     /// Returns the tree of a block's children, or `None` exactly where the block isn't on the board
@@ -224,11 +219,11 @@ impl<R: Rule> Board for Topo<R> {
     }
 
     fn apply_poll(&mut self, votes: &Bag) {
-        apply_alone::<R, Brand>(self, votes, Blank::new(1));
+        record_alone::<R, Brand>(self, Ballot::Counted(votes), Blank::new(1));
     }
 
     fn apply_votes(&mut self, ids: &[Id]) -> Result<(), AllocError> {
-        apply_votes_alone::<R, Brand>(self, ids, Blank::new(1));
+        record_alone::<R, Brand>(self, Ballot::Each(ids), Blank::new(1));
         Ok(())
     }
 

@@ -1,4 +1,4 @@
-ghost use Rattle.std.specs.Prelude.{◌≡◌, ◌+◌, ◌*◌, ◌^◌, ◌<◌, ◌≤◌, nat_le, [], ◌∷◌, List, All, Contains, IfSome, IsPermutation, length, slice_get, false, if◌then◌else◌};
+ghost use Rattle.std.specs.Prelude.{◌≡◌, ◌+◌, ◌*◌, ◌^◌, ◌<◌, ◌≤◌, nat_le, [], List, All, Contains, IfSome, IsPermutation, length, slice_get, if◌then◌else◌};
 ghost use Rattle.snow_base.specs.Votes.{IsInBitOrder, total_count};
 ghost use Rattle.snow_base.specs.declared.vote.Vote.{Vote};
 ghost use Rattle.snow_flake.specs.Parameters.{AreGood};
@@ -11,18 +11,15 @@ ghost use Rattle.snow_topo.specs.Half.{IsRecorded, HasTaken};
 ghost use Rattle.snow_climb.specs.Ladder.{KeepsRoom};
 ghost use Rattle.snow_topo.specs.Leading.{IsSteady};
 
-use crate::climbing::either;
 use crate::load::Load;
 use snow_base::{Bag, Steps, Vote};
-use snow_climb::{Climber, Ladder, gather, no_vote, pass, votes_in, write_vote};
+use snow_climb::{Ladder, gather, pass};
 use snow_flake::{Params, Rule};
 use snow_tree::Tree;
-use std::slice;
 use std::sync::ledger::Ledger;
 
 // What is kept at a place takes the next poll with these votes. The answer is whether it leads elsewhere
 // then.
-#[inline(always)]
 fn record_at<R: Rule, L: Ledger>(
     tree: &mut Tree<Load<R>>,
     at: usize,
@@ -43,35 +40,6 @@ fn record_at<R: Rule, L: Ledger>(
     }
 }
 
-// Records the votes that were taken off the ladder last. Few visits come to it, and those that don't are
-// to be short.
-#[inline(never)]
-fn record_came<R: Rule, L: Ledger>(
-    params: &Params,
-    tree: &mut Tree<Load<R>>,
-    at: usize,
-    polls: u64,
-    ladder: &Ladder,
-    children: &mut Bag,
-    steps: &mut Steps<L>,
-) -> bool
-    requires room { polls + 1 < 2 ^ 64 }
-    requires places { length (ladder.now).came ≤ children.old.room + length children.old.list }
-    requires placed { All (λ c. c.passed < length (tree.old).pending) (ladder.now).came }
-    requires counts { All (λ c. 0 < c.count) (ladder.now).came }
-    requires total { climber_total (ladder.now).came ≤ params.now.k }
-    requires came { IfSome (slice_get (tree.old).pending at) (λ e. All (HasCome (blocks_in (tree.old).pending) e.block.id) (cursors_of (blocks_in (tree.old).pending) (ladder.now).came)) }
-    requires fit { IfSome (slice_get (tree.old).pending at) (λ e. IsFit params.now polls (children_of (blocks_in (tree.old).pending) e.block.id) e.load) }
-    ensures taken { IfSome (slice_get (tree.old).pending at) (λ e. (load : Kept) × (tree.new ≡ with_load tree.old at load) × HasTaken params.now polls (votes_at (cursors_of (blocks_in (tree.old).pending) (ladder.now).came) e.block.id) e.load load × IsSteady R.answer result e.load load) }
-    ensures steps { IfSome (slice_get (tree.old).pending at) (λ e. steps.new ≤ steps.old + 5 * length (ids_in e.load.contest)) }
-    ensures places { children.old.room + length children.old.list ≤ children.new.room + length children.new.list }
-{
-    let _k = params.k();
-    let mut one = no_vote();
-    let is_one = gather(params, tree, ladder, &mut one, children);
-    record_at(tree, at, polls, votes_in(is_one, &one, children), steps)
-}
-
 /// Returns whether so many votes are at least AlphaPreference.
 pub(crate) fn has_quorum(params: &Params, count: u32) -> bool
     ensures value { result ≡ nat_le params.now.alpha_preference count }
@@ -82,9 +50,8 @@ pub(crate) fn has_quorum(params: &Params, count: u32) -> bool
 
 // What is kept at a place takes the next poll with the votes that were taken off the ladder last, so many in
 // all, where they are AlphaPreference; else it is left alone, and has failed by its number. The answer is
-// whether it leads elsewhere then, or another did before.
-#[inline(always)]
-fn record_quorum<R: Rule, L: Ledger>(
+// whether it leads elsewhere then.
+fn record_came<R: Rule, L: Ledger>(
     params: &Params,
     tree: &mut Tree<Load<R>>,
     at: usize,
@@ -93,7 +60,6 @@ fn record_quorum<R: Rule, L: Ledger>(
     count: u32,
     children: &mut Bag,
     steps: &mut Steps<L>,
-    moved: bool,
 ) -> bool
     requires room { polls + 1 < 2 ^ 64 }
     requires count { count ≡ climber_total (ladder.now).came }
@@ -106,21 +72,19 @@ fn record_quorum<R: Rule, L: Ledger>(
     ensures taken { IfSome (slice_get (tree.old).pending at) (λ e. (load : Kept) × (tree.new ≡ with_load tree.old at load) × HasTaken params.now polls (votes_at (cursors_of (blocks_in (tree.old).pending) (ladder.now).came) e.block.id) e.load load × IsSteady R.answer result e.load load) }
     ensures steps { IfSome (slice_get (tree.old).pending at) (λ e. steps.new ≤ steps.old + 5 * (if nat_le params.now.alpha_preference (climber_total (ladder.now).came) then length (ids_in e.load.contest) else 0)) }
     ensures places { children.old.room + length children.old.list ≤ children.new.room + length children.new.list }
-    ensures moved { result ≡ false → moved ≡ false }
 {
     let _k = params.k();
     if has_quorum(params, count) {
-        let one = record_came(params, tree, at, polls, ladder, children, steps);
-        either(one, moved)
+        gather(tree, ladder, children);
+        record_at(tree, at, polls, children.entries(), steps)
     } else {
-        moved
+        false
     }
 }
 
 /// Visits the latest block for which votes look: what is kept of its children takes the next poll
 /// with the votes that came to it, and these go on to its parent. It returns whether that leads
-/// elsewhere then, or another did before. It takes no memory where the bag has places.
-#[inline(always)]
+/// elsewhere then. It takes no memory where the bag has places.
 pub(crate) fn visit<R: Rule, L: Ledger>(
     params: &Params,
     tree: &mut Tree<Load<R>>,
@@ -129,7 +93,6 @@ pub(crate) fn visit<R: Rule, L: Ledger>(
     ladder: &mut Ladder,
     children: &mut Bag,
     steps: &mut Steps<L>,
-    moved: bool,
 ) -> bool
     requires room { polls + 1 < 2 ^ 64 }
     requires places { length (ladder.old).climbers ≤ children.old.room + length children.old.list }
@@ -147,73 +110,12 @@ pub(crate) fn visit<R: Rule, L: Ledger>(
     ensures put { (ladder.new).put ≤ (ladder.old).put + 1 }
     ensures low { at < (ladder.new).low }
     ensures room { KeepsRoom ladder.old ladder.new }
-    ensures moved { result ≡ false → moved ≡ false }
 {
     let _k = params.k();
     let _last = tree.last();
     let _low = ladder.low();
     let count = ladder.take(at + 1);
-    let any = record_quorum(
-        params, tree, at, polls, ladder, count, children, steps, moved,
-    );
+    let moved = record_came(params, tree, at, polls, ladder, count, children, steps);
     pass(tree, at, count, ladder);
-    any
-}
-
-// What is kept at a place takes the next poll with votes that came to it by one child alone, as many as
-// AlphaPreference. The answer is whether it leads elsewhere then.
-#[inline(always)]
-fn record_lone<R: Rule, L: Ledger>(
-    params: &Params,
-    tree: &mut Tree<Load<R>>,
-    at: usize,
-    polls: u64,
-    lone: &Climber,
-    steps: &mut Steps<L>,
-) -> bool
-    requires room { polls + 1 < 2 ^ 64 }
-    requires placed { (lone.now).passed < length (tree.old).pending }
-    requires total { (lone.now).count ≤ params.now.k }
-    requires came { IfSome (slice_get (tree.old).pending at) (λ e. All (HasCome (blocks_in (tree.old).pending) e.block.id) (cursors_of (blocks_in (tree.old).pending) (lone.now ∷ []))) }
-    requires fit { IfSome (slice_get (tree.old).pending at) (λ e. IsFit params.now polls (children_of (blocks_in (tree.old).pending) e.block.id) e.load) }
-    ensures taken { IfSome (slice_get (tree.old).pending at) (λ e. (load : Kept) × (tree.new ≡ with_load tree.old at load) × HasTaken params.now polls (votes_at (cursors_of (blocks_in (tree.old).pending) (lone.now ∷ [])) e.block.id) e.load load × IsSteady R.answer result e.load load) }
-    ensures steps { IfSome (slice_get (tree.old).pending at) (λ e. steps.new ≤ steps.old + 5 * length (ids_in e.load.contest)) }
-{
-    let _k = params.k();
-    let mut one = no_vote();
-    write_vote(tree, lone, &mut one);
-    record_at(tree, at, polls, slice::from_ref(&one), steps)
-}
-
-/// Visits the block for which votes look that climb alone: what is kept of its children takes the
-/// next poll with them. It returns whether that leads elsewhere then, or another did before. It
-/// takes no memory.
-#[inline(always)]
-pub(crate) fn visit_lone<R: Rule, L: Ledger>(
-    params: &Params,
-    tree: &mut Tree<Load<R>>,
-    at: usize,
-    polls: u64,
-    lone: &Climber,
-    steps: &mut Steps<L>,
-    moved: bool,
-) -> bool
-    requires room { polls + 1 < 2 ^ 64 }
-    requires within { at < length (tree.old).pending }
-    requires here { (lone.now).place ≡ at + 1 }
-    requires climbing { (votes : List Vote) × AreClimbing params.now votes (blocks_in (tree.old).pending) (at + 1) (cursors_of (blocks_in (tree.old).pending) (lone.now ∷ [])) }
-    requires placed { ArePlaced (blocks_in (tree.old).pending) (lone.now ∷ []) }
-    requires fit { IfSome (slice_get (tree.old).pending at) (λ e. IsFit params.now polls (children_of (blocks_in (tree.old).pending) e.block.id) e.load) }
-    ensures taken { IfSome (slice_get (tree.old).pending at) (λ e. (load : Kept) × (tree.new ≡ with_load tree.old at load) × HasTaken params.now polls (votes_at (cursors_of (blocks_in (tree.old).pending) (lone.now ∷ [])) e.block.id) e.load load × IsSteady R.answer result e.load load) }
-    ensures steps { IfSome (slice_get (tree.old).pending at) (λ e. steps.new ≤ steps.old + 5 * (if nat_le params.now.alpha_preference (votes_at (cursors_of (blocks_in (tree.old).pending) (lone.now ∷ [])) e.block.id []) then length (ids_in e.load.contest) else 0)) }
-    ensures moved { result ≡ false → moved ≡ false }
-{
-    let _k = params.k();
-    let _last = tree.last();
-    if has_quorum(params, lone.count) {
-        let one = record_lone(params, tree, at, polls, lone, steps);
-        either(one, moved)
-    } else {
-        moved
-    }
+    moved
 }

@@ -1,5 +1,5 @@
 -- Lemmas on nodes, of which the edges to their parents are kept in order.
-use Rattle.std.proofs.Common.{◌≡◌, ℕ, zero, suc, ◌+◌, ◌<◌, ◌≤◌, Bool, false, not, nat_eq, nat_lt, cond, List, [], ◌∷◌, ◌++◌, length, take, drop, map, bytes_eq, Option, Some, None, IfSome, is_some, ◌==◌, ◌||◌, reverse, slice_get, slice_set, slice_index_or, refl, sym, ap, subst, ◌∙◌, arith, append-nil}
+use Rattle.std.proofs.Common.{◌≡◌, ℕ, zero, suc, ◌+◌, ◌<◌, ◌≤◌, Bool, false, not, nat_eq, nat_lt, cond, List, [], ◌∷◌, ◌++◌, length, take, drop, map, bytes_eq, Option, Some, None, is_some, ◌==◌, ◌||◌, reverse, slice_get, slice_set, slice_index_or, refl, sym, ap, subst, ◌∙◌, arith, append-nil}
 use Rattle.std.specs.List.{AllByRecursion, IsDistinct, list_any, position, prefix_len, remove}
 use Rattle.std.specs.Map.{keys_of, lookup, values_of}
 use Rattle.std.specs.Option.{option_map, option_map_or}
@@ -9,7 +9,7 @@ use Rattle.std.proofs.lemmas.Option.{none-some, same_Some, slice_get-map, slice_
 use Rattle.snow_plain.proofs.Cases.{split_on, differs_back}
 use Rattle.snow_tree.specs.declared.node.Node.{Node}
 use Rattle.snow_tree.specs.Hints.{hint_of, slot_of}
-use Rattle.snow_tree.specs.Row.{Edge, IsBefore, IsOwn, AreInOrder, IsNumbered, IsToldPlace, edge_of, edges_of, gives_way, number_at, set_children_at, set_load_at, untold}
+use Rattle.snow_tree.specs.Row.{Edge, IsBefore, IsOwn, AreInOrder, IsNumbered, edge_of, edges_of, gives_way, number_at, set_children_at, set_load_at, untold}
 use Rattle.snow_tree.proofs.Ordered.{split_at, of_all, none_position, position_at, another_number, number_tests}
 use Rattle.snow_tree.proofs.Searched.{node_at}
 use Rattle.snow_tree.proofs.Told.{one_gone, own_number, way_at}
@@ -140,11 +140,6 @@ module _ {T : Type 0} where
       (one_gone (edges_of front) (edge_of e) (edges_of back) number now slots next (subst (λ l. IsNumbered l number slots next) parts is) says)
 
   -- ---- what is looked up
-
-  -- where what is told leads
-  pub told_place : (nodes : List (List ℕ × Node T)) (slots id : List ℕ) (r : Option ℕ) → IsToldPlace (edges_of nodes) slots id r → IfSome r (λ at. position (bytes_eq id) (keys_of nodes) ≡ Some at)
-  told_place nodes slots id None h = tt
-  told_place nodes slots id (Some at) h = sym (edge_key nodes id) ∙ h
 
   abbrev value_at : List (List ℕ × Node T) → Option ℕ → Option (Node T)
   value_at nodes None = None

@@ -69,12 +69,6 @@ module _ {T : Type 0} where
           (λ t. rw t refl)
           (λ t. rw t (ap (λ n. 1 + n) (lens xs)))
 
-  -- so is one that was guessed
-  pub guess_seen : {B : Type 0} (nodes : List (List ℕ × Node T)) (id : List ℕ) (o : Option (ℕ × B)) → IfSome o (λ r. position (λ e. bytes_eq e.0 id) nodes ≡ Some r.0)
-      → IfSome o (λ r. position (λ e. bytes_eq e.block.id id) (map entry_of nodes) ≡ Some r.0)
-  guess_seen nodes id None h = tt
-  guess_seen nodes id (Some r) h = sym (place_seen nodes id) ∙ h
-
   -- what is seen doesn't show who is whose child
   pub seen_changed : (change : List ℕ → List (List ℕ) → List (List ℕ)) (nodes : List (List ℕ × Node T)) → map entry_of (map (with_children change) nodes) ≡ map entry_of nodes
   seen_changed change [] = refl
@@ -211,10 +205,3 @@ module _ {T : Type 0} where
       by : (o : Option (List ℕ × Node T)) → slice_get nodes place ≡ o → IfSome (option_map entry_of o) (λ e. r ≡ position (λ y. bytes_eq y.block.id e.block.parent) (map entry_of nodes))
       by None h = tt
       by (Some e) h = each e h ∙ place_seen nodes e.1.parent
-
-  -- as it is seen where the place was guessed
-  pub guessed_seen : (nodes : List (List ℕ × Node T)) (o : Option (ℕ × Option ℕ))
-      → IfSome o (λ r. (e : List ℕ × Node T) → slice_get nodes r.0 ≡ Some e → r.1 ≡ position (λ y. bytes_eq y.0 e.1.parent) nodes)
-      → IfSome o (λ r. IfSome (slice_get (map entry_of nodes) r.0) (λ e. r.1 ≡ position (λ y. bytes_eq y.block.id e.block.parent) (map entry_of nodes)))
-  guessed_seen nodes None h = tt
-  guessed_seen nodes (Some r) h = parent_seen nodes r.0 r.1 h

@@ -38,7 +38,6 @@ impl Children {
     }
 
     /// Appends a child. The first one stands in place. On want of memory all stays as it was.
-    #[inline(always)]
     pub(crate) fn push(&mut self, id: Id) -> Result<(), AllocError>
         ensures ok { OnOk result (self.new ≡ self.old ++ id ∷ []) }
         ensures err { OnErr result (self.new ≡ self.old) }
@@ -47,15 +46,6 @@ impl Children {
             self.alone = Some(id);
             return Ok(());
         }
-        self.push_beside(id)
-    }
-
-    // Appends a child beside another.
-    #[inline(never)]
-    fn push_beside(&mut self, id: Id) -> Result<(), AllocError>
-        ensures ok { OnOk result (self.new ≡ self.old ++ id ∷ []) }
-        ensures err { OnErr result (self.new ≡ self.old) }
-    {
         match self.alone {
             Some(first) => {
                 self.several.reserve(2)?;

@@ -40,7 +40,6 @@ impl Hints {
 
     /// Makes slots for one more entry than so many: sixteen for each, so that few entries share
     /// one. Each identifier has the number that it had.
-    #[inline(always)]
     pub(crate) fn make_room(&mut self, entries: usize) -> Result<(), AllocError>
         ensures told { (id : List ℕ) → hint_of self.new id ≡ hint_of self.old id }
         ensures some { OnOk result (0 < length self.new) }
@@ -54,7 +53,6 @@ impl Hints {
     }
 
     // Makes the first slots, or as many again as there are.
-    #[inline(never)]
     fn make_slots(&mut self) -> Result<(), AllocError>
         ensures told { (id : List ℕ) → hint_of self.new id ≡ hint_of self.old id }
         ensures some { OnOk result (0 < length self.new) }
@@ -68,7 +66,6 @@ impl Hints {
     }
 
     /// Returns the number in an identifier's slot.
-    #[inline(always)]
     pub(crate) fn number(&self, id: &Id) -> usize
         ensures { result ≡ hint_of self.now id.now }
     {
@@ -77,7 +74,6 @@ impl Hints {
 
     /// Puts a number into an identifier's slot. All identifiers that share it have that number
     /// then.
-    #[inline(always)]
     pub(crate) fn set(&mut self, id: &Id, number: usize)
         requires { 0 < length self.old }
         ensures { self.new ≡ slice_set self.old (slot_of (length self.old) id.now) number }
@@ -87,7 +83,6 @@ impl Hints {
     }
 
     /// Returns whether two identifiers share a slot.
-    #[inline(always)]
     pub(crate) fn share(&self, id: &Id, other: &Id) -> bool
         requires { 0 < length self.now }
         ensures { result ≡ (slot_of (length self.now) id.now == slot_of (length self.now) other.now) }
@@ -96,7 +91,6 @@ impl Hints {
     }
 
     // The slot of an identifier. Their number is a power of two; where there is none it is one past the last.
-    #[inline(always)]
     fn slot_of(&self, id: &Id) -> usize
         ensures slot { 0 < length self.now → result ≡ slot_of (length self.now) id.now }
         ensures there { 0 < length self.now → result < length self.now }

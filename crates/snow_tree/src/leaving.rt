@@ -14,8 +14,7 @@ use crate::row::Row;
 use snow_base::Id;
 
 // What a node that went out has of its children and its load takes the place of others. The answer is its
-// height. It is put in place, so that the node goes from where it stood straight to where it is wanted.
-#[inline(always)]
+// height.
 fn unpack<T: Drop>(node: Node<T>, children: &mut Children, load: &mut T) -> u64
     ensures { IsTakenOver node children.new load.new result }
 {
@@ -25,7 +24,6 @@ fn unpack<T: Drop>(node: Node<T>, children: &mut Children, load: &mut T) -> u64
 }
 
 // The only child, which was issued first, leaves.
-#[inline(always)]
 fn take_first<T: Drop>(nodes: &mut Row<T>, children: &mut Children, load: &mut T) -> u64
     ensures node { (e : List ℕ × Node T) → slice_get nodes.old.entries 0 ≡ Some e → IsTakenOver e.1 children.new load.new result }
     ensures rest { nodes.new.entries ≡ remove nodes.old.entries 0 }
@@ -59,9 +57,7 @@ fn take_at<T: Drop>(
     }
 }
 
-// A child that isn't the only one leaves, with all that don't descend from it. This stands apart from the usual
-// case.
-#[inline(never)]
+// A child that isn't the only one leaves, with all that don't descend from it.
 fn take_among<T: Drop>(
     nodes: &mut Row<T>,
     last: &Id,
@@ -90,7 +86,6 @@ fn take_among<T: Drop>(
 /// these to `rejected` in order of issue, puts the child's children and load in place of the
 /// others, and returns the child's height. An only child is at the front, so no other block
 /// changes. It takes no memory.
-#[inline(always)]
 pub(crate) fn take_accepted<T: Drop>(
     nodes: &mut Row<T>,
     last: &Id,

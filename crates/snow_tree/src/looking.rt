@@ -1,9 +1,8 @@
-ghost use Rattle.std.specs.Prelude.{◌≡◌, ◌<◌, ℕ, List, Some, IfSome, reverse, slice_get, bytes_eq};
+ghost use Rattle.std.specs.Prelude.{◌≡◌, ◌<◌, reverse, slice_get, bytes_eq};
 ghost use Rattle.std.specs.List.{position};
 ghost use Rattle.std.specs.Option.{option_map};
 ghost use Rattle.snow_base.specs.Ancestry.{child_on};
 ghost use Rattle.snow_plain.specs.Grown.{IsGrown};
-ghost use Rattle.snow_tree.specs.declared.node.Node.{Node};
 ghost use Rattle.snow_tree.specs.Nodes.{block_of, blocks_of};
 
 use crate::row::Row;
@@ -14,16 +13,6 @@ pub(crate) fn place_of<T>(nodes: &Row<T>, id: &Id) -> Option<usize>
     ensures { result ≡ position (λ e. bytes_eq e.0 id.now) nodes.now.entries }
 {
     nodes.get_index_of(id)
-}
-
-/// Returns where the block of an identifier and its parent stand, where a look at one slot tells.
-#[inline(always)]
-pub(crate) fn guess<T>(nodes: &Row<T>, id: &Id) -> Option<(usize, Option<usize>)>
-    ensures place { IfSome result (λ r. position (λ e. bytes_eq e.0 id.now) nodes.now.entries ≡ Some r.0) }
-    ensures parent { IfSome result (λ r. (e : List ℕ × Node T) → slice_get nodes.now.entries r.0 ≡ Some e → r.1 ≡ position (λ x. bytes_eq x.0 e.1.parent) nodes.now.entries) }
-{
-    let place = nodes.guess(id)?;
-    Some((place, nodes.parent_of(place)))
 }
 
 /// Returns the block at a place.

@@ -34,7 +34,6 @@ impl Numbers {
 
     /// Makes room for one more entry than so many. No number changes, and each slot tells what it
     /// told.
-    #[inline(always)]
     pub(crate) fn reserve_one(&mut self, entries: usize) -> Result<(), AllocError>
         ensures map { (id : List ℕ) → get bytes_eq self.new.map id ≡ get bytes_eq self.old.map id }
         ensures told { (id : List ℕ) → hint_of self.new.hints id ≡ hint_of self.old.hints id }
@@ -47,16 +46,13 @@ impl Numbers {
     }
 
     /// Returns the number in an identifier's slot. The caller compares identifiers.
-    #[inline(always)]
     pub(crate) fn told(&self, id: &Id) -> usize
         ensures { result ≡ hint_of self.now.hints id.now }
     {
         self.hints.number(id)
     }
 
-    /// Returns the number of an identifier whose slot tells another. It is a function apart, so
-    /// that few registers are kept for what is mostly spared.
-    #[inline(never)]
+    /// Returns the number of an identifier whose slot tells another.
     pub(crate) fn look_up(&self, id: &Id) -> Option<usize>
         ensures { result ≡ get bytes_eq self.now.map id.now }
     {
@@ -69,7 +65,6 @@ impl Numbers {
 
     /// Puts the number of a new identifier into its slot. An entry that had its own number there
     /// goes to the map.
-    #[inline(always)]
     pub(crate) fn take_slot<T>(&mut self, entries: &Entries<T>, id: &Id, number: usize)
         requires slots { 0 < length self.old.hints }
         requires room { 0 < spare self.old.map }
@@ -83,7 +78,6 @@ impl Numbers {
     }
 
     // The entry that was told its number where an identifier is, too, has it in the map from now on.
-    #[inline(always)]
     fn make_way<T>(&mut self, entries: &Entries<T>, id: &Id)
         requires slots { 0 < length self.old.hints }
         requires room { 0 < spare self.old.map }
@@ -102,7 +96,6 @@ impl Numbers {
     }
 
     // Puts a number into the map, which has room.
-    #[inline(never)]
     fn keep(&mut self, id: &Id, number: usize)
         requires { 0 < spare self.old.map }
         ensures map { (q : List ℕ) → get bytes_eq self.new.map q ≡ cond (bytes_eq id.now q) (Some number) (get bytes_eq self.old.map q) }
@@ -113,7 +106,6 @@ impl Numbers {
     }
 
     /// Takes the number of an entry out that leaves.
-    #[inline(always)]
     pub(crate) fn forget(&mut self, id: &Id, number: usize)
         requires { get bytes_eq self.old.map id.now ≡ untold (hint_of self.old.hints id.now) (Some number) }
         ensures map { (q : List ℕ) → get bytes_eq self.new.map q ≡ cond (bytes_eq id.now q) None (get bytes_eq self.old.map q) }
@@ -125,7 +117,6 @@ impl Numbers {
     }
 
     // Takes a number out of the map.
-    #[inline(never)]
     fn remove(&mut self, id: &Id)
         ensures map { (q : List ℕ) → get bytes_eq self.new.map q ≡ cond (bytes_eq id.now q) None (get bytes_eq self.old.map q) }
         ensures hints { self.new.hints ≡ self.old.hints }

@@ -11,7 +11,6 @@ use crate::numbers::Numbers;
 use snow_base::Id;
 
 /// Returns the number of the node at a place.
-#[inline(always)]
 pub(crate) fn number_of<T>(entries: &Entries<T>, place: usize) -> usize
     ensures some { (e : List ℕ × Node T) → slice_get entries.now.items place ≡ Some e → result ≡ e.1.number }
     ensures none { slice_get entries.now.items place ≡ None → result ≡ 0 }
@@ -23,7 +22,6 @@ pub(crate) fn number_of<T>(entries: &Entries<T>, place: usize) -> usize
 }
 
 // How many of the first so many nodes have lower numbers.
-#[inline(never)]
 fn count_lower<T>(entries: &Entries<T>, len: usize, number: usize) -> usize
     requires order { AreInOrder (edges_of (take len entries.now.items)) }
     requires most { len ≤ length entries.now.items }
@@ -47,7 +45,6 @@ fn count_lower<T>(entries: &Entries<T>, len: usize, number: usize) -> usize
 /// Returns the place of a number among the first so many nodes, or `None`. Where none left from
 /// between, the place is the number less the first node's; else a search finds it in logarithmic
 /// time.
-#[inline(always)]
 pub(crate) fn place_of_number<T>(entries: &Entries<T>, len: usize, number: usize) -> Option<usize>
     requires order { AreInOrder (edges_of (take len entries.now.items)) }
     requires most { len ≤ length entries.now.items }
@@ -65,7 +62,6 @@ pub(crate) fn place_of_number<T>(entries: &Entries<T>, len: usize, number: usize
 }
 
 /// Returns the place of an identifier, where its slot tells its number. It doesn't ask the map.
-#[inline(always)]
 pub(crate) fn place_told<T>(entries: &Entries<T>, numbers: &Numbers, id: &Id) -> Option<usize>
     requires { (next : ℕ) × IsNumbered (edges_of entries.now.items) (get bytes_eq numbers.now.map) numbers.now.hints next }
     ensures { IsToldPlace (edges_of entries.now.items) numbers.now.hints id.now result }

@@ -1,4 +1,4 @@
-ghost use Rattle.std.specs.Prelude.{◌≡◌, ℕ, List, ◌+◌, ◌-◌, ◌<◌, ◌≤◌, ◌^◌, ◌↔◌, ◌∷◌, ◌++◌, [], None, Some, IsSome, IfSome, false, length, take, slice_get, bytes_eq, vec_len, vec_capacity, option_to_list, OnOk, OnErr};
+ghost use Rattle.std.specs.Prelude.{◌≡◌, ℕ, List, ◌+◌, ◌-◌, ◌<◌, ◌≤◌, ◌^◌, ◌↔◌, ◌∷◌, ◌++◌, [], None, Some, IsSome, false, length, take, slice_get, bytes_eq, vec_len, vec_capacity, option_to_list, OnOk, OnErr};
 ghost use Rattle.std.specs.List.{AllByRecursion, IsDistinct, position, remove};
 ghost use Rattle.std.specs.Map.{keys_of, values_of, lookup};
 ghost use Rattle.std.specs.Option.{option_map, option_copied, option_copied_mut};
@@ -8,7 +8,7 @@ ghost use Rattle.snow_tree.specs.Row.{AreInOrder, IsOwn, edges_of, number_at, st
 use crate::children::Children;
 use crate::node::{Entries, Node};
 use crate::numbers::Numbers;
-use crate::placing::{number_of, place_of_id, place_of_number, place_told};
+use crate::placing::{number_of, place_of_id, place_of_number};
 use crate::sweeping::sweep;
 use snow_base::Id;
 use std::alloc::{AllocError, Global};
@@ -76,14 +76,6 @@ impl<T> Row<T> {
         place_of_id(&self.entries, &self.numbers, id)
     }
 
-    /// Returns the place of an identifier, where its slot tells it without the map.
-    #[inline(always)]
-    pub(crate) fn guess(&self, id: &Id) -> Option<usize>
-        ensures { IfSome result (λ at. position (bytes_eq id.now) (keys_of self.now.entries) ≡ Some at) }
-    {
-        place_told(&self.entries, &self.numbers, id)
-    }
-
     /// Returns the place of the parent of the node at a place. It looks no identifier up.
     pub(crate) fn parent_of(&self, place: usize) -> Option<usize>
         ensures { (e : List ℕ × Node T) → slice_get self.now.entries place ≡ Some e → result ≡ position (λ x. bytes_eq x.0 e.1.parent) self.now.entries }
@@ -104,9 +96,7 @@ impl<T> Row<T> {
         }
     }
 
-    /// Returns the node of an identifier. It is a function apart, so that a caller that only looks
-    /// copies nothing.
-    #[inline(never)]
+    /// Returns the node of an identifier.
     pub(crate) fn get(&self, id: &Id) -> Option<&Node<T>>
         ensures value { option_copied result ≡ lookup (bytes_eq id.now) self.now.entries }
     {
@@ -172,7 +162,6 @@ impl<T> Row<T> {
 
     /// Appends a node, for which there is room and whose parent stands at this place. The node has
     /// the next number.
-    #[inline(always)]
     pub(crate) fn push(&mut self, id: Id, node: Node<T>, at: Option<usize>)
         requires room { 0 < self.old.spare }
         requires new { lookup (bytes_eq id) self.old.entries ≡ None }
@@ -200,7 +189,6 @@ impl<T> Row<T> {
 
     /// Takes the node at a place out and returns it. It takes no memory, and moves the nodes on the
     /// shorter side.
-    #[inline(always)]
     pub(crate) fn remove(&mut self, place: usize) -> Option<(Id, Node<T>)>
         ensures node { result ≡ slice_get self.old.entries place }
         ensures rest { self.new.entries ≡ remove self.old.entries place }

@@ -11,7 +11,6 @@ use crate::placing::place_of_number;
 use snow_base::Id;
 
 // Whether the node at a place stands above the block of a number, or above one of the first so many nodes.
-#[inline(always)]
 fn is_above<T>(entries: &Entries<T>, kept: usize, number: usize, place: usize) -> bool
     requires order { AreInOrder (edges_of (take kept entries.now.items)) }
     requires most { kept ≤ length entries.now.items }

@@ -6,15 +6,15 @@ ghost use Rattle.snow_tree.specs.Held.{blocks_in, begun, inserted, taken_back, p
 use crate::children::Children;
 use crate::leaving::take_accepted;
 use crate::linking::{make_room, unlink};
-use crate::looking::{ancestor, block_at, guess, place_of};
+use crate::looking::{ancestor, block_at, place_of};
 use crate::node::Node;
 use crate::row::Row;
 use snow_base::{Header, Id};
 use std::alloc::Global;
 use std::marker::Model;
 
-/// Want of memory in `Tree::insert` or `Tree::insert_at`. It hands back the load that was to be
-/// inserted, and the tree stays as it was.
+/// Want of memory in `Tree::insert`. It hands back the load that was to be inserted, and the tree
+/// stays as it was.
 /// Rule: AvalancheGo, snow/consensus/snowman.
 #[derive(Debug, Drop)]
 pub struct TreeFull<T> {
@@ -78,26 +78,11 @@ impl<T: Drop> Tree<T> {
     }
 
     /// Puts a block behind the pending ones, with a load. Its identifier isn't in the tree, and its
-    /// parent is pending or the last accepted block. On want of memory it returns `TreeFull` with
-    /// the load, and the tree stays as it was.
+    /// parent is pending or the last accepted block. `at` is the parent's place, or `None` where
+    /// that is the last accepted block. On want of memory it returns `TreeFull` with the load, and
+    /// the tree stays as it was.
     /// Rule: AvalancheGo, snow/consensus/snowman.
-    pub fn insert(&mut self, id: Id, parent: Id, height: u64, load: T) -> Result<(), TreeFull<T>>
-        requires unknown { is_on (self.old).last (blocks_in (self.old).pending) id ≡ false }
-        requires follows { is_on (self.old).last (blocks_in (self.old).pending) parent ≡ true }
-        ensures ok { let block : Header = record { id = id; parent = parent; height = height } in
-            OnOk result (self.new ≡ inserted self.old block load) }
-        ensures err { OnErr result (self.new ≡ self.old) }
-        ensures load { IfErr result (λ full. full.load ≡ load) }
-    {
-        let at = self.place_of(&parent);
-        self.insert_at(id, parent, at, height, load)
-    }
-
-    /// Does what `insert` does, where the caller knows the parent's place: `at` is that place, or
-    /// `None` where the parent is the last accepted block.
-    /// Rule: AvalancheGo, snow/consensus/snowman.
-    #[inline(always)]
-    pub fn insert_at(
+    pub fn insert(
         &mut self,
         id: Id,
         parent: Id,
@@ -203,7 +188,6 @@ impl<T: Drop> Tree<T> {
 
     /// Returns what a pending block says of itself, or `None` exactly where it isn't pending.
     /// Rule: AvalancheGo, snow/consensus/snowman.
-    #[inline(always)]
     pub fn header_of(&self, id: &Id) -> Option<Header>
         ensures { result ≡ option_map (λ e. e.block) (entry_in (self.now).pending id.now) }
     {
@@ -225,18 +209,6 @@ impl<T: Drop> Tree<T> {
         ensures pending { is_some result ≡ has_block (blocks_in (self.now).pending) id.now }
     {
         place_of(&self.nodes, id)
-    }
-
-    /// Returns where a block and its parent stand in order of issue, where a look at one slot
-    /// tells. It may return `None` for a pending block too. The parent has no place where it is the
-    /// last accepted block.
-    /// Rule: AvalancheGo, snow/consensus/snowman.
-    #[inline(always)]
-    pub fn guess(&self, id: &Id) -> Option<(usize, Option<usize>)>
-        ensures place { IfSome result (λ r. place_in (self.now).pending id.now ≡ Some r.0) }
-        ensures parent { IfSome result (λ r. IfSome (slice_get (self.now).pending r.0) (λ e. r.1 ≡ place_in (self.now).pending e.block.parent)) }
-    {
-        guess(&self.nodes, id)
     }
 
     /// Returns where the parent of the block at a place stands, or `None` where that isn't pending.
@@ -312,7 +284,6 @@ impl<T: Drop> Tree<T> {
     /// whatever is pending. Where others leave, it passes once over the pending blocks, and looks
     /// up no identifier of one that stays.
     /// Rule: AvalancheGo, snow/consensus/snowman.
-    #[inline(always)]
     pub fn promote(&mut self, child: &Id, load: &mut T)
         requires child { option_map (λ e. e.block.parent) (entry_in (self.old).pending child.now) ≡ Some (self.old).last }
         ensures load { IfSome (entry_in (self.old).pending child.now) (λ e. load.new ≡ e.load) }

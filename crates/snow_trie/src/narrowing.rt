@@ -12,25 +12,7 @@ use snow_flake::Params;
 /// most 256. Once it sees that fewer than AlphaPreference are left, it may return those for some of
 /// these bits. The votes are at most K, in bit order.
 /// Rule: AvalancheGo, snow/consensus/snowball.
-#[inline(always)]
 pub fn narrowed<'a>(votes: &'a [Vote], leader: &Id, to: u16, params: &Params) -> &'a [Vote]
-    requires order { IsInBitOrder votes.now }
-    requires within { to ≤ 256 }
-    requires most { total_count votes.now ≤ params.now.k }
-    ensures narrowed { params.now.alpha_preference ≤ total_count result.now → IsNarrowed leader.now to votes.now result.now }
-    ensures few { (front : List Bool) → votes_from 0 votes.now (between leader.now 0 to ++ front) ≤ total_count result.now }
-    ensures most { total_count result.now ≤ params.now.k }
-{
-    if to == 0 {
-        votes
-    } else {
-        narrowed_on(votes, leader, to, params)
-    }
-}
-
-// Narrows on bits that most trees don't have.
-#[inline(never)]
-fn narrowed_on<'a>(votes: &'a [Vote], leader: &Id, to: u16, params: &Params) -> &'a [Vote]
     requires order { IsInBitOrder votes.now }
     requires within { to ≤ 256 }
     requires most { total_count votes.now ≤ params.now.k }

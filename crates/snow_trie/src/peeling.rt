@@ -85,7 +85,6 @@ fn leader_of(rest: &Rest, leader: &Id, decided: u16) -> Id
 }
 
 // Whether the first node of a tree is decided.
-#[inline(always)]
 fn is_decided(node: &Node) -> bool
     ensures { result ≡ false → (from : ℕ) → peeled from (tree_of node.now) ≡ (from, tree_of node.now) }
 {
@@ -99,10 +98,8 @@ fn is_decided(node: &Node) -> bool
 
 /// Takes the decided first nodes off a tree that begins at a bit behind a leader's first ones. It
 /// returns the bit at which what is left begins, behind those of the leader then. Mostly it takes
-/// nothing off, or a last node, of which an identifier is left; a function of its own takes off
-/// more.
+/// nothing off, or a last node, of which an identifier is left.
 /// Rule: AvalancheGo, snow/consensus/snowball.
-#[inline(always)]
 pub fn peel(root: &mut Node, leader: &mut Id, decided: u16) -> u16
     requires { IsPlaced decided (tree_of root.old) }
     ensures from { result ≡ (peeled decided (tree_of root.old)).0 }
@@ -125,8 +122,7 @@ pub fn peel(root: &mut Node, leader: &mut Id, decided: u16) -> u16
     }
 }
 
-// An identifier alone is left. It is made here, so that a poll that takes nothing off clears no room for it.
-#[inline(never)]
+// An identifier alone is left.
 fn end(root: &mut Node, id: &Id)
     ensures { tree_of root.new ≡ Tip id.now }
 {
@@ -134,7 +130,6 @@ fn end(root: &mut Node, id: &Id)
 }
 
 // Takes off where the first node is decided.
-#[inline(never)]
 fn take_off(root: &mut Node, leader: &mut Id, decided: u16) -> u16
     requires { IsPlaced decided (tree_of root.old) }
     ensures from { result ≡ (peeled decided (tree_of root.old)).0 }

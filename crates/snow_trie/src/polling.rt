@@ -25,7 +25,6 @@ fn either(one: bool, other: bool) -> bool
 /// 2^64-1. It counts a step for each node that it visits, at least one. It returns `false` only
 /// where the tree leads where it led. It polls a tree of one identifier in place.
 /// Rule: AvalancheGo, snow/consensus/snowball.
-#[inline(always)]
 pub fn poll<R: Rule, L: Ledger>(
     root: &mut Node,
     from: u16,
@@ -61,9 +60,7 @@ pub fn poll<R: Rule, L: Ledger>(
 }
 
 // A poll comes to a node, where one above it moved, or none. It goes on to a side with AlphaPreference
-// votes alone: the stamps of the others say that they failed. Going on is the last that is done, so no
-// frame is kept for it.
-#[inline(never)]
+// votes alone: the stamps of the others say that they failed.
 fn visit<R: Rule, L: Ledger>(
     node: &mut Node,
     from: u16,
@@ -154,7 +151,6 @@ pub fn ready(root: &mut Node, polls: u64) -> u64
 }
 
 // The stamps begin anew at 0, and say what they said after this many polls. That is rare.
-#[inline(never)]
 fn restamp(node: &mut Node, now: u64)
     ensures { IsRestamped now 0 (tree_of node.old) (tree_of node.new) }
 {

@@ -73,7 +73,6 @@ impl<R: Rule> Trie<R> {
     /// Returns the counters where one identifier stands alone: one node. On want of memory it
     /// returns `AllocError`.
     /// Rule: AvalancheGo, snow/consensus/snowball.
-    #[inline(always)]
     pub fn new(alloc: Global, params: Params, id: Id) -> Result<Self, AllocError>
         ensures { IfOk result (λ trie. trie ≡ begun params id) }
     {
@@ -94,7 +93,6 @@ impl<R: Rule> Trie<R> {
     /// Makes one identifier stand alone anew, with these parameters, whatever stood before. It
     /// keeps the room for others, and takes no memory.
     /// Rule: AvalancheGo, snow/consensus/snowball.
-    #[inline(always)]
     pub fn begin_anew(&mut self, params: &Params, id: &Id)
         ensures { self.new ≡ begun params.now id.now }
     {
@@ -152,7 +150,6 @@ impl<R: Rule> Trie<R> {
     /// Does what `apply` does, and returns whether it may have moved where the counters lead:
     /// `false` only where they lead where they led.
     /// Rule: AvalancheGo, snow/consensus/snowball.
-    #[inline(always)]
     pub fn record<L: Ledger>(&mut self, votes: &[Vote], steps: &mut Steps<L>) -> bool
         requires order { IsInBitOrder votes.now }
         requires most { total_count votes.now ≤ (self.old).parameters.k }

@@ -1,25 +1,23 @@
-use Rattle.std.proofs.Common.{◌∙◌, All, Contains, sym, ap, subst, arith}
-use Rattle.snow_flake.specs.Counter.{class}
+use Rattle.std.proofs.Common.{◌∙◌, ℕ, Bool, List, All, Contains, sym, ap, subst, arith}
 use Rattle.snow_plain.specs.Conflict.{votes_on}
 use Rattle.snow_plain.specs.Cursors.{votes_at}
 use Rattle.snow_tree.specs.Held.{blocks_in}
-use Rattle.snow_climb.specs.Climbing.{cursors_of, gathered}
+use Rattle.snow_climb.specs.Climbing.{cursors_of}
 use Rattle.snow_climb.proofs.Climbers.{same_total}
+use Rattle.snow_topo.specs.Half.{HasTaken}
 use Rattle.snow_topo.proofs.Costing.{no_quorum}
-use Rattle.snow_topo.proofs.Taken.{taken_alike, left_alone}
+use Rattle.snow_topo.proofs.Taken.{left_alone}
 use Rattle.snow_climb.proofs.Merged.{few_came}
 use Rattle.snow_topo.proofs.counting.record_root.Goals as goal
 
 pub record-requires-clause-given : goal.record-requires-clause-given
 record-requires-clause-given g c =
-    rw c.votes_in.ensures.list
-    (subst (λ l. All (λ v. Contains l v.id) (gathered c.gather-is_one.result c.gather-is_one.new.one c.gather-is_one.new.children.list)) (sym c.requires.fit.ids) (c.gather-is_one.ensures.among c.args.tree.now.last c.requires.came))
+    rw c.entries.ensures.list
+    (subst (λ l. All (λ v. Contains l v.id) c.gather.new.children.list) (sym c.requires.fit.ids) (c.gather.ensures.among c.args.tree.now.last c.requires.came))
 
 pub returns-then-has_quorum-clause-taken : goal.returns-then-has_quorum-clause-taken
 returns-then-has_quorum-clause-taken g c =
-    let cursors = cursors_of (blocks_in c.args.tree.now.pending) c.args.ladder.now.came in
-    taken_alike c.args.params.now c.args.polls (votes_on c.votes_in.result.now) (votes_at cursors c.args.tree.now.last) c.args.root.now c.record.new.self
-    (λ front. ap (λ l. class c.args.params.now (votes_on l front)) c.votes_in.ensures.list ∙ c.gather-is_one.ensures.votes c.args.tree.now.last c.requires.came front)
+    subst (λ (f : List Bool → ℕ). HasTaken c.args.params.now c.args.polls f c.args.root.now c.record.new.self) (ap votes_on c.entries.ensures.list ∙ c.gather.ensures.votes c.args.tree.now.last c.requires.came)
     (λ children fit. (c.record.ensures.counters c.args.params.now children fit, c.record.ensures.fit c.args.params.now children fit))
 
 pub returns-else-has_quorum-clause-taken : goal.returns-else-has_quorum-clause-taken

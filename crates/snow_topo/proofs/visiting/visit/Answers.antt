@@ -26,19 +26,19 @@ pub take-count-requires-clause-highest : goal.take-count-requires-clause-highest
 take-count-requires-clause-highest g c =
     highest_place (blocks_in c.args.tree.now.pending) (c.args.at + 1) c.args.ladder.now.climbers c.requires.placed c.requires.climbing.1.below
 
-pub record_quorum-any-requires-clause-places : goal.record_quorum-any-requires-clause-places
-record_quorum-any-requires-clause-places g c =
+pub record_came-moved-requires-clause-places : goal.record_came-moved-requires-clause-places
+record_came-moved-requires-clause-places g c =
     omega (arith, c.requires.places, group_few (c.args.at + 1) c.args.ladder.now.climbers c.take-count.new.self.came c.take-count.ensures.came)
 
-pub record_quorum-any-requires-clause-placed : goal.record_quorum-any-requires-clause-placed
-record_quorum-any-requires-clause-placed g c =
+pub record_came-moved-requires-clause-placed : goal.record_came-moved-requires-clause-placed
+record_came-moved-requires-clause-placed g c =
     let first = c.args.tree.now.pending in
     let bs = blocks_in first in
     let all = of_group (λ x. (x.passed < length bs) × (x.place ≡ reach bs (parent_in (slice_get bs x.passed)))) (c.args.at + 1) c.args.ladder.now.climbers c.take-count.new.self.came c.take-count.ensures.came c.requires.placed in
     λ k d h. omega (arith, (all k d h).0, length-map first (λ e. e.block))
 
-pub record_quorum-any-requires-clause-count : goal.record_quorum-any-requires-clause-count
-record_quorum-any-requires-clause-count g c =
+pub record_came-moved-requires-clause-count : goal.record_came-moved-requires-clause-count
+record_came-moved-requires-clause-count g c =
     let bs = blocks_in c.args.tree.now.pending in
     let cs = c.args.ladder.now.climbers in
     omega (
@@ -50,20 +50,20 @@ record_quorum-any-requires-clause-count g c =
       c.k-k.ensures.value,
     )
 
-pub record_quorum-any-requires-clause-counts : goal.record_quorum-any-requires-clause-counts
-record_quorum-any-requires-clause-counts g c =
+pub record_came-moved-requires-clause-counts : goal.record_came-moved-requires-clause-counts
+record_came-moved-requires-clause-counts g c =
     let bs = blocks_in c.args.tree.now.pending in
     let cs = c.args.ladder.now.climbers in
     of_group (λ x. 0 < x.count) (c.args.at + 1) cs c.take-count.new.self.came c.take-count.ensures.came (all_back (λ x. 0 < x.count) (cursor_of bs) cs c.requires.climbing.1.counts)
 
-pub record_quorum-any-requires-clause-total : goal.record_quorum-any-requires-clause-total
-record_quorum-any-requires-clause-total g c =
+pub record_came-moved-requires-clause-total : goal.record_came-moved-requires-clause-total
+record_came-moved-requires-clause-total g c =
     let bs = blocks_in c.args.tree.now.pending in
     let cs = c.args.ladder.now.climbers in
     omega (arith, group_total (c.args.at + 1) cs c.take-count.new.self.came c.take-count.ensures.came, same_total bs cs, c.requires.climbing.1.total)
 
-pub record_quorum-any-requires-clause-came : goal.record_quorum-any-requires-clause-came
-record_quorum-any-requires-clause-came g c =
+pub record_came-moved-requires-clause-came : goal.record_came-moved-requires-clause-came
+record_came-moved-requires-clause-came g c =
     let first = c.args.tree.now.pending in
     let cs = c.args.ladder.now.climbers in
     if_some (slice_get first c.args.at) _ _
@@ -83,22 +83,22 @@ pub pass-requires-clause-within : goal.pass-requires-clause-within
 pass-requires-clause-within g c =
     let held = c.args.tree.now in
     let found = entry_at held.pending c.args.at c.requires.within in
-    let took = some_of (slice_get held.pending c.args.at) _ found.0 found.1 c.record_quorum-any.ensures.taken in
-    let blocks = blocks_after c.record_quorum-any.new.tree held c.args.at took.0 took.1 in
+    let took = some_of (slice_get held.pending c.args.at) _ found.0 found.1 c.record_came-moved.ensures.taken in
+    let blocks = blocks_after c.record_came-moved.new.tree held c.args.at took.0 took.1 in
     omega (
       arith,
       c.requires.within,
       ap length blocks,
       length-map held.pending (λ e. e.block),
-      length-map c.record_quorum-any.new.tree.pending (λ e. e.block),
+      length-map c.record_came-moved.new.tree.pending (λ e. e.block),
     )
 
 pub pass-requires-clause-below : goal.pass-requires-clause-below
 pass-requires-clause-below g c =
     let held = c.args.tree.now in
     let found = entry_at held.pending c.args.at c.requires.within in
-    let took = some_of (slice_get held.pending c.args.at) _ found.0 found.1 c.record_quorum-any.ensures.taken in
-    let blocks = blocks_after c.record_quorum-any.new.tree held c.args.at took.0 took.1 in
+    let took = some_of (slice_get held.pending c.args.at) _ found.0 found.1 c.record_came-moved.ensures.taken in
+    let blocks = blocks_after c.record_came-moved.new.tree held c.args.at took.0 took.1 in
     let low = parent_reach held.last held.pending c.args.at found.0 c.last-last.ensures.grown found.1 in
     let here = block_at held.pending c.args.at found.0 found.1 in
     omega (
@@ -124,7 +124,7 @@ returns-clause-taken g c =
           (sym (votes_of_group bs e.block (c.args.at + 1) cs c.take-count.new.self.came c.take-count.ensures.came others)) took.1.2,
       took.1.3,
     ))
-    c.record_quorum-any.ensures.taken
+    c.record_came-moved.ensures.taken
 
 pub returns-clause-steps : goal.returns-clause-steps
 returns-clause-steps g c =
@@ -141,8 +141,8 @@ returns-clause-steps g c =
     sym (same_total bs came) ∙ sym (all_came bs e.block.id (cursors_of bs came) come)
     ∙ sym (ap (λ f. f []) (votes_of_group bs e.block (c.args.at + 1) cs came c.take-count.ensures.came others))
     in
-    subst (λ n. c.record_quorum-any.new.steps ≤ c.args.steps.now + 5 * (if nat_le c.args.params.now.alpha_preference n then length (ids_in e.load.contest) else 0)) total given.1)
-    c.record_quorum-any.ensures.steps
+    subst (λ n. c.record_came-moved.new.steps ≤ c.args.steps.now + 5 * (if nat_le c.args.params.now.alpha_preference n then length (ids_in e.load.contest) else 0)) total given.1)
+    c.record_came-moved.ensures.steps
 
 pub returns-clause-merged : goal.returns-clause-merged
 returns-clause-merged g c =
@@ -159,12 +159,12 @@ returns-clause-merged g c =
     (λ e took.
     let come = group_come c.args.params.now c.requires.climbing.0 held.last first c.args.at e cs came c.last-last.ensures.grown took.0 c.requires.climbing.1 c.requires.placed c.take-count.ensures.came in
     let others = group_others held.last first c.args.at e cs c.last-last.ensures.grown took.0 c.requires.placed in
-    let blocks = blocks_after c.record_quorum-any.new.tree held c.args.at took.1.0 took.1.1 in
+    let blocks = blocks_after c.record_came-moved.new.tree held c.args.at took.1.0 took.1.1 in
     merged_on bs e.block c.args.at cs came c.pass.new.ladder.climbers (block_at first c.args.at e took.0) others come c.take-count.ensures.came
     (subst (λ l. IsPermutation (passed_on bs c.args.at l came) c.pass.new.ladder.climbers) stays
     (subst (λ l. IsPermutation (passed_on l c.args.at c.take-count.new.self.climbers came) c.pass.new.ladder.climbers) blocks
-    (passed_of c.record_quorum-any.new.tree c.args.at _ c.take-count.new.self.climbers came c.pass.new.ladder.climbers count c.pass.ensures.same))))
-    c.record_quorum-any.ensures.taken
+    (passed_of c.record_came-moved.new.tree c.args.at _ c.take-count.new.self.climbers came c.pass.new.ladder.climbers count c.pass.ensures.same))))
+    c.record_came-moved.ensures.taken
 
 pub returns-clause-placed : goal.returns-clause-placed
 returns-clause-placed g c =
@@ -177,12 +177,12 @@ returns-clause-placed g c =
     in
     let stays = c.take-count.ensures.climbers in
     let found = entry_at held.pending c.args.at c.requires.within in
-    let took = some_of (slice_get held.pending c.args.at) _ found.0 found.1 c.record_quorum-any.ensures.taken in
-    let blocks = blocks_after c.record_quorum-any.new.tree held c.args.at took.0 took.1 in
+    let took = some_of (slice_get held.pending c.args.at) _ found.0 found.1 c.record_came-moved.ensures.taken in
+    let blocks = blocks_after c.record_came-moved.new.tree held c.args.at took.0 took.1 in
     placed_on bs c.args.at cs came c.pass.new.ladder.climbers (slice_get_within bs c.args.at found.0.block (block_at held.pending c.args.at found.0 found.1)) c.requires.placed
     (subst (λ l. IsPermutation (passed_on bs c.args.at l came) c.pass.new.ladder.climbers) stays
     (subst (λ l. IsPermutation (passed_on l c.args.at c.take-count.new.self.climbers came) c.pass.new.ladder.climbers) blocks
-    (passed_of c.record_quorum-any.new.tree c.args.at _ c.take-count.new.self.climbers came c.pass.new.ladder.climbers count c.pass.ensures.same)))
+    (passed_of c.record_came-moved.new.tree c.args.at _ c.take-count.new.self.climbers came c.pass.new.ladder.climbers count c.pass.ensures.same)))
 
 pub returns-clause-put : goal.returns-clause-put
 returns-clause-put g c = omega (arith, c.pass.ensures.put, ap (λ (s : Rungs). s.put) c.take-count.ensures.rest)

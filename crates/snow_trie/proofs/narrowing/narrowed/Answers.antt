@@ -1,11 +1,30 @@
-use Rattle.std.proofs.Common.{arith}
-use Rattle.snow_trie.proofs.Narrowed.{all_votes, few_more}
+use Rattle.std.proofs.Common.{◌≡◌, ◌+◌, arith, subst}
+use Rattle.snow_trie.specs.Polled.{IsNarrowed}
+use Rattle.snow_trie.proofs.Narrowed.{all_votes, narrowed_more, few_more, fewer_votes}
 use Rattle.snow_trie.proofs.narrowing.narrowed.Goals as goal
 
-pub returns-then-to-eq0-clause-narrowed : goal.returns-then-to-eq0-clause-narrowed
-returns-then-to-eq0-clause-narrowed c = λ enough. rw c.if-to-eq0.true (all_votes c.args.leader.now c.args.votes.now c.requires.order)
+pub loop-bit-init : goal.loop-bit-init
+loop-bit-init c = (all_votes c.args.leader.now c.args.votes.now c.requires.order, c.requires.most)
 
-pub returns-then-to-eq0-clause-few : goal.returns-then-to-eq0-clause-few
-returns-then-to-eq0-clause-few c =
-    λ front. few_more c.args.leader.now 0 c.args.to c.args.votes.now c.args.votes.now (omega arith)
-    (all_votes c.args.leader.now c.args.votes.now c.requires.order) front
+pub loop-bit-preserved : goal.loop-bit-preserved
+loop-bit-preserved c =
+    let next = c.with_bit-rest.ensures in
+    let more =
+    narrowed_more c.args.leader.now c.loop-bit.bit c.args.votes.now c.loop-bit.rest.now c.with_bit-rest.result.now c.loop-bit.invariant.0
+    next.order next.agree (rw c.bit.ensures at next.have) (rw c.bit.ensures at next.counts) next.among
+    in
+    (more, omega (arith, c.requires.most, fewer_votes c.args.leader.now (c.loop-bit.bit + 1) c.args.votes.now c.with_bit-rest.result.now more))
+
+pub returns-then-count-alpha_preference-clause-few : goal.returns-then-count-alpha_preference-clause-few
+returns-then-count-alpha_preference-clause-few c =
+    λ front. few_more c.args.leader.now c.loop-bit.bit c.args.to c.args.votes.now c.loop-bit.rest.now (omega arith) c.loop-bit.invariant.0 front
+
+pub returns-clause-narrowed : goal.returns-clause-narrowed
+returns-clause-narrowed c =
+    λ enough.
+    let end : c.loop-bit.bit ≡ c.args.to = omega arith in
+    subst (λ k. IsNarrowed c.args.leader.now k c.args.votes.now c.loop-bit.rest.now) end c.loop-bit.invariant.0
+
+pub returns-clause-few : goal.returns-clause-few
+returns-clause-few c =
+    λ front. few_more c.args.leader.now c.loop-bit.bit c.args.to c.args.votes.now c.loop-bit.rest.now (omega arith) c.loop-bit.invariant.0 front

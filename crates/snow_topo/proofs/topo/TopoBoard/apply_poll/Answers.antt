@@ -3,4 +3,4 @@ use Rattle.snow_topo.proofs.topo.TopoBoard.apply_poll.Goals as goal
 
 pub returns-clause-alike : goal.returns-clause-alike
 returns-clause-alike g c =
-    gives_all c.args.self.now.board c.args.votes.now.list c.apply_alone.new.board.board c.apply_alone.new.board.decided c.apply_alone.ensures.board c.apply_alone.ensures.decided
+    gives_all c.args.self.now.board c.args.votes.now.list c.record_alone.new.board.board c.record_alone.new.board.decided c.record_alone.ensures.board c.record_alone.ensures.decided

@@ -13,7 +13,7 @@ use Rattle.snow_tree.proofs.Edges.{read_through, same_place, childless_edges}
 use Rattle.snow_tree.proofs.Left.{same_blocks}
 use Rattle.snow_tree.proofs.Linked.{kept_issued, not_found, blocks_changed}
 use Rattle.snow_tree.proofs.Seen.{ok_after, place_seen, seen_changed}
-use Rattle.snow_tree.proofs.tree.Tree.insert_at.Goals as goal
+use Rattle.snow_tree.proofs.tree.Tree.insert.Goals as goal
 
 pub make_room-room-requires-clause-off : goal.make_room-room-requires-clause-off
 make_room-room-requires-clause-off g c = last_off c.self.inside.last (blocks_of c.self.inside.nodes.entries) c.self.invariant.grown

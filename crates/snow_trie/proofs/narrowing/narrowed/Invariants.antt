@@ -1,7 +1,7 @@
 use Rattle.std.proofs.Common.{◌≤◌}
 use Rattle.snow_base.specs.Votes.{total_count}
 use Rattle.snow_trie.specs.Polled.{IsNarrowed}
-use Rattle.snow_trie.proofs.narrowing.narrowed_on.Given as goal
+use Rattle.snow_trie.proofs.narrowing.narrowed.Given as goal
 
 -- the votes that agree on the bits so far, which are no more than there were
 abbrev pub invariant-loop-bit : goal.invariant-loop-bit

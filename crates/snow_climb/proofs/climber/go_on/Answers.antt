@@ -2,7 +2,7 @@ use Rattle.std.proofs.Common.{ap}
 use Rattle.snow_tree.specs.Held.{blocks_in}
 use Rattle.snow_climb.specs.Ladder.{Rungs}
 use Rattle.snow_climb.proofs.Climbers.{put_last}
-use Rattle.snow_climb.proofs.climber.go_on_to.Goals as goal
+use Rattle.snow_climb.proofs.climber.go_on.Goals as goal
 
 pub returns-clause-same : goal.returns-clause-same
 returns-clause-same g c =

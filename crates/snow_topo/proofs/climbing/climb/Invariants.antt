@@ -8,7 +8,7 @@ use Rattle.snow_topo.specs.Half.{IsHalf}
 use Rattle.snow_climb.specs.Ladder.{KeepsRoom}
 use Rattle.snow_topo.specs.Leading.{all_leads}
 use Rattle.snow_topo.specs.Recording.{recording_in}
-use Rattle.snow_topo.proofs.climbing.climb_all.Given as goal
+use Rattle.snow_topo.proofs.climbing.climb.Given as goal
 
 abbrev pub invariant-loop-top : goal.invariant-loop-top
 invariant-loop-top g l = record {
