@@ -14,10 +14,10 @@ use Rattle.snow_wire.specs.declared.event.Start.{Start}
 use Rattle.snow_lines.specs.declared.line.Line.TheVariants as line
 use Rattle.snow_lines.specs.declared.why.SkipKind.TheVariants as skip
 use Rattle.snow_engine.specs.declared.task.Task.TheVariants as task
-use Rattle.snow_node.specs.Outcome.{Comes, quietly, then_comes}
+use Rattle.snow_node.specs.Outcome.{quietly, then_comes}
+use Rattle.snow_engine.specs.Staging.{Node, Comes}
 use Rattle.snow_engine.specs.Catching.{boots_on}
 use Rattle.snow_engine.specs.Node.{started, step}
-use Rattle.snow_engine.specs.Staging.{Node}
 use Rattle.snow_node.specs.Turning.{runs_on}
 
 abbrev id_of : ℕ → List ℕ

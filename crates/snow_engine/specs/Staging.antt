@@ -1,10 +1,10 @@
 -- A node, by its task and by how far it is, and what a step of it comes to.
-use Rattle.std.specs.Prelude.{List, Result, Ok, Err}
-use Rattle.snow_lines.specs.declared.line.Line.{Line}
+use Rattle.std.specs.Prelude.{Result, Ok, Err}
 use Rattle.snow_store.specs.declared.stop.BootStop.{BootStop}
 use Rattle.snow_store.specs.declared.stop.BootStop.TheVariants as why
 use Rattle.snow_node.specs.declared.stop.Halt.{Halt}
 use Rattle.snow_node.specs.declared.stop.Halt.TheVariants as halt
+use Rattle.snow_node.specs.Outcome.{Outcome}
 use Rattle.snow_node.specs.Outcome as node
 use Rattle.snow_node.specs.Running.{Running}
 use Rattle.snow_engine.specs.declared.stage.Stage.{Stage}
@@ -17,9 +17,9 @@ use Rattle.snow_engine.specs.Deciding.{Deciding}
 abbrev pub Node : Type 0
 Node = Stage Deciding Booting Running
 
--- lines, and then something or a stop of the engine; the lines before a stop stand
+-- what comes of an engine
 abbrev pub Comes : Type 0 → Type 0
-Comes T = List Line × Result T EngineStop
+Comes T = Outcome EngineStop T
 
 -- the stop that one of a node that decides or runs is
 abbrev pub stop_for : Halt → EngineStop
