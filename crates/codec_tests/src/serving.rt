@@ -1,7 +1,7 @@
-use snow_base::{Bytes, Id, Ids, NodeId};
+use snow_base::{Bytes, Id};
 use snow_getter::Getter;
 use snow_lines::{Line, Lines};
-use snow_wire::Event;
+use snow_wire::{Listing, Named, Sender, View};
 use std::alloc::{AllocError, Global};
 
 // The one line of an answer: a letter, the request, and a block, or how many blocks, identifiers or
@@ -44,13 +44,17 @@ fn play(alloc: Global, getter: &mut Getter, case: Case) -> Result<Tale, AllocErr
     }
 }
 
-// The identifier that begins with the bytes of a number.
-fn named(number: u16) -> Id {
+// The bytes of the identifier that begins with those of a number.
+fn bytes_of(number: u16) -> [u8; 32] {
     let mut bytes = [0; 32];
     let [a, b] = number.to_be_bytes();
     bytes[0] = a;
     bytes[1] = b;
-    Id::from_bytes(bytes)
+    bytes
+}
+
+fn named(number: u16) -> Id {
+    Id::from_bytes(bytes_of(number))
 }
 
 fn number_of(id: &Id) -> u64 {
@@ -58,9 +62,8 @@ fn number_of(id: &Id) -> u64 {
     u64::from(u16::from_be_bytes([bytes[0], bytes[1]]))
 }
 
-fn node() -> NodeId {
-    NodeId::from_bytes([2; 20])
-}
+// The node that asks.
+const NODE: [u8; 20] = [2; 20];
 
 fn told_of(line: &Line) -> Told {
     match line {
@@ -73,15 +76,8 @@ fn told_of(line: &Line) -> Told {
     }
 }
 
-// What a node answers that prefers block 1. The question is let go by a call, since the steps for all
-// kinds of events are many.
-fn ask(alloc: Global, getter: &Getter, question: Event) -> Result<Told, AllocError> {
-    let told = told_to(alloc, getter, &question);
-    drop(question);
-    told
-}
-
-fn told_to(alloc: Global, getter: &Getter, question: &Event) -> Result<Told, AllocError> {
+// What a node answers that prefers block 1.
+fn ask(alloc: Global, getter: &Getter, question: &View) -> Result<Told, AllocError> {
     let mut log = Lines::new(alloc);
     let answered = getter.answer(named(1), question, &mut log);
     let told = told_in_log(&log);
@@ -99,34 +95,30 @@ fn told_in_log(log: &Lines) -> Told {
 }
 
 fn ask_block(alloc: Global, getter: &Getter, id: u16) -> Result<Told, AllocError> {
-    let question = Event::AskBlock {
-        node: node(),
+    let question = View::AskBlock(Named {
+        node: &NODE,
         request: 5,
-        id: named(id),
-    };
-    ask(alloc, getter, question)
+        id: &bytes_of(id),
+    });
+    ask(alloc, getter, &question)
 }
 
 fn ask_ancestors(alloc: Global, getter: &Getter, id: u16) -> Result<Told, AllocError> {
-    let question = Event::AskAncestors {
-        node: node(),
+    let question = View::AskAncestors(Named {
+        node: &NODE,
         request: 6,
-        id: named(id),
-    };
-    ask(alloc, getter, question)
+        id: &bytes_of(id),
+    });
+    ask(alloc, getter, &question)
 }
 
-fn ask_accepted(alloc: Global, getter: &Getter, named_ones: &[u16]) -> Result<Told, AllocError> {
-    let mut ids = Ids::new(alloc);
-    for id in named_ones {
-        ids.push(named(*id))?;
-    }
-    let question = Event::AskAccepted {
-        node: node(),
+fn ask_accepted(alloc: Global, getter: &Getter, ids: &[[u8; 32]]) -> Result<Told, AllocError> {
+    let question = View::AskAccepted(Listing {
+        node: &NODE,
         request: 7,
         ids,
-    };
-    ask(alloc, getter, question)
+    });
+    ask(alloc, getter, &question)
 }
 
 // So many bytes.
@@ -181,11 +173,18 @@ fn accept_all(
 
 fn peers(alloc: Global, getter: &mut Getter) -> Result<Tale, AllocError> {
     issue(alloc, getter, (1, 0), 73)?;
-    let (node, request) = (node(), 8);
-    let preferred = ask(alloc, getter, Event::AskQuery { node, request })?;
+    let asked = Sender {
+        node: &NODE,
+        request: 8,
+    };
+    let preferred = ask(alloc, getter, &View::AskQuery(asked))?;
     getter.accepted(&named(1));
-    let last = ask(alloc, getter, Event::AskFrontier { node, request })?;
-    let accepted = ask_accepted(alloc, getter, &[0, 2, 1, 0])?;
+    let last = ask(alloc, getter, &View::AskFrontier(asked))?;
+    let accepted = ask_accepted(
+        alloc,
+        getter,
+        &[bytes_of(0), bytes_of(2), bytes_of(1), bytes_of(0)],
+    )?;
     Ok([preferred, last, accepted, ask_block(alloc, getter, 1)?])
 }
 
@@ -263,7 +262,7 @@ fn again(alloc: Global, getter: &mut Getter) -> Result<Tale, AllocError> {
     accept_all(alloc, getter, (1, 3))?;
     issue(alloc, getter, (1, 7), 5)?;
     let pending = ask_block(alloc, getter, 1)?;
-    let accepted = ask_accepted(alloc, getter, &[1])?;
+    let accepted = ask_accepted(alloc, getter, &[bytes_of(1)])?;
     getter.rejected(&named(1));
     let served = ask_block(alloc, getter, 1)?;
     Ok([pending, accepted, served, NOTHING])

@@ -1,8 +1,6 @@
 use crate::tools::is;
 use snow_base::{Ids, NodeId};
-use snow_wire::{
-    Decoder, Event, Skip, Start, TooLong, block_in, decode, encode, poll_in, timeout_in, vote_in,
-};
+use snow_wire::{Decoder, Event, Fault, Skip, Start, TooLong, View, decode, encode};
 use std::alloc::{AllocError, Global};
 use std::test::Fail;
 
@@ -252,25 +250,28 @@ fn fault_of(alloc: Global, payload: &[u8]) -> Option<Skip> {
 }
 
 /// Payloads, and the first fault of each.
-const FAULTS: &[(&[u8], Skip)] = &[
-    (&[], Skip::Short),
-    (&[0], Skip::Tag),
-    (&[18, 1], Skip::Tag),
-    (&[255], Skip::Tag),
-    (&[3, 0], Skip::Short),
-    (&[3, 4, 0], Skip::Short),
-    (&[3, 4, 1], Skip::Count),
-    (&[4, 0x10, 1], Skip::Count),
-    (&[11, 0x10, 1], Skip::Count),
-    (&[17, 0, 0x10, 0xc8, 0xe0], Skip::Short),
-    (&[17, 0, 0x10, 0xc8, 0xe1], Skip::Count),
-    (&[3, 0, 0, 9], Skip::Extra),
+const FAULTS: &[(&[u8], Fault)] = &[
+    (&[], Fault::Short),
+    (&[0], Fault::Tag),
+    (&[18, 1], Fault::Tag),
+    (&[255], Fault::Tag),
+    (&[3, 0], Fault::Short),
+    (&[3, 4, 0], Fault::Short),
+    (&[3, 4, 1], Fault::Count),
+    (&[4, 0x10, 1], Fault::Count),
+    (&[11, 0x10, 1], Fault::Count),
+    (&[17, 0, 0x10, 0xc8, 0xe0], Fault::Short),
+    (&[17, 0, 0x10, 0xc8, 0xe1], Fault::Count),
+    (&[3, 0, 0, 9], Fault::Extra),
 ];
 
 #[test]
 fn the_first_fault_is_named(rt: HostRuntime) {
     for (payload, fault) in FAULTS {
-        assert!(rt; fault_of(rt.alloc(), payload) == Some(*fault), "{fault:?}");
+        assert!(rt;
+            fault_of(rt.alloc(), payload) == Some(Skip::Fault(*fault)),
+            "{fault:?}"
+        );
     }
 }
 
@@ -290,45 +291,48 @@ const OUT_OF_RANGE: &[&[u8]] = &[
 #[test]
 fn fields_out_of_range_are_named(rt: HostRuntime) {
     for payload in OUT_OF_RANGE {
-        assert!(rt; fault_of(rt.alloc(), payload) == Some(Skip::Count));
+        assert!(rt; fault_of(rt.alloc(), payload) == Some(Skip::Fault(Fault::Count)));
     }
-    assert!(rt; fault_of(rt.alloc(), &START[..21]) == Some(Skip::Short));
+    assert!(rt; fault_of(rt.alloc(), &START[..21]) == Some(Skip::Fault(Fault::Short)));
 }
 
 /// Whether a payload has a block with these bytes, which answers request 2.
 fn has_block(payload: &[u8], bytes: &[u8]) -> bool {
-    match block_in(payload) {
-        Some(block) => {
-            block.node == NodeId::from_bytes([1; 20])
-                && block.request == 2
-                && is(block.bytes, bytes)
+    match View::read(payload) {
+        Ok(View::Block(block)) => {
+            let node = block.node;
+            is(node, &BLOCK[1..21]) && block.request == 2 && is(block.bytes, bytes)
         }
-        None => false,
+        _ => false,
     }
 }
 
-/// Whether a payload has none.
-fn has_none(payload: &[u8]) -> bool {
-    block_in(payload).is_none()
-}
-
+/// A block cut short, and other events that bring bytes.
 #[test]
 fn a_block_is_found_where_it_stands(rt: HostRuntime) {
     assert!(rt; has_block(&BLOCK, &[1, 2, 3]));
     for payload in [&[], &BLOCK[..31], &STORED, &CHITS] {
-        assert!(rt; has_none(payload));
+        assert!(rt; !has_block(payload, &[1, 2, 3]));
     }
 }
 
 /// Whether a payload has the vote of `CHITS`.
 fn has_vote(payload: &[u8]) -> bool {
-    match vote_in(payload) {
-        Some(vote) => {
+    match View::read(payload) {
+        Ok(View::Chits(vote)) => {
             let node = vote.node;
             let id = vote.id;
             is(node, &CHITS[1..21]) && vote.request == 2 && is(id, &CHITS[25..])
         }
-        None => false,
+        _ => false,
+    }
+}
+
+/// Whether a payload is a vote.
+fn is_vote(payload: &[u8]) -> bool {
+    match View::read(payload) {
+        Ok(View::Chits(_)) => true,
+        _ => false,
     }
 }
 
@@ -336,20 +340,20 @@ fn has_vote(payload: &[u8]) -> bool {
 #[test]
 fn a_vote_is_found_where_it_stands(rt: HostRuntime) {
     assert!(rt; has_vote(&CHITS));
-    assert!(rt; vote_in(&[5; 57]).is_some());
+    assert!(rt; is_vote(&[5; 57]));
     for payload in [&[], &CHITS[..56], &[5; 58], &FRONTIER, &ASK_BLOCK] {
-        assert!(rt; vote_in(payload).is_none());
+        assert!(rt; !is_vote(payload));
     }
 }
 
 /// Whether a payload has the timeout of `TIMEOUT`.
 fn has_timeout(payload: &[u8]) -> bool {
-    match timeout_in(payload) {
-        Some(timeout) => {
+    match View::read(payload) {
+        Ok(View::Timeout(timeout)) => {
             let node = timeout.node;
             is(node, &TIMEOUT[1..21]) && timeout.request == 4_294_967_294
         }
-        None => false,
+        _ => false,
     }
 }
 
@@ -357,18 +361,19 @@ fn has_timeout(payload: &[u8]) -> bool {
 #[test]
 fn a_timeout_is_found_where_it_stands(rt: HostRuntime) {
     assert!(rt; has_timeout(&TIMEOUT));
-    assert!(rt; timeout_in(&[6; 25]).is_some());
     for payload in [&[], &TIMEOUT[..24], &[6; 26], &ASK_QUERY, &CHITS] {
-        assert!(rt; timeout_in(payload).is_none());
+        assert!(rt; !has_timeout(payload));
     }
 }
 
-/// How many votes a poll has whose payload is looked at in this room.
+/// How many votes a poll has, which are put into this list.
 fn votes_in(payload: &[u8], ids: &mut Ids) -> Result<Option<usize>, AllocError> {
-    if poll_in(payload, ids)? {
-        Ok(Some(ids.list().len()))
-    } else {
-        Ok(None)
+    match View::read(payload) {
+        Ok(View::Poll(votes)) => {
+            ids.replace(votes)?;
+            Ok(Some(ids.list().len()))
+        }
+        _ => Ok(None),
     }
 }
 
@@ -391,4 +396,30 @@ fn the_votes_of_a_poll_replace_those_before(rt: HostRuntime) {
         assert!(rt; votes_in(payload, &mut ids) == Ok(None));
     }
     drop(ids);
+}
+
+/// How many blocks an Ancestors brings, and how many bytes they have.
+fn blocks_in(payload: &[u8]) -> Option<(u64, u64)> {
+    match View::read(payload) {
+        Ok(View::Ancestors(parcel)) => {
+            let mut found = (0u64, 0u64);
+            for block in parcel.blocks.again() {
+                found = (
+                    found.0.wrapping_add(1),
+                    found.1.wrapping_add(block.len() as u64),
+                );
+            }
+            Some(found)
+        }
+        _ => None,
+    }
+}
+
+/// Two blocks, the second without bytes; and too few.
+#[test]
+fn blocks_come_one_after_another(rt: HostRuntime) {
+    assert!(rt; blocks_in(&ANCESTORS) == Some((2, 1)));
+    for payload in [&[], &ANCESTORS[..35], &BLOCK] {
+        assert!(rt; blocks_in(payload).is_none());
+    }
 }
