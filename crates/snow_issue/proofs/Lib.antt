@@ -18,5 +18,6 @@ mod Settled
 mod Taken
 mod Rested
 mod Resting
+mod Ranged
 mod Stepped
 mod Descending

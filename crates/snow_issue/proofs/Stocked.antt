@@ -1,7 +1,7 @@
 -- Lemmas on entries whose numbers rise: what a look-up finds, the first that isn't quiet, and the heap of their numbers.
 use Rattle.std.proofs.Common.{◌≡◌, ℕ, ◌<◌, ◌≤◌, ◌+◌, Bool, true, false, ◌&&◌, ◌||◌, cond, List, [], ◌∷◌, ◌++◌, length, get_or, map, All, Option, Some, None, Less, Equal, Greater, refl, sym, ap, ◌∙◌, subst, arith, ⊎_elim}
 use Rattle.std.specs.BinaryHeap.{IsHeap, IsUpperBound}
-use Rattle.std.specs.BTreeMap.{is_at, insert_entry}
+use Rattle.std.specs.BTreeMap.{is_at}
 use Rattle.std.specs.Cmp.{nat_cmp_is}
 use Rattle.std.specs.List.{sum_by, AllByRecursion}
 use Rattle.std.specs.List.Sorted.{IsStrictlySortedBy, IsPermutation}
@@ -16,7 +16,9 @@ use Rattle.std.proofs.lemmas.List.Sums.{sum_by-append, sum_by-cons}
 use Rattle.std.proofs.lemmas.List.{map-append}
 use Rattle.std.proofs.lemmas.Map.Entries.{sum_by-remove_entry, sum_by-set_value}
 use Rattle.std.proofs.lemmas.Map.Steps.{set_value_same}
-use Rattle.std.proofs.lemmas.Map.{keys-set_value}
+use Rattle.std.proofs.lemmas.Map.{keys-set_value, lookup-set_value, lookup-remove_entry}
+use Rattle.std.proofs.lemmas.Map.Keys.{IsDistinct-from_sorted}
+use Rattle.std.proofs.lemmas.Cmp.{eq_by_cmp_equiv, nat_cmp_total}
 use Rattle.snow_issue.specs.declared.backlog.Kept.{Kept}
 use Rattle.snow_issue.specs.declared.work.Held.{Held}
 use Rattle.snow_issue.specs.Arrivals.{Entries, at_arrival, loud, woken_among, stands_for, is_noted, weight, IsBacklog, IsFirst, AreQuiet}
@@ -43,6 +45,14 @@ number_below a b h =
 
 pub number_apart : (a b : ℕ) → (a ≡ b → ⊥) → is_at (nat_cmp a) b ≡ false
 number_apart a b h = false_from_ne_true (is_at (nat_cmp a) b) (λ t. h (same_number a b t))
+
+pub at_turned : (a b : ℕ) → is_at (nat_cmp a) b ≡ is_at (nat_cmp b) a
+at_turned a b =
+    let Goal : Bool → Type 0 = λ t. is_at (nat_cmp a) b ≡ t → t ≡ is_at (nat_cmp b) a in
+    elim (is_at (nat_cmp a) b) as Goal [
+      | true ↦ λ t. sym (number_itself b) ∙ ap (λ n. is_at (nat_cmp b) n) (sym (same_number a b t))
+      | false ↦ λ t. sym (number_apart b a (λ same. both_ways (is_at (nat_cmp a) b) t (ap (λ n. is_at (nat_cmp a) n) same ∙ number_itself a)))
+    ] refl
 
 -- ---- look-ups
 
@@ -71,18 +81,29 @@ each P [] sorted h = λ k d within. absurd (omega (arith, within))
 each P (e ∷ es) sorted h =
     All-cons P e es (h e.0 e.1 (first_there e es)) (each P es sorted.1 (λ a k found. h a k (behind_first e es a k sorted found)))
 
--- a number above all others goes to the end
-pub appended : (es : Entries) (n : ℕ) (v : Kept) → ((a : ℕ) (k : Kept) → at_arrival es a ≡ Some k → a < n) → insert_entry nat_cmp es n v ≡ es ++ (n, v) ∷ []
-appended [] n v h = refl
-appended (e ∷ es) n v h =
-    let more : e.0 < n = h e.0 e.1 (first_there e es) in
-    let rest = appended es n v (λ a k found.
+-- the same where one entry more stands at the end, where one changes, and where one goes
+pub appended_there : (es : Entries) (n : ℕ) (v : Kept) → ((a : ℕ) (k : Kept) → at_arrival es a ≡ Some k → a < n) → (q : ℕ) → at_arrival (es ++ (n, v) ∷ []) q ≡ cond (is_at (nat_cmp n) q) (Some v) (at_arrival es q)
+appended_there [] n v h q = ap (λ t. cond t (Some v) None) (at_turned q n)
+appended_there (e ∷ es) n v h q =
+    let below : e.0 < n = h e.0 e.1 (first_there e es) in
+    let rest = appended_there es n v (λ a k found.
     let Goal : Bool → Type 0 = λ t. is_at (nat_cmp a) e.0 ≡ t → a < n in
     elim (is_at (nat_cmp a) e.0) as Goal [
       | true ↦ λ t. h a e.1 (ap (λ t. cond t (Some e.1) (at_arrival es a)) t)
       | false ↦ λ t. h a k (ap (λ t. cond t (Some e.1) (at_arrival es a)) t ∙ found)
-    ] refl) in
-    rw (← nat_cmp_is n e.0 Greater more) (ap (λ l. e ∷ l) rest)
+    ] refl) q in
+    let Goal : Bool → Type 0 = λ t. is_at (nat_cmp q) e.0 ≡ t → cond t (Some e.1) (at_arrival (es ++ (n, v) ∷ []) q) ≡ cond (is_at (nat_cmp n) q) (Some v) (cond t (Some e.1) (at_arrival es q)) in
+    elim (is_at (nat_cmp q) e.0) as Goal [
+      | true ↦ λ t. let same = same_number q e.0 t in sym (ap (λ b. cond b (Some v) (Some e.1)) (number_apart n q (λ e. omega (arith, e, same, below))))
+      | false ↦ λ t. rest
+    ] refl
+
+pub changed_there : (es : Entries) (n : ℕ) (w : Kept) → IsSome (at_arrival es n) → (q : ℕ) → at_arrival (set_value (is_at (nat_cmp n)) es w) q ≡ cond (is_at (nat_cmp n) q) (Some w) (at_arrival es q)
+changed_there es n w found q = lookup-set_value (eq_by_cmp_equiv nat_cmp_total) (is_at (nat_cmp n)) (λ x y h. ap (λ m. is_at (nat_cmp m) y) (same_number n x h)) q w es found
+
+pub left_there : (es : Entries) (n : ℕ) → IsStrictlySortedBy nat_cmp (keys_of es) → (q : ℕ) → at_arrival (remove_entry (is_at (nat_cmp n)) es) q ≡ cond (is_at (nat_cmp n) q) None (at_arrival es q)
+left_there es n sorted q =
+    lookup-remove_entry (eq_by_cmp_equiv nat_cmp_total) (is_at (nat_cmp n)) (λ x y h. ap (λ m. is_at (nat_cmp m) y) (same_number n x h)) q es (IsDistinct-from_sorted nat_cmp (keys_of es) sorted)
 
 -- ---- how much room replies take up
 
@@ -213,14 +234,6 @@ stocked_woken es now before after len room wide n k is found quiet set change or
       let enough = is.enough in
       omega (arith, sum, same, heavy, enough, wider);
 }
-
-at_turned : (a b : ℕ) → is_at (nat_cmp a) b ≡ is_at (nat_cmp b) a
-at_turned a b =
-    let Goal : Bool → Type 0 = λ t. is_at (nat_cmp a) b ≡ t → t ≡ is_at (nat_cmp b) a in
-    elim (is_at (nat_cmp a) b) as Goal [
-      | true ↦ λ t. sym (number_itself b) ∙ ap (λ n. is_at (nat_cmp b) n) (sym (same_number a b t))
-      | false ↦ λ t. sym (number_apart b a (λ same. both_ways (is_at (nat_cmp a) b) t (ap (λ n. is_at (nat_cmp a) n) same ∙ number_itself a)))
-    ] refl
 
 apart_woken : (e : ℕ × Kept) (n : ℕ) (id : List ℕ) → is_at (nat_cmp n) e.0 ≡ false → e ≡ woken_among (n ∷ []) id e
 apart_woken e n id apart = ap (λ t. (e.0, cond ((t || false) && bytes_eq id e.1.reply.id) (loud e.1) e.1)) (sym (at_turned e.0 n ∙ apart))

@@ -8,4 +8,5 @@ pub mod Known
 pub mod KnownLaw
 pub mod Index
 pub mod Arrivals
+pub mod Roll
 pub mod Keeping

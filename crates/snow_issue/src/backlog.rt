@@ -8,10 +8,11 @@ ghost use Rattle.std.specs.Ordering.{nat_cmp};
 ghost use Rattle.snow_issue.specs.Arrivals.{at_arrival, woken_among, is_noted, IsBacklog, IsFirst, AreQuiet};
 ghost use Rattle.snow_issue.specs.declared.backlog.Kept.{Kept};
 
+use crate::roll::Roll;
 use crate::work::Held;
 use snow_base::Id;
 use std::alloc::{AllocError, Global};
-use std::collections::{BTreeMap, BinaryHeap};
+use std::collections::BinaryHeap;
 use std::marker::Model;
 
 /// A reply, and whether it is quiet: the block that it names is known to wait or to be asked for.
@@ -34,7 +35,7 @@ impl Kept {
 /// the earliest at the top, which has room for those of the others.
 #[derive(Drop)]
 pub(crate) struct Backlog {
-    items: BTreeMap<u64, Kept>,
+    items: Roll,
     // How far each number is below the greatest one. A number stays there until it comes to the top,
     // also where its reply left meanwhile.
     fresh: BinaryHeap<u64>,
@@ -48,9 +49,9 @@ impl Model for Backlog {
 
     ghost Value = { List (ℕ × Kept) };
 
-    ghost view = { λ a. a.items.entries };
+    ghost view = { λ a. a.items };
 
-    ghost invariant = { λ a. IsBacklog a.items.entries (heap_items a.fresh) (heap_len a.fresh) (heap_capacity a.fresh) };
+    ghost invariant = { λ a. IsBacklog a.items (heap_items a.fresh) (heap_len a.fresh) (heap_capacity a.fresh) };
 }
 
 impl Backlog {
@@ -59,7 +60,7 @@ impl Backlog {
         ensures { result ≡ [] }
     {
         Backlog {
-            items: BTreeMap::new(alloc),
+            items: Roll::new(alloc),
             fresh: BinaryHeap::new(alloc),
         }
     }
@@ -84,7 +85,7 @@ impl Backlog {
             reply,
             quiet: false,
         };
-        self.items.insert(arrival, kept)?;
+        self.items.push(arrival, kept)?;
         note(&mut self.fresh, arrival);
         Ok(())
     }
@@ -93,13 +94,14 @@ impl Backlog {
     pub(crate) fn wake(&mut self, arrival: u64, id: &Id)
         ensures woken { self.new ≡ map (woken_among (arrival ∷ []) id.now) self.old }
     {
-        let Some(kept) = self.items.get_mut(&arrival) else {
+        let Some(mut kept) = self.items.get(arrival) else {
             return;
         };
         if !kept.waits_for(id) {
             return;
         }
         kept.quiet = false;
+        self.items.set(arrival, kept);
         note(&mut self.fresh, arrival);
     }
 
@@ -123,10 +125,7 @@ impl Backlog {
             return;
         };
         let _ = self.fresh.pop();
-        let Some(kept) = self.items.get_mut(&arrival) else {
-            return;
-        };
-        *kept = Kept { reply, quiet: true };
+        self.items.set(arrival, Kept { reply, quiet: true });
     }
 
     /// Takes the reply with this number out, if there is one. It takes no memory.
@@ -136,7 +135,7 @@ impl Backlog {
         ensures sorted { IsStrictlySortedBy nat_cmp (keys_of self.new) }
         ensures others { (a : ℕ) → at_arrival self.new a ≡ (if is_at (nat_cmp arrival) a then None else at_arrival self.old a) }
     {
-        let kept = self.items.remove(&arrival)?;
+        let kept = self.items.take(arrival)?;
         Some(kept.reply)
     }
 }
@@ -155,11 +154,11 @@ fn note(fresh: &mut BinaryHeap<u64>, arrival: u64)
 }
 
 // The reply with this number, if it isn't quiet.
-fn new_at(items: &BTreeMap<u64, Kept>, arrival: u64) -> Option<Held>
-    ensures there { IfSome result (λ reply. let kept : Kept = record { reply = reply; quiet = false } in at_arrival items.now.entries arrival ≡ Some kept) }
-    ensures none { IfNone result ((k : Kept) → at_arrival items.now.entries arrival ≡ Some k → k.quiet ≡ true) }
+fn new_at(items: &Roll, arrival: u64) -> Option<Held>
+    ensures there { IfSome result (λ reply. let kept : Kept = record { reply = reply; quiet = false } in at_arrival items.now arrival ≡ Some kept) }
+    ensures none { IfNone result ((k : Kept) → at_arrival items.now arrival ≡ Some k → k.quiet ≡ true) }
 {
-    let kept = items.get(&arrival)?;
+    let kept = items.get(arrival)?;
     if kept.quiet {
         return None;
     }
@@ -168,13 +167,13 @@ fn new_at(items: &BTreeMap<u64, Kept>, arrival: u64) -> Option<Held>
 
 // The earliest reply that isn't quiet, whose number is then at the top of the heap. Numbers of other
 // replies go from there.
-fn first_in(items: &BTreeMap<u64, Kept>, fresh: &mut BinaryHeap<u64>) -> Option<(u64, Held)>
-    requires { IsBacklog items.now.entries (heap_items fresh.old) (heap_len fresh.old) (heap_capacity fresh.old) }
-    ensures kept { IsBacklog items.now.entries (heap_items fresh.new) (heap_len fresh.new) (heap_capacity fresh.new) }
-    ensures first { IfSome result (λ f. IsFirst items.now.entries f.0 f.1) }
+fn first_in(items: &Roll, fresh: &mut BinaryHeap<u64>) -> Option<(u64, Held)>
+    requires { IsBacklog items.now (heap_items fresh.old) (heap_len fresh.old) (heap_capacity fresh.old) }
+    ensures kept { IsBacklog items.now (heap_items fresh.new) (heap_len fresh.new) (heap_capacity fresh.new) }
+    ensures first { IfSome result (λ f. IsFirst items.now f.0 f.1) }
     ensures some { IfSome result (λ f. 0 < heap_len fresh.new) }
     ensures top { IfSome result (λ f. (d : ℕ) → slice_index_or (heap_items fresh.new) 0 d + f.0 ≡ 18446744073709551615) }
-    ensures none { IfNone result (AreQuiet items.now.entries) }
+    ensures none { IfNone result (AreQuiet items.now) }
 {
     while let Some(top) = fresh.peek() {
         let arrival = u64::MAX - *top;

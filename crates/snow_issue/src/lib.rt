@@ -13,6 +13,7 @@ mod looking;
 mod offering;
 mod queue;
 mod replies;
+mod roll;
 mod settling;
 mod spare;
 mod voting;

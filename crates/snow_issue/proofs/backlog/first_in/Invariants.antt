@@ -3,7 +3,7 @@ use Rattle.snow_issue.specs.Arrivals.{IsBacklog}
 use Rattle.snow_issue.proofs.backlog.first_in.Given as goal
 
 abbrev pub invariant-loop-top : goal.invariant-loop-top
-invariant-loop-top l = IsBacklog l.items.entries (heap_items l.fresh) (heap_len l.fresh) (heap_capacity l.fresh)
+invariant-loop-top l = IsBacklog l.items (heap_items l.fresh) (heap_len l.fresh) (heap_capacity l.fresh)
 
 abbrev pub decreases-loop-top : goal.decreases-loop-top
 decreases-loop-top l = heap_len l.fresh

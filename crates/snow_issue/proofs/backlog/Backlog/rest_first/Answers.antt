@@ -1,15 +1,20 @@
 -- The number at the top of the heap goes, and its reply becomes quiet.
 use Rattle.std.proofs.Common.{◌≡◌, ◌+◌, true, false, refl, sym, ap, ◌∙◌, subst}
 use Rattle.std.specs.BinaryHeap.{heap_items, heap_len, heap_capacity}
+use Rattle.std.specs.BTreeMap.{is_at}
+use Rattle.std.specs.List.Sorted.{IsStrictlySortedBy}
+use Rattle.std.specs.Map.{keys_of}
 use Rattle.std.specs.Option.{is_some}
+use Rattle.std.specs.Ordering.{nat_cmp}
+use Rattle.std.proofs.lemmas.Map.{keys-set_value}
 use Rattle.snow_issue.specs.declared.backlog.Kept.{Kept}
-use Rattle.snow_issue.specs.Arrivals.{Entries, IsFirst}
-use Rattle.snow_issue.proofs.Stocked.{stocked_rested, some_is, one_first}
+use Rattle.snow_issue.specs.Arrivals.{Entries, at_arrival, IsFirst}
+use Rattle.snow_issue.proofs.Stocked.{stocked_rested, some_is, one_first, changed_there}
 use Rattle.snow_issue.proofs.backlog.Backlog.rest_first.Goals as goal
 
 pub invariant_of-self-2 : goal.invariant_of-self-2
 invariant_of-self-2 c =
-    let es = c.self.inside.items.entries in
+    let es = c.self.inside.items in
     let heap = c.first_in.new.fresh in
     let after = c.pop.new.self in
     let old : Kept = record { reply = c.args.reply; quiet = false } in
@@ -21,8 +26,12 @@ invariant_of-self-2 c =
     let is_top = rw x.1 at c.pop.ensures.top in
     let order = rw x.1 at c.pop.ensures.heap_order in
     let less = rw x.1 at c.pop.ensures.len in
-    let set = c.get_mut.follows.holds quiet in
-    stocked_rested es (c.get_mut.follows.lender quiet).entries (heap_items heap) (heap_items after) (heap_len heap) (heap_len after) (heap_capacity heap) (heap_capacity after) x.0 c.args.arrival old quiet
+    stocked_rested es c.set.new.self (heap_items heap) (heap_items after) (heap_len heap) (heap_len after) (heap_capacity heap) (heap_capacity after) x.0 c.args.arrival old quiet
     c.in-Some.ensures.kept (order c.in-Some.ensures.kept.order).0 moved less c.pop.ensures.capacity
     (ap (λ n. x.0 + n) same ∙ ap (λ n. n + c.in-Some.field-0.0) is_top ∙ c.in-Some.ensures.top x.0)
-    first.there refl refl set.0 (set.3 (ap is_some (sym c.in-Some-get_mut.ensures.value))).0
+    first.there refl refl c.set.ensures (λ q. ap (λ (l : Entries). at_arrival l q) c.set.ensures ∙ changed_there es c.args.arrival quiet (ap is_some first.there) q)
+
+pub returns-clause-sorted : goal.returns-clause-sorted
+returns-clause-sorted c =
+    let quiet : Kept = record { reply = c.args.reply; quiet = true } in
+    subst (IsStrictlySortedBy nat_cmp) (sym (ap keys_of c.set.ensures ∙ keys-set_value (is_at (nat_cmp c.args.arrival)) c.self.inside.items quiet)) c.self.invariant.sorted
