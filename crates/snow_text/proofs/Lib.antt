@@ -1,0 +1,5 @@
+mod Examples
+pub mod Marks
+pub mod Runs
+pub mod Pieces
+pub mod Framed
