@@ -3,3 +3,4 @@ pub mod Marks
 pub mod Runs
 pub mod Pieces
 pub mod Framed
+pub mod Tidied

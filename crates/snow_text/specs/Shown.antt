@@ -8,7 +8,7 @@ use Rattle.snow_wire.specs.declared.event.Start.{Start}
 use Rattle.snow_wire.specs.Frame.{frames_of}
 use Rattle.snow_wire.specs.Reading.{event_of}
 use Rattle.snow_wire.specs.Spelling.{flag}
-use Rattle.snow_text.specs.Words.{Word, Halt, words_of}
+use Rattle.snow_text.specs.Words.{Word, Halt, parts, words_of}
 use Rattle.snow_text.specs.Bytes.{runs_of, bytes_text, fixed_text}
 use Rattle.snow_text.specs.Lines.{line_words}
 use Rattle.snow_text.specs.Made.{Said, Frame, Nothing, Rest, say_words}
@@ -118,3 +118,20 @@ shown_rest (byte ∷ bytes) = line (codes "rest" ∷ bytes_text (byte ∷ bytes)
 -- the text of a stream
 unfoldable pub shown : List ℕ → List ℕ
 shown bytes = flat_map shown_frame (frames_of bytes).0 ++ shown_rest (frames_of bytes).1
+
+-- ---- a text in its short form
+
+-- the short form of what a line says
+abbrev pub short_of : Result Said Halt → List ℕ
+short_of (Ok Nothing) = []
+short_of (Ok (Frame payload)) = shown_frame payload
+short_of (Ok (Rest bytes)) = shown bytes
+short_of (Err halt) = []
+
+-- a line in its short form
+unfoldable pub short_line : List ℕ → List ℕ
+short_line text = short_of (say_words (words_of text))
+
+-- a text in its short form: each of its lines is, and those that say nothing are left out
+unfoldable pub tidied : List ℕ → List ℕ
+tidied text = flat_map short_line (parts 10 text)
