@@ -4,3 +4,6 @@ pub mod Runs
 pub mod Pieces
 pub mod Framed
 pub mod Tidied
+pub mod Values
+pub mod Fields
+pub mod Clean

@@ -17,7 +17,7 @@ use Rattle.snow_text.specs.declared.refusal.Reason.TheVariants as reason
 use Rattle.snow_text.specs.Words.{Word, ◌>>=◌, where_holds, is_word, parts, each, at, all_of}
 use Rattle.snow_text.specs.Bytes.{Piece, Plain, Again, again, bytes_of, bytes_text, bytes_word, decoded, digits_word, is_small, number_below, piece_of, piece_text, piece_word, pieces_of, runs_of, short}
 use Rattle.snow_text.proofs.Marks.{AllLack, IsMark, Lacks, decimal_lacks, full_stop, hex_lacks, lacks_both, lacks_cons, lacks_joined, lacks_nil, parts_joined, parts_more, parts_one, plus, star}
-use Rattle.snow_text.proofs.Runs.{ArePieces, IsPiece, bytes_in, bytes_nil, bytes_through, pieces_are, pieces_through, runs_are, runs_spread, spread}
+use Rattle.snow_text.proofs.Runs.{ArePieces, IsPiece, bytes_below, bytes_in, bytes_nil, bytes_through, pieces_are, pieces_through, runs_are, runs_spread, spread}
 
 -- equal bytes are told equal
 pub same_bytes : (a b : List ℕ) → a ≡ b → bytes_eq a b ≡ true
@@ -139,7 +139,7 @@ pub record IsShort (word : Word) (bytes : List ℕ) : Type 0 where
 pub short_is : (bytes : List ℕ) → IsBytes bytes → 0 < length bytes → IsShort (short bytes) bytes
 unfolding short
 short_is bytes fits some =
-    let are = pieces_are (runs_of bytes) (runs_are bytes fits) in
+    let are = pieces_are (runs_of bytes) (runs_are 256 bytes (bytes_below bytes fits)) in
     let long : 0 < length (bytes_through (pieces_of (runs_of bytes))) = rw (through bytes) some in
     record {
       again = joined_again (pieces_of (runs_of bytes)) are long ∙ ap Ok (through bytes);

@@ -27,13 +27,22 @@ bytes_again (suc n) b h (suc k) = bytes_again n b h k
 
 -- ---- runs
 
--- a run stands at least once
-abbrev pub IsRun : ℕ × ℕ → Type 0
-IsRun run = (run.0 < 256) × (0 < run.1) × (run.1 ≤ 4194304)
+-- a run of a number below the limit stands at least once
+abbrev pub IsRun : ℕ → ℕ × ℕ → Type 0
+IsRun limit run = (run.0 < limit) × (0 < run.1) × (run.1 ≤ 4194304)
 
-abbrev pub AreRuns : List (ℕ × ℕ) → Type 0
-AreRuns [] = Unit {0}
-AreRuns (run ∷ runs) = IsRun run × AreRuns runs
+abbrev pub AreRuns : ℕ → List (ℕ × ℕ) → Type 0
+AreRuns limit [] = Unit {0}
+AreRuns limit (run ∷ runs) = IsRun limit run × AreRuns limit runs
+
+-- numbers below the limit
+abbrev pub AreBelow : ℕ → List ℕ → Type 0
+AreBelow limit [] = Unit {0}
+AreBelow limit (x ∷ xs) = (x < limit) × AreBelow limit xs
+
+pub bytes_below : (xs : List ℕ) → IsBytes xs → AreBelow 256 xs
+bytes_below [] h = tt
+bytes_below (x ∷ xs) h = (h 0, bytes_below xs (λ i. h (suc i)))
 
 -- the elements of runs
 abbrev pub spread : List (ℕ × ℕ) → List ℕ
@@ -60,21 +69,21 @@ unfolding runs_of
 runs_spread [] = refl
 runs_spread (x ∷ xs) = led_spread x (runs_of xs) ∙ ap (λ (l : List ℕ). x ∷ l) (runs_spread xs)
 
-led_runs_if : (t : Bool) (x : ℕ) (run : ℕ × ℕ) (runs : List (ℕ × ℕ)) → (t ≡ true → run.1 < 4194304) → x < 256 → AreRuns (run ∷ runs)
-    → AreRuns (if t then (run.0, run.1 + 1) ∷ runs else (x, 1) ∷ run ∷ runs)
-led_runs_if true x run runs h small are = let k = h refl in ((are.0.0, omega (arith, k), omega (arith, k)), are.1)
-led_runs_if false x run runs h small are = ((small, omega arith, omega arith), are)
+led_runs_if : (limit : ℕ) (t : Bool) (x : ℕ) (run : ℕ × ℕ) (runs : List (ℕ × ℕ)) → (t ≡ true → run.1 < 4194304) → x < limit → AreRuns limit (run ∷ runs)
+    → AreRuns limit (if t then (run.0, run.1 + 1) ∷ runs else (x, 1) ∷ run ∷ runs)
+led_runs_if limit true x run runs h small are = let k = h refl in ((are.0.0, omega (arith, k), omega (arith, k)), are.1)
+led_runs_if limit false x run runs h small are = ((small, omega arith, omega arith), are)
 
-led_runs : (x : ℕ) (runs : List (ℕ × ℕ)) → x < 256 → AreRuns runs → AreRuns (led_by x runs)
-led_runs x [] small are = ((small, omega arith, omega arith), tt)
-led_runs x (run ∷ runs) small are =
-    led_runs_if (x == run.0 && nat_lt run.1 4194304) x run runs (λ e. ltb-true run.1 4194304 (and_parts (x == run.0) (nat_lt run.1 4194304) e).1) small are
+led_runs : (limit x : ℕ) (runs : List (ℕ × ℕ)) → x < limit → AreRuns limit runs → AreRuns limit (led_by x runs)
+led_runs limit x [] small are = ((small, omega arith, omega arith), tt)
+led_runs limit x (run ∷ runs) small are =
+    led_runs_if limit (x == run.0 && nat_lt run.1 4194304) x run runs (λ e. ltb-true run.1 4194304 (and_parts (x == run.0) (nat_lt run.1 4194304) e).1) small are
 
--- runs of bytes
-pub runs_are : (xs : List ℕ) → IsBytes xs → AreRuns (runs_of xs)
+-- runs of numbers below a limit
+pub runs_are : (limit : ℕ) (xs : List ℕ) → AreBelow limit xs → AreRuns limit (runs_of xs)
 unfolding runs_of
-runs_are [] h = tt
-runs_are (x ∷ xs) h = led_runs x (runs_of xs) (h 0) (runs_are xs (λ i. h (suc i)))
+runs_are limit [] h = tt
+runs_are limit (x ∷ xs) h = led_runs limit x (runs_of xs) h.0 (runs_are limit xs h.1)
 
 -- ---- pieces
 
@@ -111,11 +120,12 @@ laid_through_if : (t : Bool) (run : ℕ × ℕ) (pieces : List Piece)
 laid_through_if true run pieces = onto_through (replicate run.1 run.0) pieces
 laid_through_if false run pieces = refl
 
-length_again : (n b : ℕ) → length (replicate n b) ≡ n
+-- how often a number stands
+pub length_again : (n b : ℕ) → length (replicate n b) ≡ n
 length_again zero b = refl
 length_again (suc n) b = ap suc (length_again n b)
 
-laid_are_if : (t : Bool) (run : ℕ × ℕ) (pieces : List Piece) → IsRun run → ArePieces pieces → ArePieces (if t then onto (replicate run.1 run.0) pieces else Again run.0 run.1 ∷ pieces)
+laid_are_if : (t : Bool) (run : ℕ × ℕ) (pieces : List Piece) → IsRun 256 run → ArePieces pieces → ArePieces (if t then onto (replicate run.1 run.0) pieces else Again run.0 run.1 ∷ pieces)
 laid_are_if true run pieces is are =
     let some = is.1 in
     onto_are (replicate run.1 run.0) pieces (bytes_again run.1 run.0 is.0) (omega (arith, some, length_again run.1 run.0)) are
@@ -129,7 +139,7 @@ pieces_through (run ∷ runs) =
     laid_through_if (nat_lt run.1 3) run (pieces_of runs) ∙ ap (λ (l : List ℕ). replicate run.1 run.0 ++ l) (pieces_through runs)
 
 -- pieces of runs
-pub pieces_are : (runs : List (ℕ × ℕ)) → AreRuns runs → ArePieces (pieces_of runs)
+pub pieces_are : (runs : List (ℕ × ℕ)) → AreRuns 256 runs → ArePieces (pieces_of runs)
 unfolding pieces_of
 pieces_are [] are = tt
 pieces_are (run ∷ runs) are = laid_are_if (nat_lt run.1 3) run (pieces_of runs) are.0 (pieces_are runs are.1)

@@ -40,12 +40,12 @@ list_field of = all (λ words. all_of of words >>= λ items. at [] (listed items
 abbrev pub list_word : (Word → Result (List (List ℕ)) Reason) → Word → Result (List ℕ) Reason
 list_word of word = each of (parts 44 word) >>= listed
 
--- a number, or one again and again
+-- a number, or one again and again, up to 4,194,304 times
 unfoldable pub times_of : List Word → Result (List (List ℕ)) Reason
 times_of (n ∷ []) = item (number_word 8 n)
 times_of (n ∷ times ∷ []) = do
   bytes ← number_word 8 n
-  k ← number_below 100000 times
+  k ← number_below 4194305 times
   Ok (replicate k bytes)
 times_of other = Err reason.Number
 
