@@ -157,7 +157,8 @@ some_fits name of spell word more xs few h commas marks e =
     let fits = named_fits name value (list_word of) (counted spell xs) h lacks (list_again of spell word more xs few commas e) in
     record { again = λ others. rw (parts_more 61 name value h, same_bytes name name refl) (fits.again others) }
 
-no_items : {A : Type 0} (spell : A → List ℕ) (xs : List A) → map spell xs ≡ [] → number 2 0 ≡ counted spell xs
+-- no items have no words
+pub no_items : {A : Type 0} (spell : A → List ℕ) (xs : List A) → map spell xs ≡ [] → number 2 0 ≡ counted spell xs
 no_items spell [] e = sym (append-nil (number 2 0))
 no_items spell (x ∷ xs) e = absurd cc
 

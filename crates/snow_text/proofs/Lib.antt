@@ -7,3 +7,5 @@ pub mod Tidied
 pub mod Values
 pub mod Fields
 pub mod Clean
+pub mod Worded
+pub mod Told

@@ -1,5 +1,5 @@
 -- The text of a stream: a line for each frame, and one for what stands behind the last.
-use Rattle.std.specs.Prelude.{ℕ, Bool, false, not, ◌&&◌, ◌==◌, if◌then◌else◌, List, [], ◌∷◌, ◌++◌, length, codes, decimal, map, Result, Ok, Err}
+use Rattle.std.specs.Prelude.{ℕ, Bool, false, true, not, ◌&&◌, ◌==◌, if◌then◌else◌, List, [], ◌∷◌, ◌++◌, length, codes, decimal, map, Result, Ok, Err}
 use Rattle.std.specs.List.{flat_map, list_all, join_with_byte}
 use Rattle.std.specs.Str.{bytes_eq}
 use Rattle.snow_wire.specs.declared.event.Event.{Event}
@@ -81,6 +81,11 @@ event_words (event.AskAccepted node request ids) = sent_words (codes "ask-accept
 event_words (event.AskAncestors node request id) = sent_words (codes "ask-ancestors") node request (fixed_text id ∷ [])
 event_words (event.AskBlock node request id) = sent_words (codes "ask-block") node request (fixed_text id ∷ [])
 event_words (event.Line text) = codes ">" ∷ line_words text
+
+-- a line that a program wrote
+abbrev pub is_line : Event → Bool
+is_line (event.Line text) = true
+is_line other = false
 
 -- ---- the line of a frame
 

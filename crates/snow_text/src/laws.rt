@@ -1,7 +1,9 @@
-ghost use Rattle.std.specs.Prelude.{◌≡◌, ℕ, List, Ok};
-ghost use Rattle.snow_wire.specs.Reading.{IsBytes};
+ghost use Rattle.std.specs.Prelude.{◌≡◌, ℕ, false, List, [], ◌∷◌, ◌++◌, Ok};
+ghost use Rattle.snow_wire.specs.declared.event.Event.{Event};
+ghost use Rattle.snow_wire.specs.Frame.{IsPayload};
+ghost use Rattle.snow_wire.specs.Reading.{IsBytes, event_of};
 ghost use Rattle.snow_text.specs.Made.{made};
-ghost use Rattle.snow_text.specs.Shown.{shown, tidied};
+ghost use Rattle.snow_text.specs.Shown.{event_words, is_line, line, shown, shown_frame, tidied};
 
 /// Each stream is made again from its text, to the byte.
 /// Rule: this project's own.
@@ -15,4 +17,12 @@ pub fn one_text()
 pub fn one_form()
     ensures short { (text bytes : List ℕ) → made text ≡ Ok bytes → shown bytes ≡ tidied text }
     ensures again { (text bytes : List ℕ) → IsBytes bytes → made text ≡ Ok bytes → made (tidied text) ≡ Ok bytes }
+{}
+
+/// A frame that holds an event is shown in the event's own words. A Line event alone may be shown
+/// as its bytes, where its text isn't one that a line of words says.
+/// Rule: this project's own.
+pub fn own_words()
+    ensures { (payload : List ℕ) (event : Event) → IsBytes payload → IsPayload payload → event_of payload ≡ Ok event
+        → is_line event ≡ false → shown_frame payload ≡ line (event_words event) ++ 10 ∷ [] }
 {}

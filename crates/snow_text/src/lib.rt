@@ -4,5 +4,5 @@
 mod laws;
 mod refusal;
 
-pub use laws::{one_form, one_text};
+pub use laws::{one_form, one_text, own_words};
 pub use refusal::{Reason, Refusal};
