@@ -9,3 +9,4 @@ pub mod Fields
 pub mod Clean
 pub mod Worded
 pub mod Told
+mod Pages
