@@ -59,7 +59,7 @@ sent_fills a node request ws xs long small fits fills =
     let first = one_fits (fixed_word 20) (fixed_text node) node (fixed_says 20 node (omega arith) long fits).again in
     let second = one_fits (number_word 4) (decimal request) (number 4 request) (number_says 4 request (omega (arith, small)) (omega (arith, small))).again in
     let whole = then_fills node_field (number_field 4 & a) (fixed_text node ∷ []) (decimal request ∷ ws) node (number 4 request ++ xs) first
-        (then_fills (number_field 4) a (decimal request ∷ []) ws (number 4 request) xs second fills) in
+    (then_fills (number_field 4) a (decimal request ∷ []) ws (number 4 request) xs second fills) in
     record { again = whole.again ∙ ap (λ (l : List ℕ). Ok (l, [])) (sym (append_assoc node (number 4 request) xs)) }
 
 -- ---- lists

@@ -8,7 +8,6 @@ use Rattle.snow_text.specs.Lines.{kinds_of, long_as, long_words, line_of}
 use Rattle.snow_text.specs.Events.{listed, times_of, weighed_word, value_word, if_some, nodes_field, transfer_word, block_of, blocks_of, tagged, start_field, payload_of}
 use Rattle.snow_text.specs.Made.{Frame, say_words}
 
-
 -- 1024-polls.txt
 pub line_1 : say_words (words_of (codes "start k=1 alpha-preference=1 alpha-confidence=1 beta=1 repolls=1 boot=0 last=ff.. height=0 nodes=01*20:1")) ≡ Ok (Frame ((1 ∷ 0 ∷ 0 ∷ 0 ∷ 1 ∷ 0 ∷ 0 ∷ 0 ∷ 1 ∷ 0 ∷ 0 ∷ 0 ∷ 1 ∷ 0 ∷ 0 ∷ 0 ∷ 1 ∷ 0 ∷ 0 ∷ 0 ∷ 1 ∷ 0 ∷ 255 ∷ []) ++ (replicate 42 0) ++ (replicate 21 1) ++ (replicate 7 0) ++ (1 ∷ [])))
 unfolding say_words words_of said spaced payload_of tagged ended all all_of one ◌&◌ number_below number_word fixed_word bytes_word bytes_of each piece_of digits_word decode_pairs listed times_of weighed_word value_word if_some nodes_field transfer_word block_of blocks_of start_field kinds_of long_as long_words line_of encode_with number

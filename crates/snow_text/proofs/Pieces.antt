@@ -46,8 +46,8 @@ number_again limit n small fits =
     let value : digits_value 10 (decimal n) ≡ n = (decimal_is_IsNumeral n fits).1 in
     let test : (is_word (decimal n) && all_ascii_digits (decimal n) && nat_lt (digits_value 10 (decimal n)) limit) ≡ true =
     and_from (is_word (decimal n) && all_ascii_digits (decimal n)) (nat_lt (digits_value 10 (decimal n)) limit)
-        (and_from (is_word (decimal n)) (all_ascii_digits (decimal n)) (word_if (decimal n) (decimal_nonempty n fits)) (digits_decimal numerals n fits))
-        (lt-ltb (digits_value 10 (decimal n)) limit (rw value small)) in
+    (and_from (is_word (decimal n)) (all_ascii_digits (decimal n)) (word_if (decimal n) (decimal_nonempty n fits)) (digits_decimal numerals n fits))
+    (lt-ltb (digits_value 10 (decimal n)) limit (rw value small)) in
     value_holds (is_word (decimal n) && all_ascii_digits (decimal n) && nat_lt (digits_value 10 (decimal n)) limit) (digits_value 10 (decimal n)) n test value
 
 -- ---- digits

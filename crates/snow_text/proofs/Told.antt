@@ -84,8 +84,8 @@ wider n h = omega (arith, h)
 
 start_last : (s : Start) → IsSizedStart s → length s.state ≤ 4096 → length s.nodes ≤ 4096 → IsBytes s.last → IsBytes (counted weighed s.nodes)
     → Worded (named (codes "boot") (number_word 1) & named (codes "last") (fixed_word 32) & named (codes "height") (number_word 8) & if_some (codes "state") times_word & if_some (codes "nodes") weighed_word)
-        (field (codes "boot") (decimal (flag s.boot)) ∷ field (codes "last") (fixed_text s.last) ∷ field (codes "height") (decimal s.height) ∷ (some_field (codes "state") (times_texts s.state) ++ some_field (codes "nodes") (map weighed_text s.nodes)))
-        (number 1 (flag s.boot) ++ (s.last ++ (number 8 s.height ++ (counted (number 8) s.state ++ counted weighed s.nodes))))
+    (field (codes "boot") (decimal (flag s.boot)) ∷ field (codes "last") (fixed_text s.last) ∷ field (codes "height") (decimal s.height) ∷ (some_field (codes "state") (times_texts s.state) ++ some_field (codes "nodes") (map weighed_text s.nodes)))
+    (number 1 (flag s.boot) ++ (s.last ++ (number 8 s.height ++ (counted (number 8) s.state ++ counted weighed s.nodes))))
 start_last s is fs fn last nodes =
     let small = flag_small s.boot in
     short_then (codes "boot") 1 (flag s.boot) _ _ _ (known (codes "boot") (omega arith) refl refl refl) (omega (arith, small)) (omega (arith, small)) (lacks_from 61 (codes "boot") refl)
@@ -122,7 +122,7 @@ unfolding payload_of
 start_says s is fs fn fits small =
     let worded = start_worded s is fs fn (last_bytes s fits) (nodes_bytes s fits) in
     lone_says (codes "start") 1 start_field (start_fields s) (start s) refl (known (codes "start") (omega arith) refl refl refl) small (λ more. refl)
-        (record { fills = record { again = worded.fills.again ∙ ap (λ (l : List ℕ). Ok (l, [])) (row s) }; clean = worded.clean })
+    (record { fills = record { again = worded.fills.again ∙ ap (λ (l : List ℕ). Ok (l, [])) (row s) }; clean = worded.clean })
 
 -- ---- all events
 
@@ -132,7 +132,7 @@ bare_says : (name : Word) (tag : ℕ) (node : List ℕ) (request : ℕ) → byte
 bare_says name tag node request apart clean is fits small form =
     let same : tag ∷ (sender node request ++ []) ≡ tag ∷ sender node request = ap (λ (l : List ℕ). tag ∷ l) (append-nil (sender node request)) in
     subst (λ (l : List ℕ). say (sent_words name node request []) l ≡ true) same
-        (sent_says name tag none node request [] [] apart clean is (subst IsBytes (sym same) fits) (subst IsPayload (sym same) small) form none_worded)
+    (sent_says name tag none node request [] [] apart clean is (subst IsBytes (sym same) fits) (subst IsPayload (sym same) small) form none_worded)
 
 -- what stands behind a node and a request
 behind_sender : (tag : ℕ) (node : List ℕ) (request : ℕ) (xs : List ℕ) → IsBytes (tag ∷ (sender node request ++ xs)) → IsBytes xs

@@ -44,8 +44,8 @@ say_is name more payload apart clean small told =
     let found : words_of (line ws) ≡ ws = words_again name more (words_from ws clean) (gaps_from ws clean) (notes_from ws clean) in
     let means : say_words (words_of (line ws)) ≡ Ok (Frame payload) = ap say_words found ∙ words_frame name more payload apart told small in
     and_from (list_all (λ c. not (c == 10)) (line ws)) (is_frame payload (say_words (words_of (line ws))))
-        (passes (line ws) (lacks_joined 10 32 refl ws (lines_from ws clean)))
-        (ap (is_frame payload) means ∙ same_bytes payload payload refl)
+    (passes (line ws) (lacks_joined 10 32 refl ws (lines_from ws clean)))
+    (ap (is_frame payload) means ∙ same_bytes payload payload refl)
 
 -- a word that is written out
 pub known : (word : Word) → 0 < length word → list_all (λ b. not (b == 10)) word ≡ true → list_all (λ b. not (b == 32)) word ≡ true → list_all (λ b. not (b == 35)) word ≡ true → IsClean word
@@ -84,9 +84,9 @@ sent_says name tag a node request ws xs apart clean is fits small form worded =
     let own = bytes_front node (number 4 request) (bytes_front (sender node request) xs (behind_one tag (sender node request ++ xs) fits)) in
     let request_fits : request < 2 ^ 64 = let h : request < 2 ^ 32 = is.1 in omega (arith, h) in
     say_is name (fixed_text node ∷ decimal request ∷ ws) (tag ∷ (sender node request ++ xs)) apart
-        (clean, (clean_value (fixed_text node) (fixed_says 20 node (omega arith) is.0 own).value, (clean_value (decimal request) (decimal_value request request_fits), worded.clean)))
-        small
-        (form (fixed_text node ∷ decimal request ∷ ws) ∙ tagged_says tag (sent a) (fixed_text node ∷ decimal request ∷ ws) (sender node request ++ xs) (sent_fills a node request ws xs is.0 is.1 own worded.fills))
+    (clean, (clean_value (fixed_text node) (fixed_says 20 node (omega arith) is.0 own).value, (clean_value (decimal request) (decimal_value request request_fits), worded.clean)))
+    small
+    (form (fixed_text node ∷ decimal request ∷ ws) ∙ tagged_says tag (sent a) (fixed_text node ∷ decimal request ∷ ws) (sender node request ++ xs) (sent_fills a node request ws xs is.0 is.1 own worded.fills))
 
 -- an event without a node
 pub lone_says : (name : Word) (tag : ℕ) (a : Field) (ws : List Word) (xs : List ℕ) → bytes_eq (codes "rest") name ≡ false → IsClean name → IsPayload (tag ∷ xs) → ((more : List Word) → payload_of (name ∷ more) ≡ tagged tag a more)

@@ -174,7 +174,7 @@ start_field words = (
     & named (codes "height") (number_word 8)
     & if_some (codes "state") times_word
     & if_some (codes "nodes") weighed_word
-  ) words
+    ) words
 
 -- the text of a line that the program wrote
 abbrev pub text_of : List Word → Result (List ℕ) Halt
