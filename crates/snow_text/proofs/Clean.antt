@@ -1,11 +1,11 @@
 -- The words of an event are words of a line: none is empty, and none has a space, a newline or a `#`.
-use Rattle.std.proofs.Common.{◌≡◌, ℕ, ◌+◌, ◌<◌, ◌≤◌, ◌^◌, ◌==◌, if◌then◌else◌, Bool, true, false, List, [], ◌∷◌, ◌++◌, length, map, codes, decimal, refl, arith}
-use Rattle.std.specs.List.{AllByRecursion, join_with_byte}
+use Rattle.std.proofs.Common.{◌≡◌, ℕ, ◌<◌, ◌≤◌, ◌^◌, ◌==◌, if◌then◌else◌, Bool, true, false, List, [], ◌∷◌, ◌++◌, length, map, decimal, refl, arith}
+use Rattle.std.specs.List.{AllByRecursion}
 use Rattle.std.proofs.lemmas.List.{length-append}
 use Rattle.snow_text.specs.Words.{Word}
 use Rattle.snow_text.specs.Bytes.{runs_of}
-use Rattle.snow_text.specs.Shown.{field, listed_text, some_field, some_word, times_text, times_texts, weighed_text}
-use Rattle.snow_text.proofs.Marks.{AllLack, IsMark, Lacks, colon, comma, decimal_lacks, equals, hash, lacks_both, lacks_cons, lacks_from, lacks_joined, newline, space, star}
+use Rattle.snow_text.specs.Shown.{listed_text, some_field, some_word, times_text, times_texts}
+use Rattle.snow_text.proofs.Marks.{AllLack, IsMark, Lacks, decimal_lacks, hash, lacks_both, lacks_cons, newline, space}
 use Rattle.snow_text.proofs.Runs.{AreBelow, AreRuns, IsRun, runs_are}
 use Rattle.snow_text.proofs.Framed.{AreWords}
 use Rattle.snow_text.proofs.Values.{IsValue, decimal_value}

@@ -1,8 +1,7 @@
 -- Each stream is made again from its text.
-use Rattle.std.proofs.Common.{◌≡◌, ℕ, zero, suc, ◌+◌, ◌<◌, ◌≤◌, ◌==◌, ◌&&◌, nat_lt, nat_le, if◌then◌else◌, Bool, true, false, not, List, [], ◌∷◌, ◌++◌, All, length, codes, Result, Ok, Err, refl, sym, ap, ◌∙◌, append_assoc, append-nil, subst, arith}
-use Rattle.std.specs.List.{filter, flat_map, list_all, join_with_byte}
-use Rattle.std.specs.Str.{bytes_eq}
-use Rattle.std.proofs.lemmas.Bool.{and_parts, not-true, le-leb}
+use Rattle.std.proofs.Common.{◌≡◌, ℕ, ◌+◌, ◌<◌, ◌==◌, if◌then◌else◌, Bool, true, false, not, List, [], ◌∷◌, ◌++◌, All, length, codes, Result, Ok, Err, refl, sym, ap, ◌∙◌, append_assoc, append-nil, subst, arith}
+use Rattle.std.specs.List.{filter, flat_map, list_all}
+use Rattle.std.proofs.lemmas.Bool.{and_parts, le-leb}
 use Rattle.std.proofs.lemmas.List.Elements.{All-head, All-tail}
 use Rattle.snow_wire.specs.declared.event.Event.{Event}
 use Rattle.snow_wire.specs.Frame.{IsPayload, frame, frames_of}
@@ -10,13 +9,12 @@ use Rattle.snow_wire.specs.Reading.{IsBytes, event_of}
 use Rattle.snow_wire.specs.Spelling.{number}
 use Rattle.snow_wire.proofs.Numbers.{IsBytes-behind}
 use Rattle.snow_wire.proofs.Streams.{are_frames}
-use Rattle.snow_text.specs.declared.refusal.Refusal.{Refusal}
-use Rattle.snow_text.specs.Words.{Word, Halt, ◌>>=◌, is_word, parts, said, spaced, words_of}
+use Rattle.snow_text.specs.Words.{Word, Halt, is_word, parts, said, spaced, words_of}
 use Rattle.snow_text.specs.Bytes.{bytes_of, bytes_text}
 use Rattle.snow_text.specs.Events.{payload_of}
-use Rattle.snow_text.specs.Made.{Said, Nothing, Frame, Rest, framed, in_line, joined, made, made_from, none_say, say_line, say_words}
+use Rattle.snow_text.specs.Made.{Said, Nothing, Frame, Rest, joined, made, made_from, none_say, say_words}
 use Rattle.snow_text.specs.Shown.{event_words, frame_words, is_frame, line, say, shown, shown_frame, shown_rest, words_as}
-use Rattle.snow_text.proofs.Marks.{AllLack, IsMark, Lacks, hash, lacks_both, lacks_cons, lacks_from, lacks_joined, lacks_nil, newline, parts_joined, parts_more, space}
+use Rattle.snow_text.proofs.Marks.{AllLack, Lacks, hash, lacks_from, lacks_joined, newline, parts_joined, parts_more, space}
 use Rattle.snow_text.proofs.Runs.{bytes_front}
 use Rattle.snow_text.proofs.Pieces.{IsBytesWord, bytes_text_is, told_same, word_if}
 

@@ -1,5 +1,5 @@
 -- Lines of the project's pages: what the definitions say of each is what the maker of streams writes.
-use Rattle.std.proofs.Common.{◌≡◌, ℕ, List, [], ◌∷◌, ◌++◌, replicate, codes, Result, Ok, refl}
+use Rattle.std.proofs.Common.{◌≡◌, [], ◌∷◌, ◌++◌, replicate, codes, Ok, refl}
 use Rattle.hex.specs.Hex.{decode_pairs, encode_with}
 use Rattle.snow_wire.specs.Spelling.{number}
 use Rattle.snow_text.specs.Words.{words_of, said, spaced, each, all_of, one, all, ◌&◌, ended}

@@ -1,23 +1,22 @@
 -- The short form of bytes says these bytes.
-use Rattle.std.proofs.Common.{◌≡◌, ℕ, zero, suc, ◌+◌, ◌*◌, ◌/◌, ◌%◌, ◌<◌, ◌≤◌, ◌^◌, ◌==◌, ◌&&◌, nat_lt, nat_le, if◌then◌else◌, Bool, true, false, not, List, [], ◌∷◌, ◌++◌, length, map, replicate, slice_index, codes, decimal, Result, Ok, Err, refl, sym, ap, ◌∙◌, append_assoc, append-nil, subst, arith}
+use Rattle.std.proofs.Common.{◌≡◌, ℕ, zero, suc, ◌/◌, ◌%◌, ◌<◌, ◌^◌, ◌==◌, ◌&&◌, nat_lt, Bool, true, false, List, [], ◌∷◌, length, map, slice_index, codes, decimal, Ok, refl, ap, ◌∙◌, append-nil, subst, arith}
 use Rattle.std.specs.List.{list_all, join_with_byte}
 use Rattle.std.specs.Str.{all_ascii_digits, bytes_eq}
 use Rattle.std.specs.Str.Parse.{digits_value}
-use Rattle.std.proofs.lemmas.Bool.{and_parts, lt-ltb, eqb-true, ne_eqb, and_from, false_from_ne_true, both_ways}
+use Rattle.std.proofs.lemmas.Bool.{and_parts, lt-ltb, and_from, false_from_ne_true, both_ways}
 use Rattle.std.proofs.lemmas.List.{length-append}
 use Rattle.std.proofs.lemmas.List.Elements.{All-head}
 use Rattle.std.proofs.lemmas.Fmt.{decimal_is_IsNumeral, digits_decimal, decimal_nonempty}
 use Rattle.std.proofs.lemmas.Slice.Eq.{bytes_eq-Decides}
 use Rattle.std.proofs.lemmas.Str.Parse.{IsNumeralModel, numerals_by_value, tells_all_ascii_digits}
-use Rattle.hex.specs.Hex.{encode_lower, encode_with, lower_digits, decode_of}
+use Rattle.hex.specs.Hex.{encode_lower, encode_with, lower_digits}
 use Rattle.hex.proofs.HexLemmas.{decode_of-encode_lower, length-encode_with}
 use Rattle.snow_wire.specs.Reading.{IsBytes}
-use Rattle.snow_text.specs.declared.refusal.Reason.{Reason}
 use Rattle.snow_text.specs.declared.refusal.Reason.TheVariants as reason
-use Rattle.snow_text.specs.Words.{Word, ◌>>=◌, where_holds, is_word, parts, each, at, all_of}
-use Rattle.snow_text.specs.Bytes.{Piece, Plain, Again, again, bytes_of, bytes_text, bytes_word, decoded, digits_word, is_small, number_below, piece_of, piece_text, piece_word, pieces_of, runs_of, short}
+use Rattle.snow_text.specs.Words.{Word, where_holds, is_word, each, all_of}
+use Rattle.snow_text.specs.Bytes.{Piece, Plain, Again, bytes_of, bytes_text, bytes_word, digits_word, is_small, number_below, piece_of, piece_text, piece_word, pieces_of, runs_of, short}
 use Rattle.snow_text.proofs.Marks.{AllLack, IsMark, Lacks, decimal_lacks, full_stop, hex_lacks, lacks_both, lacks_cons, lacks_joined, lacks_nil, parts_joined, parts_more, parts_one, plus, star}
-use Rattle.snow_text.proofs.Runs.{ArePieces, IsPiece, bytes_below, bytes_in, bytes_nil, bytes_through, pieces_are, pieces_through, runs_are, runs_spread, spread}
+use Rattle.snow_text.proofs.Runs.{ArePieces, IsPiece, bytes_below, bytes_in, bytes_through, pieces_are, pieces_through, runs_are, runs_spread}
 
 -- equal bytes are told equal
 pub same_bytes : (a b : List ℕ) → a ≡ b → bytes_eq a b ≡ true

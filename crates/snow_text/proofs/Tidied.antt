@@ -1,9 +1,9 @@
 -- The text of a stream that a text means is that text, line by line in its short form.
-use Rattle.std.proofs.Common.{◌≡◌, ℕ, zero, suc, ◌+◌, ◌<◌, ◌≤◌, ◌==◌, nat_le, if◌then◌else◌, Bool, true, false, List, [], ◌∷◌, ◌++◌, length, codes, Result, Ok, Err, refl, sym, ap, ◌∙◌, append_assoc, append-nil, subst, arith}
+use Rattle.std.proofs.Common.{◌≡◌, ℕ, ◌+◌, ◌==◌, nat_le, if◌then◌else◌, Bool, true, false, List, [], ◌∷◌, ◌++◌, length, codes, Result, Ok, Err, refl, sym, ap, ◌∙◌, append_assoc, append-nil, subst, arith}
 use Rattle.std.specs.List.{flat_map}
 use Rattle.std.specs.Str.{bytes_eq}
 use Rattle.std.proofs.lemmas.Bool.{leb-true, eqb-true}
-use Rattle.snow_wire.specs.Frame.{IsPayload, first_of, frame, frames_in, frames_of}
+use Rattle.snow_wire.specs.Frame.{IsPayload, frame, frames_in, frames_of}
 use Rattle.snow_wire.specs.Reading.{IsBytes}
 use Rattle.snow_wire.proofs.Streams.{frame_first, frames_front}
 use Rattle.snow_text.specs.declared.refusal.Reason.TheVariants as reason

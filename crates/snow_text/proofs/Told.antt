@@ -1,5 +1,5 @@
 -- Each event but a line of a program is shown in its own words.
-use Rattle.std.proofs.Common.{◌≡◌, ℕ, zero, suc, ◌+◌, ◌*◌, ◌<◌, ◌≤◌, ◌^◌, ◌==◌, if◌then◌else◌, Bool, true, false, List, [], ◌∷◌, ◌++◌, All, length, map, codes, decimal, Result, Ok, Err, refl, sym, ap, ◌∙◌, append_assoc, append-nil, subst, arith}
+use Rattle.std.proofs.Common.{◌≡◌, ℕ, ◌*◌, ◌<◌, ◌≤◌, ◌^◌, Bool, true, false, List, [], ◌∷◌, ◌++◌, length, map, codes, decimal, Result, Ok, refl, sym, ap, ◌∙◌, append_assoc, append-nil, subst, arith}
 use Rattle.std.specs.Str.{bytes_eq}
 use Rattle.std.proofs.lemmas.List.Elements.{recursion_from_All}
 use Rattle.snow_wire.specs.declared.event.Event.{Event}
@@ -7,19 +7,19 @@ use Rattle.snow_wire.specs.declared.event.Event.TheVariants as event
 use Rattle.snow_wire.specs.declared.event.Start.{Start}
 use Rattle.snow_wire.specs.Frame.{IsPayload}
 use Rattle.snow_wire.specs.Reading.{IsBytes, event_of}
-use Rattle.snow_wire.specs.Spelling.{IsInRange, IsSender, IsSizedStart, IsWithinLimits, counted, flag, number, parameters, sender, sized, spelling, start, weighed}
+use Rattle.snow_wire.specs.Spelling.{IsInRange, IsSender, IsSizedStart, counted, flag, number, parameters, sender, sized, spelling, start, weighed}
 use Rattle.snow_wire.proofs.Numbers.{IsBytes-behind}
 use Rattle.snow_wire.proofs.Events.{event_taken}
 use Rattle.snow_text.specs.declared.refusal.Reason.{Reason}
 use Rattle.snow_text.specs.Words.{Word, Field, ◌&◌}
-use Rattle.snow_text.specs.Bytes.{bytes_text, fixed_text, fixed_word, number_word}
-use Rattle.snow_text.specs.Events.{blocks_of, id_field, ids_word, if_some, list_field, named, nodes_field, none, payload_of, sent, sized_block, start_field, tagged, times_word, weighed_word}
-use Rattle.snow_text.specs.Shown.{event_words, field, is_line, line, say, sent_words, shown_frame, some_field, some_word, start_words, times_texts, weighed_text, words_as}
-use Rattle.snow_text.proofs.Marks.{Lacks, comma, decimal_lacks, equals, lacks_from}
+use Rattle.snow_text.specs.Bytes.{fixed_text, fixed_word, number_word}
+use Rattle.snow_text.specs.Events.{if_some, named, none, payload_of, sent, start_field, tagged, times_word, weighed_word}
+use Rattle.snow_text.specs.Shown.{event_words, field, is_line, line, say, sent_words, shown_frame, some_field, start_words, times_texts, weighed_text, words_as}
+use Rattle.snow_text.proofs.Marks.{Lacks, comma, equals, lacks_from}
 use Rattle.snow_text.proofs.Runs.{bytes_front}
-use Rattle.snow_text.proofs.Values.{Says, decimal_value, fixed_says, number_says}
-use Rattle.snow_text.proofs.Fields.{Fills, Fits, each_again, named_fits, then_fills, times_again, two_fill}
-use Rattle.snow_text.proofs.Clean.{AreClean, IsClean, clean_at, clean_both, clean_each, clean_field, clean_value, lack_each, times_clean, times_lack}
+use Rattle.snow_text.proofs.Values.{Says, fixed_says, number_says}
+use Rattle.snow_text.proofs.Fields.{each_again, named_fits, then_fills, times_again, two_fill}
+use Rattle.snow_text.proofs.Clean.{IsClean, clean_at, clean_both, clean_each, clean_field, clean_value, lack_each, times_clean, times_lack}
 use Rattle.snow_text.proofs.Worded.{GoodNode, Worded, behind_one, below_from, block_worded, blocks_worded, good_nodes, id_worded, ids_worded, known, lone_says, node_again, node_clean, node_lacks, nodes_worded, none_worded, sent_says, times_worded}
 
 -- ---- a Start

@@ -1,6 +1,5 @@
 -- Words that say a value: numbers, and bytes whose number is known.
-use Rattle.std.proofs.Common.{◌≡◌, ℕ, zero, suc, ◌+◌, ◌-◌, ◌*◌, ◌<◌, ◌≤◌, ◌^◌, ◌==◌, nat_lt, if◌then◌else◌, Bool, true, false, List, [], ◌∷◌, ◌++◌, length, take, drop, replicate, codes, decimal, Result, Ok, Err, refl, sym, ap, ◌∙◌, append_assoc, append-nil, subst, arith}
-use Rattle.std.specs.Str.{bytes_eq}
+use Rattle.std.proofs.Common.{◌≡◌, ℕ, zero, suc, ◌+◌, ◌-◌, ◌*◌, ◌<◌, ◌^◌, ◌==◌, if◌then◌else◌, Bool, true, false, List, [], ◌∷◌, ◌++◌, length, take, drop, replicate, codes, decimal, Result, Ok, refl, sym, ap, ◌∙◌, subst, arith}
 use Rattle.std.proofs.Math.Seq.{take-append_seam, drop-append_seam}
 use Rattle.std.proofs.lemmas.Bool.{eq-eqb, eqb-true, false_from_ne_true, both_ways}
 use Rattle.std.proofs.lemmas.Fmt.{decimal_nonempty}
@@ -9,9 +8,8 @@ use Rattle.std.proofs.lemmas.List.Elements.{All-head, All-tail}
 use Rattle.snow_wire.specs.Reading.{IsBytes}
 use Rattle.snow_wire.specs.Spelling.{number}
 use Rattle.snow_text.specs.declared.refusal.Reason.{Reason}
-use Rattle.snow_text.specs.declared.refusal.Reason.TheVariants as reason
-use Rattle.snow_text.specs.Words.{Word, ◌>>=◌, where_holds}
-use Rattle.snow_text.specs.Bytes.{bytes_text, bytes_word, exactly, fixed_text, fixed_word, is_open, kept, number_below, number_word, short, some_of, trimmed}
+use Rattle.snow_text.specs.Words.{Word, ◌>>=◌}
+use Rattle.snow_text.specs.Bytes.{exactly, fixed_text, fixed_word, is_open, kept, number_below, number_word, short, some_of, trimmed}
 use Rattle.snow_text.proofs.Marks.{IsMark, Lacks, decimal_lacks, full_stop, lacks_both, lacks_cons, lacks_nil}
 use Rattle.snow_text.proofs.Runs.{bytes_front, length_again}
 use Rattle.snow_text.proofs.Pieces.{IsShort, number_again, same_bytes, short_is, told_same}

@@ -1,29 +1,25 @@
 -- An event that is no line of a program is shown in its own words.
-use Rattle.std.proofs.Common.{◌≡◌, ℕ, zero, suc, ◌+◌, ◌*◌, ◌<◌, ◌≤◌, ◌^◌, ◌==◌, ◌&&◌, nat_lt, nat_le, if◌then◌else◌, Bool, true, false, not, List, [], ◌∷◌, ◌++◌, All, length, map, codes, decimal, Result, Ok, Err, refl, sym, ap, ◌∙◌, append_assoc, append-nil, subst, inr, arith}
-use Rattle.std.specs.List.{AllByRecursion, filter, find, flat_map, list_all, join_with_byte}
+use Rattle.std.proofs.Common.{◌≡◌, ℕ, suc, ◌<◌, ◌≤◌, ◌^◌, ◌==◌, true, false, not, List, [], ◌∷◌, ◌++◌, All, length, map, codes, decimal, Ok, refl, sym, ap, ◌∙◌, subst, inr, arith}
+use Rattle.std.specs.List.{AllByRecursion, flat_map, list_all}
 use Rattle.std.specs.Str.{bytes_eq}
 use Rattle.std.proofs.lemmas.Bool.{and_from, not_from_false, le-leb, false_from_ne_true, both_ways}
 use Rattle.std.proofs.lemmas.List.Elements.{All-head, All-tail, recursion_from_All}
-use Rattle.snow_wire.specs.declared.event.Event.{Event}
-use Rattle.snow_wire.specs.declared.event.Event.TheVariants as event
-use Rattle.snow_wire.specs.declared.event.Start.{Start}
 use Rattle.snow_wire.specs.Frame.{IsPayload}
-use Rattle.snow_wire.specs.Reading.{IsBytes, event_of}
-use Rattle.snow_wire.specs.Spelling.{IsBlock, IsId, IsInRange, IsSender, IsSizedStart, IsWeighed, counted, flag, number, parameters, sender, sized, spelling, start, weighed}
+use Rattle.snow_wire.specs.Reading.{IsBytes}
+use Rattle.snow_wire.specs.Spelling.{IsId, IsSender, IsWeighed, counted, number, sender, sized, weighed}
 use Rattle.snow_wire.proofs.Numbers.{IsBytes-behind}
-use Rattle.snow_wire.proofs.Events.{event_taken}
-use Rattle.snow_text.specs.Words.{Word, Field, Halt, ◌>>=◌, ◌&◌, all, at, each, is_word, one, parts, spaced, words_of}
-use Rattle.snow_text.specs.Bytes.{bytes_of, bytes_text, fixed_text, fixed_word, number_word}
-use Rattle.snow_text.specs.Events.{block_of, blocks_of, chains, forms, id_field, ids_word, if_some, list_field, listed_block, named, nodes_field, none, number_field, payload_of, sent, sized_block, start_field, tagged, times_word, weighed_word}
+use Rattle.snow_text.specs.Words.{Word, Field, all, each, spaced, words_of}
+use Rattle.snow_text.specs.Bytes.{bytes_text, fixed_text, fixed_word}
+use Rattle.snow_text.specs.Events.{block_of, blocks_of, id_field, ids_word, list_field, listed_block, nodes_field, none, payload_of, sent, sized_block, tagged, times_word, weighed_word}
 use Rattle.snow_text.specs.Made.{Frame, say_words}
-use Rattle.snow_text.specs.Shown.{event_words, field, is_frame, is_line, line, listed_text, say, sent_words, shown_frame, some_field, some_word, start_words, times_texts, weighed_text, words_as}
-use Rattle.snow_text.proofs.Marks.{AllLack, IsMark, Lacks, comma, decimal_lacks, equals, lacks_both, lacks_cons, lacks_from, lacks_joined, parts_one, space}
+use Rattle.snow_text.specs.Shown.{is_frame, line, say, sent_words, some_word, times_texts, weighed_text}
+use Rattle.snow_text.proofs.Marks.{AllLack, IsMark, Lacks, comma, decimal_lacks, lacks_both, lacks_cons, lacks_from, lacks_joined, parts_one, space}
 use Rattle.snow_text.proofs.Runs.{AreBelow, bytes_front}
 use Rattle.snow_text.proofs.Pieces.{IsBytesWord, bytes_text_is, same_bytes, told_same, word_if}
 use Rattle.snow_text.proofs.Framed.{words_again}
-use Rattle.snow_text.proofs.Values.{decimal_value, fixed_says, number_says}
-use Rattle.snow_text.proofs.Fields.{Fills, Fits, all_fills, each_again, list_again, list_fills, named_fits, no_items, nodes_fill, one_fits, sent_fills, tagged_says, then_fills, times_again, two_fill, weighed_again, whole_fills}
-use Rattle.snow_text.proofs.Clean.{AreClean, IsClean, clean_at, clean_both, clean_each, clean_field, clean_some, clean_value, gaps_from, lack_each, lines_from, notes_from, times_clean, times_lack, words_from}
+use Rattle.snow_text.proofs.Values.{decimal_value, fixed_says}
+use Rattle.snow_text.proofs.Fields.{Fills, all_fills, each_again, list_again, list_fills, no_items, nodes_fill, one_fits, sent_fills, tagged_says, times_again, weighed_again, whole_fills}
+use Rattle.snow_text.proofs.Clean.{AreClean, IsClean, clean_at, clean_each, clean_some, clean_value, gaps_from, lack_each, lines_from, notes_from, times_clean, words_from}
 
 -- ---- the test of words
 

@@ -1,11 +1,11 @@
 -- The text of a line that a program wrote: its words, of which those that tell bytes may be short.
-use Rattle.std.specs.Prelude.{ℕ, ◌-◌, ◌==◌, if◌then◌else◌, List, [], ◌∷◌, ◌++◌, length, drop, reverse, codes, Option, Some, None, Result, Ok, Err}
+use Rattle.std.specs.Prelude.{ℕ, if◌then◌else◌, List, [], ◌∷◌, ◌++◌, reverse, codes, Option, Some, None, Result, Ok, Err}
 use Rattle.std.specs.List.{find, join_with_byte}
 use Rattle.std.specs.Str.{bytes_eq}
 use Rattle.hex.specs.Hex.{encode_lower}
 use Rattle.snow_text.specs.declared.refusal.Reason.{Reason}
 use Rattle.snow_text.specs.declared.refusal.Reason.TheVariants as reason
-use Rattle.snow_text.specs.Words.{Word, Halt, ◌>>=◌, where_holds, parts, at}
+use Rattle.snow_text.specs.Words.{Word, Halt, ◌>>=◌, parts, at}
 use Rattle.snow_text.specs.Bytes.{digits_word, bytes_word, fixed_word, fixed_text, bytes_text}
 
 -- what a word of a line tells: so many bytes, a block, a node with how often it was drawn, or something else

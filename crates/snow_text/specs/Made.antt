@@ -1,13 +1,12 @@
 -- What a text means: the bytes of a stream, or the first place that says nothing.
-use Rattle.std.specs.Prelude.{ℕ, ◌+◌, ◌-◌, ◌==◌, nat_le, if◌then◌else◌, List, [], ◌∷◌, ◌++◌, length, drop, codes, Result, Ok, Err}
+use Rattle.std.specs.Prelude.{ℕ, ◌+◌, ◌-◌, ◌==◌, nat_le, if◌then◌else◌, List, [], ◌∷◌, ◌++◌, length, codes, Result, Ok, Err}
 use Rattle.std.specs.Str.{bytes_eq}
 use Rattle.snow_wire.specs.Frame.{frame}
-use Rattle.snow_text.specs.declared.refusal.Reason.{Reason}
 use Rattle.snow_text.specs.declared.refusal.Reason.TheVariants as reason
 use Rattle.snow_text.specs.declared.refusal.Refusal.{Refusal}
 use Rattle.snow_text.specs.Words.{Word, Halt, ◌>>=◌, parts, said, words_of, column_of, at}
 use Rattle.snow_text.specs.Bytes.{bytes_of}
-use Rattle.snow_text.specs.Events.{first_word, payload_of}
+use Rattle.snow_text.specs.Events.{payload_of}
 
 -- what a line says: nothing, a frame's payload, or what stands behind the last whole frame
 pub data Said : Type 0 where

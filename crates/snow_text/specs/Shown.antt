@@ -1,5 +1,5 @@
 -- The text of a stream: a line for each frame, and one for what stands behind the last.
-use Rattle.std.specs.Prelude.{ℕ, Bool, false, true, not, ◌&&◌, ◌==◌, if◌then◌else◌, List, [], ◌∷◌, ◌++◌, length, codes, decimal, map, Result, Ok, Err}
+use Rattle.std.specs.Prelude.{ℕ, Bool, false, true, not, ◌&&◌, ◌==◌, if◌then◌else◌, List, [], ◌∷◌, ◌++◌, codes, decimal, map, Result, Ok, Err}
 use Rattle.std.specs.List.{flat_map, list_all, join_with_byte}
 use Rattle.std.specs.Str.{bytes_eq}
 use Rattle.snow_wire.specs.declared.event.Event.{Event}
