@@ -1,0 +1,67 @@
+-- What a text means: the bytes of a stream, or the first place that says nothing.
+use Rattle.std.specs.Prelude.{ℕ, ◌+◌, ◌-◌, ◌==◌, nat_le, if◌then◌else◌, List, [], ◌∷◌, ◌++◌, length, codes, Result, Ok, Err}
+use Rattle.std.specs.Str.{bytes_eq}
+use Rattle.snow_wire.specs.Frame.{frame}
+use Rattle.snow_text.specs.declared.refusal.Reason.TheVariants as reason
+use Rattle.snow_text.specs.declared.refusal.Refusal.{Refusal}
+use Rattle.snow_text.specs.Words.{Word, Halt, ◌>>=◌, parts, said, words_of, column_of, at}
+use Rattle.snow_text.specs.Bytes.{bytes_of}
+use Rattle.snow_text.specs.Events.{payload_of}
+
+-- what a line says: nothing, a frame's payload, or what stands behind the last whole frame
+pub data Said : Type 0 where
+  Nothing : Said
+  Frame : List ℕ → Said
+  Rest : List ℕ → Said
+
+-- a frame, where the payload isn't too long
+abbrev pub framed : List Word → List ℕ → Result Said Halt
+framed words payload = if nat_le (length payload) 2097152 then Ok (Frame payload) else at words (Err reason.Long)
+
+-- what words say
+unfoldable pub say_words : List Word → Result Said Halt
+say_words [] = Ok Nothing
+say_words (word ∷ more) =
+    if bytes_eq (codes "rest") word
+    then (bytes_of more >>= λ bytes. Ok (Rest bytes))
+    else (payload_of (word ∷ more) >>= framed (word ∷ more))
+
+-- where a line with this number isn't taken
+abbrev pub refusal : ℕ → List ℕ → Halt → Refusal
+refusal n line halt = record {
+  line = n;
+  column = column_of (length (words_of line) - halt.left) 1 (parts 32 (said line));
+  reason = halt.why;
+}
+
+-- a halt in this line
+abbrev pub in_line : {A : Type 0} → ℕ → List ℕ → Result A Halt → Result A Refusal
+in_line n line (Ok x) = Ok x
+in_line n line (Err halt) = Err (refusal n line halt)
+
+-- what a line says
+abbrev pub say_line : ℕ → List ℕ → Result Said Refusal
+say_line n line = in_line n line (say_words (words_of line))
+
+-- lines that say nothing, from this number on
+unfoldable pub none_say : ℕ → List (List ℕ) → Result (List ℕ) Refusal
+none_say n [] = Ok []
+none_say n (line ∷ more) =
+    if length (words_of line) == 0
+    then none_say (n + 1) more
+    else Err (refusal n line (record { why = reason.Behind; left = length (words_of line) }))
+
+-- what a line says, with what those behind it say: the bytes of frames, or of a rest and no more
+abbrev pub joined : Said → Result (List ℕ) Refusal → Result (List ℕ) Refusal → Result (List ℕ) Refusal
+joined Nothing others none = others
+joined (Frame payload) others none = others >>= λ bytes. Ok (frame payload ++ bytes)
+joined (Rest bytes) others none = none >>= λ empty. Ok (bytes ++ empty)
+
+-- the bytes that lines say, from this number on
+unfoldable pub made_from : ℕ → List (List ℕ) → Result (List ℕ) Refusal
+made_from n [] = Ok []
+made_from n (line ∷ more) = say_line n line >>= λ said. joined said (made_from (n + 1) more) (none_say (n + 1) more)
+
+-- the bytes that a text means
+unfoldable pub made : List ℕ → Result (List ℕ) Refusal
+made text = made_from 1 (parts 10 text)

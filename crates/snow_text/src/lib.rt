@@ -1,0 +1,8 @@
+//! Streams as text: a line a frame, and back.
+#![tactic(auto)]
+
+mod laws;
+mod refusal;
+
+pub use laws::{one_form, one_text, own_words};
+pub use refusal::{Reason, Refusal};
