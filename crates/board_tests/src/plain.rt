@@ -3,7 +3,8 @@ ghost use Rattle.std.specs.Prelude.{◌≡◌, ◌≤◌, IfOk};
 use crate::tools::{add_all, first};
 use snow_base::{Bag, Id};
 use snow_flake::{Params, Snowball, Snowflake};
-use snow_plain::{Board, PlainBoard};
+use snow_board::Board;
+use snow_plain::PlainBoard;
 use std::alloc::{AllocError, Global};
 use std::test::Fail;
 
@@ -31,7 +32,7 @@ fn issue_all<B: Board>(board: &mut B, blocks: &[(u8, u8)]) -> Result<(), AllocEr
 }
 
 // Records a poll of a board with one vote.
-#[tactic(auto, using(snow_plain::proofs::Polled::poll_parameters))]
+#[tactic(auto, using(snow_board::proofs::Polled::poll_parameters))]
 fn record<B: Board>(board: &mut B, votes: &Bag)
     requires { 1 ≤ (B.board board.old).parameters.k }
     ensures { (B.board board.new).parameters ≡ (B.board board.old).parameters }

@@ -4,7 +4,8 @@ use crate::calls::{
 };
 use snow_flake::{Params, Snowball};
 use snow_issue::Queue;
-use snow_plain::{Board, PlainBoard};
+use snow_board::Board;
+use snow_plain::PlainBoard;
 use std::alloc::{AllocError, Global};
 use std::test::Fail;
 

@@ -7,7 +7,7 @@ use crate::auditor::Auditor;
 use snow_base::Source;
 use snow_chain::Chain;
 use snow_engine::End;
-use snow_plain::Board;
+use snow_board::Board;
 use std::alloc::Global;
 
 /// What an audit finds. Lines are counted from 1 over the whole run.

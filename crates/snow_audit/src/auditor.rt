@@ -13,7 +13,7 @@ use crate::following::Follower;
 use snow_base::Source;
 use snow_chain::Chain;
 use snow_engine::{BadKind, End, LIMIT};
-use snow_plain::Board;
+use snow_board::Board;
 use snow_wire::{Decoder, ReadFault};
 use std::alloc::Global;
 

@@ -12,7 +12,7 @@ use crate::sheet::Sheet;
 use snow_chain::Chain;
 use snow_engine::{End, Runner, Task};
 use snow_lines::{Line, SkipKind};
-use snow_plain::Board;
+use snow_board::Board;
 use snow_wire::View;
 use std::alloc::Global;
 

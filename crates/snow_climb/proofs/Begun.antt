@@ -12,9 +12,9 @@ use Rattle.snow_base.specs.declared.vote.Vote.{Vote}
 use Rattle.snow_base.specs.Ancestry.{is_below, votes_below}
 use Rattle.snow_base.specs.Votes.{total_count}
 use Rattle.snow_flake.specs.Parameters.{Parameters}
-use Rattle.snow_plain.specs.declared.cursor.Cursor.{Cursor}
-use Rattle.snow_plain.specs.Grown.{has_block, IsGrown}
-use Rattle.snow_plain.proofs.Cases.{split_on, same_id}
+use Rattle.snow_board.specs.declared.cursor.Cursor.{Cursor}
+use Rattle.snow_board.specs.Grown.{has_block, IsGrown}
+use Rattle.snow_board.proofs.Cases.{split_on, same_id}
 use Rattle.snow_tree.specs.Held.{Entry, blocks_in, children_of, place_in}
 use Rattle.snow_climb.specs.declared.climber.Climber.{Climber}
 use Rattle.snow_climb.specs.Climbing.{above, reach, parent_in, id_in, cursor_of, cursors_of, climber_total, passing, begun, ArePlaced, CameBy, is_for, votes_for}

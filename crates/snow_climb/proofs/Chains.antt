@@ -3,7 +3,7 @@ use Rattle.std.proofs.Common.{◌≡◌, ℕ, zero, suc, ◌-◌, ◌<◌, ◌�
 use Rattle.std.proofs.Math.Seq.{get_or-append_seam}
 use Rattle.std.proofs.lemmas.Grind.{common_steps}
 use Rattle.std.proofs.lemmas.List.{get_or_append_left}
-use Rattle.snow_plain.proofs.Cases.{split_on}
+use Rattle.snow_board.proofs.Cases.{split_on}
 use Rattle.snow_climb.specs.declared.ladder.Link.{Link}
 use Rattle.snow_climb.specs.Ladder.{no_link, latest, group, chain, AreLinked}
 

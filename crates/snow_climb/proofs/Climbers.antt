@@ -8,11 +8,11 @@ use Rattle.std.proofs.lemmas.List.Sorted.{IsPermutation-append_right, IsPermutat
 use Rattle.std.proofs.lemmas.List.Elements.{All-cons, All-nil, All-filter, All-head, All-tail, All-map, filter_passes}
 use Rattle.std.proofs.lemmas.Option.{none-some, slice_get-map, slice_get-get_or}
 use Rattle.snow_base.specs.declared.header.Header.{Header}
-use Rattle.snow_plain.specs.declared.cursor.Cursor.{Cursor}
-use Rattle.snow_plain.specs.Cursors.{child_at, cursor_total, votes_at, votes_for as of_child}
-use Rattle.snow_plain.specs.Grown.{IsGrown}
+use Rattle.snow_board.specs.declared.cursor.Cursor.{Cursor}
+use Rattle.snow_board.specs.Cursors.{child_at, cursor_total, votes_at, votes_for as of_child}
+use Rattle.snow_board.specs.Grown.{IsGrown}
 use Rattle.snow_tree.specs.Held.{Entry, blocks_in, children_of, place_in}
-use Rattle.snow_plain.proofs.Cases.{split_on, same_id, id_same}
+use Rattle.snow_board.proofs.Cases.{split_on, same_id, id_same}
 use Rattle.snow_climb.specs.declared.climber.Climber.{Climber}
 use Rattle.snow_climb.specs.Climbing.{above, reach, parent_in, id_in, cursor_of, cursors_of, climber_total, passing, count_at, merged, ArePlaced, AreBelow, CameBy, HasCome}
 use Rattle.snow_climb.specs.Ladder.{under, up_from}

@@ -9,7 +9,7 @@ use Rattle.std.proofs.lemmas.List.Sums.{sum_by-cons}
 use Rattle.std.proofs.lemmas.List.Elements.{All-cons, All-nil, All-head, All-tail, filter-append}
 use Rattle.std.proofs.lemmas.List.Sorted.{IsPermutation-refl, IsPermutation-cons, IsPermutation-trans, IsPermutation-to_front, length_permutation}
 use Rattle.std.proofs.lemmas.Nat.Bits.{bit_at-zero, bit_at_above}
-use Rattle.snow_plain.proofs.Cases.{split_on}
+use Rattle.snow_board.proofs.Cases.{split_on}
 use Rattle.snow_climb.specs.declared.climber.Climber.{Climber}
 use Rattle.snow_climb.specs.declared.ladder.Head.{Head}
 use Rattle.snow_climb.specs.declared.ladder.Link.{Link}

@@ -7,7 +7,7 @@ use Rattle.snow_base.specs.declared.vote.Vote.{Vote}
 use Rattle.snow_base.specs.Gathered.{IsNamed, one_each}
 use Rattle.snow_flake.specs.Parameters.{Parameters}
 use Rattle.snow_flake.specs.Counter.{class, Low, High}
-use Rattle.snow_plain.proofs.Cases.{split_on, same_id}
+use Rattle.snow_board.proofs.Cases.{split_on, same_id}
 use Rattle.snow_climb.specs.Majority.{StandsForPoll, StandFor}
 use Rattle.snow_climb.specs.Starting.{share, votes_by, ids_by}
 use Rattle.snow_climb.proofs.Started.{each_passes}

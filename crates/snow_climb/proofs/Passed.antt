@@ -11,10 +11,10 @@ use Rattle.snow_base.specs.declared.vote.Vote.{Vote}
 use Rattle.snow_base.specs.Identifier.{bits}
 use Rattle.snow_base.specs.Ancestry.{is_below}
 use Rattle.snow_flake.specs.Parameters.{Parameters}
-use Rattle.snow_plain.specs.declared.cursor.Cursor.{Cursor}
-use Rattle.snow_plain.specs.Cursors.{child_at, votes_at, votes_for as of_child}
-use Rattle.snow_plain.specs.Grown.{IsGrown}
-use Rattle.snow_plain.proofs.Cases.{split_on, clash, same_id, id_same, id_itself}
+use Rattle.snow_board.specs.declared.cursor.Cursor.{Cursor}
+use Rattle.snow_board.specs.Cursors.{child_at, votes_at, votes_for as of_child}
+use Rattle.snow_board.specs.Grown.{IsGrown}
+use Rattle.snow_board.proofs.Cases.{split_on, clash, same_id, id_same, id_itself}
 use Rattle.snow_tree.specs.Held.{children_of}
 use Rattle.snow_climb.specs.Climbing.{reach, AreBelow, CameBy, is_for, votes_for, merged}
 use Rattle.snow_climb.specs.Rising.{AreClimbing}

@@ -9,11 +9,11 @@ use Rattle.std.proofs.lemmas.Bool.{or_parts, or_left, or_right}
 use Rattle.snow_base.specs.declared.header.Header.{Header}
 use Rattle.snow_base.specs.Identifier.{bits}
 use Rattle.snow_base.specs.Ancestry.{line_in, begins_with, is_below}
-use Rattle.snow_plain.specs.Grown.{has_block, is_on, IsGrown}
-use Rattle.snow_plain.proofs.Cases.{split_on, clash, same_id, id_same, id_itself}
-use Rattle.snow_plain.proofs.Kept.{has_own}
-use Rattle.snow_plain.proofs.Grown.{grown_new, grown_rest, grown_before, older, childless, no_child_on, no_line, line_passes, has_block-reverse}
-use Rattle.snow_plain.proofs.Lines.{acyclic}
+use Rattle.snow_board.specs.Grown.{has_block, is_on, IsGrown}
+use Rattle.snow_board.proofs.Cases.{split_on, clash, same_id, id_same, id_itself}
+use Rattle.snow_board.proofs.Kept.{has_own}
+use Rattle.snow_board.proofs.Grown.{grown_new, grown_rest, grown_before, older, childless, no_child_on, no_line, line_passes, has_block-reverse}
+use Rattle.snow_board.proofs.Lines.{acyclic}
 use Rattle.snow_tree.proofs.Placed.{position_cons}
 use Rattle.snow_tree.proofs.Descending.{around, line_at, parent_before, last_off}
 use Rattle.snow_climb.specs.Climbing.{above, reach}

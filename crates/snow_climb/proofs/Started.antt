@@ -11,10 +11,10 @@ use Rattle.snow_base.specs.Ancestry.{is_below}
 use Rattle.snow_base.specs.Gathered.{IsNamed, one_each}
 use Rattle.snow_base.specs.Votes.{total_count}
 use Rattle.snow_flake.specs.Parameters.{Parameters}
-use Rattle.snow_plain.specs.Grown.{IsGrown}
-use Rattle.snow_plain.proofs.Cases.{same_id}
-use Rattle.snow_plain.proofs.OneEach.{each_by}
-use Rattle.snow_plain.proofs.Polled.{few_votes}
+use Rattle.snow_board.specs.Grown.{IsGrown}
+use Rattle.snow_board.proofs.Cases.{same_id}
+use Rattle.snow_board.proofs.OneEach.{each_by}
+use Rattle.snow_board.proofs.Polled.{few_votes}
 use Rattle.snow_tree.specs.Held.{Entry, blocks_in}
 use Rattle.snow_climb.specs.declared.climber.Climber.{Climber}
 use Rattle.snow_climb.specs.Climbing.{begun, cursors_of, ArePlaced}

@@ -7,7 +7,7 @@ use Rattle.snow_base.specs.declared.header.Header.{Header}
 use Rattle.snow_base.specs.declared.vote.Vote.{Vote}
 use Rattle.snow_base.specs.Identifier.{bits}
 use Rattle.snow_base.specs.Ancestry.{is_below}
-use Rattle.snow_plain.specs.declared.cursor.Cursor.{Cursor}
+use Rattle.snow_board.specs.declared.cursor.Cursor.{Cursor}
 use Rattle.snow_tree.specs.Held.{Entry, blocks_in, children_of, place_in}
 use Rattle.snow_climb.specs.declared.climber.Climber.{Climber}
 

@@ -4,8 +4,8 @@ use Rattle.snow_base.specs.declared.header.Header.{Header}
 use Rattle.snow_base.specs.declared.vote.Vote.{Vote}
 use Rattle.snow_base.specs.Ancestry.{votes_below}
 use Rattle.snow_flake.specs.Parameters.{Parameters}
-use Rattle.snow_plain.specs.declared.cursor.Cursor.{Cursor}
-use Rattle.snow_plain.specs.Cursors.{cursor_total}
+use Rattle.snow_board.specs.declared.cursor.Cursor.{Cursor}
+use Rattle.snow_board.specs.Cursors.{cursor_total}
 use Rattle.snow_climb.specs.Climbing.{reach, AreBelow, CameBy, votes_for}
 
 -- what is so of the votes that climb

@@ -1,7 +1,7 @@
 ghost use Rattle.std.specs.Prelude.{◌≡◌, ◌+◌, ◌^◌, ◌<◌, ◌≤◌, List, ℕ, All, Contains, length};
 ghost use Rattle.snow_base.specs.Votes.{total_count};
-ghost use Rattle.snow_plain.specs.Conflict.{votes_on};
-ghost use Rattle.snow_plain.specs.Cursors.{votes_at};
+ghost use Rattle.snow_board.specs.Conflict.{votes_on};
+ghost use Rattle.snow_board.specs.Cursors.{votes_at};
 ghost use Rattle.snow_tree.specs.Held.{blocks_in, children_of};
 ghost use Rattle.snow_climb.specs.Climbing.{climber_total, cursors_of, HasCome};
 ghost use Rattle.snow_climb.specs.Ladder.{chain, AreLinked};

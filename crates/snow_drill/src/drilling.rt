@@ -18,7 +18,7 @@ use snow_base::{Bytes, Id, NodeId, Nodes, Nums, Sink, write_whole};
 use snow_chain::TallyChain;
 use snow_engine::{End, Engine, Task};
 use snow_lines::Lines;
-use snow_plain::Board;
+use snow_board::Board;
 use snow_wire::Start;
 use std::alloc::{AllocError, Global};
 

@@ -5,7 +5,7 @@ ghost use Rattle.snow_wire.specs.Viewed.{as_event};
 use snow_chain::Chain;
 use snow_engine::Engine;
 use snow_lines::Lines;
-use snow_plain::Board;
+use snow_board::Board;
 use snow_wire::View;
 use std::alloc::AllocError;
 

@@ -3,7 +3,7 @@ use Rattle.std.proofs.Common.{◌≡◌, ℕ, ◌-◌, ◌^◌, ◌≤◌, false
 use Rattle.std.specs.FinMap.{empty}
 use Rattle.snow_flake.specs.Parameters.{Parameters}
 use Rattle.snow_sample.specs.declared.roster.Node.{Node as Member}
-use Rattle.snow_plain.proofs.Cases.{id_itself}
+use Rattle.snow_board.proofs.Cases.{id_itself}
 use Rattle.snow_chain.specs.Chain.{Held, state_of, begun}
 use Rattle.snow_boot.specs.Booting.{Boot, Going, started}
 use Rattle.snow_chain.specs.Alone.{IsAlone, last_state}

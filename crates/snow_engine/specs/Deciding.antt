@@ -4,9 +4,9 @@ use Rattle.snow_base.specs.declared.header.Header.{Header}
 use Rattle.snow_base.specs.declared.vote.Vote.{Vote}
 use Rattle.snow_base.specs.Votes.{added}
 use Rattle.snow_flake.specs.Rule.{Answer}
-use Rattle.snow_plain.specs.declared.decision.Decision.{Decision}
-use Rattle.snow_plain.specs.Board.{Board, height_of, issued}
-use Rattle.snow_plain.specs.Poll.{poll}
+use Rattle.snow_board.specs.declared.decision.Decision.{Decision}
+use Rattle.snow_board.specs.Board.{Board, height_of, issued}
+use Rattle.snow_board.specs.Poll.{poll}
 use Rattle.snow_chain.specs.Chain.{Rules, Held, next_on, with_state}
 use Rattle.snow_wire.specs.declared.event.Event.{Event}
 use Rattle.snow_wire.specs.declared.event.Event.TheVariants as event

@@ -5,7 +5,7 @@ use Rattle.snow_flake.specs.declared.params.ParamFault.{ParamFault}
 use Rattle.snow_flake.specs.Rule.{Answer}
 use Rattle.snow_sample.specs.declared.roster.RosterFault.{RosterFault}
 use Rattle.snow_sample.specs.Roster.{first_fault}
-use Rattle.snow_plain.specs.Board.{begin}
+use Rattle.snow_board.specs.Board.{begin}
 use Rattle.snow_chain.specs.Chain.{Rules, begun}
 use Rattle.snow_wire.specs.declared.event.Event.{Event}
 use Rattle.snow_wire.specs.declared.event.Start.{Start}

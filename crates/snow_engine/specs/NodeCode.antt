@@ -6,8 +6,8 @@ use Rattle.snow_flake.specs.Parameters.{Parameters}
 use Rattle.snow_sample.specs.declared.roster.Node.{Node as Member}
 use Rattle.snow_boot.specs.Booting.{Boot}
 use Rattle.snow_boot.specs.BootCode.{coded_boot}
-use Rattle.snow_plain.specs.Board.{Board}
-use Rattle.snow_plain.specs.BoardCode.{coded_board}
+use Rattle.snow_board.specs.Board.{Board}
+use Rattle.snow_board.specs.BoardCode.{coded_board}
 use Rattle.snow_chain.specs.Chain.{Held}
 use Rattle.snow_chain.specs.Coded.{coded_held}
 use Rattle.snow_engine.specs.declared.stage.Stage.TheVariants as stage

@@ -19,7 +19,7 @@ use snow_flake::Params;
 use snow_interval::Intervals;
 use snow_lines::{Line, Lines, SkipKind};
 use snow_node::Running;
-use snow_plain::Board;
+use snow_board::Board;
 use snow_sample::{Roster, Words};
 use snow_wire::{Event, Start};
 use std::alloc::Global;

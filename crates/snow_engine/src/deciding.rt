@@ -2,8 +2,8 @@
 
 ghost use Rattle.std.specs.Prelude.{◌≡◌, None};
 ghost use Rattle.snow_flake.specs.Parameters.{AreGood};
-ghost use Rattle.snow_plain.specs.Board.{height_of};
-ghost use Rattle.snow_plain.specs.Reached.{MayIssue};
+ghost use Rattle.snow_board.specs.Board.{height_of};
+ghost use Rattle.snow_board.specs.Reached.{MayIssue};
 ghost use Rattle.snow_chain.specs.Chain.{next_on};
 ghost use Rattle.snow_engine.specs.Deciding as model;
 ghost use Rattle.snow_engine.specs.Node.{decides_with};
@@ -18,7 +18,7 @@ use snow_chain::Chain;
 use snow_flake::Params;
 use snow_lines::{DropWhy, Line, Lines, SkipKind};
 use snow_node::{Halt, admit, apply_votes, opposition, tell, write};
-use snow_plain::Board;
+use snow_board::Board;
 use snow_wire::{Start, View};
 use std::alloc::Global;
 use std::marker::Model;

@@ -17,7 +17,7 @@ use snow_chain::Chain;
 use snow_flake::{ParamFault, Params};
 use snow_lines::Lines;
 use snow_node::{Running, roster_of};
-use snow_plain::Board;
+use snow_board::Board;
 use snow_sample::{Roster, Words};
 use snow_wire::{Start, View};
 use std::alloc::Global;

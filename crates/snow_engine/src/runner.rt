@@ -8,7 +8,7 @@ use crate::engine::Engine;
 use crate::task::Task;
 use snow_chain::Chain;
 use snow_lines::{Lines, SkipKind};
-use snow_plain::Board;
+use snow_board::Board;
 use snow_wire::{Fault, View};
 use std::alloc::Global;
 

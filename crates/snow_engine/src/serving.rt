@@ -11,7 +11,7 @@ use crate::session::Session;
 use crate::task::Task;
 use snow_base::{Sink, Source};
 use snow_chain::Chain;
-use snow_plain::Board;
+use snow_board::Board;
 use snow_wire::ReadFault;
 use std::alloc::Global;
 

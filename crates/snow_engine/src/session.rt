@@ -14,7 +14,7 @@ use crate::task::Task;
 use snow_base::{Failed, Sink};
 use snow_chain::Chain;
 use snow_lines::{Line, Lines, Page, SkipKind};
-use snow_plain::Board;
+use snow_board::Board;
 use snow_wire::Decoder;
 use std::alloc::{AllocError, Global};
 

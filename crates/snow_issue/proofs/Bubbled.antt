@@ -3,9 +3,9 @@ use Rattle.std.proofs.Common.{◌≡◌, ℕ, zero, suc, Bool, true, false, not,
 use Rattle.std.proofs.lemmas.Bool.{or_left, or_right}
 use Rattle.std.specs.Option.{option_map, option_and_then}
 use Rattle.std.specs.Str.{bytes_eq}
-use Rattle.snow_plain.specs.declared.pending.Pending.{Pending}
-use Rattle.snow_plain.specs.Board.{Board, block_of, is_pending}
-use Rattle.snow_plain.proofs.Cases.{split_on}
+use Rattle.snow_board.specs.Conflict.{Pending}
+use Rattle.snow_board.specs.Board.{Board, block_of, is_pending}
+use Rattle.snow_board.proofs.Cases.{split_on}
 use Rattle.snow_issue.specs.declared.gone.Gone.{Gone}
 use Rattle.snow_issue.specs.Gone.{latest, holds, stands_for}
 use Rattle.snow_issue.specs.Lists.{Lists, waits, is_asked}

@@ -4,9 +4,9 @@ use Rattle.std.specs.List.{list_any}
 use Rattle.std.specs.Option.{option_and_then}
 use Rattle.std.proofs.lemmas.Option.{none-some, same_Some}
 use Rattle.std.proofs.lemmas.Bool.{or_left, or_right}
-use Rattle.snow_plain.specs.Board.{Board, is_pending}
-use Rattle.snow_plain.proofs.Cases.{split_on, clash, same_id}
-use Rattle.snow_plain.proofs.Standing.{any-reverse}
+use Rattle.snow_board.specs.Board.{Board, is_pending}
+use Rattle.snow_board.proofs.Cases.{split_on, clash, same_id}
+use Rattle.snow_board.proofs.Standing.{any-reverse}
 use Rattle.snow_issue.specs.declared.gone.Gone.{Gone}
 use Rattle.snow_issue.specs.Gone.{stands_for}
 use Rattle.snow_issue.specs.Lists.{Lists, AreWithinLimits}

@@ -6,9 +6,9 @@ use Rattle.std.specs.List.{remove, position_or_len}
 use Rattle.std.specs.Option.{option_map, option_or}
 use Rattle.snow_base.specs.declared.header.Header.{Header}
 use Rattle.snow_base.specs.declared.vote.Vote.{Vote}
-use Rattle.snow_plain.specs.Board.{Board}
-use Rattle.snow_plain.specs.Poll.{poll}
-use Rattle.snow_plain.proofs.Cases.{split_on}
+use Rattle.snow_board.specs.Board.{Board}
+use Rattle.snow_board.specs.Poll.{poll}
+use Rattle.snow_board.proofs.Cases.{split_on}
 use Rattle.snow_issue.specs.declared.work.Get.{Get}
 use Rattle.snow_issue.specs.declared.work.Held.{Held}
 use Rattle.snow_issue.specs.declared.work.Offered.{Offered}

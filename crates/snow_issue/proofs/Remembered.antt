@@ -7,12 +7,12 @@ use Rattle.std.proofs.lemmas.Bool.{both_ways, false_from_ne_true, or_parts, or_f
 use Rattle.std.proofs.lemmas.List.Folds.{list_any-append}
 use Rattle.snow_base.specs.declared.header.Header.{Header}
 use Rattle.snow_base.specs.declared.vote.Vote.{Vote}
-use Rattle.snow_plain.specs.declared.pending.Pending.{Pending}
-use Rattle.snow_plain.specs.Conflict.{Counters, decides}
-use Rattle.snow_plain.specs.Board.{Board, issued, with_counters, with_issued, new_pending, blocks_of}
-use Rattle.snow_plain.specs.Poll.{with_votes, counted, winner, promoted, poll}
-use Rattle.snow_plain.proofs.Invariant.{settled_keeps}
-use Rattle.snow_plain.proofs.Lookup.{found}
+use Rattle.snow_board.specs.Conflict.{Pending}
+use Rattle.snow_board.specs.Conflict.{Counters, decides}
+use Rattle.snow_board.specs.Board.{Board, issued, with_counters, with_issued, new_pending, blocks_of}
+use Rattle.snow_board.specs.Poll.{with_votes, counted, winner, promoted, poll}
+use Rattle.snow_board.proofs.Invariant.{settled_keeps}
+use Rattle.snow_board.proofs.Lookup.{found}
 use Rattle.snow_issue.specs.declared.work.Waiting.{Waiting}
 use Rattle.snow_issue.specs.declared.work.Get.{Get}
 use Rattle.snow_lineup.specs.declared.marks.Mark.{Mark}

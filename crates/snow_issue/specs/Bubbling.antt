@@ -1,7 +1,7 @@
 -- The vote that a held reply gives: gone blocks are replaced by their parents.
 use Rattle.std.specs.Prelude.{ℕ, zero, suc, Bool, not, ◌&&◌, ◌||◌, List, bytes_eq, Option, Some, None, if◌then◌else◌}
 use Rattle.std.specs.Option.{option_and_then}
-use Rattle.snow_plain.specs.Board.{Board, is_pending}
+use Rattle.snow_board.specs.Board.{Board, is_pending}
 use Rattle.snow_issue.specs.declared.gone.Gone.{Gone}
 use Rattle.snow_issue.specs.Gone.{stands_for}
 use Rattle.snow_issue.specs.Lists.{Lists, waits, is_asked}

@@ -1,6 +1,6 @@
 -- How far a held reply's vote goes down: as far as gone blocks lead, and no further for more steps.
 use Rattle.std.specs.Prelude.{◌≡◌, ℕ, ◌≤◌, List}
-use Rattle.snow_plain.specs.Board.{Board}
+use Rattle.snow_board.specs.Board.{Board}
 use Rattle.snow_issue.specs.Lists.{Lists, AreWithinLimits}
 use Rattle.snow_issue.specs.Bubbling.{bubbled_in, bubbled}
 

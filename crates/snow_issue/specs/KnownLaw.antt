@@ -2,8 +2,8 @@
 use Rattle.std.specs.Prelude.{List}
 use Rattle.snow_base.specs.declared.header.Header.{Header}
 use Rattle.snow_base.specs.declared.vote.Vote.{Vote}
-use Rattle.snow_plain.specs.Board.{Board, issued}
-use Rattle.snow_plain.specs.Poll.{poll}
+use Rattle.snow_board.specs.Board.{Board, issued}
+use Rattle.snow_board.specs.Poll.{poll}
 use Rattle.snow_issue.specs.Known.{Seen, Knows, ForgetsChildren, NoneRipe}
 
 -- a block may be issued where nothing is remembered of its children

@@ -1,10 +1,10 @@
 ghost use Rattle.std.specs.Prelude.{◌≡◌};
-ghost use Rattle.snow_plain.specs.Board.{is_pending};
+ghost use Rattle.snow_board.specs.Board.{is_pending};
 ghost use Rattle.snow_issue.specs.Bubbling.{bubbled_in};
 
 use crate::gone::GoneList;
 use snow_base::Id;
-use snow_plain::Board;
+use snow_board::Board;
 
 /// Returns whether a block is pending. Mostly it is the preference, which needs no look-up.
 #[inline(always)]

@@ -1,6 +1,6 @@
 ghost use Rattle.std.specs.Prelude.{◌≡◌, ◌<◌, true, false, All, length, find, IsSome};
 ghost use Rattle.std.specs.List.{position_or_len};
-ghost use Rattle.snow_plain.specs.Board as model;
+ghost use Rattle.snow_board.specs.Board as model;
 ghost use Rattle.snow_lineup.specs.declared.marks.Mark.TheVariants.{New};
 ghost use Rattle.snow_issue.specs.Settling.{is_hopeless_by, is_free_by};
 ghost use Rattle.snow_issue.specs.Offering.{is_on};
@@ -15,7 +15,7 @@ use crate::waiting::WaitingList;
 use crate::work::Held;
 use snow_base::{Header, Id};
 use snow_lineup::Mark;
-use snow_plain::Board;
+use snow_board::Board;
 
 // What a look at a waiting block tells; nothing where it is hopeless.
 fn look<B: Board>(waiting: &WaitingList, gets: &Gets, board: &B, block: &Header) -> Option<Mark>

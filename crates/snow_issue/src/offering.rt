@@ -9,7 +9,7 @@ use crate::gone::{Gone, GoneList};
 use crate::waiting::WaitingList;
 use crate::work::Offered;
 use snow_base::{Header, Id};
-use snow_plain::Board;
+use snow_board::Board;
 
 /// Returns whether a block is on the board: pending, or the last accepted one. The preference is
 /// told without looking it up.

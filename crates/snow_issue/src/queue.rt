@@ -1,6 +1,6 @@
 ghost use Rattle.std.specs.Prelude.{◌≡◌, ◌<◌, List, find, length, Some, None, IfOk, OnOk, OnErr, true, false};
 ghost use Rattle.std.specs.Option.{option_map};
-ghost use Rattle.snow_plain.specs.Board as model;
+ghost use Rattle.snow_board.specs.Board as model;
 ghost use Rattle.snow_issue.specs.declared.work.Get.{Get};
 ghost use Rattle.snow_issue.specs.declared.work.Waiting.{Waiting};
 ghost use Rattle.snow_issue.specs.declared.gone.Gone.{Gone};
@@ -18,7 +18,7 @@ use crate::waiting::WaitingList;
 use crate::work::{Get, Held, Offered, Waiting, Work};
 use crate::{looking, offering};
 use snow_base::{Bytes, Header, Id, NodeId};
-use snow_plain::Board;
+use snow_board::Board;
 use std::alloc::{AllocError, Global};
 use std::marker::Model;
 

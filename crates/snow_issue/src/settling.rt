@@ -2,7 +2,7 @@ ghost use Rattle.std.specs.Prelude.{◌≡◌, ◌<◌, ◌≤◌, true, None, I
 ghost use Rattle.std.specs.List.{position_or_len, remove};
 ghost use Rattle.snow_lineup.specs.declared.marks.Mark.TheVariants.{New};
 ghost use Rattle.snow_issue.specs.Settling.{is_hopeless, is_ready, is_free, gone_with};
-ghost use Rattle.snow_plain.specs.Board as model;
+ghost use Rattle.snow_board.specs.Board as model;
 ghost use Rattle.snow_issue.specs.Lists.{without, is_asked, AreWithinLimits};
 ghost use Rattle.snow_issue.specs.Known.{items_of, lists_of, Knows, NoneRipe, TakesStep};
 ghost use Rattle.snow_lineup.specs.Marks.{has};
@@ -14,7 +14,7 @@ use crate::offering::is_on;
 use crate::queue::Queue;
 use crate::work::{Held, Waiting, Work};
 use snow_lineup::Mark;
-use snow_plain::Board;
+use snow_board::Board;
 
 impl Queue {
     /// How many blocks wait.

@@ -5,7 +5,7 @@ ghost use Rattle.snow_issue.specs.Known.{lists_of};
 use crate::bubbling;
 use crate::queue::Queue;
 use snow_base::Id;
-use snow_plain::Board;
+use snow_board::Board;
 
 impl Queue {
     /// Returns the vote that a reply gives. A pending block is its own vote, and the last accepted

@@ -7,9 +7,9 @@ use Rattle.snow_flake.specs.Rule.{Answer}
 use Rattle.snow_sample.specs.declared.roster.Node.{Node as Member}
 use Rattle.snow_sample.specs.declared.roster.RosterFault.{RosterFault}
 use Rattle.snow_sample.specs.Roster.{first_fault}
-use Rattle.snow_plain.specs.Board.{Board}
-use Rattle.snow_plain.specs.Poll.{poll}
-use Rattle.snow_plain.proofs.Cases.{split_on}
+use Rattle.snow_board.specs.Board.{Board}
+use Rattle.snow_board.specs.Poll.{poll}
+use Rattle.snow_board.proofs.Cases.{split_on}
 use Rattle.snow_chain.specs.Chain.{Rules}
 use Rattle.snow_lines.specs.declared.line.Line.{Line}
 use Rattle.snow_wire.specs.declared.event.Event.{Event}

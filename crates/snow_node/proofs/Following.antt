@@ -7,12 +7,12 @@ use Rattle.std.proofs.lemmas.Map.Text.{is_eq-slice_cmp}
 use Rattle.std.proofs.lemmas.List.Folds.{list_any-append}
 use Rattle.snow_base.specs.declared.header.Header.{Header}
 use Rattle.snow_flake.specs.Parameters.{Parameters, AreGood}
-use Rattle.snow_plain.specs.Board.{Board, begin, blocks_of, height_of, issued}
-use Rattle.snow_plain.specs.Reached.{MayIssue, Begun, Issued}
-use Rattle.snow_plain.specs.Grown.{has_block, is_on}
-use Rattle.snow_plain.proofs.Cases.{split_on, clash, same_id, id_same, id_itself, differs_back}
-use Rattle.snow_plain.proofs.Children.{some_height}
-use Rattle.snow_plain.proofs.Invariant.{blocks_issued}
+use Rattle.snow_board.specs.Board.{Board, begin, blocks_of, height_of, issued}
+use Rattle.snow_board.specs.Reached.{MayIssue, Begun, Issued}
+use Rattle.snow_board.specs.Grown.{has_block, is_on}
+use Rattle.snow_board.proofs.Cases.{split_on, clash, same_id, id_same, id_itself, differs_back}
+use Rattle.snow_board.proofs.Children.{some_height}
+use Rattle.snow_board.proofs.Invariant.{blocks_issued}
 use Rattle.snow_chain.specs.Chain.{Held, States, state_of, begun, with_state, rejected, MayVerify, MayReject}
 use Rattle.snow_node.specs.Matching.{Matches, IsSteady}
 

@@ -3,9 +3,9 @@ use Rattle.std.proofs.Common.{◌≡◌, ℕ, Bool, true, false, List, [], ◌++
 use Rattle.snow_base.specs.declared.header.Header.{Header}
 use Rattle.snow_flake.specs.Parameters.{Parameters}
 use Rattle.snow_flake.specs.Rule.{Answer}
-use Rattle.snow_plain.specs.declared.decision.Decision.{Decision}
-use Rattle.snow_plain.specs.Board.{Board, issued}
-use Rattle.snow_plain.specs.Preference.{preferred}
+use Rattle.snow_board.specs.declared.decision.Decision.{Decision}
+use Rattle.snow_board.specs.Board.{Board, issued}
+use Rattle.snow_board.specs.Preference.{preferred}
 use Rattle.snow_chain.specs.Chain.{Held, with_state}
 use Rattle.snow_lines.specs.declared.line.Line.{Line}
 use Rattle.snow_poll.specs.Table.{Table}

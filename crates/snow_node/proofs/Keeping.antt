@@ -8,9 +8,9 @@ use Rattle.snow_base.specs.Numbers.{next_number, last_after}
 use Rattle.snow_base.specs.declared.header.Header.{Header}
 use Rattle.snow_flake.specs.Parameters.{Parameters, AreGood}
 use Rattle.snow_sample.specs.declared.draws.Draw.{Draw}
-use Rattle.snow_plain.specs.declared.decision.Decision.{Decision}
-use Rattle.snow_plain.specs.Board.{Board, begin, height_of, issued}
-use Rattle.snow_plain.proofs.Cases.{split_on, clash, differs_back}
+use Rattle.snow_board.specs.declared.decision.Decision.{Decision}
+use Rattle.snow_board.specs.Board.{Board, begin, height_of, issued}
+use Rattle.snow_board.proofs.Cases.{split_on, clash, differs_back}
 use Rattle.snow_chain.specs.Chain.{Held, begun as first_states, with_state}
 use Rattle.snow_poll.specs.Poll.{Poll}
 use Rattle.snow_poll.specs.Table.{Table, no_polls, begun, voted, shortened, unfinished, answered, is_awaited_by, has_number as has_poll}

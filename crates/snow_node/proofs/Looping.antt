@@ -11,11 +11,11 @@ use Rattle.snow_sample.specs.declared.draws.Draw.{Draw}
 use Rattle.snow_sample.specs.declared.sampling.SampleFault.{SampleFault}
 use Rattle.snow_sample.specs.declared.sampling.SampleFault.TheVariants as fault
 use Rattle.snow_sample.specs.Sampling.{sample_of}
-use Rattle.snow_plain.specs.declared.decision.Decision.{Decision}
-use Rattle.snow_plain.specs.Board.{Board, height_of}
-use Rattle.snow_plain.specs.Preference.{is_preferred}
-use Rattle.snow_plain.specs.Poll.{poll}
-use Rattle.snow_plain.proofs.Cases.{split_on}
+use Rattle.snow_board.specs.declared.decision.Decision.{Decision}
+use Rattle.snow_board.specs.Board.{Board, height_of}
+use Rattle.snow_board.specs.Preference.{is_preferred}
+use Rattle.snow_board.specs.Poll.{poll}
+use Rattle.snow_board.proofs.Cases.{split_on}
 use Rattle.snow_chain.specs.Chain.{Rules, next_on}
 use Rattle.snow_lines.specs.declared.line.Line.{Line}
 use Rattle.snow_lines.specs.declared.why.DropWhy.{DropWhy}

@@ -5,11 +5,11 @@ use Rattle.snow_base.specs.declared.vote.Vote.{Vote}
 use Rattle.snow_node.specs.Matching.{IsSteady}
 use Rattle.snow_chain.specs.Chain.{Held, MayReject, with_state, verified, rejected}
 use Rattle.snow_node.proofs.Following.{may_undo, undone, issued_steady}
-use Rattle.snow_plain.specs.Board.{Board, height_of, issued}
-use Rattle.snow_plain.specs.declared.decision.Decision.{Decision}
-use Rattle.snow_plain.specs.declared.pending.Pending.{Pending}
-use Rattle.snow_plain.specs.Poll.{poll, settled, counted, promoted, winner, accepted_then}
-use Rattle.snow_plain.specs.Reached.{MayIssue}
+use Rattle.snow_board.specs.Board.{Board, height_of, issued}
+use Rattle.snow_board.specs.declared.decision.Decision.{Decision}
+use Rattle.snow_board.specs.Conflict.{Pending}
+use Rattle.snow_board.specs.Poll.{poll, settled, counted, promoted, winner, accepted_then}
+use Rattle.snow_board.specs.Reached.{MayIssue}
 
 -- ---- the parameters stay
 

@@ -15,7 +15,7 @@ use Rattle.snow_sample.specs.Words.{choice}
 use Rattle.snow_poll.specs.Poll.{Poll, has_replied, outstanding}
 use Rattle.snow_poll.specs.Closing.{is_closed}
 use Rattle.snow_poll.specs.Table.{new_poll, finished}
-use Rattle.snow_plain.proofs.Cases.{split_on}
+use Rattle.snow_board.proofs.Cases.{split_on}
 
 -- ---- a sample has as many draws as were asked for
 

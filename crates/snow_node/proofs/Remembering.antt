@@ -2,10 +2,10 @@
 use Rattle.std.proofs.Common.{◌≡◌, ℕ, Bool, true, false, List, [], ◌∷◌, Option, Some, None, bytes_eq, refl, sym, ap, ◌∙◌, subst}
 use Rattle.snow_base.specs.declared.header.Header.{Header}
 use Rattle.snow_base.specs.declared.vote.Vote.{Vote}
-use Rattle.snow_plain.specs.declared.decision.Decision.{Decision}
-use Rattle.snow_plain.specs.Board.{Board, issued}
-use Rattle.snow_plain.specs.Poll.{poll}
-use Rattle.snow_plain.proofs.Cases.{split_on, same_id}
+use Rattle.snow_board.specs.declared.decision.Decision.{Decision}
+use Rattle.snow_board.specs.Board.{Board, issued}
+use Rattle.snow_board.specs.Poll.{poll}
+use Rattle.snow_board.proofs.Cases.{split_on, same_id}
 use Rattle.snow_issue.specs.declared.work.Work.{Work}
 use Rattle.snow_issue.specs.declared.work.Work.TheVariants as work
 use Rattle.snow_issue.specs.Known.{Seen, lists_of, Knows, ForgetsChildren, NoneRipe, RestsAfter}

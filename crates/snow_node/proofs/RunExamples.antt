@@ -10,10 +10,10 @@ use Rattle.snow_flake.specs.Rule.{by_preference}
 use Rattle.snow_sample.specs.declared.roster.Node.{Node as Member}
 use Rattle.snow_sample.specs.Words.{is_power}
 use Rattle.snow_sample.specs.Sampling.{drawn_from}
-use Rattle.snow_plain.specs.Conflict.{with_child, all_polled, chosen, decided_path}
-use Rattle.snow_plain.specs.Board.{begin}
-use Rattle.snow_plain.specs.Poll.{counted, winner, decisions_for, promoted, settled, poll}
-use Rattle.snow_plain.specs.Preference.{path_from}
+use Rattle.snow_board.specs.Conflict.{with_child, all_polled, chosen, decided_path}
+use Rattle.snow_board.specs.Board.{begin}
+use Rattle.snow_board.specs.Poll.{counted, winner, decisions_for, promoted, settled, poll}
+use Rattle.snow_board.specs.Preference.{path_from}
 use Rattle.snow_chain.specs.Chain.{Held, begun, next_on}
 use Rattle.snow_chain.specs.Plain.{header_of, plain_rules}
 use Rattle.snow_issue.specs.Lists as lists

@@ -5,15 +5,15 @@ use Rattle.std.proofs.lemmas.Bool.{or_parts}
 use Rattle.std.proofs.lemmas.List.{map-append}
 use Rattle.snow_base.specs.declared.header.Header.{Header}
 use Rattle.snow_base.specs.declared.vote.Vote.{Vote}
-use Rattle.snow_plain.specs.declared.decision.Decision.{Decision}
+use Rattle.snow_board.specs.declared.decision.Decision.{Decision}
 use Rattle.snow_flake.specs.Parameters.{Parameters}
-use Rattle.snow_plain.specs.Board.{Board, begin, blocks_of, issued}
-use Rattle.snow_plain.specs.Grown.{has_block}
-use Rattle.snow_plain.specs.Poll.{poll}
-use Rattle.snow_plain.specs.Reached.{MayIssue}
-use Rattle.snow_plain.proofs.Cases.{split_on, clash, id_itself}
-use Rattle.snow_plain.proofs.Children.{some_height}
-use Rattle.snow_plain.proofs.Invariant.{blocks_issued}
+use Rattle.snow_board.specs.Board.{Board, begin, blocks_of, issued}
+use Rattle.snow_board.specs.Grown.{has_block}
+use Rattle.snow_board.specs.Poll.{poll}
+use Rattle.snow_board.specs.Reached.{MayIssue}
+use Rattle.snow_board.proofs.Cases.{split_on, clash, id_itself}
+use Rattle.snow_board.proofs.Children.{some_height}
+use Rattle.snow_board.proofs.Invariant.{blocks_issued}
 use Rattle.snow_chain.specs.Chain.{Held}
 use Rattle.snow_getter.specs.declared.served.Served.{Served}
 use Rattle.snow_getter.specs.Serving.{Serving, is_block, is_pending, serving_from, without, after_rejected}

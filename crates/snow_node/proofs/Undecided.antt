@@ -4,15 +4,15 @@ use Rattle.std.specs.List.{list_any}
 use Rattle.snow_base.specs.Ancestry.{descends}
 use Rattle.snow_base.specs.declared.header.Header.{Header}
 use Rattle.snow_base.specs.declared.vote.Vote.{Vote}
-use Rattle.snow_plain.specs.declared.decision.Decision.{Decision}
-use Rattle.snow_plain.specs.declared.pending.Pending.{Pending}
-use Rattle.snow_plain.specs.Board.{Board, blocks_of}
-use Rattle.snow_plain.specs.Poll.{counted, promoted, poll}
-use Rattle.snow_plain.specs.Grown.{has_block}
-use Rattle.snow_plain.proofs.Cases.{split_on, same_id}
-use Rattle.snow_plain.proofs.Invariant.{reached_sound, settled_keeps, blocks_counted}
-use Rattle.snow_plain.proofs.Kept.{filter_on, blocks-filter, has_filtered, has_own}
-use Rattle.snow_plain.proofs.Lookup.{last_not_pending}
+use Rattle.snow_board.specs.declared.decision.Decision.{Decision}
+use Rattle.snow_board.specs.Conflict.{Pending}
+use Rattle.snow_board.specs.Board.{Board, blocks_of}
+use Rattle.snow_board.specs.Poll.{counted, promoted, poll}
+use Rattle.snow_board.specs.Grown.{has_block}
+use Rattle.snow_board.proofs.Cases.{split_on, same_id}
+use Rattle.snow_board.proofs.Invariant.{reached_sound, settled_keeps, blocks_counted}
+use Rattle.snow_board.proofs.Kept.{filter_on, blocks-filter, has_filtered, has_own}
+use Rattle.snow_board.proofs.Lookup.{last_not_pending}
 use Rattle.snow_chain.specs.Chain.{Held}
 use Rattle.snow_node.specs.Matching.{IsSteady}
 use Rattle.snow_node.specs.Telling.{with_decision, with_decisions}

@@ -7,7 +7,7 @@ use Rattle.snow_sample.specs.Roster.{total_weight}
 use Rattle.snow_sample.specs.Sampling.{sample_of, drawn_from}
 use Rattle.snow_sample.specs.Words.{choice, is_power}
 use Rattle.std.proofs.lemmas.Bool.{le-ltb}
-use Rattle.snow_plain.proofs.Cases.{split_on}
+use Rattle.snow_board.proofs.Cases.{split_on}
 
 -- no number is chosen without a word
 none_chosen : (n : ℕ) → choice n [] ≡ None

@@ -2,9 +2,9 @@
 use Rattle.std.specs.Prelude.{ℕ, Bool, true, false, List, fold, length, Option, Some, None, Ok}
 use Rattle.snow_base.specs.declared.vote.Vote.{Vote}
 use Rattle.snow_flake.specs.Rule.{Answer}
-use Rattle.snow_plain.specs.declared.decision.Decision.{Decision}
-use Rattle.snow_plain.specs.Board.{Board}
-use Rattle.snow_plain.specs.Poll.{poll}
+use Rattle.snow_board.specs.declared.decision.Decision.{Decision}
+use Rattle.snow_board.specs.Board.{Board}
+use Rattle.snow_board.specs.Poll.{poll}
 use Rattle.snow_poll.specs.Table.{finished, shortened, voted}
 use Rattle.snow_issue.specs.Lists.{Lists, after_gone, after_forgotten}
 use Rattle.snow_node.specs.Outcome.{Comes, quietly}

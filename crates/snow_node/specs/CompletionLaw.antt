@@ -1,10 +1,10 @@
 -- A poll that is closed early leaves the very board that each of its completions would leave.
 use Rattle.std.specs.Prelude.{◌≡◌, List}
 use Rattle.snow_base.specs.declared.vote.Vote.{Vote}
-use Rattle.snow_plain.specs.declared.decision.Decision.{Decision}
-use Rattle.snow_plain.specs.Alike.{GivesAll}
-use Rattle.snow_plain.specs.Board.{Board}
-use Rattle.snow_plain.specs.Poll.{poll}
+use Rattle.snow_board.specs.declared.decision.Decision.{Decision}
+use Rattle.snow_board.specs.Alike.{GivesAll}
+use Rattle.snow_board.specs.Board.{Board}
+use Rattle.snow_board.specs.Poll.{poll}
 use Rattle.snow_poll.specs.Completion.{Choice, completed, StandsForAll}
 use Rattle.snow_poll.specs.Poll.{Poll}
 

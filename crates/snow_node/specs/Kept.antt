@@ -2,7 +2,7 @@
 use Rattle.std.specs.Prelude.{◌≡◌, ℕ, ◌-◌, ◌^◌, ◌<◌, ◌≤◌, length, false, List, [], ◌∷◌, None}
 use Rattle.snow_base.specs.declared.header.Header.{Header}
 use Rattle.snow_flake.specs.Parameters.{Parameters}
-use Rattle.snow_plain.specs.Board.{Board, height_of}
+use Rattle.snow_board.specs.Board.{Board, height_of}
 use Rattle.snow_chain.specs.Chain.{Held}
 use Rattle.snow_poll.specs.Table.{Table}
 use Rattle.snow_issue.specs.declared.work.Waiting.{Waiting}

@@ -1,9 +1,9 @@
 -- A board and a chain that belong together, and decisions of which a chain can be told.
 use Rattle.std.specs.Prelude.{◌≡◌, ℕ, Bool, true, false, List, [], ◌∷◌, Option, Some, None, is_some, ⊤}
-use Rattle.snow_plain.specs.declared.decision.Decision.{Decision}
+use Rattle.snow_board.specs.declared.decision.Decision.{Decision}
 use Rattle.snow_base.specs.declared.header.Header.{Header}
-use Rattle.snow_plain.specs.Board.{Board, height_of, issued}
-use Rattle.snow_plain.specs.Reached.{Reached}
+use Rattle.snow_board.specs.Board.{Board, height_of, issued}
+use Rattle.snow_board.specs.Reached.{Reached}
 use Rattle.snow_chain.specs.Chain.{Held, state_of, with_state, MayAccept, MayReject}
 use Rattle.snow_node.specs.Telling.{with_decision}
 

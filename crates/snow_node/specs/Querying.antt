@@ -5,7 +5,7 @@ use Rattle.snow_sample.specs.declared.draws.Draw.{Draw}
 use Rattle.snow_sample.specs.declared.sampling.SampleFault.{SampleFault}
 use Rattle.snow_sample.specs.declared.sampling.SampleFault.TheVariants as fault
 use Rattle.snow_sample.specs.Sampling.{sample_of}
-use Rattle.snow_plain.specs.Preference.{preferred}
+use Rattle.snow_board.specs.Preference.{preferred}
 use Rattle.snow_lines.specs.declared.line.Line.TheVariants as line
 use Rattle.snow_lines.specs.declared.why.QueryWhy.{QueryWhy}
 use Rattle.snow_lines.specs.declared.why.QueryWhy.TheVariants as why

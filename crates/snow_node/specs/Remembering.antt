@@ -1,6 +1,6 @@
 -- What is known of that which a queue remembers of its waiting blocks.
 use Rattle.std.specs.Prelude.{ℕ, Bool, true, false, List, Option, Some, None, bytes_eq, if◌then◌else◌}
-use Rattle.snow_plain.specs.Board.{Board}
+use Rattle.snow_board.specs.Board.{Board}
 use Rattle.snow_issue.specs.declared.work.Work.{Work}
 use Rattle.snow_issue.specs.declared.work.Work.TheVariants as work
 use Rattle.snow_issue.specs.Known.{Seen, lists_of, Knows, ForgetsChildren, NoneRipe}

@@ -3,7 +3,7 @@ use Rattle.std.specs.Prelude.{ℕ, Bool, false, List, Option, Some, None}
 use Rattle.snow_base.specs.Numbers.{next_number}
 use Rattle.snow_sample.specs.declared.roster.Node.{Node as Member}
 use Rattle.snow_flake.specs.Parameters.{Parameters}
-use Rattle.snow_plain.specs.Board.{Board, begin}
+use Rattle.snow_board.specs.Board.{Board, begin}
 use Rattle.snow_chain.specs.Chain.{Held, begun}
 use Rattle.snow_getter.specs.Serving.{Serving, serving_from}
 use Rattle.snow_poll.specs.Table.{Table, no_polls}

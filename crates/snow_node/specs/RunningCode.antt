@@ -4,8 +4,8 @@ use Rattle.std.specs.Coded.{Coded, coded_ℕ, coded_bool, coded_list, coded_opti
 use Rattle.snow_flake.specs.Parameters.{Parameters}
 use Rattle.snow_sample.specs.declared.draws.Draw.{Draw}
 use Rattle.snow_sample.specs.declared.roster.Node.{Node as Member}
-use Rattle.snow_plain.specs.Board.{Board}
-use Rattle.snow_plain.specs.BoardCode.{coded_board}
+use Rattle.snow_board.specs.Board.{Board}
+use Rattle.snow_board.specs.BoardCode.{coded_board}
 use Rattle.snow_chain.specs.Chain.{Held as States}
 use Rattle.snow_chain.specs.Coded.{coded_held}
 use Rattle.snow_poll.specs.declared.reply.Reply.{Reply}

@@ -2,8 +2,8 @@
 use Rattle.std.specs.Prelude.{ℕ, ◌+◌, Bool, true, false, List, [], length, Option, Some, None, if◌then◌else◌}
 use Rattle.snow_base.specs.declared.header.Header.{Header}
 use Rattle.snow_flake.specs.Rule.{Answer}
-use Rattle.snow_plain.specs.Board.{height_of, issued}
-use Rattle.snow_plain.specs.Preference.{is_preferred}
+use Rattle.snow_board.specs.Board.{height_of, issued}
+use Rattle.snow_board.specs.Preference.{is_preferred}
 use Rattle.snow_chain.specs.Chain.{Rules, next_on, with_state}
 use Rattle.snow_lines.specs.declared.line.Line.TheVariants as line
 use Rattle.snow_lines.specs.declared.why.DropWhy.{DropWhy}

@@ -1,9 +1,9 @@
 -- What boards and chains that decide are told: the lines of decisions, and what a chain holds after them.
 use Rattle.std.specs.Prelude.{ℕ, List, [], ◌∷◌, ◌++◌, map, fold, bytes_eq, if◌then◌else◌}
 use Rattle.snow_flake.specs.Rule.{Answer}
-use Rattle.snow_plain.specs.declared.decision.Decision.{Decision}
-use Rattle.snow_plain.specs.Board.{Board}
-use Rattle.snow_plain.specs.Preference.{preferred}
+use Rattle.snow_board.specs.declared.decision.Decision.{Decision}
+use Rattle.snow_board.specs.Board.{Board}
+use Rattle.snow_board.specs.Preference.{preferred}
 use Rattle.snow_chain.specs.Chain.{Held, accepted, rejected}
 use Rattle.snow_lines.specs.declared.line.Line.{Line}
 use Rattle.snow_lines.specs.declared.line.Line.TheVariants as line

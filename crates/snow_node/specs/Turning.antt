@@ -4,7 +4,7 @@ use Rattle.snow_flake.specs.Rule.{Answer}
 use Rattle.snow_sample.specs.declared.roster.Node.{Node as Member}
 use Rattle.snow_sample.specs.declared.roster.RosterFault.{RosterFault}
 use Rattle.snow_sample.specs.Roster.{first_fault}
-use Rattle.snow_plain.specs.Preference.{preferred}
+use Rattle.snow_board.specs.Preference.{preferred}
 use Rattle.snow_chain.specs.Chain.{Rules}
 use Rattle.snow_getter.specs.Answer.{answer as answer_to}
 use Rattle.snow_wire.specs.declared.event.Event.{Event}

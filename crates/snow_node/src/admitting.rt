@@ -3,9 +3,9 @@
 ghost use Rattle.std.specs.Prelude.{◌≡◌, ◌+◌, ◌≤◌, ◌==◌, None, length, IfOk, OnOk, OnErr};
 ghost use Rattle.snow_base.specs.Gathered.{one_each};
 ghost use Rattle.snow_base.specs.Votes.{total_count};
-ghost use Rattle.snow_plain.specs.Board.{height_of};
-ghost use Rattle.snow_plain.specs.Poll.{poll};
-ghost use Rattle.snow_plain.specs.Reached.{MayIssue};
+ghost use Rattle.snow_board.specs.Board.{height_of};
+ghost use Rattle.snow_board.specs.Poll.{poll};
+ghost use Rattle.snow_board.specs.Reached.{MayIssue};
 ghost use Rattle.snow_chain.specs.Chain.{next_on};
 ghost use Rattle.snow_node.specs.Matching.{IsSteady, Admits};
 ghost use Rattle.snow_node.specs.Placing.{opposed};
@@ -15,7 +15,7 @@ use crate::telling;
 use snow_base::{Bag, Header, Id};
 use snow_chain::Chain;
 use snow_lines::DropWhy;
-use snow_plain::Board;
+use snow_board::Board;
 use std::alloc::AllocError;
 
 /// The most blocks that may be pending.

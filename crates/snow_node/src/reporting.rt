@@ -1,12 +1,12 @@
 ghost use Rattle.std.specs.Prelude.{◌≡◌, [], ◌∷◌, ◌++◌, map, Err, OnOk, OnErr};
-ghost use Rattle.snow_plain.specs.Preference.{preferred};
+ghost use Rattle.snow_board.specs.Preference.{preferred};
 ghost use Rattle.snow_node.specs.Telling as model;
 ghost use Rattle.snow_node.specs.Stepping.{Tells, LogsFront};
 
 use crate::stop::Halt;
 use snow_base::Id;
 use snow_lines::{DropWhy, Line, Lines};
-use snow_plain::{Board, Decision};
+use snow_board::{Board, Decision};
 use std::alloc::AllocError;
 
 /// Appends a line to the log. On want of memory it returns `Halt::Memory`, and the log stays as it

@@ -3,7 +3,7 @@ ghost use Rattle.snow_node.specs.Matching.{MayFollow, MayTell};
 ghost use Rattle.snow_node.specs.Telling.{with_decision, with_decisions};
 
 use snow_chain::Chain;
-use snow_plain::Decision;
+use snow_board::Decision;
 
 /// Tells the chain each decision, in order: it accepts or rejects the block. It takes no memory.
 /// Rule: AvalancheGo, snow/consensus/snowman.

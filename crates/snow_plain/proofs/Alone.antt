@@ -14,11 +14,11 @@ use Rattle.snow_flake.specs.Counter.{Counter, fresh, stepped, admits}
 use Rattle.snow_flake.specs.Instance.{Single, at_bit, polled, on_side, counter_of}
 use Rattle.snow_flake.specs.Rule.{Answer, answer_of}
 use Rattle.snow_plain.specs.declared.lone.Lone.{Lone}
-use Rattle.snow_plain.specs.Conflict.{Counters, Blank, At, with_child, all_polled, votes_on, chosen, decided_path, leads_to, decides}
-use Rattle.snow_plain.specs.Walk.{depth}
+use Rattle.snow_board.specs.Conflict.{Counters, Blank, At, with_child, all_polled, votes_on, chosen, decided_path, leads_to, decides}
+use Rattle.snow_board.specs.Walk.{depth}
 use Rattle.snow_plain.specs.Alone.{linked, lined, filled, IsReserve, is_blank, along, AreFor}
-use Rattle.snow_plain.proofs.Cases.{split_on, same_id}
-use Rattle.snow_plain.proofs.Pruning.{instance_stepped}
+use Rattle.snow_board.proofs.Cases.{split_on, same_id}
+use Rattle.snow_board.proofs.Pruning.{instance_stepped}
 
 -- ---- one instance
 

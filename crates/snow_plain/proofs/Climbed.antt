@@ -7,15 +7,15 @@ use Rattle.snow_base.specs.declared.header.Header.{Header}
 use Rattle.snow_base.specs.declared.vote.Vote.{Vote}
 use Rattle.snow_base.specs.Ancestry.{line_in, child_on, begins_with, is_below, votes_below}
 use Rattle.snow_flake.specs.Parameters.{Parameters}
-use Rattle.snow_plain.specs.declared.cursor.Cursor.{Cursor}
-use Rattle.snow_plain.specs.declared.pending.Pending.{Pending}
-use Rattle.snow_plain.specs.Conflict.{all_polled}
-use Rattle.snow_plain.specs.Board.{Board, blocks_of, with_counters}
-use Rattle.snow_plain.specs.Poll.{with_votes, counted}
-use Rattle.snow_plain.specs.Cursors.{started, moved, moved_past, child_at, votes_for, votes_at, polled}
-use Rattle.snow_plain.specs.Grown.{has_block, is_on, IsGrown}
-use Rattle.snow_plain.proofs.Cases.{split_on, same_id, id_itself}
-use Rattle.snow_plain.proofs.Grown.{has_child, older, not_last, grown_before, latest_childless, no_child_on, line_passes}
+use Rattle.snow_board.specs.declared.cursor.Cursor.{Cursor}
+use Rattle.snow_board.specs.Conflict.{Pending}
+use Rattle.snow_board.specs.Conflict.{all_polled}
+use Rattle.snow_board.specs.Board.{Board, blocks_of, with_counters}
+use Rattle.snow_board.specs.Poll.{with_votes, counted}
+use Rattle.snow_board.specs.Cursors.{started, moved, moved_past, child_at, votes_for, votes_at, polled}
+use Rattle.snow_board.specs.Grown.{has_block, is_on, IsGrown}
+use Rattle.snow_board.proofs.Cases.{split_on, same_id, id_itself}
+use Rattle.snow_board.proofs.Grown.{has_child, older, not_last, grown_before, latest_childless, no_child_on, line_passes}
 
 -- ---- one vote
 

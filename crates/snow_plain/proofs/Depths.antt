@@ -4,8 +4,8 @@ use Rattle.snow_base.specs.Identifier.{bits}
 use Rattle.snow_base.proofs.Bits.{length-bits}
 use Rattle.snow_flake.specs.Parameters.{Parameters}
 use Rattle.snow_flake.specs.Counter.{stepped, admits}
-use Rattle.snow_plain.specs.Conflict.{Counters, Blank, At, with_child, all_polled}
-use Rattle.snow_plain.specs.Walk.{depth}
+use Rattle.snow_board.specs.Conflict.{Counters, Blank, At, with_child, all_polled}
+use Rattle.snow_board.specs.Walk.{depth}
 
 -- a choice of two is no deeper than both
 either_within : (n : ℕ) (b : Bool) (x y : Counters) → depth x ≤ n → depth y ≤ n → depth (if b then x else y) ≤ n

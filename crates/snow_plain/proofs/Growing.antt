@@ -3,8 +3,8 @@ use Rattle.std.proofs.Common.{◌≡◌, ℕ, ◌+◌, ◌<◌, ◌≤◌, Bool,
 use Rattle.snow_base.specs.Identifier.{bit, bits}
 use Rattle.snow_base.proofs.Bits.{drop-bits}
 use Rattle.snow_flake.specs.Counter.{Counter, fresh, admits}
-use Rattle.snow_plain.specs.Conflict.{Counters, Blank, At, with_child}
-use Rattle.snow_plain.proofs.Walking.{drop-bits_end}
+use Rattle.snow_board.specs.Conflict.{Counters, Blank, At, with_child}
+use Rattle.snow_board.proofs.Walking.{drop-bits_end}
 
 -- behind the last bit no counter is added
 pub grown_end : (id : List ℕ) (n : ℕ) (counters : Counters) → 256 ≤ n → with_child (drop n (bits id)) counters ≡ counters

@@ -6,15 +6,15 @@ use Rattle.std.proofs.lemmas.List.Elements.{filter_more, filter-append}
 use Rattle.std.proofs.lemmas.Bool.{or_left, or_right}
 use Rattle.snow_base.specs.declared.header.Header.{Header}
 use Rattle.snow_base.specs.Ancestry.{line_in, descends}
-use Rattle.snow_plain.specs.declared.decision.Decision.{Decision}
-use Rattle.snow_plain.specs.declared.pending.Pending.{Pending}
-use Rattle.snow_plain.specs.Board.{blocks_of}
-use Rattle.snow_plain.specs.Poll.{rejects}
-use Rattle.snow_plain.specs.Acceptance.{outsiders, has_decision, is_rejected}
-use Rattle.snow_plain.specs.Grown.{has_block, is_on, IsGrown}
-use Rattle.snow_plain.proofs.Cases.{split_on, same_id, id_itself}
-use Rattle.snow_plain.proofs.Grown.{grown_parent, grown_rest, grown_before, on_more, older, not_last, no_line, line_passes, reversed_at, has_block-reverse}
-use Rattle.snow_plain.proofs.Kept.{blocks-filter, has_filtered}
+use Rattle.snow_board.specs.declared.decision.Decision.{Decision}
+use Rattle.snow_board.specs.Conflict.{Pending}
+use Rattle.snow_board.specs.Board.{blocks_of}
+use Rattle.snow_board.specs.Poll.{rejects}
+use Rattle.snow_board.specs.Acceptance.{outsiders, has_decision, is_rejected}
+use Rattle.snow_board.specs.Grown.{has_block, is_on, IsGrown}
+use Rattle.snow_board.proofs.Cases.{split_on, same_id, id_itself}
+use Rattle.snow_board.proofs.Grown.{grown_parent, grown_rest, grown_before, on_more, older, not_last, no_line, line_passes, reversed_at, has_block-reverse}
+use Rattle.snow_board.proofs.Kept.{blocks-filter, has_filtered}
 
 -- a block is told as rejected where it is among those that are
 pub told_rejects : (pending : List Pending) (id : List ℕ) → has_decision (map rejects pending) id ≡ has_block (blocks_of pending) id

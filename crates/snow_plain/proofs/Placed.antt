@@ -3,14 +3,14 @@ use Rattle.std.proofs.Common.{◌≡◌, ℕ, suc, ◌+◌, ◌-◌, ◌<◌, �
 use Rattle.std.proofs.lemmas.Bool.{or_parts, or_left, or_right}
 use Rattle.std.proofs.lemmas.Option.{none-some}
 use Rattle.snow_base.specs.declared.header.Header.{Header}
-use Rattle.snow_plain.specs.declared.pending.Pending.{Pending}
-use Rattle.snow_plain.specs.Board.{Board, blocks_of}
-use Rattle.snow_plain.specs.Reached.{MayIssue}
-use Rattle.snow_plain.specs.Grown.{has_block, IsGrown}
+use Rattle.snow_board.specs.Conflict.{Pending}
+use Rattle.snow_board.specs.Board.{Board, blocks_of}
+use Rattle.snow_board.specs.Reached.{MayIssue}
+use Rattle.snow_board.specs.Grown.{has_block, IsGrown}
 use Rattle.snow_plain.specs.Places.{place_from}
-use Rattle.snow_plain.proofs.Issued.{unknown_off}
-use Rattle.snow_plain.proofs.Grown.{older, reversed_at, has_block-reverse}
-use Rattle.snow_plain.proofs.Cases.{split_on, clash, same_id, id_same, id_itself}
+use Rattle.snow_board.proofs.Issued.{unknown_off}
+use Rattle.snow_board.proofs.Grown.{older, reversed_at, has_block-reverse}
+use Rattle.snow_board.proofs.Cases.{split_on, clash, same_id, id_same, id_itself}
 
 -- what is no block has no place
 pub no_place : (n : ℕ) (blocks : List Header) (id : List ℕ) → has_block blocks id ≡ false → place_from n blocks id ≡ None

@@ -7,15 +7,15 @@ use Rattle.std.proofs.lemmas.List.{length-map}
 use Rattle.std.proofs.lemmas.Bool.{or_left, or_right}
 use Rattle.snow_base.specs.declared.header.Header.{Header}
 use Rattle.snow_base.specs.Ancestry.{line_in, descends}
-use Rattle.snow_plain.specs.declared.decision.Decision.{Decision}
-use Rattle.snow_plain.specs.declared.pending.Pending.{Pending}
-use Rattle.snow_plain.specs.Board.{Board, blocks_of}
-use Rattle.snow_plain.specs.Poll.{accepts, rejects, promoted, decisions_for}
-use Rattle.snow_plain.specs.Acceptance.{outsiders, descendants, has_decision, Accepts}
-use Rattle.snow_plain.specs.Grown.{has_block}
-use Rattle.snow_plain.proofs.Cases.{split_on, same_id, id_same, id_itself, differs_back}
-use Rattle.snow_plain.proofs.Grown.{has_block-reverse}
-use Rattle.snow_plain.proofs.Kept.{filter_on, is_under}
+use Rattle.snow_board.specs.declared.decision.Decision.{Decision}
+use Rattle.snow_board.specs.Conflict.{Pending}
+use Rattle.snow_board.specs.Board.{Board, blocks_of}
+use Rattle.snow_board.specs.Poll.{accepts, rejects, promoted, decisions_for}
+use Rattle.snow_board.specs.Acceptance.{outsiders, descendants, has_decision, Accepts}
+use Rattle.snow_board.specs.Grown.{has_block}
+use Rattle.snow_board.proofs.Cases.{split_on, same_id, id_same, id_itself, differs_back}
+use Rattle.snow_board.proofs.Grown.{has_block-reverse}
+use Rattle.snow_board.proofs.Kept.{filter_on, is_under}
 use Rattle.snow_plain.proofs.Judged.{told_kept}
 
 -- each pending block is among their blocks

@@ -8,8 +8,8 @@ use Rattle.snow_flake.specs.Counter.{Counter}
 use Rattle.snow_flake.specs.Instance.{Single, at_bit, counter_of}
 use Rattle.snow_flake.specs.Rule.{answer_of, by_flake}
 use Rattle.snow_plain.specs.declared.lone.Lone.{Lone}
-use Rattle.snow_plain.specs.Conflict.{Counters, Blank, At, with_child, votes_on}
-use Rattle.snow_plain.specs.Walk.{depth}
+use Rattle.snow_board.specs.Conflict.{Counters, Blank, At, with_child, votes_on}
+use Rattle.snow_board.specs.Walk.{depth}
 
 -- a counter with all that is below it on the side of a bit
 abbrev pub linked : Bool → Counter → Counters → Counters

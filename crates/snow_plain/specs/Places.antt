@@ -1,7 +1,7 @@
 -- Where each pending block stands: an index beside the list.
 use Rattle.std.specs.Prelude.{◌≡◌, ℕ, ◌+◌, List, [], ◌∷◌, length, reverse, Option, Some, None, bytes_eq, if◌then◌else◌}
 use Rattle.snow_base.specs.declared.header.Header.{Header}
-use Rattle.snow_plain.specs.Grown.{IsGrown}
+use Rattle.snow_board.specs.Grown.{IsGrown}
 
 -- the place of an identifier among blocks of which the first has this place
 abbrev pub place_from : ℕ → List Header → List ℕ → Option ℕ

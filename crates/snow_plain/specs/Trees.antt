@@ -2,7 +2,7 @@
 use Rattle.snow_flake.specs.Instance.{counter_of}
 use Rattle.snow_plain.specs.declared.tree.Tree.{Tree}
 use Rattle.snow_plain.specs.declared.tree.Tree.TheVariants.{Leaf, Fork'}
-use Rattle.snow_plain.specs.Conflict.{Counters, Blank, At}
+use Rattle.snow_board.specs.Conflict.{Counters, Blank, At}
 
 abbrev pub counters_of : Tree → Counters
 counters_of Leaf = Blank

@@ -1,12 +1,12 @@
 ghost use Rattle.std.specs.Prelude.{◌≡◌, ◌+◌, ◌≤◌, ◌<◌, ◌∷◌, ◌++◌, slice_index_or, not, length, reverse, map, filter, vec_len, vec_capacity};
-ghost use Rattle.snow_plain.specs.Board.{blocks_of};
-ghost use Rattle.snow_plain.specs.Poll.{accepts, rejects};
-ghost use Rattle.snow_plain.specs.Grown.{IsGrown};
-ghost use Rattle.snow_plain.specs.Acceptance.{outsiders, descendants, has_decision, is_rejected};
+ghost use Rattle.snow_board.specs.Board.{blocks_of};
+ghost use Rattle.snow_board.specs.Poll.{accepts, rejects};
+ghost use Rattle.snow_board.specs.Grown.{IsGrown};
+ghost use Rattle.snow_board.specs.Acceptance.{outsiders, descendants, has_decision, is_rejected};
 
-use crate::decision::Decision;
-use crate::pending::Pending;
+use crate::conflict::Conflict;
 use snow_base::{Header, Id};
+use snow_board::{Decision, Pending};
 
 // Whether some decision is on this block.
 fn is_decided(decisions: &[Decision], id: &Id) -> bool
@@ -24,7 +24,7 @@ fn is_rejected(last: &Id, child: &Id, told: &[Decision], block: &Header) -> bool
 
 // Rejects, in order of issue, the pending blocks that neither are the child nor descend from it:
 // those whose parent is the last accepted block or is rejected.
-fn reject_others(pending: &[Pending], last: &Id, child: &Id, decisions: &mut Vec<Decision>)
+fn reject_others(pending: &[Pending<Conflict>], last: &Id, child: &Id, decisions: &mut Vec<Decision>)
     requires grown { IsGrown last.now (reverse (blocks_of pending.now)) }
     requires room { vec_len decisions.old + length (outsiders pending.now child.now) ≤ vec_capacity decisions.old }
     ensures told { decisions.new.items ≡ decisions.old.items ++ map rejects (outsiders pending.now child.now) }
@@ -42,7 +42,7 @@ fn reject_others(pending: &[Pending], last: &Id, child: &Id, decisions: &mut Vec
 }
 
 // Takes out the pending blocks on which there is a decision.
-fn drop_decided(pending: &mut Vec<Pending>, decisions: &[Decision])
+fn drop_decided(pending: &mut Vec<Pending<Conflict>>, decisions: &[Decision])
     ensures { pending.new.items ≡ filter (λ q. not (has_decision decisions.now q.block.id)) pending.old.items }
 {
     pending.retain(|entry| !is_decided(decisions, &entry.block.id));
@@ -54,11 +54,11 @@ fn drop_decided(pending: &mut Vec<Pending>, decisions: &[Decision])
 /// so it takes no memory.
 /// Rule: AvalancheGo, snow/consensus/snowman.
 pub fn take_accepted(
-    pending: &mut Vec<Pending>,
+    pending: &mut Vec<Pending<Conflict>>,
     last: &Id,
     at: usize,
     decisions: &mut Vec<Decision>,
-) -> Pending
+) -> Pending<Conflict>
     requires there { at < vec_len pending.old }
     requires grown { IsGrown last.now (reverse (blocks_of pending.old.items)) }
     requires room { vec_len decisions.old + vec_len pending.old ≤ vec_capacity decisions.old }

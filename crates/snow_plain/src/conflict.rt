@@ -23,8 +23,8 @@ pub struct Conflict {
 
 impl Model for Conflict {
     ghost use Rattle.snow_plain.specs.Alone.{counters_seen, IsKept};
-    ghost use Rattle.snow_plain.specs.Conflict.{Counters};
-    ghost use Rattle.snow_plain.specs.CountersCode.{coded_counters};
+    ghost use Rattle.snow_board.specs.Conflict.{Counters};
+    ghost use Rattle.snow_board.specs.CountersCode.{coded_counters};
     ghost use Rattle.snow_plain.specs.Trees.{counters_of};
 
     ghost Value = { Counters };
@@ -39,7 +39,7 @@ impl Model for Conflict {
 impl Conflict {
     ghost use Rattle.snow_base.specs.Identifier.{bits};
     ghost use Rattle.snow_base.specs.Votes.{IsInBitOrder, total_count};
-    ghost use Rattle.snow_plain.specs.Conflict.{Blank, with_child, all_polled, votes_on, leads_to, decides};
+    ghost use Rattle.snow_board.specs.Conflict.{Blank, with_child, all_polled, votes_on, leads_to, decides};
 
     /// Returns no counters, as before a child is issued. It takes no memory.
     /// Rule: AvalancheGo, snow/consensus/snowball.

@@ -1,12 +1,11 @@
 ghost use Rattle.std.specs.Prelude.{◌≡◌, ◌+◌, ◌^◌, ◌<◌, ◌≤◌, length, map, All};
-ghost use Rattle.snow_plain.specs.Board.{blocks_of};
-ghost use Rattle.snow_plain.specs.Conflict.{all_polled};
-ghost use Rattle.snow_plain.specs.Cursors.{moved_past, votes_at, cursor_total, polled};
+ghost use Rattle.snow_board.specs.Board.{blocks_of};
+ghost use Rattle.snow_board.specs.Conflict.{all_polled};
+ghost use Rattle.snow_board.specs.Cursors.{moved_past, votes_at, cursor_total, polled};
 
 use crate::conflict::Conflict;
-use crate::cursor::{Cursor, advance, gather};
-use crate::pending::Pending;
 use snow_base::{Bag, Id};
+use snow_board::{Cursor, Pending, advance, gather};
 use snow_flake::Params;
 
 // The counters of one block take the bit step with the votes that came to it.
@@ -31,7 +30,7 @@ fn poll_counters(
 // climb past each block in turn.
 fn poll_pending(
     params: &Params,
-    pending: &mut [Pending],
+    pending: &mut [Pending<Conflict>],
     cursors: &mut [Cursor],
     children: &mut Bag,
 )
@@ -64,7 +63,7 @@ pub fn poll_all(
     params: &Params,
     last: &Id,
     counters: &mut Conflict,
-    pending: &mut [Pending],
+    pending: &mut [Pending<Conflict>],
     cursors: &mut [Cursor],
     children: &mut Bag,
 )

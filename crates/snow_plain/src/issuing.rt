@@ -1,11 +1,11 @@
 ghost use Rattle.std.specs.Prelude.{◌≡◌, ◌<◌, IfSome, OnOk, OnErr, length, reverse, map};
-ghost use Rattle.snow_plain.specs.Board.{blocks_of, with_counters, with_issued};
-ghost use Rattle.snow_plain.specs.Grown.{IsGrown};
+ghost use Rattle.snow_board.specs.Board.{blocks_of, with_counters, with_issued};
+ghost use Rattle.snow_board.specs.Grown.{IsGrown};
 ghost use Rattle.snow_plain.specs.Places.{place_from};
 
 use crate::conflict::Conflict;
-use crate::pending::Pending;
 use snow_base::{Header, Id};
+use snow_board::Pending;
 use std::alloc::AllocError;
 
 /// Adds a block that was issued to its parent's counters. A parent that is pending stands at the
@@ -14,7 +14,7 @@ use std::alloc::AllocError;
 pub fn issue_below(
     last: &Id,
     counters: &mut Conflict,
-    pending: &mut [Pending],
+    pending: &mut [Pending<Conflict>],
     above: Option<usize>,
     child: &Header,
 ) -> Result<(), AllocError>

@@ -3,9 +3,9 @@ ghost use Rattle.std.specs.Bool.{beq};
 ghost use Rattle.std.specs.Cmp.Lexicographic.{pointwise};
 ghost use Rattle.snow_base.specs.Identifier.{bits};
 ghost use Rattle.snow_plain.specs.Alone.{lined, counters_seen, IsReserve, IsKept, AreFor};
-ghost use Rattle.snow_plain.specs.Conflict.{Counters, Blank, with_child, all_polled, votes_on, decides};
+ghost use Rattle.snow_board.specs.Conflict.{Counters, Blank, with_child, all_polled, votes_on, decides};
 ghost use Rattle.snow_plain.specs.Trees.{counters_of};
-ghost use Rattle.snow_plain.specs.Walk.{depth};
+ghost use Rattle.snow_board.specs.Walk.{depth};
 
 use crate::tree::{Tree, fill};
 use snow_base::{Id, Vote};

@@ -1,13 +1,14 @@
 //! Where the pending blocks stand, by their identifiers.
 ghost use Rattle.std.specs.Prelude.{◌≡◌, ℕ, ◌+◌, ◌<◌, ◌≤◌, cond, List, length, reverse, Some, None, OnOk, bytes_eq};
 ghost use Rattle.std.specs.HashMap.{get, hash_map_len, spare};
-ghost use Rattle.snow_plain.specs.Board.{blocks_of};
-ghost use Rattle.snow_plain.specs.Grown.{IsGrown};
+ghost use Rattle.snow_board.specs.Board.{blocks_of};
+ghost use Rattle.snow_board.specs.Grown.{IsGrown};
 ghost use Rattle.snow_plain.specs.Places.{ArePlaces};
 
-use crate::pending::Pending;
+use crate::conflict::Conflict;
 use indexmap::IndexMap;
 use snow_base::Id;
+use snow_board::Pending;
 use snow_map::IdHashing;
 use std::alloc::{AllocError, Global};
 
@@ -44,7 +45,7 @@ pub fn reserve_one(places: &mut Places) -> Result<(), AllocError>
 
 /// Lets each pending block have its place, and nothing else. It takes no memory.
 /// Rule: this project's own.
-pub fn place_all(places: &mut Places, pending: &[Pending])
+pub fn place_all(places: &mut Places, pending: &[Pending<Conflict>])
     requires grown { (last : List ℕ) × IsGrown last (reverse (blocks_of pending.now)) }
     requires room { length pending.now ≤ hash_map_len places.old + spare places.old }
     ensures places { ArePlaces (get bytes_eq places.new) (blocks_of pending.now) }

@@ -1,9 +1,7 @@
-use crate::board::Board;
-use crate::cursor::Cursor;
-use crate::decision::Decision;
-use crate::leading::Leading;
+use crate::leading::after_issue;
 use crate::state::State;
 use snow_base::{Bag, Header, Id};
+use snow_board::{Board, Cursor, Decision, Leading};
 use snow_flake::{Params, Rule};
 use std::alloc::{AllocError, Global};
 use std::marker::{Model, PhantomData};
@@ -30,8 +28,8 @@ pub struct PlainBoard<R: Rule> {
 
 impl<R: Rule> Model for PlainBoard<R> {
     ghost use Rattle.std.specs.Prelude.{◌≡◌, ◌+◌, length, vec_capacity};
-    ghost use Rattle.snow_plain.specs.Ending.{IsLeading};
-    ghost use Rattle.snow_plain.specs.Shown.{Shown, HasRoom, coded_shown};
+    ghost use Rattle.snow_board.specs.Ending.{IsLeading};
+    ghost use Rattle.snow_board.specs.Shown.{Shown, HasRoom, coded_shown};
 
     ghost Value = { Shown };
 
@@ -76,7 +74,7 @@ impl<R: Rule> Board for PlainBoard<R> {
         self.decisions.reserve(self.state.pending_len() + 1)?;
         let child = Header { id, parent, height };
         self.state.issue(self.alloc, child)?;
-        self.leading = self.leading.after_issue::<R>(&self.state, &child);
+        self.leading = after_issue::<R>(self.leading, &self.state, &child);
         self.decisions.clear();
         Ok(())
     }

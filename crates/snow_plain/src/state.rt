@@ -1,12 +1,10 @@
 use crate::accepting::take_accepted;
 use crate::conflict::Conflict;
 use crate::counting::poll_all;
-use crate::cursor::{Cursor, start_all};
-use crate::decision::Decision;
 use crate::issuing::issue_below;
-use crate::pending::Pending;
 use crate::places::{Places, no_places, place, place_all, place_of, reserve_one};
 use snow_base::{Bag, Header, Id, Vote};
+use snow_board::{Cursor, Decision, Pending, start_all};
 use snow_flake::{Params, Rule};
 use std::alloc::{AllocError, Global};
 use std::marker::Model;
@@ -20,15 +18,15 @@ pub struct State {
     last: Id,
     height: u64,
     counters: Conflict,
-    pending: Vec<Pending>,
+    pending: Vec<Pending<Conflict>>,
     places: Places,
 }
 
 impl Model for State {
     ghost use Rattle.std.specs.Prelude.{bytes_eq};
     ghost use Rattle.std.specs.HashMap.{get, hash_map_len};
-    ghost use Rattle.snow_plain.specs.Board.{Board, blocks_of};
-    ghost use Rattle.snow_plain.specs.BoardCode.{coded_board};
+    ghost use Rattle.snow_board.specs.Board.{Board, blocks_of};
+    ghost use Rattle.snow_board.specs.BoardCode.{coded_board};
     ghost use Rattle.snow_plain.specs.Places.{IsIndexed};
 
     ghost Value = { Board };
@@ -51,13 +49,13 @@ impl State {
     ghost use Rattle.std.specs.List.{position};
     ghost use Rattle.std.specs.Option.{option_map};
     ghost use Rattle.snow_base.specs.Votes.{total_count};
-    ghost use Rattle.snow_plain.specs.Board.{begin, block_of, issued, is_pending, parent_of, height_of};
-    ghost use Rattle.snow_plain.specs.Conflict.{decides};
-    ghost use Rattle.snow_plain.specs.Poll.{winner, settled, counted};
-    ghost use Rattle.snow_plain.specs.Preference.{preferred, is_preferred};
-    ghost use Rattle.snow_plain.specs.Ending.{has_pending_child};
-    ghost use Rattle.snow_plain.specs.Reached.{MayIssue};
-    ghost use Rattle.snow_plain.specs.Acceptance.{Accepts};
+    ghost use Rattle.snow_board.specs.Board.{begin, block_of, issued, is_pending, parent_of, height_of};
+    ghost use Rattle.snow_board.specs.Conflict.{decides};
+    ghost use Rattle.snow_board.specs.Poll.{winner, settled, counted};
+    ghost use Rattle.snow_board.specs.Preference.{preferred, is_preferred};
+    ghost use Rattle.snow_board.specs.Ending.{has_pending_child};
+    ghost use Rattle.snow_board.specs.Reached.{MayIssue};
+    ghost use Rattle.snow_board.specs.Acceptance.{Accepts};
 
     /// Returns the state where nothing is pending above this block.
     /// Rule: AvalancheGo, snow/consensus/snowman.
@@ -174,7 +172,7 @@ impl State {
 
     /// Returns the block to which the answers lead from the last accepted one.
     /// Rule: AvalancheGo, snow/consensus/snowman.
-    #[tactic(auto, unfolding(crate::specs::Preference::path_from))]
+    #[tactic(auto, unfolding(snow_board::specs::Preference::path_from))]
     pub fn preference<R: Rule>(&self) -> Id
         ensures { result ≡ preferred R.answer self.now }
     {
@@ -192,7 +190,7 @@ impl State {
     /// Returns whether a block is on the path from the last accepted block to the preference, both
     /// included.
     /// Rule: AvalancheGo, snow/consensus/snowman.
-    #[tactic(auto, unfolding(crate::specs::Preference::path_from))]
+    #[tactic(auto, unfolding(snow_board::specs::Preference::path_from))]
     pub fn is_preferred<R: Rule>(&self, id: &Id) -> bool
         ensures { result ≡ is_preferred R.answer self.now id.now }
     {

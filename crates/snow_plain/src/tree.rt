@@ -8,8 +8,8 @@ ghost use Rattle.snow_base.specs.Votes.{IsInBitOrder, total_count};
 ghost use Rattle.snow_flake.specs.Counter.{admits, fresh, stepped};
 ghost use Rattle.snow_flake.specs.Instance.{counter_of};
 ghost use Rattle.snow_plain.specs.Alone.{filled, is_blank};
-ghost use Rattle.snow_plain.specs.Conflict.{Blank, At, with_child, all_polled, chosen, decided_path};
-ghost use Rattle.snow_plain.specs.Walk.{depth, is_decided_as, votes_from};
+ghost use Rattle.snow_board.specs.Conflict.{Blank, At, with_child, all_polled, chosen, decided_path};
+ghost use Rattle.snow_board.specs.Walk.{depth, is_decided_as, votes_from};
 ghost use Rattle.snow_plain.specs.Trees.{counters_of};
 
 use snow_base::{Id, Vote, split};

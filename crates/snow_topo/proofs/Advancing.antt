@@ -11,19 +11,19 @@ use Rattle.snow_base.specs.declared.header.Header.{Header}
 use Rattle.snow_base.specs.Identifier.{bits}
 use Rattle.snow_base.specs.Ancestry.{line_in, descends}
 use Rattle.snow_flake.specs.Rule.{Answer}
-use Rattle.snow_plain.specs.declared.pending.Pending.{Pending}
-use Rattle.snow_plain.specs.Conflict.{Counters, decided_path, decides, leads_to}
-use Rattle.snow_plain.specs.Board.{Board, blocks_of}
-use Rattle.snow_plain.specs.Grown.{IsGrown}
-use Rattle.snow_plain.specs.Poll.{winner, promoted, settled}
-use Rattle.snow_plain.specs.Preference.{path_from, preferred_path, preferred, end_of}
-use Rattle.snow_plain.proofs.Cases.{split_on, clash, same_id}
-use Rattle.snow_plain.proofs.Grown.{has_child, latest_childless, grown_before}
-use Rattle.snow_plain.proofs.Kept.{descendants_grown}
-use Rattle.snow_plain.proofs.Lines.{line_of}
-use Rattle.snow_plain.proofs.Lookup.{won, reversed_around}
-use Rattle.snow_plain.proofs.Standing.{any-reverse}
-use Rattle.snow_plain.proofs.Settled.{settled_done, settled_won}
+use Rattle.snow_board.specs.Conflict.{Pending}
+use Rattle.snow_board.specs.Conflict.{Counters, decided_path, decides, leads_to}
+use Rattle.snow_board.specs.Board.{Board, blocks_of}
+use Rattle.snow_board.specs.Grown.{IsGrown}
+use Rattle.snow_board.specs.Poll.{winner, promoted, settled}
+use Rattle.snow_board.specs.Preference.{path_from, preferred_path, preferred, end_of}
+use Rattle.snow_board.proofs.Cases.{split_on, clash, same_id}
+use Rattle.snow_board.proofs.Grown.{has_child, latest_childless, grown_before}
+use Rattle.snow_board.proofs.Kept.{descendants_grown}
+use Rattle.snow_board.proofs.Lines.{line_of}
+use Rattle.snow_board.proofs.Lookup.{won, reversed_around}
+use Rattle.snow_board.proofs.Standing.{any-reverse}
+use Rattle.snow_board.proofs.Settled.{settled_done, settled_won}
 use Rattle.snow_tree.proofs.Descending.{line_at, descends_at, last_descends}
 use Rattle.snow_tree.proofs.Left.{own}
 use Rattle.snow_topo.proofs.Won.{path_chosen}

@@ -2,7 +2,7 @@
 use Rattle.std.proofs.Common.{◌≡◌, ℕ, zero, suc, ◌≤◌, ◌==◌, Bool, true, false, List, [], ◌∷◌, length, get_or, map, All, Some, slice_get, refl, sym, ap, subst, arith, if◌then◌else◌}
 use Rattle.std.proofs.lemmas.List.Elements.{All-map}
 use Rattle.snow_flake.specs.Parameters.{Parameters}
-use Rattle.snow_plain.proofs.Cases.{split_on}
+use Rattle.snow_board.proofs.Cases.{split_on}
 use Rattle.snow_tree.specs.Held.{Entry, Held, blocks_in, children_of, set_load}
 use Rattle.snow_topo.specs.Kept.{Kept, shown, IsFit}
 use Rattle.snow_topo.specs.View.{view, all_pending, AreFit}

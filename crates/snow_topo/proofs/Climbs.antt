@@ -7,10 +7,10 @@ use Rattle.snow_base.specs.declared.header.Header.{Header}
 use Rattle.snow_base.specs.declared.vote.Vote.{Vote}
 use Rattle.snow_base.specs.Ancestry.{votes_below}
 use Rattle.snow_flake.specs.Parameters.{Parameters, AreGood}
-use Rattle.snow_plain.specs.declared.cursor.Cursor.{Cursor}
-use Rattle.snow_plain.specs.Conflict.{all_polled}
-use Rattle.snow_plain.specs.Cursors.{votes_at}
-use Rattle.snow_plain.specs.Grown.{IsGrown}
+use Rattle.snow_board.specs.declared.cursor.Cursor.{Cursor}
+use Rattle.snow_board.specs.Conflict.{all_polled}
+use Rattle.snow_board.specs.Cursors.{votes_at}
+use Rattle.snow_board.specs.Grown.{IsGrown}
 use Rattle.snow_tree.specs.Held.{Entry, Held, blocks_in, children_of, set_load, with_load}
 use Rattle.snow_topo.specs.Kept.{Kept, shown, IsFit}
 use Rattle.snow_topo.specs.View.{pending_of, all_pending}

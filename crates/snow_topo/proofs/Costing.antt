@@ -8,8 +8,8 @@ use Rattle.snow_base.specs.declared.header.Header.{Header}
 use Rattle.snow_base.specs.declared.vote.Vote.{Vote}
 use Rattle.snow_base.specs.Ancestry.{is_below}
 use Rattle.snow_flake.specs.Parameters.{Parameters}
-use Rattle.snow_plain.specs.Board.{Board, blocks_of, is_pending}
-use Rattle.snow_plain.proofs.Cases.{split_on}
+use Rattle.snow_board.specs.Board.{Board, blocks_of, is_pending}
+use Rattle.snow_board.proofs.Cases.{split_on}
 use Rattle.snow_tree.specs.Held.{Entry, blocks_in, children_of}
 use Rattle.snow_climb.specs.Starting.{votes_by}
 use Rattle.snow_topo.specs.Costs.{pending_votes, most_steps}

@@ -4,13 +4,13 @@ use Rattle.snow_base.specs.declared.header.Header.{Header}
 use Rattle.snow_base.specs.declared.vote.Vote.{Vote}
 use Rattle.snow_base.specs.Ancestry.{votes_below}
 use Rattle.snow_flake.specs.Parameters.{Parameters}
-use Rattle.snow_plain.specs.declared.cursor.Cursor.{Cursor}
-use Rattle.snow_plain.specs.Board.{blocks_of}
-use Rattle.snow_plain.specs.Conflict.{all_polled}
-use Rattle.snow_plain.specs.Cursors.{child_at, votes_at, votes_for as of_child}
-use Rattle.snow_plain.specs.Grown.{has_block, IsGrown}
-use Rattle.snow_plain.specs.Poll.{counted}
-use Rattle.snow_plain.proofs.Cases.{split_on}
+use Rattle.snow_board.specs.declared.cursor.Cursor.{Cursor}
+use Rattle.snow_board.specs.Board.{blocks_of}
+use Rattle.snow_board.specs.Conflict.{all_polled}
+use Rattle.snow_board.specs.Cursors.{child_at, votes_at, votes_for as of_child}
+use Rattle.snow_board.specs.Grown.{has_block, IsGrown}
+use Rattle.snow_board.specs.Poll.{counted}
+use Rattle.snow_board.proofs.Cases.{split_on}
 use Rattle.snow_tree.specs.Held.{Entry, Held, blocks_in}
 use Rattle.snow_tree.proofs.Descending.{last_off}
 use Rattle.snow_topo.specs.Kept.{Kept, shown}

@@ -9,14 +9,14 @@ use Rattle.std.proofs.lemmas.Option.{none-some, same_Some, slice_get_within, sli
 use Rattle.snow_base.specs.declared.header.Header.{Header}
 use Rattle.snow_flake.specs.Parameters.{Parameters}
 use Rattle.snow_flake.specs.Rule.{Answer}
-use Rattle.snow_plain.specs.declared.pending.Pending.{Pending}
-use Rattle.snow_plain.specs.Conflict.{Counters, Blank, leads_to}
-use Rattle.snow_plain.specs.FailingLaw.{failed}
-use Rattle.snow_plain.specs.Board.{blocks_of, block_of, is_pending, height_of, counters_on}
-use Rattle.snow_plain.specs.Ending.{end_counters, has_pending_child, IsTop}
-use Rattle.snow_plain.specs.Grown.{has_block, is_on, IsGrown}
-use Rattle.snow_plain.specs.Preference.{path_from, end_of, preferred, is_preferred}
-use Rattle.snow_plain.proofs.Cases.{split_on, clash, same_id, id_same, id_itself}
+use Rattle.snow_board.specs.Conflict.{Pending}
+use Rattle.snow_board.specs.Conflict.{Counters, Blank, leads_to}
+use Rattle.snow_board.specs.FailingLaw.{failed}
+use Rattle.snow_board.specs.Board.{blocks_of, block_of, is_pending, height_of, counters_on}
+use Rattle.snow_board.specs.Ending.{end_counters, has_pending_child, IsTop}
+use Rattle.snow_board.specs.Grown.{has_block, is_on, IsGrown}
+use Rattle.snow_board.specs.Preference.{path_from, end_of, preferred, is_preferred}
+use Rattle.snow_board.proofs.Cases.{split_on, clash, same_id, id_same, id_itself}
 use Rattle.snow_tree.specs.Held.{Entry, Held, blocks_in, children_of, entry_in, place_in}
 use Rattle.snow_tree.proofs.Descending.{last_off}
 use Rattle.snow_tree.proofs.Placed.{position_cons}

@@ -10,16 +10,16 @@ use Rattle.std.proofs.lemmas.Option.{slice_get-map, slice_get_within, get_or_fro
 use Rattle.snow_base.specs.declared.header.Header.{Header}
 use Rattle.snow_base.specs.Identifier.{bits}
 use Rattle.snow_flake.specs.Parameters.{Parameters, AreGood}
-use Rattle.snow_plain.specs.Conflict.{with_child}
-use Rattle.snow_plain.specs.FailingLaw.{failed}
-use Rattle.snow_plain.specs.Board.{with_counters, with_issued, issued}
-use Rattle.snow_plain.specs.Grown.{has_block, is_on, IsGrown}
-use Rattle.snow_plain.proofs.Cases.{split_on, clash, same_id, id_same}
-use Rattle.snow_plain.proofs.Failing.{fails_or_adds}
-use Rattle.snow_plain.proofs.Grown.{has_block-reverse}
+use Rattle.snow_board.specs.Conflict.{with_child}
+use Rattle.snow_board.specs.FailingLaw.{failed}
+use Rattle.snow_board.specs.Board.{with_counters, with_issued, issued}
+use Rattle.snow_board.specs.Grown.{has_block, is_on, IsGrown}
+use Rattle.snow_board.proofs.Cases.{split_on, clash, same_id, id_same}
+use Rattle.snow_board.proofs.Failing.{fails_or_adds}
+use Rattle.snow_board.proofs.Grown.{has_block-reverse}
 use Rattle.snow_tree.specs.Held.{Entry, Held, blocks_in, children_of, inserted, place_in, set_load}
 use Rattle.snow_tree.proofs.Listed.{children_push, no_children}
-use Rattle.snow_plain.proofs.Kept.{has_own}
+use Rattle.snow_board.proofs.Kept.{has_own}
 use Rattle.snow_tree.proofs.Descending.{last_off}
 use Rattle.snow_tree.proofs.Placed.{either_way}
 use Rattle.snow_topo.specs.Kept.{Contest, Kept, bare, joined, gained, counters_in, ids_in, shown, IsFit}

@@ -9,13 +9,13 @@ use Rattle.std.proofs.lemmas.List.Folds.{find_at}
 use Rattle.std.proofs.lemmas.Option.{none-some, slice_get_within, get_or_from_slice_get}
 use Rattle.snow_base.specs.Ancestry.{descends}
 use Rattle.snow_flake.specs.Parameters.{Parameters}
-use Rattle.snow_plain.specs.declared.pending.Pending.{Pending}
-use Rattle.snow_plain.specs.Acceptance.{Accepts}
-use Rattle.snow_plain.specs.Grown.{has_block, IsGrown}
-use Rattle.snow_plain.specs.Poll.{winner, rejects, promoted, decisions_for}
-use Rattle.snow_plain.specs.declared.decision.Decision.{Decision}
-use Rattle.snow_plain.proofs.Cases.{split_on, same_id}
-use Rattle.snow_plain.proofs.Lookup.{won}
+use Rattle.snow_board.specs.Conflict.{Pending}
+use Rattle.snow_board.specs.Acceptance.{Accepts}
+use Rattle.snow_board.specs.Grown.{has_block, IsGrown}
+use Rattle.snow_board.specs.Poll.{winner, rejects, promoted, decisions_for}
+use Rattle.snow_board.specs.declared.decision.Decision.{Decision}
+use Rattle.snow_board.proofs.Cases.{split_on, same_id}
+use Rattle.snow_board.proofs.Lookup.{won}
 use Rattle.snow_tree.specs.Held.{Entry, Held, blocks_in, children_of, entry_in, promoted as left_above}
 use Rattle.snow_tree.proofs.Left.{own, one_block, children_stay}
 use Rattle.snow_topo.specs.Kept.{Kept, shown, IsFit}

@@ -2,10 +2,10 @@
 use Rattle.std.proofs.Common.{◌≡◌, ℕ, ◌+◌, ◌<◌, ◌≤◌, Bool, true, false, not, List, ◌==◌, Some, None, IfSome, refl, sym, ap, subst, ◌∙◌, arith, if◌then◌else◌}
 use Rattle.std.proofs.lemmas.Grind.{common_steps}
 use Rattle.snow_flake.specs.Parameters.{Parameters, AreGood}
-use Rattle.snow_plain.specs.Conflict.{Counters, Blank, all_polled}
-use Rattle.snow_plain.specs.FailingLaw.{failed}
-use Rattle.snow_plain.proofs.Cases.{split_on}
-use Rattle.snow_plain.proofs.Failing.{fails_once}
+use Rattle.snow_board.specs.Conflict.{Counters, Blank, all_polled}
+use Rattle.snow_board.specs.FailingLaw.{failed}
+use Rattle.snow_board.proofs.Cases.{split_on}
+use Rattle.snow_board.proofs.Failing.{fails_once}
 use Rattle.snow_topo.specs.Kept.{Contest, Kept, counters_in, shown, IsFit}
 
 -- a number is found equal to itself

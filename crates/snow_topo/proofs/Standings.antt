@@ -8,16 +8,16 @@ use Rattle.snow_base.specs.declared.header.Header.{Header}
 use Rattle.snow_base.specs.declared.vote.Vote.{Vote}
 use Rattle.snow_base.specs.Ancestry.{descends, is_below, votes_below}
 use Rattle.snow_flake.specs.Parameters.{Parameters}
-use Rattle.snow_plain.specs.declared.pending.Pending.{Pending}
+use Rattle.snow_board.specs.Conflict.{Pending}
 use Rattle.snow_flake.specs.Rule.{Answer}
-use Rattle.snow_plain.specs.Board.{Board, blocks_of, is_pending, height_of, with_counters, with_issued, new_pending, issued}
-use Rattle.snow_plain.specs.Grown.{has_block, is_on, IsGrown}
-use Rattle.snow_plain.specs.Preference.{path_from}
-use Rattle.snow_plain.specs.Poll.{counted, winner, promoted, poll}
-use Rattle.snow_plain.proofs.Cases.{split_on}
-use Rattle.snow_plain.proofs.Children.{some_height}
-use Rattle.snow_plain.proofs.Invariant.{settled_keeps, blocks_counted, blocks_issued}
-use Rattle.snow_plain.proofs.Kept.{blocks-filter}
+use Rattle.snow_board.specs.Board.{Board, blocks_of, is_pending, height_of, with_counters, with_issued, new_pending, issued}
+use Rattle.snow_board.specs.Grown.{has_block, is_on, IsGrown}
+use Rattle.snow_board.specs.Preference.{path_from}
+use Rattle.snow_board.specs.Poll.{counted, winner, promoted, poll}
+use Rattle.snow_board.proofs.Cases.{split_on}
+use Rattle.snow_board.proofs.Children.{some_height}
+use Rattle.snow_board.proofs.Invariant.{settled_keeps, blocks_counted, blocks_issued}
+use Rattle.snow_board.proofs.Kept.{blocks-filter}
 use Rattle.snow_tree.specs.Held.{Held, blocks_in, begun}
 use Rattle.snow_topo.specs.Kept.{Kept, bare}
 use Rattle.snow_climb.specs.Ladder.{Rungs, IsReady}

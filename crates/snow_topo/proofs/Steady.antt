@@ -6,9 +6,9 @@ use Rattle.snow_base.specs.declared.header.Header.{Header}
 use Rattle.snow_base.specs.Identifier.{bits}
 use Rattle.snow_flake.specs.Parameters.{Parameters, AreGood}
 use Rattle.snow_flake.specs.Rule.{Answer}
-use Rattle.snow_plain.specs.Conflict.{Counters, chosen}
-use Rattle.snow_plain.specs.Preference.{path_from, preferred, end_of}
-use Rattle.snow_plain.proofs.Cases.{split_on}
+use Rattle.snow_board.specs.Conflict.{Counters, chosen}
+use Rattle.snow_board.specs.Preference.{path_from, preferred, end_of}
+use Rattle.snow_board.proofs.Cases.{split_on}
 use Rattle.snow_trie.proofs.Chosen.{chosen_failed}
 use Rattle.snow_tree.specs.Held.{Entry, Held, set_load}
 use Rattle.snow_topo.specs.Kept.{Kept, counters_in, shown}

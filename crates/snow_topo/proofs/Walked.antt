@@ -12,14 +12,14 @@ use Rattle.snow_base.specs.Identifier.{bits}
 use Rattle.snow_base.proofs.Bits.{get_or-bits, bit_cmp-same, same_from_bit_cmp}
 use Rattle.snow_flake.specs.Parameters.{Parameters, AreGood}
 use Rattle.snow_flake.specs.Rule.{Answer}
-use Rattle.snow_plain.specs.declared.pending.Pending.{Pending}
-use Rattle.snow_plain.specs.Conflict.{Counters, Blank, chosen, leads_to}
-use Rattle.snow_plain.specs.Grown.{has_block, IsGrown}
-use Rattle.snow_plain.specs.Preference.{path_from}
-use Rattle.snow_plain.proofs.Cases.{split_on, clash, same_id, id_same}
-use Rattle.snow_plain.proofs.Grown.{grown_new, grown_before, has_child, latest_childless, has_block-reverse}
-use Rattle.snow_plain.proofs.Kept.{has_own}
-use Rattle.snow_plain.proofs.Standing.{any-reverse}
+use Rattle.snow_board.specs.Conflict.{Pending}
+use Rattle.snow_board.specs.Conflict.{Counters, Blank, chosen, leads_to}
+use Rattle.snow_board.specs.Grown.{has_block, IsGrown}
+use Rattle.snow_board.specs.Preference.{path_from}
+use Rattle.snow_board.proofs.Cases.{split_on, clash, same_id, id_same}
+use Rattle.snow_board.proofs.Grown.{grown_new, grown_before, has_child, latest_childless, has_block-reverse}
+use Rattle.snow_board.proofs.Kept.{has_own}
+use Rattle.snow_board.proofs.Standing.{any-reverse}
 use Rattle.snow_tree.specs.Held.{Entry, blocks_in, children_of}
 use Rattle.snow_tree.proofs.Left.{one_block}
 use Rattle.snow_topo.specs.Kept.{Contest, Kept, counters_in, ids_in, shown, IsFit}

@@ -15,11 +15,11 @@ use Rattle.snow_base.proofs.Bits.{length-bits, get_or-bits}
 use Rattle.snow_flake.specs.Parameters.{Parameters, AreGood}
 use Rattle.snow_flake.specs.Counter.{Decided, Undecided}
 use Rattle.snow_flake.specs.Rule.{Answer}
-use Rattle.snow_plain.specs.Conflict.{Counters, Blank, At, all_polled, chosen, decided_path, decides}
-use Rattle.snow_plain.specs.FailingLaw.{failed}
-use Rattle.snow_plain.specs.Poll.{winner}
-use Rattle.snow_plain.proofs.Cases.{split_on}
-use Rattle.snow_plain.proofs.Failing.{fails}
+use Rattle.snow_board.specs.Conflict.{Counters, Blank, At, all_polled, chosen, decided_path, decides}
+use Rattle.snow_board.specs.FailingLaw.{failed}
+use Rattle.snow_board.specs.Poll.{winner}
+use Rattle.snow_board.proofs.Cases.{split_on}
+use Rattle.snow_board.proofs.Failing.{fails}
 use Rattle.snow_tree.specs.Held.{Entry, Held, blocks_in, children_of}
 use Rattle.snow_topo.specs.Kept.{Kept, counters_in, shown}
 use Rattle.snow_topo.specs.View.{all_pending, view}

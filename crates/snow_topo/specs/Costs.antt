@@ -2,9 +2,9 @@
 use Rattle.std.specs.Prelude.{ℕ, ◌+◌, ◌*◌, nat_lt, List, [], ◌∷◌, sum_by, if◌then◌else◌}
 use Rattle.snow_base.specs.Votes.{Votes}
 use Rattle.snow_base.specs.declared.vote.Vote.{Vote}
-use Rattle.snow_plain.specs.Board.{Board, blocks_of, is_pending}
-use Rattle.snow_plain.specs.Poll.{poll}
-use Rattle.snow_plain.specs.Shown.{Shown}
+use Rattle.snow_board.specs.Board.{Board, blocks_of, is_pending}
+use Rattle.snow_board.specs.Poll.{poll}
+use Rattle.snow_board.specs.Shown.{Shown}
 use Rattle.snow_topo.specs.Recording.{recording}
 
 -- how many votes are for pending blocks

@@ -4,10 +4,10 @@ use Rattle.std.specs.Option.{option_map}
 use Rattle.snow_base.specs.declared.header.Header.{Header}
 use Rattle.snow_base.specs.declared.vote.Vote.{Vote}
 use Rattle.snow_flake.specs.Parameters.{Parameters}
-use Rattle.snow_plain.specs.declared.pending.Pending.{Pending}
-use Rattle.snow_plain.specs.Board.{with_counters}
-use Rattle.snow_plain.specs.Conflict.{all_polled, votes_on}
-use Rattle.snow_plain.specs.Poll.{with_votes}
+use Rattle.snow_board.specs.Conflict.{Pending}
+use Rattle.snow_board.specs.Board.{with_counters}
+use Rattle.snow_board.specs.Conflict.{all_polled, votes_on}
+use Rattle.snow_board.specs.Poll.{with_votes}
 use Rattle.snow_tree.specs.Held.{Entry, blocks_in, children_of}
 use Rattle.snow_topo.specs.Kept.{Kept, shown, IsFit}
 use Rattle.snow_topo.specs.View.{all_pending}

@@ -2,8 +2,8 @@
 use Rattle.std.specs.Prelude.{◌≡◌, ℕ, ◌≤◌, List, [], ◌∷◌, ◌++◌, Option, Some, None, IfSome, ◌==◌, if◌then◌else◌}
 use Rattle.snow_base.specs.Identifier.{bits}
 use Rattle.snow_flake.specs.Parameters.{Parameters}
-use Rattle.snow_plain.specs.Conflict.{Counters, Blank, with_child}
-use Rattle.snow_plain.specs.FailingLaw.{failed}
+use Rattle.snow_board.specs.Conflict.{Counters, Blank, with_child}
+use Rattle.snow_board.specs.FailingLaw.{failed}
 use Rattle.snow_trie.specs.Whole.{Compressed}
 
 -- the children of a block that has some: their identifiers in order of issue, and their counters

@@ -5,7 +5,7 @@ use Rattle.std.specs.Cmp.Lexicographic.{pointwise}
 use Rattle.snow_base.specs.declared.header.Header.{Header}
 use Rattle.snow_base.specs.Identifier.{bits}
 use Rattle.snow_flake.specs.Rule.{Answer}
-use Rattle.snow_plain.specs.Conflict.{Counters, chosen, decides}
+use Rattle.snow_board.specs.Conflict.{Counters, chosen, decides}
 use Rattle.snow_tree.specs.Held.{Entry}
 use Rattle.snow_topo.specs.Kept.{Kept, counters_in}
 

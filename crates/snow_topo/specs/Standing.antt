@@ -2,11 +2,11 @@
 use Rattle.std.specs.Prelude.{◌≡◌, ◌⊎◌, ℕ, List, length}
 use Rattle.snow_flake.specs.Parameters.{Parameters}
 use Rattle.snow_flake.specs.Rule.{Answer}
-use Rattle.snow_plain.specs.declared.decision.Decision.{Decision}
-use Rattle.snow_plain.specs.Conflict.{Counters}
-use Rattle.snow_plain.specs.FailingLaw.{failed}
-use Rattle.snow_plain.specs.Preference.{preferred}
-use Rattle.snow_plain.specs.Shown.{Shown, HasRoom}
+use Rattle.snow_board.specs.declared.decision.Decision.{Decision}
+use Rattle.snow_board.specs.Conflict.{Counters}
+use Rattle.snow_board.specs.FailingLaw.{failed}
+use Rattle.snow_board.specs.Preference.{preferred}
+use Rattle.snow_board.specs.Shown.{Shown, HasRoom}
 use Rattle.snow_tree.specs.Held.{Held, blocks_in}
 use Rattle.snow_topo.specs.Kept.{Kept}
 use Rattle.snow_climb.specs.Ladder.{Rungs, IsReady}

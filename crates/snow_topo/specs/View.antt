@@ -1,8 +1,8 @@
 -- The board that a tree of pending blocks stands for, with what is kept of each block's children, after so many polls.
 use Rattle.std.specs.Prelude.{ℕ, List, map, All}
 use Rattle.snow_flake.specs.Parameters.{Parameters}
-use Rattle.snow_plain.specs.declared.pending.Pending.{Pending}
-use Rattle.snow_plain.specs.Board.{Board}
+use Rattle.snow_board.specs.Conflict.{Pending}
+use Rattle.snow_board.specs.Board.{Board}
 use Rattle.snow_tree.specs.Held.{Entry, Held, blocks_in, children_of}
 use Rattle.snow_topo.specs.Kept.{Kept, shown, IsFit}
 

@@ -1,7 +1,7 @@
 ghost use Rattle.std.specs.Prelude.{◌≡◌, ◌+◌, ◌≤◌, ◌++◌, Some, IfSome, map, length, vec_capacity};
 ghost use Rattle.std.specs.Option.{option_map};
-ghost use Rattle.snow_plain.specs.Acceptance.{Accepts};
-ghost use Rattle.snow_plain.specs.Poll.{winner};
+ghost use Rattle.snow_board.specs.Acceptance.{Accepts};
+ghost use Rattle.snow_board.specs.Poll.{winner};
 ghost use Rattle.snow_tree.specs.Held.{entry_in, promoted};
 ghost use Rattle.snow_topo.specs.Told.{rejection, told};
 ghost use Rattle.snow_topo.specs.View.{view, AreFit};
@@ -11,7 +11,7 @@ use crate::spare::SpareTrees;
 use crate::winning::next_child;
 use snow_base::Id;
 use snow_flake::{Params, Rule};
-use snow_plain::Decision;
+use snow_board::Decision;
 use snow_tree::Tree;
 
 // Tells that these were rejected.

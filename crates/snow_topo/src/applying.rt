@@ -1,7 +1,7 @@
 ghost use Rattle.std.specs.Prelude.{◌≡◌, ◌+◌, ◌*◌, ◌^◌, ◌<◌, ◌≤◌, false, List, length, vec_capacity};
 ghost use Rattle.snow_base.specs.declared.vote.Vote.{Vote};
-ghost use Rattle.snow_plain.specs.Poll.{poll};
-ghost use Rattle.snow_plain.specs.Preference.{preferred};
+ghost use Rattle.snow_board.specs.Poll.{poll};
+ghost use Rattle.snow_board.specs.Preference.{preferred};
 ghost use Rattle.snow_tree.specs.Held.{blocks_in};
 ghost use Rattle.snow_climb.specs.Ladder.{KeepsRoom};
 ghost use Rattle.snow_topo.specs.Recording.{recording};
@@ -15,7 +15,7 @@ use crate::spare::SpareTrees;
 use snow_base::{Bag, Steps};
 use snow_climb::Ladder;
 use snow_flake::{Params, Rule};
-use snow_plain::Decision;
+use snow_board::Decision;
 use snow_tree::Tree;
 use std::sync::ledger::Ledger;
 

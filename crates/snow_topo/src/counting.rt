@@ -1,8 +1,8 @@
 ghost use Rattle.std.specs.Prelude.{◌≡◌, ◌+◌, ◌*◌, ◌^◌, ◌<◌, ◌≤◌, nat_le, false, List, All, length, if◌then◌else◌};
 ghost use Rattle.snow_base.specs.declared.vote.Vote.{Vote};
-ghost use Rattle.snow_plain.specs.Cursors.{votes_at};
-ghost use Rattle.snow_plain.specs.Poll.{counted};
-ghost use Rattle.snow_plain.specs.Preference.{preferred};
+ghost use Rattle.snow_board.specs.Cursors.{votes_at};
+ghost use Rattle.snow_board.specs.Poll.{counted};
+ghost use Rattle.snow_board.specs.Preference.{preferred};
 ghost use Rattle.snow_tree.specs.Held.{blocks_in, children_of};
 ghost use Rattle.snow_topo.specs.Kept.{ids_in, IsFit};
 ghost use Rattle.snow_topo.specs.View.{view, AreFit};

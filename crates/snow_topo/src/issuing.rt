@@ -1,6 +1,6 @@
 ghost use Rattle.std.specs.Prelude.{◌≡◌, ℕ, true, false, IfSome, OnOk, OnErr, slice_get};
-ghost use Rattle.snow_plain.specs.Board.{issued};
-ghost use Rattle.snow_plain.specs.Grown.{is_on};
+ghost use Rattle.snow_board.specs.Board.{issued};
+ghost use Rattle.snow_board.specs.Grown.{is_on};
 ghost use Rattle.snow_tree.specs.Held.{blocks_in, place_in, inserted, taken_back, with_load};
 ghost use Rattle.snow_topo.specs.Kept.{bare, gained};
 ghost use Rattle.snow_topo.specs.View.{view, AreFit};

@@ -1,10 +1,10 @@
 ghost use Rattle.std.specs.Prelude.{◌≡◌, true, false, [], ◌∷◌, None, IfSome, bytes_eq};
 ghost use Rattle.std.specs.List.{list_any};
 ghost use Rattle.std.specs.Option.{option_copied};
-ghost use Rattle.snow_plain.specs.declared.leading.Leading.{Leading};
-ghost use Rattle.snow_plain.specs.Ending.{IsTop, leading_after};
-ghost use Rattle.snow_plain.specs.Grown.{is_on};
-ghost use Rattle.snow_plain.specs.Preference.{path_from, preferred_path, preferred, is_preferred};
+ghost use Rattle.snow_board.specs.declared.leading.Leading.{Leading};
+ghost use Rattle.snow_board.specs.Ending.{IsTop, leading_after};
+ghost use Rattle.snow_board.specs.Grown.{is_on};
+ghost use Rattle.snow_board.specs.Preference.{path_from, preferred_path, preferred, is_preferred};
 ghost use Rattle.snow_tree.specs.Held.{blocks_in, children_of, place_in};
 ghost use Rattle.snow_topo.specs.Kept.{shown, IsFit};
 ghost use Rattle.snow_topo.specs.View.{all_pending, view, AllFit, AreFit};

@@ -1,7 +1,7 @@
 ghost use Rattle.std.specs.Prelude.{◌≡◌, ◌+◌, ◌≤◌, All, Contains, None, IfSome, IfOk, false, if◌then◌else◌};
 ghost use Rattle.snow_base.specs.Votes.{IsInBitOrder, total_count};
-ghost use Rattle.snow_plain.specs.Conflict.{all_polled, votes_on, chosen};
-ghost use Rattle.snow_plain.specs.FailingLaw.{failed};
+ghost use Rattle.snow_board.specs.Conflict.{all_polled, votes_on, chosen};
+ghost use Rattle.snow_board.specs.FailingLaw.{failed};
 ghost use Rattle.snow_trie.specs.Whole.{HasFewNodes, begun};
 ghost use Rattle.snow_topo.specs.Leading.{HasDecided};
 

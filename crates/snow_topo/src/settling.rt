@@ -1,12 +1,12 @@
 ghost use Rattle.std.specs.Prelude.{◌≡◌, ◌+◌, ◌≤◌, ◌++◌, length, vec_capacity};
-ghost use Rattle.snow_plain.specs.Poll.{settled};
+ghost use Rattle.snow_board.specs.Poll.{settled};
 ghost use Rattle.snow_topo.specs.View.{view, AreFit};
 
 use crate::accepting::accept_next;
 use crate::load::Load;
 use crate::spare::SpareTrees;
 use snow_flake::{Params, Rule};
-use snow_plain::Decision;
+use snow_board::Decision;
 use snow_tree::Tree;
 
 /// Accepts children of the last accepted block while decided counters lead to one, and appends the

@@ -2,10 +2,10 @@ ghost use Rattle.std.specs.Prelude.{◌≡◌, ◌+◌, ◌<◌, ◌≤◌, ◌&
 ghost use Rattle.std.specs.Option.{option_copied};
 ghost use Rattle.snow_base.specs.Gathered.{one_each};
 ghost use Rattle.snow_base.specs.Votes.{total_count};
-ghost use Rattle.snow_plain.specs.Board.{blocks_of, counters_on};
-ghost use Rattle.snow_plain.specs.Ending.{has_pending_child};
-ghost use Rattle.snow_plain.specs.Grown.{is_on};
-ghost use Rattle.snow_plain.specs.Poll.{poll};
+ghost use Rattle.snow_board.specs.Board.{blocks_of, counters_on};
+ghost use Rattle.snow_board.specs.Ending.{has_pending_child};
+ghost use Rattle.snow_board.specs.Grown.{is_on};
+ghost use Rattle.snow_board.specs.Poll.{poll};
 ghost use Rattle.snow_topo.specs.Ballot.{votes_of};
 ghost use Rattle.snow_topo.specs.Costs.{most_steps};
 ghost use Rattle.snow_topo.specs.Standing.{AreKept};
@@ -20,7 +20,7 @@ use crate::spare::SpareTrees;
 use snow_base::{Bag, Header, Id, Steps};
 use snow_climb::{Ladder, named};
 use snow_flake::{Params, Rule};
-use snow_plain::{Board, Decision};
+use snow_board::{Board, Decision};
 use snow_tree::Tree;
 use snow_trie::Trie;
 use std::alloc::{AllocError, Global};
@@ -53,7 +53,7 @@ pub struct Topo<R: Rule> {
 
 impl<R: Rule> Model for Topo<R> {
     ghost use Rattle.std.specs.Prelude.{◌+◌, length, vec_capacity};
-    ghost use Rattle.snow_plain.specs.Shown.{Shown, coded_shown};
+    ghost use Rattle.snow_board.specs.Shown.{Shown, coded_shown};
     ghost use Rattle.snow_topo.specs.Standing.{shown_board, IsStanding};
 
     ghost Value = { Shown };

@@ -4,7 +4,7 @@ ghost use Rattle.std.specs.Cmp.Lexicographic.{pointwise};
 ghost use Rattle.std.specs.List.{position};
 ghost use Rattle.std.specs.Option.{option_map};
 ghost use Rattle.snow_base.specs.Identifier.{bits};
-ghost use Rattle.snow_plain.specs.Poll.{winner};
+ghost use Rattle.snow_board.specs.Poll.{winner};
 ghost use Rattle.snow_topo.specs.View.{view};
 
 use crate::load::Load;

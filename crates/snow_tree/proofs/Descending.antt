@@ -5,9 +5,9 @@ use Rattle.std.specs.List.{list_any}
 use Rattle.std.proofs.lemmas.List.{reverse-append}
 use Rattle.snow_base.specs.declared.header.Header.{Header}
 use Rattle.snow_base.specs.Ancestry.{line_in, descends}
-use Rattle.snow_plain.specs.Grown.{has_block, IsGrown}
-use Rattle.snow_plain.proofs.Grown.{grown_before, grown_parent, not_last, no_line, has_block-reverse}
-use Rattle.snow_plain.proofs.Lines.{line_of}
+use Rattle.snow_board.specs.Grown.{has_block, IsGrown}
+use Rattle.snow_board.proofs.Grown.{grown_before, grown_parent, not_last, no_line, has_block-reverse}
+use Rattle.snow_board.proofs.Lines.{line_of}
 
 -- the latest first, around one of them
 pub around : (bs : List Header) (i : ℕ) (d : Header) → i < length bs → reverse bs ≡ reverse (drop (suc i) bs) ++ get_or bs i d ∷ reverse (take i bs)

@@ -11,10 +11,10 @@ use Rattle.std.proofs.lemmas.Bool.{or_parts, or_left, or_right, and_parts}
 use Rattle.std.proofs.lemmas.Option.{none-some, slice_get_within, get_or_from_slice_get}
 use Rattle.snow_base.specs.declared.header.Header.{Header}
 use Rattle.snow_base.specs.Ancestry.{line_in, descends}
-use Rattle.snow_plain.specs.Grown.{has_block, IsGrown}
-use Rattle.snow_plain.proofs.Cases.{split_on, clash, same_id, id_same, differs_back}
-use Rattle.snow_plain.proofs.Grown.{grown_parent, grown_rest, has_block-reverse}
-use Rattle.snow_plain.proofs.Kept.{filter-reverse, grown_kept, has_own}
+use Rattle.snow_board.specs.Grown.{has_block, IsGrown}
+use Rattle.snow_board.proofs.Cases.{split_on, clash, same_id, id_same, differs_back}
+use Rattle.snow_board.proofs.Grown.{grown_parent, grown_rest, has_block-reverse}
+use Rattle.snow_board.proofs.Kept.{filter-reverse, grown_kept, has_own}
 use Rattle.snow_tree.specs.declared.node.Node.{Node}
 use Rattle.snow_tree.specs.Held.{children_of, stays_with, blocks_in}
 use Rattle.snow_tree.specs.Nodes.{block_of, blocks_of, entry_of, left, outsiders, IsKept}

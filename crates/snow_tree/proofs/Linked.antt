@@ -10,9 +10,9 @@ use Rattle.std.proofs.lemmas.Bool.{or_parts}
 use Rattle.std.proofs.lemmas.Option.{none-some, same_Some, slice_get-map}
 use Rattle.snow_tree.specs.Row.{set_children_at}
 use Rattle.snow_base.specs.declared.header.Header.{Header}
-use Rattle.snow_plain.specs.Grown.{has_block, is_on, IsGrown, Grew}
-use Rattle.snow_plain.proofs.Cases.{split_on, clash, same_id, differs_back}
-use Rattle.snow_plain.proofs.Grown.{grown_rest, has_block-reverse}
+use Rattle.snow_board.specs.Grown.{has_block, is_on, IsGrown, Grew}
+use Rattle.snow_board.proofs.Cases.{split_on, clash, same_id, differs_back}
+use Rattle.snow_board.proofs.Grown.{grown_rest, has_block-reverse}
 use Rattle.snow_tree.specs.declared.node.Node.{Node}
 use Rattle.snow_tree.specs.Held.{children_of}
 use Rattle.snow_tree.specs.Nodes.{block_of, blocks_of, linked, unlinked, with_children, IsKept}

@@ -4,10 +4,10 @@ use Rattle.std.proofs.lemmas.List.{map-append, reverse-reverse}
 use Rattle.std.proofs.lemmas.List.Elements.{filter-append, All-head, All-tail}
 use Rattle.std.proofs.lemmas.Bool.{or_parts}
 use Rattle.snow_base.specs.declared.header.Header.{Header}
-use Rattle.snow_plain.specs.Grown.{is_on, IsGrown}
-use Rattle.snow_plain.proofs.Cases.{split_on}
-use Rattle.snow_plain.proofs.Grown.{has_child, childless}
-use Rattle.snow_plain.proofs.Kept.{filter-reverse}
+use Rattle.snow_board.specs.Grown.{is_on, IsGrown}
+use Rattle.snow_board.proofs.Cases.{split_on}
+use Rattle.snow_board.proofs.Grown.{has_child, childless}
+use Rattle.snow_board.proofs.Kept.{filter-reverse}
 use Rattle.snow_tree.specs.Held.{children_of}
 
 -- with one block more

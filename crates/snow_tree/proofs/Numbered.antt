@@ -5,7 +5,7 @@ use Rattle.std.specs.Map.{keys_of}
 use Rattle.std.specs.Option.{option_map}
 use Rattle.std.proofs.lemmas.Bool.{true≢false}
 use Rattle.std.proofs.lemmas.Option.{none-some}
-use Rattle.snow_plain.proofs.Cases.{split_on, same_id, id_same}
+use Rattle.snow_board.proofs.Cases.{split_on, same_id, id_same}
 use Rattle.snow_tree.proofs.Placed.{position_cons}
 
 -- what is so of what was found

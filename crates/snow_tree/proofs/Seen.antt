@@ -11,9 +11,9 @@ use Rattle.std.proofs.lemmas.List.Elements.{All-cons, All-head, All-tail}
 use Rattle.snow_tree.specs.Row.{set_load_at}
 use Rattle.snow_base.specs.declared.header.Header.{Header}
 use Rattle.snow_base.specs.Ancestry.{line_in, child_on}
-use Rattle.snow_plain.specs.Grown.{has_block, is_on, IsGrown}
-use Rattle.snow_plain.proofs.Cases.{split_on, same_id, id_same, differs_back}
-use Rattle.snow_plain.proofs.Grown.{grown_parent, grown_rest, no_line, has_block-reverse}
+use Rattle.snow_board.specs.Grown.{has_block, is_on, IsGrown}
+use Rattle.snow_board.proofs.Cases.{split_on, same_id, id_same, differs_back}
+use Rattle.snow_board.proofs.Grown.{grown_parent, grown_rest, no_line, has_block-reverse}
 use Rattle.snow_tree.specs.declared.node.Node.{Node}
 use Rattle.snow_tree.specs.Held.{children_of, set_load}
 use Rattle.snow_tree.specs.Nodes.{block_of, blocks_of, entry_of, with_children, IsKept}

@@ -8,10 +8,10 @@ use Rattle.std.proofs.lemmas.List.Elements.{filter-append}
 use Rattle.std.proofs.lemmas.Option.{slice_get-map, slice_get_within, get_or_from_slice_get}
 use Rattle.snow_base.specs.declared.header.Header.{Header}
 use Rattle.snow_base.specs.Ancestry.{descends}
-use Rattle.snow_plain.specs.Grown.{has_block, IsGrown}
-use Rattle.snow_plain.proofs.Cases.{split_on, same_id, differs_back}
-use Rattle.snow_plain.proofs.Grown.{no_line, has_block-reverse}
-use Rattle.snow_plain.proofs.Kept.{has_filtered}
+use Rattle.snow_board.specs.Grown.{has_block, IsGrown}
+use Rattle.snow_board.proofs.Cases.{split_on, same_id, differs_back}
+use Rattle.snow_board.proofs.Grown.{no_line, has_block-reverse}
+use Rattle.snow_board.proofs.Kept.{has_filtered}
 use Rattle.snow_tree.specs.declared.node.Node.{Node}
 use Rattle.snow_tree.specs.Nodes.{block_of, blocks_of, left, outsiders}
 use Rattle.snow_tree.specs.Row.{Edge, IsBefore, AreInOrder, IsOwn, edge_of, edges_of, is_above, staying, leaving}

@@ -2,7 +2,7 @@
 use Rattle.std.specs.Prelude.{◌≡◌, ℕ, ◌≤◌, ◌-◌, not, ◌&&◌, List, ◌∷◌, ◌++◌, [], length, take, map, filter, reverse, All, bytes_eq, if◌then◌else◌}
 use Rattle.snow_base.specs.declared.header.Header.{Header}
 use Rattle.snow_base.specs.Ancestry.{descends}
-use Rattle.snow_plain.specs.Grown.{IsGrown}
+use Rattle.snow_board.specs.Grown.{IsGrown}
 use Rattle.snow_tree.specs.declared.node.Node.{Node}
 use Rattle.snow_tree.specs.Held.{Entry, children_of}
 

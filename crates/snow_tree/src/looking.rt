@@ -2,7 +2,7 @@ ghost use Rattle.std.specs.Prelude.{◌≡◌, ◌<◌, reverse, slice_get, byte
 ghost use Rattle.std.specs.List.{position};
 ghost use Rattle.std.specs.Option.{option_map};
 ghost use Rattle.snow_base.specs.Ancestry.{child_on};
-ghost use Rattle.snow_plain.specs.Grown.{IsGrown};
+ghost use Rattle.snow_board.specs.Grown.{IsGrown};
 ghost use Rattle.snow_tree.specs.Nodes.{block_of, blocks_of};
 
 use crate::row::Row;

@@ -1,6 +1,6 @@
 ghost use Rattle.std.specs.Prelude.{◌≡◌, ◌-◌, true, false, Some, length, slice_get, is_some, OnOk, OnErr, IfErr, IfSome};
 ghost use Rattle.std.specs.Option.{option_map, option_copied};
-ghost use Rattle.snow_plain.specs.Grown.{has_block, is_on};
+ghost use Rattle.snow_board.specs.Grown.{has_block, is_on};
 ghost use Rattle.snow_tree.specs.Held.{blocks_in, begun, inserted, taken_back, place_in, entry_in, children_of, ancestor_in, promoted};
 
 use crate::children::Children;
@@ -58,7 +58,7 @@ impl<T: Drop> Tree<T> {
     ghost use Rattle.std.specs.Borrow.{sem};
     ghost use Rattle.std.specs.Option.{option_copied_mut};
     ghost use Rattle.snow_base.specs.declared.header.Header.{Header};
-    ghost use Rattle.snow_plain.specs.Grown.{IsGrown};
+    ghost use Rattle.snow_board.specs.Grown.{IsGrown};
     ghost use Rattle.snow_tree.specs.Lending.{lends_load};
 
     /// Returns the tree where nothing is pending above this block, whose height is below 2^64. It

@@ -10,10 +10,10 @@ use Rattle.snow_flake.specs.Counter.{Counter, Decided, Undecided, admits, is_dec
 use Rattle.snow_flake.specs.Rule.{Answer, answer_of}
 use Rattle.snow_flake.specs.Instance.{at_bit}
 use Rattle.snow_flake.specs.Parameters.{Parameters, AreGood}
-use Rattle.snow_plain.specs.Conflict.{Counters, Blank, At, all_polled, chosen, decided_path}
-use Rattle.snow_plain.specs.FailingLaw.{failed}
-use Rattle.snow_plain.proofs.Failing.{fails}
-use Rattle.snow_plain.proofs.Walking.{drop-bits_end}
+use Rattle.snow_board.specs.Conflict.{Counters, Blank, At, all_polled, chosen, decided_path}
+use Rattle.snow_board.specs.FailingLaw.{failed}
+use Rattle.snow_board.proofs.Failing.{fails}
+use Rattle.snow_board.proofs.Walking.{drop-bits_end}
 use Rattle.snow_trie.specs.declared.fork.Fork.{Fork}
 use Rattle.snow_trie.specs.Counted.{run_counter, fork_counter}
 use Rattle.snow_trie.specs.Tree.{Tree, Tip, Line, Two}

@@ -3,8 +3,8 @@ use Rattle.std.proofs.Common.{◌≡◌, ℕ, Bool, true, false, List, [], ◌�
 use Rattle.snow_base.specs.Identifier.{bits}
 use Rattle.snow_flake.specs.Parameters.{Parameters}
 use Rattle.snow_flake.specs.Rule.{by_preference}
-use Rattle.snow_plain.specs.Conflict.{Counters, Blank, with_child, all_polled, votes_on, chosen, decided_path}
-use Rattle.snow_plain.specs.FailingLaw.{failed}
+use Rattle.snow_board.specs.Conflict.{Counters, Blank, with_child, all_polled, votes_on, chosen, decided_path}
+use Rattle.snow_board.specs.FailingLaw.{failed}
 use Rattle.snow_trie.specs.Outline.{size}
 use Rattle.snow_trie.specs.Stamped.{counters}
 use Rattle.snow_trie.specs.Growing.{branch, grown}

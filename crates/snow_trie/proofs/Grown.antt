@@ -3,9 +3,9 @@ use Rattle.std.proofs.Common.{◌≡◌, ℕ, ◌+◌, ◌<◌, ◌≤◌, ◌==
 use Rattle.std.proofs.lemmas.Bool.{ltb-true, ltb-false}
 use Rattle.snow_base.specs.Identifier.{bit, bits, AgreeFrom}
 use Rattle.snow_flake.specs.Counter.{Counter, fresh, admits}
-use Rattle.snow_plain.specs.Conflict.{Counters, Blank, At, with_child}
-use Rattle.snow_plain.proofs.Cases.{split_on}
-use Rattle.snow_plain.proofs.Walking.{drop-bits_end}
+use Rattle.snow_board.specs.Conflict.{Counters, Blank, At, with_child}
+use Rattle.snow_board.proofs.Cases.{split_on}
+use Rattle.snow_board.proofs.Walking.{drop-bits_end}
 use Rattle.snow_base.proofs.Bits.{drop-bits}
 use Rattle.snow_trie.specs.declared.run.Run.{Run}
 use Rattle.snow_trie.specs.declared.fork.Fork.{Fork}

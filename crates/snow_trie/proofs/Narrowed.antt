@@ -6,7 +6,7 @@ use Rattle.snow_base.specs.declared.vote.Vote.{Vote}
 use Rattle.snow_base.specs.Identifier.{bit, AgreeFrom}
 use Rattle.snow_base.specs.Split.{AgreeBelow, HaveBit}
 use Rattle.snow_base.specs.Votes.{IsInBitOrder, total_count}
-use Rattle.snow_plain.specs.Walk.{votes_from}
+use Rattle.snow_board.specs.Walk.{votes_from}
 use Rattle.snow_trie.specs.Stamped.{between}
 use Rattle.snow_trie.specs.Polled.{IsNarrowed}
 use Rattle.snow_trie.proofs.Strands.{between_split, between_first, between_none}

@@ -9,11 +9,11 @@ use Rattle.snow_base.specs.Votes.{total_count}
 use Rattle.snow_flake.specs.Parameters.{Parameters, AreGood}
 use Rattle.snow_flake.specs.Counter.{Counter, Decided, Undecided, Standing, fresh, stepped, admits, is_decided}
 use Rattle.snow_flake.specs.Instance.{Instance, at_bit, counter_of}
-use Rattle.snow_plain.specs.Conflict.{Counters, Blank, At, with_child, all_polled}
-use Rattle.snow_plain.specs.Walk.{votes_from}
-use Rattle.snow_plain.proofs.Order.{bounded, kept}
-use Rattle.snow_plain.proofs.Below.{starts_front, one_side, counted_more, counted_apart}
-use Rattle.snow_plain.proofs.Cases.{split_on}
+use Rattle.snow_board.specs.Conflict.{Counters, Blank, At, with_child, all_polled}
+use Rattle.snow_board.specs.Walk.{votes_from}
+use Rattle.snow_board.proofs.Order.{bounded, kept}
+use Rattle.snow_board.proofs.Below.{starts_front, one_side, counted_more, counted_apart}
+use Rattle.snow_board.proofs.Cases.{split_on}
 use Rattle.snow_trie.specs.Counted.{standing_at, run_counter, fork_counter}
 use Rattle.snow_trie.specs.Tree.{Tree, Tip, Line, Two}
 use Rattle.snow_trie.specs.Stamped.{between, linked, strand, counters}

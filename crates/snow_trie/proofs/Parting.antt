@@ -6,7 +6,7 @@ use Rattle.std.proofs.lemmas.Option.{none-some, same_Some}
 use Rattle.snow_base.specs.Identifier.{bit, AgreeFrom, FirstDiffers}
 use Rattle.snow_flake.specs.Counter.{Counter, Decided, Undecided, Standing, fresh, is_decided}
 use Rattle.snow_flake.specs.Instance.{Single, at_bit, counter_of}
-use Rattle.snow_plain.proofs.Cases.{split_on}
+use Rattle.snow_board.proofs.Cases.{split_on}
 use Rattle.snow_trie.specs.Tree.{Tree, Tip, Line, Two}
 use Rattle.snow_trie.specs.Shape.{IsPlaced}
 use Rattle.snow_trie.specs.Growing.{differs_at, parting}

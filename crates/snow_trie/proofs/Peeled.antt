@@ -4,8 +4,8 @@ use Rattle.std.proofs.lemmas.Bool.{cases_lt}
 use Rattle.snow_base.specs.Identifier.{bit, AgreeFrom}
 use Rattle.snow_flake.specs.Counter.{Decided}
 use Rattle.snow_flake.specs.Instance.{Instance, at_bit, counter_of}
-use Rattle.snow_plain.specs.Conflict.{Counters}
-use Rattle.snow_plain.proofs.Cases.{split_on}
+use Rattle.snow_board.specs.Conflict.{Counters}
+use Rattle.snow_board.proofs.Cases.{split_on}
 use Rattle.snow_trie.specs.declared.run.Run.{Run}
 use Rattle.snow_trie.specs.declared.fork.Fork.{Fork}
 use Rattle.snow_trie.specs.Counted.{standing_at, run_counter}

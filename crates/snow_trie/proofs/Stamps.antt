@@ -5,10 +5,10 @@ use Rattle.snow_flake.specs.Parameters.{Parameters, AreGood}
 use Rattle.snow_flake.specs.Counter.{Counter, Decided, Undecided, admits}
 use Rattle.snow_flake.specs.Rule.{Answer, answer_of}
 use Rattle.snow_flake.specs.Instance.{Instance, Single, at_bit, counter_of, failed as instance_failed}
-use Rattle.snow_plain.specs.Conflict.{all_polled}
-use Rattle.snow_plain.specs.FailingLaw.{failed}
-use Rattle.snow_plain.proofs.Failing.{quiet}
-use Rattle.snow_plain.proofs.Cases.{split_on}
+use Rattle.snow_board.specs.Conflict.{all_polled}
+use Rattle.snow_board.specs.FailingLaw.{failed}
+use Rattle.snow_board.proofs.Failing.{quiet}
+use Rattle.snow_board.proofs.Cases.{split_on}
 use Rattle.snow_trie.specs.declared.run.Run.{Run}
 use Rattle.snow_trie.specs.Counted.{standing_at, run_counter, fork_counter}
 use Rattle.snow_trie.specs.Tree.{Tree, Tip, Line, Two}

@@ -1,7 +1,7 @@
 -- Lemmas on which identifiers stand in a tree, and where, once one is added.
 use Rattle.std.proofs.Common.{◌≡◌, ◌⊎◌, inl, inr, ℕ, ◌+◌, ◌<◌, ◌≤◌, Bool, true, false, not, List, refl, sym, subst, arith}
 use Rattle.snow_base.specs.Identifier.{bit, AgreeFrom}
-use Rattle.snow_plain.proofs.Cases.{clash}
+use Rattle.snow_board.proofs.Cases.{clash}
 use Rattle.snow_trie.specs.declared.run.Run.{Run}
 use Rattle.snow_trie.specs.declared.fork.Fork.{Fork}
 use Rattle.snow_trie.specs.Tree.{Tree, Tip, Line, Two}

@@ -8,12 +8,12 @@ use Rattle.snow_base.proofs.Bits.{drop-bits}
 use Rattle.snow_flake.specs.Parameters.{Parameters, AreGood}
 use Rattle.snow_flake.specs.Counter.{Counter, fresh, stepped, admits}
 use Rattle.snow_flake.specs.Instance.{on_side}
-use Rattle.snow_plain.specs.Conflict.{Counters, Blank, At, with_child, all_polled}
-use Rattle.snow_plain.specs.FailingLaw.{failed}
-use Rattle.snow_plain.specs.Walk.{votes_from}
-use Rattle.snow_plain.proofs.Failing.{quiet, fails, admits-quiet}
-use Rattle.snow_plain.proofs.Excluding.{closed_stays}
-use Rattle.snow_plain.proofs.Polling.{votes_same, votes_other}
+use Rattle.snow_board.specs.Conflict.{Counters, Blank, At, with_child, all_polled}
+use Rattle.snow_board.specs.FailingLaw.{failed}
+use Rattle.snow_board.specs.Walk.{votes_from}
+use Rattle.snow_board.proofs.Failing.{quiet, fails, admits-quiet}
+use Rattle.snow_board.proofs.Excluding.{closed_stays}
+use Rattle.snow_board.proofs.Polling.{votes_same, votes_other}
 use Rattle.snow_trie.specs.Stamped.{span, between, linked, strand, pruned}
 
 -- ---- the bits of an identifier

@@ -11,11 +11,11 @@ use Rattle.snow_base.specs.Votes.{total_count}
 use Rattle.snow_flake.specs.Parameters.{Parameters, AreGood}
 use Rattle.snow_flake.specs.Counter.{Counter, stepped, admits, is_decided}
 use Rattle.snow_flake.specs.Instance.{on_side, at_bit}
-use Rattle.snow_plain.specs.Conflict.{all_polled}
-use Rattle.snow_plain.specs.Walk.{votes_from}
-use Rattle.snow_plain.proofs.Failing.{few_fail}
-use Rattle.snow_plain.proofs.Below.{counted_more}
-use Rattle.snow_plain.proofs.Polling.{below_zero, below_one}
+use Rattle.snow_board.specs.Conflict.{all_polled}
+use Rattle.snow_board.specs.Walk.{votes_from}
+use Rattle.snow_board.proofs.Failing.{few_fail}
+use Rattle.snow_board.proofs.Below.{counted_more}
+use Rattle.snow_board.proofs.Polling.{below_zero, below_one}
 use Rattle.snow_trie.specs.declared.run.Run.{Run}
 use Rattle.snow_trie.specs.declared.fork.Fork.{Fork}
 use Rattle.snow_trie.specs.Counted.{run_counter, fork_counter}

@@ -7,10 +7,10 @@ use Rattle.snow_base.specs.Identifier.{bit, bits, AgreeFrom}
 use Rattle.snow_base.specs.Votes.{total_count}
 use Rattle.snow_flake.specs.Parameters.{Parameters, AreGood}
 use Rattle.snow_flake.specs.Counter.{Decided, admits}
-use Rattle.snow_plain.specs.Conflict.{Counters, Blank, with_child, all_polled, votes_on}
-use Rattle.snow_plain.specs.FailingLaw.{failed}
-use Rattle.snow_plain.specs.Walk.{votes_from}
-use Rattle.snow_plain.proofs.Failing.{few_fail}
+use Rattle.snow_board.specs.Conflict.{Counters, Blank, with_child, all_polled, votes_on}
+use Rattle.snow_board.specs.FailingLaw.{failed}
+use Rattle.snow_board.specs.Walk.{votes_from}
+use Rattle.snow_board.proofs.Failing.{few_fail}
 use Rattle.snow_trie.specs.Tree.{Tree, Tip, Line, Two}
 use Rattle.snow_trie.specs.Stamped.{between, linked, strand, counters, whole}
 use Rattle.snow_trie.specs.Outline.{Outline, Leaf, Straight, Split, outline, size, Leads, IsLeaf, IsSorted}

@@ -5,8 +5,8 @@ use Rattle.snow_base.specs.Identifier.{AgreeFrom}
 use Rattle.snow_base.specs.Split.{AgreeBelow}
 use Rattle.snow_base.specs.Votes.{IsInBitOrder}
 use Rattle.snow_flake.specs.Parameters.{Parameters}
-use Rattle.snow_plain.specs.Conflict.{all_polled}
-use Rattle.snow_plain.specs.Walk.{votes_from}
+use Rattle.snow_board.specs.Conflict.{all_polled}
+use Rattle.snow_board.specs.Walk.{votes_from}
 use Rattle.snow_trie.specs.Tree.{Tree}
 use Rattle.snow_trie.specs.Stamped.{between, counters}
 use Rattle.snow_trie.specs.Outline.{outline}

@@ -1,8 +1,8 @@
 -- What is true of each tree that is kept.
 use Rattle.std.specs.Prelude.{◌≡◌, ℕ, ◌+◌, ◌<◌, ◌≤◌, Bool, true, false, ⊤}
 use Rattle.snow_flake.specs.Counter.{Counter}
-use Rattle.snow_plain.specs.Conflict.{Counters, Blank, At}
-use Rattle.snow_plain.specs.ConfidenceLaw.{Bounds}
+use Rattle.snow_board.specs.Conflict.{Counters, Blank, At}
+use Rattle.snow_board.specs.ConfidenceLaw.{Bounds}
 use Rattle.snow_trie.specs.Tree.{Tree, Tip, Line, Two}
 
 -- the nodes cover the bits from a place to the end, without a gap

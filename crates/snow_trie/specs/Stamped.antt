@@ -2,7 +2,7 @@
 use Rattle.std.specs.Prelude.{ℕ, zero, suc, ◌+◌, ◌-◌, Bool, true, false, List, [], ◌∷◌, if◌then◌else◌}
 use Rattle.snow_base.specs.Identifier.{bit}
 use Rattle.snow_flake.specs.Counter.{Counter, Decided, admits}
-use Rattle.snow_plain.specs.Conflict.{Counters, Blank, At}
+use Rattle.snow_board.specs.Conflict.{Counters, Blank, At}
 use Rattle.snow_trie.specs.Counted.{run_counter, fork_counter}
 use Rattle.snow_trie.specs.Tree.{Tree, Tip, Line, Two}
 

@@ -3,8 +3,8 @@ use Rattle.std.specs.Prelude.{ℕ, ◌+◌, ◌-◌, ◌*◌, ◌^◌, ◌≤◌
 use Rattle.std.specs.Coded.{Coded, coded_ℕ, coded_list, coded×, code_by}
 use Rattle.snow_base.specs.Identifier.{bits, AgreeFrom}
 use Rattle.snow_flake.specs.Parameters.{Parameters}
-use Rattle.snow_plain.specs.Conflict.{Counters, Blank, with_child}
-use Rattle.snow_plain.specs.CountersCode.{coded_counters}
+use Rattle.snow_board.specs.Conflict.{Counters, Blank, with_child}
+use Rattle.snow_board.specs.CountersCode.{coded_counters}
 use Rattle.snow_trie.specs.Tree.{Tree}
 use Rattle.snow_trie.specs.Stamped.{counters}
 use Rattle.snow_trie.specs.Outline.{Straight, outline, size, Leads, IsLeaf, IsSorted}

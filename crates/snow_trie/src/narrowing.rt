@@ -1,7 +1,7 @@
 ghost use Rattle.std.specs.Prelude.{◌≡◌, ◌+◌, ◌<◌, ◌≤◌, Bool, List, ◌∷◌, ◌++◌, All, Contains};
 ghost use Rattle.snow_base.specs.Split.{AgreeBelow, HaveBit};
 ghost use Rattle.snow_base.specs.Votes.{IsInBitOrder, total_count};
-ghost use Rattle.snow_plain.specs.Walk.{votes_from};
+ghost use Rattle.snow_board.specs.Walk.{votes_from};
 ghost use Rattle.snow_trie.specs.Stamped.{between};
 ghost use Rattle.snow_trie.specs.Polled.{IsNarrowed};
 

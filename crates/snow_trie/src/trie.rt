@@ -66,8 +66,8 @@ fn has_moved(moved: bool, before: u64, polls: u64, from: u16, decided: u16) -> b
 impl<R: Rule> Trie<R> {
     ghost use Rattle.snow_base.specs.Identifier.{bits};
     ghost use Rattle.snow_base.specs.Votes.{IsInBitOrder, total_count};
-    ghost use Rattle.snow_plain.specs.Conflict.{with_child, all_polled, votes_on, chosen, decided_path};
-    ghost use Rattle.snow_plain.specs.FailingLaw.{failed};
+    ghost use Rattle.snow_board.specs.Conflict.{with_child, all_polled, votes_on, chosen, decided_path};
+    ghost use Rattle.snow_board.specs.FailingLaw.{failed};
     ghost use Rattle.snow_trie.specs.Whole.{begun, HasFewNodes};
 
     /// Returns the counters where one identifier stands alone: one node. On want of memory it

@@ -2,7 +2,7 @@ ghost use Rattle.std.specs.Prelude.{◌≡◌, ◌<◌, ◌≤◌, length};
 ghost use Rattle.snow_base.specs.Votes.{total_count};
 
 use snow_base::{Bag, Id};
-use snow_plain::Board;
+use snow_board::Board;
 use std::alloc::{AllocError, Global};
 use std::test::Fail;
 

@@ -1,7 +1,7 @@
 ghost use Rattle.std.specs.Prelude.{◌≡◌, ◌≤◌};
 ghost use Rattle.snow_base.specs.Votes.{total_count};
-ghost use Rattle.snow_plain.specs.Poll.{poll};
-ghost use Rattle.snow_plain.specs.Board.{Board};
+ghost use Rattle.snow_board.specs.Poll.{poll};
+ghost use Rattle.snow_board.specs.Board.{Board};
 ghost use Rattle.snow_poll.specs.Table.{answer};
 ghost use Rattle.snow_issue.specs.Known.{Knows, lists_of};
 ghost use Rattle.snow_node.specs.Closing as model;
@@ -16,7 +16,7 @@ use snow_base::{Bag, Id, NodeId};
 use snow_chain::Chain;
 use snow_issue::Queue;
 use snow_lines::Lines;
-use snow_plain::{Board, Decision};
+use snow_board::{Board, Decision};
 use snow_poll::Answered;
 
 impl<C: Chain, B: Board> Running<C, B> {

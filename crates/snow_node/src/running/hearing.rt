@@ -17,7 +17,7 @@ use snow_base::{Bytes, Header, Id, NodeId};
 use snow_chain::Chain;
 use snow_issue::{Held, Offered};
 use snow_lines::{DropWhy, Line, Lines, SkipKind};
-use snow_plain::Board;
+use snow_board::Board;
 use snow_poll::Answered;
 use std::alloc::AllocError;
 

@@ -9,7 +9,7 @@ use crate::stop::Halt;
 use snow_chain::Chain;
 use snow_flake::Params;
 use snow_lines::{Line, Lines, QueryWhy};
-use snow_plain::Board;
+use snow_board::Board;
 use snow_sample::{Draws, Roster, SampleFault, Words};
 
 /// The most polls that run at a time.

@@ -1,7 +1,7 @@
 ghost use Rattle.std.specs.Prelude.{◌≡◌, true, IfSome};
-ghost use Rattle.snow_plain.specs.Board.{height_of};
-ghost use Rattle.snow_plain.specs.Preference.{is_preferred};
-ghost use Rattle.snow_plain.specs.Reached.{MayIssue};
+ghost use Rattle.snow_board.specs.Board.{height_of};
+ghost use Rattle.snow_board.specs.Preference.{is_preferred};
+ghost use Rattle.snow_board.specs.Reached.{MayIssue};
 ghost use Rattle.snow_chain.specs.Chain.{next_on};
 ghost use Rattle.snow_issue.specs.Known.{Knows, RestsAfter, lists_of};
 ghost use Rattle.snow_issue.specs.Settling.{after, work_of, IsIdle};
@@ -22,7 +22,7 @@ use snow_base::{Bytes, Header, Id};
 use snow_chain::Chain;
 use snow_issue::{Held, Queue, Work};
 use snow_lines::{DropWhy, Lines};
-use snow_plain::Board;
+use snow_board::Board;
 
 impl<C: Chain, B: Board> Running<C, B> {
     /// Does all that is to do with the blocks and replies that wait.

@@ -1,6 +1,6 @@
 ghost use Rattle.std.specs.Prelude.{◌≡◌, [], Err, IfOk, OnOk, OnErr};
-ghost use Rattle.snow_plain.specs.Board.{issued};
-ghost use Rattle.snow_plain.specs.Reached.{MayIssue};
+ghost use Rattle.snow_board.specs.Board.{issued};
+ghost use Rattle.snow_board.specs.Reached.{MayIssue};
 ghost use Rattle.snow_chain.specs.Chain.{next_on};
 ghost use Rattle.snow_node.specs.Matching.{IsSteady, Admits};
 ghost use Rattle.snow_node.specs.Supplying as model;
@@ -10,7 +10,7 @@ use snow_base::{Bytes, Header};
 use snow_chain::Chain;
 use snow_getter::Getter;
 use snow_issue::SpareBytes;
-use snow_plain::{Board, Decision};
+use snow_board::{Board, Decision};
 use std::alloc::AllocError;
 
 /// Issues a block, if it is valid, then serves it, and returns whether it did. On want of memory

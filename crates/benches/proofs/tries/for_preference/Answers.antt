@@ -1,7 +1,7 @@
 -- The preference is one of the identifiers that were given.
 use Rattle.std.proofs.Common.{rules, [], All, Contains}
 use Rattle.snow_base.specs.declared.vote.Vote.{Vote}
-use Rattle.snow_plain.proofs.Given.{given_added}
+use Rattle.snow_board.proofs.Given.{given_added}
 use Rattle.benches.proofs.tries.for_preference.Goals as goal
 
 pub returns-clause-given : goal.returns-clause-given

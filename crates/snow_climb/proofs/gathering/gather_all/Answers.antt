@@ -1,5 +1,5 @@
 use Rattle.std.proofs.Common.{◌≡◌, ℕ, ◌-◌, ◌<◌, ◌≤◌, List, [], ◌∷◌, length, get_or, sym, subst, ◌∙◌, arith}
-use Rattle.snow_plain.proofs.Gathered.{ok_then}
+use Rattle.snow_board.proofs.Gathered.{ok_then}
 use Rattle.snow_tree.specs.Held.{Entry}
 use Rattle.snow_base.specs.declared.vote.Vote.{Vote}
 use Rattle.snow_climb.specs.declared.ladder.Link.{Link}

@@ -1,6 +1,6 @@
 use Rattle.std.proofs.Common.{◌≡◌, ◌+◌, ◌≤◌, [], length, refl, sym, ap, subst, arith}
 use Rattle.snow_base.specs.Gathered.{one_each}
-use Rattle.snow_plain.proofs.OneEach.{total_each}
+use Rattle.snow_board.proofs.OneEach.{total_each}
 use Rattle.snow_climb.specs.Ladder.{Rungs}
 use Rattle.snow_climb.specs.Starting.{votes_by, ids_by, HaveStarted}
 use Rattle.snow_climb.proofs.Started.{none_started, same_started, each_passes, begun_from, begun_fewer, begun_places}

@@ -2,7 +2,7 @@
 use Rattle.std.proofs.Common.{◌≤◌, ◌∙◌, arith}
 use Rattle.snow_base.specs.Gathered.{one_each}
 use Rattle.snow_base.specs.Votes.{total_count}
-use Rattle.snow_plain.proofs.OneEach.{total_each}
+use Rattle.snow_board.proofs.OneEach.{total_each}
 use Rattle.snow_node.proofs.Recorded.{may_be_told, steady_told}
 use Rattle.snow_node.proofs.admitting.apply_votes.Goals as goal
 

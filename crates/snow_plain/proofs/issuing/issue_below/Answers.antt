@@ -1,6 +1,6 @@
 use Rattle.std.proofs.Common.{sym, ◌∙◌}
 use Rattle.std.proofs.lemmas.Result.{on_ok_weaker}
-use Rattle.snow_plain.proofs.Issued.{none_issued, last_issued, one_issued}
+use Rattle.snow_board.proofs.Issued.{none_issued, last_issued, one_issued}
 use Rattle.snow_plain.proofs.Placed.{first_at, not_found_has}
 use Rattle.snow_plain.proofs.issuing.issue_below.Goals as goal
 

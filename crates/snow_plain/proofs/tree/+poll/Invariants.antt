@@ -1,5 +1,5 @@
 use Rattle.std.proofs.Common.{◌+◌, ◌*◌}
-use Rattle.snow_plain.specs.Walk.{depth}
+use Rattle.snow_board.specs.Walk.{depth}
 use Rattle.snow_plain.specs.Trees.{counters_of}
 use Rattle.snow_plain.proofs.tree.+poll.Given as goal
 

@@ -1,8 +1,8 @@
 use Rattle.std.proofs.Common.{◌+◌, ◌++◌, length, reverse, sym, ap, subst, ◌∙◌, arith}
 use Rattle.std.proofs.lemmas.List.{length-map}
-use Rattle.snow_plain.specs.Poll.{settled}
-use Rattle.snow_plain.specs.Grown.{IsGrown}
-use Rattle.snow_plain.specs.Preference.{preferred}
+use Rattle.snow_board.specs.Poll.{settled}
+use Rattle.snow_board.specs.Grown.{IsGrown}
+use Rattle.snow_board.specs.Preference.{preferred}
 use Rattle.snow_topo.specs.View.{view}
 use Rattle.snow_topo.proofs.Advancing.{preferred_settled}
 use Rattle.snow_topo.proofs.Counted.{blocks_seen}

@@ -3,7 +3,7 @@ use Rattle.snow_base.specs.Gathered.{one_each}
 use Rattle.snow_base.specs.Votes.{total_count}
 use Rattle.snow_climb.specs.Majority.{StandFor}
 use Rattle.snow_climb.proofs.Majorities.{all_for_all}
-use Rattle.snow_plain.proofs.OneEach.{total_each}
+use Rattle.snow_board.proofs.OneEach.{total_each}
 use Rattle.snow_topo.specs.Ballot.{votes_of}
 use Rattle.snow_topo.proofs.ballot.start.Goals as goal
 

@@ -5,7 +5,7 @@ use Rattle.std.proofs.lemmas.List.Sorted.{All-permutation, IsPermutation-sym, le
 use Rattle.snow_climb.specs.declared.climber.Climber.{Climber}
 use Rattle.snow_base.specs.declared.vote.Vote.{Vote}
 use Rattle.snow_base.specs.Ancestry.{votes_below}
-use Rattle.snow_plain.specs.Cursors.{votes_at}
+use Rattle.snow_board.specs.Cursors.{votes_at}
 use Rattle.snow_tree.specs.Held.{Held, blocks_in, children_of, set_load, with_load}
 use Rattle.snow_topo.specs.Kept.{Kept, ids_in, IsFit}
 use Rattle.snow_climb.specs.Climbing.{reach, cursor_of, cursors_of, ArePlaced, AreBelow, merged}

@@ -2,8 +2,8 @@ use Rattle.std.proofs.Common.{◌≡◌, ◌+◌, ◌*◌, ◌<◌, ◌≤◌, �
 use Rattle.std.proofs.lemmas.Bool.{or_parts}
 use Rattle.std.proofs.lemmas.List.{length-map}
 use Rattle.snow_base.specs.Ancestry.{votes_below}
-use Rattle.snow_plain.specs.Conflict.{all_polled}
-use Rattle.snow_plain.specs.Cursors.{votes_at}
+use Rattle.snow_board.specs.Conflict.{all_polled}
+use Rattle.snow_board.specs.Cursors.{votes_at}
 use Rattle.snow_tree.specs.Held.{Held, blocks_in, children_of}
 use Rattle.snow_topo.specs.Kept.{ids_in, shown, IsFit}
 use Rattle.snow_climb.specs.Ladder.{Rungs}

@@ -1,6 +1,6 @@
 use Rattle.std.proofs.Common.{◌∙◌, ℕ, Bool, List, All, Contains, sym, ap, subst, arith}
-use Rattle.snow_plain.specs.Conflict.{votes_on}
-use Rattle.snow_plain.specs.Cursors.{votes_at}
+use Rattle.snow_board.specs.Conflict.{votes_on}
+use Rattle.snow_board.specs.Cursors.{votes_at}
 use Rattle.snow_tree.specs.Held.{blocks_in}
 use Rattle.snow_climb.specs.Climbing.{cursors_of}
 use Rattle.snow_climb.proofs.Climbers.{same_total}

@@ -1,5 +1,5 @@
 use Rattle.std.proofs.Common.{◌≡◌, ℕ, List, Bool, false, not, bytes_eq, sym, ap, ◌∙◌}
-use Rattle.snow_plain.proofs.Cases.{split_on, clash, same_id}
+use Rattle.snow_board.proofs.Cases.{split_on, clash, same_id}
 use Rattle.snow_topo.proofs.Endings.{bare_top}
 use Rattle.snow_topo.proofs.leading.is_top.Goals as goal
 

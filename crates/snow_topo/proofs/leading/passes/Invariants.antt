@@ -1,6 +1,6 @@
 use Rattle.std.proofs.Common.{◌≡◌, length, bytes_eq}
 use Rattle.std.specs.List.{list_any}
-use Rattle.snow_plain.specs.Preference.{path_from, preferred_path}
+use Rattle.snow_board.specs.Preference.{path_from, preferred_path}
 use Rattle.snow_tree.specs.Held.{blocks_in, children_of}
 use Rattle.snow_topo.specs.Kept.{shown, IsFit}
 use Rattle.snow_topo.specs.View.{all_pending, view}

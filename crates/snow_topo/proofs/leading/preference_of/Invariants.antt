@@ -1,5 +1,5 @@
 use Rattle.std.proofs.Common.{◌≡◌, length}
-use Rattle.snow_plain.specs.Preference.{path_from, end_of, preferred}
+use Rattle.snow_board.specs.Preference.{path_from, end_of, preferred}
 use Rattle.snow_tree.specs.Held.{blocks_in, children_of}
 use Rattle.snow_topo.specs.Kept.{shown, IsFit}
 use Rattle.snow_topo.specs.View.{all_pending, view}

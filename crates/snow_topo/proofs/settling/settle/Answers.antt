@@ -1,8 +1,8 @@
 use Rattle.std.proofs.Common.{◌≡◌, ℕ, ◌<◌, Bool, List, None, true, false, refl, subst, ◌∙◌, arith}
 use Rattle.snow_flake.specs.Parameters.{Parameters, AreGood}
-use Rattle.snow_plain.specs.declared.decision.Decision.{Decision}
-use Rattle.snow_plain.specs.Board.{Board}
-use Rattle.snow_plain.proofs.Settled.{IsSettling, to_do, settling_none, settling_more, settling_less}
+use Rattle.snow_board.specs.declared.decision.Decision.{Decision}
+use Rattle.snow_board.specs.Board.{Board}
+use Rattle.snow_board.proofs.Settled.{IsSettling, to_do, settling_none, settling_more, settling_less}
 use Rattle.snow_tree.specs.Held.{Held}
 use Rattle.snow_topo.specs.Kept.{Kept, counters_in}
 use Rattle.snow_topo.specs.Leading.{HasDecided}

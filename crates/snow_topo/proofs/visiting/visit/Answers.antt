@@ -1,7 +1,7 @@
 use Rattle.std.proofs.Common.{◌≡◌, ◌<◌, ◌+◌, ◌*◌, ◌≤◌, ℕ, nat_le, nat_lt, [], ◌∷◌, Bool, List, IsPermutation, length, slice_get, rules, sym, ap, subst, ◌∙◌, arith, if◌then◌else◌}
 use Rattle.std.proofs.lemmas.List.{length-map}
 use Rattle.std.proofs.lemmas.Option.{slice_get_within}
-use Rattle.snow_plain.specs.Cursors.{votes_at}
+use Rattle.snow_board.specs.Cursors.{votes_at}
 use Rattle.snow_tree.specs.Held.{Held, blocks_in}
 use Rattle.snow_climb.specs.declared.climber.Climber.{Climber}
 use Rattle.snow_topo.specs.Kept.{Kept, ids_in}

@@ -1,5 +1,5 @@
 use Rattle.std.proofs.Common.{sym, ◌∙◌}
-use Rattle.snow_plain.proofs.Cases.{same_id}
+use Rattle.snow_board.proofs.Cases.{same_id}
 use Rattle.snow_topo.proofs.Won.{bits_agree, bits_same, bits_differ}
 use Rattle.snow_topo.proofs.winning.are_alike.Goals as goal
 

@@ -1,6 +1,6 @@
 use Rattle.std.proofs.Common.{◌∙◌, ap, sym}
-use Rattle.snow_plain.proofs.Cases.{same_id}
-use Rattle.snow_plain.specs.Grown.{has_block}
+use Rattle.snow_board.proofs.Cases.{same_id}
+use Rattle.snow_board.specs.Grown.{has_block}
 use Rattle.snow_tree.specs.Nodes.{blocks_of, linked}
 use Rattle.snow_tree.proofs.Linked.{on_ok, linked_only, none_changed, linked_at}
 use Rattle.snow_tree.proofs.Placed.{place_same, not_placed}

@@ -1,6 +1,6 @@
 use Rattle.std.proofs.Common.{◌∙◌, ap, sym}
-use Rattle.snow_plain.specs.Grown.{has_block}
-use Rattle.snow_plain.proofs.Cases.{same_id}
+use Rattle.snow_board.specs.Grown.{has_block}
+use Rattle.snow_board.proofs.Cases.{same_id}
 use Rattle.snow_tree.specs.Nodes.{blocks_of, unlinked}
 use Rattle.snow_tree.proofs.Linked.{unlinked_only, none_changed, unlinked_at}
 use Rattle.snow_tree.proofs.Placed.{not_placed}

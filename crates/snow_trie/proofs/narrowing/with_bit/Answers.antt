@@ -1,7 +1,7 @@
 use Rattle.std.proofs.Common.{◌≡◌, ◌-◌, take, drop, length, Contains, sym, arith, length-drop}
 use Rattle.std.proofs.lemmas.List.{take_all}
 use Rattle.std.proofs.lemmas.List.Elements.{All-take, All-drop, All-contains_itself}
-use Rattle.snow_plain.proofs.Polling.{below_zero, below_one}
+use Rattle.snow_board.proofs.Polling.{below_zero, below_one}
 use Rattle.snow_trie.proofs.narrowing.with_bit.Goals as goal
 
 pub returns-then-is_one-clause-counts : goal.returns-then-is_one-clause-counts

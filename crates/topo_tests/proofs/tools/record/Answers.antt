@@ -1,6 +1,6 @@
 use Rattle.std.proofs.Common.{ap, ◌∙◌}
-use Rattle.snow_plain.specs.Board.{Board}
-use Rattle.snow_plain.proofs.Polled.{poll_parameters}
+use Rattle.snow_board.specs.Board.{Board}
+use Rattle.snow_board.proofs.Polled.{poll_parameters}
 use Rattle.topo_tests.proofs.tools.record.Goals as goal
 
 pub returns : goal.returns

@@ -1,8 +1,8 @@
 use Rattle.std.proofs.Common.{◌≡◌, ap, ◌∙◌, Result, Ok, Err, OnOk, OnErr}
 use Rattle.snow_base.specs.Gathered.{one_each}
-use Rattle.snow_plain.specs.Board.{Board}
-use Rattle.snow_plain.specs.Poll.{poll}
-use Rattle.snow_plain.proofs.Polled.{poll_parameters}
+use Rattle.snow_board.specs.Board.{Board}
+use Rattle.snow_board.specs.Poll.{poll}
+use Rattle.snow_board.proofs.Polled.{poll_parameters}
 use Rattle.topo_tests.proofs.tools.record_each.Goals as goal
 
 -- a board that is another, or as before, has the parameters from before where the other has

@@ -1,5 +1,5 @@
 use Rattle.std.proofs.Common.{rules, Contains}
-use Rattle.snow_plain.proofs.Given.{given_added}
+use Rattle.snow_board.proofs.Given.{given_added}
 use Rattle.board_tests.proofs.trie.Pair.vote.Goals as goal
 
 pub returns-in_err-add-clause-given : goal.returns-in_err-add-clause-given

@@ -1,6 +1,6 @@
 -- A board with nothing pending belongs to a chain that holds one state.
 use Rattle.std.proofs.Common.{ap}
-use Rattle.snow_plain.specs.Board.{Board, begin}
+use Rattle.snow_board.specs.Board.{Board, begin}
 use Rattle.snow_chain.specs.Chain.{begun}
 use Rattle.snow_node.proofs.Following.{begun_steady}
 use Rattle.snow_node.proofs.Offers.{steady_as}

@@ -1,6 +1,6 @@
 -- What was decided is off the board, and so is what waits.
 use Rattle.std.proofs.Common.{ap, ◌∙◌, sym, subst}
-use Rattle.snow_plain.specs.Poll.{poll}
+use Rattle.snow_board.specs.Poll.{poll}
 use Rattle.snow_issue.specs.Known.{lists_of}
 use Rattle.snow_node.specs.declared.running.remembering.Remembered.{Remembered}
 use Rattle.snow_node.specs.Closing.{all_gone}

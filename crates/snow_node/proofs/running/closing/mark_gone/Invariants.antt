@@ -1,6 +1,6 @@
 -- The decisions so far are gone.
 use Rattle.std.proofs.Common.{◌≡◌, take}
-use Rattle.snow_plain.specs.Board.{Board}
+use Rattle.snow_board.specs.Board.{Board}
 use Rattle.snow_issue.specs.Known.{Knows, lists_of}
 use Rattle.snow_node.specs.Closing.{all_gone}
 use Rattle.snow_node.proofs.running.closing.mark_gone.Given as goal

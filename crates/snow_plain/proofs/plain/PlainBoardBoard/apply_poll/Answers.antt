@@ -1,11 +1,11 @@
 use Rattle.std.proofs.Common.{◌≡◌, ◌++◌, length, sym, ap, ◌∙◌, true≢false, arith}
 use Rattle.snow_base.specs.Votes.{total_count}
 use Rattle.snow_flake.specs.Parameters.{Parameters}
-use Rattle.snow_plain.specs.Board.{Board}
-use Rattle.snow_plain.specs.Poll.{counted, settled, poll}
-use Rattle.snow_plain.specs.Shown.{Shown}
-use Rattle.snow_plain.proofs.Same.{gives_all}
-use Rattle.snow_plain.proofs.Polled.{few_votes, counted_length, poll_is, settled_counted}
+use Rattle.snow_board.specs.Board.{Board}
+use Rattle.snow_board.specs.Poll.{counted, settled, poll}
+use Rattle.snow_board.specs.Shown.{Shown}
+use Rattle.snow_board.proofs.Same.{gives_all}
+use Rattle.snow_board.proofs.Polled.{few_votes, counted_length, poll_is, settled_counted}
 use Rattle.snow_plain.proofs.plain.PlainBoardBoard.apply_poll.Given as given
 use Rattle.snow_plain.proofs.plain.PlainBoardBoard.apply_poll.Goals as goal
 use Rattle.snow_plain.proofs.plain.PlainBoardBoard.apply_poll.Goals.{After-self-1}

@@ -1,9 +1,9 @@
 use Rattle.std.proofs.Common.{◌≡◌, false, None, sym, ap, ◌∙◌, arith}
 use Rattle.std.proofs.lemmas.Grind.{common_steps}
-use Rattle.snow_plain.specs.Board.{Board, issued, height_of}
-use Rattle.snow_plain.specs.Shown.{Shown}
-use Rattle.snow_plain.specs.Ending.{has_pending_child}
-use Rattle.snow_plain.proofs.Ended.{leading_issued}
+use Rattle.snow_board.specs.Board.{Board, issued, height_of}
+use Rattle.snow_board.specs.Shown.{Shown}
+use Rattle.snow_board.specs.Ending.{has_pending_child}
+use Rattle.snow_board.proofs.Ended.{leading_issued}
 use Rattle.snow_base.specs.declared.header.Header.{Header}
 use Rattle.snow_plain.proofs.plain.PlainBoardBoard.issue.Goals as goal
 

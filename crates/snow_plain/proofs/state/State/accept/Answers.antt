@@ -1,10 +1,10 @@
 use Rattle.std.proofs.Common.{List, length, reverse, slice_get, true, sym, ap, ◌∙◌, subst, arith}
 use Rattle.std.proofs.lemmas.List.{length-map}
-use Rattle.snow_plain.specs.declared.pending.Pending.{Pending}
-use Rattle.snow_plain.specs.Board.{Board, blocks_of}
-use Rattle.snow_plain.specs.Grown.{IsGrown}
-use Rattle.snow_plain.specs.Acceptance.{Accepts}
-use Rattle.snow_plain.proofs.Kept.{descendants_grown}
+use Rattle.snow_board.specs.Conflict.{Pending}
+use Rattle.snow_board.specs.Board.{Board, blocks_of}
+use Rattle.snow_board.specs.Grown.{IsGrown}
+use Rattle.snow_board.specs.Acceptance.{Accepts}
+use Rattle.snow_board.proofs.Kept.{descendants_grown}
 use Rattle.snow_plain.proofs.Taken.{accepted}
 use Rattle.snow_plain.proofs.state.State.accept.Goals as goal
 use Rattle.snow_plain.proofs.state.State.accept.Goals.{After-take_accepted-child}

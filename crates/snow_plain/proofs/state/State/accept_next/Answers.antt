@@ -1,5 +1,5 @@
 use Rattle.std.proofs.Common.{refl, sym, ◌∙◌}
-use Rattle.snow_plain.proofs.Settled.{winner_at, no_winner_at}
+use Rattle.snow_board.proofs.Settled.{winner_at, no_winner_at}
 use Rattle.snow_plain.proofs.state.State.accept_next.Goals as goal
 
 pub returns-in-Some-clause-accepts : goal.returns-in-Some-clause-accepts

@@ -2,15 +2,15 @@ use Rattle.std.proofs.Common.{◌≡◌, ◌+◌, cond, List, [], ◌∷◌, ◌
 use Rattle.std.specs.HashMap.{get}
 use Rattle.std.proofs.lemmas.Grind.{common_steps}
 use Rattle.std.proofs.lemmas.List.{length-map}
-use Rattle.snow_plain.specs.declared.pending.Pending.{Pending}
-use Rattle.snow_plain.specs.Board.{Board, blocks_of, new_pending}
-use Rattle.snow_plain.specs.Reached.{MayIssue}
+use Rattle.snow_board.specs.Conflict.{Pending}
+use Rattle.snow_board.specs.Board.{Board, blocks_of, new_pending}
+use Rattle.snow_board.specs.Reached.{MayIssue}
 use Rattle.snow_plain.specs.Places.{place_from}
-use Rattle.snow_plain.specs.Grown.{IsGrown}
-use Rattle.snow_plain.specs.Ending.{has_pending_child}
-use Rattle.snow_plain.proofs.Ended.{latest_alone}
-use Rattle.snow_plain.proofs.Invariant.{blocks_issued}
-use Rattle.snow_plain.proofs.Issued.{after_issue, grown_issued}
+use Rattle.snow_board.specs.Grown.{IsGrown}
+use Rattle.snow_board.specs.Ending.{has_pending_child}
+use Rattle.snow_board.proofs.Ended.{latest_alone}
+use Rattle.snow_board.proofs.Invariant.{blocks_issued}
+use Rattle.snow_board.proofs.Issued.{after_issue, grown_issued}
 use Rattle.snow_plain.proofs.Placed.{found_within, new_block, no_place, placed_behind}
 use Rattle.snow_plain.proofs.state.State.issue.Goals as goal
 use Rattle.snow_plain.proofs.state.State.issue.Goals.{After-place}

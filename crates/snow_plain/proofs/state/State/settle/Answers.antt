@@ -1,5 +1,5 @@
 use Rattle.std.proofs.Common.{◌∙◌, arith}
-use Rattle.snow_plain.proofs.Settled.{settling_more, settling_less}
+use Rattle.snow_board.proofs.Settled.{settling_more, settling_less}
 use Rattle.snow_plain.proofs.state.State.settle.Goals as goal
 
 pub loop-more-smaller : goal.loop-more-smaller

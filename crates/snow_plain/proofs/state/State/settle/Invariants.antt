@@ -1,5 +1,5 @@
 use Rattle.std.proofs.Common.{◌≡◌, ◌+◌, ◌≤◌, length, vec_len, vec_capacity}
-use Rattle.snow_plain.proofs.Settled.{IsSettling, to_do}
+use Rattle.snow_board.proofs.Settled.{IsSettling, to_do}
 use Rattle.snow_plain.proofs.state.State.settle.Given as goal
 
 abbrev pub invariant-loop-more : goal.invariant-loop-more

@@ -1,6 +1,6 @@
 use Rattle.std.proofs.Common.{◌+◌, All, Contains, Some, sym, ap, subst, ◌∙◌}
 use Rattle.std.specs.Option.{option_map}
-use Rattle.snow_plain.specs.Conflict.{votes_on}
+use Rattle.snow_board.specs.Conflict.{votes_on}
 use Rattle.snow_trie.specs.Whole.{Compressed}
 use Rattle.snow_topo.specs.Kept.{Kept, contest_of, ids_in, IsFit}
 use Rattle.snow_topo.proofs.Stamped.{recorded_some, recorded_none}

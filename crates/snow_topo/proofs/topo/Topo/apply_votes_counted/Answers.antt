@@ -1,5 +1,5 @@
 use Rattle.std.proofs.Common.{arith}
-use Rattle.snow_plain.proofs.OneEach.{total_each}
+use Rattle.snow_board.proofs.OneEach.{total_each}
 use Rattle.snow_topo.proofs.topo.Topo.apply_votes_counted.Goals as goal
 
 pub record-requires : goal.record-requires

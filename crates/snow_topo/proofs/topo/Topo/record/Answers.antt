@@ -1,9 +1,9 @@
 use Rattle.std.proofs.Common.{◌≡◌, ◌+◌, ◌≤◌, length, sym, ap, subst, ◌∙◌, arith}
-use Rattle.snow_plain.specs.Board.{Board, blocks_of}
-use Rattle.snow_plain.specs.Poll.{poll}
-use Rattle.snow_plain.specs.Preference.{preferred}
-use Rattle.snow_plain.specs.Shown.{Shown}
-use Rattle.snow_plain.proofs.Same.{same_board}
+use Rattle.snow_board.specs.Board.{Board, blocks_of}
+use Rattle.snow_board.specs.Poll.{poll}
+use Rattle.snow_board.specs.Preference.{preferred}
+use Rattle.snow_board.specs.Shown.{Shown}
+use Rattle.snow_board.proofs.Same.{same_board}
 use Rattle.snow_tree.specs.Held.{blocks_in}
 use Rattle.snow_topo.specs.Ballot.{votes_of}
 use Rattle.snow_topo.specs.Costs.{most_steps}

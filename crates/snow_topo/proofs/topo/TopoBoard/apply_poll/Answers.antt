@@ -1,4 +1,4 @@
-use Rattle.snow_plain.proofs.Same.{gives_all}
+use Rattle.snow_board.proofs.Same.{gives_all}
 use Rattle.snow_topo.proofs.topo.TopoBoard.apply_poll.Goals as goal
 
 pub returns-clause-alike : goal.returns-clause-alike

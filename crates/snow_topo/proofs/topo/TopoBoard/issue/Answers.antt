@@ -1,14 +1,14 @@
 use Rattle.std.proofs.Common.{◌≡◌, ◌+◌, true, length, sym, ap, subst, ◌∙◌, arith}
 use Rattle.std.proofs.lemmas.Grind.{common_steps}
 use Rattle.snow_base.specs.declared.header.Header.{Header}
-use Rattle.snow_plain.specs.declared.leading.Leading.{Leading}
-use Rattle.snow_plain.specs.Board.{Board, issued}
-use Rattle.snow_plain.specs.Grown.{is_on}
-use Rattle.snow_plain.specs.Ending.{IsLeading, leading_after}
-use Rattle.snow_plain.specs.Preference.{preferred}
-use Rattle.snow_plain.specs.Reached.{MayIssue}
-use Rattle.snow_plain.specs.Shown.{Shown}
-use Rattle.snow_plain.proofs.Ended.{latest_alone, leading_issued}
+use Rattle.snow_board.specs.declared.leading.Leading.{Leading}
+use Rattle.snow_board.specs.Board.{Board, issued}
+use Rattle.snow_board.specs.Grown.{is_on}
+use Rattle.snow_board.specs.Ending.{IsLeading, leading_after}
+use Rattle.snow_board.specs.Preference.{preferred}
+use Rattle.snow_board.specs.Reached.{MayIssue}
+use Rattle.snow_board.specs.Shown.{Shown}
+use Rattle.snow_board.proofs.Ended.{latest_alone, leading_issued}
 use Rattle.snow_tree.specs.Held.{blocks_in}
 use Rattle.snow_climb.specs.Ladder.{IsReady}
 use Rattle.snow_topo.specs.View.{view}

@@ -1,7 +1,7 @@
 use Rattle.std.proofs.Common.{◌≡◌, false, cond, None, Some, bytes_eq, nat_eq, refl, sym, ap, ◌∙◌}
 use Rattle.std.specs.HashMap.{get}
 use Rattle.std.specs.List.{position}
-use Rattle.snow_plain.proofs.Cases.{split_on}
+use Rattle.snow_board.proofs.Cases.{split_on}
 use Rattle.snow_tree.specs.Hints.{hint_of}
 use Rattle.snow_tree.specs.Row.{edges_of, gives_way}
 use Rattle.snow_tree.proofs.Edges.{gives_way_at}

@@ -2,7 +2,7 @@ use Rattle.std.proofs.Common.{◌≡◌, Option, Some, None, is_some, refl, sym,
 use Rattle.std.specs.Option.{option_map}
 use Rattle.snow_base.specs.declared.header.Header.{Header}
 use Rattle.snow_base.specs.Ancestry.{child_on}
-use Rattle.snow_plain.specs.Grown.{has_block}
+use Rattle.snow_board.specs.Grown.{has_block}
 use Rattle.snow_tree.specs.Nodes.{blocks_of}
 use Rattle.snow_tree.proofs.Left.{same_blocks}
 use Rattle.snow_tree.proofs.Seen.{line_there}

@@ -1,6 +1,6 @@
 use Rattle.std.proofs.Common.{sym, ap, ◌∙◌}
 use Rattle.std.specs.Option.{option_copied}
-use Rattle.snow_plain.proofs.Cases.{same_id}
+use Rattle.snow_board.proofs.Cases.{same_id}
 use Rattle.snow_tree.specs.Held.{children_of}
 use Rattle.snow_tree.specs.Nodes.{blocks_of}
 use Rattle.snow_tree.proofs.Left.{same_blocks}

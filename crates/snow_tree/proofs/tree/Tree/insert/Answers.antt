@@ -3,7 +3,7 @@ use Rattle.std.specs.List.{AllByRecursion}
 use Rattle.std.proofs.lemmas.Bool.{or_parts}
 use Rattle.std.proofs.lemmas.List.{map-append}
 use Rattle.snow_base.specs.declared.header.Header.{Header}
-use Rattle.snow_plain.specs.Grown.{has_block, is_on}
+use Rattle.snow_board.specs.Grown.{has_block, is_on}
 use Rattle.snow_tree.specs.declared.node.Node.{Node}
 use Rattle.snow_tree.specs.Held.{Held, blocks_in, place_in}
 use Rattle.snow_tree.specs.Nodes.{blocks_of, entry_of, linked, with_children}

@@ -1,7 +1,7 @@
 use Rattle.std.proofs.Common.{◌∷◌, max, refl, ap, ◌∙◌}
 use Rattle.snow_flake.specs.Counter.{Decided}
-use Rattle.snow_plain.specs.Conflict.{chosen}
-use Rattle.snow_plain.specs.FailingLaw.{failed}
+use Rattle.snow_board.specs.Conflict.{chosen}
+use Rattle.snow_board.specs.FailingLaw.{failed}
 use Rattle.snow_trie.specs.Tree.{tree_of}
 use Rattle.snow_trie.specs.Stamped.{between, strand, whole}
 use Rattle.snow_trie.proofs.Chosen.{chosen_failed}
