@@ -294,7 +294,7 @@ impl<H: Kept> Store<H> {
     /// run's lowest block. It returns `None` where that block is right above the last accepted one.
     /// The store is whole.
     /// Rule: AvalancheGo, snow/engine/snowman/bootstrap.
-    pub fn wanted_at(&self, height: u64) -> Option<Id>
+    pub(crate) fn wanted_at(&self, height: u64) -> Option<Id>
         requires whole { self.now.whole ≡ true }
         requires held { held_heights self.now.store.kept height ≡ true }
         ensures { result ≡ need_at self.now.store height }
