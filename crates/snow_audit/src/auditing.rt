@@ -27,12 +27,13 @@ pub enum AuditEnd {
 /// wrote for it, as Line events. It holds them against those of the model as they come, so it keeps
 /// the lines of one event alone, and the first that differs ends the reading.
 ///
-/// It returns `Same` where the source ends behind whole frames and no line differs, and `Differs`
-/// at the first event whose recorded lines aren't the model's, where it comes before any stop.
-/// Before a stream that is cut, or that reaches 2^40 bytes or a length that no frame has, the last
-/// event's lines may be a front of the model's. Else it returns `Stopped`, with the run's stop or
-/// that of its stream, which counts all frames. Where the run stops at its first frame it looks at
-/// no line. `SourceFault` and `Memory` may come in place of each answer.
+/// It returns `Same` where the source ends behind whole frames and no line differs. It returns
+/// `Differs` at the first event whose recorded lines aren't the model's, where no stop comes
+/// before. A stream breaks off where it is cut, reaches 2^40 bytes, or has a length that no frame
+/// has: the last event's lines may then be a front of the model's. Else it returns `Stopped`, with
+/// the run's stop or the stream's. Its frame is numbered among all frames. Where the run stops at
+/// its first frame, it looks at no line. `SourceFault` and `Memory` may come in place of each
+/// answer.
 /// Rule: this project's own.
 pub fn audit<C: Chain, B: Board, S: Source>(alloc: Global, source: &mut S) -> AuditEnd
     // The answer is the model's, but for a source fault and want of memory.

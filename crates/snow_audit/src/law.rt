@@ -8,8 +8,8 @@ ghost use Rattle.snow_engine.specs.declared.task.Task.TheVariants as task;
 ghost use Rattle.snow_audit.specs.Auditing.{audit_of};
 ghost use Rattle.snow_audit.specs.OwnLines.{fits, is_difference, is_event, recording};
 
-/// A run that is recorded with its own lines, each event's behind it, never differs, where no event
-/// is a Line event itself and each line that the run writes fits one.
+/// A run that is recorded with its own lines behind each event never differs, where no event is
+/// itself a Line event and each line of the run fits one.
 /// Rule: this project's own.
 pub fn audit_law()
     ensures { (rules : Rules) (answer : Answer) (payloads : List (List ℕ)) (bytes : List ℕ)

@@ -6,8 +6,8 @@ ghost use Rattle.snow_base.specs.Words.{eight_from, high_first};
 
 use std::cmp::Ordering;
 
-// Whether all bytes are equal, eight compared at a time. Nothing branches on them. An identifier that was
-// copied stands as words then, as a hash reads it too, and isn't taken to pieces.
+// Whether all bytes are equal. It compares eight at a time, as a hash reads them, and doesn't
+// branch on them.
 #[inline(always)]
 pub(crate) fn are_equal(a: &[u8], b: &[u8]) -> bool
     requires same { length a.now ≡ length b.now }

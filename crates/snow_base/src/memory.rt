@@ -59,8 +59,8 @@ impl Source for MemSource {
 
     ghost faults = { λ source. source.faults };
 
-    /// Gives as many bytes as are left, as fit, or as a piece has. It fails exactly where the
-    /// number of the call is listed, and then takes nothing.
+    /// Gives the least of three: the bytes that are left, those that fit into `buf`, and those of a
+    /// piece. It fails exactly where the number of the call is listed, and then takes nothing.
     fn read(&mut self, buf: &mut [u8]) -> Result<usize, Failed>
         ensures bound { IfOk result (λ n. n ≤ length buf.new) }
         ensures bytes { ReadConsumes (Some self.old.left) (Some self.new.left) result buf.new }
@@ -108,9 +108,9 @@ impl Model for MemSink {
 }
 
 impl MemSink {
-    /// Returns a sink that is empty and has no room yet. It fails exactly at the calls whose
-    /// numbers, counted from 1, are in `failing`, and where a piece is longer than the room; such a
-    /// call takes nothing. `new` takes no memory.
+    /// Returns an empty sink without room. A call fails exactly where its number, counted from 1,
+    /// is in `failing`, or its piece is longer than the room. It takes nothing then. `new` takes no
+    /// memory.
     /// Rule: this project's own.
     pub fn new(alloc: Global, failing: Nums) -> Self
         ensures { result ≡ record { written = []; room = 0; failing = failing; calls = 0; faults = 0 } }

@@ -12,7 +12,7 @@ use Rattle.snow_board.specs.Reached.{Reached}
 abbrev pub has_child_on : List Header → List ℕ → List Bool → List ℕ → Bool
 has_child_on blocks parent front id = list_any (λ b. bytes_eq b.parent parent && starts_with beq (bits b.id) front) (line blocks id)
 
--- on a board that can be reached that is the same as that the one child of the parent on the line has bits that begin so
+-- on a board that can be reached this is the same as: the one child of the parent on the block's line has bits that begin so
 abbrev pub LineLaw : Type 0
 LineLaw = (board : Board) (parent : List ℕ) (front : List Bool) (id : List ℕ) → Reached board
     → has_child_on (blocks_of board.pending) parent front id ≡ is_below (blocks_of board.pending) parent front id

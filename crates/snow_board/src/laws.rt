@@ -89,18 +89,19 @@ pub fn one_quorum_law()
     ensures { OneQuorumLaw }
 {}
 
-/// By a block's line a vote counts: on a board that can be reached, that a block or some ancestor
-/// of it is a child of the parent whose bits begin so, and that the one child of the parent on its
-/// line has such bits, are the same.
+/// Two tests are the same on every board that can be reached: that a block or some ancestor of it
+/// is a child of the parent whose bits begin so; and that the one child of the parent on the
+/// block's line has such bits. So a vote counts by its block's line.
 /// Rule: this project's own.
 #[tactic(auto, using(crate::proofs::Lines::line_law))]
 pub fn line_law()
     ensures { LineLaw }
 {}
 
-/// Counters stand where a child was issued, and only there: on a board that can be reached a block
-/// has a counter at a list of fewer than 256 bits exactly where it has a pending child whose bits
-/// begin so, and no decided counter excludes the list. It has none at longer lists.
+/// On a board that can be reached, counters stand just where a child was issued. Take a block and a
+/// list of fewer than 256 bits. The block has a counter there exactly where two things hold: it has
+/// a pending child whose bits begin so, and no decided counter excludes the list. It has none at
+/// longer lists.
 /// Rule: this project's own.
 #[tactic(auto, using(crate::proofs::Standing::standing))]
 pub fn standing_law()
@@ -122,18 +123,19 @@ pub fn none_excluded_law()
     ensures { NoneExcludedLaw }
 {}
 
-/// The confidence law: on a board that can be reached, where a counter is undecided, so is each
-/// counter to which it leads, in its conflict or in one of the blocks below; and the confidence
-/// there is at most its own, and 0 on the side other than its flake.
+/// On a board that can be reached, confidence never rises on the way down. Take an undecided
+/// counter and one to which it leads, in its conflict or in a block below. That one is undecided
+/// too. Its confidence is at most the first one's, and 0 on the side other than the first one's
+/// flake.
 /// Rule: this project's own.
 #[tactic(auto, using(crate::proofs::Confidence::confident))]
 pub fn confidence_law()
     ensures { ConfidenceLaw }
 {}
 
-/// Nobody reads excluded counters: after every list of issues and polls a board that kept them, and
-/// the numbers of decided counters, would have made the same decisions, and by every rule it would
-/// have the same preference with the same path to it.
+/// Nobody reads excluded counters. Take a board that keeps them, and the numbers of decided
+/// counters too. After every list of issues and polls it would have made the same decisions. By
+/// every rule it would have the same preference, with the same path to it.
 /// Rule: this project's own.
 #[tactic(auto, using(crate::proofs::Pruning::never_read))]
 pub fn keeping_law()

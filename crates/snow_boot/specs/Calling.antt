@@ -20,8 +20,8 @@ abbrev pub AreDrawn : List Get → ℕ → Type 0
 AreDrawn [] drawn = ⊤
 AreDrawn (r ∷ requests) drawn = (r.number ≤ drawn) × AreDrawn requests drawn
 
--- what a call needs: bootstrapping goes on, the chain's last accepted block is the one from which it began and its state is the
--- only one that the chain holds, and the number of each open request was drawn
+-- What a call needs. Bootstrapping goes on. The chain's last accepted block is the one from which it began, and the chain holds its state
+-- alone. The number of each open request was drawn.
 pub record MayGoOn (course : Course) (held : Held) (number : ℕ) : Type 0 where
   pub goes_on : course.goes_on ≡ true
   pub last : held.last ≡ course.boot.store.last

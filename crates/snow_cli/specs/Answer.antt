@@ -182,7 +182,7 @@ error_line (Some (finish.Ended e)) = end_line e
 
 -- ---- the answer
 
--- how a command ended that a status tells of, where a fault or want of memory ended it, and else what the model says
+-- how a command ended by its status: a fault or want of memory where the status says so, else what the model says
 abbrev pub told_by : Status → Option Finish → Option Finish
 told_by status.SourceFault expected = Some (finish.Ended end.SourceFault)
 told_by status.SinkFault expected = Some (finish.Ended end.SinkFault)

@@ -10,7 +10,8 @@ use std::alloc::{AllocError, Global};
 /// `decide`, `run` or `audit` with `--chain plain`, `--chain tally` or `--chain ledger` and `--rule
 /// snowball` or `--rule snowflake`, where the first of each is the default; or `drill` with a seed,
 /// a number of blocks and a rule. It returns `None` exactly where the words ask for none, as where
-/// a word has no place or an option stands twice. On want of memory it returns `AllocError`.
+/// a word has no place, an option stands twice, or a value is none of the option's. On want of
+/// memory it returns `AllocError`.
 /// Rule: this project's own.
 #[tactic(auto, using(crate::proofs::Whole::none_in_order, crate::proofs::Whole::asks))]
 pub fn read_words(alloc: Global, words: &Vec<String>) -> Result<Option<Command>, AllocError>

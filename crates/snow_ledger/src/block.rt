@@ -7,8 +7,8 @@ use sha2::{Digest, Sha256};
 use snow_base::{Header, Id};
 use snow_chain::{id_at, number_at};
 
-/// Returns the transfer at a place of a block, counted from 0, or `None` exactly where the bytes
-/// are no block's, or the block has no more than so many. It takes no memory.
+/// Returns the transfer at a place of a block, counted from 0. It returns `None` exactly where the
+/// bytes are no block, or the block has no transfer there. It takes no memory.
 /// Rule: this project's own.
 #[tactic(auto, unfolding(crate::specs::Blocks::header_of))]
 pub fn transfer(bytes: &[u8], place: usize) -> Option<Transfer>

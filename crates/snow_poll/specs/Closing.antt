@@ -16,11 +16,11 @@ is_out_of_reach n poll = nat_lt (received poll + outstanding poll) n
 abbrev pub is_answered : Poll → Bool
 is_answered poll = outstanding poll == 0
 
--- no identifier can reach AlphaPreference
+-- received and outstanding together are below AlphaPreference
 abbrev pub cannot_reach_preference : Parameters → Poll → Bool
 cannot_reach_preference p poll = is_out_of_reach p.alpha_preference poll
 
--- one identifier has AlphaPreference, and none can reach AlphaConfidence
+-- one identifier has AlphaPreference, and received and outstanding together are below AlphaConfidence
 abbrev pub has_preference_alone : Parameters → Poll → Bool
 has_preference_alone p poll = some_has p.alpha_preference poll && is_out_of_reach p.alpha_confidence poll
 

@@ -26,7 +26,7 @@ abbrev pub count_of : List Vote → List ℕ → ℕ
 count_of [] id = 0
 count_of (v ∷ votes) id = match_ordering (bit_cmp v.id id) (count_of votes id) v.count 0
 
--- whether a poll is closed that can reach so many votes, of which so many are outstanding, and where one identifier has the most
+-- whether a poll is closed: `reach` votes were received or are outstanding, `outstanding` are outstanding, one identifier has `most`
 abbrev pub closes_by : Parameters → ℕ → ℕ → ℕ → Bool
 closes_by p reach outstanding most =
     (outstanding == 0)

@@ -121,8 +121,8 @@ impl Poll {
     }
 }
 
-// Whether a poll is closed that can reach so many votes, of which so many are outstanding, and where
-// one identifier has the most.
+// Whether a poll is closed. `reach` is how many votes were received or are outstanding,
+// `outstanding` is how many are outstanding, and `most` is the most votes of one identifier.
 fn closes(params: &Params, reach: u32, outstanding: u32, most: u32) -> bool
     ensures closed { result ≡ closes_by params.now reach outstanding most }
     ensures good { AreGood params.now }

@@ -67,10 +67,11 @@ pub struct Closed {
 /// in order of beginning, each with its number, its draws and its replies.
 ///
 /// A poll counts the reply of each node as often as the node was drawn, and once only. It is closed
-/// where nothing is outstanding, where no identifier can reach AlphaPreference, where one has
-/// AlphaPreference and none can reach AlphaConfidence, or where one has AlphaConfidence. Only the
-/// front poll leaves, and only while it is closed; until it leaves, its late replies count. The
-/// next poll that is begun uses the room of the one that left last.
+/// in four cases: nothing is outstanding; received and outstanding together are below
+/// AlphaPreference; one identifier has AlphaPreference, and received and outstanding together are
+/// below AlphaConfidence; one identifier has AlphaConfidence. Only the front poll leaves, and only
+/// while it is closed; until it leaves, its late replies count. The next poll that is begun uses
+/// the room of the one that left last.
 /// Rule: AvalancheGo, snow/consensus/snowman/poll.
 #[derive(Debug, Drop)]
 pub struct Polls {

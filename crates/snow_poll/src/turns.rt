@@ -7,10 +7,9 @@ ghost use Rattle.snow_poll.specs.Kept.{place, turn, is_front, ArePlaced};
 use std::alloc::{AllocError, Global};
 use std::collections::BTreeMap;
 
-// At which place each number's poll stands, so that a reply needs no walk over the polls. The turn
-// of a poll is how many were begun before it, and its place is its turn less the polls that left;
-// both are counted modulo 2^64. A poll that is begun at the front isn't entered: where one runs at a
-// time, no turn is kept.
+// Where each number's poll stands, so that a reply needs no walk. A poll's turn is how many began
+// before it. Its place is its turn less the polls that left. Both are counted modulo 2^64. A poll
+// that begins at the front isn't entered: where one runs at a time, no turn is kept.
 #[derive(Debug, Drop)]
 pub(crate) struct Turns {
     pub(crate) turns: BTreeMap<u32, u64>,

@@ -1,4 +1,4 @@
-//! Numbers in the order of the identifiers of their entries, cut into rows, so that one that comes
+//! Numbers of entries, in the order of the entries' identifiers, cut into rows. A number that comes
 //! or leaves moves only the others of its row. Rows next to one another have at least 64 numbers
 //! together. So there are only so many rows, and the table makes all when it is made.
 ghost use Rattle.std.specs.Prelude.{◌≡◌, ℕ, ◌+◌, ◌-◌, ◌<◌, ◌≤◌, ◌^◌, [], ◌∷◌, ◌++◌, All, length, take, get_or, nat_lt, replicate, IfOk, vec_capacity};

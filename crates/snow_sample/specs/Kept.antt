@@ -45,7 +45,7 @@ one_more (d ∷ draws) (suc place) = d ∷ one_more draws place
 abbrev pub is_at : List Draw → ℕ → List ℕ → Bool
 is_at draws at node = option_map_or (λ d. bytes_eq d.node node) (slice_get draws at) false
 
--- each node has a slot: where it was drawn, that has the place at which its draws are counted, else it may have any number
+-- each node has a slot: for a node that was drawn, the place of its draws; for any other, any number
 pub record HasSlots (nodes : List Node) (slots : List ℕ) (draws : List Draw) : Type 0 where
   pub each : length nodes ≤ length slots
   pub places : (i at : ℕ) (n : Node) → i < length nodes → place draws (slice_index_or nodes i n).id ≡ Some at → slice_index slots i ≡ at

@@ -250,13 +250,18 @@ impl<H: Kept> Store<H> {
         None
     }
 
-    /// Takes a block into a whole store, by the first of these that applies. It stops the run with
-    /// `Refused` where a kept child of the block has a height other than one more. It returns `Low`
-    /// where the block's height is at most the last accepted one, and `Known` where the block is
-    /// kept at its height. It stops with `Conflict` where another block is kept there, with `Full`
-    /// where 32,768 blocks are kept, with `Fork` where the block is right above the last accepted
-    /// one and has another parent, and with `Conflict` where it doesn't fit the block below or
-    /// above. Else it keeps the block and returns `Keeps`. On want of memory it returns `Memory`.
+    /// Takes a block into a whole store. The first of these applies:
+    ///
+    /// - `Err(Refused)`: a kept child of the block has a height other than one more.
+    /// - `Low`: its height is at most the last accepted one.
+    /// - `Known`: it is kept at its height.
+    /// - `Err(Conflict)`: another block is kept there.
+    /// - `Err(Full)`: 32,768 blocks are kept.
+    /// - `Err(Fork)`: it is right above the last accepted block and has another parent.
+    /// - `Err(Conflict)`: it doesn't fit the block below or above.
+    /// - `Keeps`: none of these. It is kept then.
+    ///
+    /// On want of memory it returns `Err(Memory)`.
     /// Rule: AvalancheGo, snow/engine/snowman/bootstrap.
     pub fn take(&mut self, header: &Header, bytes: &[u8]) -> Result<Verdict, BootStop>
         requires { self.old.whole ≡ true }
@@ -294,7 +299,7 @@ impl<H: Kept> Store<H> {
     /// run's lowest block. It returns `None` where that block is right above the last accepted one.
     /// The store is whole.
     /// Rule: AvalancheGo, snow/engine/snowman/bootstrap.
-    pub fn wanted_at(&self, height: u64) -> Option<Id>
+    pub(crate) fn wanted_at(&self, height: u64) -> Option<Id>
         requires whole { self.now.whole ≡ true }
         requires held { held_heights self.now.store.kept height ≡ true }
         ensures { result ≡ need_at self.now.store height }

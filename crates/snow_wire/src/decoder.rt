@@ -11,10 +11,10 @@ use snow_base::Source;
 use std::alloc::{AllocError, Global};
 use std::marker::Model;
 
-/// A read takes at most so many bytes.
+/// The most bytes that one read takes.
 const PIECE: usize = 65_536;
 
-/// The bytes that are left move to the front as soon as so many times as many were worked.
+/// The bytes that are left move to the front once this many times as many bytes were worked.
 const TIMES: usize = 8;
 
 /// Why `Decoder::read_from` took no bytes. The decoder stays as it was.
