@@ -1,5 +1,5 @@
 -- A place that isn't left has the reply of its number.
-use Rattle.std.proofs.Common.{None, Some, cond, get_or, sym, ap, ◌∙◌}
+use Rattle.std.proofs.Common.{None, Some, cond, get_or, ap, ◌∙◌}
 use Rattle.std.proofs.lemmas.List.{get_or_default}
 use Rattle.snow_issue.specs.declared.roll.Place.{Place}
 use Rattle.snow_issue.proofs.Ranged.{missing, found_at}

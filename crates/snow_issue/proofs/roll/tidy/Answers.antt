@@ -1,5 +1,5 @@
 -- What is left is above no reply, or goes.
-use Rattle.std.proofs.Common.{◌<◌, List, All, filter, refl, sym, ap, ◌∙◌, subst}
+use Rattle.std.proofs.Common.{◌<◌, All, filter, refl, sym, ap, ◌∙◌, subst}
 use Rattle.std.proofs.lemmas.List.Elements.{filter_passes}
 use Rattle.std.proofs.lemmas.List.Kept.{AllPairs-filter}
 use Rattle.snow_issue.specs.declared.roll.Place.{Place}

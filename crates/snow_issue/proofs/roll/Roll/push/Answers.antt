@@ -1,5 +1,5 @@
 -- The new place stands behind all others.
-use Rattle.std.proofs.Common.{◌≡◌, ◌+◌, ◌<◌, [], ◌∷◌, ◌++◌, false, List, length, sym, ap, ◌∙◌, subst, arith}
+use Rattle.std.proofs.Common.{false, List, length, sym, ap, subst, arith}
 use Rattle.std.proofs.lemmas.List.{length_push}
 use Rattle.snow_issue.specs.declared.roll.Place.{Place}
 use Rattle.snow_issue.specs.Roll.{entries_of, Rises}
