@@ -7,7 +7,6 @@ use snow_base::Id;
 use snow_board::Board;
 
 /// Returns whether a block is pending. Mostly it is the preference, which needs no look-up.
-#[inline(always)]
 #[tactic(auto, using(crate::proofs::Preferred::preference_pending))]
 pub(crate) fn is_pending<B: Board>(board: &B, id: &Id) -> bool
     ensures { result ≡ is_pending (B.board board.now) id.now }
@@ -19,7 +18,6 @@ pub(crate) fn is_pending<B: Board>(board: &B, id: &Id) -> bool
 }
 
 // Whether a block is pending, by a look-up.
-#[inline(never)]
 fn is_found<B: Board>(board: &B, id: &Id) -> bool
     ensures { result ≡ is_pending (B.board board.now) id.now }
 {
@@ -37,7 +35,6 @@ pub(crate) fn bubble<B: Board>(gone: &GoneList, board: &B, id: &Id) -> Option<Id
 }
 
 // The vote of a block that isn't pending, step by step. The gone list can hold a circle, so the bound on the steps binds.
-#[inline(never)]
 fn climb<B: Board>(gone: &GoneList, board: &B, id: &Id) -> Option<Id>
     ensures { result ≡ bubbled_in 8192 gone.now (B.board board.now) id.now }
 {

@@ -65,7 +65,6 @@ impl GetMap {
     }
 
     // Whether a block is asked for, by the index.
-    #[inline(never)]
     fn has_id(&self, id: &Id) -> bool
         ensures { result ≡ asked_in self.now id.now }
     {
@@ -80,8 +79,6 @@ impl GetMap {
     }
 
     /// Opens a get. On want of memory all stays as it was.
-    // A call, as is the next one, so that a get that stands alone costs little.
-    #[inline(never)]
     pub(crate) fn open(&mut self, get: Get) -> Result<(), AllocError>
         requires number { has_number self.old get.number ≡ false }
         requires id { asked_in self.old get.id ≡ false }
@@ -98,7 +95,6 @@ impl GetMap {
     }
 
     /// Closes the get of a number and node, and returns the block for which it asked, or `None`.
-    #[inline(never)]
     pub(crate) fn close(&mut self, number: u32, node: &NodeId) -> Option<Id>
         ensures answer { result ≡ option_map (λ g. g.id) (find (is_get number node.now) self.old) }
         ensures left { self.new ≡ without (is_get number node.now) self.old }

@@ -81,7 +81,6 @@ impl Gets {
     /// Opens a get, whose number and block no open get has. On want of memory it returns
     /// `AllocError`, and all stays as it was.
     /// Rule: AvalancheGo, snow/engine/snowman.
-    #[inline(always)]
     pub fn open(&mut self, get: Get) -> Result<(), AllocError>
         requires number { has_number self.old get.number ≡ false }
         requires id { asked_in self.old get.id ≡ false }
@@ -99,7 +98,6 @@ impl Gets {
     /// Closes the get of a number and a node, and returns the block for which it asked. It returns
     /// `None` exactly where there is no such get, and all stays as it was then.
     /// Rule: AvalancheGo, snow/engine/snowman.
-    #[inline(always)]
     pub fn close(&mut self, number: u32, node: &NodeId) -> Option<Id>
         ensures answer { result ≡ option_map (λ g. g.id) (find (is_get number node.now) self.old) }
         ensures left { self.new ≡ without (is_get number node.now) self.old }
@@ -117,7 +115,6 @@ impl Gets {
 }
 
 // A get that stood alone goes to the others. After want of memory all is as before.
-#[inline(never)]
 fn join(alone: &mut Option<Get>, others: &mut GetMap) -> Result<(), AllocError>
     requires { StandsAlone alone.old others.old }
     ensures none { OnOk result (alone.new ≡ None) }

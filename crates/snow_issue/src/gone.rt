@@ -68,7 +68,6 @@ impl GoneList {
 
     /// Returns the latest entry of a block, or `None` exactly where the block has none.
     /// Rule: AvalancheGo, snow/engine/snowman.
-    #[inline(always)]
     pub fn latest(&self, id: &Id) -> Option<&Gone>
         ensures { option_copied result ≡ latest self.now id.now }
     {

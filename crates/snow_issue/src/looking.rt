@@ -53,7 +53,6 @@ pub(crate) fn first_hopeless<B: Board>(waiting: &mut WaitingList, gets: &Gets, b
 
 // Remembers of the block at a place that it can wait on, where it is a child of this block, which
 // isn't on the board.
-#[inline(always)]
 fn rest_at(waiting: &mut WaitingList, gets: &Gets, at: usize, parent: &Id)
     requires { at < length waiting.old }
     ensures same { items_of waiting.new ≡ items_of waiting.old }

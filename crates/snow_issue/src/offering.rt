@@ -38,7 +38,6 @@ fn is_unknown<B: Board>(
 }
 
 /// Returns whether a block that a reply names is to be asked for.
-#[inline(always)]
 pub(crate) fn is_wanted<B: Board>(
     waiting: &WaitingList,
     gets: &Gets,
@@ -103,7 +102,6 @@ fn is_old<B: Board>(latest: Option<&Gone>, board: &B, block: &Header) -> bool
 }
 
 /// Returns the first reason, if there is one, for which an offered block doesn't wait.
-#[inline(always)]
 pub(crate) fn refusal<B: Board>(
     waiting: &WaitingList,
     gone: &GoneList,

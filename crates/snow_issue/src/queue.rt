@@ -331,9 +331,7 @@ impl Queue {
         self.next_step(board)
     }
 
-    // The next step, whatever is remembered of the waiting blocks. A call, so that what is taken goes straight
-    // to where it is wanted.
-    #[inline(never)]
+    // The next step, whatever is remembered of the waiting blocks.
     fn next_step<B: Board>(&mut self, board: &B) -> Option<Work>
         requires { Knows self.old (B.board board.now) }
         ensures { TakesStep self.old self.new (B.board board.now) result }
@@ -364,7 +362,6 @@ impl Queue {
     }
 
     // The next step where, besides, a reply is held.
-    #[inline(never)]
     fn held_vote(&mut self) -> Option<Work>
         ensures work { result ≡ option_map work.Vote (find (is_free (lists_of self.old)) self.old.held) }
         ensures lists { (b : model.Board) → lists_of self.new ≡ after (lists_of self.old) b result }

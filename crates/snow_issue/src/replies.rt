@@ -71,8 +71,7 @@ impl Replies {
         self.has_node(number, node)
     }
 
-    // The same by the index.
-    #[inline(never)]
+    // Whether a node's reply to a poll is held, by the index.
     fn has_node(&self, number: u32, node: &NodeId) -> bool
         ensures { result ≡ holds_in (items_of self.now) number node.now }
     {

@@ -145,7 +145,6 @@ fn likely_place(places: &[Place], arrival: u64) -> usize {
 }
 
 // Where a number stands, wherever that is.
-#[inline(never)]
 fn search(places: &[Place], arrival: u64) -> Option<usize>
     requires { Rises places.now }
     ensures there { IfSome result (λ at. at < length places.now) }
@@ -191,7 +190,6 @@ fn is_stale(places: &[Place], len: usize, arrival: u64) -> bool
 }
 
 // The places that are left go.
-#[inline(never)]
 fn clear(places: &mut Vec<Place>)
     ensures { places.new.items ≡ filter is_here places.old.items }
 {

@@ -64,8 +64,6 @@ impl Queue {
     }
 
     /// Takes the earliest hopeless block out, which stands at this place.
-    // A call, so that no room is made ready for a block where none is taken.
-    #[inline(never)]
     pub(crate) fn take_hopeless<B: Board>(&mut self, at: usize, board: &B) -> Option<Work>
         requires there { at < length self.old.seats }
         requires first { at ≡ position_or_len (is_hopeless (lists_of self.old) (B.board board.now)) (lists_of self.old).waiting }
@@ -98,8 +96,6 @@ impl Queue {
     }
 
     /// Takes the earliest ready block out, which stands at this place, where none is hopeless.
-    // A call, as above.
-    #[inline(never)]
     pub(crate) fn take_ready<B: Board>(&mut self, at: usize, board: &B) -> Option<Work>
         requires there { at < length self.old.seats }
         requires none { find (is_hopeless (lists_of self.old) (B.board board.now)) (lists_of self.old).waiting ≡ None }
@@ -111,7 +107,6 @@ impl Queue {
     }
 
     // Takes the block at a place out. Its children and the replies that name it are to be looked at.
-    #[inline(always)]
     fn take_block(&mut self, at: usize) -> Waiting
         requires { at < length self.old.seats }
         ensures taken { HoldsAt (λ s. result ≡ s.0) self.old.seats at }

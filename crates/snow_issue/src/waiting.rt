@@ -73,7 +73,6 @@ impl WaitingList {
     }
 
     // Whether a block waits, by the index.
-    #[inline(never)]
     fn has_height(&self, id: &Id) -> bool
         ensures { result ≡ waits_among (items_of self.now) id.now }
     {
@@ -97,7 +96,6 @@ impl WaitingList {
     }
 
     // Whether its parent waits right below it, by the index.
-    #[inline(never)]
     fn has_height_below(&self, child: &Header) -> bool
         ensures { result ≡ waits_below (items_of self.now) child.now }
     {
@@ -108,7 +106,6 @@ impl WaitingList {
     }
 
     /// Appends a block that doesn't wait yet. On want of memory all stays as it was.
-    #[inline(never)]
     pub(crate) fn push(&mut self, block: Waiting) -> Result<(), AllocError>
         requires { waits_among (items_of self.old) block.header.id ≡ false }
         ensures ok { OnOk result (self.new ≡ self.old ++ (block, New) ∷ []) }
@@ -196,7 +193,6 @@ impl WaitingList {
 }
 
 // The block that came last goes.
-#[inline(never)]
 fn cut_last(lineup: &mut Lineup<Waiting>)
     requires { 0 < length lineup.old }
     ensures { lineup.new ≡ remove lineup.old (length lineup.old - 1) }
