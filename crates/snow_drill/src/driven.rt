@@ -23,8 +23,8 @@ pub(crate) trait Driven: Sized {
     /// drill comes, counts as want of memory.
     fn drive(&mut self, frame: u64, event: View<'_>, log: &mut Lines) -> Result<(), AllocError>
         requires { log.old ≡ [] }
-        ensures node { OnOk result ((step self.old frame (as_event event)).1 ≡ Ok self.new) }
-        ensures lines { OnOk result (log.new ≡ (step self.old frame (as_event event)).0) };
+        ensures node { OnOk result ((step self.old frame (as_event event.entry)).1 ≡ Ok self.new) }
+        ensures lines { OnOk result (log.new ≡ (step self.old frame (as_event event.entry)).0) };
 
     /// Drops it.
     fn discard(self);

@@ -15,8 +15,8 @@ impl<E: Driven> Player<E> {
     // count past 64 bits are told as want of memory.
         fn event(&mut self, event: View<'_>, log: &mut Lines) -> Result<(), AllocError>
         requires { log.old ≡ [] }
-        ensures follows { OnOk result (Follows self.old self.new (λ d. model.with_event E.step d (as_event event))) }
-        ensures lines { OnOk result ((d : model.Drill E) → Plays self.old d → log.new ≡ (model.comes E.step d (as_event event)).0) }
+        ensures follows { OnOk result (Follows self.old self.new (λ d. model.with_event E.step d (as_event event.entry))) }
+        ensures lines { OnOk result ((d : model.Drill E) → Plays self.old d → log.new ≡ (model.comes E.step d (as_event event.entry)).0) }
     {
         let Some(frame) = self.frame.checked_add(1) else {
             return Err(AllocError);
@@ -56,7 +56,7 @@ impl<E: Driven> Player<E> {
     // An event with the Timeouts that follow. The log is empty before.
     fn event_on(&mut self, event: View<'_>, log: &mut Lines) -> Result<(), AllocError>
         requires { log.old ≡ [] }
-        ensures { OnOk result (Follows self.old self.new (λ d. model.with_timeouts E.step d (as_event event))) }
+        ensures { OnOk result (Follows self.old self.new (λ d. model.with_timeouts E.step d (as_event event.entry))) }
     {
         self.event(event, log)?;
         self.time_outs(log.list())
@@ -76,7 +76,7 @@ impl<E: Driven> Player<E> {
     /// of memory it returns `AllocError`.
     /// Rule: this project's own.
     pub fn make(&mut self, event: View<'_>) -> Result<(), AllocError>
-        ensures { OnOk result (Follows self.old self.new (λ d. model.with_timeouts E.step d (as_event event))) }
+        ensures { OnOk result (Follows self.old self.new (λ d. model.with_timeouts E.step d (as_event event.entry))) }
     {
         let mut log = self.take_log();
         let came = self.event_on(event, &mut log);

@@ -85,8 +85,8 @@ impl<C: Chain, B: Board> Engine<C, B> {
         event: View<'_>,
         log: &mut Lines,
     ) -> Result<(), EngineStop>
-        ensures answer { Steps result self.new (model.step C.rules B.answer self.old frame (as_event event)).1 }
-        ensures lines { Logs result log.old log.new (model.step C.rules B.answer self.old frame (as_event event)).0 }
+        ensures answer { Steps result self.new (model.step C.rules B.answer self.old frame (as_event event.entry)).1 }
+        ensures lines { Logs result log.old log.new (model.step C.rules B.answer self.old frame (as_event event.entry)).0 }
     {
         match &mut self.stage {
             Stage::Deciding(node) => match node.step(frame, event, log) {
@@ -111,8 +111,8 @@ impl<C: Chain, B: Board> Engine<C, B> {
         log: &mut Lines,
     ) -> Result<(), EngineStop>
         requires { model.is_booting self.old ≡ true }
-        ensures answer { Steps result self.new (model.step C.rules B.answer self.old frame (as_event event)).1 }
-        ensures lines { Logs result log.old log.new (model.step C.rules B.answer self.old frame (as_event event)).0 }
+        ensures answer { Steps result self.new (model.step C.rules B.answer self.old frame (as_event event.entry)).1 }
+        ensures lines { Logs result log.old log.new (model.step C.rules B.answer self.old frame (as_event event.entry)).0 }
     {
         let event = event.to_event(self.alloc)?;
         let node = match mem::replace(&mut self.stage, Stage::Ended) {

@@ -151,8 +151,8 @@ impl<C: Chain, B: Board> Running<C, B> {
     /// Rule: AvalancheGo, snow/engine/snowman.
     #[tactic(auto, unfolding(crate::specs::Turning::runs_on), using(crate::proofs::Logs::logs_nothing))]
     pub fn step(&mut self, frame: u64, event: View<'_>, log: &mut Lines) -> Result<(), Halt>
-        ensures answer { Turns result self.new (model.runs_on C.rules B.answer self.old frame (as_event event)).1 }
-        ensures lines { Tells result log.old log.new (model.runs_on C.rules B.answer self.old frame (as_event event)).0 }
+        ensures answer { Turns result self.new (model.runs_on C.rules B.answer self.old frame (as_event event.entry)).1 }
+        ensures lines { Tells result log.old log.new (model.runs_on C.rules B.answer self.old frame (as_event event.entry)).0 }
     {
         match event {
             View::Start(_) => Err(Halt::SecondStart),
@@ -176,8 +176,8 @@ impl<C: Chain, B: Board> Running<C, B> {
 
     /// Takes a block, and ends the event.
     fn on_block(&mut self, frame: u64, block: Brought<'_>, log: &mut Lines) -> Result<(), Halt>
-        ensures answer { Turns result self.new (then_comes (hearing.block_came C.rules B.answer self.old frame block.node.now block.request block.bytes.now) (model.rounded B.answer)).1 }
-        ensures lines { Tells result log.old log.new (then_comes (hearing.block_came C.rules B.answer self.old frame block.node.now block.request block.bytes.now) (model.rounded B.answer)).0 }
+        ensures answer { Turns result self.new (then_comes (hearing.block_came C.rules B.answer self.old frame block.entry.node.now block.entry.request block.entry.bytes.now) (model.rounded B.answer)).1 }
+        ensures lines { Tells result log.old log.new (then_comes (hearing.block_came C.rules B.answer self.old frame block.entry.node.now block.entry.request block.entry.bytes.now) (model.rounded B.answer)).0 }
     {
         let peer = NodeId::from_bytes(*block.node);
         self.receive_block(frame, &peer, block.request, block.bytes, log)?;
@@ -186,8 +186,8 @@ impl<C: Chain, B: Board> Running<C, B> {
 
     /// Takes a vote, and ends the event.
     fn on_chits(&mut self, vote: Named<'_>, log: &mut Lines) -> Result<(), Halt>
-        ensures answer { Turns result self.new (then_comes (hearing.vote_came C.rules B.answer self.old vote.request vote.node.now vote.id.now) (model.rounded B.answer)).1 }
-        ensures lines { Tells result log.old log.new (then_comes (hearing.vote_came C.rules B.answer self.old vote.request vote.node.now vote.id.now) (model.rounded B.answer)).0 }
+        ensures answer { Turns result self.new (then_comes (hearing.vote_came C.rules B.answer self.old vote.entry.request vote.entry.node.now vote.entry.id.now) (model.rounded B.answer)).1 }
+        ensures lines { Tells result log.old log.new (then_comes (hearing.vote_came C.rules B.answer self.old vote.entry.request vote.entry.node.now vote.entry.id.now) (model.rounded B.answer)).0 }
     {
         let peer = NodeId::from_bytes(*vote.node);
         let id = Id::from_bytes(*vote.id);
@@ -197,8 +197,8 @@ impl<C: Chain, B: Board> Running<C, B> {
 
     /// Takes that a peer won't answer, and ends the event.
     fn on_timeout(&mut self, timeout: Sender<'_>, log: &mut Lines) -> Result<(), Halt>
-        ensures answer { Turns result self.new (then_comes (hearing.timed_out C.rules B.answer self.old timeout.request timeout.node.now) (model.rounded B.answer)).1 }
-        ensures lines { Tells result log.old log.new (then_comes (hearing.timed_out C.rules B.answer self.old timeout.request timeout.node.now) (model.rounded B.answer)).0 }
+        ensures answer { Turns result self.new (then_comes (hearing.timed_out C.rules B.answer self.old timeout.entry.request timeout.entry.node.now) (model.rounded B.answer)).1 }
+        ensures lines { Tells result log.old log.new (then_comes (hearing.timed_out C.rules B.answer self.old timeout.entry.request timeout.entry.node.now) (model.rounded B.answer)).0 }
     {
         let peer = NodeId::from_bytes(*timeout.node);
         self.time_out(timeout.request, &peer, log)?;
@@ -209,7 +209,7 @@ impl<C: Chain, B: Board> Running<C, B> {
     #[tactic(auto, using(crate::proofs::Logs::logs_nothing))]
     fn on_question(&self, question: View<'_>, log: &mut Lines) -> Result<(), Halt>
         ensures memory { OnErr result (result ≡ Err Halt.Memory) }
-        ensures lines { Tells result log.old log.new (answer self.now.served (preferred B.answer self.now.board) (as_event question)) }
+        ensures lines { Tells result log.old log.new (answer self.now.served (preferred B.answer self.now.board) (as_event question.entry)) }
     {
         self.served
             .answer(self.board.preference(), &question, log)?;
