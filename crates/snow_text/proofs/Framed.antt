@@ -37,7 +37,8 @@ abbrev pub AreWords : List Word → Type 0
 AreWords [] = Unit {0}
 AreWords (word ∷ more) = (0 < length word) × AreWords more
 
-filter_all : (ws : List Word) → AreWords ws → filter is_word ws ≡ ws
+-- words are no empty parts
+pub filter_all : (ws : List Word) → AreWords ws → filter is_word ws ≡ ws
 filter_all [] h = refl
 filter_all (w ∷ ws) h = rw (word_if w h.0, filter_all ws h.1) refl
 

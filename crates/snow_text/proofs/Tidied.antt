@@ -113,7 +113,7 @@ unfolding none_say short_lines
 none_said form n [] bytes e = record { bytes_too = cc e; short_too = λ names. refl }
 none_said form n (line ∷ more) bytes e =
     none_next form (length (words_of line) == 0) line more bytes (none_say (n + 1) more) (refusal n line (record { why = reason.Behind; left = length (words_of line) }))
-        (eqb-true (length (words_of line)) 0) (none_said form (n + 1) more bytes) e
+    (eqb-true (length (words_of line)) 0) (none_said form (n + 1) more bytes) e
 
 -- a line and those behind it
 line_tidied : (form : BlockForm) (names : Names) (n : ℕ) (line : List ℕ) (more : List (List ℕ)) (bytes : List ℕ) (r : Result Said Halt) → ((found : List ℕ) → r ≡ Ok (Frame found) → IsPayload found)

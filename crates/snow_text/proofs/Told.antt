@@ -10,7 +10,7 @@ use Rattle.snow_wire.specs.Spelling.{IsInRange, IsSender, IsSizedStart, counted,
 use Rattle.snow_wire.proofs.Numbers.{IsBytes-behind}
 use Rattle.snow_wire.proofs.Events.{event_taken}
 use Rattle.snow_text.specs.declared.refusal.Reason.{Reason}
-use Rattle.snow_text.specs.declared.form.BlockForm.TheVariants as form
+use Rattle.snow_text.specs.declared.form.BlockForm.{BlockForm}
 use Rattle.snow_text.specs.Words.{Word, Field, ◌&◌}
 use Rattle.snow_text.specs.Bytes.{fixed_text, item_word, number_word}
 use Rattle.snow_text.specs.Events.{if_some, named, none, payload_of, sent, start_field, tagged, times_word, weighed_word}
@@ -20,7 +20,8 @@ use Rattle.snow_text.proofs.Runs.{bytes_front}
 use Rattle.snow_text.proofs.Values.{Says, item_says, number_says}
 use Rattle.snow_text.proofs.Fields.{each_again, named_fits, then_fills, times_again, two_fill}
 use Rattle.snow_text.proofs.Clean.{IsClean, clean_at, clean_both, clean_each, clean_field, clean_value, lack_each, times_clean, times_lack}
-use Rattle.snow_text.proofs.Worded.{GoodNode, IsOther, Worded, behind_one, below_from, block_worded, blocks_worded, good_nodes, id_worded, ids_worded, known, lone_says, node_again, node_clean, node_lacks, nodes_worded, none_worded, sent_says, times_worded}
+use Rattle.snow_text.proofs.Shaped.{ancestors_say, block_worded}
+use Rattle.snow_text.proofs.Worded.{GoodNode, IsOther, Worded, behind_one, below_from, good_nodes, id_worded, ids_worded, known, lone_says, node_again, node_clean, node_lacks, nodes_worded, none_worded, sent_says, times_worded}
 
 -- ---- a Start
 
@@ -138,49 +139,48 @@ bare_says name tag node request apart clean is fits small form =
 behind_sender : (tag : ℕ) (node : List ℕ) (request : ℕ) (xs : List ℕ) → IsBytes (tag ∷ (sender node request ++ xs)) → IsBytes xs
 behind_sender tag node request xs h = IsBytes-behind (sender node request) xs (behind_one tag (sender node request ++ xs) h)
 
-told : (e : Event) → IsInRange e → IsBytes (spelling e) → IsPayload (spelling e) → is_line e ≡ false → say (event_words form.Bytes e) (spelling e) ≡ true
+told : (f : BlockForm) (e : Event) → IsInRange e → IsBytes (spelling e) → IsPayload (spelling e) → is_line e ≡ false → say (event_words f e) (spelling e) ≡ true
 unfolding event_words spelling payload_of
-told (event.Start s) is fits small h = start_says s is.0 is.1.0 is.1.1 (behind_one 1 (start s) fits) small
-told (event.Block node request bytes) is fits small h =
+told f (event.Start s) is fits small h = start_says s is.0 is.1.0 is.1.1 (behind_one 1 (start s) fits) small
+told f (event.Block node request bytes) is fits small h =
     let own = IsBytes-behind (number 4 (length bytes)) bytes (behind_sender 2 node request (sized bytes) fits) in
-    sent_says (codes "block") 2 _ node request _ (sized bytes) (refl, refl) (known (codes "block") (omega arith) refl refl refl) is.0 fits small (λ more. refl) (block_worded bytes own)
-told (event.Poll ids) is fits small h =
+    sent_says (codes "block") 2 _ node request _ (sized bytes) (refl, refl) (known (codes "block") (omega arith) refl refl refl) is.0 fits small (λ more. refl) (block_worded f bytes own)
+told f (event.Poll ids) is fits small h =
     let few : length ids ≤ 1024 = is.1 in
     lone_says (codes "poll") 3 _ _ (counted (λ id. id) ids) (refl, refl) (known (codes "poll") (omega arith) refl refl refl) small (λ more. refl) (ids_worded ids (omega (arith, few)) is.0 (behind_one 3 (counted (λ id. id) ids) fits))
-told (event.Words words) is fits small h =
+told f (event.Words words) is fits small h =
     lone_says (codes "words") 4 _ _ (counted (number 8) words) (refl, refl) (known (codes "words") (omega arith) refl refl refl) small (λ more. refl) (times_worded words is.1 is.0)
-told (event.Chits node request id) is fits small h =
+told f (event.Chits node request id) is fits small h =
     sent_says (codes "chits") 5 _ node request _ id (refl, refl) (known (codes "chits") (omega arith) refl refl refl) is.0.0 fits small (λ more. refl) (id_worded id is.0.1 (behind_sender 5 node request id fits))
-told (event.Timeout node request) is fits small h = bare_says (codes "timeout") 6 node request (refl, refl) (known (codes "timeout") (omega arith) refl refl refl) is.0 fits small (λ more. refl)
-told (event.Frontier node request id) is fits small h =
+told f (event.Timeout node request) is fits small h = bare_says (codes "timeout") 6 node request (refl, refl) (known (codes "timeout") (omega arith) refl refl refl) is.0 fits small (λ more. refl)
+told f (event.Frontier node request id) is fits small h =
     sent_says (codes "frontier") 7 _ node request _ id (refl, refl) (known (codes "frontier") (omega arith) refl refl refl) is.0.0 fits small (λ more. refl) (id_worded id is.0.1 (behind_sender 7 node request id fits))
-told (event.Accepted node request ids) is fits small h =
+told f (event.Accepted node request ids) is fits small h =
     sent_says (codes "accepted") 8 _ node request _ (counted (λ id. id) ids) (refl, refl) (known (codes "accepted") (omega arith) refl refl refl) is.0.0 fits small (λ more. refl) (ids_worded ids is.1 is.0.1 (behind_sender 8 node request (counted (λ id. id) ids) fits))
-told (event.Ancestors node request blocks) is fits small h =
-    sent_says (codes "ancestors") 9 _ node request _ (counted sized blocks) (refl, refl) (known (codes "ancestors") (omega arith) refl refl refl) is.0 fits small (λ more. refl) (blocks_worded blocks is.1.0 (behind_sender 9 node request (counted sized blocks) fits))
-told (event.Stored bytes) is fits small h =
+told f (event.Ancestors node request blocks) is fits small h = ancestors_say f node request blocks is.1.0 is.0 fits small (behind_sender 9 node request (counted sized blocks) fits)
+told f (event.Stored bytes) is fits small h =
     let own = IsBytes-behind (number 4 (length bytes)) bytes (behind_one 10 (sized bytes) fits) in
-    lone_says (codes "stored") 10 _ _ (sized bytes) (refl, refl) (known (codes "stored") (omega arith) refl refl refl) small (λ more. refl) (block_worded bytes own)
-told (event.Validators nodes) is fits small h =
+    lone_says (codes "stored") 10 _ _ (sized bytes) (refl, refl) (known (codes "stored") (omega arith) refl refl refl) small (λ more. refl) (block_worded f bytes own)
+told f (event.Validators nodes) is fits small h =
     lone_says (codes "validators") 11 _ _ (counted weighed nodes) (refl, refl) (known (codes "validators") (omega arith) refl refl refl) small (λ more. refl) (nodes_worded nodes is.1 is.0 (behind_one 11 (counted weighed nodes) fits))
-told (event.AskQuery node request) is fits small h = bare_says (codes "ask-query") 12 node request (refl, refl) (known (codes "ask-query") (omega arith) refl refl refl) is.0 fits small (λ more. refl)
-told (event.AskFrontier node request) is fits small h = bare_says (codes "ask-frontier") 13 node request (refl, refl) (known (codes "ask-frontier") (omega arith) refl refl refl) is.0 fits small (λ more. refl)
-told (event.AskAccepted node request ids) is fits small h =
+told f (event.AskQuery node request) is fits small h = bare_says (codes "ask-query") 12 node request (refl, refl) (known (codes "ask-query") (omega arith) refl refl refl) is.0 fits small (λ more. refl)
+told f (event.AskFrontier node request) is fits small h = bare_says (codes "ask-frontier") 13 node request (refl, refl) (known (codes "ask-frontier") (omega arith) refl refl refl) is.0 fits small (λ more. refl)
+told f (event.AskAccepted node request ids) is fits small h =
     sent_says (codes "ask-accepted") 14 _ node request _ (counted (λ id. id) ids) (refl, refl) (known (codes "ask-accepted") (omega arith) refl refl refl) is.0.0 fits small (λ more. refl) (ids_worded ids is.1 is.0.1 (behind_sender 14 node request (counted (λ id. id) ids) fits))
-told (event.AskAncestors node request id) is fits small h =
+told f (event.AskAncestors node request id) is fits small h =
     sent_says (codes "ask-ancestors") 15 _ node request _ id (refl, refl) (known (codes "ask-ancestors") (omega arith) refl refl refl) is.0.0 fits small (λ more. refl) (id_worded id is.0.1 (behind_sender 15 node request id fits))
-told (event.AskBlock node request id) is fits small h =
+told f (event.AskBlock node request id) is fits small h =
     sent_says (codes "ask-block") 16 _ node request _ id (refl, refl) (known (codes "ask-block") (omega arith) refl refl refl) is.0.0 fits small (λ more. refl) (id_worded id is.0.1 (behind_sender 16 node request id fits))
-told (event.Line text) is fits small h = absurd cc
+told f (event.Line text) is fits small h = absurd cc
 
-told_as : {E : Type 0} (payload : List ℕ) (r : Result Event E) (e : Event) → r ≡ Ok e → say (event_words form.Bytes e) payload ≡ true → line (words_as form.Bytes payload r) ++ 10 ∷ [] ≡ line (event_words form.Bytes e) ++ 10 ∷ []
-told_as payload r e h t = rw (h, t) refl
+told_as : {E : Type 0} (f : BlockForm) (payload : List ℕ) (r : Result Event E) (e : Event) → r ≡ Ok e → say (event_words f e) payload ≡ true → line (words_as f payload r) ++ 10 ∷ [] ≡ line (event_words f e) ++ 10 ∷ []
+told_as f payload r e h t = rw (h, t) refl
 
 -- a frame that holds an event
-pub own_words_shown : (payload : List ℕ) (e : Event) → IsBytes payload → IsPayload payload → event_of payload ≡ Ok e → is_line e ≡ false → shown_frame form.Bytes payload ≡ line (event_words form.Bytes e) ++ 10 ∷ []
+pub own_words_shown : (f : BlockForm) (payload : List ℕ) (e : Event) → IsBytes payload → IsPayload payload → event_of payload ≡ Ok e → is_line e ≡ false → shown_frame f payload ≡ line (event_words f e) ++ 10 ∷ []
 unfolding shown_frame
-own_words_shown payload e fits small read other =
+own_words_shown f payload e fits small read other =
     let taken = event_taken payload e fits read in
-    let same : say (event_words form.Bytes e) payload ≡ true =
-    subst (λ (p : List ℕ). say (event_words form.Bytes e) p ≡ true) (sym taken.1) (told e taken.0 (subst IsBytes taken.1 fits) (subst IsPayload taken.1 small) other) in
-    told_as payload (event_of payload) e read same
+    let same : say (event_words f e) payload ≡ true =
+    subst (λ (p : List ℕ). say (event_words f e) p ≡ true) (sym taken.1) (told f e taken.0 (subst IsBytes taken.1 fits) (subst IsPayload taken.1 small) other) in
+    told_as f payload (event_of payload) e read same

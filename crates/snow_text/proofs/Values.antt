@@ -58,7 +58,8 @@ kept_ends : (b : ℕ) (front bytes : List ℕ) → Ends front bytes → Ends (ke
 kept_ends b [] bytes ends = kept_none (b == 0) b bytes (eqb-true b 0) ends
 kept_ends b (c ∷ front) bytes ends = record { zeros = ends.zeros; whole = ap (λ (l : List ℕ). b ∷ l) ends.whole }
 
-trimmed_ends : (bytes : List ℕ) → Ends (trimmed bytes) bytes
+-- what was trimmed are zeros
+pub trimmed_ends : (bytes : List ℕ) → Ends (trimmed bytes) bytes
 unfolding trimmed
 trimmed_ends [] = record { zeros = 0; whole = refl }
 trimmed_ends (b ∷ bytes) = kept_ends b (trimmed bytes) bytes (trimmed_ends bytes)
@@ -71,7 +72,8 @@ some_ends : (front bytes : List ℕ) → 0 < length bytes → Ends front bytes �
 some_ends [] bytes some ends = some_zeros ends.zeros bytes some ends.whole
 some_ends (b ∷ front) bytes some ends = ends
 
-some_some : (front : List ℕ) → 0 < length (some_of front)
+-- at least one byte is
+pub some_some : (front : List ℕ) → 0 < length (some_of front)
 some_some [] = omega arith
 some_some (b ∷ front) = omega arith
 

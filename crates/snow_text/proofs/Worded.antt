@@ -6,19 +6,19 @@ use Rattle.std.proofs.lemmas.Bool.{and_from, not_from_false, le-leb, false_from_
 use Rattle.std.proofs.lemmas.List.Elements.{All-head, All-tail, recursion_from_All}
 use Rattle.snow_wire.specs.Frame.{IsPayload}
 use Rattle.snow_wire.specs.Reading.{IsBytes}
-use Rattle.snow_wire.specs.Spelling.{IsId, IsSender, IsWeighed, counted, number, sender, sized, weighed}
+use Rattle.snow_wire.specs.Spelling.{IsId, IsSender, IsWeighed, counted, number, sender, weighed}
 use Rattle.snow_wire.proofs.Numbers.{IsBytes-behind}
-use Rattle.snow_text.specs.Words.{Word, Field, all, each, spaced, words_of}
-use Rattle.snow_text.specs.Bytes.{bytes_text, fixed_text, item_word}
-use Rattle.snow_text.specs.Events.{block_of, blocks_of, id_field, ids_word, list_field, listed_block, nodes_field, none, payload_of, sent, sized_block, tagged, times_word, weighed_word}
+use Rattle.snow_text.specs.Words.{Word, Field, words_of}
+use Rattle.snow_text.specs.Bytes.{fixed_text, item_word}
+use Rattle.snow_text.specs.Events.{block_of, id_field, ids_word, list_field, nodes_field, none, payload_of, sent, tagged, times_word, weighed_word}
 use Rattle.snow_text.specs.Made.{Frame, say_words}
 use Rattle.snow_text.specs.Shown.{is_frame, line, say, sent_words, some_word, times_texts, weighed_text}
-use Rattle.snow_text.proofs.Marks.{AllLack, IsMark, Lacks, comma, decimal_lacks, lacks_both, lacks_cons, lacks_from, lacks_joined, parts_one, space}
+use Rattle.snow_text.proofs.Marks.{IsMark, Lacks, comma, decimal_lacks, lacks_both, lacks_cons, lacks_from, lacks_joined}
 use Rattle.snow_text.proofs.Runs.{AreBelow, bytes_front}
-use Rattle.snow_text.proofs.Pieces.{IsBytesWord, bytes_text_is, same_bytes, told_same, word_if}
+use Rattle.snow_text.proofs.Pieces.{IsBytesWord, same_bytes, told_same}
 use Rattle.snow_text.proofs.Framed.{words_again}
 use Rattle.snow_text.proofs.Values.{decimal_value, item_says}
-use Rattle.snow_text.proofs.Fields.{Fills, all_fills, each_again, list_again, list_fills, no_items, nodes_fill, one_fits, sent_fills, tagged_says, times_again, weighed_again, whole_fills}
+use Rattle.snow_text.proofs.Fields.{Fills, each_again, list_fills, nodes_fill, one_fits, sent_fills, tagged_says, times_again, weighed_again, whole_fills}
 use Rattle.snow_text.proofs.Clean.{AreClean, IsClean, clean_at, clean_each, clean_some, clean_value, gaps_from, lack_each, lines_from, notes_from, times_clean, words_from}
 
 -- ---- the test of words
@@ -60,7 +60,8 @@ flat_bytes : {A : Type 0} (spell : A → List ℕ) (xs : List A) → IsBytes (fl
 flat_bytes spell [] h = tt
 flat_bytes spell (x ∷ xs) h = (bytes_front (spell x) (flat_map spell xs) h, flat_bytes spell xs (IsBytes-behind (spell x) (flat_map spell xs) h))
 
-items_bytes : {A : Type 0} (spell : A → List ℕ) (xs : List A) → IsBytes (counted spell xs) → AllByRecursion (λ x. IsBytes (spell x)) xs
+-- the bytes of each item
+pub items_bytes : {A : Type 0} (spell : A → List ℕ) (xs : List A) → IsBytes (counted spell xs) → AllByRecursion (λ x. IsBytes (spell x)) xs
 items_bytes spell xs h = flat_bytes spell xs (IsBytes-behind (number 2 (length xs)) (flat_map spell xs) h)
 
 both_all : {A : Type 0} (P Q : A → Type 0) (xs : List A) → AllByRecursion P xs → AllByRecursion Q xs → AllByRecursion (λ x. P x × Q x) xs
@@ -169,44 +170,7 @@ letter_l : IsMark 108
 letter_l = record { table = refl; zero_too = refl; outside = inr (omega arith) }
 
 -- the bytes of a block
-block_again : (word : Word) (bytes : List ℕ) → IsBytesWord word bytes → block_of [] (word ∷ []) ≡ Ok bytes
+pub block_again : (word : Word) (bytes : List ℕ) → IsBytesWord word bytes → block_of [] (word ∷ []) ≡ Ok bytes
 unfolding block_of
 block_again word bytes is =
     rw (other_name 112 (codes "lain") word (is.lacks 112 letter_p refl refl refl) refl, other_name 116 (codes "ally") word (is.lacks 116 letter_t refl refl refl) refl, other_name 108 (codes "edger") word (is.lacks 108 letter_l refl refl refl) refl) is.again
-
-pub block_worded : (bytes : List ℕ) → IsBytes bytes → Worded (all (sized_block [])) (bytes_text bytes ∷ []) (sized bytes)
-block_worded bytes fits =
-    let is = bytes_text_is bytes fits in
-    record {
-      fills = all_fills (sized_block []) (bytes_text bytes ∷ []) (sized bytes) (rw (block_again (bytes_text bytes) bytes is) refl);
-      clean = (clean_value (bytes_text bytes) (record { some = is.some; lacks = is.lacks }), tt);
-    }
-
-abbrev GoodBlock : List ℕ → Type 0
-GoodBlock bytes = IsBytes (sized bytes)
-
-block_is : (bytes : List ℕ) → GoodBlock bytes → IsBytesWord (bytes_text bytes) bytes
-block_is bytes good = bytes_text_is bytes (IsBytes-behind (number 4 (length bytes)) bytes good)
-
-alone : (word : Word) → 0 < length word → Lacks 32 word → spaced word ≡ word ∷ []
-unfolding spaced
-alone word some gap = rw (parts_one 32 word gap, word_if word some) refl
-
-listed_again : (bytes : List ℕ) → GoodBlock bytes → listed_block [] (bytes_text bytes) ≡ Ok (sized bytes ∷ [])
-listed_again bytes good =
-    let is = block_is bytes good in
-    rw (alone (bytes_text bytes) is.some (is.lacks 32 space refl refl refl), block_again (bytes_text bytes) bytes is) refl
-
-blocks_read : (ws : List Word) (blocks : List (List ℕ)) → length blocks < 65536 → AllLack 44 ws → each (listed_block []) ws ≡ Ok (map sized blocks) → blocks_of [] (some_word ws) ≡ Ok (counted sized blocks)
-unfolding blocks_of each
-blocks_read [] blocks few commas e = let none : map sized blocks ≡ [] = cc e in ap Ok (no_items sized blocks none)
-blocks_read (w ∷ ws) blocks few commas e = rw (list_again (listed_block []) sized w ws blocks few commas e) refl
-
-pub blocks_worded : (blocks : List (List ℕ)) → length blocks ≤ 2048 → IsBytes (counted sized blocks) → Worded (all (blocks_of [])) (some_word (map bytes_text blocks)) (counted sized blocks)
-blocks_worded blocks few fits =
-    let good : AllByRecursion GoodBlock blocks = items_bytes sized blocks fits in
-    record {
-      fills = all_fills (blocks_of []) (some_word (map bytes_text blocks)) (counted sized blocks)
-          (blocks_read (map bytes_text blocks) blocks (omega (arith, few)) (lack_each {Good = GoodBlock} 44 bytes_text (λ b g. (block_is b g).lacks 44 comma refl refl refl) blocks good) (each_again {Good = GoodBlock} (listed_block []) bytes_text sized listed_again blocks good));
-      clean = clean_some (map bytes_text blocks) (clean_each {Good = GoodBlock} bytes_text (λ b g. clean_value (bytes_text b) (record { some = (block_is b g).some; lacks = (block_is b g).lacks })) blocks good);
-    }

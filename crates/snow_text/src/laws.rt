@@ -3,7 +3,6 @@ ghost use Rattle.snow_wire.specs.declared.event.Event.{Event};
 ghost use Rattle.snow_wire.specs.Frame.{IsPayload};
 ghost use Rattle.snow_wire.specs.Reading.{IsBytes, event_of};
 ghost use Rattle.snow_text.specs.declared.form.BlockForm.{BlockForm};
-ghost use Rattle.snow_text.specs.declared.form.BlockForm.TheVariants.{Bytes};
 ghost use Rattle.snow_text.specs.Made.{made};
 ghost use Rattle.snow_text.specs.Shown.{event_words, is_line, line, shown, shown_frame, tidied};
 
@@ -21,10 +20,10 @@ pub fn one_form()
     ensures again { (form : BlockForm) (text bytes : List ℕ) → IsBytes bytes → made text ≡ Ok bytes → made (tidied form text) ≡ Ok bytes }
 {}
 
-/// A frame that holds an event is shown in the event's own words, where blocks are shown as bytes. A Line event alone may be shown
+/// A frame that holds an event is shown in the event's own words, however its blocks are shown. A Line event alone may be shown
 /// as its bytes, where its text isn't one that a line of words says.
 /// Rule: this project's own.
 pub fn own_words()
-    ensures { (payload : List ℕ) (event : Event) → IsBytes payload → IsPayload payload → event_of payload ≡ Ok event
-        → is_line event ≡ false → shown_frame Bytes payload ≡ line (event_words Bytes event) ++ 10 ∷ [] }
+    ensures { (form : BlockForm) (payload : List ℕ) (event : Event) → IsBytes payload → IsPayload payload → event_of payload ≡ Ok event
+        → is_line event ≡ false → shown_frame form payload ≡ line (event_words form event) ++ 10 ∷ [] }
 {}
