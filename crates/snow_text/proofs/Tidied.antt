@@ -1,11 +1,11 @@
 -- The text of a stream that a text means is that text, line by line in its short form.
-use Rattle.std.proofs.Common.{not, is_some, drop, Option, Some, None, nat_le, ◌≡◌, ℕ, ◌+◌, ◌==◌, nat_le, if◌then◌else◌, Bool, true, false, List, [], ◌∷◌, ◌++◌, length, codes, Result, Ok, Err, refl, sym, ap, ◌∙◌, append_assoc, append-nil, subst, arith}
+use Rattle.std.proofs.Common.{All, not, is_some, drop, Option, Some, None, nat_le, ◌≡◌, ℕ, ◌+◌, ◌==◌, nat_le, if◌then◌else◌, Bool, true, false, List, [], ◌∷◌, ◌++◌, length, codes, Result, Ok, Err, refl, sym, ap, ◌∙◌, append_assoc, append-nil, subst, arith}
 use Rattle.std.specs.List.{find, flat_map}
 use Rattle.std.specs.Str.{bytes_eq}
 use Rattle.std.proofs.lemmas.Bool.{leb-true, eqb-true}
-use Rattle.snow_wire.specs.Frame.{IsPayload, frame, frames_in, frames_of}
+use Rattle.snow_wire.specs.Frame.{IsPayload, first_of, frame, frames_in, frames_of}
 use Rattle.snow_wire.specs.Reading.{IsBytes}
-use Rattle.snow_wire.proofs.Streams.{frame_first, frames_front}
+use Rattle.snow_wire.proofs.Streams.{frame_first, frames_end, frames_front}
 use Rattle.snow_text.specs.declared.form.BlockForm.{BlockForm}
 use Rattle.snow_text.specs.declared.refusal.Reason.TheVariants as reason
 use Rattle.snow_text.specs.declared.refusal.Refusal.{Refusal}
@@ -15,6 +15,7 @@ use Rattle.snow_text.specs.Names.{Named, Names, is_name}
 use Rattle.snow_text.specs.Events.{Chain, chain_of, first_word, payload_of}
 use Rattle.snow_text.specs.Made.{Said, Nothing, Name, Frame, Rest, framed, in_line, joined, made, made_from, named_as, names_behind, naming, none_say, refusal, say_words}
 use Rattle.snow_text.specs.Shown.{names_after, short_lines, short_of, shown, shown_frame, shown_rest, tidied}
+use Rattle.snow_text.proofs.Marks.{parts_more}
 use Rattle.snow_text.proofs.Framed.{made_again}
 
 -- ---- what went on
@@ -80,11 +81,20 @@ said_small names (word ∷ more) found e = words_small (bytes_eq (codes "rest") 
 -- ---- lines
 
 -- a frame in front of a stream
-shown_front : (form : BlockForm) (payload bytes : List ℕ) → IsPayload payload → shown form (frame payload ++ bytes) ≡ shown_frame form payload ++ shown form bytes
+pub shown_front : (form : BlockForm) (payload bytes : List ℕ) → IsPayload payload → shown form (frame payload ++ bytes) ≡ shown_frame form payload ++ shown form bytes
 unfolding shown
 shown_front form payload bytes small =
     ap (λ (f : List (List ℕ) × List ℕ). flat_map (shown_frame form) f.0 ++ shown_rest f.1) (frames_front (frame payload ++ bytes) (payload, bytes) (frame_first payload bytes small))
     ∙ append_assoc (shown_frame form payload) (flat_map (shown_frame form) (frames_of bytes).0) (shown_rest (frames_of bytes).1)
+
+-- what begins with no frame is the rest
+pub shown_end : (form : BlockForm) (rest : List ℕ) → first_of rest ≡ None → shown form rest ≡ shown_rest rest
+unfolding shown
+shown_end form rest e = ap (λ (f : List (List ℕ) × List ℕ). flat_map (shown_frame form) f.0 ++ shown_rest f.1) (frames_end rest e)
+
+-- a newline ends a line
+pub line_front : (names : Names) (n : ℕ) (text more : List ℕ) → All (λ c. c == 10 ≡ false) text → made_from names n (parts 10 (text ++ 10 ∷ more)) ≡ made_from names n (text ∷ parts 10 more)
+line_front names n text more h = ap (made_from names n) (parts_more 10 text more h)
 
 shown_none : (form : BlockForm) → shown form [] ≡ []
 unfolding shown frames_of frames_in shown_rest

@@ -6,5 +6,5 @@ mod laws;
 mod refusal;
 
 pub use form::BlockForm;
-pub use laws::{one_form, one_text, own_words};
+pub use laws::{one_by_one, one_form, one_text, own_words};
 pub use refusal::{Reason, Refusal};
