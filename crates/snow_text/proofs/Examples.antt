@@ -139,3 +139,12 @@ a_name = refl
 pub name_twice : made (codes "name a plain 01.. ff.. 1 1" ++ 10 ∷ codes "name a plain 02.. ff.. 1 1") ≡ Err (record { line = 2; column = 6; reason = reason.Twice })
 unfolding made made_from naming say_words words_of said spaced column_of ended all all_of one ◌&◌ number_below number_word item_word part_word fixed_word bytes_word bytes_of each piece_of digits_word decode_pairs number
 name_twice = refl
+
+-- the third block's digits are odd, and the second's
+pub third_block : made (codes "ancestors 01*20 3 00, 01 02 ,0") ≡ Err (record { line = 1; column = 29; reason = reason.Digits })
+unfolding made made_from say_words words_of said spaced column_of payload_of tagged ended all all_of one ◌&◌ number_below number_word item_word part_word fixed_word bytes_word bytes_of each piece_of digits_word decode_pairs block_of blocks_of listed number
+third_block = refl
+
+pub second_block : made (codes "ancestors 01*20 3 00,0 01") ≡ Err (record { line = 1; column = 19; reason = reason.Digits })
+unfolding made made_from say_words words_of said spaced column_of payload_of tagged ended all all_of one ◌&◌ number_below number_word item_word part_word fixed_word bytes_word bytes_of each piece_of digits_word decode_pairs block_of blocks_of listed number
+second_block = refl

@@ -13,7 +13,7 @@ use Rattle.snow_wire.specs.Spelling.{IsSender, counted, number, sender, sized}
 use Rattle.snow_wire.proofs.Numbers.{IsBytes-behind, IsBytes-take}
 use Rattle.snow_text.specs.declared.form.BlockForm.{BlockForm}
 use Rattle.snow_text.specs.declared.form.BlockForm.TheVariants as form
-use Rattle.snow_text.specs.Words.{Word, Halt, all, parts, spaced}
+use Rattle.snow_text.specs.Words.{Word, Halt, all, parts, spaced, all_of}
 use Rattle.snow_text.specs.Bytes.{bytes_text, fixed_text, short, some_of, trimmed}
 use Rattle.snow_text.specs.Events.{block_of, blocks_of, listed_block, payload_of, sized_block}
 use Rattle.snow_text.specs.Blocks.{behind_words, block_line, block_words, is_block, transfer_text, transfer_texts, words_if, words_in}
@@ -23,7 +23,7 @@ use Rattle.snow_text.proofs.Runs.{bytes_front}
 use Rattle.snow_text.proofs.Pieces.{bytes_text_is, short_is, told_same}
 use Rattle.snow_text.proofs.Framed.{filter_all}
 use Rattle.snow_text.proofs.Values.{IsValue, decimal_value, some_some, trimmed_ends}
-use Rattle.snow_text.proofs.Fields.{all_fills, each_again, list_again, no_items}
+use Rattle.snow_text.proofs.Fields.{all_each, all_fills, each_again, listed_again, no_items}
 use Rattle.snow_text.proofs.Clean.{AreClean, IsClean, clean_at, clean_value, words_from, gaps_from}
 use Rattle.snow_text.proofs.Worded.{Worded, block_again, items_bytes, known, sent_says}
 
@@ -238,8 +238,8 @@ GoodBlock bytes = IsBytes (sized bytes)
 good_are : (f : BlockForm) (bytes : List ℕ) → GoodBlock bytes → IsBlockWords (block_words f bytes) bytes
 good_are f bytes good = block_are f bytes (IsBytes-behind (number 4 (length bytes)) bytes good)
 
-listed_again : (f : BlockForm) (bytes : List ℕ) → GoodBlock bytes → listed_block [] (block_line f bytes) ≡ Ok (sized bytes ∷ [])
-listed_again f bytes good = let are = good_are f bytes good in rw (spaced_again (block_words f bytes) are.some are.are, are.again) refl
+one_again : (f : BlockForm) (bytes : List ℕ) → GoodBlock bytes → listed_block [] (block_line f bytes) ≡ Ok (sized bytes ∷ [])
+one_again f bytes good = let are = good_are f bytes good in rw (spaced_again (block_words f bytes) are.some are.are, are.again) refl
 
 lines_apart : (f : BlockForm) (blocks : List (List ℕ)) → AllByRecursion GoodBlock blocks → AllLack 44 (map (block_line f) blocks)
 lines_apart f [] good = tt
@@ -259,8 +259,15 @@ tidy_worded f blocks b bs e few good tidy =
     let text = listed_text (map (block_line f) (b ∷ bs)) in
     let whole : join_with_byte 32 (tidy.first ∷ tidy.more) ≡ text = ap (join_with_byte 32) (sym tidy.cut) ∙ join_with_byte-slice_split 32 text in
     let long : length (b ∷ bs) ≤ 2048 = subst (λ (l : List (List ℕ)). length l ≤ 2048) e few in
-    let read = list_again (listed_block []) sized (block_line f b) (map (block_line f) bs) (b ∷ bs) (omega (arith, long)) (lines_apart f (b ∷ bs) good) (each_again {Good = GoodBlock} (listed_block []) (block_line f) sized (listed_again f) (b ∷ bs) good) in
-    record { fills = all_fills (blocks_of []) (tidy.first ∷ tidy.more) (counted sized (b ∷ bs)) (rw (whole, read) refl); clean = tidy.clean }
+    let first = block_line f b in
+    let others = map (block_line f) bs in
+    let cut : parts 44 text ≡ first ∷ others = parts_joined 44 first others (lines_apart f (b ∷ bs) good) in
+    let read : all_of (listed_block []) (first ∷ others) ≡ Ok (map sized (b ∷ bs)) =
+    all_each (listed_block []) (first ∷ others) (map sized (b ∷ bs)) (each_again {Good = GoodBlock} (listed_block []) (block_line f) sized (one_again f) (b ∷ bs) good) in
+    record {
+      fills = all_fills (blocks_of []) (tidy.first ∷ tidy.more) (counted sized (b ∷ bs)) (rw (whole, cut, read, listed_again sized (b ∷ bs) (omega (arith, long))) refl);
+      clean = tidy.clean;
+    }
 
 -- the test reads the line of words alone
 same_line : (ws vs : List Word) (payload : List ℕ) → line ws ≡ line vs → say vs payload ≡ true → say ws payload ≡ true

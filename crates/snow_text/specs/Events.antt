@@ -1,5 +1,5 @@
 -- The lines that say a frame: the first word of each, and the fields behind it.
-use Rattle.std.specs.Prelude.{ℕ, Bool, false, nat_lt, if◌then◌else◌, List, [], ◌∷◌, ◌++◌, length, take, drop, replicate, codes, Option, Some, None, Result, Ok, Err}
+use Rattle.std.specs.Prelude.{ℕ, ◌-◌, Bool, false, nat_lt, if◌then◌else◌, List, [], ◌∷◌, ◌++◌, length, take, drop, replicate, codes, Option, Some, None, Result, Ok, Err}
 use Rattle.std.specs.List.{find, join_with_byte}
 use Rattle.std.specs.Str.{bytes_eq}
 use Rattle.sha2.specs.Sha256.{sha256}
@@ -165,10 +165,19 @@ only_why (Err halt) = Err halt.why
 abbrev pub listed_block : Names → List ℕ → Result (List (List ℕ)) Reason
 listed_block names part = item (only_why (sized_block names (spaced part)))
 
+-- what was read of parts between commas, where a halt counts parts, and is to count words
+abbrev pub in_words : {A : Type 0} → List (List ℕ) → Result A Halt → Result A Halt
+in_words blocks (Ok x) = Ok x
+in_words blocks (Err halt) = Err (record { why = halt.why; left = length (spaced (join_with_byte 44 (drop (length blocks - halt.left) blocks))) })
+
+-- the bytes of a list of blocks
+abbrev pub blocks_in : Names → List (List ℕ) → Result (List ℕ) Halt
+blocks_in names blocks = in_words blocks (all_of (listed_block names) blocks) >>= λ items. at [] (listed items)
+
 -- blocks with commas between them, or none
 unfoldable pub blocks_of : Names → List Word → Result (List ℕ) Halt
 blocks_of names [] = Ok (number 2 0)
-blocks_of names (word ∷ more) = at (word ∷ more) (list_word (listed_block names) (join_with_byte 32 (word ∷ more)))
+blocks_of names (word ∷ more) = blocks_in names (parts 44 (join_with_byte 32 (word ∷ more)))
 
 -- ---- lines
 
