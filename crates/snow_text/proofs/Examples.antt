@@ -10,9 +10,10 @@ use Rattle.snow_text.specs.declared.form.BlockForm.TheVariants as form
 use Rattle.snow_text.specs.Words.{words_of, said, spaced, column_of, each, all_of, one, all, ◌&◌, ended}
 use Rattle.snow_text.specs.Names.{called}
 use Rattle.snow_text.specs.Bytes.{number_below, number_word, digits_word, piece_of, bytes_word, fixed_word, part_word, item_word, bytes_of, runs_of, pieces_of, short, bytes_text, trimmed, fixed_text}
+use Rattle.snow_text.specs.Lines.{kinds_of, long_as, long_words, line_of, short_as, short_words, line_words}
 use Rattle.snow_text.specs.Events.{listed, times_of, weighed_word, value_word, if_some, nodes_field, transfer_word, block_of, blocks_of, tagged, start_field, payload_of}
 use Rattle.snow_text.specs.Made.{Frame, say_words, naming, none_say, made_from, made}
-use Rattle.snow_text.specs.Shown.{event_words, say, shown_frame, shown_rest, shown}
+use Rattle.snow_text.specs.Shown.{event_words, say, shown_frame, shown_rest, shown, short_lines, tidied}
 
 -- an identifier by its first byte
 abbrev id_of : ℕ → List ℕ
@@ -148,3 +149,50 @@ third_block = refl
 pub second_block : made (codes "ancestors 01*20 3 00,0 01") ≡ Err (record { line = 1; column = 19; reason = reason.Digits })
 unfolding made made_from say_words words_of said spaced column_of payload_of tagged ended all all_of one ◌&◌ number_below number_word item_word part_word fixed_word bytes_word bytes_of each piece_of digits_word decode_pairs block_of blocks_of listed number
 second_block = refl
+
+-- ---- lines, frames and rests
+
+-- a line of the program, in short words
+pub line_short : shown_frame form.Bytes ((17 ∷ 0 ∷ 0 ∷ 0 ∷ 158 ∷ 113 ∷ 117 ∷ 101 ∷ 114 ∷ 121 ∷ 32 ∷ 49 ∷ 32 ∷ 48 ∷ 49 ∷ []) ++ (replicate 62 48) ++ (32 ∷ 48 ∷ 49 ∷ 48 ∷ 49 ∷ 48 ∷ 49 ∷ 48 ∷ 49 ∷ 48 ∷ 49 ∷ 48 ∷ 49 ∷ 48 ∷ 49 ∷ 48 ∷ 49 ∷ 48 ∷ 49 ∷ 48 ∷ 49 ∷ 48 ∷ 49 ∷ 48 ∷ 49 ∷ 48 ∷ 49 ∷ 48 ∷ 49 ∷ 48 ∷ 49 ∷ 48 ∷ 49 ∷ 48 ∷ 49 ∷ 48 ∷ 49 ∷ 48 ∷ 49 ∷ 48 ∷ 49 ∷ 42 ∷ 50 ∷ 32 ∷ 48 ∷ 50 ∷ 48 ∷ 50 ∷ 48 ∷ 50 ∷ 48 ∷ 50 ∷ 48 ∷ 50 ∷ 48 ∷ 50 ∷ 48 ∷ 50 ∷ 48 ∷ 50 ∷ 48 ∷ 50 ∷ 48 ∷ 50 ∷ 48 ∷ 50 ∷ 48 ∷ 50 ∷ 48 ∷ 50 ∷ 48 ∷ 50 ∷ 48 ∷ 50 ∷ 48 ∷ 50 ∷ 48 ∷ 50 ∷ 48 ∷ 50 ∷ 48 ∷ 50 ∷ 48 ∷ 50 ∷ 42 ∷ 49 ∷ [])) ≡ codes "> query 1 01.. 01*20*2 02*20*1" ++ 10 ∷ []
+unfolding shown shown_frame shown_rest event_words say say_words words_of said spaced payload_of tagged ended all all_of one ◌&◌ number_below number_word item_word part_word fixed_word bytes_word bytes_of each piece_of digits_word decode_pairs listed times_of weighed_word value_word if_some nodes_field transfer_word block_of blocks_of start_field kinds_of long_as long_words line_of short_as short_words line_words encode_with digits number runs_of pieces_of short bytes_text trimmed fixed_text frames_of frames_in first_of event_of fields_at start_at sender_at single_at message_at number_at limited_at flag_at bytes_at sized_at counted_at items_at weighed_at
+line_short = refl
+
+-- a line that no task writes
+pub line_other : shown_frame form.Bytes ((17 ∷ 0 ∷ 0 ∷ 0 ∷ 12 ∷ 104 ∷ 101 ∷ 108 ∷ 108 ∷ 111 ∷ 44 ∷ 32 ∷ 119 ∷ 111 ∷ 114 ∷ 108 ∷ 100 ∷ [])) ≡ codes "> hello, world" ++ 10 ∷ []
+unfolding shown shown_frame shown_rest event_words say say_words words_of said spaced payload_of tagged ended all all_of one ◌&◌ number_below number_word item_word part_word fixed_word bytes_word bytes_of each piece_of digits_word decode_pairs listed times_of weighed_word value_word if_some nodes_field transfer_word block_of blocks_of start_field kinds_of long_as long_words line_of short_as short_words line_words encode_with digits number runs_of pieces_of short bytes_text trimmed fixed_text frames_of frames_in first_of event_of fields_at start_at sender_at single_at message_at number_at limited_at flag_at bytes_at sized_at counted_at items_at weighed_at
+line_other = refl
+
+-- a line that words don't say
+pub line_spaces : shown_frame form.Bytes ((17 ∷ 0 ∷ 0 ∷ 0 ∷ 11 ∷ 116 ∷ 119 ∷ 111 ∷ 32 ∷ 32 ∷ 115 ∷ 112 ∷ 97 ∷ 99 ∷ 101 ∷ 115 ∷ [])) ≡ codes "frame 11+00*3+0b74776f2020737061636573" ++ 10 ∷ []
+unfolding shown shown_frame shown_rest event_words say say_words words_of said spaced payload_of tagged ended all all_of one ◌&◌ number_below number_word item_word part_word fixed_word bytes_word bytes_of each piece_of digits_word decode_pairs listed times_of weighed_word value_word if_some nodes_field transfer_word block_of blocks_of start_field kinds_of long_as long_words line_of short_as short_words line_words encode_with digits number runs_of pieces_of short bytes_text trimmed fixed_text frames_of frames_in first_of event_of fields_at start_at sender_at single_at message_at number_at limited_at flag_at bytes_at sized_at counted_at items_at weighed_at
+line_spaces = refl
+
+-- a line whose identifier is too short
+pub line_wrong : shown_frame form.Bytes ((17 ∷ 0 ∷ 0 ∷ 0 ∷ 9 ∷ 112 ∷ 114 ∷ 101 ∷ 102 ∷ 101 ∷ 114 ∷ 32 ∷ 48 ∷ 49 ∷ [])) ≡ codes "frame 11+00*3+09707265666572203031" ++ 10 ∷ []
+unfolding shown shown_frame shown_rest event_words say say_words words_of said spaced payload_of tagged ended all all_of one ◌&◌ number_below number_word item_word part_word fixed_word bytes_word bytes_of each piece_of digits_word decode_pairs listed times_of weighed_word value_word if_some nodes_field transfer_word block_of blocks_of start_field kinds_of long_as long_words line_of short_as short_words line_words encode_with digits number runs_of pieces_of short bytes_text trimmed fixed_text frames_of frames_in first_of event_of fields_at start_at sender_at single_at message_at number_at limited_at flag_at bytes_at sized_at counted_at items_at weighed_at
+line_wrong = refl
+
+-- a line with a mark for people
+pub line_note : shown_frame form.Bytes ((17 ∷ 0 ∷ 0 ∷ 0 ∷ 3 ∷ 97 ∷ 35 ∷ 98 ∷ [])) ≡ codes "frame 11+00*3+03612362" ++ 10 ∷ []
+unfolding shown shown_frame shown_rest event_words say say_words words_of said spaced payload_of tagged ended all all_of one ◌&◌ number_below number_word item_word part_word fixed_word bytes_word bytes_of each piece_of digits_word decode_pairs listed times_of weighed_word value_word if_some nodes_field transfer_word block_of blocks_of start_field kinds_of long_as long_words line_of short_as short_words line_words encode_with digits number runs_of pieces_of short bytes_text trimmed fixed_text frames_of frames_in first_of event_of fields_at start_at sender_at single_at message_at number_at limited_at flag_at bytes_at sized_at counted_at items_at weighed_at
+line_note = refl
+
+-- no event
+pub no_event : shown_frame form.Bytes ((18 ∷ 1 ∷ 1 ∷ 1 ∷ [])) ≡ codes "frame 12+01*3" ++ 10 ∷ []
+unfolding shown shown_frame shown_rest event_words say say_words words_of said spaced payload_of tagged ended all all_of one ◌&◌ number_below number_word item_word part_word fixed_word bytes_word bytes_of each piece_of digits_word decode_pairs listed times_of weighed_word value_word if_some nodes_field transfer_word block_of blocks_of start_field kinds_of long_as long_words line_of short_as short_words line_words encode_with digits number runs_of pieces_of short bytes_text trimmed fixed_text frames_of frames_in first_of event_of fields_at start_at sender_at single_at message_at number_at limited_at flag_at bytes_at sized_at counted_at items_at weighed_at
+no_event = refl
+
+-- no payload
+pub no_payload : shown_frame form.Bytes ([]) ≡ codes "frame ." ++ 10 ∷ []
+unfolding shown shown_frame shown_rest event_words say say_words words_of said spaced payload_of tagged ended all all_of one ◌&◌ number_below number_word item_word part_word fixed_word bytes_word bytes_of each piece_of digits_word decode_pairs listed times_of weighed_word value_word if_some nodes_field transfer_word block_of blocks_of start_field kinds_of long_as long_words line_of short_as short_words line_words encode_with digits number runs_of pieces_of short bytes_text trimmed fixed_text frames_of frames_in first_of event_of fields_at start_at sender_at single_at message_at number_at limited_at flag_at bytes_at sized_at counted_at items_at weighed_at
+no_payload = refl
+
+-- a stream that is cut
+pub cut_stream : shown form.Bytes (0 ∷ 0 ∷ 0 ∷ 0 ∷ 0 ∷ 0 ∷ 0 ∷ 120 ∷ 17 ∷ 0 ∷ 0 ∷ 0 ∷ 115 ∷ []) ≡ (codes "frame ." ++ 10 ∷ []) ++ (codes "rest 00*3+7811+00*3+73" ++ 10 ∷ [])
+unfolding shown shown_frame shown_rest event_words say say_words words_of said spaced payload_of tagged ended all all_of one ◌&◌ number_below number_word item_word part_word fixed_word bytes_word bytes_of each piece_of digits_word decode_pairs listed times_of weighed_word value_word if_some nodes_field transfer_word block_of blocks_of start_field kinds_of long_as long_words line_of short_as short_words line_words encode_with digits number runs_of pieces_of short bytes_text trimmed fixed_text frames_of frames_in first_of event_of fields_at start_at sender_at single_at message_at number_at limited_at flag_at bytes_at sized_at counted_at items_at weighed_at
+cut_stream = refl
+
+-- a text in its short form
+pub a_tidied : tidied form.Plain (codes "# two lines" ++ 10 ∷ codes "  poll 01+00*31   ff..  # so" ++ 10 ∷ 10 ∷ codes "frame 03 00 00") ≡ (codes "poll 01.. ff.." ++ 10 ∷ []) ++ (codes "poll" ++ 10 ∷ [])
+unfolding tidied short_lines shown shown_frame shown_rest event_words say say_words words_of said spaced payload_of tagged ended all all_of one ◌&◌ number_below number_word item_word part_word fixed_word bytes_word bytes_of each piece_of digits_word decode_pairs listed times_of weighed_word value_word if_some nodes_field transfer_word block_of blocks_of start_field kinds_of long_as long_words line_of short_as short_words line_words encode_with digits number runs_of pieces_of short bytes_text trimmed fixed_text frames_of frames_in first_of event_of fields_at start_at sender_at single_at message_at number_at limited_at flag_at bytes_at sized_at counted_at items_at weighed_at
+a_tidied = refl
