@@ -8,13 +8,13 @@ use Rattle.snow_wire.specs.Reading.{IsBytes}
 use Rattle.snow_wire.specs.Spelling.{counted, number, sender}
 use Rattle.snow_text.specs.declared.refusal.Reason.{Reason}
 use Rattle.snow_text.specs.Words.{Word, Field, Halt, ◌>>=◌, ◌&◌, all, all_of, at, each, ended, one}
-use Rattle.snow_text.specs.Bytes.{fixed_text, fixed_word, number_word, runs_of}
+use Rattle.snow_text.specs.Bytes.{fixed_text, item_word, number_word, runs_of}
 use Rattle.snow_text.specs.Events.{if_some, list_field, list_word, listed, named, node_field, nodes_field, number_field, sent, tagged, times_of, times_word, value_word, weighed_word}
 use Rattle.snow_text.specs.Shown.{field, listed_text, some_field, some_word, times_text, times_texts, weighed_text}
 use Rattle.snow_text.proofs.Marks.{AllLack, Lacks, colon, decimal_lacks, lacks_joined, parts_joined, parts_more, parts_one, star}
 use Rattle.snow_text.proofs.Runs.{AreBelow, AreRuns, IsRun, runs_are, runs_spread, spread}
 use Rattle.snow_text.proofs.Pieces.{number_again, same_bytes}
-use Rattle.snow_text.proofs.Values.{fixed_says, number_says}
+use Rattle.snow_text.proofs.Values.{item_says, number_says}
 
 -- ---- fields in a row
 
@@ -53,11 +53,11 @@ tagged_says tag a ws xs fills = rw fills.again refl
 
 -- a node and a request, and fields behind
 pub sent_fills : (a : Field) (node : List ℕ) (request : ℕ) (ws : List Word) (xs : List ℕ) → length node ≡ 20 → request < 2 ^ 32 → IsBytes node → Fills a ws xs
-    → Fills (sent a) (fixed_text node ∷ decimal request ∷ ws) (sender node request ++ xs)
+    → Fills (sent [] a) (fixed_text node ∷ decimal request ∷ ws) (sender node request ++ xs)
 sent_fills a node request ws xs long small fits fills =
-    let first = one_fits (fixed_word 20) (fixed_text node) node (fixed_says 20 node (omega arith) long fits).again in
+    let first = one_fits (item_word [] 20) (fixed_text node) node (item_says 20 node (omega arith) long fits).again in
     let second = one_fits (number_word 4) (decimal request) (number 4 request) (number_says 4 request (omega (arith, small)) (omega (arith, small))).again in
-    let whole = then_fills node_field (number_field 4 & a) (fixed_text node ∷ []) (decimal request ∷ ws) node (number 4 request ++ xs) first
+    let whole = then_fills (node_field []) (number_field 4 & a) (fixed_text node ∷ []) (decimal request ∷ ws) node (number 4 request ++ xs) first
     (then_fills (number_field 4) a (decimal request ∷ []) ws (number 4 request) xs second fills) in
     record { again = whole.again ∙ ap (λ (l : List ℕ). Ok (l, [])) (sym (append_assoc node (number 4 request) xs)) }
 
@@ -193,16 +193,16 @@ two_fill a b of og spell also (w ∷ ws) vs xs ys fx fy ha hb apart cw mw cv mv 
 -- ---- nodes
 
 -- a node and its weight
-pub weighed_again : (node : List ℕ) (weight : ℕ) → length node ≡ 20 → weight < 2 ^ 64 → IsBytes node → weighed_word (weighed_text (node, weight)) ≡ Ok ((node ++ number 8 weight) ∷ [])
+pub weighed_again : (node : List ℕ) (weight : ℕ) → length node ≡ 20 → weight < 2 ^ 64 → IsBytes node → weighed_word [] (weighed_text (node, weight)) ≡ Ok ((node ++ number 8 weight) ∷ [])
 unfolding weighed_word
 weighed_again node weight long small fits =
-    let says = fixed_says 20 node (omega arith) long fits in
+    let says = item_says 20 node (omega arith) long fits in
     rw (parts_more 58 (fixed_text node) (decimal weight) (says.value.lacks 58 colon refl refl refl), parts_one 58 (decimal weight) (decimal_lacks 58 colon weight small), says.again, (number_says 8 weight small small).again) refl
 
 -- nodes in one word, or none
-pub nodes_fill : {A : Type 0} (spell : A → List ℕ) (ws : List Word) (xs : List A) → length xs < 65536 → AllLack 44 ws → each weighed_word ws ≡ Ok (map spell xs) → Fills nodes_field (some_word ws) (counted spell xs)
+pub nodes_fill : {A : Type 0} (spell : A → List ℕ) (ws : List Word) (xs : List A) → length xs < 65536 → AllLack 44 ws → each (weighed_word []) ws ≡ Ok (map spell xs) → Fills (nodes_field []) (some_word ws) (counted spell xs)
 unfolding nodes_field each
 nodes_fill spell [] xs few commas e = let none : map spell xs ≡ [] = cc e in record { again = ap (λ (l : List ℕ). Ok (l, [])) (no_items spell xs none) }
 nodes_fill spell (w ∷ ws) xs few commas e =
-    let fits = one_fits (list_word weighed_word) (listed_text (w ∷ ws)) (counted spell xs) (list_again weighed_word spell w ws xs few commas e) in
+    let fits = one_fits (list_word (weighed_word [])) (listed_text (w ∷ ws)) (counted spell xs) (list_again (weighed_word []) spell w ws xs few commas e) in
     record { again = fits.again [] }

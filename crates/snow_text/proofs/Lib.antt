@@ -8,5 +8,6 @@ pub mod Values
 pub mod Fields
 pub mod Clean
 pub mod Worded
+pub mod Shaped
 pub mod Told
 mod Pages

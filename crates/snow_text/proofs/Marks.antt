@@ -102,6 +102,9 @@ space = record { table = refl; zero_too = refl; outside = inl (omega arith) }
 pub hash : IsMark 35
 hash = record { table = refl; zero_too = refl; outside = inl (omega arith) }
 
+pub dollar : IsMark 36
+dollar = record { table = refl; zero_too = refl; outside = inl (omega arith) }
+
 pub star : IsMark 42
 star = record { table = refl; zero_too = refl; outside = inl (omega arith) }
 

@@ -14,8 +14,9 @@ use Rattle.hex.proofs.HexLemmas.{decode_of-encode_lower, length-encode_with}
 use Rattle.snow_wire.specs.Reading.{IsBytes}
 use Rattle.snow_text.specs.declared.refusal.Reason.TheVariants as reason
 use Rattle.snow_text.specs.Words.{Word, where_holds, is_word, each, all_of}
-use Rattle.snow_text.specs.Bytes.{Piece, Plain, Again, bytes_of, bytes_text, bytes_word, digits_word, is_small, number_below, piece_of, piece_text, piece_word, pieces_of, runs_of, short}
-use Rattle.snow_text.proofs.Marks.{AllLack, IsMark, Lacks, decimal_lacks, full_stop, hex_lacks, lacks_both, lacks_cons, lacks_joined, lacks_nil, parts_joined, parts_more, parts_one, plus, star}
+use Rattle.snow_text.specs.Names.{is_call}
+use Rattle.snow_text.specs.Bytes.{part_word, Piece, Plain, Again, bytes_of, bytes_text, bytes_word, digits_word, is_small, number_below, piece_of, piece_text, piece_word, pieces_of, runs_of, short}
+use Rattle.snow_text.proofs.Marks.{AllLack, IsMark, Lacks, decimal_lacks, dollar, full_stop, hex_lacks, lacks_both, lacks_cons, lacks_joined, lacks_nil, parts_joined, parts_more, parts_one, plus, star}
 use Rattle.snow_text.proofs.Runs.{ArePieces, IsPiece, bytes_below, bytes_in, bytes_through, pieces_are, pieces_through, runs_are, runs_spread}
 
 -- equal bytes are told equal
@@ -158,16 +159,21 @@ no_stop word lacks = false_from_ne_true (bytes_eq word (codes ".")) (stop word l
         let alone = subst (λ (w : List ℕ). Lacks 46 w) same lacks in
         both_ways (46 == 46) (All-head (λ b. b == 46 ≡ false) 46 [] alone) refl
 
+-- a word without `$` calls no block
+pub no_call : (word : Word) → Lacks 36 word → is_call word ≡ false
+no_call [] lacks = refl
+no_call (c ∷ word) lacks = All-head (λ b. b == 36 ≡ false) c word lacks
+
 -- a word says bytes where there may be none
 pub record IsBytesWord (word : Word) (bytes : List ℕ) : Type 0 where
-  pub again : bytes_of (word ∷ []) ≡ Ok bytes
+  pub again : bytes_of [] (word ∷ []) ≡ Ok bytes
   pub some : 0 < length word
   pub lacks : (c : ℕ) → IsMark c → 42 == c ≡ false → 43 == c ≡ false → 46 == c ≡ false → Lacks c word
 
 of_short : (word : Word) (bytes : List ℕ) → IsShort word bytes → IsBytesWord word bytes
-unfolding bytes_of all_of
+unfolding bytes_of all_of part_word
 of_short word bytes is = record {
-  again = rw (no_stop word (is.lacks 46 full_stop refl refl), is.again) (ap Ok (append-nil bytes));
+  again = rw (no_stop word (is.lacks 46 full_stop refl refl), no_call word (is.lacks 36 dollar refl refl), is.again) (ap Ok (append-nil bytes));
   some = is.some;
   lacks = λ c mark star plus stop. is.lacks c mark star plus;
 }

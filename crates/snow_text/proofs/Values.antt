@@ -9,10 +9,11 @@ use Rattle.snow_wire.specs.Reading.{IsBytes}
 use Rattle.snow_wire.specs.Spelling.{number}
 use Rattle.snow_text.specs.declared.refusal.Reason.{Reason}
 use Rattle.snow_text.specs.Words.{Word, ◌>>=◌}
-use Rattle.snow_text.specs.Bytes.{exactly, fixed_text, fixed_word, is_open, kept, number_below, number_word, short, some_of, trimmed}
-use Rattle.snow_text.proofs.Marks.{IsMark, Lacks, decimal_lacks, full_stop, lacks_both, lacks_cons, lacks_nil}
+use Rattle.snow_text.specs.Names.{is_call}
+use Rattle.snow_text.specs.Bytes.{exactly, fixed_text, fixed_word, is_open, item_word, kept, number_below, number_word, short, some_of, trimmed}
+use Rattle.snow_text.proofs.Marks.{IsMark, Lacks, decimal_lacks, dollar, full_stop, lacks_both, lacks_cons, lacks_nil}
 use Rattle.snow_text.proofs.Runs.{bytes_front, length_again}
-use Rattle.snow_text.proofs.Pieces.{IsShort, number_again, same_bytes, short_is, told_same}
+use Rattle.snow_text.proofs.Pieces.{IsShort, no_call, number_again, same_bytes, short_is, told_same}
 
 -- a word of digits, `*`, `+` and `.`
 pub record IsValue (word : Word) : Type 0 where
@@ -57,7 +58,8 @@ kept_ends : (b : ℕ) (front bytes : List ℕ) → Ends front bytes → Ends (ke
 kept_ends b [] bytes ends = kept_none (b == 0) b bytes (eqb-true b 0) ends
 kept_ends b (c ∷ front) bytes ends = record { zeros = ends.zeros; whole = ap (λ (l : List ℕ). b ∷ l) ends.whole }
 
-trimmed_ends : (bytes : List ℕ) → Ends (trimmed bytes) bytes
+-- what was trimmed are zeros
+pub trimmed_ends : (bytes : List ℕ) → Ends (trimmed bytes) bytes
 unfolding trimmed
 trimmed_ends [] = record { zeros = 0; whole = refl }
 trimmed_ends (b ∷ bytes) = kept_ends b (trimmed bytes) bytes (trimmed_ends bytes)
@@ -70,7 +72,8 @@ some_ends : (front bytes : List ℕ) → 0 < length bytes → Ends front bytes �
 some_ends [] bytes some ends = some_zeros ends.zeros bytes some ends.whole
 some_ends (b ∷ front) bytes some ends = ends
 
-some_some : (front : List ℕ) → 0 < length (some_of front)
+-- at least one byte is
+pub some_some : (front : List ℕ) → 0 < length (some_of front)
 some_some [] = omega arith
 some_some (b ∷ front) = omega arith
 
@@ -141,3 +144,14 @@ fixed_says size bytes some long fits =
     let ends = some_ends (trimmed bytes) bytes few (trimmed_ends bytes) in
     let own = bytes_front front (replicate ends.zeros 0) (subst IsBytes ends.whole fits) in
     fixed_if (length front == length bytes) size front bytes long ends (short_is front own (some_some (trimmed bytes))) (short_is bytes fits few)
+
+item_same : (t : Bool) (called read : Result (List ℕ) Reason) → t ≡ false → (if t then called else read) ≡ read
+item_same true called read h = absurd cc
+item_same false called read h = refl
+
+-- and where a block's name might stand
+pub item_says : (size : ℕ) (bytes : List ℕ) → 0 < size → length bytes ≡ size → IsBytes bytes → Says (item_word [] size) (fixed_text bytes) bytes
+unfolding item_word
+item_says size bytes some long fits =
+    let says = fixed_says size bytes some long fits in
+    record { again = item_same (is_call (fixed_text bytes)) _ _ (no_call (fixed_text bytes) (says.value.lacks 36 dollar refl refl refl)) ∙ says.again; value = says.value }

@@ -9,6 +9,7 @@ use Rattle.snow_wire.specs.Spelling.{number}
 use Rattle.snow_text.specs.declared.refusal.Reason.{Reason}
 use Rattle.snow_text.specs.declared.refusal.Reason.TheVariants as reason
 use Rattle.snow_text.specs.Words.{Word, Halt, ◌>>=◌, where_holds, is_word, parts, each, all_of, at}
+use Rattle.snow_text.specs.Names.{Names, called, is_call}
 
 -- ---- what a word says
 
@@ -73,11 +74,19 @@ fixed_word size word =
     then bytes_word (take (length word - 2) word) >>= (λ front. exactly size (front ++ replicate (size - length front) 0))
     else bytes_word word >>= exactly size
 
+-- bytes, or those of a block that has a name
+unfoldable pub part_word : Names → Word → Result (List ℕ) Reason
+part_word names word = if is_call word then called (λ n. n.bytes) names word else bytes_word word
+
+-- so many bytes, or the identifier of a block that has a name
+unfoldable pub item_word : Names → ℕ → Word → Result (List ℕ) Reason
+item_word names size word = if is_call word then (called (λ n. n.identifier) names word >>= exactly size) else fixed_word size word
+
 -- any number of bytes; `.` alone is none
-unfoldable pub bytes_of : List Word → Result (List ℕ) Halt
-bytes_of [] = at [] (Err reason.Missing)
-bytes_of (word ∷ more) =
-    if bytes_eq word (codes ".") && length more == 0 then Ok [] else all_of bytes_word (word ∷ more)
+unfoldable pub bytes_of : Names → List Word → Result (List ℕ) Halt
+bytes_of names [] = at [] (Err reason.Missing)
+bytes_of names (word ∷ more) =
+    if bytes_eq word (codes ".") && length more == 0 then Ok [] else all_of (part_word names) (word ∷ more)
 
 -- ---- the shortest word
 

@@ -1,12 +1,14 @@
 -- The lines that say a frame: the first word of each, and the fields behind it.
-use Rattle.std.specs.Prelude.{ℕ, Bool, false, nat_lt, if◌then◌else◌, List, [], ◌∷◌, ◌++◌, length, drop, replicate, codes, Option, Some, None, Result, Ok, Err}
+use Rattle.std.specs.Prelude.{ℕ, ◌-◌, Bool, false, nat_lt, if◌then◌else◌, List, [], ◌∷◌, ◌++◌, length, take, drop, replicate, codes, Option, Some, None, Result, Ok, Err}
 use Rattle.std.specs.List.{find, join_with_byte}
 use Rattle.std.specs.Str.{bytes_eq}
+use Rattle.sha2.specs.Sha256.{sha256}
 use Rattle.snow_wire.specs.Spelling.{counted, number, sized}
 use Rattle.snow_text.specs.declared.refusal.Reason.{Reason}
 use Rattle.snow_text.specs.declared.refusal.Reason.TheVariants as reason
 use Rattle.snow_text.specs.Words.{Word, Halt, Field, ◌>>=◌, ◌&◌, where_holds, parts, spaced, at, each, all_of, one, all, ended}
-use Rattle.snow_text.specs.Bytes.{number_below, number_word, bytes_of, fixed_word}
+use Rattle.snow_text.specs.Names.{Names}
+use Rattle.snow_text.specs.Bytes.{number_below, number_word, bytes_of, item_word}
 use Rattle.snow_text.specs.Lines.{line_of}
 
 -- ---- fields
@@ -14,11 +16,11 @@ use Rattle.snow_text.specs.Lines.{line_of}
 abbrev pub number_field : ℕ → Field
 number_field size = one (number_word size)
 
-abbrev pub id_field : Field
-id_field = one (fixed_word 32)
+abbrev pub id_field : Names → Field
+id_field names = one (item_word names 32)
 
-abbrev pub node_field : Field
-node_field = one (fixed_word 20)
+abbrev pub node_field : Names → Field
+node_field names = one (item_word names 20)
 
 -- no field more
 abbrev pub none : Field
@@ -58,10 +60,10 @@ pair why (a ∷ b ∷ []) = Ok (a, b)
 pair why other = Err why
 
 -- a node and its weight
-unfoldable pub weighed_word : Word → Result (List (List ℕ)) Reason
-weighed_word word = do
+unfoldable pub weighed_word : Names → Word → Result (List (List ℕ)) Reason
+weighed_word names word = do
   both ← pair reason.Node (parts 58 word)
-  node ← fixed_word 20 both.0
+  node ← item_word names 20 both.0
   weight ← number_word 8 both.1
   Ok ((node ++ weight) ∷ [])
 
@@ -86,16 +88,16 @@ if_some name of [] = Ok (number 2 0, [])
 if_some name of (word ∷ more) = if is_named name (parts 61 word) then named name (list_word of) (word ∷ more) else Ok (number 2 0, word ∷ more)
 
 -- nodes with commas between them, or none
-unfoldable pub nodes_field : Field
-nodes_field [] = Ok (number 2 0, [])
-nodes_field (word ∷ more) = one (list_word weighed_word) (word ∷ more)
+unfoldable pub nodes_field : Names → Field
+nodes_field names [] = Ok (number 2 0, [])
+nodes_field names (word ∷ more) = one (list_word (weighed_word names)) (word ∷ more)
 
 -- ---- blocks
 
 -- bytes behind the fields of a block, if there are
-abbrev pub behind : List Word → Result (List ℕ) Halt
-behind [] = Ok []
-behind (word ∷ more) = bytes_of (word ∷ more)
+abbrev pub behind : Names → List Word → Result (List ℕ) Halt
+behind names [] = Ok []
+behind names (word ∷ more) = bytes_of names (word ∷ more)
 
 -- a transfer: FROM>TO:AMOUNT@SEQUENCE
 unfoldable pub transfer_word : Word → Result (List (List ℕ)) Reason
@@ -109,18 +111,37 @@ transfer_word word = do
   d ← number_word 8 last.1
   Ok ((a ++ b ++ c ++ d) ∷ [])
 
--- the fields of a block, by the name of its chain
-abbrev pub chains : List (Word × Field)
-chains =
-    (codes "plain", id_field & id_field & number_field 8 & number_field 1 & all behind)
-    ∷ (codes "tally", id_field & number_field 8 & number_field 8 & all behind)
-    ∷ (codes "ledger", id_field & number_field 8 & list_field transfer_word)
-    ∷ []
+-- a chain's blocks: the chain's name, the fields of a block, and its identifier
+pub record Chain : Type 0 where
+  pub name : Word
+  pub fields : Field
+  pub identifier : List ℕ → List ℕ
+
+abbrev pub plain : Names → Chain
+plain names = record {
+  name = codes "plain";
+  fields = id_field names & id_field names & number_field 8 & number_field 1 & all (behind names);
+  identifier = take 32;
+}
+
+abbrev pub tally : Names → Chain
+tally names = record {
+  name = codes "tally";
+  fields = id_field names & number_field 8 & number_field 8 & all (behind names);
+  identifier = sha256;
+}
+
+abbrev pub ledger : Names → Chain
+ledger names = record { name = codes "ledger"; fields = id_field names & number_field 8 & list_field transfer_word; identifier = sha256 }
+
+-- the chain with this name
+abbrev pub chain_of : Names → Word → Option Chain
+chain_of names word = find (λ chain. bytes_eq chain.name word) (plain names ∷ tally names ∷ ledger names ∷ [])
 
 -- the bytes of a block, in the words of a chain that was found or as they are
-abbrev pub block_as : Option (Word × Field) → List Word → Result (List ℕ) Halt
-block_as (Some chain) words = ended chain.1 (drop 1 words)
-block_as None words = bytes_of words
+abbrev pub block_as : Names → Option Chain → List Word → Result (List ℕ) Halt
+block_as names (Some chain) words = ended chain.fields (drop 1 words)
+block_as names None words = bytes_of names words
 
 -- the first word, and none where there is none
 abbrev pub first_word : List Word → Word
@@ -128,12 +149,12 @@ first_word [] = []
 first_word (word ∷ more) = word
 
 -- the bytes of a block
-unfoldable pub block_of : List Word → Result (List ℕ) Halt
-block_of words = block_as (find (λ chain. bytes_eq chain.0 (first_word words)) chains) words
+unfoldable pub block_of : Names → List Word → Result (List ℕ) Halt
+block_of names words = block_as names (chain_of names (first_word words)) words
 
 -- the bytes of a block behind their length
-abbrev pub sized_block : List Word → Result (List ℕ) Halt
-sized_block words = block_of words >>= λ bytes. Ok (sized bytes)
+abbrev pub sized_block : Names → List Word → Result (List ℕ) Halt
+sized_block names words = block_of names words >>= λ bytes. Ok (sized bytes)
 
 -- why something wasn't read, wherever
 abbrev pub only_why : {A : Type 0} → Result A Halt → Result A Reason
@@ -141,13 +162,22 @@ only_why (Ok x) = Ok x
 only_why (Err halt) = Err halt.why
 
 -- the bytes of a block in a list of blocks
-abbrev pub listed_block : List ℕ → Result (List (List ℕ)) Reason
-listed_block part = item (only_why (sized_block (spaced part)))
+abbrev pub listed_block : Names → List ℕ → Result (List (List ℕ)) Reason
+listed_block names part = item (only_why (sized_block names (spaced part)))
+
+-- what was read of parts between commas, where a halt counts parts, and is to count words
+abbrev pub in_words : {A : Type 0} → List (List ℕ) → Result A Halt → Result A Halt
+in_words blocks (Ok x) = Ok x
+in_words blocks (Err halt) = Err (record { why = halt.why; left = length (spaced (join_with_byte 44 (drop (length blocks - halt.left) blocks))) })
+
+-- the bytes of a list of blocks
+abbrev pub blocks_in : Names → List (List ℕ) → Result (List ℕ) Halt
+blocks_in names blocks = in_words blocks (all_of (listed_block names) blocks) >>= λ items. at [] (listed items)
 
 -- blocks with commas between them, or none
-unfoldable pub blocks_of : List Word → Result (List ℕ) Halt
-blocks_of [] = Ok (number 2 0)
-blocks_of (word ∷ more) = at (word ∷ more) (list_word listed_block (join_with_byte 32 (word ∷ more)))
+unfoldable pub blocks_of : Names → List Word → Result (List ℕ) Halt
+blocks_of names [] = Ok (number 2 0)
+blocks_of names (word ∷ more) = blocks_in names (parts 44 (join_with_byte 32 (word ∷ more)))
 
 -- ---- lines
 
@@ -158,52 +188,52 @@ tagged tag field words = do
   Ok (tag ∷ bytes)
 
 -- a node and the number of a request, and a field behind them
-abbrev pub sent : Field → Field
-sent field = node_field & number_field 4 & field
+abbrev pub sent : Names → Field → Field
+sent names field = node_field names & number_field 4 & field
 
 -- the fields of a Start
-unfoldable pub start_field : Field
-start_field words = (
+unfoldable pub start_field : Names → Field
+start_field names words = (
     named (codes "k") (number_word 4)
     & named (codes "alpha-preference") (number_word 4)
     & named (codes "alpha-confidence") (number_word 4)
     & named (codes "beta") (number_word 4)
     & named (codes "repolls") (number_word 4)
     & named (codes "boot") (number_word 1)
-    & named (codes "last") (fixed_word 32)
+    & named (codes "last") (item_word names 32)
     & named (codes "height") (number_word 8)
     & if_some (codes "state") times_word
-    & if_some (codes "nodes") weighed_word
+    & if_some (codes "nodes") (weighed_word names)
     ) words
 
 -- the text of a line that the program wrote
-abbrev pub text_of : List Word → Result (List ℕ) Halt
-text_of words = line_of words >>= λ text. Ok (17 ∷ sized text)
+abbrev pub text_of : Names → List Word → Result (List ℕ) Halt
+text_of names words = line_of names words >>= λ text. Ok (17 ∷ sized text)
 
-abbrev pub ids_word : Word → Result (List (List ℕ)) Reason
-ids_word word = item (fixed_word 32 word)
+abbrev pub ids_word : Names → Word → Result (List (List ℕ)) Reason
+ids_word names word = item (item_word names 32 word)
 
 -- what the words behind the first one say, by the first
-abbrev pub forms : List (Word × (List Word → Result (List ℕ) Halt))
-forms =
-    (codes "start", tagged 1 start_field)
-    ∷ (codes "block", tagged 2 (sent (all sized_block)))
-    ∷ (codes "poll", tagged 3 (list_field ids_word))
+abbrev pub forms : Names → List (Word × (List Word → Result (List ℕ) Halt))
+forms names =
+    (codes "start", tagged 1 (start_field names))
+    ∷ (codes "block", tagged 2 (sent names (all (sized_block names))))
+    ∷ (codes "poll", tagged 3 (list_field (ids_word names)))
     ∷ (codes "words", tagged 4 (list_field times_word))
-    ∷ (codes "chits", tagged 5 (sent id_field))
-    ∷ (codes "timeout", tagged 6 (sent none))
-    ∷ (codes "frontier", tagged 7 (sent id_field))
-    ∷ (codes "accepted", tagged 8 (sent (list_field ids_word)))
-    ∷ (codes "ancestors", tagged 9 (sent (all blocks_of)))
-    ∷ (codes "stored", tagged 10 (all sized_block))
-    ∷ (codes "validators", tagged 11 nodes_field)
-    ∷ (codes "ask-query", tagged 12 (sent none))
-    ∷ (codes "ask-frontier", tagged 13 (sent none))
-    ∷ (codes "ask-accepted", tagged 14 (sent (list_field ids_word)))
-    ∷ (codes "ask-ancestors", tagged 15 (sent id_field))
-    ∷ (codes "ask-block", tagged 16 (sent id_field))
-    ∷ (codes ">", text_of)
-    ∷ (codes "frame", bytes_of)
+    ∷ (codes "chits", tagged 5 (sent names (id_field names)))
+    ∷ (codes "timeout", tagged 6 (sent names none))
+    ∷ (codes "frontier", tagged 7 (sent names (id_field names)))
+    ∷ (codes "accepted", tagged 8 (sent names (list_field (ids_word names))))
+    ∷ (codes "ancestors", tagged 9 (sent names (all (blocks_of names))))
+    ∷ (codes "stored", tagged 10 (all (sized_block names)))
+    ∷ (codes "validators", tagged 11 (nodes_field names))
+    ∷ (codes "ask-query", tagged 12 (sent names none))
+    ∷ (codes "ask-frontier", tagged 13 (sent names none))
+    ∷ (codes "ask-accepted", tagged 14 (sent names (list_field (ids_word names))))
+    ∷ (codes "ask-ancestors", tagged 15 (sent names (id_field names)))
+    ∷ (codes "ask-block", tagged 16 (sent names (id_field names)))
+    ∷ (codes ">", text_of names)
+    ∷ (codes "frame", bytes_of names)
     ∷ []
 
 -- what a form that was found says of the words behind the first
@@ -212,5 +242,5 @@ say (Some form) words = form.1 (drop 1 words)
 say None words = at words (Err reason.Name)
 
 -- the payload that the words of a line say
-unfoldable pub payload_of : List Word → Result (List ℕ) Halt
-payload_of words = say (find (λ form. bytes_eq form.0 (first_word words)) forms) words
+unfoldable pub payload_of : Names → List Word → Result (List ℕ) Halt
+payload_of names words = say (find (λ form. bytes_eq form.0 (first_word words)) (forms names)) words

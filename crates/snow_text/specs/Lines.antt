@@ -6,7 +6,8 @@ use Rattle.hex.specs.Hex.{encode_lower}
 use Rattle.snow_text.specs.declared.refusal.Reason.{Reason}
 use Rattle.snow_text.specs.declared.refusal.Reason.TheVariants as reason
 use Rattle.snow_text.specs.Words.{Word, Halt, ◌>>=◌, parts, at}
-use Rattle.snow_text.specs.Bytes.{digits_word, bytes_word, fixed_word, fixed_text, bytes_text}
+use Rattle.snow_text.specs.Names.{Names}
+use Rattle.snow_text.specs.Bytes.{digits_word, part_word, item_word, fixed_text, bytes_text}
 
 -- what a word of a line tells: so many bytes, a block, a node with how often it was drawn, or something else
 pub data Kind : Type 0 where
@@ -73,25 +74,25 @@ drawn of (times ∷ node) = do
   Ok (digits ++ 42 ∷ times)
 
 -- a word as the program writes it
-unfoldable pub long_as : Kind → Word → Result Word Reason
-long_as (Fixed size) word = digits (fixed_word size word)
-long_as Block word = if bytes_eq word (codes ".") then Ok word else digits (bytes_word word)
-long_as Draw word = drawn (λ node. digits (fixed_word 20 node)) (reverse (parts 42 word))
-long_as Other word = Ok word
+unfoldable pub long_as : Names → Kind → Word → Result Word Reason
+long_as names (Fixed size) word = digits (item_word names size word)
+long_as names Block word = if bytes_eq word (codes ".") then Ok word else digits (part_word names word)
+long_as names Draw word = drawn (λ node. digits (item_word names 20 node)) (reverse (parts 42 word))
+long_as names Other word = Ok word
 
 -- words as the program writes them
-unfoldable pub long_words : List Kind → List Word → Result (List Word) Halt
-long_words kinds [] = Ok []
-long_words kinds (word ∷ more) = do
-  x ← at (word ∷ more) (long_as (next_kind kinds) word)
-  xs ← long_words (later_kinds kinds) more
+unfoldable pub long_words : Names → List Kind → List Word → Result (List Word) Halt
+long_words names kinds [] = Ok []
+long_words names kinds (word ∷ more) = do
+  x ← at (word ∷ more) (long_as names (next_kind kinds) word)
+  xs ← long_words names (later_kinds kinds) more
   Ok (x ∷ xs)
 
 -- the text of a line with these words
-unfoldable pub line_of : List Word → Result (List ℕ) Halt
-line_of [] = Ok []
-line_of (name ∷ more) = do
-  others ← long_words (kinds_of name) more
+unfoldable pub line_of : Names → List Word → Result (List ℕ) Halt
+line_of names [] = Ok []
+line_of names (name ∷ more) = do
+  others ← long_words names (kinds_of name) more
   Ok (join_with_byte 32 (name ∷ others))
 
 -- ---- the shortest words

@@ -9,9 +9,12 @@ use Rattle.snow_wire.specs.Frame.{frames_of}
 use Rattle.snow_wire.specs.Reading.{event_of}
 use Rattle.snow_wire.specs.Spelling.{flag}
 use Rattle.snow_text.specs.Words.{Word, Halt, parts, words_of}
+use Rattle.snow_text.specs.Names.{Names}
 use Rattle.snow_text.specs.Bytes.{runs_of, bytes_text, fixed_text}
+use Rattle.snow_text.specs.declared.form.BlockForm.{BlockForm}
+use Rattle.snow_text.specs.Blocks.{block_line, block_words}
 use Rattle.snow_text.specs.Lines.{line_words}
-use Rattle.snow_text.specs.Made.{Said, Frame, Nothing, Rest, say_words}
+use Rattle.snow_text.specs.Made.{Said, Frame, Name, Nothing, Rest, names_behind, say_words}
 
 -- ---- the words of an event
 
@@ -63,24 +66,24 @@ abbrev pub sent_words : Word → List ℕ → ℕ → List Word → List Word
 sent_words name node request more = name ∷ fixed_text node ∷ decimal request ∷ more
 
 -- the words of an event
-unfoldable pub event_words : Event → List Word
-event_words (event.Start s) = start_words s
-event_words (event.Block node request bytes) = sent_words (codes "block") node request (bytes_text bytes ∷ [])
-event_words (event.Poll ids) = codes "poll" ∷ map fixed_text ids
-event_words (event.Words words) = codes "words" ∷ times_texts words
-event_words (event.Chits node request id) = sent_words (codes "chits") node request (fixed_text id ∷ [])
-event_words (event.Timeout node request) = sent_words (codes "timeout") node request []
-event_words (event.Frontier node request id) = sent_words (codes "frontier") node request (fixed_text id ∷ [])
-event_words (event.Accepted node request ids) = sent_words (codes "accepted") node request (map fixed_text ids)
-event_words (event.Ancestors node request blocks) = sent_words (codes "ancestors") node request (some_word (map bytes_text blocks))
-event_words (event.Stored bytes) = codes "stored" ∷ bytes_text bytes ∷ []
-event_words (event.Validators nodes) = codes "validators" ∷ some_word (map weighed_text nodes)
-event_words (event.AskQuery node request) = sent_words (codes "ask-query") node request []
-event_words (event.AskFrontier node request) = sent_words (codes "ask-frontier") node request []
-event_words (event.AskAccepted node request ids) = sent_words (codes "ask-accepted") node request (map fixed_text ids)
-event_words (event.AskAncestors node request id) = sent_words (codes "ask-ancestors") node request (fixed_text id ∷ [])
-event_words (event.AskBlock node request id) = sent_words (codes "ask-block") node request (fixed_text id ∷ [])
-event_words (event.Line text) = codes ">" ∷ line_words text
+unfoldable pub event_words : BlockForm → Event → List Word
+event_words form (event.Start s) = start_words s
+event_words form (event.Block node request bytes) = sent_words (codes "block") node request (block_words form bytes)
+event_words form (event.Poll ids) = codes "poll" ∷ map fixed_text ids
+event_words form (event.Words words) = codes "words" ∷ times_texts words
+event_words form (event.Chits node request id) = sent_words (codes "chits") node request (fixed_text id ∷ [])
+event_words form (event.Timeout node request) = sent_words (codes "timeout") node request []
+event_words form (event.Frontier node request id) = sent_words (codes "frontier") node request (fixed_text id ∷ [])
+event_words form (event.Accepted node request ids) = sent_words (codes "accepted") node request (map fixed_text ids)
+event_words form (event.Ancestors node request blocks) = sent_words (codes "ancestors") node request (some_word (map (block_line form) blocks))
+event_words form (event.Stored bytes) = codes "stored" ∷ block_words form bytes
+event_words form (event.Validators nodes) = codes "validators" ∷ some_word (map weighed_text nodes)
+event_words form (event.AskQuery node request) = sent_words (codes "ask-query") node request []
+event_words form (event.AskFrontier node request) = sent_words (codes "ask-frontier") node request []
+event_words form (event.AskAccepted node request ids) = sent_words (codes "ask-accepted") node request (map fixed_text ids)
+event_words form (event.AskAncestors node request id) = sent_words (codes "ask-ancestors") node request (fixed_text id ∷ [])
+event_words form (event.AskBlock node request id) = sent_words (codes "ask-block") node request (fixed_text id ∷ [])
+event_words form (event.Line text) = codes ">" ∷ line_words text
 
 -- a line that a program wrote
 abbrev pub is_line : Event → Bool
@@ -100,20 +103,20 @@ is_frame payload other = false
 
 -- the line of these words is one line, and says the very payload
 unfoldable pub say : List Word → List ℕ → Bool
-say words payload = list_all (λ c. not (c == 10)) (line words) && is_frame payload (say_words (words_of (line words)))
+say words payload = list_all (λ c. not (c == 10)) (line words) && is_frame payload (say_words [] (words_of (line words)))
 
 -- a payload as it is
 abbrev pub frame_words : List ℕ → List Word
 frame_words payload = codes "frame" ∷ bytes_text payload ∷ []
 
 -- the words of an event that was found, if these say the very payload
-abbrev pub words_as : {E : Type 0} → List ℕ → Result Event E → List Word
-words_as payload (Ok e) = if say (event_words e) payload then event_words e else frame_words payload
-words_as payload (Err fault) = frame_words payload
+abbrev pub words_as : {E : Type 0} → BlockForm → List ℕ → Result Event E → List Word
+words_as form payload (Ok e) = if say (event_words form e) payload then event_words form e else frame_words payload
+words_as form payload (Err fault) = frame_words payload
 
 -- the line of a frame with this payload
-unfoldable pub shown_frame : List ℕ → List ℕ
-shown_frame payload = line (words_as payload (event_of payload)) ++ 10 ∷ []
+unfoldable pub shown_frame : BlockForm → List ℕ → List ℕ
+shown_frame form payload = line (words_as form payload (event_of payload)) ++ 10 ∷ []
 
 -- the line of what stands behind the last frame
 unfoldable pub shown_rest : List ℕ → List ℕ
@@ -121,22 +124,31 @@ shown_rest [] = []
 shown_rest (byte ∷ bytes) = line (codes "rest" ∷ bytes_text (byte ∷ bytes) ∷ []) ++ 10 ∷ []
 
 -- the text of a stream
-unfoldable pub shown : List ℕ → List ℕ
-shown bytes = flat_map shown_frame (frames_of bytes).0 ++ shown_rest (frames_of bytes).1
+unfoldable pub shown : BlockForm → List ℕ → List ℕ
+shown form bytes = flat_map (shown_frame form) (frames_of bytes).0 ++ shown_rest (frames_of bytes).1
 
 -- ---- a text in its short form
 
 -- the short form of what a line says
-abbrev pub short_of : Result Said Halt → List ℕ
-short_of (Ok Nothing) = []
-short_of (Ok (Frame payload)) = shown_frame payload
-short_of (Ok (Rest bytes)) = shown bytes
-short_of (Err halt) = []
+abbrev pub short_of : BlockForm → Result Said Halt → List ℕ
+short_of form (Ok Nothing) = []
+short_of form (Ok (Name block)) = []
+short_of form (Ok (Frame payload)) = shown_frame form payload
+short_of form (Ok (Rest bytes)) = shown form bytes
+short_of form (Err halt) = []
 
--- a line in its short form
-unfoldable pub short_line : List ℕ → List ℕ
-short_line text = short_of (say_words (words_of text))
+-- the names behind what a line says
+abbrev pub names_after : Result Said Halt → Names → Names
+names_after (Ok said) names = names_behind said names
+names_after (Err halt) names = names
 
--- a text in its short form: each of its lines is, and those that say nothing are left out
-unfoldable pub tidied : List ℕ → List ℕ
-tidied text = flat_map short_line (parts 10 text)
+-- each line in its short form, where these names were given; those that say no bytes are left out
+unfoldable pub short_lines : BlockForm → Names → List (List ℕ) → List ℕ
+short_lines form names [] = []
+short_lines form names (text ∷ more) =
+    let said = say_words names (words_of text) in
+    short_of form said ++ short_lines form (names_after said names) more
+
+-- a text in its short form
+unfoldable pub tidied : BlockForm → List ℕ → List ℕ
+tidied form text = short_lines form [] (parts 10 text)

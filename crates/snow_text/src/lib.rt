@@ -1,8 +1,10 @@
 //! Streams as text: a line a frame, and back.
 #![tactic(auto)]
 
+mod form;
 mod laws;
 mod refusal;
 
-pub use laws::{one_form, one_text, own_words};
+pub use form::BlockForm;
+pub use laws::{one_by_one, one_form, one_text, own_words};
 pub use refusal::{Reason, Refusal};

@@ -24,6 +24,14 @@ pub enum Reason {
     Many,
     /// The frame has more than 2,097,152 bytes.
     Long,
+    /// No block has this name.
+    Unknown,
+    /// A name is a small letter, and then small letters, digits and `-`.
+    Naming,
+    /// Another block has this name.
+    Twice,
+    /// A block in the words of its chain is wanted.
+    Chain,
     /// Nothing stands behind the rest.
     Behind,
 }
