@@ -34,7 +34,7 @@ fn start<T: Drop>(tree: &Tree<T>, ladder: &mut Ladder, id: &Id, count: u32)
     }
 }
 
-// Votes that waited begin, if there are some.
+// Starts the votes that a seat gathered, if there are any.
 fn let_go<T: Drop>(tree: &Tree<T>, ladder: &mut Ladder, vote: &Vote)
     requires room { (ladder.old).put + vote.now.count ≤ (ladder.old).most }
     requires low { length (tree.now).pending < (ladder.old).low }

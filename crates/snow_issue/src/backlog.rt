@@ -31,8 +31,8 @@ impl Kept {
     }
 }
 
-/// Replies by number of arrival, each quiet or not. The numbers of those that aren't stand in a heap,
-/// the earliest at the top, which has room for those of the others.
+/// Replies by number of arrival, each quiet or not. A heap has the numbers of those that aren't
+/// quiet, the earliest at the top. It has room for the numbers of all.
 #[derive(Drop)]
 pub(crate) struct Backlog {
     items: Roll,

@@ -51,7 +51,7 @@ pub(crate) fn first_hopeless<B: Board>(waiting: &mut WaitingList, gets: &Gets, b
     }
 }
 
-// Remembers of the block at a place that it can wait on, where it is a child of this block, which
+// Marks the block at a place as quiet, where it is a child of `parent` and isn't hopeless. `parent`
 // isn't on the board.
 fn rest_at(waiting: &mut WaitingList, gets: &Gets, at: usize, parent: &Id)
     requires { at < length waiting.old }
@@ -65,8 +65,8 @@ fn rest_at(waiting: &mut WaitingList, gets: &Gets, at: usize, parent: &Id)
     }
 }
 
-/// Remembers of the block that came last, and of the one before it where that is its child, that
-/// they can wait on. It returns whether each block is marked then, and none is ripe.
+/// Marks the block that came last as quiet, and the one before it where that is its child. It
+/// returns whether each block is marked then, and none is ripe.
 pub(crate) fn rest_last(waiting: &mut WaitingList, gets: &Gets, block: &Header) -> bool
     ensures same { items_of waiting.new ≡ items_of waiting.old }
     ensures tells { (b : model.Board) → is_on b block.now.id ≡ false → is_on b block.now.parent ≡ false → All (Tells (items_of waiting.old) gets.now b) waiting.old → All (Tells (items_of waiting.new) gets.now b) waiting.new }

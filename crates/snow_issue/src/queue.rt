@@ -201,10 +201,10 @@ impl Queue {
         Ok(())
     }
 
-    /// Remembers of the block that came last, and of the one before it where that is its child,
-    /// that they can wait on, since the parent of the block is asked for. It returns `true` only
-    /// where no step of settling applies then, and may return `false` there too. The lists stay as
-    /// they were. It looks neither at the board nor at any other block.
+    /// Marks the block that came last as quiet, since its parent is asked for. It marks the one
+    /// before too, where that is a child of the block. It returns `true` only where no step of
+    /// settling applies then, and may return `false` there too. The lists stay as they were. It
+    /// looks neither at the board nor at any other block.
     /// Rule: this project's own.
     pub fn rest(&mut self, block: &Header) -> bool
         ensures lists { lists_of self.new ≡ lists_of self.old }

@@ -31,9 +31,8 @@ impl Queue {
         bubbling::is_pending(board, id)
     }
 
-    /// Returns the vote of a reply that may be counted as it comes, where nothing else is to be
-    /// done. The vote may be none. It returns `None` where the reply has to be held: its block
-    /// waits, is asked for, or is to be asked for.
+    /// Returns the vote of a reply that needn't wait; it may be none. It returns `None` where the
+    /// reply has to be held: its block waits, is asked for, or is to be asked for.
     /// Rule: AvalancheGo, snow/engine/snowman.
     pub fn vote_at_once<B: Board>(&self, id: &Id, board: &B) -> Option<Option<Id>>
         ensures { result ≡ vote_at_once (lists_of self.now) (B.board board.now) id.now }

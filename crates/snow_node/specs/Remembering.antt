@@ -1,4 +1,4 @@
--- What is known of that which a queue remembers of its waiting blocks.
+-- How far a queue's marks of its waiting blocks can be trusted.
 use Rattle.std.specs.Prelude.{ℕ, Bool, true, false, List, Option, Some, None, bytes_eq, if◌then◌else◌}
 use Rattle.snow_board.specs.Board.{Board}
 use Rattle.snow_issue.specs.declared.work.Work.{Work}

@@ -64,7 +64,7 @@ pub struct Running<C: Chain, B: Board> {
     numbers: Numbers,
     /// Whether a poll was recorded since the event began.
     recorded: bool,
-    /// What is known of that which the queue remembers of its blocks.
+    /// How far the queue's marks can be trusted.
     remembered: Remembered,
     alloc: Global,
 }

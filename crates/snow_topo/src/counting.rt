@@ -22,9 +22,9 @@ use snow_flake::{Params, Rule};
 use snow_tree::Tree;
 use std::sync::ledger::Ledger;
 
-// What is kept of the last accepted block takes the next poll with the votes that were taken off the ladder
-// last, so many in all, where they are AlphaPreference; else it is left alone, and has failed by its number.
-// The answer is whether it leads elsewhere then.
+// Records the poll in the last accepted block's tree, with the votes last taken off the ladder, where they are
+// at least AlphaPreference. Else the tree stays as it is, and its old number tells that it failed. It returns
+// whether the tree leads elsewhere then.
 fn record_root<R: Rule, L: Ledger>(
     params: &Params,
     root: &mut Load<R>,

@@ -128,8 +128,9 @@ fn passes<R: Rule>(
     false
 }
 
-/// Returns whether a block is on the path to the preference. It doesn't walk for the last accepted
-/// block, nor for a block without children, which is on the path where it is its end.
+/// Returns whether a block is on the path to the preference. It walks only for a block with
+/// children that isn't the last accepted one. A block without children is on the path exactly where
+/// it is its end.
 pub(crate) fn is_preferred<R: Rule>(
     params: &Params,
     polls: u64,
@@ -155,8 +156,8 @@ pub(crate) fn is_preferred<R: Rule>(
     }
 }
 
-/// Returns whether a block on the board, which stands at this place, is the preference and has no
-/// tree of children, so that no block stands above it.
+/// Returns `true` where the block at this place is the preference and has no tree of children. No
+/// block stands above it then.
 pub(crate) fn is_top<R: Rule>(
     params: &Params,
     polls: u64,

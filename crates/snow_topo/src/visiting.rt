@@ -48,9 +48,9 @@ pub(crate) fn has_quorum(params: &Params, count: u32) -> bool
     count >= params.alpha_preference()
 }
 
-// What is kept at a place takes the next poll with the votes that were taken off the ladder last, so many in
-// all, where they are AlphaPreference; else it is left alone, and has failed by its number. The answer is
-// whether it leads elsewhere then.
+// Records the poll in the tree of the block at a place, with the votes last taken off the ladder, where they
+// are at least AlphaPreference. Else the tree stays as it is, and its old number tells that it failed. It
+// returns whether the tree leads elsewhere then.
 fn record_came<R: Rule, L: Ledger>(
     params: &Params,
     tree: &mut Tree<Load<R>>,

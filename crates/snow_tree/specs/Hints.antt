@@ -1,4 +1,4 @@
--- Which number an identifier is told: that of a slot, of which those share one that have the same seat modulo the number of slots.
+-- A slot tells the number of the entry that was put there last. Identifiers share a slot where their seats agree modulo the number of slots.
 pub use Rattle.snow_map.specs.Seats.{seat_of}
 use Rattle.std.specs.Prelude.{◌≡◌, ℕ, ◌%◌, ◌^◌, ◌<◌, List, get_or, length}
 

@@ -13,8 +13,7 @@ use crate::node::Node;
 use crate::row::Row;
 use snow_base::Id;
 
-// What a node that went out has of its children and its load takes the place of others. The answer is its
-// height.
+// Puts the children and the load of a node that went out in place of others, and returns its height.
 fn unpack<T: Drop>(node: Node<T>, children: &mut Children, load: &mut T) -> u64
     ensures { IsTakenOver node children.new load.new result }
 {

@@ -200,8 +200,8 @@ impl<T> Row<T> {
         self.entries.remove(place)
     }
 
-    /// Takes all nodes out above which neither the block of this number stands nor one that stays,
-    /// and appends them to `rejected` in order of issue. It is one pass, which looks nothing up for
+    /// Keeps the nodes that descend from the block of this number, and takes all others out. It
+    /// appends those to `rejected` in order of issue. It is one pass, which looks nothing up for
     /// those that stay. It takes no memory.
     pub(crate) fn sweep(&mut self, number: usize, rejected: &mut Vec<Id>)
     where

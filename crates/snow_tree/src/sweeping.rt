@@ -38,8 +38,8 @@ fn tell<T>(entry: &(Id, Node<T>), numbers: &mut Numbers, rejected: &mut Vec<Id>)
     rejected.push_reserved(entry.0);
 }
 
-/// Takes all nodes out above which neither the block of this number stands nor one that stays, and
-/// appends them to `rejected` in order of issue.
+/// Keeps the nodes that descend from the block of this number, and takes all others out. It appends
+/// those to `rejected` in order of issue.
 pub(crate) fn sweep<T: Drop>(
     entries: &mut Entries<T>,
     numbers: &mut Numbers,

@@ -37,8 +37,7 @@ impl<C: Chain, B: Board> Running<C, B> {
         Ok(())
     }
 
-    /// Remembers that a block which came last can wait on, and so can its child if that came right
-    /// before it.
+    /// Marks a block that came last as quiet, and the one before it where that is its child.
     fn rest(&mut self, block: &Header)
         requires { AreBothOff self.old.board block.now }
         ensures { self.new ≡ self.old }
@@ -47,8 +46,8 @@ impl<C: Chain, B: Board> Running<C, B> {
         self.remembered = self.remembered.looked(rests);
     }
 
-    #[tactic(auto, using(crate::proofs::Logs::logs_nothing))]
     /// Asks a peer for a block, by a number of its own.
+    #[tactic(auto, using(crate::proofs::Logs::logs_nothing))]
     fn fetch(&mut self, peer: &NodeId, id: Id, log: &mut Lines) -> Result<(), Halt>
         requires { MayFetch self.old.queue id }
         ensures answer { Turns result self.new (numbered self.old (model.fetched peer.now id)).1 }

@@ -76,8 +76,8 @@ impl<C: Chain, B: Board> Running<C, B> {
         self.settle(log)
     }
 
-    /// Places a block as it comes where that would be the first thing to do, or else offers it to
-    /// the queue, and does all that this brings.
+    /// Takes a block that came, and settles. Where placing it would be the first step of settling,
+    /// it places it at once. Else it offers it to the queue.
     fn bring(
         &mut self,
         peer: &NodeId,
@@ -108,8 +108,8 @@ impl<C: Chain, B: Board> Running<C, B> {
         }
     }
 
-    #[tactic(auto, using(crate::proofs::Logs::logs_nothing))]
     /// Places a block that would be the first thing to do, and does all that this brings.
+    #[tactic(auto, using(crate::proofs::Logs::logs_nothing))]
     fn place_at_once(&mut self, block: &Header, bytes: &[u8], log: &mut Lines) -> Result<(), Halt>
         requires { model.IsNext self.old block.now }
         ensures answer { Turns result self.new (then_comes (placed C.rules B.answer self.old block.now bytes.now) (settled C.rules B.answer)).1 }
@@ -137,8 +137,8 @@ impl<C: Chain, B: Board> Running<C, B> {
         self.queue.forget_children(id);
     }
 
-    #[tactic(auto, using(crate::proofs::Logs::logs_nothing))]
     /// Offers a block to the queue, and asks for its parent where nothing is known of that.
+    #[tactic(auto, using(crate::proofs::Logs::logs_nothing))]
     fn offer(
         &mut self,
         peer: &NodeId,
@@ -263,8 +263,8 @@ impl<C: Chain, B: Board> Running<C, B> {
         self.polls.awaits(number, peer) && !self.queue.holds(number, peer)
     }
 
-    #[tactic(auto, using(crate::proofs::Logs::logs_nothing))]
     /// Holds a reply, and asks for its block where nothing is known of that.
+    #[tactic(auto, using(crate::proofs::Logs::logs_nothing))]
     fn hold(&mut self, number: u32, peer: &NodeId, id: Id, log: &mut Lines) -> Result<(), Halt>
         requires { model.waits_for self.old number peer.now ≡ true }
         ensures answer { Turns result self.new (model.vote_held self.old number peer.now id).1 }

@@ -135,8 +135,8 @@ impl<C: Chain, B: Board> Running<C, B> {
         }
     }
 
-    #[tactic(auto, using(crate::proofs::Logs::logs_nothing))]
     /// Issues a block, if it is valid, and then serves it.
+    #[tactic(auto, using(crate::proofs::Logs::logs_nothing))]
     fn issue(&mut self, block: &Header, bytes: Bytes, log: &mut Lines) -> Result<(), Halt>
         requires may { MayIssue self.old.board block.now }
         requires apart { IsApart self.old.board self.old.queue.waiting block.now.id }
