@@ -103,7 +103,7 @@ impl<C: Chain, B: Board> Engine<C, B> {
     }
 
     /// Gives one event to a node that bootstraps. At a stop it drops the node.
-    #[tactic(auto, using(snow_node::proofs::Logs::logs_nothing))]
+    #[tactic(auto, using(snow_node::proofs::Logs::logs_nothing, crate::proofs::Staged::stopped, crate::proofs::Staged::stop_logged))]
     fn catch_up(
         &mut self,
         frame: u64,
@@ -122,9 +122,13 @@ impl<C: Chain, B: Board> Engine<C, B> {
                 return Ok(());
             }
         };
-        let stage = node.step(frame, &event, log)?;
-        drop(mem::replace(&mut self.stage, stage));
-        Ok(())
+        match node.step(frame, &event, log) {
+            Ok(stage) => {
+                drop(mem::replace(&mut self.stage, stage));
+                Ok(())
+            }
+            Err(stop) => Err(stop),
+        }
     }
 
     /// Drops the engine. A call of it is one step in a proof, where dropping a whole node is many.
