@@ -67,7 +67,7 @@ returns-in-Err-clause-end g c =
     let goes = rw (c.loop-room.invariant.task, fed) at c.in-Err.ensures.goes in
     stopped_is g.C.Chain.rules g.B.Board.answer c.args.self.now.runner.task (g.S.Source.left c.args.source.now) (g.S.Source.left c.loop-room.source) (g.S.Source.left c.read_from.new.source) (g.O.Sink.written c.args.out.now) (g.O.Sink.written c.loop-room.out) (g.O.Sink.written c.work.new.out)
     c.loop-room.self.runner.engine c.work.new.self.runner.engine c.loop-room.self.decoder c.work.new.self.decoder c.loop-room.room c.loop-room.invariant.served
-    took.piece took.consumed (taken_few c.in-Ok.taken c.loop-room.room took.piece took.long c.in-Ok.ensures.few) c.work.new.self.runner.end goes
+    took.piece took.consumed (taken_few c.in-Ok.taken c.loop-room.room took.piece took.long c.in-Ok.ensures.few) c.in-Err.end goes
 
 pub returns-in-Err-clause-output : goal.returns-in-Err-clause-output
 returns-in-Err-clause-output g c =
@@ -77,7 +77,7 @@ returns-in-Err-clause-output g c =
     let lines = rw (c.loop-room.invariant.task, fed) at c.in-Err.ensures.lines in
     stopped_wrote g.C.Chain.rules g.B.Board.answer c.args.self.now.runner.task (g.S.Source.left c.args.source.now) (g.S.Source.left c.loop-room.source) (g.S.Source.left c.read_from.new.source) (g.O.Sink.written c.args.out.now) (g.O.Sink.written c.loop-room.out) (g.O.Sink.written c.work.new.out)
     c.loop-room.self.runner.engine c.work.new.self.runner.engine c.loop-room.self.decoder c.work.new.self.decoder c.loop-room.room c.loop-room.invariant.served
-    took.piece took.consumed (taken_few c.in-Ok.taken c.loop-room.room took.piece took.long c.in-Ok.ensures.few) c.work.new.self.runner.end goes lines
+    took.piece took.consumed (taken_few c.in-Ok.taken c.loop-room.room took.piece took.long c.in-Ok.ensures.few) c.in-Err.end goes lines
 
 pub loop-room-preserved : goal.loop-room-preserved
 loop-room-preserved g c =

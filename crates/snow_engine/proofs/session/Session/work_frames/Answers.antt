@@ -9,17 +9,19 @@ pub returns-in_err-work_next-clause-goes : goal.returns-in_err-work_next-clause-
 returns-in_err-work_next-clause-goes g c =
     let goes = rw c.loop.invariant.task at c.in_err-work_next.ensures.goes in
     let lines = rw c.loop.invariant.task at c.in_err-work_next.ensures.lines in
-    rw (err_from_is_err_and c.from_residual.result c.from_residual.ensures.1).1 (goes_all g.C.Chain.rules g.B.Board.answer c.args.self.now.runner.task (stand_of c.args.self.now.runner.engine) (stand_of c.loop.self.runner.engine) c.args.self.now.decoder c.loop.self.decoder
+    let p = err_from_is_err_and c.from_residual.result c.from_residual.ensures.1 in
+    rw (p.1, p.2) (goes_all g.C.Chain.rules g.B.Board.answer c.args.self.now.runner.task (stand_of c.args.self.now.runner.engine) (stand_of c.loop.self.runner.engine) c.args.self.now.decoder c.loop.self.decoder
     (g.O.Sink.written c.args.out.now) c.args.self.now.page (g.O.Sink.written c.loop.out) c.loop.self.page (g.O.Sink.written c.work_next.new.out) c.work_next.new.self.page c.loop.invariant.gone
-    c.work_next.new.self.runner.end c.work_next.new.self.runner.engine c.work_next.new.self.runner.engine c.work_next.new.self.decoder c.work_next.new.self.decoder goes lines)
+    c.in_err-work_next.field-0.0 c.work_next.new.self.runner.engine c.work_next.new.self.runner.engine c.work_next.new.self.decoder c.work_next.new.self.decoder goes lines)
 
 pub returns-in_err-work_next-clause-lines : goal.returns-in_err-work_next-clause-lines
 returns-in_err-work_next-clause-lines g c =
     let goes = rw c.loop.invariant.task at c.in_err-work_next.ensures.goes in
     let lines = rw c.loop.invariant.task at c.in_err-work_next.ensures.lines in
-    rw (err_from_is_err_and c.from_residual.result c.from_residual.ensures.1).1 (gathers_all g.C.Chain.rules g.B.Board.answer c.args.self.now.runner.task (stand_of c.args.self.now.runner.engine) (stand_of c.loop.self.runner.engine) c.args.self.now.decoder c.loop.self.decoder
+    let p = err_from_is_err_and c.from_residual.result c.from_residual.ensures.1 in
+    rw (p.1, p.2) (gathers_all g.C.Chain.rules g.B.Board.answer c.args.self.now.runner.task (stand_of c.args.self.now.runner.engine) (stand_of c.loop.self.runner.engine) c.args.self.now.decoder c.loop.self.decoder
     (g.O.Sink.written c.args.out.now) c.args.self.now.page (g.O.Sink.written c.loop.out) c.loop.self.page (g.O.Sink.written c.work_next.new.out) c.work_next.new.self.page c.loop.invariant.gone
-    c.work_next.new.self.runner.end c.work_next.new.self.runner.engine c.work_next.new.self.decoder goes lines)
+    c.in_err-work_next.field-0.0 c.work_next.new.self.runner.engine c.work_next.new.self.decoder goes lines)
 
 pub loop-smaller : goal.loop-smaller
 loop-smaller g c =
