@@ -6,10 +6,10 @@ use Rattle.snow_drill.specs.Made.{voted_by}
 use Rattle.snow_drill.proofs.Played.{follows_vote}
 use Rattle.snow_drill.proofs.player.Player.vote.Goals as goal
 
-pub returns-clause-follows : goal.returns-clause-follows
-returns-clause-follows g c =
+pub returns : goal.returns
+returns g c =
     let voted : c.as_bytes-2.result.now ≡ voted_by c.args.self.now.made c.args.self.now.account.tally.tip (following c.args.self.now.generator) = search rules in
-    on_ok_weaker c.make_vote.result
-    (follows_vote g.E.Driven.step c.args.self.now c.make_vote.new.self c.args.number c.args.node.now c.as_bytes.result.now c.pick-picked.new.self c.as_bytes-2.result.now
+    on_ok_weaker c.make.result
+    (follows_vote g.E.Driven.step c.args.self.now c.make.new.self c.args.number c.args.node.now c.as_bytes.result.now c.pick-picked.new.self c.as_bytes-2.result.now
     c.as_bytes.ensures.bytes c.pick-picked.ensures.state voted)
-    c.make_vote.ensures.follows
+    c.make.ensures
