@@ -1,3 +1,4 @@
 pub mod Played
+pub mod Spelled
 pub mod Examples
 pub mod Firsts

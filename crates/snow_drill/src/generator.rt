@@ -62,10 +62,18 @@ impl Generator {
     {
         let mut list = Vec::with_capacity(alloc, n as usize)?;
         for _ in 0..n {
-            let mut word = [0; 8];
-            BigEndian::write_u64(&mut word, self.next());
-            list.push(word)?;
+            list.push(spelled(self.next()))?;
         }
         Ok(list)
     }
+}
+
+// A value in eight bytes, the highest first.
+#[tactic(auto, using(crate::proofs::Spelled::read_back))]
+fn spelled(value: u64) -> [u8; 8]
+    ensures { big_number 8 result ≡ value }
+{
+    let mut word = [0; 8];
+    BigEndian::write_u64(&mut word, value);
+    word
 }
