@@ -1,9 +1,9 @@
 ghost use Rattle.snow_issue.specs.Known.{Knows};
 
 use snow_base::{Bytes, Header, Id, NodeId};
+use snow_board::Board;
 use snow_flake::{Params, Snowball};
 use snow_issue::{Offered, Queue, Waiting, Work};
-use snow_board::Board;
 use snow_plain::PlainBoard;
 use std::alloc::{AllocError, Global};
 use std::time::Instant;

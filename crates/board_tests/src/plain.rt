@@ -2,8 +2,8 @@ ghost use Rattle.std.specs.Prelude.{◌≡◌, ◌≤◌, IfOk};
 
 use crate::tools::{add_all, first};
 use snow_base::{Bag, Id};
-use snow_flake::{Params, Snowball, Snowflake};
 use snow_board::Board;
+use snow_flake::{Params, Snowball, Snowflake};
 use snow_plain::PlainBoard;
 use std::alloc::{AllocError, Global};
 use std::test::Fail;

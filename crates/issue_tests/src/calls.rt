@@ -1,7 +1,7 @@
 //! The calls of a queue with small numbers for identifiers, each with what it answers.
 use snow_base::{Bytes, Header, Id, NodeId};
-use snow_issue::{Held, Offered, Queue, Waiting, Work};
 use snow_board::Board;
+use snow_issue::{Held, Offered, Queue, Waiting, Work};
 use std::alloc::{AllocError, Global};
 
 // What a call answers: a letter, and a block or 0.

@@ -2,9 +2,9 @@ use crate::calls::{
     NOTHING, Tale, ask, bubble, close, count, go, hold, is_next, issue, named, offer, rest, step,
     step_known, tale, told_flag,
 };
+use snow_board::Board;
 use snow_flake::{Params, Snowball};
 use snow_issue::Queue;
-use snow_board::Board;
 use snow_plain::PlainBoard;
 use std::alloc::{AllocError, Global};
 use std::test::Fail;

@@ -5,9 +5,9 @@ ghost use Rattle.snow_audit.specs.Answering.{HasFault, IsAnswer, IsRead, IsTold}
 
 use crate::auditor::Auditor;
 use snow_base::Source;
+use snow_board::Board;
 use snow_chain::Chain;
 use snow_engine::End;
-use snow_board::Board;
 use std::alloc::Global;
 
 /// What an audit finds. Lines are counted from 1 over the whole run.

@@ -11,9 +11,9 @@ ghost use Rattle.snow_audit.specs.Following.{IsKept, Took, at_end, between, owed
 use crate::auditing::AuditEnd;
 use crate::following::Follower;
 use snow_base::Source;
+use snow_board::Board;
 use snow_chain::Chain;
 use snow_engine::{BadKind, End, LIMIT};
-use snow_board::Board;
 use snow_wire::{Decoder, ReadFault};
 use std::alloc::Global;
 

@@ -9,10 +9,10 @@ ghost use Rattle.snow_audit.specs.Following.{IsKept, Moves, at_end, between, eve
 
 use crate::auditing::AuditEnd;
 use crate::sheet::Sheet;
+use snow_board::Board;
 use snow_chain::Chain;
 use snow_engine::{End, Runner, Task};
 use snow_lines::{Line, SkipKind};
-use snow_board::Board;
 use snow_wire::View;
 use std::alloc::Global;
 

@@ -15,10 +15,10 @@ use crate::made::Made;
 use crate::player::Player;
 use crate::summary::summary;
 use snow_base::{Bytes, Id, NodeId, Nodes, Nums, Sink, write_whole};
+use snow_board::Board;
 use snow_chain::TallyChain;
 use snow_engine::{End, Engine, Task};
 use snow_lines::Lines;
-use snow_board::Board;
 use snow_wire::Start;
 use std::alloc::{AllocError, Global};
 

@@ -2,10 +2,10 @@ ghost use Rattle.std.specs.Prelude.{◌≡◌, [], Ok, OnOk};
 ghost use Rattle.snow_engine.specs.Node.{step};
 ghost use Rattle.snow_wire.specs.Viewed.{as_event};
 
+use snow_board::Board;
 use snow_chain::Chain;
 use snow_engine::Engine;
 use snow_lines::Lines;
-use snow_board::Board;
 use snow_wire::View;
 use std::alloc::AllocError;
 

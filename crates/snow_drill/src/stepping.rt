@@ -13,7 +13,7 @@ use std::mem;
 impl<E: Driven> Player<E> {
     // The next event. Its lines go to a log that is empty before. A stop, which none comes to, and a
     // count past 64 bits are told as want of memory.
-        fn event(&mut self, event: View<'_>, log: &mut Lines) -> Result<(), AllocError>
+    fn event(&mut self, event: View<'_>, log: &mut Lines) -> Result<(), AllocError>
         requires { log.old ≡ [] }
         ensures follows { OnOk result (Follows self.old self.new (λ d. model.with_event E.step d (as_event event.entry))) }
         ensures lines { OnOk result ((d : model.Drill E) → Plays self.old d → log.new ≡ (model.comes E.step d (as_event event.entry)).0) }

@@ -14,11 +14,11 @@ ghost use Rattle.snow_wire.specs.Viewed.{as_event};
 
 use crate::stop::EngineStop;
 use snow_base::{Header, Ids};
+use snow_board::Board;
 use snow_chain::Chain;
 use snow_flake::Params;
 use snow_lines::{DropWhy, Line, Lines, SkipKind};
 use snow_node::{Halt, admit, apply_votes, opposition, tell, write};
-use snow_board::Board;
 use snow_wire::{Start, View};
 use std::alloc::Global;
 use std::marker::Model;

@@ -13,11 +13,11 @@ use crate::stage::{Node, Stage};
 use crate::stop::EngineStop;
 use crate::task::Task;
 use snow_base::Numbers;
+use snow_board::Board;
 use snow_chain::Chain;
 use snow_flake::{ParamFault, Params};
 use snow_lines::Lines;
 use snow_node::{Running, roster_of};
-use snow_board::Board;
 use snow_sample::{Roster, Words};
 use snow_wire::{Start, View};
 use std::alloc::Global;
@@ -79,12 +79,7 @@ impl<C: Chain, B: Board> Engine<C, B> {
     /// all lines before the stop, after `Memory` a front of the event's lines.
     /// Rule: AvalancheGo, snow/engine/snowman.
     #[tactic(auto, using(crate::proofs::Staged::turned, crate::proofs::Staged::halted, crate::proofs::Staged::logged))]
-    pub fn step(
-        &mut self,
-        frame: u64,
-        event: View<'_>,
-        log: &mut Lines,
-    ) -> Result<(), EngineStop>
+    pub fn step(&mut self, frame: u64, event: View<'_>, log: &mut Lines) -> Result<(), EngineStop>
         ensures answer { Steps result self.new (model.step C.rules B.answer self.old frame (as_event event.entry)).1 }
         ensures lines { Logs result log.old log.new (model.step C.rules B.answer self.old frame (as_event event.entry)).0 }
     {
@@ -104,12 +99,7 @@ impl<C: Chain, B: Board> Engine<C, B> {
 
     /// Gives one event to a node that bootstraps. At a stop it drops the node.
     #[tactic(auto, using(snow_node::proofs::Logs::logs_nothing, crate::proofs::Staged::stopped, crate::proofs::Staged::stop_logged))]
-    fn catch_up(
-        &mut self,
-        frame: u64,
-        event: View<'_>,
-        log: &mut Lines,
-    ) -> Result<(), EngineStop>
+    fn catch_up(&mut self, frame: u64, event: View<'_>, log: &mut Lines) -> Result<(), EngineStop>
         requires { model.is_booting self.old ≡ true }
         ensures answer { Steps result self.new (model.step C.rules B.answer self.old frame (as_event event.entry)).1 }
         ensures lines { Logs result log.old log.new (model.step C.rules B.answer self.old frame (as_event event.entry)).0 }

@@ -6,9 +6,9 @@ ghost use Rattle.snow_engine.specs.Serving.{stand_of, told, Opens, Stands, LogsF
 use crate::end::{BadKind, End};
 use crate::engine::Engine;
 use crate::task::Task;
+use snow_board::Board;
 use snow_chain::Chain;
 use snow_lines::{Lines, SkipKind};
-use snow_board::Board;
 use snow_wire::{Fault, View};
 use std::alloc::Global;
 

@@ -10,8 +10,8 @@ use crate::end::End;
 use crate::session::Session;
 use crate::task::Task;
 use snow_base::{Sink, Source};
-use snow_chain::Chain;
 use snow_board::Board;
+use snow_chain::Chain;
 use snow_wire::ReadFault;
 use std::alloc::Global;
 

@@ -12,9 +12,9 @@ use crate::end::{BadKind, End};
 use crate::runner::Runner;
 use crate::task::Task;
 use snow_base::{Failed, Sink};
+use snow_board::Board;
 use snow_chain::Chain;
 use snow_lines::{Line, Lines, Page, SkipKind};
-use snow_board::Board;
 use snow_wire::Decoder;
 use std::alloc::{AllocError, Global};
 

@@ -14,8 +14,8 @@ use crate::replies::Replies;
 use crate::waiting::WaitingList;
 use crate::work::Held;
 use snow_base::{Header, Id};
-use snow_lineup::Mark;
 use snow_board::Board;
+use snow_lineup::Mark;
 
 // What a look at a waiting block tells; nothing where it is hopeless.
 fn look<B: Board>(waiting: &WaitingList, gets: &Gets, board: &B, block: &Header) -> Option<Mark>

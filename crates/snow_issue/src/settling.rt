@@ -13,8 +13,8 @@ use crate::looking;
 use crate::offering::is_on;
 use crate::queue::Queue;
 use crate::work::{Held, Waiting, Work};
-use snow_lineup::Mark;
 use snow_board::Board;
+use snow_lineup::Mark;
 
 impl Queue {
     /// How many blocks wait.

@@ -13,9 +13,9 @@ ghost use Rattle.snow_node.specs.Telling.{with_decisions};
 
 use crate::telling;
 use snow_base::{Bag, Header, Id};
+use snow_board::Board;
 use snow_chain::Chain;
 use snow_lines::DropWhy;
-use snow_board::Board;
 use std::alloc::AllocError;
 
 /// The most blocks that may be pending.

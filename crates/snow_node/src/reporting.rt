@@ -5,8 +5,8 @@ ghost use Rattle.snow_node.specs.Stepping.{Tells, LogsFront};
 
 use crate::stop::Halt;
 use snow_base::Id;
-use snow_lines::{DropWhy, Line, Lines};
 use snow_board::{Board, Decision};
+use snow_lines::{DropWhy, Line, Lines};
 use std::alloc::AllocError;
 
 /// Appends a line to the log. On want of memory it returns `Halt::Memory`, and the log stays as it

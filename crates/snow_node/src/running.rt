@@ -29,12 +29,12 @@ use crate::reporting::write;
 use crate::running::remembering::Remembered;
 use crate::stop::Halt;
 use snow_base::{Id, NodeId, Nodes, Numbers, Nums};
+use snow_board::Board;
 use snow_chain::Chain;
 use snow_flake::Params;
 use snow_getter::Getter;
 use snow_issue::{Queue, SpareBytes};
 use snow_lines::{Line, Lines, SkipKind};
-use snow_board::Board;
 use snow_poll::Polls;
 use snow_sample::{Node, Roster, RosterFault, Words};
 use snow_wire::{Brought, Named, Sender, View, nodes_of, words_of};
@@ -211,8 +211,7 @@ impl<C: Chain, B: Board> Running<C, B> {
         ensures memory { OnErr result (result ≡ Err Halt.Memory) }
         ensures lines { Tells result log.old log.new (answer self.now.served (preferred B.answer self.now.board) (as_event question.entry)) }
     {
-        self.served
-            .answer(self.board.preference(), &question, log)?;
+        self.served.answer(self.board.preference(), &question, log)?;
         Ok(())
     }
 

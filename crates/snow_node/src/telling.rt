@@ -2,8 +2,8 @@ ghost use Rattle.std.specs.Prelude.{◌≡◌};
 ghost use Rattle.snow_node.specs.Matching.{MayFollow, MayTell};
 ghost use Rattle.snow_node.specs.Telling.{with_decision, with_decisions};
 
-use snow_chain::Chain;
 use snow_board::Decision;
+use snow_chain::Chain;
 
 /// Tells the chain each decision, in order: it accepts or rejects the block. It takes no memory.
 /// Rule: AvalancheGo, snow/consensus/snowman.

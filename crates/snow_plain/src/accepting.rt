@@ -24,7 +24,12 @@ fn is_rejected(last: &Id, child: &Id, told: &[Decision], block: &Header) -> bool
 
 // Rejects, in order of issue, the pending blocks that neither are the child nor descend from it:
 // those whose parent is the last accepted block or is rejected.
-fn reject_others(pending: &[Pending<Conflict>], last: &Id, child: &Id, decisions: &mut Vec<Decision>)
+fn reject_others(
+    pending: &[Pending<Conflict>],
+    last: &Id,
+    child: &Id,
+    decisions: &mut Vec<Decision>,
+)
     requires grown { IsGrown last.now (reverse (blocks_of pending.now)) }
     requires room { vec_len decisions.old + length (outsiders pending.now child.now) ≤ vec_capacity decisions.old }
     ensures told { decisions.new.items ≡ decisions.old.items ++ map rejects (outsiders pending.now child.now) }

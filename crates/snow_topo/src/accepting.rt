@@ -10,8 +10,8 @@ use crate::load::Load;
 use crate::spare::SpareTrees;
 use crate::winning::next_child;
 use snow_base::Id;
-use snow_flake::{Params, Rule};
 use snow_board::Decision;
+use snow_flake::{Params, Rule};
 use snow_tree::Tree;
 
 // Tells that these were rejected.

@@ -13,9 +13,9 @@ use crate::load::Load;
 use crate::settling::settle;
 use crate::spare::SpareTrees;
 use snow_base::{Bag, Steps};
+use snow_board::Decision;
 use snow_climb::Ladder;
 use snow_flake::{Params, Rule};
-use snow_board::Decision;
 use snow_tree::Tree;
 use std::sync::ledger::Ledger;
 

@@ -5,8 +5,8 @@ ghost use Rattle.snow_topo.specs.View.{view, AreFit};
 use crate::accepting::accept_next;
 use crate::load::Load;
 use crate::spare::SpareTrees;
-use snow_flake::{Params, Rule};
 use snow_board::Decision;
+use snow_flake::{Params, Rule};
 use snow_tree::Tree;
 
 /// Accepts children of the last accepted block while decided counters lead to one, and appends the

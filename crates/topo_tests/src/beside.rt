@@ -2,8 +2,8 @@ ghost use Rattle.std.specs.Prelude.{◌≡◌};
 
 use crate::tools::{Draws, add, holds, named, offer, offer_all, record, record_each, votes_for};
 use snow_base::{Bag, Id};
-use snow_flake::{Params, Snowball, Snowflake};
 use snow_board::Board;
+use snow_flake::{Params, Snowball, Snowflake};
 use snow_plain::PlainBoard;
 use snow_topo::Topo;
 use std::alloc::{AllocError, Global};

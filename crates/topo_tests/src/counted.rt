@@ -3,8 +3,8 @@ ghost use Rattle.snow_base.specs.Votes.{total_count};
 
 use crate::tools::{chain, named, offer_all, record, votes_for};
 use snow_base::{Bag, Steps};
-use snow_flake::{Params, Rule, Snowball};
 use snow_board::Board;
+use snow_flake::{Params, Rule, Snowball};
 use snow_topo::{Topo, replay_counted};
 use std::alloc::{AllocError, Global};
 use std::marker::Brand;

@@ -13,10 +13,10 @@ use crate::running::Running;
 use crate::running::supplying::serve_decisions;
 use crate::stop::Halt;
 use snow_base::{Bag, Id, NodeId};
+use snow_board::{Board, Decision};
 use snow_chain::Chain;
 use snow_issue::Queue;
 use snow_lines::Lines;
-use snow_board::{Board, Decision};
 use snow_poll::Answered;
 
 impl<C: Chain, B: Board> Running<C, B> {

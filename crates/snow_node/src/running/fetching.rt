@@ -10,9 +10,9 @@ ghost use Rattle.snow_node.specs.Stepping.{Tells, Turns};
 use crate::running::Running;
 use crate::stop::Halt;
 use snow_base::{Header, Id, NodeId};
+use snow_board::Board;
 use snow_chain::Chain;
 use snow_lines::{Line, Lines};
-use snow_board::Board;
 
 impl<C: Chain, B: Board> Running<C, B> {
     /// Asks a peer for the parent of a block that came last and waits, if the parent is wanted.

@@ -14,10 +14,10 @@ use crate::running::Running;
 use crate::running::remembering::Remembered;
 use crate::stop::Halt;
 use snow_base::{Bytes, Header, Id, NodeId};
+use snow_board::Board;
 use snow_chain::Chain;
 use snow_issue::{Held, Offered};
 use snow_lines::{DropWhy, Line, Lines, SkipKind};
-use snow_board::Board;
 use snow_poll::Answered;
 use std::alloc::AllocError;
 

@@ -6,10 +6,10 @@ ghost use Rattle.snow_node.specs.Stepping.{Answers, Tells, Turns};
 
 use crate::running::Running;
 use crate::stop::Halt;
+use snow_board::Board;
 use snow_chain::Chain;
 use snow_flake::Params;
 use snow_lines::{Line, Lines, QueryWhy};
-use snow_board::Board;
 use snow_sample::{Draws, Roster, SampleFault, Words};
 
 /// The most polls that run at a time.

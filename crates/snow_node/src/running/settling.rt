@@ -19,10 +19,10 @@ use crate::running::remembering::Remembered;
 use crate::running::supplying::verify_and_issue;
 use crate::stop::Halt;
 use snow_base::{Bytes, Header, Id};
+use snow_board::Board;
 use snow_chain::Chain;
 use snow_issue::{Held, Queue, Work};
 use snow_lines::{DropWhy, Lines};
-use snow_board::Board;
 
 impl<C: Chain, B: Board> Running<C, B> {
     /// Does all that is to do with the blocks and replies that wait.

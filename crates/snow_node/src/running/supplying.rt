@@ -7,10 +7,10 @@ ghost use Rattle.snow_node.specs.Supplying as model;
 ghost use Rattle.snow_node.specs.Supplying.{Serves};
 
 use snow_base::{Bytes, Header};
+use snow_board::{Board, Decision};
 use snow_chain::Chain;
 use snow_getter::Getter;
 use snow_issue::SpareBytes;
-use snow_board::{Board, Decision};
 use std::alloc::AllocError;
 
 /// Issues a block, if it is valid, then serves it, and returns whether it did. On want of memory

@@ -10,12 +10,11 @@ pub loop-preserved : goal.loop-preserved
 loop-preserved c =
     let number : big_number 8 c.spelled.result ≡ following (last_of c.loop.counter c.args.self.now) =
     c.spelled.ensures ∙ c.next.ensures.value ∙ ap following c.loop.invariant.1 in
-    let state : c.next.new.self ≡ following (last_of c.loop.counter c.args.self.now) = c.next.ensures.state ∙ ap following c.loop.invariant.1 in
-    (
+    let state : c.next.new.self ≡ following (last_of c.loop.counter c.args.self.now) = c.next.ensures.state ∙ ap following c.loop.invariant.1 in (
       ap (map (big_number 8)) c.in_ok-push.ensures.items
-      ∙ map-append (big_number 8) c.loop.list.items (c.spelled.result ∷ [])
-      ∙ ap (λ (front : List ℕ). front ++ big_number 8 c.spelled.result ∷ []) c.loop.invariant.0
-      ∙ ap (λ (n : ℕ). values c.loop.counter c.args.self.now ++ n ∷ []) number
-      ∙ sym (values_more c.loop.counter c.args.self.now),
+          ∙ map-append (big_number 8) c.loop.list.items (c.spelled.result ∷ [])
+          ∙ ap (λ (front : List ℕ). front ++ big_number 8 c.spelled.result ∷ []) c.loop.invariant.0
+          ∙ ap (λ (n : ℕ). values c.loop.counter c.args.self.now ++ n ∷ []) number
+          ∙ sym (values_more c.loop.counter c.args.self.now),
       state ∙ sym (last_more c.loop.counter c.args.self.now),
     )
