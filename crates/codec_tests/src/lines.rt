@@ -122,8 +122,8 @@ fn is_skips(text: &[u8]) -> bool {
 
 #[test]
 fn a_failing_sink_takes_a_front(rt: HostRuntime) -> Result<(), Fail> {
-    // A skip comes in four writes: its name, its number, its kind and the newline.
-    let mut sink = failing_at(rt.alloc(), 43, 1000)?;
+    // A skip comes in two writes: its name with its number, and its kind with the newline.
+    let mut sink = failing_at(rt.alloc(), 22, 1000)?;
     assert!(rt; prints_skips(&mut sink));
     assert!(rt; !prints_skip(&mut sink, 1, SkipKind::Tag));
     assert!(rt; is_skips(sink.bytes()));

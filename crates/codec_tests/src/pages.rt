@@ -103,8 +103,8 @@ fn is_thousand(text: &[u8]) -> bool {
 fn a_thousand_lines_come_in_two_writes(rt: HostRuntime) -> Result<(), Fail> {
     let (mut page, mut sink) = page_over(rt.alloc(), 3, 72_000)?;
     assert!(rt; gathers_many(&mut page, &mut sink, PAGE_LINES, 0));
-    // A word is one piece: the name of the next line is on the first page, and its identifier isn't.
-    assert!(rt; gathers_many(&mut page, &mut sink, 1000 - PAGE_LINES, 65_526));
+    // A line that names a block alone is one piece: none of it is on the first page.
+    assert!(rt; gathers_many(&mut page, &mut sink, 1000 - PAGE_LINES, 65_520));
     assert!(rt; flushes(&mut page, &mut sink));
     assert!(rt; is_thousand(sink.bytes()));
     drop(page);

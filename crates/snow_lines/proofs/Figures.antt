@@ -7,6 +7,10 @@ use Rattle.std.proofs.lemmas.List.{drop-set, drop_all, take_all}
 pub decimal_short : (n : ℕ) → n < 2 ^ 64 → length (decimal n) ≤ 20
 decimal_short n h = length-decimal-le 20 n (omega arith) (omega (arith, h)) h
 
+-- and one of 32 bits
+pub decimal_shorter : (n : ℕ) → n < 2 ^ 32 → length (decimal n) ≤ 10
+decimal_shorter n h = length-decimal-le 10 n (omega arith) (omega (arith, h)) (omega (arith, h))
+
 -- a mark was written before the digits that end a buffer of n bytes
 pub mark_before : (old buf digits : List ℕ) (n start mark k : ℕ) → 0 < start → start + length digits ≡ n → length buf ≡ n → length old ≡ n → n ≤ start - 1 + k
     → drop start buf ≡ digits ++ drop n old → take k (drop (start - 1) (slice_set buf (start - 1) mark)) ≡ mark ∷ digits

@@ -5,6 +5,7 @@ pub mod Fielded
 pub mod Figures
 pub mod Joined
 pub mod Named
+pub mod Placed
 pub mod Printed
 pub mod Shown
 pub mod Sixteen

@@ -1,4 +1,4 @@
-ghost use Rattle.std.specs.Prelude.{◌≡◌, ◌≤◌, ℕ, List, [], ◌++◌, length, OnOk, OnErr};
+ghost use Rattle.std.specs.Prelude.{◌≡◌, ◌≤◌, ℕ, List, [], ◌++◌, length, take, OnOk, OnErr};
 ghost use Rattle.snow_base.specs.Outside.{AppendsFront, HasCause};
 ghost use Rattle.snow_lines.specs.Gathered.{Gathers};
 
@@ -19,6 +19,16 @@ pub trait Gather {
         ensures ok { OnOk result (Gathers (K.written sink.old) (waiting self.old) (K.written sink.new) (waiting self.new) piece.now) }
         ensures err { OnErr result (AppendsFront (K.written sink.old) (K.written sink.new) (waiting self.old ++ piece.now)) }
         ensures cause { HasCause (K.faults sink.old) (K.faults sink.new) result };
+
+    /// Appends the first `len` bytes of a piece of at most 256 bytes, as `put` does. It may copy
+    /// the whole piece, so that its length is known where that of the front isn't.
+    /// Rule: this project's own.
+    fn put_front<K: Sink>(&mut self, piece: &[u8], len: usize, sink: &mut K) -> Result<(), Failed>
+        requires piece { length piece.now ≤ 256 }
+        requires len { len ≤ length piece.now }
+        ensures ok { OnOk result (Gathers (K.written sink.old) (waiting self.old) (K.written sink.new) (waiting self.new) (take len piece.now)) }
+        ensures err { OnErr result (AppendsFront (K.written sink.old) (K.written sink.new) (waiting self.old ++ take len piece.now)) }
+        ensures cause { HasCause (K.faults sink.old) (K.faults sink.new) result };
 }
 
 /// Where nothing waits: it writes each piece as it comes.
@@ -32,5 +42,10 @@ impl Gather for AtOnce {
     #[tactic(auto, using(crate::proofs::Waiting::gathers_through))]
     fn put<K: Sink>(&mut self, piece: &[u8], sink: &mut K) -> Result<(), Failed> {
         write_whole(sink, piece)
+    }
+
+    #[tactic(auto, using(crate::proofs::Waiting::gathers_through))]
+    fn put_front<K: Sink>(&mut self, piece: &[u8], len: usize, sink: &mut K) -> Result<(), Failed> {
+        write_whole(sink, &piece[..len])
     }
 }

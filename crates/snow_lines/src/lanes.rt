@@ -9,6 +9,7 @@ use std::simd::prelude::*;
 const DIGITS: [u8; 16] = *b"0123456789abcdef";
 
 /// Returns the digit of the high four bits of each byte.
+#[inline(always)]
 fn high_digits(bytes: u8x16) -> u8x16
     ensures { result ≡ map (λ b. slice_index lower_digits (b / 16)) bytes }
 {
@@ -16,6 +17,7 @@ fn high_digits(bytes: u8x16) -> u8x16
 }
 
 /// Returns the digit of the low four bits of each byte.
+#[inline(always)]
 fn low_digits(bytes: u8x16) -> u8x16
     ensures { result ≡ map (λ b. slice_index lower_digits (b % 16)) bytes }
 {
@@ -23,6 +25,7 @@ fn low_digits(bytes: u8x16) -> u8x16
 }
 
 /// Returns the digits of sixteen bytes: those of the first eight, and those of the others.
+#[inline(always)]
 fn digits_of(bytes: u8x16) -> (u8x16, u8x16)
     ensures digits { result.0 ++ result.1 ≡ encode_lower bytes }
     ensures front { length result.0 ≡ 16 }
@@ -43,6 +46,7 @@ fn digits_of(bytes: u8x16) -> (u8x16, u8x16)
 }
 
 /// Writes the lanes over a slice of just their length.
+#[inline(always)]
 fn put(lanes: u8x16, place: &mut [u8])
     requires { length place.old ≡ 16 }
     ensures { place.new ≡ lanes }
@@ -53,6 +57,7 @@ fn put(lanes: u8x16, place: &mut [u8])
 /// Writes the digits of 16 bytes over a slice of 32 bytes.
 /// Rule: this project's own.
 #[tactic(auto, using(crate::proofs::Sixteen::whole))]
+#[inline(always)]
 pub fn write_sixteen(bytes: &[u8], digits: &mut [u8])
     requires bytes { length bytes.now ≡ 16 }
     requires digits { length digits.old ≡ 32 }
@@ -65,6 +70,7 @@ pub fn write_sixteen(bytes: &[u8], digits: &mut [u8])
 }
 
 /// Writes the last eight lanes over a slice of just their length.
+#[inline(always)]
 fn put_last(lanes: u8x16, place: &mut [u8])
     requires { length place.old ≡ 8 }
     ensures { place.new ≡ drop 8 lanes }
@@ -75,6 +81,7 @@ fn put_last(lanes: u8x16, place: &mut [u8])
 
 /// Writes the digits of the last four of 16 bytes over a slice of 8 bytes.
 /// Rule: this project's own.
+#[inline(always)]
 pub fn write_last_four(bytes: &[u8], digits: &mut [u8])
     requires bytes { length bytes.now ≡ 16 }
     requires digits { length digits.old ≡ 8 }

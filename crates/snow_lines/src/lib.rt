@@ -12,6 +12,7 @@ mod part;
 mod printing;
 mod reading;
 mod text;
+mod whole;
 mod why;
 mod words;
 

@@ -48,6 +48,7 @@ impl Page {
     /// front of what waited and of the line was written then, and the contract leaves open what
     /// waits.
     /// Rule: this project's own.
+    #[inline(always)]
     pub fn print<K: Sink>(&mut self, line: &Line, sink: &mut K) -> Result<(), Failed>
         ensures ok { OnOk result (Gathers (K.written sink.old) self.old (K.written sink.new) self.new (text line.now)) }
         ensures err { OnErr result (AppendsFront (K.written sink.old) (K.written sink.new) (self.old ++ text line.now)) }
@@ -56,10 +57,26 @@ impl Page {
         put_line(self, line, sink)
     }
 
-    /// Appends lines, one after another, as `print` does, and fails as it does.
+    /// Appends lines, one after another, as `print` does, and fails as it does. Its test whether
+    /// there is a line stands where it is called, since most frames have none.
     /// Rule: this project's own.
     #[tactic(auto, using(crate::proofs::Waiting::gathers_none))]
+    #[inline(always)]
     pub fn print_all<K: Sink>(&mut self, lines: &[Line], sink: &mut K) -> Result<(), Failed>
+        ensures ok { OnOk result (Gathers (K.written sink.old) self.old (K.written sink.new) self.new (texts lines.now)) }
+        ensures err { OnErr result (AppendsFront (K.written sink.old) (K.written sink.new) (self.old ++ texts lines.now)) }
+        ensures cause { HasCause (K.faults sink.old) (K.faults sink.new) result }
+    {
+        if lines.is_empty() {
+            return Ok(());
+        }
+        self.print_some(lines, sink)
+    }
+
+    /// Appends lines, where it isn't known whether there are any.
+    #[tactic(auto, using(crate::proofs::Waiting::gathers_none))]
+    #[inline(never)]
+    fn print_some<K: Sink>(&mut self, lines: &[Line], sink: &mut K) -> Result<(), Failed>
         ensures ok { OnOk result (Gathers (K.written sink.old) self.old (K.written sink.new) self.new (texts lines.now)) }
         ensures err { OnErr result (AppendsFront (K.written sink.old) (K.written sink.new) (self.old ++ texts lines.now)) }
         ensures cause { HasCause (K.faults sink.old) (K.faults sink.new) result }
@@ -74,6 +91,7 @@ impl Page {
     /// sink. It returns `Failed` only where the sink's count of faults rose or stands at 2^64-1; a
     /// front of what waits was written then, and the page stays as it was.
     /// Rule: this project's own.
+    #[inline(never)]
     pub fn flush<K: Sink>(&mut self, sink: &mut K) -> Result<(), Failed>
         ensures ok { OnOk result (Appends (K.written sink.old) (K.written sink.new) self.old) }
         ensures empty { OnOk result (self.new ≡ []) }
@@ -100,6 +118,27 @@ impl Page {
         self.bytes[self.len..end].copy_from_slice(piece);
         self.len = end;
     }
+
+    /// Takes so many bytes off the end.
+    #[inline(always)]
+    fn shorten(&mut self, n: usize)
+        requires { n ≤ length self.old }
+        ensures { self.new ≡ take (length self.old - n) self.old }
+    {
+        self.len -= n;
+    }
+
+    /// Appends the first bytes of a piece, for all of which there is room.
+    #[tactic(auto, using(crate::proofs::Placed::shortened))]
+    #[inline(always)]
+    fn append_front(&mut self, piece: &[u8], len: usize)
+        requires room { length self.old + length piece.now ≤ 65536 }
+        requires len { len ≤ length piece.now }
+        ensures { self.new ≡ self.old ++ take len piece.now }
+    {
+        self.append(piece);
+        self.shorten(piece.len() - len);
+    }
 }
 
 /// Returns so many bytes, all zero.
@@ -114,13 +153,18 @@ fn filled(alloc: Global, len: usize) -> Result<Vec<u8>, AllocError>
 impl Gather for Page {
     ghost waiting = { λ page. page };
 
-    #[tactic(auto, using(crate::proofs::Waiting::gathers_waiting, crate::proofs::Waiting::gathers_written, snow_base::proofs::Known::front_of_more))]
     #[inline(always)]
     fn put<K: Sink>(&mut self, piece: &[u8], sink: &mut K) -> Result<(), Failed> {
+        self.put_front(piece, piece.len(), sink)
+    }
+
+    #[tactic(auto, using(crate::proofs::Waiting::gathers_waiting, crate::proofs::Waiting::gathers_written, snow_base::proofs::Known::front_of_more))]
+    #[inline(always)]
+    fn put_front<K: Sink>(&mut self, piece: &[u8], len: usize, sink: &mut K) -> Result<(), Failed> {
         if piece.len() > ROOM - self.len {
             self.flush(sink)?;
         }
-        self.append(piece);
+        self.append_front(piece, len);
         Ok(())
     }
 }

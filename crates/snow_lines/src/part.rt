@@ -5,9 +5,10 @@ ghost use Rattle.snow_lines.specs.Gathered.{Gathers};
 ghost use Rattle.snow_lines.specs.Names.{line_name};
 ghost use Rattle.snow_lines.specs.Text.{spaced, draw_word, block_word, kind_word, query_word, restart_word, why_word};
 
-use crate::digits::{marked, write_hex, write_id, write_node};
+use crate::digits::{marked, marked_long, marked_short, write_hex, write_id, write_node};
 use crate::gathering::Gather;
 use crate::kind::Kind;
+use crate::whole::node_and_id;
 use crate::why::{DropWhy, QueryWhy, RestartWhy, SkipKind};
 use snow_base::{Bytes, Failed, Id, NodeId, Sink};
 use snow_sample::Draw;
@@ -81,8 +82,7 @@ impl Part for u32 {
     ghost text = { λ number. spaced (decimal number) };
 
     fn put_into<G: Gather, K: Sink>(&self, out: &mut G, sink: &mut K) -> Result<(), Failed> {
-        let mut buffer = [0; 21];
-        out.put(marked(b' ', u64::from(*self), &mut buffer), sink)
+        put_number(out, b" ", *self, sink)
     }
 }
 
@@ -94,9 +94,71 @@ impl Part for Times {
     ghost text = { λ times. 42 ∷ decimal times.0 };
 
     fn put_into<G: Gather, K: Sink>(&self, out: &mut G, sink: &mut K) -> Result<(), Failed> {
-        let mut buffer = [0; 21];
-        out.put(marked(b'*', u64::from(self.0), &mut buffer), sink)
+        put_number(out, b"*", self.0, sink)
     }
+}
+
+/// The first word of a line that asks a node for a block, and the number of the get.
+/// Rule: this project's own.
+#[derive(Drop)]
+pub struct Get(pub u32);
+
+impl Part for Get {
+    ghost text = { λ get. codes "get " ++ decimal get.0 };
+
+    #[inline(always)]
+    fn put_into<G: Gather, K: Sink>(&self, out: &mut G, sink: &mut K) -> Result<(), Failed> {
+        put_number(out, b"get ", self.0, sink)
+    }
+}
+
+/// The first word of a line of a frame that is passed over, and the number of the frame.
+/// Rule: this project's own.
+#[derive(Drop)]
+pub struct Skipped(pub u64);
+
+impl Part for Skipped {
+    ghost text = { λ skipped. codes "skip " ++ decimal skipped.0 };
+
+    #[inline(always)]
+    fn put_into<G: Gather, K: Sink>(&self, out: &mut G, sink: &mut K) -> Result<(), Failed> {
+        let mut buffer = [0; 64];
+        let (piece, len) = marked_long(b"skip ", self.0, &mut buffer);
+        out.put_front(piece, len, sink)
+    }
+}
+
+/// Why a frame is passed over, which is the last word of its line, with its newline.
+/// Rule: this project's own.
+#[derive(Drop)]
+pub struct LastKind(pub SkipKind);
+
+impl Part for LastKind {
+    ghost text = { λ last. spaced (kind_word last.0) ++ 10 ∷ [] };
+
+    #[inline(always)]
+    fn put_into<G: Gather, K: Sink>(&self, out: &mut G, sink: &mut K) -> Result<(), Failed> {
+        let (piece, len) = self.0.line_end();
+        out.put_front(piece, len, sink)
+    }
+}
+
+/// Appends a mark and a number in decimal behind it.
+#[inline(always)]
+fn put_number<const M: usize, G: Gather, K: Sink>(
+    out: &mut G,
+    mark: &[u8; M],
+    number: u32,
+    sink: &mut K,
+) -> Result<(), Failed>
+    requires { M ≤ 6 }
+    ensures ok { OnOk result (Gathers (K.written sink.old) (G.waiting out.old) (K.written sink.new) (G.waiting out.new) (mark.now ++ decimal number)) }
+    ensures err { OnErr result (AppendsFront (K.written sink.old) (K.written sink.new) (G.waiting out.old ++ (mark.now ++ decimal number))) }
+    ensures cause { HasCause (K.faults sink.old) (K.faults sink.new) result }
+{
+    let mut buffer = [0; 32];
+    let (piece, len) = marked_short(mark, u64::from(number), &mut buffer);
+    out.put_front(piece, len, sink)
 }
 
 impl Part for Id {
@@ -106,6 +168,20 @@ impl Part for Id {
         let mut word = [b' '; 65];
         write_id(self, &mut word[1..]);
         out.put(&word, sink)
+    }
+}
+
+/// A node and an identifier, which are the last words of a line, with its newline.
+/// Rule: this project's own.
+#[derive(Drop)]
+pub struct NodeAndId<'a>(pub &'a NodeId, pub &'a Id);
+
+impl<'a> Part for NodeAndId<'a> {
+    ghost text = { λ words. spaced (encode_lower words.0.now) ++ (spaced (encode_lower words.1.now) ++ 10 ∷ []) };
+
+    #[inline(always)]
+    fn put_into<G: Gather, K: Sink>(&self, out: &mut G, sink: &mut K) -> Result<(), Failed> {
+        out.put(&node_and_id(self.0, self.1), sink)
     }
 }
 
@@ -122,9 +198,25 @@ impl Part for NodeId {
 impl Part for Draw {
     ghost text = { λ draw. spaced (draw_word draw) };
 
+    // Most nodes are drawn a few times: then the whole word is one piece.
     fn put_into<G: Gather, K: Sink>(&self, out: &mut G, sink: &mut K) -> Result<(), Failed> {
+        if self.count < 10 {
+            return out.put(&short_word(self), sink);
+        }
         put_two(out, &self.node, &Times(self.count), sink)
     }
+}
+
+/// Returns the word of a draw whose count has one digit, behind a space.
+#[inline(always)]
+fn short_word(draw: &Draw) -> [u8; 43]
+    requires { draw.now.count < 10 }
+    ensures { result ≡ spaced (draw_word draw.now) }
+{
+    let mut word = *b" 0000000000000000000000000000000000000000*0";
+    word[42] = b'0' + draw.count as u8;
+    write_node(&draw.node, &mut word[1..41]);
+    word
 }
 
 impl Part for Bytes {
@@ -210,8 +302,10 @@ pub fn put_three<A: Part, B: Part, C: Part, G: Gather, K: Sink>(
     put_two(out, b, c, sink)
 }
 
-/// Appends one part and then three, and fails as `put_two` does.
+/// Appends one part and then three, and fails as `put_two` does. The compiler puts it where it is
+/// called, so that the word of a line is known where it is written.
 /// Rule: this project's own.
+#[inline(always)]
 pub fn put_four<A: Part, B: Part, C: Part, D: Part, G: Gather, K: Sink>(
     out: &mut G,
     a: &A,

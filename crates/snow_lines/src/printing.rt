@@ -3,12 +3,17 @@ ghost use Rattle.std.specs.List.{join_with_byte};
 ghost use Rattle.std.specs.Io.KnownBytes.{Appends};
 ghost use Rattle.snow_base.specs.Outside.{AppendsFront, HasCause};
 ghost use Rattle.snow_lines.specs.Gathered.{Gathers};
+ghost use Rattle.snow_lines.specs.declared.line.Line.TheVariants as line;
 ghost use Rattle.snow_lines.specs.Text.{fields, listed, name, spaced, text, texts};
 
 use crate::gathering::{AtOnce, Gather};
 use crate::kind::Kind;
 use crate::line::Line;
-use crate::part::{Part, put_all, put_five, put_four, put_three, put_two};
+use crate::part::{
+    Get, LastKind, NodeAndId, Part, Skipped, put_all, put_five, put_four, put_three, put_two,
+};
+use crate::whole::word_and_id;
+use crate::why::QueryWhy;
 use snow_base::{Failed, Sink};
 
 /// Writes a line with its newline, a piece at a time. It returns `Failed` only where the sink's
@@ -39,11 +44,61 @@ pub fn print_all<K: Sink>(lines: &[Line], sink: &mut K) -> Result<(), Failed>
     Ok(())
 }
 
-/// Appends a line to the bytes that wait, word by word. It returns `Failed` only where the sink's
-/// count of faults rose or stands at 2^64-1; a front of what waited and of the line was written
-/// then.
+/// Appends a line to the bytes that wait, in few pieces where the line is one that comes often. It
+/// returns `Failed` only where the sink's count of faults rose or stands at 2^64-1; a front of what
+/// waited and of the line was written then.
 /// Rule: this project's own.
+#[tactic(auto, unfolding(crate::specs::Text::text))]
+#[inline(always)]
 pub fn put_line<G: Gather, K: Sink>(out: &mut G, line: &Line, sink: &mut K) -> Result<(), Failed>
+    ensures ok { OnOk result (Gathers (K.written sink.old) (G.waiting out.old) (K.written sink.new) (G.waiting out.new) (text line.now)) }
+    ensures err { OnErr result (AppendsFront (K.written sink.old) (K.written sink.new) (G.waiting out.old ++ text line.now)) }
+    ensures cause { HasCause (K.faults sink.old) (K.faults sink.new) result }
+{
+    match line {
+        Line::Accept { id } => out.put(&word_and_id(b"accept", id), sink),
+        Line::Reject { id } => out.put(&word_and_id(b"reject", id), sink),
+        Line::Prefer { id } => out.put(&word_and_id(b"prefer", id), sink),
+        Line::Get { number, node, id } => {
+            put_two(out, &Get(*number), &NodeAndId(node, id), sink)
+        }
+        Line::Skip { frame, kind } => put_two(out, &Skipped(*frame), &LastKind(*kind), sink),
+        Line::DropQuery { why } => put_dropped_query(out, *why, sink),
+        _ => put_words(out, line, sink),
+    }
+}
+
+/// Appends the line of a query that isn't sent.
+#[tactic(auto, unfolding(crate::specs::Text::text))]
+#[inline(always)]
+fn put_dropped_query<G: Gather, K: Sink>(
+    out: &mut G,
+    why: QueryWhy,
+    sink: &mut K,
+) -> Result<(), Failed>
+    ensures ok { OnOk result (Gathers (K.written sink.old) (G.waiting out.old) (K.written sink.new) (G.waiting out.new) (text (line.DropQuery why))) }
+    ensures err { OnErr result (AppendsFront (K.written sink.old) (K.written sink.new) (G.waiting out.old ++ text (line.DropQuery why))) }
+    ensures cause { HasCause (K.faults sink.old) (K.faults sink.new) result }
+{
+    match why {
+        QueryWhy::Full => {
+            let line = *b"drop-query full\n";
+            out.put(&line, sink)
+        }
+        QueryWhy::Units => {
+            let line = *b"drop-query units\n";
+            out.put(&line, sink)
+        }
+        QueryWhy::Words => {
+            let line = *b"drop-query words\n";
+            out.put(&line, sink)
+        }
+    }
+}
+
+/// Appends a line word by word.
+#[inline(never)]
+fn put_words<G: Gather, K: Sink>(out: &mut G, line: &Line, sink: &mut K) -> Result<(), Failed>
     ensures ok { OnOk result (Gathers (K.written sink.old) (G.waiting out.old) (K.written sink.new) (G.waiting out.new) (text line.now)) }
     ensures err { OnErr result (AppendsFront (K.written sink.old) (K.written sink.new) (G.waiting out.old ++ text line.now)) }
     ensures cause { HasCause (K.faults sink.old) (K.faults sink.new) result }

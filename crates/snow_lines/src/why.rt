@@ -115,7 +115,7 @@ impl RestartWhy {
 }
 
 impl SkipKind {
-    ghost use Rattle.std.specs.Prelude.{◌≡◌, ◌≤◌, length};
+    ghost use Rattle.std.specs.Prelude.{◌≡◌, ◌≤◌, [], ◌∷◌, ◌++◌, length, take};
     ghost use Rattle.snow_lines.specs.Text.{spaced, kind_word};
 
     /// Returns its word with a space in front.
@@ -134,6 +134,27 @@ impl SkipKind {
             SkipKind::Full => b" full",
             SkipKind::Block => b" block",
             SkipKind::Nodes => b" nodes",
+        }
+    }
+
+    /// Returns the end of a line: its word with a space in front and a newline, at the front of a
+    /// piece of a known length, and how long they are.
+    #[inline(always)]
+    pub(crate) fn line_end(&self) -> (&'static [u8; 8], usize)
+        ensures end { take result.1 result.0.now ≡ spaced (kind_word self.now) ++ 10 ∷ [] }
+        ensures short { result.1 ≤ 8 }
+    {
+        match self {
+            SkipKind::Tag => (b" tag\n   ", 5),
+            SkipKind::Short => (b" short\n ", 7),
+            SkipKind::Extra => (b" extra\n ", 7),
+            SkipKind::Count => (b" count\n ", 7),
+            SkipKind::Task => (b" task\n  ", 6),
+            SkipKind::Stage => (b" stage\n ", 7),
+            SkipKind::Votes => (b" votes\n ", 7),
+            SkipKind::Full => (b" full\n  ", 6),
+            SkipKind::Block => (b" block\n ", 7),
+            SkipKind::Nodes => (b" nodes\n ", 7),
         }
     }
 }

@@ -1,6 +1,6 @@
 -- The front, the list, and the newline.
 use Rattle.snow_lines.proofs.Printed.{line_came, front_failed, list_failed, newline_failed}
-use Rattle.snow_lines.proofs.printing.put_line.Goals as goal
+use Rattle.snow_lines.proofs.printing.put_words.Goals as goal
 
 pub returns-in_err-put_front-clause-err : goal.returns-in_err-put_front-clause-err
 returns-in_err-put_front-clause-err g c =

@@ -3,7 +3,7 @@ use Rattle.std.proofs.Common.{rules, ap}
 use Rattle.std.proofs.lemmas.Result.{err_from_is_err_and}
 use Rattle.snow_lines.specs.Text.{text}
 use Rattle.snow_lines.proofs.Waiting.{gathers_next, gathers_inside}
-use Rattle.snow_lines.proofs.page.Page.print_all.Goals as goal
+use Rattle.snow_lines.proofs.page.Page.print_some.Goals as goal
 
 pub returns-in_err-print-clause-err : goal.returns-in_err-print-clause-err
 returns-in_err-print-clause-err g c =

@@ -2,7 +2,7 @@
 use Rattle.std.proofs.Common.{◌≤◌, take}
 use Rattle.snow_lines.specs.Gathered.{Gathers}
 use Rattle.snow_lines.specs.Text.{texts}
-use Rattle.snow_lines.proofs.page.Page.print_all.Given as goal
+use Rattle.snow_lines.proofs.page.Page.print_some.Given as goal
 
 abbrev pub invariant-loop-line : goal.invariant-loop-line
 invariant-loop-line g l =
