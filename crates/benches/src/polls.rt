@@ -1,5 +1,5 @@
 ghost use Rattle.std.specs.Prelude.{◌≡◌, [], IfOk};
-ghost use Rattle.snow_sample.specs.Sampling.{draw_count, AreOfDistinctNodes};
+ghost use Rattle.snow_sample.specs.Model.Sampling.{draw_count, AreOfDistinctNodes};
 
 use crate::random::after;
 use snow_base::{Id, NodeId};

@@ -1,4 +1,4 @@
-ghost use Rattle.snow_issue.specs.Known.{Knows};
+ghost use Rattle.snow_issue.specs.Kept.Known.{Knows};
 
 use snow_base::{Bytes, Header, Id, NodeId};
 use snow_board::Board;

@@ -1,5 +1,5 @@
 ghost use Rattle.std.specs.Prelude.{◌≡◌, ◌+◌, ◌^◌, ◌<◌, ◌≤◌, All, Contains, IfOk};
-ghost use Rattle.snow_base.specs.Votes.{total_count};
+ghost use Rattle.snow_base.specs.Model.Votes.{total_count};
 
 use snow_base::{Bag, Id, Steps};
 use snow_flake::{Params, Rule, Snowball, Snowflake};

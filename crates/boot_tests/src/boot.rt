@@ -1,5 +1,5 @@
 ghost use Rattle.std.specs.Prelude.{IfOk};
-ghost use Rattle.snow_boot.specs.Calling.{MayGoOn, OnGoing};
+ghost use Rattle.snow_boot.specs.Clauses.Calling.{MayGoOn, OnGoing};
 
 mod many;
 

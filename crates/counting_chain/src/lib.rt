@@ -3,8 +3,8 @@
 
 ghost use Rattle.std.specs.Prelude.{◌≡◌, [], ◌∷◌, IfOk};
 ghost use Rattle.std.specs.Option.{option_map};
-ghost use Rattle.snow_chain.specs.Chain.{next_on};
-ghost use Rattle.counting_chain.specs.Counting.{counting_rules, header_of};
+ghost use Rattle.snow_chain.specs.Model.Chain.{next_on};
+ghost use Rattle.counting_chain.specs.Model.Counting.{counting_rules, header_of};
 
 use snow_base::{Header, Id, Nums};
 use snow_chain::{Chain, ChainFault, States, id_at, number_at};
@@ -24,8 +24,8 @@ pub struct CountingChain {
 }
 
 impl Model for CountingChain {
-    ghost use Rattle.snow_chain.specs.Chain.{Held};
-    ghost use Rattle.snow_chain.specs.Coded.{coded_held};
+    ghost use Rattle.snow_chain.specs.Model.Chain.{Held};
+    ghost use Rattle.snow_chain.specs.Kept.Coded.{coded_held};
 
     ghost Value = { Held };
 
@@ -45,7 +45,7 @@ impl CountingChain {
 }
 
 impl Chain for CountingChain {
-    ghost use Rattle.counting_chain.specs.Counting.{counting_needs_header};
+    ghost use Rattle.counting_chain.specs.Model.Counting.{counting_needs_header};
 
     ghost rules = { counting_rules };
 

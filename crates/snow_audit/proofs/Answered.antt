@@ -2,10 +2,10 @@
 use Rattle.std.proofs.Common.{◌≡◌, ℕ, ◌+◌, ◌*◌, ◌-◌, ◌^◌, ◌<◌, ◌≤◌, ◌==◌, Bool, true, false, cond, List, [], ◌∷◌, ◌++◌, length, Option, Some, None, Result, Ok, Err, refl, sym, ap, ◌∙◌, subst, arith}
 use Rattle.std.specs.Prelude.{IfSome}
 use Rattle.std.proofs.lemmas.List.{length-append}
-use Rattle.snow_flake.specs.Rule.{Answer}
-use Rattle.snow_chain.specs.Chain.{Rules}
-use Rattle.snow_wire.specs.Frame.{first_of, is_too_long}
-use Rattle.snow_wire.specs.Stream.{Intake, fed, fresh}
+use Rattle.snow_flake.specs.Model.Rule.{Answer}
+use Rattle.snow_chain.specs.Model.Chain.{Rules}
+use Rattle.snow_wire.specs.Model.Frame.{first_of, is_too_long}
+use Rattle.snow_wire.specs.Clauses.Stream.{Intake, fed, fresh}
 use Rattle.snow_wire.specs.declared.event.Event.{Event}
 use Rattle.snow_wire.specs.declared.event.Event.TheVariants as event
 use Rattle.snow_lines.specs.declared.line.Line.{Line}
@@ -13,17 +13,17 @@ use Rattle.snow_lines.specs.declared.why.SkipKind.{SkipKind}
 use Rattle.snow_engine.specs.declared.task.Task.{Task}
 use Rattle.snow_engine.specs.declared.end.End.{End}
 use Rattle.snow_engine.specs.declared.end.End.TheVariants as end
-use Rattle.snow_engine.specs.Staging.{Node}
+use Rattle.snow_engine.specs.Kept.Staging.{Node}
 use Rattle.snow_engine.specs.declared.stop.EngineStop.{EngineStop}
-use Rattle.snow_engine.specs.Staging.{Comes}
-use Rattle.snow_engine.specs.Node.{started, step}
+use Rattle.snow_engine.specs.Kept.Staging.{Comes}
+use Rattle.snow_engine.specs.Model.Node.{started, step}
 use Rattle.snow_engine.specs.declared.end.BadKind.TheVariants as kind
-use Rattle.snow_engine.specs.Run.{Stand, Fresh, Going, Stopped, standing, came, after_frame, opened, followed, end_behind, read}
+use Rattle.snow_engine.specs.Model.Run.{Stand, Fresh, Going, Stopped, standing, came, after_frame, opened, followed, end_behind, read}
 use Rattle.snow_audit.specs.declared.auditing.AuditEnd.{AuditEnd}
 use Rattle.snow_audit.specs.declared.auditing.AuditEnd.TheVariants as audit
-use Rattle.snow_audit.specs.Auditing.{Steps, audited, breaks_off, behind_frames, ends_as, stream_end}
-use Rattle.snow_audit.specs.Answering.{HasFault, IsAnswer, IsRead, IsTold}
-use Rattle.snow_audit.specs.Following.{Between, IsKept, Took, at_end, between, beginning, finish, is_found, is_fresh, stop_of}
+use Rattle.snow_audit.specs.Model.Auditing.{Steps, audited, breaks_off, behind_frames, ends_as, stream_end}
+use Rattle.snow_audit.specs.Clauses.Answering.{HasFault, IsAnswer, IsRead, IsTold}
+use Rattle.snow_audit.specs.Kept.Following.{Between, IsKept, Took, at_end, between, beginning, finish, is_found, is_fresh, stop_of}
 use Rattle.snow_audit.proofs.Followed.{Begins}
 use Rattle.snow_audit.proofs.Framed.{Audited, answered, nothing_came}
 

@@ -2,27 +2,27 @@
 use Rattle.std.proofs.Common.{◌≡◌, ℕ, ◌-◌, ◌==◌, cond, List, [], ◌∷◌, ◌++◌, length, replicate, take, refl}
 use Rattle.std.specs.Fmt.{digits}
 use Rattle.hex.specs.Hex.{encode_with}
-use Rattle.snow_flake.specs.Rule.{by_preference}
-use Rattle.snow_chain.specs.Plain.{plain_rules}
-use Rattle.snow_wire.specs.Spelling.{number, sized}
-use Rattle.snow_wire.specs.Reading.{bytes_at, number_at, limited_at, sized_at, single_at, flag_at, items_at, counted_at, weighed_at, start_at, fields_at, event_of}
-use Rattle.snow_wire.specs.Frame.{first_of, frames_in, frames_of}
+use Rattle.snow_flake.specs.Model.Rule.{by_preference}
+use Rattle.snow_chain.specs.Model.Plain.{plain_rules}
+use Rattle.snow_wire.specs.Model.Spelling.{number, sized}
+use Rattle.snow_wire.specs.Model.Reading.{bytes_at, number_at, limited_at, sized_at, single_at, flag_at, items_at, counted_at, weighed_at, start_at, fields_at, event_of}
+use Rattle.snow_wire.specs.Model.Frame.{first_of, frames_in, frames_of}
 use Rattle.snow_lines.specs.declared.line.Line.{Line}
 use Rattle.snow_lines.specs.declared.line.Line.TheVariants as line
 use Rattle.snow_lines.specs.declared.why.QueryWhy.TheVariants as query
 use Rattle.snow_lines.specs.declared.why.SkipKind.TheVariants as skip
-use Rattle.snow_lines.specs.Text.{text}
+use Rattle.snow_lines.specs.Model.Text.{text}
 use Rattle.snow_engine.specs.declared.end.BadKind.TheVariants as kind
 use Rattle.snow_engine.specs.declared.end.End.{End}
 use Rattle.snow_engine.specs.declared.end.End.TheVariants as end
 use Rattle.snow_engine.specs.declared.stage.Stage.TheVariants as stage
-use Rattle.snow_engine.specs.Node.{started}
-use Rattle.snow_engine.specs.Run.{Stand, Going, Stopped, opened, after_frame}
-use Rattle.snow_node.specs.Turning.{runs_on}
+use Rattle.snow_engine.specs.Model.Node.{started}
+use Rattle.snow_engine.specs.Model.Run.{Stand, Going, Stopped, opened, after_frame}
+use Rattle.snow_node.specs.Model.Turning.{runs_on}
 use Rattle.snow_audit.specs.declared.auditing.AuditEnd.{AuditEnd}
 use Rattle.snow_audit.specs.declared.auditing.AuditEnd.TheVariants as audit
-use Rattle.snow_audit.specs.Recording.{entries_from}
-use Rattle.snow_audit.specs.Auditing.{compared_from, through, audited_frames, audit_of}
+use Rattle.snow_audit.specs.Model.Recording.{entries_from}
+use Rattle.snow_audit.specs.Model.Auditing.{compared_from, through, audited_frames, audit_of}
 
 abbrev id_of : ℕ → List ℕ
 id_of first = first ∷ replicate 31 0

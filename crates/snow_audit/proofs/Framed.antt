@@ -6,20 +6,20 @@ use Rattle.std.specs.Io.KnownBytes.{Consumes, IsAtEnd}
 use Rattle.std.proofs.lemmas.List.{length-append, length-drop}
 use Rattle.snow_base.proofs.Known.{consumes_none, consumes_then}
 use Rattle.std.proofs.Math.Seq.{take-append-add}
-use Rattle.snow_wire.specs.Frame.{frames_of, first_of, is_too_long}
-use Rattle.snow_wire.specs.Stream.{Intake, fed, fresh}
+use Rattle.snow_wire.specs.Model.Frame.{frames_of, first_of, is_too_long}
+use Rattle.snow_wire.specs.Clauses.Stream.{Intake, fed, fresh}
 use Rattle.snow_wire.proofs.Streams.{frames_front, frames_end, long_first, off_front}
 use Rattle.snow_wire.proofs.Pieces.{first_more, long_more}
 use Rattle.snow_engine.specs.declared.end.BadKind.TheVariants as kind
 use Rattle.snow_engine.specs.declared.end.End.{End}
 use Rattle.snow_engine.specs.declared.end.End.TheVariants as end
-use Rattle.snow_engine.specs.Run.{seen, end_behind}
+use Rattle.snow_engine.specs.Model.Run.{seen, end_behind}
 use Rattle.snow_lines.specs.declared.line.Line.{Line}
-use Rattle.snow_engine.specs.Staging.{Node}
+use Rattle.snow_engine.specs.Kept.Staging.{Node}
 use Rattle.snow_engine.proofs.Ended.{of_all, of_whole}
 use Rattle.snow_audit.specs.declared.auditing.AuditEnd.{AuditEnd}
-use Rattle.snow_audit.specs.Auditing.{Steps, audited, behind_frames, stream_end}
-use Rattle.snow_audit.specs.Following.{Between, beginning, between, frame_comes, at_end, goes_on, owed_of, follows, finish}
+use Rattle.snow_audit.specs.Model.Auditing.{Steps, audited, behind_frames, stream_end}
+use Rattle.snow_audit.specs.Kept.Following.{Between, beginning, between, frame_comes, at_end, goes_on, owed_of, follows, finish}
 use Rattle.snow_audit.proofs.Followed.{Begins, follows_audit}
 
 -- the frames of a stream behind so many

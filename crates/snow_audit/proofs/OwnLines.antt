@@ -5,23 +5,23 @@ use Rattle.std.proofs.lemmas.Bool.Decides.{nat_tests}
 use Rattle.std.proofs.lemmas.List.{length-append}
 use Rattle.std.proofs.lemmas.List.Folds.{list_all-append}
 use Rattle.std.proofs.lemmas.Slice.Eq.{bytes_eq-Decides}
-use Rattle.snow_flake.specs.Rule.{Answer}
-use Rattle.snow_chain.specs.Chain.{Rules}
+use Rattle.snow_flake.specs.Model.Rule.{Answer}
+use Rattle.snow_chain.specs.Model.Chain.{Rules}
 use Rattle.snow_wire.specs.declared.event.Event.TheVariants as event
-use Rattle.snow_wire.specs.Frame.{frames_of}
+use Rattle.snow_wire.specs.Model.Frame.{frames_of}
 use Rattle.snow_wire.proofs.Events.{event_again}
 use Rattle.snow_lines.specs.declared.line.Line.{Line}
-use Rattle.snow_lines.specs.Text.{text, words}
+use Rattle.snow_lines.specs.Model.Text.{text, words}
 use Rattle.snow_engine.specs.declared.task.Task.TheVariants as task
 use Rattle.snow_engine.specs.declared.end.End.{End}
 use Rattle.snow_engine.specs.declared.end.End.TheVariants as end
-use Rattle.snow_engine.specs.Run.{Stand, Fresh, Going, Stopped, after_frame, after_frames, seen}
+use Rattle.snow_engine.specs.Model.Run.{Stand, Fresh, Going, Stopped, after_frame, after_frames, seen}
 use Rattle.snow_audit.specs.declared.auditing.AuditEnd.{AuditEnd}
 use Rattle.snow_audit.specs.declared.auditing.AuditEnd.TheVariants as audit
-use Rattle.snow_audit.specs.Recording.{line_in, text_of}
-use Rattle.snow_audit.specs.Auditing.{Steps, audited_frames, audit_of, ends_as, stream_end}
-use Rattle.snow_audit.specs.Following.{Between, beginning, first_then, follows, frame_comes, goes_on, is_fresh, later_comes, standing_at, stepped, stepped_to, stop_of}
-use Rattle.snow_audit.specs.OwnLines.{fits, is_difference, is_event, recorded, recording}
+use Rattle.snow_audit.specs.Model.Recording.{line_in, text_of}
+use Rattle.snow_audit.specs.Model.Auditing.{Steps, audited_frames, audit_of, ends_as, stream_end}
+use Rattle.snow_audit.specs.Kept.Following.{Between, beginning, first_then, follows, frame_comes, goes_on, is_fresh, later_comes, standing_at, stepped, stepped_to, stop_of}
+use Rattle.snow_audit.specs.Laws.OwnLines.{fits, is_difference, is_event, recorded, recording}
 use Rattle.snow_audit.proofs.Followed.{follows_audit, plus_none, test_false}
 use Rattle.snow_audit.proofs.Answered.{run_begins}
 

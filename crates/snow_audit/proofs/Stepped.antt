@@ -1,22 +1,22 @@
 -- A run stopped at its next event.
 use Rattle.std.proofs.Common.{◌≡◌, ℕ, ◌+◌, true, List, [], map, drop, Option, Some, None, Result, Ok, Err, refl, sym, ap, ◌∙◌, subst}
 use Rattle.std.specs.Prelude.{OnOk, OnErr}
-use Rattle.snow_flake.specs.Rule.{Answer}
-use Rattle.snow_chain.specs.Chain.{Rules}
+use Rattle.snow_flake.specs.Model.Rule.{Answer}
+use Rattle.snow_chain.specs.Model.Chain.{Rules}
 use Rattle.snow_lines.specs.declared.line.Line.{Line}
 use Rattle.snow_lines.specs.declared.why.SkipKind.{SkipKind}
-use Rattle.snow_lines.specs.Text.{text}
+use Rattle.snow_lines.specs.Model.Text.{text}
 use Rattle.snow_engine.specs.declared.task.Task.{Task}
 use Rattle.snow_engine.specs.declared.end.End.{End}
 use Rattle.snow_engine.specs.declared.end.End.TheVariants as end
-use Rattle.snow_engine.specs.Ends.{is_stop}
-use Rattle.snow_engine.specs.Staging.{Node}
-use Rattle.snow_engine.specs.Run.{Stand, Stopped, after_frame}
-use Rattle.snow_engine.specs.Serving.{stand_of, Stands, LogsFrame}
+use Rattle.snow_engine.specs.Clauses.Ends.{is_stop}
+use Rattle.snow_engine.specs.Kept.Staging.{Node}
+use Rattle.snow_engine.specs.Model.Run.{Stand, Stopped, after_frame}
+use Rattle.snow_engine.specs.Clauses.Serving.{stand_of, Stands, LogsFrame}
 use Rattle.snow_audit.specs.declared.auditing.AuditEnd.{AuditEnd}
 use Rattle.snow_audit.specs.declared.auditing.AuditEnd.TheVariants as audit
-use Rattle.snow_audit.specs.Auditing.{at_frame}
-use Rattle.snow_audit.specs.Following.{Between, IsKept, Moves, between, standing_at, stands, stepped_to}
+use Rattle.snow_audit.specs.Model.Auditing.{at_frame}
+use Rattle.snow_audit.specs.Kept.Following.{Between, IsKept, Moves, between, standing_at, stands, stepped_to}
 
 -- the frame as the run takes it
 pub same_frame : (rules : Rules) (answer : Answer) (t wanted : Task) (stop : Option End) (engine : Option Node) (number : ℕ) (payload : List ℕ) → t ≡ wanted → stop ≡ None

@@ -1,18 +1,18 @@
 -- Frames were taken: what is left to do is the same from there, or the audit has its answer.
 use Rattle.std.proofs.Common.{◌≡◌, ℕ, ◌+◌, ◌*◌, ◌<◌, ◌≤◌, Bool, true, false, List, [], ◌∷◌, length, Option, Some, None, Result, Ok, Err, refl, sym, ap, ◌∙◌, subst}
-use Rattle.snow_wire.specs.Frame.{first_of, is_too_long}
-use Rattle.snow_wire.specs.Stream.{Intake, taken}
+use Rattle.snow_wire.specs.Model.Frame.{first_of, is_too_long}
+use Rattle.snow_wire.specs.Clauses.Stream.{Intake, taken}
 use Rattle.snow_wire.proofs.Streams.{behind_shorter}
 use Rattle.snow_wire.proofs.Pieces.{taken_one}
 use Rattle.snow_engine.specs.declared.end.BadKind.{BadKind}
 use Rattle.snow_engine.specs.declared.end.BadKind.TheVariants as kind
 use Rattle.snow_engine.specs.declared.end.End.{End}
 use Rattle.snow_engine.specs.declared.end.End.TheVariants as end
-use Rattle.snow_engine.specs.Staging.{Node}
+use Rattle.snow_engine.specs.Kept.Staging.{Node}
 use Rattle.snow_audit.specs.declared.auditing.AuditEnd.{AuditEnd}
 use Rattle.snow_audit.specs.declared.auditing.AuditEnd.TheVariants as audit
-use Rattle.snow_audit.specs.Auditing.{Steps, ends_as}
-use Rattle.snow_audit.specs.Following.{Between, IsKept, Moves, Took, at_end, finish, frame_comes, goes_on, is_found, stands, stop_of}
+use Rattle.snow_audit.specs.Model.Auditing.{Steps, ends_as}
+use Rattle.snow_audit.specs.Kept.Following.{Between, IsKept, Moves, Took, at_end, finish, frame_comes, goes_on, is_found, stands, stop_of}
 use Rattle.snow_audit.proofs.Framed.{next_frame, smaller, too_long}
 
 -- an answer that was found

@@ -1,6 +1,4 @@
-pub mod Answering
-pub mod Auditing
-pub mod Following
-pub mod OwnLines
-pub mod Recording
-pub mod Sheet
+pub mod Model
+pub mod Laws
+pub mod Kept
+pub mod Clauses

@@ -1,7 +1,7 @@
 ghost use Rattle.std.specs.Prelude.{◌≡◌, ◌≤◌, IfSome};
 ghost use Rattle.std.specs.Io.KnownBytes.{IsAtEnd};
-ghost use Rattle.snow_audit.specs.Auditing.{audit_of};
-ghost use Rattle.snow_audit.specs.Answering.{HasFault, IsAnswer, IsRead, IsTold};
+ghost use Rattle.snow_audit.specs.Model.Auditing.{audit_of};
+ghost use Rattle.snow_audit.specs.Clauses.Answering.{HasFault, IsAnswer, IsRead, IsTold};
 
 use crate::auditor::Auditor;
 use snow_base::Source;

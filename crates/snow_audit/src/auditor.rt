@@ -1,12 +1,12 @@
 ghost use Rattle.std.specs.Prelude.{◌≡◌, ◌+◌, ◌-◌, ◌*◌, ◌^◌, ◌≤◌, ◌<◌, [], None, Ok, false, true, length, IfSome, OnOk};
 ghost use Rattle.std.specs.Io.KnownBytes.{IsAtEnd};
-ghost use Rattle.snow_wire.specs.Frame.{first_of, is_too_long};
-ghost use Rattle.snow_wire.specs.Stream.{fresh};
-ghost use Rattle.snow_engine.specs.Run.{after_frame};
+ghost use Rattle.snow_wire.specs.Model.Frame.{first_of, is_too_long};
+ghost use Rattle.snow_wire.specs.Clauses.Stream.{fresh};
+ghost use Rattle.snow_engine.specs.Model.Run.{after_frame};
 ghost use Rattle.snow_engine.specs.declared.task.Task.TheVariants as task;
-ghost use Rattle.snow_audit.specs.Auditing.{audit_of, stream_end};
-ghost use Rattle.snow_audit.specs.Answering.{HasFault, IsAnswer, IsRead, IsTold};
-ghost use Rattle.snow_audit.specs.Following.{IsKept, Took, at_end, between, owed_of};
+ghost use Rattle.snow_audit.specs.Model.Auditing.{audit_of, stream_end};
+ghost use Rattle.snow_audit.specs.Clauses.Answering.{HasFault, IsAnswer, IsRead, IsTold};
+ghost use Rattle.snow_audit.specs.Kept.Following.{IsKept, Took, at_end, between, owed_of};
 
 use crate::auditing::AuditEnd;
 use crate::following::Follower;

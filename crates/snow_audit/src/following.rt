@@ -1,11 +1,11 @@
 ghost use Rattle.std.specs.Prelude.{◌≡◌, ◌+◌, ◌-◌, ◌^◌, ◌<◌, ◌≤◌, ◌∷◌, ◌++◌, [], None, Some, Ok, Err, OnOk, OnErr, true, false, length, if◌then◌else◌};
 ghost use Rattle.snow_lines.specs.declared.line.Line.TheVariants as line;
-ghost use Rattle.snow_engine.specs.Run.{after_frame};
+ghost use Rattle.snow_engine.specs.Model.Run.{after_frame};
 ghost use Rattle.snow_engine.specs.declared.task.Task.TheVariants as task;
 ghost use Rattle.snow_engine.specs.declared.end.End.TheVariants as end;
 ghost use Rattle.snow_audit.specs.declared.auditing.AuditEnd.TheVariants as audit;
-ghost use Rattle.snow_audit.specs.Auditing.{at_frame, breaks_off, ends_as};
-ghost use Rattle.snow_audit.specs.Following.{IsKept, Moves, at_end, between, event_comes, first_then, frame_comes, is_fresh, line_comes, owed_of, stands, stepped, stop_of};
+ghost use Rattle.snow_audit.specs.Model.Auditing.{at_frame, breaks_off, ends_as};
+ghost use Rattle.snow_audit.specs.Kept.Following.{IsKept, Moves, at_end, between, event_comes, first_then, frame_comes, is_fresh, line_comes, owed_of, stands, stepped, stop_of};
 
 use crate::auditing::AuditEnd;
 use crate::sheet::Sheet;

@@ -1,12 +1,12 @@
 ghost use Rattle.std.specs.Prelude.{◌≡◌, ℕ, List, true, false};
 ghost use Rattle.std.specs.List.{list_all};
-ghost use Rattle.snow_flake.specs.Rule.{Answer};
-ghost use Rattle.snow_chain.specs.Chain.{Rules};
-ghost use Rattle.snow_wire.specs.Frame.{frames_of};
-ghost use Rattle.snow_engine.specs.Run.{Fresh, after_frame, after_frames, seen};
+ghost use Rattle.snow_flake.specs.Model.Rule.{Answer};
+ghost use Rattle.snow_chain.specs.Model.Chain.{Rules};
+ghost use Rattle.snow_wire.specs.Model.Frame.{frames_of};
+ghost use Rattle.snow_engine.specs.Model.Run.{Fresh, after_frame, after_frames, seen};
 ghost use Rattle.snow_engine.specs.declared.task.Task.TheVariants as task;
-ghost use Rattle.snow_audit.specs.Auditing.{audit_of};
-ghost use Rattle.snow_audit.specs.OwnLines.{fits, is_difference, is_event, recording};
+ghost use Rattle.snow_audit.specs.Model.Auditing.{audit_of};
+ghost use Rattle.snow_audit.specs.Laws.OwnLines.{fits, is_difference, is_event, recording};
 
 /// A run that is recorded with its own lines behind each event never differs, where no event is
 /// itself a Line event and each line of the run fits one.

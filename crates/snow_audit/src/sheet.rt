@@ -1,7 +1,7 @@
 ghost use Rattle.std.specs.Prelude.{◌≡◌, ℕ, ◌<◌, ◌≤◌, [], ◌∷◌, ◌++◌, length, bytes_eq, IfOk};
 ghost use Rattle.std.specs.Io.KnownBytes.{WriteAppends};
-ghost use Rattle.snow_base.specs.Outside.{HasCause};
-ghost use Rattle.snow_lines.specs.Text.{text};
+ghost use Rattle.snow_base.specs.Clauses.Outside.{HasCause};
+ghost use Rattle.snow_lines.specs.Model.Text.{text};
 
 use snow_base::{Bytes, Failed, Sink};
 use snow_lines::{Line, print};
@@ -18,7 +18,7 @@ pub struct Sheet {
 }
 
 impl Model for Sheet {
-    ghost use Rattle.snow_audit.specs.Sheet as model;
+    ghost use Rattle.snow_audit.specs.Clauses.Sheet as model;
 
     ghost Value = { model.Sheet };
 

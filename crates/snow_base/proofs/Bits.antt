@@ -11,7 +11,7 @@ use Rattle.std.proofs.lemmas.Cmp.{tied_itself}
 use Rattle.std.proofs.lemmas.Nat.{xor_lt}
 use Rattle.std.proofs.lemmas.Nat.Bits.{bit_at-lt, bit_at_xor, bit_at-zero, bit_at-trailing_zeros, same_from_bits_below}
 use Rattle.std.proofs.lemmas.List.FromFn.{length-map-range_with_len, get_or-map-range_with_len}
-use Rattle.snow_base.specs.Identifier.{bit, bits, bit_cmp}
+use Rattle.snow_base.specs.Model.Identifier.{bit, bits, bit_cmp}
 
 -- ---- two numbers
 

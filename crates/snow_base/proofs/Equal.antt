@@ -4,7 +4,7 @@ use Rattle.std.specs.Bool.{Decides}
 use Rattle.std.proofs.lemmas.Bool.{cases_lt}
 use Rattle.std.proofs.lemmas.Bool.Decides.{Decides-and, Decides-eqb, same_from_decides}
 use Rattle.std.proofs.lemmas.Slice.Eq.{bytes_eq-Decides}
-use Rattle.snow_base.specs.Words.{high_first}
+use Rattle.snow_base.specs.Kept.Words.{high_first}
 use Rattle.snow_base.proofs.Words.{high_same, same_high}
 
 -- bytes agree up to a place

@@ -4,7 +4,7 @@ use Rattle.std.specs.Io.KnownBytes.{Appends, Keeps, Consumes}
 use Rattle.std.proofs.lemmas.List.{take_more}
 use Rattle.std.proofs.lemmas.List.Concat.{flat_map-append}
 use Rattle.std.proofs.KnownBytes.{Appends-nil, Consumes-nil, Keeps-trans}
-use Rattle.snow_base.specs.Outside.{AppendsFront}
+use Rattle.snow_base.specs.Clauses.Outside.{AppendsFront}
 
 -- ---- written bytes
 

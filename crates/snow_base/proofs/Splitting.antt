@@ -4,9 +4,9 @@ use Rattle.std.proofs.lemmas.Bool.{cases_lt, not-true, not-false}
 use Rattle.std.specs.List.Sorted.{IsPartitionedBy, IsPartitionPoint}
 use Rattle.std.specs.Ordering.{bool_cmp}
 use Rattle.snow_base.specs.declared.vote.Vote.{Vote}
-use Rattle.snow_base.specs.Identifier.{bit, bit_cmp}
-use Rattle.snow_base.specs.Votes.{IsInBitOrder}
-use Rattle.snow_base.specs.Split.{AgreeBelow, HaveBit}
+use Rattle.snow_base.specs.Model.Identifier.{bit, bit_cmp}
+use Rattle.snow_base.specs.Model.Votes.{IsInBitOrder}
+use Rattle.snow_base.specs.Kept.Split.{AgreeBelow, HaveBit}
 use Rattle.snow_base.proofs.Bits.{bit_cmp-first}
 
 -- where two bits that differ are in order, the first is a 0 if the second is

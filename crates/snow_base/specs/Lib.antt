@@ -1,9 +1,3 @@
-pub mod Ancestry
-pub mod Gathered
-pub mod Identifier
-pub mod Memory
-pub mod Numbers
-pub mod Outside
-pub mod Split
-pub mod Votes
-pub mod Words
+pub mod Model
+pub mod Kept
+pub mod Clauses

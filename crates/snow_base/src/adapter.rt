@@ -1,7 +1,7 @@
 ghost use Rattle.std.specs.Prelude.{◌≡◌, ℕ, ◌<◌, ◌≤◌, length, IfOk};
 ghost use Rattle.std.specs.Io.KnownBytes.{ReadConsumes, WriteAppends};
-ghost use Rattle.snow_base.specs.Outside.{HasCause};
-ghost use Rattle.snow_base.specs.Memory.{faults_after};
+ghost use Rattle.snow_base.specs.Clauses.Outside.{HasCause};
+ghost use Rattle.snow_base.specs.Clauses.Memory.{faults_after};
 
 use crate::outside::{Failed, Sink, Source};
 use std::io::{ErrorKind, Read, Write};
@@ -17,7 +17,7 @@ pub struct ReadSource<R: Read + Drop> {
 }
 
 impl<R: Read + Drop> Model for ReadSource<R> {
-    ghost use Rattle.snow_base.specs.Memory.{Passing};
+    ghost use Rattle.snow_base.specs.Clauses.Memory.{Passing};
 
     ghost Value = { Passing };
 
@@ -66,7 +66,7 @@ pub struct WriteSink<W: Write + Drop> {
 }
 
 impl<W: Write + Drop> Model for WriteSink<W> {
-    ghost use Rattle.snow_base.specs.Memory.{Passing};
+    ghost use Rattle.snow_base.specs.Clauses.Memory.{Passing};
 
     ghost Value = { Passing };
 

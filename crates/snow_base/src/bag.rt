@@ -1,7 +1,7 @@
 ghost use Rattle.std.specs.Prelude.{◌≡◌, ℕ, ◌+◌, ◌^◌, ◌<◌, ◌≤◌, [], length, All, take, ◌-◌, IsOk, IfOk, OnOk, OnErr, vec_len, vec_capacity};
 ghost use Rattle.std.specs.List.{insert};
-ghost use Rattle.snow_base.specs.Votes.{total_count, most_count, IsInBitOrder, HasVotesFor, added, IsPlaceOf};
-ghost use Rattle.snow_base.specs.Gathered.{one_each};
+ghost use Rattle.snow_base.specs.Model.Votes.{total_count, most_count, IsInBitOrder, HasVotesFor, added, IsPlaceOf};
+ghost use Rattle.snow_base.specs.Clauses.Gathered.{one_each};
 
 use crate::identifier::Id;
 use crate::vote::Vote;
@@ -21,7 +21,7 @@ pub struct Bag {
 
 impl Model for Bag {
     ghost use Rattle.std.specs.Prelude.{◌-◌, vec_len, vec_capacity};
-    ghost use Rattle.snow_base.specs.Votes.{Votes, IsTally};
+    ghost use Rattle.snow_base.specs.Model.Votes.{Votes, IsTally};
 
     ghost Value = { Votes };
 

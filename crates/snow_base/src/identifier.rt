@@ -88,9 +88,9 @@ impl Hash for Id {
 }
 
 impl Id {
-    ghost use Rattle.snow_base.specs.Identifier.{bit, bit_cmp, AgreeFrom, FirstDiffers};
-    ghost use Rattle.snow_base.specs.Gathered.{IsNamed};
-    ghost use Rattle.snow_base.specs.Words.{IsWord};
+    ghost use Rattle.snow_base.specs.Model.Identifier.{bit, bit_cmp, AgreeFrom, FirstDiffers};
+    ghost use Rattle.snow_base.specs.Clauses.Gathered.{IsNamed};
+    ghost use Rattle.snow_base.specs.Kept.Words.{IsWord};
 
     /// Returns the identifier of these 32 bytes. Any bytes are one.
     /// Rule: AvalancheGo, snow/consensus/snowman.

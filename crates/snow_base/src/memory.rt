@@ -1,7 +1,7 @@
 ghost use Rattle.std.specs.Prelude.{◌≡◌, ℕ, ◌+◌, ◌-◌, ◌<◌, ◌≤◌, ◌||◌, [], length, take, nat_lt, is_err, IsOk, IfOk, OnOk, OnErr};
 ghost use Rattle.std.specs.Io.KnownBytes.{ReadConsumes, WriteAppends};
-ghost use Rattle.snow_base.specs.Outside.{HasCause};
-ghost use Rattle.snow_base.specs.Memory.{raised, is_listed, faults_after, read_len};
+ghost use Rattle.snow_base.specs.Clauses.Outside.{HasCause};
+ghost use Rattle.snow_base.specs.Clauses.Memory.{raised, is_listed, faults_after, read_len};
 
 use crate::items::{Bytes, Nums};
 use crate::outside::{Failed, Sink, Source};
@@ -23,7 +23,7 @@ pub struct MemSource {
 
 impl Model for MemSource {
     ghost use Rattle.std.specs.Prelude.{◌≤◌, length, drop};
-    ghost use Rattle.snow_base.specs.Memory.{Reading};
+    ghost use Rattle.snow_base.specs.Clauses.Memory.{Reading};
 
     ghost Value = { Reading };
 
@@ -98,7 +98,7 @@ pub struct MemSink {
 
 impl Model for MemSink {
     ghost use Rattle.std.specs.Prelude.{◌+◌, ◌≤◌, vec_len, vec_capacity};
-    ghost use Rattle.snow_base.specs.Memory.{Writing};
+    ghost use Rattle.snow_base.specs.Clauses.Memory.{Writing};
 
     ghost Value = { Writing };
 

@@ -19,7 +19,7 @@ impl Model for Numbers {
 }
 
 impl Numbers {
-    ghost use Rattle.snow_base.specs.Numbers.{next_number, last_after};
+    ghost use Rattle.snow_base.specs.Model.Numbers.{next_number, last_after};
 
     /// Returns the numbers before the first draw.
     /// Rule: this project's own.

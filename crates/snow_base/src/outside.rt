@@ -1,6 +1,6 @@
 ghost use Rattle.std.specs.Prelude.{◌≡◌, ℕ, ◌<◌, ◌≤◌, ◌⊎◌, List, Option, length, IfOk, OnOk, OnErr};
 ghost use Rattle.std.specs.Io.KnownBytes.{Appends, ReadConsumes, WriteAppends};
-ghost use Rattle.snow_base.specs.Outside.{HasCause, AppendsFront};
+ghost use Rattle.snow_base.specs.Clauses.Outside.{HasCause, AppendsFront};
 
 /// Tells that a source or a sink failed. It comes only from a call in which the count of faults
 /// rose or stands at its last value, 2^64-1.

@@ -1,7 +1,7 @@
 ghost use Rattle.std.specs.Prelude.{◌≡◌, ℕ, ◌<◌, ◌≤◌, length, IsOk, IfOk};
 ghost use Rattle.std.specs.Io.KnownBytes.{ReadConsumes, WriteAppends};
-ghost use Rattle.snow_base.specs.Outside.{HasCause};
-ghost use Rattle.snow_base.specs.Memory.{raised, read_len};
+ghost use Rattle.snow_base.specs.Clauses.Outside.{HasCause};
+ghost use Rattle.snow_base.specs.Clauses.Memory.{raised, read_len};
 
 use crate::items::Bytes;
 use crate::memory::give;
@@ -19,7 +19,7 @@ pub struct PureSource {
 
 impl Model for PureSource {
     ghost use Rattle.std.specs.Prelude.{◌≤◌, length, drop};
-    ghost use Rattle.snow_base.specs.Memory.{PureReading};
+    ghost use Rattle.snow_base.specs.Clauses.Memory.{PureReading};
 
     ghost Value = { PureReading };
 

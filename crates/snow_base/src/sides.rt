@@ -1,6 +1,6 @@
 ghost use Rattle.std.specs.Prelude.{◌≡◌, ◌+◌, ◌<◌, ◌≤◌, true, false, length, take, drop};
-ghost use Rattle.snow_base.specs.Split.{AgreeBelow, HaveBit};
-ghost use Rattle.snow_base.specs.Votes.{IsInBitOrder};
+ghost use Rattle.snow_base.specs.Kept.Split.{AgreeBelow, HaveBit};
+ghost use Rattle.snow_base.specs.Model.Votes.{IsInBitOrder};
 
 use crate::vote::Vote;
 

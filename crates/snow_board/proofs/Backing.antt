@@ -9,20 +9,20 @@ use Rattle.std.proofs.lemmas.Option.{none-some, same_Some}
 use Rattle.std.proofs.lemmas.Bool.{or_left, or_right, ltb-false}
 use Rattle.snow_base.specs.declared.header.Header.{Header}
 use Rattle.snow_base.specs.declared.vote.Vote.{Vote}
-use Rattle.snow_base.specs.Identifier.{bits}
-use Rattle.snow_base.specs.Ancestry.{line_in, begins_with, is_below, votes_below}
-use Rattle.snow_flake.specs.Parameters.{Parameters, AreGood}
-use Rattle.snow_flake.specs.Counter.{Class, Low, Middle, High, class, Standing, Counter, Decided, Undecided, fresh, strength, raised, followed, voted, concluded, stepped}
-use Rattle.snow_flake.specs.Rule.{Answer, answer_of}
-use Rattle.snow_board.specs.Conflict.{Pending}
-use Rattle.snow_board.specs.Conflict.{Counters, Blank, counter_at, with_child, all_polled}
-use Rattle.snow_board.specs.Board.{Board, begin, blocks_of, counters_on, with_issued, issued}
-use Rattle.snow_board.specs.Poll.{counted, winner, promoted}
-use Rattle.snow_board.specs.Reached.{MayIssue}
-use Rattle.snow_board.specs.Grown.{is_on}
-use Rattle.snow_board.specs.Excluded.{is_excluded}
-use Rattle.snow_board.specs.PointwiseLaw.{fresh_at}
-use Rattle.snow_board.specs.StandingLaw.{has_child_from}
+use Rattle.snow_base.specs.Model.Identifier.{bits}
+use Rattle.snow_base.specs.Model.Ancestry.{line_in, begins_with, is_below, votes_below}
+use Rattle.snow_flake.specs.Model.Parameters.{Parameters, AreGood}
+use Rattle.snow_flake.specs.Model.Counter.{Class, Low, Middle, High, class, Standing, Counter, Decided, Undecided, fresh, strength, raised, followed, voted, concluded, stepped}
+use Rattle.snow_flake.specs.Model.Rule.{Answer, answer_of}
+use Rattle.snow_board.specs.Model.Conflict.{Pending}
+use Rattle.snow_board.specs.Model.Conflict.{Counters, Blank, counter_at, with_child, all_polled}
+use Rattle.snow_board.specs.Model.Board.{Board, begin, blocks_of, counters_on, with_issued, issued}
+use Rattle.snow_board.specs.Model.Poll.{counted, winner, promoted}
+use Rattle.snow_board.specs.Laws.Reached.{MayIssue}
+use Rattle.snow_board.specs.Kept.Grown.{is_on}
+use Rattle.snow_board.specs.Laws.Excluded.{is_excluded}
+use Rattle.snow_board.specs.Laws.PointwiseLaw.{fresh_at}
+use Rattle.snow_board.specs.Laws.StandingLaw.{has_child_from}
 use Rattle.snow_board.proofs.Cases.{split_on, clash, same_id, id_itself}
 use Rattle.snow_board.proofs.Invariant.{IsSound, IsKeptOver, blocks_counted, blocks_issued, issued_parent}
 use Rattle.snow_board.proofs.Lookup.{none_on, counters_issued, counters_counted, counters_promoted}

@@ -6,10 +6,10 @@ use Rattle.std.proofs.lemmas.List.Sums.{sum_by-cons, sum_by-le-sum_by}
 use Rattle.std.proofs.lemmas.Option.{none-some}
 use Rattle.snow_base.specs.declared.header.Header.{Header}
 use Rattle.snow_base.specs.declared.vote.Vote.{Vote}
-use Rattle.snow_base.specs.Votes.{total_count}
-use Rattle.snow_base.specs.Identifier.{bits}
-use Rattle.snow_base.specs.Ancestry.{line_in, begins_with, is_below, votes_below}
-use Rattle.snow_board.specs.Grown.{IsGrown}
+use Rattle.snow_base.specs.Model.Votes.{total_count}
+use Rattle.snow_base.specs.Model.Identifier.{bits}
+use Rattle.snow_base.specs.Model.Ancestry.{line_in, begins_with, is_below, votes_below}
+use Rattle.snow_board.specs.Kept.Grown.{IsGrown}
 use Rattle.snow_board.proofs.Cases.{split_on, clash, same_id}
 use Rattle.snow_board.proofs.Lines.{child_in, through}
 

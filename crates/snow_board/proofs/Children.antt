@@ -3,13 +3,13 @@ use Rattle.std.proofs.Common.{◌≡◌, ℕ, ◌≤◌, true, List, [], ◌∷�
 use Rattle.std.proofs.lemmas.Option.{none-some, same_Some}
 use Rattle.std.proofs.lemmas.Bool.{or_right}
 use Rattle.snow_base.specs.declared.vote.Vote.{Vote}
-use Rattle.snow_base.specs.Votes.{total_count}
-use Rattle.snow_board.specs.Conflict.{Pending}
-use Rattle.snow_board.specs.Conflict.{Counters}
-use Rattle.snow_board.specs.Board.{Board, blocks_of, parent_of, height_of, with_counters}
-use Rattle.snow_board.specs.Poll.{with_votes, counted, winner, promoted, settled, poll}
-use Rattle.snow_board.specs.Reached.{Reached}
-use Rattle.snow_board.specs.Grown.{has_block, is_on}
+use Rattle.snow_base.specs.Model.Votes.{total_count}
+use Rattle.snow_board.specs.Model.Conflict.{Pending}
+use Rattle.snow_board.specs.Model.Conflict.{Counters}
+use Rattle.snow_board.specs.Model.Board.{Board, blocks_of, parent_of, height_of, with_counters}
+use Rattle.snow_board.specs.Model.Poll.{with_votes, counted, winner, promoted, settled, poll}
+use Rattle.snow_board.specs.Laws.Reached.{Reached}
+use Rattle.snow_board.specs.Kept.Grown.{has_block, is_on}
 use Rattle.snow_board.proofs.Cases.{split_on, same_id}
 use Rattle.snow_board.proofs.Invariant.{IsSound, sound_kept, reached_sound, settled_keeps}
 use Rattle.snow_board.proofs.Lookup.{found, reversed_around, won, sought_filtered, stays, on_promoted}

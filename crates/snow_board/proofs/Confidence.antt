@@ -6,22 +6,22 @@ use Rattle.std.proofs.lemmas.Option.{none-some, same_Some}
 use Rattle.std.proofs.lemmas.Bool.{or_left, or_right, and_parts}
 use Rattle.snow_base.specs.declared.header.Header.{Header}
 use Rattle.snow_base.specs.declared.vote.Vote.{Vote}
-use Rattle.snow_base.specs.Votes.{total_count}
-use Rattle.snow_base.specs.Identifier.{bits}
-use Rattle.snow_base.specs.Ancestry.{line_in, begins_with, is_below, votes_below}
+use Rattle.snow_base.specs.Model.Votes.{total_count}
+use Rattle.snow_base.specs.Model.Identifier.{bits}
+use Rattle.snow_base.specs.Model.Ancestry.{line_in, begins_with, is_below, votes_below}
 use Rattle.snow_base.proofs.Bits.{length-bits}
-use Rattle.snow_flake.specs.Parameters.{Parameters, AreGood}
-use Rattle.snow_flake.specs.Counter.{Counter, fresh, stepped}
-use Rattle.snow_board.specs.Conflict.{Pending}
-use Rattle.snow_board.specs.Conflict.{Counters, Blank, At, counter_at, with_child, all_polled}
-use Rattle.snow_board.specs.Board.{Board, begin, blocks_of, counters_on, counter_on, issued}
-use Rattle.snow_board.specs.Poll.{counted, winner, promoted}
-use Rattle.snow_board.specs.Reached.{MayIssue, Reached}
-use Rattle.snow_board.specs.Grown.{is_on, IsGrown}
-use Rattle.snow_board.specs.Excluded.{is_excluded}
-use Rattle.snow_board.specs.PointwiseLaw.{stepped_at, fresh_at}
-use Rattle.snow_board.specs.ConfidenceLaw.{Bounds, HasConfidence}
-use Rattle.snow_board.specs.StandingLaw.{has_child_from}
+use Rattle.snow_flake.specs.Model.Parameters.{Parameters, AreGood}
+use Rattle.snow_flake.specs.Model.Counter.{Counter, fresh, stepped}
+use Rattle.snow_board.specs.Model.Conflict.{Pending}
+use Rattle.snow_board.specs.Model.Conflict.{Counters, Blank, At, counter_at, with_child, all_polled}
+use Rattle.snow_board.specs.Model.Board.{Board, begin, blocks_of, counters_on, counter_on, issued}
+use Rattle.snow_board.specs.Model.Poll.{counted, winner, promoted}
+use Rattle.snow_board.specs.Laws.Reached.{MayIssue, Reached}
+use Rattle.snow_board.specs.Kept.Grown.{is_on, IsGrown}
+use Rattle.snow_board.specs.Laws.Excluded.{is_excluded}
+use Rattle.snow_board.specs.Laws.PointwiseLaw.{stepped_at, fresh_at}
+use Rattle.snow_board.specs.Laws.ConfidenceLaw.{Bounds, HasConfidence}
+use Rattle.snow_board.specs.Laws.StandingLaw.{has_child_from}
 use Rattle.snow_board.proofs.Cases.{split_on, clash, same_id}
 use Rattle.snow_board.proofs.Invariant.{IsSound, IsKeptOver, sound_kept, both_kept, reached_keeps, blocks_counted, reversed_issued, issued_parent, issued_new}
 use Rattle.snow_board.proofs.Lookup.{none_on, stays, reversed_promoted, counters_issued, counters_counted, counters_promoted}

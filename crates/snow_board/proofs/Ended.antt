@@ -6,20 +6,20 @@ use mathlib.Core.List.{reverse-cons}
 use Rattle.std.proofs.lemmas.List.Folds.{list_any-append}
 use Rattle.std.proofs.lemmas.Bool.{or_parts, and_parts}
 use Rattle.snow_base.specs.declared.header.Header.{Header}
-use Rattle.snow_base.specs.Identifier.{bits}
+use Rattle.snow_base.specs.Model.Identifier.{bits}
 use Rattle.snow_base.proofs.Bits.{length-bits}
-use Rattle.snow_flake.specs.Counter.{admits}
-use Rattle.snow_flake.specs.Rule.{Answer, answer_of}
-use Rattle.snow_board.specs.Conflict.{Pending}
+use Rattle.snow_flake.specs.Model.Counter.{admits}
+use Rattle.snow_flake.specs.Model.Rule.{Answer, answer_of}
+use Rattle.snow_board.specs.Model.Conflict.{Pending}
 use Rattle.snow_board.specs.declared.leading.Leading.{Leading}
-use Rattle.snow_board.specs.Conflict.{Counters, Blank, At, with_child, chosen, leads_to}
-use Rattle.snow_board.specs.Board.{Board, blocks_of, with_issued, new_pending, issued, height_of}
-use Rattle.snow_board.specs.Preference.{path_from, end_of, preferred}
-use Rattle.snow_board.specs.Ending.{end_counters, has_pending_child, IsLeading, leading_after}
-use Rattle.snow_board.specs.Grown.{has_block, IsGrown}
+use Rattle.snow_board.specs.Model.Conflict.{Counters, Blank, At, with_child, chosen, leads_to}
+use Rattle.snow_board.specs.Model.Board.{Board, blocks_of, with_issued, new_pending, issued, height_of}
+use Rattle.snow_board.specs.Model.Preference.{path_from, end_of, preferred}
+use Rattle.snow_board.specs.Kept.Ending.{end_counters, has_pending_child, IsLeading, leading_after}
+use Rattle.snow_board.specs.Kept.Grown.{has_block, IsGrown}
 use Rattle.snow_board.proofs.Cases.{split_on, clash, same_id, id_itself, id_same, differs_back}
 use Rattle.snow_board.proofs.Grown.{has_child, latest_childless, has_block-reverse}
-use Rattle.snow_board.specs.Reached.{MayIssue}
+use Rattle.snow_board.specs.Laws.Reached.{MayIssue}
 use Rattle.snow_board.proofs.Issued.{after_issue, blocks_after, reversed_after, unknown_off, grown_issued}
 
 -- ---- the counters of one conflict

@@ -2,15 +2,15 @@
 use Rattle.std.proofs.Common.{◌≡◌, ℕ, true, false, List, [], ◌∷◌, replicate, refl, None, Some}
 use Rattle.snow_base.specs.declared.header.Header.{Header}
 use Rattle.snow_base.specs.declared.vote.Vote.{Vote}
-use Rattle.snow_base.specs.Identifier.{bits}
-use Rattle.snow_flake.specs.Parameters.{Parameters}
-use Rattle.snow_flake.specs.Counter.{Undecided, Decided}
-use Rattle.snow_flake.specs.Rule.{by_preference, by_flake}
+use Rattle.snow_base.specs.Model.Identifier.{bits}
+use Rattle.snow_flake.specs.Model.Parameters.{Parameters}
+use Rattle.snow_flake.specs.Model.Counter.{Undecided, Decided}
+use Rattle.snow_flake.specs.Model.Rule.{by_preference, by_flake}
 use Rattle.snow_board.specs.declared.decision.Decision.{Decision}
-use Rattle.snow_board.specs.Conflict.{with_child, all_polled, chosen, decided_path}
-use Rattle.snow_board.specs.Board.{Board, begin, issued, counter_on}
-use Rattle.snow_board.specs.Poll.{counted, winner, decisions_for, promoted, settled, poll}
-use Rattle.snow_board.specs.Preference.{path_from, preferred}
+use Rattle.snow_board.specs.Model.Conflict.{with_child, all_polled, chosen, decided_path}
+use Rattle.snow_board.specs.Model.Board.{Board, begin, issued, counter_on}
+use Rattle.snow_board.specs.Model.Poll.{counted, winner, decisions_for, promoted, settled, poll}
+use Rattle.snow_board.specs.Model.Preference.{path_from, preferred}
 
 -- an identifier by its first byte, with zeros behind
 abbrev named : ℕ → List ℕ

@@ -3,11 +3,11 @@ use Rattle.std.proofs.Common.{◌≡◌, ℕ, suc, Bool, true, false, not, ◌&&
 use Rattle.std.specs.Bool.{beq}
 use Rattle.std.specs.List.{starts_with}
 use Rattle.std.proofs.lemmas.Bool.{or_right, and_right, lt-ltb, le-ltb, ltb-true, ltb-false}
-use Rattle.snow_flake.specs.Parameters.{Parameters}
-use Rattle.snow_flake.specs.Counter.{Counter, Decided, Undecided, stepped, admits}
-use Rattle.snow_board.specs.Conflict.{Counters, Blank, At, counter_at, with_child, all_polled}
-use Rattle.snow_board.specs.Excluded.{is_excluded}
-use Rattle.snow_board.specs.PointwiseLaw.{stepped_at, fresh_at}
+use Rattle.snow_flake.specs.Model.Parameters.{Parameters}
+use Rattle.snow_flake.specs.Model.Counter.{Counter, Decided, Undecided, stepped, admits}
+use Rattle.snow_board.specs.Model.Conflict.{Counters, Blank, At, counter_at, with_child, all_polled}
+use Rattle.snow_board.specs.Laws.Excluded.{is_excluded}
+use Rattle.snow_board.specs.Laws.PointwiseLaw.{stepped_at, fresh_at}
 use Rattle.snow_board.proofs.Cases.{split_on}
 
 -- after a poll those lists are excluded that the stepped counters exclude

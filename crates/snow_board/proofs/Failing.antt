@@ -2,13 +2,13 @@
 use Rattle.std.proofs.Common.{◌≡◌, ℕ, ◌<◌, Bool, true, false, List, [], ◌∷◌, length, map, nat_le, if◌then◌else◌, refl, sym, ◌∙◌, arith}
 use Rattle.std.proofs.lemmas.Bool.{lt-ltb, lt-leb}
 use Rattle.snow_base.specs.declared.vote.Vote.{Vote}
-use Rattle.snow_base.specs.Ancestry.{votes_below}
-use Rattle.snow_flake.specs.Parameters.{Parameters, AreGood}
-use Rattle.snow_flake.specs.Counter.{Counter, Decided, Undecided, Low, class, fresh, stepped, admits}
-use Rattle.snow_board.specs.Conflict.{Counters, Blank, At, with_child, all_polled}
-use Rattle.snow_board.specs.Board.{Board, blocks_of, with_counters}
-use Rattle.snow_board.specs.Poll.{with_votes, counted, settled, poll}
-use Rattle.snow_board.specs.FailingLaw.{failed}
+use Rattle.snow_base.specs.Model.Ancestry.{votes_below}
+use Rattle.snow_flake.specs.Model.Parameters.{Parameters, AreGood}
+use Rattle.snow_flake.specs.Model.Counter.{Counter, Decided, Undecided, Low, class, fresh, stepped, admits}
+use Rattle.snow_board.specs.Model.Conflict.{Counters, Blank, At, with_child, all_polled}
+use Rattle.snow_board.specs.Model.Board.{Board, blocks_of, with_counters}
+use Rattle.snow_board.specs.Model.Poll.{with_votes, counted, settled, poll}
+use Rattle.snow_board.specs.Laws.FailingLaw.{failed}
 use Rattle.snow_board.proofs.Same.{same_counters}
 
 -- fewer votes than the quorum for preference are few

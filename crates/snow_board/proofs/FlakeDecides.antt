@@ -2,12 +2,12 @@
 use Rattle.std.proofs.Common.{◌≡◌, ℕ, true, false, List, [], ◌∷◌, replicate, refl, Some}
 use Rattle.snow_base.specs.declared.header.Header.{Header}
 use Rattle.snow_base.specs.declared.vote.Vote.{Vote}
-use Rattle.snow_base.specs.Identifier.{bits}
-use Rattle.snow_flake.specs.Parameters.{Parameters}
-use Rattle.snow_flake.specs.Counter.{Undecided}
-use Rattle.snow_board.specs.Conflict.{with_child, all_polled, chosen, decided_path}
-use Rattle.snow_board.specs.Board.{Board, begin, issued, counter_on}
-use Rattle.snow_board.specs.Poll.{counted, winner, decisions_for, promoted, settled, poll}
+use Rattle.snow_base.specs.Model.Identifier.{bits}
+use Rattle.snow_flake.specs.Model.Parameters.{Parameters}
+use Rattle.snow_flake.specs.Model.Counter.{Undecided}
+use Rattle.snow_board.specs.Model.Conflict.{with_child, all_polled, chosen, decided_path}
+use Rattle.snow_board.specs.Model.Board.{Board, begin, issued, counter_on}
+use Rattle.snow_board.specs.Model.Poll.{counted, winner, decisions_for, promoted, settled, poll}
 
 -- the identifiers: without a bit set, with bit 7 alone, and that of the last accepted block
 abbrev first : List ℕ

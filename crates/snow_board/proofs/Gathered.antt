@@ -6,11 +6,11 @@ use Rattle.std.specs.Ordering.{bool_cmp, match_ordering}
 use Rattle.std.specs.Cmp.Lexicographic.{slice_cmp}
 use Rattle.std.proofs.lemmas.List.Sums.{sum_by-cons, sum_by_more}
 use Rattle.snow_base.specs.declared.vote.Vote.{Vote}
-use Rattle.snow_base.specs.Identifier.{bits, bit_cmp}
-use Rattle.snow_base.specs.Votes.{added}
+use Rattle.snow_base.specs.Model.Identifier.{bits, bit_cmp}
+use Rattle.snow_base.specs.Model.Votes.{added}
 use Rattle.snow_board.specs.declared.cursor.Cursor.{Cursor}
-use Rattle.snow_board.specs.Conflict.{votes_on}
-use Rattle.snow_board.specs.Cursors.{votes_for, votes_at, child_at, cursor_total}
+use Rattle.snow_board.specs.Model.Conflict.{votes_on}
+use Rattle.snow_board.specs.Kept.Cursors.{votes_for, votes_at, child_at, cursor_total}
 
 -- what a call that succeeded ensures
 pub ok_then : {T E P : Type 0} (r : Result T E) → IsOk r → OnOk r P → P

@@ -5,8 +5,8 @@ use Rattle.std.specs.declared.cmp.Ordering.{Ordering}
 use Rattle.std.specs.declared.cmp.Ordering.TheVariants.{Less, Equal, Greater}
 use Rattle.std.proofs.lemmas.List.Elements.{All-nil, All-cons, All-head, All-tail}
 use Rattle.snow_base.specs.declared.vote.Vote.{Vote}
-use Rattle.snow_base.specs.Identifier.{bit_cmp}
-use Rattle.snow_base.specs.Votes.{added}
+use Rattle.snow_base.specs.Model.Identifier.{bit_cmp}
+use Rattle.snow_base.specs.Model.Votes.{added}
 
 abbrev IsGiven : List (List ℕ) → Vote → Type 0
 IsGiven ids v = Contains ids v.id

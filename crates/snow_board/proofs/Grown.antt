@@ -6,10 +6,10 @@ use Rattle.std.proofs.lemmas.List.{reverse-append, map-append}
 use Rattle.std.proofs.lemmas.List.Folds.{list_any-append}
 use Rattle.std.proofs.lemmas.Bool.{or_parts, or_from, or_left, or_right}
 use Rattle.snow_base.specs.declared.header.Header.{Header}
-use Rattle.snow_base.specs.Ancestry.{line_in}
-use Rattle.snow_board.specs.Conflict.{Pending}
-use Rattle.snow_board.specs.Board.{blocks_of}
-use Rattle.snow_board.specs.Grown.{has_block, is_on, IsGrown, Grew}
+use Rattle.snow_base.specs.Model.Ancestry.{line_in}
+use Rattle.snow_board.specs.Model.Conflict.{Pending}
+use Rattle.snow_board.specs.Model.Board.{blocks_of}
+use Rattle.snow_board.specs.Kept.Grown.{has_block, is_on, IsGrown, Grew}
 use Rattle.snow_board.proofs.Cases.{split_on, clash, same_id, id_itself}
 
 -- the latest block was new

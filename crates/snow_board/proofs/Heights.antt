@@ -4,15 +4,15 @@ use Rattle.std.proofs.lemmas.Option.{none-some, same_Some}
 use Rattle.std.proofs.lemmas.Bool.{or_parts, or_left, or_right}
 use Rattle.snow_base.specs.declared.header.Header.{Header}
 use Rattle.snow_base.specs.declared.vote.Vote.{Vote}
-use Rattle.snow_base.specs.Votes.{total_count}
-use Rattle.snow_base.specs.Ancestry.{descends}
-use Rattle.snow_board.specs.Conflict.{Pending}
-use Rattle.snow_board.specs.Conflict.{Counters}
-use Rattle.snow_board.specs.Board.{Board, blocks_of, height_of, with_counters, with_issued, new_pending, issued}
-use Rattle.snow_board.specs.Poll.{with_votes, counted, winner, promoted}
-use Rattle.snow_board.specs.Reached.{MayIssue, Reached}
-use Rattle.snow_board.specs.Grown.{has_block, is_on, IsGrown}
-use Rattle.snow_board.specs.QuorumLaw.{votes_with}
+use Rattle.snow_base.specs.Model.Votes.{total_count}
+use Rattle.snow_base.specs.Model.Ancestry.{descends}
+use Rattle.snow_board.specs.Model.Conflict.{Pending}
+use Rattle.snow_board.specs.Model.Conflict.{Counters}
+use Rattle.snow_board.specs.Model.Board.{Board, blocks_of, height_of, with_counters, with_issued, new_pending, issued}
+use Rattle.snow_board.specs.Model.Poll.{with_votes, counted, winner, promoted}
+use Rattle.snow_board.specs.Laws.Reached.{MayIssue, Reached}
+use Rattle.snow_board.specs.Kept.Grown.{has_block, is_on, IsGrown}
+use Rattle.snow_board.specs.Laws.QuorumLaw.{votes_with}
 use Rattle.snow_board.proofs.Cases.{split_on, clash, same_id, id_same, id_itself}
 use Rattle.snow_board.proofs.Grown.{grown_parent, grown_rest, on_more}
 use Rattle.snow_board.proofs.Kept.{is_under}

@@ -2,16 +2,16 @@
 use Rattle.std.proofs.Common.{◌≡◌, ◌∙◌, true, false, ℕ, zero, suc, ◌≤◌, ◌||◌, List, [], ◌∷◌, ◌++◌, length, map, bytes_eq, reverse, Option, Some, None, refl, sym, ap, subst}
 use Rattle.snow_base.specs.declared.header.Header.{Header}
 use Rattle.snow_base.specs.declared.vote.Vote.{Vote}
-use Rattle.snow_base.specs.Votes.{total_count}
-use Rattle.snow_flake.specs.Parameters.{Parameters, AreGood}
-use Rattle.snow_board.specs.Conflict.{Pending}
-use Rattle.snow_board.specs.Conflict.{Counters}
-use Rattle.snow_board.specs.Board.{Board, begin, blocks_of, with_counters, with_issued, new_pending, issued}
-use Rattle.snow_board.specs.Poll.{with_votes, counted, winner, promoted, settled, poll}
-use Rattle.snow_board.specs.Reached.{MayIssue, Reached, Begun, Issued, Polled}
-use Rattle.snow_board.specs.Grown.{IsGrown, Bare}
+use Rattle.snow_base.specs.Model.Votes.{total_count}
+use Rattle.snow_flake.specs.Model.Parameters.{Parameters, AreGood}
+use Rattle.snow_board.specs.Model.Conflict.{Pending}
+use Rattle.snow_board.specs.Model.Conflict.{Counters}
+use Rattle.snow_board.specs.Model.Board.{Board, begin, blocks_of, with_counters, with_issued, new_pending, issued}
+use Rattle.snow_board.specs.Model.Poll.{with_votes, counted, winner, promoted, settled, poll}
+use Rattle.snow_board.specs.Laws.Reached.{MayIssue, Reached, Begun, Issued, Polled}
+use Rattle.snow_board.specs.Kept.Grown.{IsGrown, Bare}
 use Rattle.std.proofs.lemmas.List.{map-append, reverse-append}
-use Rattle.snow_board.specs.Grown.{is_on}
+use Rattle.snow_board.specs.Kept.Grown.{is_on}
 use Rattle.snow_board.proofs.Grown.{grown_new, grown_parent, has_block-reverse}
 use Rattle.snow_board.proofs.Settled.{settled_done, settled_won}
 use Rattle.snow_board.proofs.Issued.{grown_issued}

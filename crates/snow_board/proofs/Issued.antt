@@ -4,12 +4,12 @@ use Rattle.std.proofs.lemmas.List.{map-append, set_split, reverse-append}
 use Rattle.std.proofs.lemmas.Bool.{or_parts, or_from, or_left, or_right}
 use Rattle.std.proofs.lemmas.Option.{none-some}
 use Rattle.snow_base.specs.declared.header.Header.{Header}
-use Rattle.snow_board.specs.Conflict.{Pending}
-use Rattle.snow_board.specs.Board.{Board, blocks_of, with_counters, with_issued, new_pending, issued, height_of}
-use Rattle.snow_base.specs.Identifier.{bits}
-use Rattle.snow_board.specs.Conflict.{Counters, with_child}
-use Rattle.snow_board.specs.Reached.{MayIssue}
-use Rattle.snow_board.specs.Grown.{has_block, is_on, IsGrown, Grew}
+use Rattle.snow_board.specs.Model.Conflict.{Pending}
+use Rattle.snow_board.specs.Model.Board.{Board, blocks_of, with_counters, with_issued, new_pending, issued, height_of}
+use Rattle.snow_base.specs.Model.Identifier.{bits}
+use Rattle.snow_board.specs.Model.Conflict.{Counters, with_child}
+use Rattle.snow_board.specs.Laws.Reached.{MayIssue}
+use Rattle.snow_board.specs.Kept.Grown.{has_block, is_on, IsGrown, Grew}
 use Rattle.snow_board.proofs.Cases.{split_on, same_id}
 use Rattle.snow_board.proofs.Grown.{older, not_last, reversed_at, has_block-reverse}
 

@@ -5,11 +5,11 @@ use Rattle.std.specs.List.{list_any}
 use Rattle.std.proofs.lemmas.List.Elements.{All-head, All-tail, filter-append}
 use Rattle.std.proofs.lemmas.Bool.{or_parts, or_from, or_left, or_right, and_parts, not-true, true_from_ne_false}
 use Rattle.snow_base.specs.declared.header.Header.{Header}
-use Rattle.snow_base.specs.Ancestry.{line_in}
-use Rattle.snow_board.specs.Conflict.{Pending}
-use Rattle.snow_board.specs.Board.{blocks_of}
-use Rattle.snow_board.specs.Acceptance.{descendants}
-use Rattle.snow_board.specs.Grown.{has_block, is_on, IsGrown, Bare, Grew}
+use Rattle.snow_base.specs.Model.Ancestry.{line_in}
+use Rattle.snow_board.specs.Model.Conflict.{Pending}
+use Rattle.snow_board.specs.Model.Board.{blocks_of}
+use Rattle.snow_board.specs.Model.Acceptance.{descendants}
+use Rattle.snow_board.specs.Kept.Grown.{has_block, is_on, IsGrown, Bare, Grew}
 use Rattle.snow_board.proofs.Cases.{split_on, clash, same_id, id_itself, differs_back}
 use Rattle.snow_board.proofs.Grown.{grown_new, grown_rest, no_line}
 

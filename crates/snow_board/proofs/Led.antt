@@ -6,13 +6,13 @@ use Rattle.std.specs.Cmp.Lexicographic.{pointwise}
 use Rattle.std.specs.List.{list_any, starts_with}
 use Rattle.std.proofs.lemmas.Bool.{or_parts, or_from, or_left, or_right, and_parts, ltb-false}
 use Rattle.snow_base.specs.declared.header.Header.{Header}
-use Rattle.snow_base.specs.Identifier.{bits}
+use Rattle.snow_base.specs.Model.Identifier.{bits}
 use Rattle.snow_base.proofs.Bits.{length-bits}
-use Rattle.snow_flake.specs.Counter.{Counter, Decided, Undecided, admits}
-use Rattle.snow_flake.specs.Rule.{Answer, answer_of}
-use Rattle.snow_board.specs.Conflict.{Counters, Blank, At, counter_at, chosen}
-use Rattle.snow_board.specs.Excluded.{lets, is_excluded}
-use Rattle.snow_board.specs.StandingLaw.{has_child_from}
+use Rattle.snow_flake.specs.Model.Counter.{Counter, Decided, Undecided, admits}
+use Rattle.snow_flake.specs.Model.Rule.{Answer, answer_of}
+use Rattle.snow_board.specs.Model.Conflict.{Counters, Blank, At, counter_at, chosen}
+use Rattle.snow_board.specs.Laws.Excluded.{lets, is_excluded}
+use Rattle.snow_board.specs.Laws.StandingLaw.{has_child_from}
 use Rattle.snow_board.proofs.Cases.{split_on}
 use Rattle.snow_board.proofs.Standing.{StandIn}
 use Rattle.snow_board.proofs.Backing.{answer_backed, BackedIn}

@@ -5,14 +5,14 @@ use Rattle.std.specs.List.{list_any, starts_with}
 use Rattle.std.proofs.lemmas.Option.{none-some}
 use Rattle.std.proofs.lemmas.Bool.{or_left, or_right}
 use Rattle.snow_base.specs.declared.header.Header.{Header}
-use Rattle.snow_base.specs.Identifier.{bits}
-use Rattle.snow_base.specs.Ancestry.{line_in, begins_with}
-use Rattle.snow_base.specs.Ancestry.{is_below}
-use Rattle.snow_board.specs.Board.{Board, blocks_of}
-use Rattle.snow_board.specs.Reached.{Reached}
-use Rattle.snow_board.specs.LineLaw.{has_child_on}
+use Rattle.snow_base.specs.Model.Identifier.{bits}
+use Rattle.snow_base.specs.Model.Ancestry.{line_in, begins_with}
+use Rattle.snow_base.specs.Model.Ancestry.{is_below}
+use Rattle.snow_board.specs.Model.Board.{Board, blocks_of}
+use Rattle.snow_board.specs.Laws.Reached.{Reached}
+use Rattle.snow_board.specs.Laws.LineLaw.{has_child_on}
 use Rattle.snow_board.proofs.Invariant.{reached_sound}
-use Rattle.snow_board.specs.Grown.{has_block, is_on, IsGrown}
+use Rattle.snow_board.specs.Kept.Grown.{has_block, is_on, IsGrown}
 use Rattle.snow_board.proofs.Cases.{split_on, clash, same_id, id_itself}
 use Rattle.snow_board.proofs.Grown.{grown_new, grown_parent, grown_rest, grown_before, on_more, older, childless, no_child_on, line_passes}
 

@@ -8,13 +8,13 @@ use Rattle.std.proofs.lemmas.Option.{none-some, same_Some}
 use Rattle.std.proofs.lemmas.Bool.{or_parts, or_from, or_left, or_right, and_parts}
 use Rattle.snow_base.specs.declared.header.Header.{Header}
 use Rattle.snow_base.specs.declared.vote.Vote.{Vote}
-use Rattle.snow_base.specs.Ancestry.{descends}
-use Rattle.snow_flake.specs.Parameters.{Parameters}
-use Rattle.snow_board.specs.Conflict.{Pending}
-use Rattle.snow_board.specs.Conflict.{Counters, Blank, all_polled, decides}
-use Rattle.snow_board.specs.Board.{Board, blocks_of, counters_on, height_of, with_issued, with_counters, new_pending, issued}
-use Rattle.snow_board.specs.Poll.{with_votes, counted, winner, promoted}
-use Rattle.snow_board.specs.Grown.{has_block, is_on, IsGrown}
+use Rattle.snow_base.specs.Model.Ancestry.{descends}
+use Rattle.snow_flake.specs.Model.Parameters.{Parameters}
+use Rattle.snow_board.specs.Model.Conflict.{Pending}
+use Rattle.snow_board.specs.Model.Conflict.{Counters, Blank, all_polled, decides}
+use Rattle.snow_board.specs.Model.Board.{Board, blocks_of, counters_on, height_of, with_issued, with_counters, new_pending, issued}
+use Rattle.snow_board.specs.Model.Poll.{with_votes, counted, winner, promoted}
+use Rattle.snow_board.specs.Kept.Grown.{has_block, is_on, IsGrown}
 use Rattle.snow_board.proofs.Cases.{split_on, clash, same_id, id_itself}
 use Rattle.snow_board.proofs.Grown.{grown_new, grown_before, not_last, has_block-reverse}
 use Rattle.snow_board.proofs.Kept.{filter-reverse, blocks-filter, has_filtered}

@@ -3,9 +3,9 @@ use Rattle.std.proofs.Common.{◌≡◌, ℕ, ◌+◌, ◌≤◌, Bool, true, fa
 use Rattle.std.specs.Bool.{beq}
 use Rattle.std.specs.Cmp.{booleans_Decides}
 use Rattle.std.proofs.lemmas.Bool.{le-ltb, ltb-false, le-leb, lt-leb, leb-true, leb-false}
-use Rattle.snow_flake.specs.Parameters.{Parameters, AreGood}
-use Rattle.snow_flake.specs.Counter.{Class, Low, Middle, High, class, Standing, Counter, Decided, Undecided, next_confidence, followed, voted, concluded, stepped}
-use Rattle.snow_board.specs.ConfidenceLaw.{Bounds}
+use Rattle.snow_flake.specs.Model.Parameters.{Parameters, AreGood}
+use Rattle.snow_flake.specs.Model.Counter.{Class, Low, Middle, High, class, Standing, Counter, Decided, Undecided, next_confidence, followed, voted, concluded, stepped}
+use Rattle.snow_board.specs.Laws.ConfidenceLaw.{Bounds}
 use Rattle.snow_board.proofs.Cases.{split_on}
 use Rattle.snow_board.proofs.Failing.{few}
 

@@ -3,11 +3,11 @@ use Rattle.std.proofs.Common.{◌≡◌, ℕ, Bool, true, false, not, ◌||◌, 
 use Rattle.std.proofs.lemmas.Bool.{or_right}
 use Rattle.std.proofs.lemmas.Option.{none-some, same_Some}
 use Rattle.std.specs.Bool.{beq, Decides}
-use Rattle.snow_flake.specs.Parameters.{Parameters}
-use Rattle.snow_flake.specs.Counter.{Counter, Decided, Undecided, stepped, admits}
-use Rattle.snow_board.specs.Conflict.{Counters, Blank, At, counter_at, with_child, all_polled}
-use Rattle.snow_board.specs.Excluded.{lets, is_excluded, IsExcluded}
-use Rattle.snow_board.specs.PointwiseLaw.{stepped_at, grown_at, fresh_at}
+use Rattle.snow_flake.specs.Model.Parameters.{Parameters}
+use Rattle.snow_flake.specs.Model.Counter.{Counter, Decided, Undecided, stepped, admits}
+use Rattle.snow_board.specs.Model.Conflict.{Counters, Blank, At, counter_at, with_child, all_polled}
+use Rattle.snow_board.specs.Laws.Excluded.{lets, is_excluded, IsExcluded}
+use Rattle.snow_board.specs.Laws.PointwiseLaw.{stepped_at, grown_at, fresh_at}
 use Rattle.snow_board.proofs.Cases.{split_on}
 
 -- ---- a map

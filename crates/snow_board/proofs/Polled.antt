@@ -4,9 +4,9 @@ use Rattle.std.proofs.lemmas.List.{length-map}
 use Rattle.std.proofs.lemmas.List.Elements.{All-head, All-tail}
 use Rattle.std.proofs.lemmas.List.Sums.{sum_by-cons}
 use Rattle.snow_base.specs.declared.vote.Vote.{Vote}
-use Rattle.snow_base.specs.Votes.{total_count}
-use Rattle.snow_board.specs.Board.{Board, blocks_of, with_counters}
-use Rattle.snow_board.specs.Poll.{with_votes, counted, settled, poll}
+use Rattle.snow_base.specs.Model.Votes.{total_count}
+use Rattle.snow_board.specs.Model.Board.{Board, blocks_of, with_counters}
+use Rattle.snow_board.specs.Model.Poll.{with_votes, counted, settled, poll}
 use Rattle.snow_board.proofs.Settled.{settled_parameters}
 
 -- there are no more entries than votes

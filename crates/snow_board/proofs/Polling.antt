@@ -5,14 +5,14 @@ use Rattle.std.specs.List.{starts_with}
 use Rattle.std.proofs.lemmas.List.Elements.{All-head, All-tail}
 use Rattle.std.proofs.lemmas.List.Sums.{sum_by-cons, sum_by-take-drop}
 use Rattle.snow_base.specs.declared.vote.Vote.{Vote}
-use Rattle.snow_base.specs.Identifier.{bit, bits}
-use Rattle.snow_base.specs.Split.{HaveBit}
-use Rattle.snow_base.specs.Votes.{total_count}
+use Rattle.snow_base.specs.Model.Identifier.{bit, bits}
+use Rattle.snow_base.specs.Kept.Split.{HaveBit}
+use Rattle.snow_base.specs.Model.Votes.{total_count}
 use Rattle.snow_base.proofs.Bits.{drop-bits}
-use Rattle.snow_flake.specs.Parameters.{Parameters}
-use Rattle.snow_flake.specs.Counter.{Counter, stepped, admits}
-use Rattle.snow_board.specs.Conflict.{Counters, Blank, At, all_polled}
-use Rattle.snow_board.specs.Walk.{votes_from}
+use Rattle.snow_flake.specs.Model.Parameters.{Parameters}
+use Rattle.snow_flake.specs.Model.Counter.{Counter, stepped, admits}
+use Rattle.snow_board.specs.Model.Conflict.{Counters, Blank, At, all_polled}
+use Rattle.snow_board.specs.Kept.Walk.{votes_from}
 use Rattle.snow_board.proofs.Walking.{same_first, other_first}
 
 -- the count of a vote for an identifier whose bits from bit n on begin so

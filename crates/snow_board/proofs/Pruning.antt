@@ -6,20 +6,20 @@ use Rattle.std.specs.Cmp.Lexicographic.{pointwise}
 use Rattle.std.specs.Bool.{beq}
 use Rattle.snow_base.specs.declared.header.Header.{Header}
 use Rattle.snow_base.specs.declared.vote.Vote.{Vote}
-use Rattle.snow_base.specs.Identifier.{bits}
-use Rattle.snow_base.specs.Ancestry.{votes_below, descends}
-use Rattle.snow_flake.specs.Parameters.{Parameters}
-use Rattle.snow_flake.specs.Counter.{Counter, Decided, Undecided, Standing, fresh, stepped, admits}
-use Rattle.snow_flake.specs.Instance.{Instance, counter_of, polled}
-use Rattle.snow_flake.specs.Rule.{Answer}
+use Rattle.snow_base.specs.Model.Identifier.{bits}
+use Rattle.snow_base.specs.Model.Ancestry.{votes_below, descends}
+use Rattle.snow_flake.specs.Model.Parameters.{Parameters}
+use Rattle.snow_flake.specs.Model.Counter.{Counter, Decided, Undecided, Standing, fresh, stepped, admits}
+use Rattle.snow_flake.specs.Kept.Instance.{Instance, counter_of, polled}
+use Rattle.snow_flake.specs.Model.Rule.{Answer}
 use Rattle.snow_board.specs.declared.decision.Decision.{Decision}
-use Rattle.snow_board.specs.Conflict.{Pending}
-use Rattle.snow_board.specs.Conflict.{Counters, Blank, At, with_child, all_polled, chosen, decided_path, decides}
-use Rattle.snow_board.specs.Board.{Board, begin, blocks_of, with_counters, with_issued, new_pending, issued}
-use Rattle.snow_board.specs.Poll.{with_votes, counted, winner, accepts, rejects, decisions_for, promoted, and_then, accepted_then, settled, poll}
-use Rattle.snow_board.specs.Preference.{path_from, end_of, preferred, preferred_path}
-use Rattle.snow_board.specs.Keeping.{Whole, Empty, Node, whole_with_child, whole_polled, seen, WholePending, WholeBoard, whole_begin, seen_pending, seen_board, with_whole, grown_whole, whole_issued, polled_whole, whole_counted, whole_winner, whole_promoted, whole_accepted_then, whole_settled, whole_poll}
-use Rattle.snow_board.specs.KeepingLaw.{Round, Issue, Poll, run, whole_run}
+use Rattle.snow_board.specs.Model.Conflict.{Pending}
+use Rattle.snow_board.specs.Model.Conflict.{Counters, Blank, At, with_child, all_polled, chosen, decided_path, decides}
+use Rattle.snow_board.specs.Model.Board.{Board, begin, blocks_of, with_counters, with_issued, new_pending, issued}
+use Rattle.snow_board.specs.Model.Poll.{with_votes, counted, winner, accepts, rejects, decisions_for, promoted, and_then, accepted_then, settled, poll}
+use Rattle.snow_board.specs.Model.Preference.{path_from, end_of, preferred, preferred_path}
+use Rattle.snow_board.specs.Laws.Keeping.{Whole, Empty, Node, whole_with_child, whole_polled, seen, WholePending, WholeBoard, whole_begin, seen_pending, seen_board, with_whole, grown_whole, whole_issued, polled_whole, whole_counted, whole_winner, whole_promoted, whole_accepted_then, whole_settled, whole_poll}
+use Rattle.snow_board.specs.Laws.KeepingLaw.{Round, Issue, Poll, run, whole_run}
 use Rattle.snow_board.proofs.Cases.{split_on, clash}
 use Rattle.snow_board.proofs.Excluding.{closed_stays}
 

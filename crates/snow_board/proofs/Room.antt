@@ -3,9 +3,9 @@ use Rattle.std.proofs.Common.{◌≡◌, ◌+◌, ◌≤◌, List, [], ◌∷◌
 use Rattle.std.proofs.lemmas.List.{length-append, length-map}
 use Rattle.snow_base.specs.declared.header.Header.{Header}
 use Rattle.snow_base.specs.declared.vote.Vote.{Vote}
-use Rattle.snow_board.specs.Board.{Board, blocks_of, with_counters, with_issued, new_pending, issued}
-use Rattle.snow_board.specs.Poll.{with_votes, counted}
-use Rattle.snow_board.specs.Reached.{Reached}
+use Rattle.snow_board.specs.Model.Board.{Board, blocks_of, with_counters, with_issued, new_pending, issued}
+use Rattle.snow_board.specs.Model.Poll.{with_votes, counted}
+use Rattle.snow_board.specs.Laws.Reached.{Reached}
 use Rattle.snow_board.proofs.Invariant.{IsKept, reached_keeps}
 use Rattle.snow_board.proofs.Settled.{promoted_shorter}
 

@@ -6,14 +6,14 @@ use Rattle.std.proofs.lemmas.List.Folds.{list_any-append}
 use Rattle.std.proofs.lemmas.Bool.{or_left, or_right}
 use Rattle.snow_base.specs.declared.header.Header.{Header}
 use Rattle.snow_base.specs.declared.vote.Vote.{Vote}
-use Rattle.snow_base.specs.Ancestry.{is_below, votes_below}
-use Rattle.snow_flake.specs.Parameters.{Parameters}
-use Rattle.snow_flake.specs.Counter.{Counter, Decided, Undecided, class, voted, concluded, stepped, admits}
-use Rattle.snow_board.specs.Conflict.{Counters, Blank, At, all_polled}
-use Rattle.snow_board.specs.Board.{Board, blocks_of, with_counters}
-use Rattle.snow_board.specs.Poll.{with_votes, counted, settled, poll}
-use Rattle.snow_flake.specs.Alike.{votes_for, AreAlike}
-use Rattle.snow_board.specs.Alike.{GivesAll}
+use Rattle.snow_base.specs.Model.Ancestry.{is_below, votes_below}
+use Rattle.snow_flake.specs.Model.Parameters.{Parameters}
+use Rattle.snow_flake.specs.Model.Counter.{Counter, Decided, Undecided, class, voted, concluded, stepped, admits}
+use Rattle.snow_board.specs.Model.Conflict.{Counters, Blank, At, all_polled}
+use Rattle.snow_board.specs.Model.Board.{Board, blocks_of, with_counters}
+use Rattle.snow_board.specs.Model.Poll.{with_votes, counted, settled, poll}
+use Rattle.snow_flake.specs.Laws.Alike.{votes_for, AreAlike}
+use Rattle.snow_board.specs.Laws.Alike.{GivesAll}
 use Rattle.snow_board.specs.declared.decision.Decision.{Decision}
 use Rattle.snow_board.proofs.Cases.{split_on, clash, same_id, id_itself}
 

@@ -5,11 +5,11 @@ use Rattle.std.proofs.lemmas.List.Folds.{find_at}
 use Rattle.std.proofs.lemmas.Option.{none-some, same_Some, slice_get_past}
 use Rattle.std.proofs.lemmas.Bool.{and_right, ltb-false, ltb-true}
 use Rattle.snow_board.specs.declared.decision.Decision.{Decision}
-use Rattle.snow_board.specs.Conflict.{Pending}
-use Rattle.snow_board.specs.Conflict.{decides}
-use Rattle.snow_board.specs.Board.{Board}
-use Rattle.snow_board.specs.Poll.{winner, promoted, decisions_for, stays_with, settled, and_then, accepted_then}
-use Rattle.snow_board.specs.Acceptance.{Accepts}
+use Rattle.snow_board.specs.Model.Conflict.{Pending}
+use Rattle.snow_board.specs.Model.Conflict.{decides}
+use Rattle.snow_board.specs.Model.Board.{Board}
+use Rattle.snow_board.specs.Model.Poll.{winner, promoted, decisions_for, stays_with, settled, and_then, accepted_then}
+use Rattle.snow_board.specs.Model.Acceptance.{Accepts}
 use Rattle.snow_board.proofs.Cases.{split_on, id_itself}
 
 -- ---- the winner's place

@@ -8,20 +8,20 @@ use Rattle.std.proofs.lemmas.List.Folds.{list_any-append}
 use Rattle.std.proofs.lemmas.Bool.{or_parts, or_left, or_right, and_parts, and_left, and_right}
 use Rattle.snow_base.specs.declared.header.Header.{Header}
 use Rattle.snow_base.specs.declared.vote.Vote.{Vote}
-use Rattle.snow_base.specs.Identifier.{bits}
-use Rattle.snow_base.specs.Ancestry.{line_in, votes_below}
+use Rattle.snow_base.specs.Model.Identifier.{bits}
+use Rattle.snow_base.specs.Model.Ancestry.{line_in, votes_below}
 use Rattle.snow_base.proofs.Bits.{length-bits}
-use Rattle.snow_flake.specs.Parameters.{Parameters}
-use Rattle.snow_flake.specs.Counter.{Counter, stepped}
-use Rattle.snow_board.specs.Conflict.{Pending}
-use Rattle.snow_board.specs.Conflict.{Counters, Blank, counter_at, with_child, all_polled}
-use Rattle.snow_board.specs.Board.{Board, begin, blocks_of, counters_on, counter_on, with_issued, issued}
-use Rattle.snow_board.specs.Poll.{counted, winner, promoted}
-use Rattle.snow_board.specs.Reached.{MayIssue, Reached}
-use Rattle.snow_board.specs.Grown.{has_block, is_on, IsGrown}
-use Rattle.snow_board.specs.Excluded.{is_excluded}
-use Rattle.snow_board.specs.PointwiseLaw.{stepped_at, fresh_at}
-use Rattle.snow_board.specs.StandingLaw.{has_child_from}
+use Rattle.snow_flake.specs.Model.Parameters.{Parameters}
+use Rattle.snow_flake.specs.Model.Counter.{Counter, stepped}
+use Rattle.snow_board.specs.Model.Conflict.{Pending}
+use Rattle.snow_board.specs.Model.Conflict.{Counters, Blank, counter_at, with_child, all_polled}
+use Rattle.snow_board.specs.Model.Board.{Board, begin, blocks_of, counters_on, counter_on, with_issued, issued}
+use Rattle.snow_board.specs.Model.Poll.{counted, winner, promoted}
+use Rattle.snow_board.specs.Laws.Reached.{MayIssue, Reached}
+use Rattle.snow_board.specs.Kept.Grown.{has_block, is_on, IsGrown}
+use Rattle.snow_board.specs.Laws.Excluded.{is_excluded}
+use Rattle.snow_board.specs.Laws.PointwiseLaw.{stepped_at, fresh_at}
+use Rattle.snow_board.specs.Laws.StandingLaw.{has_child_from}
 use Rattle.snow_board.proofs.Cases.{split_on, clash, same_id, id_itself, differs_back}
 use Rattle.snow_board.proofs.Grown.{not_last, has_child, childless, reversed_at}
 use Rattle.snow_board.proofs.Kept.{is_under, under_has}

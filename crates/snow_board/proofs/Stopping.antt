@@ -1,9 +1,9 @@
 -- Lemmas on the end of a poll's acceptances: no winner is left, and no greater number of steps would leave another board.
 use Rattle.std.proofs.Common.{◌≡◌, ℕ, zero, suc, ◌≤◌, List, length, Option, Some, None, refl, ap, ◌∙◌, arith}
 use Rattle.snow_base.specs.declared.vote.Vote.{Vote}
-use Rattle.snow_board.specs.Conflict.{Pending}
-use Rattle.snow_board.specs.Board.{Board}
-use Rattle.snow_board.specs.Poll.{counted, winner, promoted, settled, poll}
+use Rattle.snow_board.specs.Model.Conflict.{Pending}
+use Rattle.snow_board.specs.Model.Board.{Board}
+use Rattle.snow_board.specs.Model.Poll.{counted, winner, promoted, settled, poll}
 use Rattle.snow_board.proofs.Settled.{promoted_shorter, settled_done, settled_won, enough}
 use Rattle.snow_board.proofs.Room.{counted_length}
 

@@ -6,16 +6,16 @@ use Rattle.std.proofs.lemmas.List.{map-append, reverse-append}
 use Rattle.std.proofs.lemmas.List.Folds.{list_any-append}
 use Rattle.std.proofs.lemmas.Bool.{or_parts, or_from, or_left, or_right}
 use Rattle.snow_base.specs.declared.header.Header.{Header}
-use Rattle.snow_base.specs.Identifier.{bits}
-use Rattle.snow_flake.specs.Rule.{Answer}
-use Rattle.snow_board.specs.Conflict.{Pending}
-use Rattle.snow_board.specs.Conflict.{Counters, leads_to}
-use Rattle.snow_board.specs.Board.{Board, blocks_of, counters_on}
-use Rattle.snow_board.specs.Preference.{path_from, end_of, preferred}
-use Rattle.snow_board.specs.Ending.{has_pending_child}
-use Rattle.snow_board.specs.Reached.{Reached}
-use Rattle.snow_board.specs.Grown.{has_block, is_on, IsGrown}
-use Rattle.snow_board.specs.StandingLaw.{has_child_from}
+use Rattle.snow_base.specs.Model.Identifier.{bits}
+use Rattle.snow_flake.specs.Model.Rule.{Answer}
+use Rattle.snow_board.specs.Model.Conflict.{Pending}
+use Rattle.snow_board.specs.Model.Conflict.{Counters, leads_to}
+use Rattle.snow_board.specs.Model.Board.{Board, blocks_of, counters_on}
+use Rattle.snow_board.specs.Model.Preference.{path_from, end_of, preferred}
+use Rattle.snow_board.specs.Kept.Ending.{has_pending_child}
+use Rattle.snow_board.specs.Laws.Reached.{Reached}
+use Rattle.snow_board.specs.Kept.Grown.{has_block, is_on, IsGrown}
+use Rattle.snow_board.specs.Laws.StandingLaw.{has_child_from}
 use Rattle.snow_board.proofs.Cases.{split_on, clash, same_id, id_itself}
 use Rattle.snow_board.proofs.Grown.{grown_new, grown_parent, grown_before, on_more, older, has_child, latest_childless, has_block-reverse}
 use Rattle.snow_board.proofs.Invariant.{IsSound, sound_kept, both_kept, reached_keeps}

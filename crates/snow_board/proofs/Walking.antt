@@ -5,12 +5,12 @@ use Rattle.std.specs.Option.{option_map, option_map_or}
 use Rattle.std.specs.Cmp.Lexicographic.{pointwise}
 use Rattle.std.proofs.Math.ListN.{drop_of_length-le}
 use Rattle.std.proofs.lemmas.Bool.{cases_lt, eq-eqb, ne_eqb}
-use Rattle.snow_base.specs.Identifier.{bit, bits}
+use Rattle.snow_base.specs.Model.Identifier.{bit, bits}
 use Rattle.snow_base.proofs.Bits.{length-bits, drop-bits}
-use Rattle.snow_flake.specs.Counter.{Counter, Decided, Undecided}
-use Rattle.snow_flake.specs.Rule.{Answer, answer_of}
-use Rattle.snow_board.specs.Conflict.{Counters, At, chosen, decided_path}
-use Rattle.snow_board.specs.Walk.{is_decided_as}
+use Rattle.snow_flake.specs.Model.Counter.{Counter, Decided, Undecided}
+use Rattle.snow_flake.specs.Model.Rule.{Answer, answer_of}
+use Rattle.snow_board.specs.Model.Conflict.{Counters, At, chosen, decided_path}
+use Rattle.snow_board.specs.Kept.Walk.{is_decided_as}
 
 -- behind its last bit an identifier has no bits
 pub drop-bits_end : (id : List ℕ) (n : ℕ) → 256 ≤ n → drop n (bits id) ≡ []

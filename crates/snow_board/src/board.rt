@@ -1,9 +1,9 @@
 ghost use Rattle.std.specs.Prelude.{◌≡◌, ℕ, ◌≤◌, Bool, List, [], length, IfOk, OnOk, OnErr, is_some};
-ghost use Rattle.snow_base.specs.Gathered.{one_each};
-ghost use Rattle.snow_base.specs.Votes.{total_count};
+ghost use Rattle.snow_base.specs.Clauses.Gathered.{one_each};
+ghost use Rattle.snow_base.specs.Model.Votes.{total_count};
 ghost use Rattle.snow_base.specs.declared.header.Header.{Header};
-ghost use Rattle.snow_flake.specs.Parameters.{AreGood};
-ghost use Rattle.snow_board.specs.Board as model;
+ghost use Rattle.snow_flake.specs.Model.Parameters.{AreGood};
+ghost use Rattle.snow_board.specs.Model.Board as model;
 
 use crate::decision::Decision;
 use snow_base::{Bag, Id};
@@ -15,10 +15,10 @@ use std::alloc::{AllocError, Global};
 /// Rule: AvalancheGo, snow/consensus/snowman.
 pub trait Board: Sized + Drop {
     ghost use Rattle.snow_board.specs.declared.decision.Decision.{Decision};
-    ghost use Rattle.snow_board.specs.Poll.{poll};
-    ghost use Rattle.snow_board.specs.Alike.{GivesAll};
-    ghost use Rattle.snow_board.specs.Preference.{preferred, is_preferred};
-    ghost use Rattle.snow_board.specs.Reached.{MayIssue};
+    ghost use Rattle.snow_board.specs.Model.Poll.{poll};
+    ghost use Rattle.snow_board.specs.Laws.Alike.{GivesAll};
+    ghost use Rattle.snow_board.specs.Model.Preference.{preferred, is_preferred};
+    ghost use Rattle.snow_board.specs.Laws.Reached.{MayIssue};
 
     /// The board that it stands for.
     ghost board: { Self → model.Board };

@@ -15,7 +15,7 @@ pub struct Cursor {
 }
 
 impl Cursor {
-    ghost use Rattle.snow_board.specs.Cursors.{started, moved, child_at};
+    ghost use Rattle.snow_board.specs.Kept.Cursors.{started, moved, child_at};
 
     fn new(vote: &Vote) -> Self
         ensures { result ≡ started vote.now }
@@ -54,8 +54,8 @@ impl Cursor {
     }
 }
 
-ghost use Rattle.snow_board.specs.Cursors.{started, moved, votes_at, cursor_total};
-ghost use Rattle.snow_board.specs.Conflict.{votes_on};
+ghost use Rattle.snow_board.specs.Kept.Cursors.{started, moved, votes_at, cursor_total};
+ghost use Rattle.snow_board.specs.Model.Conflict.{votes_on};
 
 /// Puts all votes at their own blocks, in place of what `cursors` held. `cursors` has room for
 /// them, so it takes no memory.

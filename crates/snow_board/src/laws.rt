@@ -1,15 +1,15 @@
 //! Laws of the board, each a function that does nothing and ensures the law.
-ghost use Rattle.snow_board.specs.PointwiseLaw.{MapLaw, ExcludedLaw, PollLaw, IssueLaw};
-ghost use Rattle.snow_board.specs.AlikeLaw.{AlikeLaw};
-ghost use Rattle.snow_board.specs.FailingLaw.{FewVotesLaw, FewVotesOnBoardLaw, FailingTwiceLaw, FailingAndAddingLaw};
-ghost use Rattle.snow_board.specs.LineLaw.{LineLaw};
-ghost use Rattle.snow_board.specs.StandingLaw.{StandingLaw, ChildrenStayLaw, NoneExcludedLaw};
-ghost use Rattle.snow_board.specs.ConfidenceLaw.{ConfidenceLaw};
-ghost use Rattle.snow_board.specs.QuorumLaw.{OneQuorumLaw};
-ghost use Rattle.snow_board.specs.KeepingLaw.{KeepingLaw};
-ghost use Rattle.snow_board.specs.SettledLaw.{NoWinnerLaw, EnoughStepsLaw};
-ghost use Rattle.snow_board.specs.RoomLaw.{RoomLaw};
-ghost use Rattle.snow_board.specs.PreferenceLaw.{PreferenceEndsLaw};
+ghost use Rattle.snow_board.specs.Laws.PointwiseLaw.{MapLaw, ExcludedLaw, PollLaw, IssueLaw};
+ghost use Rattle.snow_board.specs.Laws.AlikeLaw.{AlikeLaw};
+ghost use Rattle.snow_board.specs.Laws.FailingLaw.{FewVotesLaw, FewVotesOnBoardLaw, FailingTwiceLaw, FailingAndAddingLaw};
+ghost use Rattle.snow_board.specs.Laws.LineLaw.{LineLaw};
+ghost use Rattle.snow_board.specs.Laws.StandingLaw.{StandingLaw, ChildrenStayLaw, NoneExcludedLaw};
+ghost use Rattle.snow_board.specs.Laws.ConfidenceLaw.{ConfidenceLaw};
+ghost use Rattle.snow_board.specs.Laws.QuorumLaw.{OneQuorumLaw};
+ghost use Rattle.snow_board.specs.Laws.KeepingLaw.{KeepingLaw};
+ghost use Rattle.snow_board.specs.Laws.SettledLaw.{NoWinnerLaw, EnoughStepsLaw};
+ghost use Rattle.snow_board.specs.Laws.RoomLaw.{RoomLaw};
+ghost use Rattle.snow_board.specs.Laws.PreferenceLaw.{PreferenceEndsLaw};
 
 /// The counters of a conflict are a map from bit lists: those that are the same at each list are
 /// the same.

@@ -1,19 +1,19 @@
 -- Blocks that are accepted one on the other.
 use Rattle.std.proofs.Common.{◌≡◌, ℕ, zero, suc, ◌+◌, ◌-◌, ◌<◌, ◌≤◌, Bool, true, false, List, [], ◌∷◌, ◌++◌, Option, Some, None, bytes_eq, if◌then◌else◌, refl, sym, ap, subst, ◌∙◌, arith, append-nil}
 use Rattle.std.specs.Prelude.{Ok, Err, is_some}
-use Rattle.snow_chain.specs.Chain as states
-use Rattle.snow_chain.specs.Chain.{Rules, Held, next_on, verified, accepted, MayAccept, begun}
+use Rattle.snow_chain.specs.Model.Chain as states
+use Rattle.snow_chain.specs.Model.Chain.{Rules, Held, next_on, verified, accepted, MayAccept, begun}
 use Rattle.snow_lines.specs.declared.line.Line.{Line}
 use Rattle.snow_lines.specs.declared.line.Line.TheVariants as line
 use Rattle.snow_store.specs.declared.block.KeptBlock.{KeptBlock}
 use Rattle.snow_store.specs.declared.stop.BootStop.{BootStop}
 use Rattle.snow_store.specs.declared.stop.BootStop.TheVariants as stop
-use Rattle.snow_boot.specs.Accepting.{behind_lines, ExecutesOne, ExecutesAt, Executes}
-use Rattle.snow_chain.specs.Alone.{IsAlone, last_state}
-use Rattle.snow_boot.specs.Executing.{Executed, state_on, with_state, executed}
-use Rattle.snow_store.specs.Keeping.{held}
-use Rattle.snow_store.specs.Linking.{listed, upward}
-use Rattle.snow_boot.specs.OutcomeLaw.{accept_lines}
+use Rattle.snow_boot.specs.Clauses.Accepting.{behind_lines, ExecutesOne, ExecutesAt, Executes}
+use Rattle.snow_chain.specs.Kept.Alone.{IsAlone, last_state}
+use Rattle.snow_boot.specs.Model.Executing.{Executed, state_on, with_state, executed}
+use Rattle.snow_store.specs.Model.Keeping.{held}
+use Rattle.snow_store.specs.Laws.Linking.{listed, upward}
+use Rattle.snow_boot.specs.Laws.OutcomeLaw.{accept_lines}
 use Rattle.snow_boot.proofs.Alone.{next_there, accepted_alone, begun_alone, may_accept}
 use Rattle.snow_store.proofs.Cases.{clash}
 use Rattle.snow_boot.proofs.Underway.{IsUnderway, goes_on, stops_here, runs_out}

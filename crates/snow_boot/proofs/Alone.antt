@@ -6,8 +6,8 @@ use Rattle.std.specs.Ordering.{nat_cmp}
 use Rattle.std.specs.Cmp.Lexicographic.{slice_cmp, nat_list_cmp_total}
 use Rattle.std.specs.FinMap.{empty, get, insert, remove, get-empty, get-insert, get-remove, same_map, slice_cmp-IsAntisymmetric, nat_cmp-IsAntisymmetric}
 use Rattle.std.proofs.lemmas.Map.Text.{is_eq-slice_cmp}
-use Rattle.snow_chain.specs.Chain.{Rules, Held, States, state_of, begun, next_on, with_state, accepted, MayVerify, MayAccept}
-use Rattle.snow_chain.specs.Alone.{IsAlone, last_state}
+use Rattle.snow_chain.specs.Model.Chain.{Rules, Held, States, state_of, begun, next_on, with_state, accepted, MayVerify, MayAccept}
+use Rattle.snow_chain.specs.Kept.Alone.{IsAlone, last_state}
 use Rattle.snow_store.proofs.Cases.{same_id, id_same, id_turned, clash}
 
 -- the state that one block has, and another hasn't

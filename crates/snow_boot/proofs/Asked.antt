@@ -4,18 +4,18 @@ use Rattle.std.specs.Prelude.{Result, Ok, Err}
 use Rattle.std.proofs.lemmas.Bool.{ne_eqb}
 use Rattle.std.proofs.lemmas.Bool.Decides.{nat_tests}
 use Rattle.std.proofs.Math.Nat.{min-eq_left}
-use Rattle.snow_base.specs.Numbers.{next_number, last_after}
+use Rattle.snow_base.specs.Model.Numbers.{next_number, last_after}
 use Rattle.snow_issue.specs.declared.work.Get.{Get}
-use Rattle.snow_issue.specs.Lists.{has_number, with_get}
+use Rattle.snow_issue.specs.Model.Lists.{has_number, with_get}
 use Rattle.snow_sample.specs.declared.roster.Node.{Node}
 use Rattle.snow_lines.specs.declared.line.Line.{Line}
 use Rattle.snow_lines.specs.declared.line.Line.TheVariants as line
 use Rattle.snow_store.specs.declared.stop.BootStop.{BootStop}
 use Rattle.snow_store.specs.declared.stop.BootStop.TheVariants as stop
-use Rattle.snow_boot.specs.Asking.{Asked, asked_node, asked_with, asked_one, and_asked, asked}
-use Rattle.snow_boot.specs.Calling.{AreDrawn}
-use Rattle.snow_store.specs.Paths.{Fetch, missed}
-use Rattle.snow_boot.specs.Requesting.{Asks}
+use Rattle.snow_boot.specs.Model.Asking.{Asked, asked_node, asked_with, asked_one, and_asked, asked}
+use Rattle.snow_boot.specs.Clauses.Calling.{AreDrawn}
+use Rattle.snow_store.specs.Model.Paths.{Fetch, missed}
+use Rattle.snow_boot.specs.Clauses.Requesting.{Asks}
 use Rattle.snow_store.proofs.Cases.{split_on, same_some, not_none}
 use Rattle.snow_boot.proofs.Underway.{IsUnderway, goes_on, stops_here, runs_out}
 

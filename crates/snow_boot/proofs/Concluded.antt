@@ -3,7 +3,7 @@ use Rattle.std.proofs.Common.{◌≡◌, ℕ, ◌+◌, ◌-◌, true, List, [], 
 use Rattle.std.specs.Prelude.{Result, Ok, Err}
 use Rattle.std.specs.Option.{option_map}
 use Rattle.std.proofs.lemmas.Bool.{lt-ltb, le-ltb, cases_lt}
-use Rattle.snow_chain.specs.Chain.{Rules, Held}
+use Rattle.snow_chain.specs.Model.Chain.{Rules, Held}
 use Rattle.snow_lines.specs.declared.line.Line.{Line}
 use Rattle.snow_lines.specs.declared.line.Line.TheVariants as line
 use Rattle.snow_store.specs.declared.block.KeptBlock.{KeptBlock}
@@ -11,14 +11,14 @@ use Rattle.snow_boot.specs.declared.stage.Stage.{Stage}
 use Rattle.snow_boot.specs.declared.stage.Stage.TheVariants as stage
 use Rattle.snow_store.specs.declared.stop.BootStop.{BootStop}
 use Rattle.snow_store.specs.declared.stop.BootStop.TheVariants as stop
-use Rattle.snow_boot.specs.Accepting.{Executes, EndsAt, Concludes, higher_one, top_height}
-use Rattle.snow_boot.specs.Booting.{Outcome, Next, Done, ended, finished}
-use Rattle.snow_chain.specs.Alone.{last_state}
-use Rattle.snow_boot.specs.Executing.{Executed, executed}
-use Rattle.snow_store.specs.Indexing.{top_of, higher_height}
-use Rattle.snow_store.specs.Keeping.{highest}
-use Rattle.snow_store.specs.Linking.{IsLinked, upward}
-use Rattle.snow_store.specs.Paths.{Fetch, is_whole, higher_of, highest_target}
+use Rattle.snow_boot.specs.Clauses.Accepting.{Executes, EndsAt, Concludes, higher_one, top_height}
+use Rattle.snow_boot.specs.Model.Booting.{Outcome, Next, Done, ended, finished}
+use Rattle.snow_chain.specs.Kept.Alone.{last_state}
+use Rattle.snow_boot.specs.Model.Executing.{Executed, executed}
+use Rattle.snow_store.specs.Kept.Indexing.{top_of, higher_height}
+use Rattle.snow_store.specs.Model.Keeping.{highest}
+use Rattle.snow_store.specs.Laws.Linking.{IsLinked, upward}
+use Rattle.snow_store.specs.Model.Paths.{Fetch, is_whole, higher_of, highest_target}
 use Rattle.snow_store.proofs.Indexed.{higher_is}
 use Rattle.snow_store.proofs.Cases.{none_not, same_some}
 use Rattle.snow_store.proofs.Whole.{whole_path}

@@ -8,9 +8,9 @@ use Rattle.std.proofs.lemmas.List.{map-append}
 use Rattle.std.proofs.lemmas.List.Folds.{list_any-append}
 use Rattle.std.proofs.lemmas.Option.{slice_get_within, get_or_from_slice_get}
 use Rattle.snow_boot.specs.declared.question.Candidate.{Candidate}
-use Rattle.snow_boot.specs.Electing.{candidates_of, with_weight, is_collected, collected, backed, is_target, majority}
-use Rattle.snow_boot.specs.Surveying.{AreWithin}
-use Rattle.snow_store.specs.Paths.{has_id}
+use Rattle.snow_boot.specs.Model.Electing.{candidates_of, with_weight, is_collected, collected, backed, is_target, majority}
+use Rattle.snow_boot.specs.Kept.Surveying.{AreWithin}
+use Rattle.snow_store.specs.Model.Paths.{has_id}
 use Rattle.snow_store.proofs.Cases.{clash, same_id, id_turned, same_some, none_not, any_turned, or_false, or_assoc, next_of}
 
 abbrev Entries : Type 0

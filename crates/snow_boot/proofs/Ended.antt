@@ -1,19 +1,19 @@
 -- Where bootstrapping ends: exactly the path of the highest kept target was executed.
 use Rattle.std.proofs.Common.{◌≡◌, ℕ, Bool, true, false, List, [], ◌∷◌, ◌++◌, if◌then◌else◌, inr, refl, ap, ◌∙◌}
 use Rattle.std.specs.Prelude.{Result, Ok, Err}
-use Rattle.snow_chain.specs.Chain.{Rules}
+use Rattle.snow_chain.specs.Model.Chain.{Rules}
 use Rattle.snow_lines.specs.declared.line.Line.{Line}
 use Rattle.snow_lines.specs.declared.line.Line.TheVariants as line
 use Rattle.snow_store.specs.declared.stop.BootStop.{BootStop}
 use Rattle.snow_store.specs.declared.stop.BootStop.TheVariants as stop
 use Rattle.snow_boot.specs.declared.question.Question.{Question}
 use Rattle.snow_boot.specs.declared.question.Question.TheVariants as question
-use Rattle.snow_boot.specs.Asking.{Asked, asked}
-use Rattle.snow_boot.specs.Executing.{Executed, executed}
-use Rattle.snow_store.specs.Paths.{is_whole, highest_target}
-use Rattle.snow_boot.specs.Booting.{Boot, Next, Outcome, fetch_of, with_requests, ended, finished, height_or, followed_by, followed}
-use Rattle.snow_boot.specs.OutcomeLaw.{IsExecution, whole_path_of, IsEnd}
-use Rattle.snow_boot.specs.Promising.{AcceptsBelow}
+use Rattle.snow_boot.specs.Model.Asking.{Asked, asked}
+use Rattle.snow_boot.specs.Model.Executing.{Executed, executed}
+use Rattle.snow_store.specs.Model.Paths.{is_whole, highest_target}
+use Rattle.snow_boot.specs.Model.Booting.{Boot, Next, Outcome, fetch_of, with_requests, ended, finished, height_or, followed_by, followed}
+use Rattle.snow_boot.specs.Laws.OutcomeLaw.{IsExecution, whole_path_of, IsEnd}
+use Rattle.snow_boot.specs.Clauses.Promising.{AcceptsBelow}
 use Rattle.snow_boot.proofs.Executed.{in_order}
 use Rattle.snow_store.proofs.Cases.{clash}
 

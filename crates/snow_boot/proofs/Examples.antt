@@ -1,8 +1,8 @@
 -- Worked examples: the definitions compute.
 use Rattle.std.proofs.Common.{◌≡◌, ℕ, List, [], ◌∷◌, ◌++◌, replicate, refl}
 use Rattle.std.specs.Prelude.{Result, Ok, Err}
-use Rattle.snow_chain.specs.Plain
-use Rattle.snow_chain.specs.Plain.{plain_rules}
+use Rattle.snow_chain.specs.Model.Plain
+use Rattle.snow_chain.specs.Model.Plain.{plain_rules}
 use Rattle.snow_sample.specs.declared.roster.Node.{Node}
 use Rattle.snow_lines.specs.declared.line.Line.{Line}
 use Rattle.snow_lines.specs.declared.line.Line.TheVariants as line
@@ -10,12 +10,12 @@ use Rattle.snow_lines.specs.declared.why.RestartWhy.TheVariants as restart
 use Rattle.snow_lines.specs.declared.why.SkipKind.TheVariants as skip
 use Rattle.snow_store.specs.declared.stop.BootStop.{BootStop}
 use Rattle.snow_store.specs.declared.stop.BootStop.TheVariants as stop
-use Rattle.snow_store.specs.Keeping.{held, highest, stray, taken}
-use Rattle.snow_store.specs.Paths.{path, missed, highest_target}
-use Rattle.snow_boot.specs.Executing.{executed}
-use Rattle.snow_boot.specs.Asking.{asked}
-use Rattle.snow_boot.specs.Replying.{replied}
-use Rattle.snow_boot.specs.Booting.{Next, Going, Done, Outcome, behind, started, followed, frontier_came, accepted_came, ancestors_came, timeout_came, stored_came}
+use Rattle.snow_store.specs.Model.Keeping.{held, highest, stray, taken}
+use Rattle.snow_store.specs.Model.Paths.{path, missed, highest_target}
+use Rattle.snow_boot.specs.Model.Executing.{executed}
+use Rattle.snow_boot.specs.Model.Asking.{asked}
+use Rattle.snow_boot.specs.Model.Replying.{replied}
+use Rattle.snow_boot.specs.Model.Booting.{Next, Going, Done, Outcome, behind, started, followed, frontier_came, accepted_came, ancestors_came, timeout_came, stored_came}
 
 -- an identifier by its first byte
 abbrev pub id_of : ℕ → List ℕ

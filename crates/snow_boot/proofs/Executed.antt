@@ -1,11 +1,11 @@
 -- Blocks are executed in order, up to the first that is refused.
 use Rattle.std.proofs.Common.{ℕ, List, [], ◌∷◌, Option, Some, None, refl, ap}
 use Rattle.std.specs.Prelude.{Ok, Err}
-use Rattle.snow_chain.specs.Chain.{Rules}
+use Rattle.snow_chain.specs.Model.Chain.{Rules}
 use Rattle.snow_lines.specs.declared.line.Line.TheVariants as line
 use Rattle.snow_store.specs.declared.block.KeptBlock.{KeptBlock}
-use Rattle.snow_boot.specs.Executing.{Executed, state_on, with_state, executed}
-use Rattle.snow_boot.specs.OutcomeLaw.{IsExecution}
+use Rattle.snow_boot.specs.Model.Executing.{Executed, state_on, with_state, executed}
+use Rattle.snow_boot.specs.Laws.OutcomeLaw.{IsExecution}
 
 -- one block more below those that were executed
 one_below : (below : List ℕ) (b : KeptBlock) (blocks : List KeptBlock) (above : Executed) → IsExecution b.header.id blocks above

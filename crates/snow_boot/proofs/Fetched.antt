@@ -6,12 +6,12 @@ use Rattle.snow_store.specs.declared.block.KeptBlock.{KeptBlock}
 use Rattle.snow_store.specs.declared.due.Due.{Due}
 use Rattle.snow_store.specs.declared.stop.BootStop.{BootStop}
 use Rattle.snow_store.specs.declared.verdict.Verdict.{Verdict}
-use Rattle.snow_store.specs.Coming.{after_verdict}
-use Rattle.snow_store.specs.Keeping.{Store, taken, after_taking}
-use Rattle.snow_store.specs.Linking.{IsLinked}
-use Rattle.snow_store.specs.Needing.{is_missed, HasNeeds, Covers}
-use Rattle.snow_store.specs.Paths.{Fetch, missed}
-use Rattle.snow_store.specs.Renewing.{fetch_by, MayRenew, IsRenewed}
+use Rattle.snow_store.specs.Clauses.Coming.{after_verdict}
+use Rattle.snow_store.specs.Model.Keeping.{Store, taken, after_taking}
+use Rattle.snow_store.specs.Laws.Linking.{IsLinked}
+use Rattle.snow_store.specs.Model.Needing.{is_missed, HasNeeds, Covers}
+use Rattle.snow_store.specs.Model.Paths.{Fetch, missed}
+use Rattle.snow_store.specs.Kept.Renewing.{fetch_by, MayRenew, IsRenewed}
 use Rattle.snow_store.proofs.Renewed.{after_is}
 
 -- what came is what the verdict makes of it; what is missed then is known, and what is due covers all that is newly missed

@@ -3,24 +3,24 @@ use Rattle.std.proofs.Common.{◌≡◌, ℕ, ◌+◌, ◌-◌, ◌<◌, ◌≤�
 use Rattle.std.specs.Prelude.{Result, Ok, Err}
 use Rattle.std.specs.List.{filter}
 use Rattle.std.proofs.lemmas.List.Elements.{filter-append}
-use Rattle.snow_chain.specs.Chain.{Rules}
+use Rattle.snow_chain.specs.Model.Chain.{Rules}
 use Rattle.snow_lines.specs.declared.line.Line.{Line}
 use Rattle.snow_lines.specs.declared.line.Line.TheVariants as line
 use Rattle.snow_lines.specs.declared.why.SkipKind.TheVariants as skip
 use Rattle.snow_store.specs.declared.block.KeptBlock.{KeptBlock}
 use Rattle.snow_store.specs.declared.stop.BootStop.{BootStop}
-use Rattle.snow_store.specs.Keeping.{Store, held, highest}
-use Rattle.snow_store.specs.Linking.{IsLinked, held_heights, upward}
-use Rattle.snow_store.specs.Paths.{Fetch, has_id, is_whole, highest_target, path_up}
+use Rattle.snow_store.specs.Model.Keeping.{Store, held, highest}
+use Rattle.snow_store.specs.Laws.Linking.{IsLinked, held_heights, upward}
+use Rattle.snow_store.specs.Model.Paths.{Fetch, has_id, is_whole, highest_target, path_up}
 use Rattle.snow_store.proofs.Whole.{none_kept, whole_path}
 use Rattle.snow_boot.specs.declared.question.Question.{Question}
 use Rattle.snow_boot.specs.declared.question.Question.TheVariants as question
-use Rattle.snow_boot.specs.Asking.{Asked, asked}
-use Rattle.snow_boot.specs.Booting.{Boot, Going, Done, Outcome, behind, fetch_of, with_requests, height_or, ended, finished, followed_by, followed}
-use Rattle.snow_boot.specs.Executing.{Executed, executed}
-use Rattle.snow_boot.specs.FinishLaw.{AcceptsAll, Finishes}
-use Rattle.snow_boot.specs.OutcomeLaw.{accepts, accept_lines, last_above, IsExecution, whole_path_of}
-use Rattle.snow_boot.specs.Reached.{Event, outcome_of, Reached, fetched_by}
+use Rattle.snow_boot.specs.Model.Asking.{Asked, asked}
+use Rattle.snow_boot.specs.Model.Booting.{Boot, Going, Done, Outcome, behind, fetch_of, with_requests, height_or, ended, finished, followed_by, followed}
+use Rattle.snow_boot.specs.Model.Executing.{Executed, executed}
+use Rattle.snow_boot.specs.Laws.FinishLaw.{AcceptsAll, Finishes}
+use Rattle.snow_boot.specs.Laws.OutcomeLaw.{accepts, accept_lines, last_above, IsExecution, whole_path_of}
+use Rattle.snow_boot.specs.Laws.Reached.{Event, outcome_of, Reached, fetched_by}
 use Rattle.snow_boot.proofs.Executed.{in_order}
 use Rattle.snow_boot.proofs.Reaching.{linked_fetched, reached_linked}
 use Rattle.snow_boot.proofs.Refusing.{only_accepts}

@@ -1,7 +1,7 @@
 -- What each event is followed by: asking or executing.
 use Rattle.std.proofs.Common.{◌≡◌, ℕ, Bool, true, false, List, [], ◌++◌, Option, Some, None, if◌then◌else◌, refl, sym, ap, subst, ◌∙◌, append-nil, append_assoc}
 use Rattle.std.specs.Prelude.{Result, Ok, Err, IfOk}
-use Rattle.snow_chain.specs.Chain.{Rules, Held}
+use Rattle.snow_chain.specs.Model.Chain.{Rules, Held}
 use Rattle.snow_issue.specs.declared.work.Get.{Get}
 use Rattle.snow_lines.specs.declared.line.Line.{Line}
 use Rattle.snow_boot.specs.declared.question.Question.{Question}
@@ -10,16 +10,16 @@ use Rattle.snow_boot.specs.declared.stage.Stage.{Stage}
 use Rattle.snow_boot.specs.declared.stage.Stage.TheVariants as stage
 use Rattle.snow_store.specs.declared.stop.BootStop.{BootStop}
 use Rattle.snow_store.specs.declared.stop.BootStop.TheVariants as stop
-use Rattle.snow_boot.specs.Accepting.{Concludes}
-use Rattle.snow_boot.specs.Asking.{Asked, asked}
-use Rattle.snow_boot.specs.Booting.{Boot, Next, Going, Outcome, behind, ask_frontier, fetch_of, with_requests, finished, followed_by, followed}
-use Rattle.snow_boot.specs.Calling.{AreDrawn, LogsFront}
-use Rattle.snow_boot.specs.Coursing.{boot_of, IsCourse, Comes}
-use Rattle.snow_boot.specs.Fetching.{Hunt}
-use Rattle.snow_boot.specs.OutcomeLaw.{IsEnd}
-use Rattle.snow_store.specs.Paths.{Fetch, is_whole, highest_target}
-use Rattle.snow_boot.specs.Requesting.{Asks}
-use Rattle.snow_boot.specs.Surveying.{Surveyed}
+use Rattle.snow_boot.specs.Clauses.Accepting.{Concludes}
+use Rattle.snow_boot.specs.Model.Asking.{Asked, asked}
+use Rattle.snow_boot.specs.Model.Booting.{Boot, Next, Going, Outcome, behind, ask_frontier, fetch_of, with_requests, finished, followed_by, followed}
+use Rattle.snow_boot.specs.Clauses.Calling.{AreDrawn, LogsFront}
+use Rattle.snow_boot.specs.Kept.Coursing.{boot_of, IsCourse, Comes}
+use Rattle.snow_boot.specs.Kept.Fetching.{Hunt}
+use Rattle.snow_boot.specs.Laws.OutcomeLaw.{IsEnd}
+use Rattle.snow_store.specs.Model.Paths.{Fetch, is_whole, highest_target}
+use Rattle.snow_boot.specs.Clauses.Requesting.{Asks}
+use Rattle.snow_boot.specs.Kept.Surveying.{Surveyed}
 use Rattle.snow_boot.proofs.Ended.{end_followed, refused_there}
 use Rattle.snow_boot.proofs.Requested.{all_asked, nothing_to_ask, asking_stops}
 

@@ -4,9 +4,9 @@ use Rattle.std.specs.Prelude.{Result, Ok, Err, is_none}
 use Rattle.std.specs.List.{position_or_len, remove}
 use Rattle.std.specs.Option.{option_map}
 use Rattle.snow_base.specs.declared.header.Header.{Header}
-use Rattle.snow_chain.specs.Chain.{Rules, Held}
+use Rattle.snow_chain.specs.Model.Chain.{Rules, Held}
 use Rattle.snow_issue.specs.declared.work.Get.{Get}
-use Rattle.snow_issue.specs.Lists.{is_get, without}
+use Rattle.snow_issue.specs.Model.Lists.{is_get, without}
 use Rattle.snow_issue.proofs.Asking.{none_without}
 use Rattle.snow_lines.specs.declared.line.Line.{Line}
 use Rattle.snow_lines.specs.declared.line.Line.TheVariants as line
@@ -21,16 +21,16 @@ use Rattle.snow_store.specs.declared.stop.BootStop.{BootStop}
 use Rattle.snow_store.specs.declared.stop.BootStop.TheVariants as stop
 use Rattle.snow_store.specs.declared.verdict.Verdict.{Verdict}
 use Rattle.snow_store.specs.declared.verdict.Verdict.TheVariants as verdict
-use Rattle.snow_boot.specs.Booting.{Boot, Outcome, behind, followed, answered, or_all, if_awaited, awaited_by, request_of, with_came, if_requested, if_block, timeout_by, frontier_came, accepted_came, ancestors_came, timeout_came, stored_came}
-use Rattle.snow_boot.specs.Calling.{AreDrawn}
-use Rattle.snow_boot.specs.Coursing.{boot_of, IsCourse, Comes}
-use Rattle.snow_boot.specs.Electing.{still_awaited, collected, backed}
-use Rattle.snow_boot.specs.Fetching.{Hunt, Fetches}
-use Rattle.snow_store.specs.Keeping.{taken, Answers}
-use Rattle.snow_store.specs.Paths.{Fetch}
-use Rattle.snow_store.specs.Coming.{after_verdict, if_taken}
-use Rattle.snow_boot.specs.Replying.{replied}
-use Rattle.snow_boot.specs.Surveying.{Surveyed}
+use Rattle.snow_boot.specs.Model.Booting.{Boot, Outcome, behind, followed, answered, or_all, if_awaited, awaited_by, request_of, with_came, if_requested, if_block, timeout_by, frontier_came, accepted_came, ancestors_came, timeout_came, stored_came}
+use Rattle.snow_boot.specs.Clauses.Calling.{AreDrawn}
+use Rattle.snow_boot.specs.Kept.Coursing.{boot_of, IsCourse, Comes}
+use Rattle.snow_boot.specs.Model.Electing.{still_awaited, collected, backed}
+use Rattle.snow_boot.specs.Kept.Fetching.{Hunt, Fetches}
+use Rattle.snow_store.specs.Model.Keeping.{taken, Answers}
+use Rattle.snow_store.specs.Model.Paths.{Fetch}
+use Rattle.snow_store.specs.Clauses.Coming.{after_verdict, if_taken}
+use Rattle.snow_boot.specs.Model.Replying.{replied}
+use Rattle.snow_boot.specs.Kept.Surveying.{Surveyed}
 use Rattle.snow_boot.proofs.Followed.{comes_as, ignored, comes_ignored, going_on, comes_behind}
 use Rattle.snow_boot.proofs.Replied.{replied_same}
 use Rattle.snow_store.proofs.Cases.{clash, none_not, same_some}

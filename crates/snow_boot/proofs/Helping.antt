@@ -2,28 +2,28 @@
 use Rattle.std.proofs.Common.{◌≡◌, ℕ, Bool, true, false, ◌==◌, List, [], ◌∷◌, length, Option, Some, None, if◌then◌else◌, inl, inr, refl, sym, ap, subst, ◌∙◌, arith, eqb-true}
 use Rattle.std.specs.Prelude.{Result, Ok, Err, ⊤}
 use Rattle.snow_base.specs.declared.header.Header.{Header}
-use Rattle.snow_chain.specs.Chain.{Rules}
+use Rattle.snow_chain.specs.Model.Chain.{Rules}
 use Rattle.snow_issue.specs.declared.work.Get.{Get}
 use Rattle.snow_store.specs.declared.block.KeptBlock.{KeptBlock}
 use Rattle.snow_store.specs.declared.stop.BootStop.{BootStop}
 use Rattle.snow_store.specs.declared.verdict.Verdict.{Verdict}
 use Rattle.snow_store.specs.declared.verdict.Verdict.TheVariants as verdict
-use Rattle.snow_store.specs.Coming.{after_verdict, if_taken}
-use Rattle.snow_store.specs.Keeping.{held, taken}
-use Rattle.snow_store.specs.Linking.{IsLinked}
-use Rattle.snow_store.specs.Paths.{Fetch, has_id, missed, is_whole, highest_target, path_up}
+use Rattle.snow_store.specs.Clauses.Coming.{after_verdict, if_taken}
+use Rattle.snow_store.specs.Model.Keeping.{held, taken}
+use Rattle.snow_store.specs.Laws.Linking.{IsLinked}
+use Rattle.snow_store.specs.Model.Paths.{Fetch, has_id, missed, is_whole, highest_target, path_up}
 use Rattle.snow_store.proofs.Cases.{split_on, id_same, not_none}
 use Rattle.snow_store.proofs.Holding.{held_first, held_later}
 use Rattle.snow_store.proofs.Linked.{keeps_facts}
 use Rattle.snow_store.proofs.Progress.{advances}
 use Rattle.snow_boot.specs.declared.question.Question.{Question}
 use Rattle.snow_boot.specs.declared.question.Question.TheVariants as question
-use Rattle.snow_boot.specs.Asking.{Asked, asked}
-use Rattle.snow_boot.specs.Booting.{Boot, Outcome, fetch_of, with_fetch, with_requests, height_or, ended, finished, followed_by, followed, request_of, closed, with_came, if_requested, ancestors_came}
-use Rattle.snow_boot.specs.Executing.{Executed, executed}
-use Rattle.snow_boot.specs.Reached.{Reached}
-use Rattle.snow_boot.specs.Replying.{if_wanted, with_taken, with_wanted, replied}
-use Rattle.snow_boot.specs.ReplyLaw.{Helps, HelpsOn}
+use Rattle.snow_boot.specs.Model.Asking.{Asked, asked}
+use Rattle.snow_boot.specs.Model.Booting.{Boot, Outcome, fetch_of, with_fetch, with_requests, height_or, ended, finished, followed_by, followed, request_of, closed, with_came, if_requested, ancestors_came}
+use Rattle.snow_boot.specs.Model.Executing.{Executed, executed}
+use Rattle.snow_boot.specs.Laws.Reached.{Reached}
+use Rattle.snow_boot.specs.Model.Replying.{if_wanted, with_taken, with_wanted, replied}
+use Rattle.snow_boot.specs.Laws.ReplyLaw.{Helps, HelpsOn}
 use Rattle.snow_boot.proofs.Reaching.{reached_linked}
 use Rattle.snow_boot.proofs.Replied.{takes_wanted}
 

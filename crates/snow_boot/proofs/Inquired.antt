@@ -1,18 +1,18 @@
 -- What all nodes are asked, one question after another.
 use Rattle.std.proofs.Common.{◌≡◌, ℕ, true, List, [], ◌∷◌, ◌++◌, map, Some, refl, sym, ap, subst, ◌∙◌, arith}
 use Rattle.std.specs.Prelude.{Ok}
-use Rattle.snow_base.specs.Numbers.{next_number, last_after}
-use Rattle.snow_chain.specs.Chain.{Held}
+use Rattle.snow_base.specs.Model.Numbers.{next_number, last_after}
+use Rattle.snow_chain.specs.Model.Chain.{Held}
 use Rattle.snow_issue.specs.declared.work.Get.{Get}
 use Rattle.snow_lines.specs.declared.line.Line.{Line}
 use Rattle.snow_lines.specs.declared.line.Line.TheVariants as line
 use Rattle.snow_boot.specs.declared.question.Question.TheVariants as question
 use Rattle.snow_boot.specs.declared.stage.Stage.TheVariants as stage
-use Rattle.snow_boot.specs.Booting.{Going, ask_frontier, ask_accepted}
-use Rattle.snow_boot.specs.Calling.{AreDrawn}
-use Rattle.snow_boot.specs.Coursing.{boot_of, Comes}
-use Rattle.snow_boot.specs.Fetching.{Hunt}
-use Rattle.snow_boot.specs.Surveying.{Surveyed}
+use Rattle.snow_boot.specs.Model.Booting.{Going, ask_frontier, ask_accepted}
+use Rattle.snow_boot.specs.Clauses.Calling.{AreDrawn}
+use Rattle.snow_boot.specs.Kept.Coursing.{boot_of, Comes}
+use Rattle.snow_boot.specs.Kept.Fetching.{Hunt}
+use Rattle.snow_boot.specs.Kept.Surveying.{Surveyed}
 use Rattle.snow_boot.proofs.Asked.{next_is, still_drawn}
 
 frontier_goes : question.Frontier ≡ question.Nothing → ⊥

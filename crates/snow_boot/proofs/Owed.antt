@@ -4,19 +4,19 @@ use Rattle.std.specs.List.{remove, position_or_len}
 use Rattle.std.specs.Option.{option_map}
 use Rattle.std.specs.Prelude.{Ok, Err}
 use Rattle.std.proofs.lemmas.Bool.{or_right}
-use Rattle.snow_base.specs.Numbers.{next_number}
+use Rattle.snow_base.specs.Model.Numbers.{next_number}
 use Rattle.snow_issue.specs.declared.work.Get.{Get}
-use Rattle.snow_issue.specs.Lists.{asked_in, is_get, without}
+use Rattle.snow_issue.specs.Model.Lists.{asked_in, is_get, without}
 use Rattle.snow_issue.proofs.Asking.{none_without}
 use Rattle.snow_sample.specs.declared.roster.Node.{Node}
 use Rattle.snow_store.specs.declared.due.Due.{Due}
 use Rattle.snow_store.specs.declared.due.Due.TheVariants as due
-use Rattle.snow_store.specs.Needing.{names, is_missed, Covers}
-use Rattle.snow_store.specs.Paths.{Fetch, missed}
+use Rattle.snow_store.specs.Model.Needing.{names, is_missed, Covers}
+use Rattle.snow_store.specs.Model.Paths.{Fetch, missed}
 use Rattle.snow_store.proofs.Cases.{split_on, clash, same_id, id_same, same_some, none_not}
 use Rattle.snow_store.proofs.Missing.{misser, missed_by}
-use Rattle.snow_boot.specs.Asking.{Asked, asked_with, asked_one, and_asked, asked, AreAskedBut, due_of}
-use Rattle.snow_boot.specs.OutcomeLaw.{AreAsked}
+use Rattle.snow_boot.specs.Model.Asking.{Asked, asked_with, asked_one, and_asked, asked, AreAskedBut, due_of}
+use Rattle.snow_boot.specs.Laws.OutcomeLaw.{AreAsked}
 use Rattle.snow_boot.proofs.Requested.{kept_by_one, asked_by_one, nothing_to_ask}
 
 -- ---- what is asked for

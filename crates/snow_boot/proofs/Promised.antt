@@ -2,20 +2,20 @@
 use Rattle.std.proofs.Common.{◌≡◌, ℕ, false, List, ◌++◌, ap, ◌∙◌}
 use Rattle.std.specs.Prelude.{Result, Ok, Err}
 use Rattle.std.specs.List.{list_any}
-use Rattle.snow_chain.specs.Chain.{Held}
+use Rattle.snow_chain.specs.Model.Chain.{Held}
 use Rattle.snow_issue.specs.declared.work.Get.{Get}
 use Rattle.snow_lines.specs.declared.line.Line.{Line}
 use Rattle.snow_boot.specs.declared.stage.Stage.{Stage}
 use Rattle.snow_boot.specs.declared.stage.Stage.TheVariants as stage
 use Rattle.snow_store.specs.declared.stop.BootStop.{BootStop}
 use Rattle.snow_store.specs.declared.stop.BootStop.TheVariants as stop
-use Rattle.snow_boot.specs.Booting.{Boot, Going, Done, Outcome}
-use Rattle.snow_chain.specs.Alone.{last_state}
-use Rattle.snow_boot.specs.Coursing.{boot_of, Comes}
-use Rattle.snow_boot.specs.Fetching.{Hunt}
-use Rattle.snow_boot.specs.OutcomeLaw.{accepts, IsQuiet, IsEnd}
-use Rattle.snow_boot.specs.Promising.{AcceptsPath, Promises}
-use Rattle.snow_boot.specs.Surveying.{Surveyed}
+use Rattle.snow_boot.specs.Model.Booting.{Boot, Going, Done, Outcome}
+use Rattle.snow_chain.specs.Kept.Alone.{last_state}
+use Rattle.snow_boot.specs.Kept.Coursing.{boot_of, Comes}
+use Rattle.snow_boot.specs.Kept.Fetching.{Hunt}
+use Rattle.snow_boot.specs.Laws.OutcomeLaw.{accepts, IsQuiet, IsEnd}
+use Rattle.snow_boot.specs.Clauses.Promising.{AcceptsPath, Promises}
+use Rattle.snow_boot.specs.Kept.Surveying.{Surveyed}
 
 -- where it goes on, nothing was accepted
 quiet_lines : (o : Outcome) (boot : Boot) (drawn : ℕ) → IsQuiet o → o.1 ≡ Ok (Going boot drawn) → list_any accepts o.0 ≡ false

@@ -2,8 +2,8 @@
 use Rattle.std.proofs.Common.{◌≡◌, ℕ, Bool, true, false, List, [], ◌∷◌, Option, Some, None, if◌then◌else◌, refl, sym, subst}
 use Rattle.std.specs.Prelude.{Result, Ok, Err, ⊤}
 use Rattle.snow_base.specs.declared.header.Header.{Header}
-use Rattle.snow_base.specs.Numbers.{next_number}
-use Rattle.snow_chain.specs.Chain.{Rules}
+use Rattle.snow_base.specs.Model.Numbers.{next_number}
+use Rattle.snow_chain.specs.Model.Chain.{Rules}
 use Rattle.snow_lines.specs.declared.line.Line.{Line}
 use Rattle.snow_lines.specs.declared.line.Line.TheVariants as line
 use Rattle.snow_lines.specs.declared.why.SkipKind.TheVariants as skip
@@ -11,19 +11,19 @@ use Rattle.snow_store.specs.declared.block.KeptBlock.{KeptBlock}
 use Rattle.snow_store.specs.declared.stop.BootStop.{BootStop}
 use Rattle.snow_store.specs.declared.verdict.Verdict.{Verdict}
 use Rattle.snow_store.specs.declared.verdict.Verdict.TheVariants as verdict
-use Rattle.snow_store.specs.Coming.{after_verdict, if_taken, came}
-use Rattle.snow_store.specs.Keeping.{held, taken}
-use Rattle.snow_store.specs.Linking.{IsLinked}
-use Rattle.snow_store.specs.Paths.{Fetch, is_whole, highest_target, path_up}
+use Rattle.snow_store.specs.Clauses.Coming.{after_verdict, if_taken, came}
+use Rattle.snow_store.specs.Model.Keeping.{held, taken}
+use Rattle.snow_store.specs.Laws.Linking.{IsLinked}
+use Rattle.snow_store.specs.Model.Paths.{Fetch, is_whole, highest_target, path_up}
 use Rattle.snow_store.proofs.Cases.{none_not}
 use Rattle.snow_store.proofs.Linked.{kept_linked}
 use Rattle.snow_boot.specs.declared.question.Question.{Question}
 use Rattle.snow_boot.specs.declared.question.Question.TheVariants as question
-use Rattle.snow_boot.specs.Asking.{Asked, asked}
-use Rattle.snow_boot.specs.Booting.{Boot, Going, Done, Outcome, behind, ask_frontier, begun, started, fetch_of, with_requests, height_or, ended, finished, followed_by, followed, request_of}
-use Rattle.snow_boot.specs.Executing.{Executed, executed}
-use Rattle.snow_boot.specs.Reached.{Event, Frontier, Accepted, Ancestors, Timeout, Stored, outcome_of, Reached, Began, Went, fetched_for, fetched_one, fetched_by}
-use Rattle.snow_boot.specs.Replying.{if_wanted, with_taken, with_wanted, replied}
+use Rattle.snow_boot.specs.Model.Asking.{Asked, asked}
+use Rattle.snow_boot.specs.Model.Booting.{Boot, Going, Done, Outcome, behind, ask_frontier, begun, started, fetch_of, with_requests, height_or, ended, finished, followed_by, followed, request_of}
+use Rattle.snow_boot.specs.Model.Executing.{Executed, executed}
+use Rattle.snow_boot.specs.Laws.Reached.{Event, Frontier, Accepted, Ancestors, Timeout, Stored, outcome_of, Reached, Began, Went, fetched_for, fetched_one, fetched_by}
+use Rattle.snow_boot.specs.Model.Replying.{if_wanted, with_taken, with_wanted, replied}
 use Rattle.snow_boot.proofs.Stepping.{passed}
 
 -- ---- blocks that come

@@ -2,27 +2,27 @@
 use Rattle.std.proofs.Common.{◌≡◌, ℕ, Bool, true, false, List, [], ◌∷◌, ◌++◌, Option, Some, None, if◌then◌else◌, refl, sym, ap, subst, ◌∙◌}
 use Rattle.std.specs.Prelude.{Result, Ok, Err, ⊤}
 use Rattle.std.specs.List.{filter}
-use Rattle.snow_base.specs.Numbers.{next_number}
-use Rattle.snow_chain.specs.Chain.{Rules}
+use Rattle.snow_base.specs.Model.Numbers.{next_number}
+use Rattle.snow_chain.specs.Model.Chain.{Rules}
 use Rattle.snow_sample.specs.declared.roster.Node.{Node}
 use Rattle.snow_issue.specs.declared.work.Get.{Get}
-use Rattle.snow_issue.specs.Lists.{asked_in}
+use Rattle.snow_issue.specs.Model.Lists.{asked_in}
 use Rattle.snow_lines.specs.declared.line.Line.{Line}
 use Rattle.snow_lines.specs.declared.line.Line.TheVariants as line
 use Rattle.snow_lines.specs.declared.why.SkipKind.TheVariants as skip
 use Rattle.snow_store.specs.declared.block.KeptBlock.{KeptBlock}
 use Rattle.snow_store.specs.declared.stop.BootStop.{BootStop}
 use Rattle.snow_store.specs.declared.stop.BootStop.TheVariants as stop
-use Rattle.snow_store.specs.Keeping.{Store}
-use Rattle.snow_store.specs.Paths.{Fetch, missed, is_whole, highest_target}
+use Rattle.snow_store.specs.Model.Keeping.{Store}
+use Rattle.snow_store.specs.Model.Paths.{Fetch, missed, is_whole, highest_target}
 use Rattle.snow_boot.specs.declared.question.Question.{Question}
 use Rattle.snow_boot.specs.declared.question.Question.TheVariants as question
-use Rattle.snow_boot.specs.Asking.{Asked, asked_with, asked_one, and_asked, asked}
-use Rattle.snow_boot.specs.Booting.{Boot, Outcome, behind, fetch_of, with_requests, height_or, ended, finished, followed_by, followed}
-use Rattle.snow_boot.specs.Executing.{Executed, executed}
-use Rattle.snow_boot.specs.OutcomeLaw.{accepts, accept_lines, IsExecution, whole_path_of}
-use Rattle.snow_boot.specs.Reached.{Event, outcome_of, fetched_by}
-use Rattle.snow_boot.specs.StoppedLaw.{AcceptsToRefused, IsRefusal, Refuses}
+use Rattle.snow_boot.specs.Model.Asking.{Asked, asked_with, asked_one, and_asked, asked}
+use Rattle.snow_boot.specs.Model.Booting.{Boot, Outcome, behind, fetch_of, with_requests, height_or, ended, finished, followed_by, followed}
+use Rattle.snow_boot.specs.Model.Executing.{Executed, executed}
+use Rattle.snow_boot.specs.Laws.OutcomeLaw.{accepts, accept_lines, IsExecution, whole_path_of}
+use Rattle.snow_boot.specs.Laws.Reached.{Event, outcome_of, fetched_by}
+use Rattle.snow_boot.specs.Laws.StoppedLaw.{AcceptsToRefused, IsRefusal, Refuses}
 use Rattle.snow_boot.proofs.Executed.{in_order}
 use Rattle.snow_boot.proofs.Stepping.{passed}
 

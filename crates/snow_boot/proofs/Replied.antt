@@ -7,11 +7,11 @@ use Rattle.snow_store.specs.declared.stop.BootStop.{BootStop}
 use Rattle.snow_store.specs.declared.verdict.Verdict.{Verdict}
 use Rattle.snow_store.specs.declared.verdict.Verdict.TheVariants as verdict
 use Rattle.snow_store.specs.declared.stop.BootStop.TheVariants as stop
-use Rattle.snow_boot.specs.Fetching.{Hunt, FetchesOne}
-use Rattle.snow_store.specs.Keeping.{taken, Answers}
-use Rattle.snow_store.specs.Paths.{Fetch}
-use Rattle.snow_store.specs.Coming.{after_verdict}
-use Rattle.snow_boot.specs.Replying.{if_wanted, with_taken, with_wanted, replied}
+use Rattle.snow_boot.specs.Kept.Fetching.{Hunt, FetchesOne}
+use Rattle.snow_store.specs.Model.Keeping.{taken, Answers}
+use Rattle.snow_store.specs.Model.Paths.{Fetch}
+use Rattle.snow_store.specs.Clauses.Coming.{after_verdict}
+use Rattle.snow_boot.specs.Model.Replying.{if_wanted, with_taken, with_wanted, replied}
 
 -- no block comes
 pub nothing_came : (header_of : List ℕ → Option Header) (f : Fetch) (id : List ℕ) → replied header_of f id [] ≡ Ok f

@@ -1,16 +1,16 @@
 -- What targets miss is asked for, and asked for once.
 use Rattle.std.proofs.Common.{◌≡◌, ℕ, Bool, true, false, ◌||◌, List, [], ◌∷◌, ◌++◌, Option, Some, None, if◌then◌else◌, inl, inr, refl, sym, ap, subst, ◌∙◌}
 use Rattle.std.specs.Prelude.{Result, Ok, Err}
-use Rattle.snow_base.specs.Numbers.{next_number}
+use Rattle.snow_base.specs.Model.Numbers.{next_number}
 use Rattle.snow_sample.specs.declared.roster.Node.{Node}
 use Rattle.snow_issue.specs.declared.work.Get.{Get}
-use Rattle.snow_issue.specs.Lists.{asked_in, with_get}
+use Rattle.snow_issue.specs.Model.Lists.{asked_in, with_get}
 use Rattle.snow_issue.proofs.Asking as gets
 use Rattle.snow_store.specs.declared.stop.BootStop.{BootStop}
 use Rattle.snow_store.specs.declared.stop.BootStop.TheVariants as stop
-use Rattle.snow_store.specs.Paths.{Fetch, missed}
-use Rattle.snow_boot.specs.Asking.{Asked, asked_node, asked_with, asked_one, and_asked, asked}
-use Rattle.snow_boot.specs.OutcomeLaw.{AreAsked}
+use Rattle.snow_store.specs.Model.Paths.{Fetch, missed}
+use Rattle.snow_boot.specs.Model.Asking.{Asked, asked_node, asked_with, asked_one, and_asked, asked}
+use Rattle.snow_boot.specs.Laws.OutcomeLaw.{AreAsked}
 use Rattle.snow_store.proofs.Cases.{clash, id_same}
 use Rattle.snow_store.proofs.Whole.{first_or, later, first}
 

@@ -1,9 +1,9 @@
 -- Bootstrapping begins.
 use Rattle.std.proofs.Common.{◌≡◌, ℕ, true, List, [], ◌∷◌, Some, sym, ap, ◌∙◌}
 use Rattle.std.specs.Prelude.{Result, Err}
-use Rattle.snow_base.specs.Numbers.{next_number}
-use Rattle.snow_chain.specs.Chain as states
-use Rattle.snow_chain.specs.Chain.{Held}
+use Rattle.snow_base.specs.Model.Numbers.{next_number}
+use Rattle.snow_chain.specs.Model.Chain as states
+use Rattle.snow_chain.specs.Model.Chain.{Held}
 use Rattle.snow_issue.specs.declared.work.Get.{Get}
 use Rattle.snow_lines.specs.declared.line.Line.{Line}
 use Rattle.snow_sample.specs.declared.roster.Node.{Node}
@@ -12,11 +12,11 @@ use Rattle.snow_boot.specs.declared.question.Question.TheVariants as question
 use Rattle.snow_boot.specs.declared.stage.Stage.{Stage}
 use Rattle.snow_store.specs.declared.stop.BootStop.{BootStop}
 use Rattle.snow_store.specs.declared.stop.BootStop.TheVariants as stop
-use Rattle.snow_boot.specs.Booting.{Outcome, begun, ask_frontier, started}
-use Rattle.snow_boot.specs.Calling.{AreDrawn, Begins, LogsUpTo}
-use Rattle.snow_boot.specs.Coursing.{boot_of, Comes}
-use Rattle.snow_boot.specs.Fetching.{Hunt}
-use Rattle.snow_boot.specs.Surveying.{Surveyed}
+use Rattle.snow_boot.specs.Model.Booting.{Outcome, begun, ask_frontier, started}
+use Rattle.snow_boot.specs.Clauses.Calling.{AreDrawn, Begins, LogsUpTo}
+use Rattle.snow_boot.specs.Kept.Coursing.{boot_of, Comes}
+use Rattle.snow_boot.specs.Kept.Fetching.{Hunt}
+use Rattle.snow_boot.specs.Kept.Surveying.{Surveyed}
 use Rattle.snow_boot.proofs.Followed.{comes_as}
 
 -- nothing is asked or kept yet

@@ -3,10 +3,10 @@ use Rattle.std.proofs.Common.{◌≡◌, ℕ, false, List, [], ◌∷◌, Option
 use Rattle.std.specs.Prelude.{Result, Ok, Err}
 use Rattle.std.specs.List.{list_any}
 use Rattle.snow_base.specs.declared.header.Header.{Header}
-use Rattle.snow_base.specs.Numbers.{next_number}
-use Rattle.snow_chain.specs.Chain.{Rules}
+use Rattle.snow_base.specs.Model.Numbers.{next_number}
+use Rattle.snow_chain.specs.Model.Chain.{Rules}
 use Rattle.snow_sample.specs.declared.roster.Node.{Node}
-use Rattle.snow_sample.specs.Roster.{total_weight}
+use Rattle.snow_sample.specs.Model.Roster.{total_weight}
 use Rattle.snow_issue.specs.declared.work.Get.{Get}
 use Rattle.snow_lines.specs.declared.line.Line.{Line}
 use Rattle.snow_lines.specs.declared.line.Line.TheVariants as line
@@ -15,16 +15,16 @@ use Rattle.snow_lines.specs.declared.why.RestartWhy.TheVariants as restart
 use Rattle.snow_lines.specs.declared.why.SkipKind.TheVariants as skip
 use Rattle.snow_store.specs.declared.stop.BootStop.{BootStop}
 use Rattle.snow_store.specs.declared.stop.BootStop.TheVariants as stop
-use Rattle.snow_store.specs.Coming.{came}
-use Rattle.snow_store.specs.Paths.{Fetch}
+use Rattle.snow_store.specs.Clauses.Coming.{came}
+use Rattle.snow_store.specs.Model.Paths.{Fetch}
 use Rattle.snow_boot.specs.declared.question.Candidate.{Candidate}
 use Rattle.snow_boot.specs.declared.question.Question.{Question}
 use Rattle.snow_boot.specs.declared.question.Question.TheVariants as question
-use Rattle.snow_boot.specs.Booting.{Boot, Going, Outcome, behind, asking, ask_frontier, ask_accepted, fetch_of, with_fetch, followed, fetching, with_targets, with_collected, all_answered, answered, or_all, if_awaited, awaited_for, frontier_came, accepted_came, request_of, closed, with_came, if_requested, ancestors_came, timeout_by, timeout_came, if_block, stored_came}
-use Rattle.snow_boot.specs.Electing.{collected, backed, majority}
-use Rattle.snow_boot.specs.OutcomeLaw.{accepts}
-use Rattle.snow_boot.specs.Reached.{Event, Frontier, Accepted, Ancestors, Timeout, Stored, outcome_of, fetched_for, fetched_one, fetched_by}
-use Rattle.snow_boot.specs.Replying.{replied}
+use Rattle.snow_boot.specs.Model.Booting.{Boot, Going, Outcome, behind, asking, ask_frontier, ask_accepted, fetch_of, with_fetch, followed, fetching, with_targets, with_collected, all_answered, answered, or_all, if_awaited, awaited_for, frontier_came, accepted_came, request_of, closed, with_came, if_requested, ancestors_came, timeout_by, timeout_came, if_block, stored_came}
+use Rattle.snow_boot.specs.Model.Electing.{collected, backed, majority}
+use Rattle.snow_boot.specs.Laws.OutcomeLaw.{accepts}
+use Rattle.snow_boot.specs.Laws.Reached.{Event, Frontier, Accepted, Ancestors, Timeout, Stored, outcome_of, fetched_for, fetched_one, fetched_by}
+use Rattle.snow_boot.specs.Model.Replying.{replied}
 
 -- what holds of all that may come of an event
 pub record Passes (rules : Rules) (state : List ℕ) (boot : Boot) (fetched : Result Fetch BootStop) (P : Outcome → Type 0) : Type 0 where

@@ -2,21 +2,21 @@
 use Rattle.std.proofs.Common.{◌≡◌, ℕ, Bool, true, false, List, [], ◌∷◌, if◌then◌else◌, refl, sym, subst}
 use Rattle.std.specs.Prelude.{Ok, Err}
 use Rattle.std.specs.List.{list_any}
-use Rattle.snow_chain.specs.Chain.{Rules}
+use Rattle.snow_chain.specs.Model.Chain.{Rules}
 use Rattle.snow_lines.specs.declared.line.Line.{Line}
 use Rattle.snow_lines.specs.declared.line.Line.TheVariants as line
 use Rattle.snow_lines.specs.declared.why.SkipKind.TheVariants as skip
 use Rattle.snow_store.specs.declared.stop.BootStop.{BootStop}
 use Rattle.snow_store.specs.declared.stop.BootStop.TheVariants as stop
-use Rattle.snow_store.specs.Paths.{is_whole, highest_target}
+use Rattle.snow_store.specs.Model.Paths.{is_whole, highest_target}
 use Rattle.snow_boot.specs.declared.question.Question.{Question}
 use Rattle.snow_boot.specs.declared.question.Question.TheVariants as question
-use Rattle.snow_boot.specs.Asking.{Asked, asked}
-use Rattle.snow_boot.specs.Booting.{Boot, Outcome, behind, fetch_of, with_requests, height_or, ended, finished, followed_by, followed}
-use Rattle.snow_boot.specs.Executing.{Executed, executed}
-use Rattle.snow_boot.specs.OutcomeLaw.{accepts, IsExecution, whole_path_of}
-use Rattle.snow_boot.specs.Reached.{Event, outcome_of}
-use Rattle.snow_boot.specs.StoppedLaw.{IsEarly, StopsEarly}
+use Rattle.snow_boot.specs.Model.Asking.{Asked, asked}
+use Rattle.snow_boot.specs.Model.Booting.{Boot, Outcome, behind, fetch_of, with_requests, height_or, ended, finished, followed_by, followed}
+use Rattle.snow_boot.specs.Model.Executing.{Executed, executed}
+use Rattle.snow_boot.specs.Laws.OutcomeLaw.{accepts, IsExecution, whole_path_of}
+use Rattle.snow_boot.specs.Laws.Reached.{Event, outcome_of}
+use Rattle.snow_boot.specs.Laws.StoppedLaw.{IsEarly, StopsEarly}
 use Rattle.snow_boot.proofs.Executed.{in_order}
 use Rattle.snow_boot.proofs.Quiet.{all_asked}
 use Rattle.snow_boot.proofs.Stepping.{passed}

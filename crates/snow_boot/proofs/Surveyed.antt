@@ -3,12 +3,12 @@ use Rattle.std.proofs.Common.{◌≡◌, ℕ, ◌+◌, ◌-◌, ◌^◌, ◌<◌
 use Rattle.std.specs.Option.{option_map}
 use Rattle.std.proofs.lemmas.List.Sums.{sum_by-cons}
 use Rattle.snow_sample.specs.declared.roster.Node.{Node}
-use Rattle.snow_sample.specs.Roster.{total_weight, first_fault}
+use Rattle.snow_sample.specs.Model.Roster.{total_weight, first_fault}
 use Rattle.snow_boot.specs.declared.question.Candidate.{Candidate}
 use Rattle.snow_boot.specs.declared.question.Question.TheVariants as question
-use Rattle.snow_boot.specs.Electing.{awaits, still_awaited, is_collected, collected, backed}
-use Rattle.snow_store.specs.Paths.{has_id}
-use Rattle.snow_boot.specs.Surveying.{Surveyed, AreWithin, IsSurvey}
+use Rattle.snow_boot.specs.Model.Electing.{awaits, still_awaited, is_collected, collected, backed}
+use Rattle.snow_store.specs.Model.Paths.{has_id}
+use Rattle.snow_boot.specs.Kept.Surveying.{Surveyed, AreWithin, IsSurvey}
 use Rattle.snow_store.proofs.Cases.{none_not, same_some}
 
 -- a higher bound

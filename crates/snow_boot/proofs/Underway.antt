@@ -1,7 +1,7 @@
 -- Lines that are written one after another: what is still to be done makes of what was done the whole.
 use Rattle.std.proofs.Common.{◌≡◌, List, [], ◌++◌, refl, sym, ap, ◌∙◌, append_assoc, append-nil}
 use Rattle.snow_lines.specs.declared.line.Line.{Line}
-use Rattle.snow_boot.specs.Calling.{LogsFront}
+use Rattle.snow_boot.specs.Clauses.Calling.{LogsFront}
 
 pub record IsUnderway {R : Type 0} (before now : List Line) (rest whole : List Line × R) : Type 0 where
   pub done : List Line

@@ -8,8 +8,8 @@ use Rattle.std.specs.Ordering.{nat_cmp}
 use Rattle.std.proofs.lemmas.Bool.{ne_eqb}
 use Rattle.std.proofs.lemmas.Map.Text.{is_eq-slice_cmp}
 use Rattle.snow_sample.specs.declared.roster.Node.{Node}
-use Rattle.snow_boot.specs.Electing.{awaits, still_awaited}
-use Rattle.snow_boot.specs.Surveying.{nodes_in, HasWeights}
+use Rattle.snow_boot.specs.Model.Electing.{awaits, still_awaited}
+use Rattle.snow_boot.specs.Kept.Surveying.{nodes_in, HasWeights}
 use Rattle.snow_store.proofs.Cases.{clash, same_id, id_same, not_none, none_not, id_turned}
 
 abbrev Weights : Type 0

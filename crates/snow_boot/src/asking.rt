@@ -1,9 +1,9 @@
 ghost use Rattle.std.specs.Prelude.{◌≡◌, ◌<◌, true, false, length};
-ghost use Rattle.snow_issue.specs.Lists.{asked_in};
-ghost use Rattle.snow_boot.specs.Calling.{AreDrawn};
-ghost use Rattle.snow_boot.specs.Asking.{asked_node, asked_one, asked_with, asked, AreAskedBut};
-ghost use Rattle.snow_base.specs.Numbers.{next_number};
-ghost use Rattle.snow_boot.specs.Requesting.{Asks};
+ghost use Rattle.snow_issue.specs.Model.Lists.{asked_in};
+ghost use Rattle.snow_boot.specs.Clauses.Calling.{AreDrawn};
+ghost use Rattle.snow_boot.specs.Model.Asking.{asked_node, asked_one, asked_with, asked, AreAskedBut};
+ghost use Rattle.snow_base.specs.Model.Numbers.{next_number};
+ghost use Rattle.snow_boot.specs.Clauses.Requesting.{Asks};
 
 use crate::fetching::Fetching;
 use snow_base::{Id, NodeId, Numbers};

@@ -1,10 +1,10 @@
 ghost use Rattle.std.specs.Prelude.{◌≡◌, IfOk};
-ghost use Rattle.snow_chain.specs.Chain.{Held};
-ghost use Rattle.snow_boot.specs.Booting as model;
-ghost use Rattle.snow_chain.specs.Alone.{IsAlone, last_state};
-ghost use Rattle.snow_boot.specs.Calling.{MayGoOn, OnGoing, OnDone, Brings, Begins, Logs, Leaves};
-ghost use Rattle.snow_boot.specs.Coursing.{is_going};
-ghost use Rattle.snow_boot.specs.Promising.{Promises};
+ghost use Rattle.snow_chain.specs.Model.Chain.{Held};
+ghost use Rattle.snow_boot.specs.Model.Booting as model;
+ghost use Rattle.snow_chain.specs.Kept.Alone.{IsAlone, last_state};
+ghost use Rattle.snow_boot.specs.Clauses.Calling.{MayGoOn, OnGoing, OnDone, Brings, Begins, Logs, Leaves};
+ghost use Rattle.snow_boot.specs.Kept.Coursing.{is_going};
+ghost use Rattle.snow_boot.specs.Clauses.Promising.{Promises};
 
 use crate::fetching::Fetching;
 use crate::inquiring;
@@ -41,9 +41,9 @@ pub struct Boot<C: Chain, H: Kept> {
 
 impl<C: Chain, H: Kept> Model for Boot<C, H> {
     ghost use Rattle.std.specs.Prelude.{◌≡◌, true};
-    ghost use Rattle.snow_boot.specs.BootCode.{coded_course};
-    ghost use Rattle.snow_boot.specs.Calling.{Course};
-    ghost use Rattle.snow_boot.specs.Coursing.{course_of, IsCourse};
+    ghost use Rattle.snow_boot.specs.Kept.BootCode.{coded_course};
+    ghost use Rattle.snow_boot.specs.Clauses.Calling.{Course};
+    ghost use Rattle.snow_boot.specs.Kept.Coursing.{course_of, IsCourse};
 
     ghost Value = { Course };
 

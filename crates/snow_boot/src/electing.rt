@@ -2,9 +2,9 @@
 //! backs it.
 ghost use Rattle.std.specs.Prelude.{◌≡◌, ℕ, List, ◌+◌, ◌^◌, ◌<◌, Some, IfOk, OnOk, OnErr, bytes_eq};
 ghost use Rattle.indexmap.specs.IndexMap.{get};
-ghost use Rattle.snow_boot.specs.Electing.{candidates_of, with_weight, collected, backed, is_target, majority};
-ghost use Rattle.snow_boot.specs.Surveying.{AreWithin};
-ghost use Rattle.snow_store.specs.Paths.{has_id};
+ghost use Rattle.snow_boot.specs.Model.Electing.{candidates_of, with_weight, collected, backed, is_target, majority};
+ghost use Rattle.snow_boot.specs.Kept.Surveying.{AreWithin};
+ghost use Rattle.snow_store.specs.Model.Paths.{has_id};
 
 use indexmap::{IndexMap, IndexSet};
 use snow_base::Id;

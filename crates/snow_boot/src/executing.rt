@@ -1,11 +1,11 @@
 ghost use Rattle.std.specs.Prelude.{◌≡◌, ◌+◌, ◌-◌, true};
-ghost use Rattle.snow_boot.specs.Accepting.{ExecutesOne, ExecutesAt, Executes, EndsAt, Concludes};
-ghost use Rattle.snow_boot.specs.Booting.{finished};
-ghost use Rattle.snow_chain.specs.Alone.{IsAlone, last_state};
-ghost use Rattle.snow_boot.specs.Executing.{executed};
-ghost use Rattle.snow_store.specs.Keeping.{held};
-ghost use Rattle.snow_store.specs.Linking.{upward};
-ghost use Rattle.snow_store.specs.Paths.{is_whole, highest_target};
+ghost use Rattle.snow_boot.specs.Clauses.Accepting.{ExecutesOne, ExecutesAt, Executes, EndsAt, Concludes};
+ghost use Rattle.snow_boot.specs.Model.Booting.{finished};
+ghost use Rattle.snow_chain.specs.Kept.Alone.{IsAlone, last_state};
+ghost use Rattle.snow_boot.specs.Model.Executing.{executed};
+ghost use Rattle.snow_store.specs.Model.Keeping.{held};
+ghost use Rattle.snow_store.specs.Laws.Linking.{upward};
+ghost use Rattle.snow_store.specs.Model.Paths.{is_whole, highest_target};
 
 use crate::fetching::Fetching;
 use crate::stage::Stage;

@@ -1,12 +1,12 @@
 ghost use Rattle.std.specs.Prelude.{◌≡◌, true, [], Some, None, IfOk, OnOk, if◌then◌else◌};
-ghost use Rattle.snow_boot.specs.Accepting.{higher_one, top_height};
-ghost use Rattle.snow_store.specs.Keeping.{taken, Answers};
-ghost use Rattle.snow_boot.specs.Fetching.{Fetches, FetchesOne};
-ghost use Rattle.snow_store.specs.Needing.{is_missed, Covers};
-ghost use Rattle.snow_store.specs.Paths.{missed, is_whole};
+ghost use Rattle.snow_boot.specs.Clauses.Accepting.{higher_one, top_height};
+ghost use Rattle.snow_store.specs.Model.Keeping.{taken, Answers};
+ghost use Rattle.snow_boot.specs.Kept.Fetching.{Fetches, FetchesOne};
+ghost use Rattle.snow_store.specs.Model.Needing.{is_missed, Covers};
+ghost use Rattle.snow_store.specs.Model.Paths.{missed, is_whole};
 ghost use Rattle.snow_store.specs.declared.due.Due.TheVariants as due;
-ghost use Rattle.snow_store.specs.Coming.{after_verdict};
-ghost use Rattle.snow_boot.specs.Replying.{replied};
+ghost use Rattle.snow_store.specs.Clauses.Coming.{after_verdict};
+ghost use Rattle.snow_boot.specs.Model.Replying.{replied};
 
 use indexmap::IndexSet;
 use snow_base::{Bytes, Header, Id};
@@ -34,9 +34,9 @@ pub(crate) struct Fetching<H: Kept> {
 
 impl<H: Kept> Model for Fetching<H> {
     ghost use Rattle.std.specs.Prelude.{◌≡◌, true};
-    ghost use Rattle.snow_boot.specs.BootCode.{coded_hunt};
-    ghost use Rattle.snow_boot.specs.Fetching.{Hunt};
-    ghost use Rattle.snow_store.specs.Renewing.{fetch_by, AreKnown};
+    ghost use Rattle.snow_boot.specs.Kept.BootCode.{coded_hunt};
+    ghost use Rattle.snow_boot.specs.Kept.Fetching.{Hunt};
+    ghost use Rattle.snow_store.specs.Kept.Renewing.{fetch_by, AreKnown};
 
     ghost Value = { Hunt };
 

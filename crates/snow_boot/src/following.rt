@@ -1,8 +1,8 @@
 ghost use Rattle.std.specs.Prelude.{◌≡◌};
-ghost use Rattle.snow_boot.specs.Asking.{AreAskedBut};
-ghost use Rattle.snow_boot.specs.Booting.{followed};
-ghost use Rattle.snow_chain.specs.Alone.{IsAlone, last_state};
-ghost use Rattle.snow_boot.specs.Coursing.{boot_of, MayAsk, Comes};
+ghost use Rattle.snow_boot.specs.Model.Asking.{AreAskedBut};
+ghost use Rattle.snow_boot.specs.Model.Booting.{followed};
+ghost use Rattle.snow_chain.specs.Kept.Alone.{IsAlone, last_state};
+ghost use Rattle.snow_boot.specs.Kept.Coursing.{boot_of, MayAsk, Comes};
 ghost use Rattle.snow_boot.specs.declared.question.Question.TheVariants as question;
 
 use crate::parts::Parts;

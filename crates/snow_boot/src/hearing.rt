@@ -1,9 +1,9 @@
 //! How a node that bootstraps takes each event, over its parts.
 ghost use Rattle.std.specs.Prelude.{◌≡◌};
-ghost use Rattle.snow_boot.specs.Asking.{due_of};
-ghost use Rattle.snow_boot.specs.Booting as model;
-ghost use Rattle.snow_chain.specs.Alone.{last_state};
-ghost use Rattle.snow_boot.specs.Coursing.{boot_of, MayHear, Comes};
+ghost use Rattle.snow_boot.specs.Model.Asking.{due_of};
+ghost use Rattle.snow_boot.specs.Model.Booting as model;
+ghost use Rattle.snow_chain.specs.Kept.Alone.{last_state};
+ghost use Rattle.snow_boot.specs.Kept.Coursing.{boot_of, MayHear, Comes};
 
 use crate::parts::Parts;
 use crate::question::Question;

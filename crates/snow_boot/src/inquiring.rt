@@ -1,17 +1,17 @@
 ghost use Rattle.std.specs.Prelude.{◌≡◌, ◌≢◌, List, [], ◌∷◌, true, IfOk};
-ghost use Rattle.snow_chain.specs.Chain.{Held};
+ghost use Rattle.snow_chain.specs.Model.Chain.{Held};
 ghost use Rattle.snow_issue.specs.declared.work.Get.{Get};
-ghost use Rattle.snow_boot.specs.Fetching.{Hunt};
-ghost use Rattle.snow_base.specs.Numbers.{next_number};
-ghost use Rattle.snow_boot.specs.Booting.{behind, ask_frontier, ask_accepted, with_collected, with_targets, or_all};
-ghost use Rattle.snow_chain.specs.Alone.{IsAlone, last_state};
-ghost use Rattle.snow_boot.specs.Calling.{AreDrawn};
-ghost use Rattle.snow_boot.specs.Coursing.{boot_of, MayAsk, MayHear, Comes};
-ghost use Rattle.snow_boot.specs.Electing.{majority};
+ghost use Rattle.snow_boot.specs.Kept.Fetching.{Hunt};
+ghost use Rattle.snow_base.specs.Model.Numbers.{next_number};
+ghost use Rattle.snow_boot.specs.Model.Booting.{behind, ask_frontier, ask_accepted, with_collected, with_targets, or_all};
+ghost use Rattle.snow_chain.specs.Kept.Alone.{IsAlone, last_state};
+ghost use Rattle.snow_boot.specs.Clauses.Calling.{AreDrawn};
+ghost use Rattle.snow_boot.specs.Kept.Coursing.{boot_of, MayAsk, MayHear, Comes};
+ghost use Rattle.snow_boot.specs.Model.Electing.{majority};
 ghost use Rattle.snow_boot.specs.declared.question.Question.TheVariants as question;
 ghost use Rattle.snow_boot.specs.declared.stage.Stage.TheVariants as stage;
 ghost use Rattle.snow_lines.specs.declared.line.Line.TheVariants as line;
-ghost use Rattle.snow_sample.specs.Roster.{total_weight};
+ghost use Rattle.snow_sample.specs.Model.Roster.{total_weight};
 
 use crate::parts::Parts;
 use crate::question::Question;

@@ -1,9 +1,9 @@
 //! Laws of bootstrapping, each a function that does nothing and ensures the law.
-ghost use Rattle.snow_boot.specs.OutcomeLaw.{AskedLaw, AskedOnceLaw, ExecutionLaw, QuietLaw, EndLaw};
-ghost use Rattle.snow_boot.specs.FinishLaw.{FinishLaw};
-ghost use Rattle.snow_boot.specs.Reached.{ReachedLinkedLaw};
-ghost use Rattle.snow_boot.specs.ReplyLaw.{ReplyLaw};
-ghost use Rattle.snow_boot.specs.StoppedLaw.{StoppedLaw, RefusedLaw};
+ghost use Rattle.snow_boot.specs.Laws.OutcomeLaw.{AskedLaw, AskedOnceLaw, ExecutionLaw, QuietLaw, EndLaw};
+ghost use Rattle.snow_boot.specs.Laws.FinishLaw.{FinishLaw};
+ghost use Rattle.snow_boot.specs.Laws.Reached.{ReachedLinkedLaw};
+ghost use Rattle.snow_boot.specs.Laws.ReplyLaw.{ReplyLaw};
+ghost use Rattle.snow_boot.specs.Laws.StoppedLaw.{StoppedLaw, RefusedLaw};
 
 /// Once the node asked for what targets miss, open requests name each identifier that one of them
 /// misses.

@@ -1,10 +1,10 @@
 ghost use Rattle.std.specs.Prelude.{◌≡◌, ◌<◌, ◌==◌, List, [], Some, IfOk, OnOk, length, map, not};
 ghost use Rattle.std.specs.Option.{option_map};
-ghost use Rattle.snow_sample.specs.Roster.{total_weight};
-ghost use Rattle.snow_boot.specs.Booting.{asks, awaited_by};
+ghost use Rattle.snow_sample.specs.Model.Roster.{total_weight};
+ghost use Rattle.snow_boot.specs.Model.Booting.{asks, awaited_by};
 ghost use Rattle.snow_sample.specs.declared.roster.Node.{Node};
-ghost use Rattle.snow_boot.specs.Electing.{awaits, still_awaited, collected, backed, majority};
-ghost use Rattle.snow_boot.specs.Surveying.{HasWeights};
+ghost use Rattle.snow_boot.specs.Model.Electing.{awaits, still_awaited, collected, backed, majority};
+ghost use Rattle.snow_boot.specs.Kept.Surveying.{HasWeights};
 ghost use Rattle.snow_boot.specs.declared.question.Question.TheVariants as question;
 
 use crate::electing;
@@ -32,8 +32,8 @@ pub(crate) struct Survey {
 }
 
 impl Model for Survey {
-    ghost use Rattle.snow_boot.specs.BootCode.{coded_surveyed};
-    ghost use Rattle.snow_boot.specs.Surveying.{Surveyed, surveyed, IsKnown};
+    ghost use Rattle.snow_boot.specs.Kept.BootCode.{coded_surveyed};
+    ghost use Rattle.snow_boot.specs.Kept.Surveying.{Surveyed, surveyed, IsKnown};
 
     ghost Value = { Surveyed };
 

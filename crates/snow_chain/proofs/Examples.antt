@@ -1,7 +1,7 @@
 -- Worked examples: the definitions compute.
 use Rattle.std.proofs.Common.{◌≡◌, ℕ, true, false, List, [], ◌∷◌, ◌++◌, replicate, Some, None, refl}
-use Rattle.snow_chain.specs.Plain
-use Rattle.snow_chain.specs.Tally
+use Rattle.snow_chain.specs.Model.Plain
+use Rattle.snow_chain.specs.Model.Tally
 
 -- an identifier by its first byte
 abbrev id_of : ℕ → List ℕ

@@ -6,8 +6,8 @@ use Rattle.std.specs.Cmp.Lexicographic.{slice_cmp, nat_list_cmp_total}
 use Rattle.std.specs.Str.{bytes_eq}
 use Rattle.std.specs.FinMap.{find, from_entries, get, insert, remove, get-from_entries, get-insert, get-remove, same_map, slice_cmp-IsAntisymmetric, nat_cmp-IsAntisymmetric}
 use Rattle.std.proofs.lemmas.Map.Text.{is_eq-slice_cmp}
-use Rattle.snow_map.specs.Entries.{value_of, HasAt}
-use Rattle.snow_chain.specs.Chain.{Held, States, state_of, begun, with_state, accepted, rejected}
+use Rattle.snow_map.specs.Clauses.Entries.{value_of, HasAt}
+use Rattle.snow_chain.specs.Model.Chain.{Held, States, state_of, begun, with_state, accepted, rejected}
 
 abbrev Entries : Type 0
 Entries = List (List ℕ × List ℕ)

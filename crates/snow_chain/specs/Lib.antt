@@ -1,6 +1,2 @@
-pub mod Alone
-pub mod Chain
-pub mod Coded
-pub mod Fields
-pub mod Plain
-pub mod Tally
+pub mod Model
+pub mod Kept

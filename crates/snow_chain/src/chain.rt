@@ -10,7 +10,7 @@ use std::alloc::{AllocError, Global};
 /// them in order.
 /// Rule: AvalancheGo, snow/consensus/snowman and this project's own.
 pub trait Chain: Sized + Drop {
-    ghost use Rattle.snow_chain.specs.Chain as model;
+    ghost use Rattle.snow_chain.specs.Model.Chain as model;
 
     /// What bytes say of a block, the state that a valid block has, and the states with which a run
     /// may begin.

@@ -1,5 +1,5 @@
 ghost use Rattle.std.specs.Prelude.{◌≡◌, ◌+◌, ◌≤◌, length};
-ghost use Rattle.snow_chain.specs.Fields.{id_at, number_at};
+ghost use Rattle.snow_chain.specs.Model.Fields.{id_at, number_at};
 
 use byteorder::{BigEndian, ByteOrder};
 use snow_base::Id;

@@ -1,5 +1,5 @@
 ghost use Rattle.std.specs.Prelude.{◌≡◌};
-ghost use Rattle.snow_chain.specs.Plain.{header_of, is_valid, plain_rules};
+ghost use Rattle.snow_chain.specs.Model.Plain.{header_of, is_valid, plain_rules};
 
 use crate::chain::Chain;
 use crate::fault::ChainFault;
@@ -19,8 +19,8 @@ pub struct PlainChain {
 }
 
 impl Model for PlainChain {
-    ghost use Rattle.snow_chain.specs.Chain.{Held};
-    ghost use Rattle.snow_chain.specs.Coded.{coded_held};
+    ghost use Rattle.snow_chain.specs.Model.Chain.{Held};
+    ghost use Rattle.snow_chain.specs.Kept.Coded.{coded_held};
 
     ghost Value = { Held };
 
@@ -40,7 +40,7 @@ impl PlainChain {
 }
 
 impl Chain for PlainChain {
-    ghost use Rattle.snow_chain.specs.Plain.{plain_needs_header};
+    ghost use Rattle.snow_chain.specs.Model.Plain.{plain_needs_header};
 
     ghost rules = { plain_rules };
 

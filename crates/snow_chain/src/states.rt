@@ -18,8 +18,8 @@ pub struct States {
 
 impl Model for States {
     ghost use Rattle.std.specs.FinMap.{from_entries};
-    ghost use Rattle.snow_chain.specs.Chain.{Held};
-    ghost use Rattle.snow_chain.specs.Coded.{coded_held};
+    ghost use Rattle.snow_chain.specs.Model.Chain.{Held};
+    ghost use Rattle.snow_chain.specs.Kept.Coded.{coded_held};
 
     ghost Value = { Held };
 
@@ -29,7 +29,7 @@ impl Model for States {
 }
 
 impl States {
-    ghost use Rattle.snow_chain.specs.Chain.{begun, state_of, with_state, accepted, rejected, MayVerify, MayAccept, MayReject};
+    ghost use Rattle.snow_chain.specs.Model.Chain.{begun, state_of, with_state, accepted, rejected, MayVerify, MayAccept, MayReject};
 
     /// Returns the state of the last accepted block alone. On want of memory it returns
     /// `AllocError`.

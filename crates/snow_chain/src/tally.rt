@@ -1,6 +1,6 @@
 ghost use Rattle.std.specs.Prelude.{◌≡◌, [], ◌∷◌, IfOk};
-ghost use Rattle.snow_chain.specs.Chain.{next_on};
-ghost use Rattle.snow_chain.specs.Tally.{header_of, raised, tally_rules};
+ghost use Rattle.snow_chain.specs.Model.Chain.{next_on};
+ghost use Rattle.snow_chain.specs.Model.Tally.{header_of, raised, tally_rules};
 
 use crate::chain::Chain;
 use crate::fault::ChainFault;
@@ -21,8 +21,8 @@ pub struct TallyChain {
 }
 
 impl Model for TallyChain {
-    ghost use Rattle.snow_chain.specs.Chain.{Held};
-    ghost use Rattle.snow_chain.specs.Coded.{coded_held};
+    ghost use Rattle.snow_chain.specs.Model.Chain.{Held};
+    ghost use Rattle.snow_chain.specs.Kept.Coded.{coded_held};
 
     ghost Value = { Held };
 
@@ -42,7 +42,7 @@ impl TallyChain {
 }
 
 impl Chain for TallyChain {
-    ghost use Rattle.snow_chain.specs.Tally.{tally_needs_header};
+    ghost use Rattle.snow_chain.specs.Model.Tally.{tally_needs_header};
 
     ghost rules = { tally_rules };
 

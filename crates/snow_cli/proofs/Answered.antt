@@ -8,9 +8,9 @@ use Rattle.clap.specs.Matches.{first_value}
 use Rattle.clap.specs.declared.error.kind.ErrorKind.{ErrorKind}
 use Rattle.clap.specs.declared.parser.matches.Found.{Found}
 use Rattle.clap.proofs.WalkLemmas.{both, first_value-rows}
-use Rattle.snow_cli.specs.Words.{has_dash, is_drill}
-use Rattle.snow_cli.specs.Request.{Request, command_in}
-use Rattle.snow_cli.specs.Parsing.{AsksFor, Choice, command_read, drill_read, in_order, is_word, is_word_or_none, option_words, ordered, service_read, snowman, takes_chain, values_read}
+use Rattle.snow_cli.specs.Model.Words.{has_dash, is_drill}
+use Rattle.snow_cli.specs.Kept.Request.{Request, command_in}
+use Rattle.snow_cli.specs.Kept.Parsing.{AsksFor, Choice, command_read, drill_read, in_order, is_word, is_word_or_none, option_words, ordered, service_read, snowman, takes_chain, values_read}
 use Rattle.snow_cli.proofs.Ordered.{Says, matched}
 use Rattle.snow_cli.proofs.Faulted.{faulted}
 use Rattle.snow_cli.proofs.Refused.{refused, taken}

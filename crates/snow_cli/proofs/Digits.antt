@@ -1,6 +1,6 @@
 -- Where a digit gave no number, the rest give none.
 use Rattle.std.proofs.Common.{◌≡◌, ◌∙◌, ℕ, ◌≤◌, List, [], ◌∷◌, fold, length, slice_index, Option, Some, None, refl, ap, arith}
-use Rattle.snow_cli.specs.Words.{with_digit}
+use Rattle.snow_cli.specs.Model.Words.{with_digit}
 
 pub none_more : (most : ℕ) (digits : List ℕ) → fold (with_digit most) None digits ≡ None
 none_more most [] = refl

@@ -1,11 +1,11 @@
 -- What a drill owes, as the run of a command.
 use Rattle.std.proofs.Common.{◌≡◌, ℕ, List, [], Option, Some, None, refl, sym, ◌∙◌, append-nil}
-use Rattle.snow_base.specs.Outside.{AppendsFront}
+use Rattle.snow_base.specs.Clauses.Outside.{AppendsFront}
 use Rattle.snow_engine.specs.declared.end.End.{End}
 use Rattle.snow_engine.specs.declared.end.End.TheVariants as end
-use Rattle.snow_engine.specs.Serving.{IsEnd}
-use Rattle.snow_engine.specs.Serving as serving
-use Rattle.snow_drill.specs.Following as drill
+use Rattle.snow_engine.specs.Clauses.Serving.{IsEnd}
+use Rattle.snow_engine.specs.Clauses.Serving as serving
+use Rattle.snow_drill.specs.Kept.Following as drill
 
 -- nothing is a front of any text
 pub nothing_front : (before after : Option (List ℕ)) (text : List ℕ) → after ≡ before → AppendsFront before after text

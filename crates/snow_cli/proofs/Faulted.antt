@@ -9,8 +9,8 @@ use Rattle.clap.specs.Kinds.{Kinds, or_else, value_kinds}
 use Rattle.clap.specs.Faults.{bundle_fault, check_fault, defaults_fault, entered_fault, fault_of, flag_word_fault, settle_fault, step_fault, turn_fault, walk_fault, word_fault}
 use Rattle.clap.proofs.OnLiterals.{clap_on_literals}
 use Rattle.clap.specs.declared.builder.value_parser.ValueParser.TheVariants as parser
-use Rattle.snow_cli.specs.Words.{has_dash}
-use Rattle.snow_cli.specs.Parsing.{Choice, snowman, option_words}
+use Rattle.snow_cli.specs.Model.Words.{has_dash}
+use Rattle.snow_cli.specs.Kept.Parsing.{Choice, snowman, option_words}
 use Rattle.snow_cli.proofs.Ordered.{met, no_end, no_long, no_short, started, starts}
 
 -- a word that doesn't begin with `-` is refused as no flag

@@ -3,18 +3,18 @@ use Rattle.std.proofs.Common.{◌≡◌, ℕ, List, [], ◌++◌, Option, Some, 
 use Rattle.std.specs.Prelude.{IfSome}
 use Rattle.std.specs.Io.KnownBytes.{Appends}
 use Rattle.std.proofs.lemmas.Option.{IfSome_then}
-use Rattle.snow_base.specs.Outside.{AppendsFront}
+use Rattle.snow_base.specs.Clauses.Outside.{AppendsFront}
 use Rattle.snow_engine.specs.declared.end.End.{End}
 use Rattle.snow_engine.specs.declared.end.End.TheVariants as end
-use Rattle.snow_engine.specs.Serving as serving
+use Rattle.snow_engine.specs.Clauses.Serving as serving
 use Rattle.snow_audit.specs.declared.auditing.AuditEnd.{AuditEnd}
 use Rattle.snow_audit.specs.declared.auditing.AuditEnd.TheVariants as audit
-use Rattle.snow_audit.specs.Answering as auditing
+use Rattle.snow_audit.specs.Clauses.Answering as auditing
 use Rattle.snow_cli.specs.declared.finish.Finish.{Finish}
 use Rattle.snow_cli.specs.declared.finish.Finish.TheVariants as finish
 use Rattle.snow_cli.specs.declared.status.Status.{Status}
 use Rattle.snow_cli.specs.declared.status.Status.TheVariants as status
-use Rattle.snow_cli.specs.Answer.{end_status, status_of, told_by, IsAnswer, IsFinish, Wrote, HasFault, audit_finish, audit_text, Tells, Whole, Front, Told}
+use Rattle.snow_cli.specs.Clauses.Answer.{end_status, status_of, told_by, IsAnswer, IsFinish, Wrote, HasFault, audit_finish, audit_text, Tells, Whole, Front, Told}
 use Rattle.snow_cli.proofs.Drilled.{nothing_front}
 
 -- ---- the end of a run

@@ -10,8 +10,8 @@ use Rattle.snow_cli.specs.declared.command.ChainName.{ChainName}
 use Rattle.snow_cli.specs.declared.command.ChainName.TheVariants as chain
 use Rattle.snow_cli.specs.declared.command.RuleName.{RuleName}
 use Rattle.snow_cli.specs.declared.command.RuleName.TheVariants as rule
-use Rattle.snow_cli.specs.Words.{Item, Plain, Given, Wrong, items, plain_words, values, is_among, one_of, the_one, job_named, chain_named, rule_named, seed_named, blocks_named, streaming, drilling, drill_of, is_drill, task_with, command_of}
-use Rattle.snow_cli.specs.Request.{Request, blank, with_items, command_in, service, service_of, drill_by}
+use Rattle.snow_cli.specs.Model.Words.{Item, Plain, Given, Wrong, items, plain_words, values, is_among, one_of, the_one, job_named, chain_named, rule_named, seed_named, blocks_named, streaming, drilling, drill_of, is_drill, task_with, command_of}
+use Rattle.snow_cli.specs.Kept.Request.{Request, blank, with_items, command_in, service, service_of, drill_by}
 
 abbrev Word : Type 0
 Word = List ℕ

@@ -4,8 +4,8 @@ use Rattle.std.specs.Prelude.{MatchOption}
 use Rattle.std.specs.Borrow.{Bor}
 use Rattle.std.specs.List.{list_any, position_or_len}
 use Rattle.std.proofs.lemmas.Bool.Decides.{nat_tests}
-use Rattle.snow_cli.specs.Words.{Names, is_equals, option_form}
-use Rattle.snow_cli.specs.Request.{behind_dash}
+use Rattle.snow_cli.specs.Model.Words.{Names, is_equals, option_form}
+use Rattle.snow_cli.specs.Kept.Request.{behind_dash}
 
 -- the clause of `strip_prefix` at `-`
 pub dash_from : (bs : List ℕ) (r : Option (Bor (List ℕ)))

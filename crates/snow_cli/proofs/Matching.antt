@@ -9,7 +9,7 @@ use Rattle.clap.specs.Kinds.{FailsBy}
 use Rattle.clap.specs.Faults.{fault_of, is_simple_and_free}
 use Rattle.clap.specs.declared.error.Error.{Error}
 use Rattle.clap.specs.declared.parser.matches.ArgMatches.{ArgMatches}
-use Rattle.snow_cli.specs.Parsing.{Choice, snowman}
+use Rattle.snow_cli.specs.Kept.Parsing.{Choice, snowman}
 
 module _ (tasks chains rules : Choice) (a : App) (is : a ≡ snowman tasks chains rules) (words : List Text) where
   pub rows_are : (r : Result ArgMatches Error) → IfOk r (HasMatchesOf a words)

@@ -10,8 +10,8 @@ use Rattle.clap.specs.Faults.{is_simple_and_free}
 use Rattle.clap.proofs.OnLiterals.{clap_on_literals}
 use Rattle.clap.specs.declared.builder.value_parser.Reading.TheVariants as reading
 use Rattle.clap.specs.declared.parser.matches.ValueSource.TheVariants.{DefaultValue, CommandLine}
-use Rattle.snow_cli.specs.Words.{has_dash}
-use Rattle.snow_cli.specs.Parsing.{Choice, snowman, option_words}
+use Rattle.snow_cli.specs.Model.Words.{has_dash}
+use Rattle.snow_cli.specs.Kept.Parsing.{Choice, snowman, option_words}
 
 -- ---- a word that doesn't begin with `-`
 

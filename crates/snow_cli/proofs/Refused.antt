@@ -9,7 +9,7 @@ use Rattle.clap.specs.declared.builder.value_parser.ValueParser.TheVariants as p
 use Rattle.clap.specs.declared.error.kind.ErrorKind.{ErrorKind}
 use Rattle.clap.specs.declared.error.kind.ErrorKind.TheVariants.{InvalidValue}
 use Rattle.clap.proofs.WalkLemmas.{both, list_any-map}
-use Rattle.snow_cli.specs.Parsing.{Choice}
+use Rattle.snow_cli.specs.Kept.Parsing.{Choice}
 use Rattle.snow_cli.proofs.Faulted.{fault_end, fault_given, fault_left, fault_open, fault_turns, values_fault}
 use Rattle.snow_cli.proofs.Tested.{chain_names, fits, is_one, is_one_or_none, rule_names, task_names}
 

@@ -12,9 +12,9 @@ use Rattle.snow_cli.specs.declared.command.ChainName.{ChainName}
 use Rattle.snow_cli.specs.declared.command.ChainName.TheVariants as chain
 use Rattle.snow_cli.specs.declared.command.RuleName.{RuleName}
 use Rattle.snow_cli.specs.declared.command.RuleName.TheVariants as rule
-use Rattle.snow_cli.specs.Words.{job_named, chain_named, rule_named, seed_named, blocks_named, streaming, drilling, is_drill}
-use Rattle.snow_cli.specs.Request.{Request, command_in, named_or, stated, service, service_of, drill_by}
-use Rattle.snow_cli.specs.Parsing.{chain_read, rule_read, job_read, drill_read, service_read}
+use Rattle.snow_cli.specs.Model.Words.{job_named, chain_named, rule_named, seed_named, blocks_named, streaming, drilling, is_drill}
+use Rattle.snow_cli.specs.Kept.Request.{Request, command_in, named_or, stated, service, service_of, drill_by}
+use Rattle.snow_cli.specs.Kept.Parsing.{chain_read, rule_read, job_read, drill_read, service_read}
 
 abbrev pub task_names : List Text
 task_names = codes "decide" ∷ codes "run" ∷ codes "audit" ∷ codes "drill" ∷ []

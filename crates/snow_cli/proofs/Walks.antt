@@ -1,7 +1,7 @@
 -- Words, split one item after another.
 use Rattle.std.proofs.Common.{◌≡◌, ℕ, List, [], ◌∷◌, drop, Some, refl}
-use Rattle.snow_cli.specs.Words.{first_items, form_of, items}
-use Rattle.snow_cli.specs.Request.{Request, with_items}
+use Rattle.snow_cli.specs.Model.Words.{first_items, form_of, items}
+use Rattle.snow_cli.specs.Kept.Request.{Request, with_items}
 
 -- the items of a first word and of those behind it
 pub items_first : (word : List ℕ) (words : List (List ℕ))

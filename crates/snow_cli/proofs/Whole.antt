@@ -7,9 +7,9 @@ use Rattle.std.proofs.lemmas.Bool.{eqb-true}
 use Rattle.clap.specs.Walk.{Text}
 use Rattle.snow_cli.specs.declared.command.Command.{Command}
 use Rattle.snow_cli.specs.declared.command.RuleName.{RuleName}
-use Rattle.snow_cli.specs.Words.{blocks_named, command_of, drilling, from_least, is_drill, items, number_in, seed_named}
-use Rattle.snow_cli.specs.Request.{Request, blank, command_in, stated, with_items}
-use Rattle.snow_cli.specs.Parsing.{AsksFor, drill_read, is_word, is_word_or_none, option_words, ordered, rule_read, service_read}
+use Rattle.snow_cli.specs.Model.Words.{blocks_named, command_of, drilling, from_least, is_drill, items, number_in, seed_named}
+use Rattle.snow_cli.specs.Kept.Request.{Request, blank, command_in, stated, with_items}
+use Rattle.snow_cli.specs.Kept.Parsing.{AsksFor, drill_read, is_word, is_word_or_none, option_words, ordered, rule_read, service_read}
 use Rattle.snow_cli.proofs.Gathered.{a_request, no_request}
 use Rattle.snow_cli.proofs.Digits.{none_more}
 use Rattle.snow_cli.proofs.Tested.{asked, chain_names, comes, drill_asked, fits, is_one, is_one_or_none, req, rule_names, same, task_names}

@@ -6,7 +6,7 @@ use Rattle.snow_cli.specs.declared.command.RuleName.TheVariants as rule
 use Rattle.snow_cli.specs.declared.command.Job.TheVariants as job
 use Rattle.snow_cli.specs.declared.command.Command.{Command}
 use Rattle.snow_cli.specs.declared.command.Command.TheVariants as command
-use Rattle.snow_cli.specs.Words.{items, command_of}
+use Rattle.snow_cli.specs.Model.Words.{items, command_of}
 
 -- the defaults
 abbrev usual : Option Command

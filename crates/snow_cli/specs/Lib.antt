@@ -1,4 +1,3 @@
-pub mod Answer
-pub mod Parsing
-pub mod Request
-pub mod Words
+pub mod Model
+pub mod Kept
+pub mod Clauses

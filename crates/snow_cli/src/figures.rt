@@ -1,5 +1,5 @@
 ghost use Rattle.std.specs.Prelude.{◌≡◌, ◌≤◌, Some, IfSome};
-ghost use Rattle.snow_cli.specs.Words.{with_digit, digits_within, number_in};
+ghost use Rattle.snow_cli.specs.Model.Words.{with_digit, digits_within, number_in};
 
 /// Returns the number that one to twenty decimal digits spell, where it is within these bounds,
 /// both included, and else `None`. Zeros may lead.

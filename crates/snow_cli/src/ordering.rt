@@ -1,7 +1,7 @@
 ghost use Rattle.std.specs.Prelude.{◌≡◌, ◌<◌, ◌≤◌, [], ◌∷◌, ◌++◌, bytes_eq, drop, length, map, option_and_then, option_map, string_bytes, IfOk, IfSome, MatchOption, OnOk};
-ghost use Rattle.snow_cli.specs.Request.{Advances, Comes, Puts, behind_dash, blank, form_seen, texts, with_items};
-ghost use Rattle.snow_cli.specs.Parsing.{is_word, is_word_or_none, option_word, ordered};
-ghost use Rattle.snow_cli.specs.Words.{Plain, first_items, form_of, has_dash, items, named_items, option_form};
+ghost use Rattle.snow_cli.specs.Kept.Request.{Advances, Comes, Puts, behind_dash, blank, form_seen, texts, with_items};
+ghost use Rattle.snow_cli.specs.Kept.Parsing.{is_word, is_word_or_none, option_word, ordered};
+ghost use Rattle.snow_cli.specs.Model.Words.{Plain, first_items, form_of, has_dash, items, named_items, option_form};
 
 use std::alloc::{AllocError, Global};
 use std::marker::Model;
@@ -33,7 +33,7 @@ struct Asked<'a> {
 
 impl<'a> Model for Asked<'a> {
     ghost use Rattle.std.specs.Prelude.{option_map};
-    ghost use Rattle.snow_cli.specs.Request.{Request};
+    ghost use Rattle.snow_cli.specs.Kept.Request.{Request};
 
     ghost Value = { Request };
 
@@ -48,9 +48,9 @@ impl<'a> Model for Asked<'a> {
 
 impl<'a> Asked<'a> {
     ghost use Rattle.std.specs.Prelude.{◌≡◌, ◌∷◌, codes, option_map, IfOk};
-    ghost use Rattle.snow_cli.specs.Parsing.{has_words, option_words, ordered, takes_chain};
-    ghost use Rattle.snow_cli.specs.Request.{Comes, blank, texts, with_item, with_value};
-    ghost use Rattle.snow_cli.specs.Words.{Plain};
+    ghost use Rattle.snow_cli.specs.Kept.Parsing.{has_words, option_words, ordered, takes_chain};
+    ghost use Rattle.snow_cli.specs.Kept.Request.{Comes, blank, texts, with_item, with_value};
+    ghost use Rattle.snow_cli.specs.Model.Words.{Plain};
 
     /// Returns the words before the first.
     fn new() -> Self

@@ -1,7 +1,7 @@
 ghost use Rattle.std.specs.Prelude.{◌≡◌, option_map, IfOk};
 ghost use Rattle.clap.specs.Words.{app_of, found_of, first_value, rows_of, with_rule, FailsBy, fault_of, matches_of};
-ghost use Rattle.snow_cli.specs.Parsing.{AsksFor, chain_read, choice_rule, command_read, drill_read, is_drill_read, rule_read, open_rule, snowman, job_read, task_rule};
-ghost use Rattle.snow_cli.specs.Request.{texts};
+ghost use Rattle.snow_cli.specs.Kept.Parsing.{AsksFor, chain_read, choice_rule, command_read, drill_read, is_drill_read, rule_read, open_rule, snowman, job_read, task_rule};
+ghost use Rattle.snow_cli.specs.Kept.Request.{texts};
 
 use crate::command::{ChainName, Command, Job, RuleName};
 use crate::figures::number_in;

@@ -1,13 +1,13 @@
 ghost use Rattle.std.specs.Prelude.{◌≡◌, ◌≤◌, ℕ, None, Some, map, length, IfSome, OnOk, OnErr, string_bytes};
 ghost use Rattle.std.specs.Io.KnownBytes.{Appends, IsAtEnd};
-ghost use Rattle.snow_base.specs.Outside.{AppendsFront, HasCause};
-ghost use Rattle.snow_lines.specs.Text.{texts};
-ghost use Rattle.snow_engine.specs.Run.{lines_of, seen, end_of};
-ghost use Rattle.snow_engine.specs.Serving as serving;
-ghost use Rattle.snow_audit.specs.Answering as auditing;
-ghost use Rattle.snow_audit.specs.Auditing.{audit_of};
-ghost use Rattle.snow_cli.specs.Words.{command_of};
-ghost use Rattle.snow_cli.specs.Answer as model;
+ghost use Rattle.snow_base.specs.Clauses.Outside.{AppendsFront, HasCause};
+ghost use Rattle.snow_lines.specs.Model.Text.{texts};
+ghost use Rattle.snow_engine.specs.Model.Run.{lines_of, seen, end_of};
+ghost use Rattle.snow_engine.specs.Clauses.Serving as serving;
+ghost use Rattle.snow_audit.specs.Clauses.Answering as auditing;
+ghost use Rattle.snow_audit.specs.Model.Auditing.{audit_of};
+ghost use Rattle.snow_cli.specs.Model.Words.{command_of};
+ghost use Rattle.snow_cli.specs.Clauses.Answer as model;
 
 use crate::command::{ChainName, Command, Job, RuleName};
 use crate::finish::Finish;

@@ -1,5 +1,5 @@
 ghost use Rattle.std.specs.Prelude.{◌≡◌, ◌+◌, ◌≤◌, [], ◌++◌, length};
-ghost use Rattle.snow_cli.specs.Answer.{TookLine, bad_line, boot_line, end_line, error_line, fault_word, kind_word, roster_word, stop_text};
+ghost use Rattle.snow_cli.specs.Clauses.Answer.{TookLine, bad_line, boot_line, end_line, error_line, fault_word, kind_word, roster_word, stop_text};
 
 use crate::finish::Finish;
 use snow_base::{Sink, write_whole};

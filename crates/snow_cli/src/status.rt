@@ -1,5 +1,5 @@
 ghost use Rattle.std.specs.Prelude.{◌≡◌};
-ghost use Rattle.snow_cli.specs.Answer.{end_status, exit_code, status_of};
+ghost use Rattle.snow_cli.specs.Clauses.Answer.{end_status, exit_code, status_of};
 
 use crate::finish::Finish;
 use snow_engine::End;

@@ -1,5 +1,5 @@
 ghost use Rattle.std.specs.Prelude.{◌≡◌, map, string_bytes, IfOk};
-ghost use Rattle.snow_cli.specs.Words.{command_of};
+ghost use Rattle.snow_cli.specs.Model.Words.{command_of};
 
 use crate::command::Command;
 use crate::ordering::order;

@@ -9,16 +9,16 @@ use Rattle.std.proofs.lemmas.List.Elements.{All-nil, All-cons, All-head, All-tai
 use Rattle.std.proofs.lemmas.Option.{slice_get-get_or}
 use Rattle.snow_base.specs.declared.header.Header.{Header}
 use Rattle.snow_base.specs.declared.vote.Vote.{Vote}
-use Rattle.snow_base.specs.Ancestry.{is_below, votes_below}
-use Rattle.snow_base.specs.Votes.{total_count}
-use Rattle.snow_flake.specs.Parameters.{Parameters}
+use Rattle.snow_base.specs.Model.Ancestry.{is_below, votes_below}
+use Rattle.snow_base.specs.Model.Votes.{total_count}
+use Rattle.snow_flake.specs.Model.Parameters.{Parameters}
 use Rattle.snow_board.specs.declared.cursor.Cursor.{Cursor}
-use Rattle.snow_board.specs.Grown.{has_block, IsGrown}
+use Rattle.snow_board.specs.Kept.Grown.{has_block, IsGrown}
 use Rattle.snow_board.proofs.Cases.{split_on, same_id}
-use Rattle.snow_tree.specs.Held.{Entry, blocks_in, children_of, place_in}
+use Rattle.snow_tree.specs.Kept.Held.{Entry, blocks_in, children_of, place_in}
 use Rattle.snow_climb.specs.declared.climber.Climber.{Climber}
-use Rattle.snow_climb.specs.Climbing.{above, reach, parent_in, id_in, cursor_of, cursors_of, climber_total, passing, begun, ArePlaced, CameBy, is_for, votes_for}
-use Rattle.snow_climb.specs.Rising.{AreClimbing}
+use Rattle.snow_climb.specs.Kept.Climbing.{above, reach, parent_in, id_in, cursor_of, cursors_of, climber_total, passing, begun, ArePlaced, CameBy, is_for, votes_for}
+use Rattle.snow_climb.specs.Kept.Rising.{AreClimbing}
 use Rattle.snow_climb.proofs.Climbers.{same_total}
 use Rattle.snow_climb.proofs.Passed.{listed}
 use Rattle.snow_climb.proofs.Reached.{reach_within, reach_seen, at_reach, below_at, off_below, not_own, reaches_none}

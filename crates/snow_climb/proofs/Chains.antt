@@ -5,7 +5,7 @@ use Rattle.std.proofs.lemmas.Grind.{common_steps}
 use Rattle.std.proofs.lemmas.List.{get_or_append_left}
 use Rattle.snow_board.proofs.Cases.{split_on}
 use Rattle.snow_climb.specs.declared.ladder.Link.{Link}
-use Rattle.snow_climb.specs.Ladder.{no_link, latest, group, chain, AreLinked}
+use Rattle.snow_climb.specs.Kept.Ladder.{no_link, latest, group, chain, AreLinked}
 
 -- numbers that are found equal, and those that aren't
 pub same_nat : (a b : ℕ) → (a == b) ≡ true → a ≡ b

@@ -9,13 +9,13 @@ use Rattle.std.proofs.lemmas.List.Elements.{All-cons, All-nil, All-filter, All-h
 use Rattle.std.proofs.lemmas.Option.{none-some, slice_get-map, slice_get-get_or}
 use Rattle.snow_base.specs.declared.header.Header.{Header}
 use Rattle.snow_board.specs.declared.cursor.Cursor.{Cursor}
-use Rattle.snow_board.specs.Cursors.{child_at, cursor_total, votes_at, votes_for as of_child}
-use Rattle.snow_board.specs.Grown.{IsGrown}
-use Rattle.snow_tree.specs.Held.{Entry, blocks_in, children_of, place_in}
+use Rattle.snow_board.specs.Kept.Cursors.{child_at, cursor_total, votes_at, votes_for as of_child}
+use Rattle.snow_board.specs.Kept.Grown.{IsGrown}
+use Rattle.snow_tree.specs.Kept.Held.{Entry, blocks_in, children_of, place_in}
 use Rattle.snow_board.proofs.Cases.{split_on, same_id, id_same}
 use Rattle.snow_climb.specs.declared.climber.Climber.{Climber}
-use Rattle.snow_climb.specs.Climbing.{above, reach, parent_in, id_in, cursor_of, cursors_of, climber_total, passing, count_at, merged, ArePlaced, AreBelow, CameBy, HasCome}
-use Rattle.snow_climb.specs.Ladder.{under, up_from}
+use Rattle.snow_climb.specs.Kept.Climbing.{above, reach, parent_in, id_in, cursor_of, cursors_of, climber_total, passing, count_at, merged, ArePlaced, AreBelow, CameBy, HasCome}
+use Rattle.snow_climb.specs.Kept.Ladder.{under, up_from}
 use Rattle.snow_climb.proofs.Merged.{none_came, joined_at}
 use Rattle.snow_climb.proofs.Reached.{reach_within, reach_seen, at_reach, not_own, parent_is_last}
 

@@ -4,15 +4,15 @@ use Rattle.std.proofs.lemmas.List.{length-drop, get_or-drop, drop_more, length-m
 use Rattle.std.proofs.lemmas.List.Sums.{sum_by-take-le}
 use Rattle.std.proofs.lemmas.List.Elements.{All-nil}
 use Rattle.snow_base.specs.declared.vote.Vote.{Vote}
-use Rattle.snow_base.specs.Votes.{added, total_count}
+use Rattle.snow_base.specs.Model.Votes.{added, total_count}
 use Rattle.snow_base.proofs.Adding.{total_added}
-use Rattle.snow_board.specs.Conflict.{votes_on}
-use Rattle.snow_board.specs.Cursors.{votes_at}
+use Rattle.snow_board.specs.Model.Conflict.{votes_on}
+use Rattle.snow_board.specs.Kept.Cursors.{votes_at}
 use Rattle.snow_board.proofs.Gathered.{length-added, gathered_some}
 use Rattle.snow_board.proofs.Given.{given_added}
-use Rattle.snow_tree.specs.Held.{Entry, blocks_in, children_of}
+use Rattle.snow_tree.specs.Kept.Held.{Entry, blocks_in, children_of}
 use Rattle.snow_climb.specs.declared.climber.Climber.{Climber}
-use Rattle.snow_climb.specs.Climbing.{climber_total, cursor_of, cursors_of, HasCome}
+use Rattle.snow_climb.specs.Kept.Climbing.{climber_total, cursor_of, cursors_of, HasCome}
 use Rattle.snow_climb.proofs.Climbers.{item_at, more_total}
 use Rattle.snow_climb.proofs.Merged.{come_by}
 

@@ -13,8 +13,8 @@ use Rattle.snow_board.proofs.Cases.{split_on}
 use Rattle.snow_climb.specs.declared.climber.Climber.{Climber}
 use Rattle.snow_climb.specs.declared.ladder.Head.{Head}
 use Rattle.snow_climb.specs.declared.ladder.Link.{Link}
-use Rattle.snow_climb.specs.Climbing.{climber_total}
-use Rattle.snow_climb.specs.Ladder.{under, up_from, no_link, no_head, climbers_of, latest, group, mark_at, IsHung}
+use Rattle.snow_climb.specs.Kept.Climbing.{climber_total}
+use Rattle.snow_climb.specs.Kept.Ladder.{under, up_from, no_link, no_head, climbers_of, latest, group, mark_at, IsHung}
 use Rattle.snow_climb.proofs.Chains.{same_nat, nat_same, nat_other, latest_none, latest_before, latest_more, group_none, group_more}
 use Rattle.snow_climb.proofs.Passed.{halves}
 

@@ -4,12 +4,12 @@ use Rattle.std.specs.List.{list_any}
 use Rattle.std.proofs.lemmas.Grind.{common_steps}
 use Rattle.std.proofs.lemmas.List.Sums.{sum_by-cons}
 use Rattle.snow_base.specs.declared.vote.Vote.{Vote}
-use Rattle.snow_base.specs.Gathered.{IsNamed, one_each}
-use Rattle.snow_flake.specs.Parameters.{Parameters}
-use Rattle.snow_flake.specs.Counter.{class, Low, High}
+use Rattle.snow_base.specs.Clauses.Gathered.{IsNamed, one_each}
+use Rattle.snow_flake.specs.Model.Parameters.{Parameters}
+use Rattle.snow_flake.specs.Model.Counter.{class, Low, High}
 use Rattle.snow_board.proofs.Cases.{split_on, same_id}
-use Rattle.snow_climb.specs.Majority.{StandsForPoll, StandFor}
-use Rattle.snow_climb.specs.Starting.{share, votes_by, ids_by}
+use Rattle.snow_climb.specs.Kept.Majority.{StandsForPoll, StandFor}
+use Rattle.snow_climb.specs.Kept.Starting.{share, votes_by, ids_by}
 use Rattle.snow_climb.proofs.Started.{each_passes}
 
 -- one for each that passes

@@ -6,11 +6,11 @@ use Rattle.std.proofs.lemmas.Grind.{common_steps}
 use Rattle.std.proofs.lemmas.List.Sums.{sum_by-append, sum_by-cons}
 use Rattle.std.proofs.lemmas.List.Elements.{All-append, All-cons, All-nil, All-head, All-tail}
 use Rattle.snow_base.specs.declared.header.Header.{Header}
-use Rattle.snow_base.specs.Identifier.{bits}
+use Rattle.snow_base.specs.Model.Identifier.{bits}
 use Rattle.snow_board.specs.declared.cursor.Cursor.{Cursor}
-use Rattle.snow_board.specs.Cursors.{child_at, cursor_total, votes_at, votes_for as of_child}
+use Rattle.snow_board.specs.Kept.Cursors.{child_at, cursor_total, votes_at, votes_for as of_child}
 use Rattle.snow_board.proofs.Cases.{split_on}
-use Rattle.snow_climb.specs.Climbing.{count_at, merged, HasCome}
+use Rattle.snow_climb.specs.Kept.Climbing.{count_at, merged, HasCome}
 
 -- nothing is picked of nothing
 nothing : (u : Bool) → ◌≡◌ {A = ℕ} (if u then 0 else 0) 0

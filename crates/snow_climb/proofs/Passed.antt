@@ -8,16 +8,16 @@ use Rattle.std.proofs.lemmas.List.Sums.{sum_by-cons}
 use Rattle.std.proofs.lemmas.List.Elements.{All-head, All-tail, All-filter, filter_passes, Contains-get_or, Contains-append_right}
 use Rattle.snow_base.specs.declared.header.Header.{Header}
 use Rattle.snow_base.specs.declared.vote.Vote.{Vote}
-use Rattle.snow_base.specs.Identifier.{bits}
-use Rattle.snow_base.specs.Ancestry.{is_below}
-use Rattle.snow_flake.specs.Parameters.{Parameters}
+use Rattle.snow_base.specs.Model.Identifier.{bits}
+use Rattle.snow_base.specs.Model.Ancestry.{is_below}
+use Rattle.snow_flake.specs.Model.Parameters.{Parameters}
 use Rattle.snow_board.specs.declared.cursor.Cursor.{Cursor}
-use Rattle.snow_board.specs.Cursors.{child_at, votes_at, votes_for as of_child}
-use Rattle.snow_board.specs.Grown.{IsGrown}
+use Rattle.snow_board.specs.Kept.Cursors.{child_at, votes_at, votes_for as of_child}
+use Rattle.snow_board.specs.Kept.Grown.{IsGrown}
 use Rattle.snow_board.proofs.Cases.{split_on, clash, same_id, id_same, id_itself}
-use Rattle.snow_tree.specs.Held.{children_of}
-use Rattle.snow_climb.specs.Climbing.{reach, AreBelow, CameBy, is_for, votes_for, merged}
-use Rattle.snow_climb.specs.Rising.{AreClimbing}
+use Rattle.snow_tree.specs.Kept.Held.{children_of}
+use Rattle.snow_climb.specs.Kept.Climbing.{reach, AreBelow, CameBy, is_for, votes_for, merged}
+use Rattle.snow_climb.specs.Kept.Rising.{AreClimbing}
 use Rattle.snow_climb.proofs.Reached.{not_below, reach_at, at_reach, below_at, parent_low}
 use Rattle.snow_climb.proofs.Merged.{merged_sum, all_merged, total_merged}
 

@@ -3,20 +3,20 @@ use Rattle.std.proofs.Common.{◌≡◌, ℕ, zero, suc, ◌+◌, ◌<◌, ◌�
 use Rattle.std.specs.Bool.{beq}
 use Rattle.std.specs.List.{position, prefix_len, starts_with}
 use Rattle.std.proofs.lemmas.List.{length-map}
-use Rattle.snow_tree.specs.Held.{Entry, blocks_in, place_in}
+use Rattle.snow_tree.specs.Kept.Held.{Entry, blocks_in, place_in}
 use Rattle.std.specs.Option.{option_map}
 use Rattle.std.proofs.lemmas.Bool.{or_parts, or_left, or_right}
 use Rattle.snow_base.specs.declared.header.Header.{Header}
-use Rattle.snow_base.specs.Identifier.{bits}
-use Rattle.snow_base.specs.Ancestry.{line_in, begins_with, is_below}
-use Rattle.snow_board.specs.Grown.{has_block, is_on, IsGrown}
+use Rattle.snow_base.specs.Model.Identifier.{bits}
+use Rattle.snow_base.specs.Model.Ancestry.{line_in, begins_with, is_below}
+use Rattle.snow_board.specs.Kept.Grown.{has_block, is_on, IsGrown}
 use Rattle.snow_board.proofs.Cases.{split_on, clash, same_id, id_same, id_itself}
 use Rattle.snow_board.proofs.Kept.{has_own}
 use Rattle.snow_board.proofs.Grown.{grown_new, grown_rest, grown_before, older, childless, no_child_on, no_line, line_passes, has_block-reverse}
 use Rattle.snow_board.proofs.Lines.{acyclic}
 use Rattle.snow_tree.proofs.Placed.{position_cons}
 use Rattle.snow_tree.proofs.Descending.{around, line_at, parent_before, last_off}
-use Rattle.snow_climb.specs.Climbing.{above, reach}
+use Rattle.snow_climb.specs.Kept.Climbing.{above, reach}
 
 -- the reach of a block with one block more in front
 reach_cons : (b : Header) (bs : List Header) (id : List ℕ) → reach (b ∷ bs) id ≡ (if bytes_eq b.id id then 1 else above (option_map suc (position (λ b. bytes_eq b.id id) bs)))

@@ -7,20 +7,20 @@ use Rattle.std.proofs.lemmas.List.Folds.{sum_by-replicate}
 use Rattle.std.proofs.lemmas.List.Sums.{sum_by-cons, sum_by-set, sum_by-drop_more, sum_by_more, get_or-le-sum_by}
 use Rattle.std.proofs.lemmas.List.Sorted.{length_permutation}
 use Rattle.snow_base.specs.declared.vote.Vote.{Vote}
-use Rattle.snow_base.specs.Ancestry.{is_below}
-use Rattle.snow_base.specs.Gathered.{IsNamed, one_each}
-use Rattle.snow_base.specs.Votes.{total_count}
-use Rattle.snow_flake.specs.Parameters.{Parameters}
-use Rattle.snow_board.specs.Grown.{IsGrown}
+use Rattle.snow_base.specs.Model.Ancestry.{is_below}
+use Rattle.snow_base.specs.Clauses.Gathered.{IsNamed, one_each}
+use Rattle.snow_base.specs.Model.Votes.{total_count}
+use Rattle.snow_flake.specs.Model.Parameters.{Parameters}
+use Rattle.snow_board.specs.Kept.Grown.{IsGrown}
 use Rattle.snow_board.proofs.Cases.{same_id}
 use Rattle.snow_board.proofs.OneEach.{each_by}
 use Rattle.snow_board.proofs.Polled.{few_votes}
-use Rattle.snow_tree.specs.Held.{Entry, blocks_in}
+use Rattle.snow_tree.specs.Kept.Held.{Entry, blocks_in}
 use Rattle.snow_climb.specs.declared.climber.Climber.{Climber}
-use Rattle.snow_climb.specs.Climbing.{begun, cursors_of, ArePlaced}
-use Rattle.snow_climb.specs.Rising.{AreClimbing}
-use Rattle.snow_climb.specs.Ladder.{Rungs}
-use Rattle.snow_climb.specs.Starting.{share, votes_by, ids_by, HaveStarted, HaveBegun, IsLoaded}
+use Rattle.snow_climb.specs.Kept.Climbing.{begun, cursors_of, ArePlaced}
+use Rattle.snow_climb.specs.Kept.Rising.{AreClimbing}
+use Rattle.snow_climb.specs.Kept.Ladder.{Rungs}
+use Rattle.snow_climb.specs.Kept.Starting.{share, votes_by, ids_by, HaveStarted, HaveBegun, IsLoaded}
 use Rattle.snow_climb.proofs.Begun.{begun_at, begun_few, begun_first, placed_at}
 
 share_more : (t : Bool) (m n : ℕ) → (if t then m + n else 0) ≡ (if t then m else 0) + (if t then n else 0)

@@ -1,5 +1,1 @@
-pub mod Climbing
-pub mod Ladder
-pub mod Rising
-pub mod Starting
-pub mod Majority
+pub mod Kept

@@ -1,7 +1,7 @@
 ghost use Rattle.std.specs.Prelude.{◌≡◌, ◌+◌, ◌<◌, ◌≤◌, nat_lt, ◌∷◌, length, slice_get, IsPermutation, if◌then◌else◌};
-ghost use Rattle.snow_tree.specs.Held.{blocks_in};
-ghost use Rattle.snow_climb.specs.Climbing.{reach, parent_in, passing};
-ghost use Rattle.snow_climb.specs.Ladder.{KeepsRoom};
+ghost use Rattle.snow_tree.specs.Kept.Held.{blocks_in};
+ghost use Rattle.snow_climb.specs.Kept.Climbing.{reach, parent_in, passing};
+ghost use Rattle.snow_climb.specs.Kept.Ladder.{KeepsRoom};
 
 use crate::ladder::Ladder;
 use snow_tree::Tree;

@@ -1,10 +1,10 @@
 ghost use Rattle.std.specs.Prelude.{◌≡◌, ◌+◌, ◌^◌, ◌<◌, ◌≤◌, List, ℕ, All, Contains, length};
-ghost use Rattle.snow_base.specs.Votes.{total_count};
-ghost use Rattle.snow_board.specs.Conflict.{votes_on};
-ghost use Rattle.snow_board.specs.Cursors.{votes_at};
-ghost use Rattle.snow_tree.specs.Held.{blocks_in, children_of};
-ghost use Rattle.snow_climb.specs.Climbing.{climber_total, cursors_of, HasCome};
-ghost use Rattle.snow_climb.specs.Ladder.{chain, AreLinked};
+ghost use Rattle.snow_base.specs.Model.Votes.{total_count};
+ghost use Rattle.snow_board.specs.Model.Conflict.{votes_on};
+ghost use Rattle.snow_board.specs.Kept.Cursors.{votes_at};
+ghost use Rattle.snow_tree.specs.Kept.Held.{blocks_in, children_of};
+ghost use Rattle.snow_climb.specs.Kept.Climbing.{climber_total, cursors_of, HasCome};
+ghost use Rattle.snow_climb.specs.Kept.Ladder.{chain, AreLinked};
 
 use crate::ladder::{Ladder, Link};
 use snow_base::Bag;

@@ -1,6 +1,6 @@
 ghost use Rattle.std.specs.Prelude.{◌≡◌, ◌≢◌, ℕ, ◌+◌, ◌*◌, ◌/◌, ◌%◌, ◌^◌, ◌<◌, ◌≤◌, All, length, get_or, vec_capacity, OnOk};
-ghost use Rattle.snow_climb.specs.Climbing.{climber_total};
-ghost use Rattle.snow_climb.specs.Ladder.{chain, mark_at, no_head, AreLinked};
+ghost use Rattle.snow_climb.specs.Kept.Climbing.{climber_total};
+ghost use Rattle.snow_climb.specs.Kept.Ladder.{chain, mark_at, no_head, AreLinked};
 
 use crate::climber::Climber;
 use std::alloc::{AllocError, Global};
@@ -44,7 +44,7 @@ pub struct Ladder {
 
 impl Model for Ladder {
     ghost use Rattle.std.specs.Prelude.{length, vec_capacity};
-    ghost use Rattle.snow_climb.specs.Ladder.{Rungs, climbers_of, under, chain, IsHung};
+    ghost use Rattle.snow_climb.specs.Kept.Ladder.{Rungs, climbers_of, under, chain, IsHung};
 
     ghost Value = { Rungs };
 
@@ -140,7 +140,7 @@ fn add_rung(heads: &mut Vec<Head>, words: &mut Vec<u64>) -> Result<(), AllocErro
 
 impl Ladder {
     ghost use Rattle.std.specs.Prelude.{[], ◌∷◌, ◌++◌, IfOk, IsPermutation};
-    ghost use Rattle.snow_climb.specs.Ladder.{under, up_from, IsReady};
+    ghost use Rattle.snow_climb.specs.Kept.Ladder.{under, up_from, IsReady};
 
     /// Returns a ladder for polls of so many votes, as long as nothing is pending. On want of
     /// memory it returns `AllocError`.

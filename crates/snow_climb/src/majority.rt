@@ -1,6 +1,6 @@
 ghost use Rattle.std.specs.Prelude.{◌≡◌, ◌^◌, ◌<◌, ◌≤◌, length, bytes_eq, IfSome};
-ghost use Rattle.snow_climb.specs.Majority.{StandsForPoll};
-ghost use Rattle.snow_climb.specs.Starting.{ids_by};
+ghost use Rattle.snow_climb.specs.Kept.Majority.{StandsForPoll};
+ghost use Rattle.snow_climb.specs.Kept.Starting.{ids_by};
 
 use snow_base::{Id, Vote};
 use snow_flake::Params;

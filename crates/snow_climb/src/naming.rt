@@ -1,5 +1,5 @@
 ghost use Rattle.std.specs.Prelude.{ℕ, ◌^◌, ◌<◌, All, slice_index};
-ghost use Rattle.snow_base.specs.Gathered.{IsNamed};
+ghost use Rattle.snow_base.specs.Clauses.Gathered.{IsNamed};
 
 use snow_base::Id;
 

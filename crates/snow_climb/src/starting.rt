@@ -1,13 +1,13 @@
 ghost use Rattle.std.specs.Prelude.{◌≡◌, ℕ, ◌+◌, ◌^◌, ◌<◌, ◌≤◌, ◌++◌, Bool, List, length, IsPermutation, if◌then◌else◌};
 ghost use Rattle.std.specs.Option.{option_to_list};
-ghost use Rattle.snow_base.specs.Gathered.{one_each};
-ghost use Rattle.snow_base.specs.Votes.{total_count};
+ghost use Rattle.snow_base.specs.Clauses.Gathered.{one_each};
+ghost use Rattle.snow_base.specs.Model.Votes.{total_count};
 ghost use Rattle.snow_base.specs.declared.vote.Vote.{Vote};
-ghost use Rattle.snow_flake.specs.Parameters.{Parameters};
-ghost use Rattle.snow_climb.specs.Climbing.{begun};
-ghost use Rattle.snow_climb.specs.Ladder.{KeepsRoom, IsReady};
-ghost use Rattle.snow_climb.specs.Majority.{StandFor};
-ghost use Rattle.snow_climb.specs.Starting.{share, votes_by, ids_by, HaveStarted, HaveGone, HaveBegun, IsLoaded, TakesMore};
+ghost use Rattle.snow_flake.specs.Model.Parameters.{Parameters};
+ghost use Rattle.snow_climb.specs.Kept.Climbing.{begun};
+ghost use Rattle.snow_climb.specs.Kept.Ladder.{KeepsRoom, IsReady};
+ghost use Rattle.snow_climb.specs.Kept.Majority.{StandFor};
+ghost use Rattle.snow_climb.specs.Kept.Starting.{share, votes_by, ids_by, HaveStarted, HaveGone, HaveBegun, IsLoaded, TakesMore};
 
 use crate::climber::go_on;
 use crate::ladder::Ladder;

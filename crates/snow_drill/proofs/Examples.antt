@@ -7,16 +7,16 @@ use Rattle.sha2.specs.Sha256.{sha256, digest_bytes, hash_after, compress, rounds
 use Rattle.snow_sample.specs.declared.draws.Draw.{Draw}
 use Rattle.snow_wire.specs.declared.event.Event.TheVariants as event
 use Rattle.snow_lines.specs.declared.line.Line.TheVariants as line
-use Rattle.snow_lines.specs.Text.{text}
-use Rattle.snow_chain.specs.Tally.{tally_rules}
+use Rattle.snow_lines.specs.Model.Text.{text}
+use Rattle.snow_chain.specs.Model.Tally.{tally_rules}
 use Rattle.snow_engine.specs.declared.task.Task.TheVariants as task
-use Rattle.snow_engine.specs.Node.{started}
-use Rattle.snow_engine.specs.Staging.{Comes}
-use Rattle.snow_drill.specs.Generator.{last_of, values}
-use Rattle.snow_drill.specs.Told.{nobody}
-use Rattle.snow_drill.specs.First.{node, nodes, first}
-use Rattle.snow_drill.specs.Drill.{Step, with_timeouts, with_answer, with_answers, with_round, with_rounds}
-use Rattle.snow_drill.specs.Summary.{drilled}
+use Rattle.snow_engine.specs.Model.Node.{started}
+use Rattle.snow_engine.specs.Kept.Staging.{Comes}
+use Rattle.snow_drill.specs.Model.Generator.{last_of, values}
+use Rattle.snow_drill.specs.Kept.Told.{nobody}
+use Rattle.snow_drill.specs.Model.First.{node, nodes, first}
+use Rattle.snow_drill.specs.Model.Drill.{Step, with_timeouts, with_answer, with_answers, with_round, with_rounds}
+use Rattle.snow_drill.specs.Model.Summary.{drilled}
 
 -- nodes 1 and 2, of which the second was drawn twice; it answers once
 abbrev two_draws : List Draw

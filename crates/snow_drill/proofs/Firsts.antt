@@ -3,7 +3,7 @@ use Rattle.std.proofs.Common.{◌≡◌, ℕ, Bool, true, false, List, [], ◌�
 use Rattle.std.specs.Option.{option_or}
 use Rattle.std.proofs.lemmas.List.Folds.{find-append}
 use Rattle.snow_base.specs.declared.header.Header.{Header}
-use Rattle.snow_drill.specs.Made.{HasFirsts}
+use Rattle.snow_drill.specs.Model.Made.{HasFirsts}
 
 -- one more block is the first of its identifier where none of it was there
 pub first_filed : (made : List Header) (b : Header) (first now : List ℕ → Option Header) → HasFirsts made first

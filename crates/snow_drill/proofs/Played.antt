@@ -5,19 +5,19 @@ use Rattle.std.proofs.lemmas.Result.{IfOk-weaker}
 use Rattle.sha2.specs.Sha256.{sha256}
 use Rattle.snow_base.specs.declared.header.Header.{Header}
 use Rattle.snow_lines.specs.declared.line.Line.{Line}
-use Rattle.snow_lines.specs.Text.{texts}
+use Rattle.snow_lines.specs.Model.Text.{texts}
 use Rattle.snow_wire.specs.declared.event.Event.{Event}
 use Rattle.snow_wire.specs.declared.event.Event.TheVariants as event
-use Rattle.snow_engine.specs.Staging.{Comes}
+use Rattle.snow_engine.specs.Kept.Staging.{Comes}
 use Rattle.snow_drill.specs.declared.player.Player.{Player}
 use Rattle.snow_drill.specs.declared.tally.Asked.{Asked}
-use Rattle.snow_drill.specs.Generator.{following, last_of, values, picked}
-use Rattle.snow_drill.specs.Told.{Told, answering}
-use Rattle.snow_drill.specs.Made.{height_in, chosen_by, voted_by, bytes_of, headed}
-use Rattle.snow_drill.specs.First.{node}
-use Rattle.snow_drill.specs.Drill.{Step, Drill, comes, with_event, timed_out, with_timeouts, with_words, with_vote, with_votes, with_answer, with_bytes, with_child, with_block, played, opened}
-use Rattle.snow_drill.specs.Summary.{summary_of, drilled}
-use Rattle.snow_drill.specs.Following.{Takes, Digests, Plays, Opens, Follows}
+use Rattle.snow_drill.specs.Model.Generator.{following, last_of, values, picked}
+use Rattle.snow_drill.specs.Kept.Told.{Told, answering}
+use Rattle.snow_drill.specs.Model.Made.{height_in, chosen_by, voted_by, bytes_of, headed}
+use Rattle.snow_drill.specs.Model.First.{node}
+use Rattle.snow_drill.specs.Model.Drill.{Step, Drill, comes, with_event, timed_out, with_timeouts, with_words, with_vote, with_votes, with_answer, with_bytes, with_child, with_block, played, opened}
+use Rattle.snow_drill.specs.Model.Summary.{summary_of, drilled}
+use Rattle.snow_drill.specs.Kept.Following.{Takes, Digests, Plays, Opens, Follows}
 
 module _ {N : Type 0} (step : Step N) where
   -- an event and its Timeouts

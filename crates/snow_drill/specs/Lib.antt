@@ -1,7 +1,2 @@
-pub mod Generator
-pub mod Told
-pub mod Made
-pub mod First
-pub mod Drill
-pub mod Summary
-pub mod Following
+pub mod Model
+pub mod Kept

@@ -1,9 +1,9 @@
 ghost use Rattle.std.specs.Prelude.{◌≡◌, ℕ, [], ◌++◌, List, fold, OnOk};
 ghost use Rattle.sha2.specs.Hashers.{Holds256};
-ghost use Rattle.snow_lines.specs.Text.{texts};
+ghost use Rattle.snow_lines.specs.Model.Text.{texts};
 ghost use Rattle.snow_lines.specs.declared.line.Line as told;
-ghost use Rattle.snow_drill.specs.Told.{untold, noted};
-ghost use Rattle.snow_drill.specs.Following.{Digests, DigestsBut};
+ghost use Rattle.snow_drill.specs.Kept.Told.{untold, noted};
+ghost use Rattle.snow_drill.specs.Kept.Following.{Digests, DigestsBut};
 
 use crate::scratch::Scratch;
 use crate::tally::Tally;

@@ -1,7 +1,7 @@
 ghost use Rattle.std.specs.Prelude.{◌≡◌, ◌==◌, [], fold, if◌then◌else◌, OnOk};
-ghost use Rattle.snow_drill.specs.Drill as model;
-ghost use Rattle.snow_drill.specs.Made.{newest};
-ghost use Rattle.snow_drill.specs.Following.{Follows};
+ghost use Rattle.snow_drill.specs.Model.Drill as model;
+ghost use Rattle.snow_drill.specs.Model.Made.{newest};
+ghost use Rattle.snow_drill.specs.Kept.Following.{Follows};
 
 use crate::driven::Driven;
 use crate::player::Player;

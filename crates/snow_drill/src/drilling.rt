@@ -1,12 +1,12 @@
 ghost use Rattle.std.specs.Prelude.{◌≡◌, ◌<◌, [], fold, Ok, OnOk, IfOk};
-ghost use Rattle.snow_chain.specs.Tally.{tally_rules};
-ghost use Rattle.snow_engine.specs.Node.{started, step};
+ghost use Rattle.snow_chain.specs.Model.Tally.{tally_rules};
+ghost use Rattle.snow_engine.specs.Model.Node.{started, step};
 ghost use Rattle.snow_engine.specs.declared.task.Task.TheVariants as task;
-ghost use Rattle.snow_drill.specs.Drill as model;
-ghost use Rattle.snow_drill.specs.First.{first, nodes};
-ghost use Rattle.snow_drill.specs.Summary.{drilled};
-ghost use Rattle.snow_drill.specs.Told.{untold, noted};
-ghost use Rattle.snow_drill.specs.Following.{Follows, Opens, Digests, Wrote, HasFault};
+ghost use Rattle.snow_drill.specs.Model.Drill as model;
+ghost use Rattle.snow_drill.specs.Model.First.{first, nodes};
+ghost use Rattle.snow_drill.specs.Model.Summary.{drilled};
+ghost use Rattle.snow_drill.specs.Kept.Told.{untold, noted};
+ghost use Rattle.snow_drill.specs.Kept.Following.{Follows, Opens, Digests, Wrote, HasFault};
 
 use crate::account::Account;
 use crate::driven::Driven;

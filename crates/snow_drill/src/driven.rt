@@ -1,6 +1,6 @@
 ghost use Rattle.std.specs.Prelude.{◌≡◌, [], Ok, OnOk};
-ghost use Rattle.snow_engine.specs.Node.{step};
-ghost use Rattle.snow_wire.specs.Viewed.{as_event};
+ghost use Rattle.snow_engine.specs.Model.Node.{step};
+ghost use Rattle.snow_wire.specs.Clauses.Viewed.{as_event};
 
 use snow_board::Board;
 use snow_chain::Chain;
@@ -13,8 +13,8 @@ use std::alloc::AllocError;
 /// dropping a whole node is many steps, which the engine's crate proves once.
 pub(crate) trait Driven: Sized {
     ghost use Rattle.std.specs.Prelude.{◌≡◌, [], Ok, OnOk};
-    ghost use Rattle.snow_wire.specs.Viewed.{as_event};
-    ghost use Rattle.snow_drill.specs.Drill.{Step};
+    ghost use Rattle.snow_wire.specs.Clauses.Viewed.{as_event};
+    ghost use Rattle.snow_drill.specs.Model.Drill.{Step};
 
     /// What an event makes of it, and its lines.
     ghost step: { Step Self };

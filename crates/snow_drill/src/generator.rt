@@ -1,6 +1,6 @@
 ghost use Rattle.std.specs.Prelude.{◌≡◌, ◌<◌, map, OnOk, IfOk};
 ghost use Rattle.byteorder.specs.Endian.{big_number};
-ghost use Rattle.snow_drill.specs.Generator.{following, last_of, values, picked};
+ghost use Rattle.snow_drill.specs.Model.Generator.{following, last_of, values, picked};
 
 use byteorder::{BigEndian, ByteOrder};
 use std::alloc::{AllocError, Global};

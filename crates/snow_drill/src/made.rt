@@ -1,7 +1,7 @@
 ghost use Rattle.std.specs.Prelude.{◌≡◌, ℕ, ◌<◌, List, ◌∷◌, ◌++◌, [], None, Some, bytes_eq, OnOk, if◌then◌else◌};
 ghost use Rattle.std.specs.HashMap.{get, spare};
 ghost use Rattle.std.specs.Option.{option_copied, option_or};
-ghost use Rattle.snow_drill.specs.Made.{block_of};
+ghost use Rattle.snow_drill.specs.Model.Made.{block_of};
 
 use snow_base::{Header, Id};
 use std::alloc::{AllocError, Global};
@@ -21,7 +21,7 @@ impl Model for Made {
     ghost use Rattle.std.specs.Prelude.{List, bytes_eq};
     ghost use Rattle.snow_base.specs.declared.header.Header.{Header};
     ghost use Rattle.std.specs.HashMap.{get};
-    ghost use Rattle.snow_drill.specs.Made.{HasFirsts};
+    ghost use Rattle.snow_drill.specs.Model.Made.{HasFirsts};
 
     ghost Value = { List Header };
 

@@ -1,7 +1,7 @@
 ghost use Rattle.std.specs.Prelude.{◌≡◌, ◌+◌, ◌==◌, slice_index, if◌then◌else◌, IfOk, OnOk};
-ghost use Rattle.snow_drill.specs.Drill as model;
-ghost use Rattle.snow_drill.specs.Made.{height_in, below, bytes_of};
-ghost use Rattle.snow_drill.specs.Following.{Follows};
+ghost use Rattle.snow_drill.specs.Model.Drill as model;
+ghost use Rattle.snow_drill.specs.Model.Made.{height_in, below, bytes_of};
+ghost use Rattle.snow_drill.specs.Kept.Following.{Follows};
 
 use crate::driven::Driven;
 use crate::made::Made;

@@ -1,7 +1,7 @@
 ghost use Rattle.std.specs.Prelude.{◌≡◌, [], fold, OnOk};
-ghost use Rattle.snow_drill.specs.Drill as model;
-ghost use Rattle.snow_drill.specs.Following.{Plays, Follows};
-ghost use Rattle.snow_wire.specs.Viewed.{as_event};
+ghost use Rattle.snow_drill.specs.Model.Drill as model;
+ghost use Rattle.snow_drill.specs.Kept.Following.{Plays, Follows};
+ghost use Rattle.snow_wire.specs.Clauses.Viewed.{as_event};
 
 use crate::driven::Driven;
 use crate::player::Player;

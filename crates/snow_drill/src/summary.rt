@@ -1,10 +1,10 @@
 ghost use Rattle.std.specs.Prelude.{◌≡◌, ◌++◌, ◌≤◌, List, length, IfOk, OnOk};
 ghost use Rattle.sha2.specs.Hashers.{Holds256};
 ghost use Rattle.sha2.specs.Sha256.{sha256};
-ghost use Rattle.snow_lines.specs.Text.{texts};
+ghost use Rattle.snow_lines.specs.Model.Text.{texts};
 ghost use Rattle.snow_lines.specs.declared.line.Line as told;
-ghost use Rattle.snow_drill.specs.Following.{Digests};
-ghost use Rattle.snow_drill.specs.Summary.{number_line, digits_line, summary_of};
+ghost use Rattle.snow_drill.specs.Kept.Following.{Digests};
+ghost use Rattle.snow_drill.specs.Model.Summary.{number_line, digits_line, summary_of};
 
 use crate::account::Account;
 use crate::tally::Tally;

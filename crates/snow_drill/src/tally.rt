@@ -1,6 +1,6 @@
 ghost use Rattle.std.specs.Prelude.{◌≡◌, ◌+◌, map, OnOk, IfOk};
-ghost use Rattle.snow_drill.specs.Told.{untold, noted};
-ghost use Rattle.snow_drill.specs.Following.{Takes};
+ghost use Rattle.snow_drill.specs.Kept.Told.{untold, noted};
+ghost use Rattle.snow_drill.specs.Kept.Following.{Takes};
 
 use snow_base::{Id, Items, NodeId};
 use snow_lines::Line;
@@ -31,7 +31,7 @@ pub struct Tally {
 }
 
 impl Model for Tally {
-    ghost use Rattle.snow_drill.specs.Told.{Told};
+    ghost use Rattle.snow_drill.specs.Kept.Told.{Told};
 
     ghost Value = { Told };
 

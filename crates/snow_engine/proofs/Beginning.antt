@@ -1,18 +1,18 @@
 -- How a node that runs begins: with the state of its last accepted block, at once or with bootstrapping.
 use Rattle.std.proofs.Common.{◌≡◌, ℕ, ◌-◌, ◌^◌, ◌≤◌, false, List, [], Option, Some, Ok, unwrap_or, refl, sym, ap, ◌∙◌, subst, arith}
 use Rattle.std.specs.FinMap.{empty}
-use Rattle.snow_flake.specs.Parameters.{Parameters}
+use Rattle.snow_flake.specs.Model.Parameters.{Parameters}
 use Rattle.snow_sample.specs.declared.roster.Node.{Node as Member}
 use Rattle.snow_board.proofs.Cases.{id_itself}
-use Rattle.snow_chain.specs.Chain.{Held, state_of, begun}
-use Rattle.snow_boot.specs.Booting.{Boot, Going, started}
-use Rattle.snow_chain.specs.Alone.{IsAlone, last_state}
+use Rattle.snow_chain.specs.Model.Chain.{Held, state_of, begun}
+use Rattle.snow_boot.specs.Model.Booting.{Boot, Going, started}
+use Rattle.snow_chain.specs.Kept.Alone.{IsAlone, last_state}
 use Rattle.snow_wire.specs.declared.event.Start.{Start}
 use Rattle.snow_engine.specs.declared.stage.Stage.TheVariants as stage
-use Rattle.snow_engine.specs.Catching.{brings, new_booting}
-use Rattle.snow_engine.specs.Node.{begun_by}
-use Rattle.snow_node.specs.Running.{Running, begun_above}
-use Rattle.snow_node.specs.Turning.{members}
+use Rattle.snow_engine.specs.Model.Catching.{brings, new_booting}
+use Rattle.snow_engine.specs.Model.Node.{begun_by}
+use Rattle.snow_node.specs.Model.Running.{Running, begun_above}
+use Rattle.snow_node.specs.Model.Turning.{members}
 use Rattle.snow_node.proofs.Following.{state_with}
 
 -- ---- a chain that begins

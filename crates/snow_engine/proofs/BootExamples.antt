@@ -1,24 +1,24 @@
 -- Worked examples of nodes that bootstrap and then run, computed on the definitions.
 use Rattle.std.proofs.Common.{◌≡◌, ℕ, ◌+◌, true, List, [], ◌∷◌, ◌++◌, replicate, refl}
-use Rattle.snow_flake.specs.Rule.{by_preference}
-use Rattle.snow_chain.specs.Plain.{header_of, plain_rules}
-use Rattle.snow_boot.specs.Asking.{asked}
-use Rattle.snow_boot.specs.Booting.{started as asked_first, followed, frontier_came, accepted_came, ancestors_came, timeout_came, stored_came}
-use Rattle.snow_boot.specs.Executing.{executed}
-use Rattle.snow_store.specs.Keeping.{held, highest, stray, taken}
-use Rattle.snow_store.specs.Paths.{path, missed, highest_target}
-use Rattle.snow_boot.specs.Replying.{replied}
+use Rattle.snow_flake.specs.Model.Rule.{by_preference}
+use Rattle.snow_chain.specs.Model.Plain.{header_of, plain_rules}
+use Rattle.snow_boot.specs.Model.Asking.{asked}
+use Rattle.snow_boot.specs.Model.Booting.{started as asked_first, followed, frontier_came, accepted_came, ancestors_came, timeout_came, stored_came}
+use Rattle.snow_boot.specs.Model.Executing.{executed}
+use Rattle.snow_store.specs.Model.Keeping.{held, highest, stray, taken}
+use Rattle.snow_store.specs.Model.Paths.{path, missed, highest_target}
+use Rattle.snow_boot.specs.Model.Replying.{replied}
 use Rattle.snow_wire.specs.declared.event.Event.{Event}
 use Rattle.snow_wire.specs.declared.event.Event.TheVariants as event
 use Rattle.snow_wire.specs.declared.event.Start.{Start}
 use Rattle.snow_lines.specs.declared.line.Line.TheVariants as line
 use Rattle.snow_lines.specs.declared.why.SkipKind.TheVariants as skip
 use Rattle.snow_engine.specs.declared.task.Task.TheVariants as task
-use Rattle.snow_node.specs.Outcome.{quietly, then_comes}
-use Rattle.snow_engine.specs.Staging.{Node, Comes}
-use Rattle.snow_engine.specs.Catching.{boots_on}
-use Rattle.snow_engine.specs.Node.{started, step}
-use Rattle.snow_node.specs.Turning.{runs_on}
+use Rattle.snow_node.specs.Model.Outcome.{quietly, then_comes}
+use Rattle.snow_engine.specs.Kept.Staging.{Node, Comes}
+use Rattle.snow_engine.specs.Model.Catching.{boots_on}
+use Rattle.snow_engine.specs.Model.Node.{started, step}
+use Rattle.snow_node.specs.Model.Turning.{runs_on}
 
 abbrev id_of : ℕ → List ℕ
 id_of first = first ∷ replicate 31 0

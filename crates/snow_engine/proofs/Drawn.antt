@@ -3,12 +3,12 @@ use Rattle.std.proofs.Common.{◌≡◌, ℕ, ◌+◌, ◌-◌, ◌^◌, ◌≤�
 use Rattle.std.specs.Bool.{⊤}
 use Rattle.std.proofs.lemmas.Bool.{ltb-true}
 use Rattle.snow_base.specs.declared.header.Header.{Header}
-use Rattle.snow_base.specs.Numbers.{next_number}
-use Rattle.snow_chain.specs.Chain.{Rules}
+use Rattle.snow_base.specs.Model.Numbers.{next_number}
+use Rattle.snow_chain.specs.Model.Chain.{Rules}
 use Rattle.snow_sample.specs.declared.roster.Node.{Node}
-use Rattle.snow_sample.specs.Roster.{total_weight}
+use Rattle.snow_sample.specs.Model.Roster.{total_weight}
 use Rattle.snow_issue.specs.declared.work.Get.{Get}
-use Rattle.snow_issue.specs.Lists.{asked_in}
+use Rattle.snow_issue.specs.Model.Lists.{asked_in}
 use Rattle.snow_lines.specs.declared.line.Line.{Line}
 use Rattle.snow_lines.specs.declared.line.Line.TheVariants as line
 use Rattle.snow_lines.specs.declared.why.RestartWhy.TheVariants as restart
@@ -19,14 +19,14 @@ use Rattle.snow_boot.specs.declared.question.Candidate.{Candidate}
 use Rattle.snow_boot.specs.declared.question.Question.{Question}
 use Rattle.snow_boot.specs.declared.question.Question.TheVariants as question
 use Rattle.snow_store.specs.declared.stop.BootStop.{BootStop}
-use Rattle.snow_boot.specs.Asking.{Asked, asked_with, asked_one, and_asked, asked}
-use Rattle.snow_boot.specs.Executing.{Executed, executed}
-use Rattle.snow_store.specs.Paths.{Fetch, missed, is_whole, highest_target, path_up}
-use Rattle.snow_boot.specs.Booting.{Boot, Going, Done, Outcome, behind, ask_frontier, ask_accepted, fetch_of, with_requests, ended, finished, height_or, followed_by, followed, fetching, with_targets, with_collected, all_answered, answered, or_all, if_awaited, awaited_for, frontier_came, accepted_came, with_came, if_requested, request_of, closed, ancestors_came, timeout_by, timeout_came, if_block, stored_came, with_fetch}
-use Rattle.snow_boot.specs.Electing.{collected, backed, majority}
-use Rattle.snow_store.specs.Coming.{came}
-use Rattle.snow_boot.specs.Replying.{replied}
-use Rattle.snow_engine.specs.Catching.{heard}
+use Rattle.snow_boot.specs.Model.Asking.{Asked, asked_with, asked_one, and_asked, asked}
+use Rattle.snow_boot.specs.Model.Executing.{Executed, executed}
+use Rattle.snow_store.specs.Model.Paths.{Fetch, missed, is_whole, highest_target, path_up}
+use Rattle.snow_boot.specs.Model.Booting.{Boot, Going, Done, Outcome, behind, ask_frontier, ask_accepted, fetch_of, with_requests, ended, finished, height_or, followed_by, followed, fetching, with_targets, with_collected, all_answered, answered, or_all, if_awaited, awaited_for, frontier_came, accepted_came, with_came, if_requested, request_of, closed, ancestors_came, timeout_by, timeout_came, if_block, stored_came, with_fetch}
+use Rattle.snow_boot.specs.Model.Electing.{collected, backed, majority}
+use Rattle.snow_store.specs.Clauses.Coming.{came}
+use Rattle.snow_boot.specs.Model.Replying.{replied}
+use Rattle.snow_engine.specs.Model.Catching.{heard}
 
 -- the last number drawn is one of 32 bits
 abbrev Fits : ℕ → Type 0

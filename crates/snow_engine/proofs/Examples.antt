@@ -2,19 +2,19 @@
 use Rattle.std.proofs.Common.{◌≡◌, ℕ, List, [], ◌∷◌, ◌++◌, replicate, Option, Some, refl, ap}
 use Rattle.std.specs.FinMap.{empty}
 use Rattle.std.specs.Option.{option_and_then}
-use Rattle.snow_base.specs.Identifier.{bits}
-use Rattle.snow_base.specs.Votes.{added}
-use Rattle.snow_flake.specs.Rule.{by_preference}
+use Rattle.snow_base.specs.Model.Identifier.{bits}
+use Rattle.snow_base.specs.Model.Votes.{added}
+use Rattle.snow_flake.specs.Model.Rule.{by_preference}
 use Rattle.snow_flake.specs.declared.params.ParamFault.TheVariants as params
-use Rattle.snow_board.specs.Conflict.{with_child, all_polled, chosen, decided_path}
-use Rattle.snow_board.specs.Board.{begin}
-use Rattle.snow_board.specs.Poll.{counted, winner, decisions_for, promoted, settled, poll}
-use Rattle.snow_board.specs.Preference.{path_from}
-use Rattle.snow_chain.specs.Chain.{Held, begun, next_on}
-use Rattle.snow_chain.specs.Plain.{header_of, plain_rules}
+use Rattle.snow_board.specs.Model.Conflict.{with_child, all_polled, chosen, decided_path}
+use Rattle.snow_board.specs.Model.Board.{begin}
+use Rattle.snow_board.specs.Model.Poll.{counted, winner, decisions_for, promoted, settled, poll}
+use Rattle.snow_board.specs.Model.Preference.{path_from}
+use Rattle.snow_chain.specs.Model.Chain.{Held, begun, next_on}
+use Rattle.snow_chain.specs.Model.Plain.{header_of, plain_rules}
 use Rattle.snow_wire.specs.declared.event.Event.TheVariants as event
-use Rattle.snow_wire.specs.Reading.{bytes_at, number_at, limited_at, flag_at, items_at, counted_at, start_at, fields_at, event_of}
-use Rattle.snow_wire.specs.Frame.{first_of, frames_in, frames_of}
+use Rattle.snow_wire.specs.Model.Reading.{bytes_at, number_at, limited_at, flag_at, items_at, counted_at, start_at, fields_at, event_of}
+use Rattle.snow_wire.specs.Model.Frame.{first_of, frames_in, frames_of}
 use Rattle.snow_lines.specs.declared.line.Line.{Line}
 use Rattle.snow_lines.specs.declared.line.Line.TheVariants as line
 use Rattle.snow_lines.specs.declared.why.SkipKind.TheVariants as skip
@@ -22,10 +22,10 @@ use Rattle.snow_engine.specs.declared.task.Task.TheVariants as task
 use Rattle.snow_engine.specs.declared.end.BadKind.TheVariants as kind
 use Rattle.snow_engine.specs.declared.end.End.{End}
 use Rattle.snow_engine.specs.declared.end.End.TheVariants as end
-use Rattle.snow_node.specs.Outcome.{Comes, then_comes}
-use Rattle.snow_engine.specs.Deciding.{Deciding, decides_on, issued_with}
-use Rattle.snow_engine.specs.Node.{started}
-use Rattle.snow_engine.specs.Run.{opened, after_frame, after_frames, lines_of, end_of}
+use Rattle.snow_node.specs.Model.Outcome.{Comes, then_comes}
+use Rattle.snow_engine.specs.Model.Deciding.{Deciding, decides_on, issued_with}
+use Rattle.snow_engine.specs.Model.Node.{started}
+use Rattle.snow_engine.specs.Model.Run.{opened, after_frame, after_frames, lines_of, end_of}
 use Rattle.snow_node.proofs.Following.{state_with}
 
 -- an identifier by its first byte

@@ -1,23 +1,23 @@
 -- The frames of a decoder worked one after another.
 use Rattle.std.proofs.Common.{◌≡◌, ℕ, suc, ◌+◌, ◌-◌, ◌*◌, ◌^◌, ◌<◌, ◌≤◌, true, false, Bool, List, [], ◌∷◌, ◌++◌, length, append_assoc, append-nil, Option, Some, None, is_some, Err, refl, sym, ap, ◌∙◌, subst, inl, inr, arith}
 use Rattle.std.proofs.lemmas.List.{length-drop}
-use Rattle.snow_base.specs.Outside.{AppendsFront}
+use Rattle.snow_base.specs.Clauses.Outside.{AppendsFront}
 use Rattle.snow_base.proofs.Known.{front_of_more}
-use Rattle.snow_flake.specs.Rule.{Answer}
-use Rattle.snow_chain.specs.Chain.{Rules}
-use Rattle.snow_wire.specs.Frame.{first_of, frames_of}
-use Rattle.snow_wire.specs.Stream.{Intake}
+use Rattle.snow_flake.specs.Model.Rule.{Answer}
+use Rattle.snow_chain.specs.Model.Chain.{Rules}
+use Rattle.snow_wire.specs.Model.Frame.{first_of, frames_of}
+use Rattle.snow_wire.specs.Clauses.Stream.{Intake}
 use Rattle.snow_wire.proofs.Streams.{frames_front, frames_end, long_first, off_front, behind_shorter}
 use Rattle.snow_lines.specs.declared.line.Line.{Line}
-use Rattle.snow_lines.specs.Gathered.{Gathers}
-use Rattle.snow_lines.specs.Text.{texts}
+use Rattle.snow_lines.specs.Kept.Gathered.{Gathers}
+use Rattle.snow_lines.specs.Model.Text.{texts}
 use Rattle.snow_lines.proofs.Waiting.{gathers_none, gathers_then, gathers_then_front}
 use Rattle.snow_engine.specs.declared.task.Task.{Task}
 use Rattle.snow_engine.specs.declared.end.End.{End}
 use Rattle.snow_engine.specs.declared.end.End.TheVariants as end
-use Rattle.snow_engine.specs.Staging.{Node}
-use Rattle.snow_engine.specs.Run.{Stand, Stopped, after_frame, after_frames, lines_then}
-use Rattle.snow_engine.specs.Serving.{Goes, GathersLines, GathersFront, Halts, Worked, front_worked, one_worked, all_worked}
+use Rattle.snow_engine.specs.Kept.Staging.{Node}
+use Rattle.snow_engine.specs.Model.Run.{Stand, Stopped, after_frame, after_frames, lines_then}
+use Rattle.snow_engine.specs.Clauses.Serving.{Goes, GathersLines, GathersFront, Halts, Worked, front_worked, one_worked, all_worked}
 use Rattle.snow_engine.proofs.Worked.{texts_parts, none_worked}
 
 -- lines came before

@@ -1,7 +1,7 @@
 -- Parameters that pass the check are good.
 use Rattle.std.proofs.Common.{◌≡◌, ◌*◌, Bool, true, false, cond, nat_le, nat_lt, ◌==◌, Option, Some, None, Ok, refl, subst, arith}
 use Rattle.std.proofs.lemmas.Bool.Decides.{nat_tests}
-use Rattle.snow_flake.specs.Parameters.{Parameters, AreGood, checked, first_fault, or_fault}
+use Rattle.snow_flake.specs.Model.Parameters.{Parameters, AreGood, checked, first_fault, or_fault}
 use Rattle.snow_flake.specs.declared.params.ParamFault.{ParamFault}
 
 -- the first of two faults isn't there

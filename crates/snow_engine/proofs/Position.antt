@@ -2,10 +2,10 @@
 use Rattle.std.proofs.Common.{◌≡◌, ℕ, suc, ◌+◌, ◌-◌, ◌^◌, ◌≤◌, ◌==◌, true, false, Bool, cond, List, [], ◌∷◌, ◌++◌, take, length, append_assoc, append-nil, Option, Some, None, refl, sym, ap, ◌∙◌, inl, inr, arith}
 use Rattle.std.proofs.lemmas.List.{length-append, take_all}
 use Rattle.std.proofs.Math.Seq.{take-append-add}
-use Rattle.snow_flake.specs.Rule.{Answer}
-use Rattle.snow_chain.specs.Chain.{Rules}
-use Rattle.snow_wire.specs.Frame.{frames_of, is_too_long}
-use Rattle.snow_wire.specs.Stream.{fed}
+use Rattle.snow_flake.specs.Model.Rule.{Answer}
+use Rattle.snow_chain.specs.Model.Chain.{Rules}
+use Rattle.snow_wire.specs.Model.Frame.{frames_of, is_too_long}
+use Rattle.snow_wire.specs.Clauses.Stream.{fed}
 use Rattle.snow_wire.proofs.Streams.{frames_end, long_first}
 use Rattle.snow_wire.proofs.Pieces.{ahead, pieces, long_more}
 use Rattle.snow_lines.specs.declared.line.Line.{Line}
@@ -13,9 +13,9 @@ use Rattle.snow_engine.specs.declared.task.Task.{Task}
 use Rattle.snow_engine.specs.declared.end.BadKind.TheVariants as kind
 use Rattle.snow_engine.specs.declared.end.End.{End}
 use Rattle.snow_engine.specs.declared.end.End.TheVariants as end
-use Rattle.snow_engine.specs.Staging.{Node}
-use Rattle.snow_engine.specs.Run.{Stand, Fresh, Going, Stopped, after_frame, after_frames, lines_then, ran, lines_of, seen, end_behind, ended, is_stopped}
-use Rattle.snow_engine.specs.Serving.{stand_of, Halts, Worked, all_worked}
+use Rattle.snow_engine.specs.Kept.Staging.{Node}
+use Rattle.snow_engine.specs.Model.Run.{Stand, Fresh, Going, Stopped, after_frame, after_frames, lines_then, ran, lines_of, seen, end_behind, ended, is_stopped}
+use Rattle.snow_engine.specs.Clauses.Serving.{stand_of, Halts, Worked, all_worked}
 use Rattle.snow_engine.proofs.Going.{stopped_stays}
 
 -- ---- frames, and then more frames

@@ -3,17 +3,17 @@ use Rattle.std.proofs.Common.{◌≡◌, ℕ, zero, suc, ◌*◌, ◌+◌, ◌-�
 use Rattle.std.proofs.lemmas.List.{length-append, length-drop}
 use Rattle.std.specs.Io.KnownBytes.{Appends, Consumes}
 use Rattle.snow_base.proofs.Known.{appends_none, appends_then, consumes_none, consumes_then}
-use Rattle.snow_flake.specs.Rule.{Answer}
-use Rattle.snow_chain.specs.Chain.{Rules}
-use Rattle.snow_wire.specs.Frame.{first_of, led_by, frames_in, frames_of, is_too_long}
-use Rattle.snow_wire.specs.Stream.{Intake, fed, fresh}
+use Rattle.snow_flake.specs.Model.Rule.{Answer}
+use Rattle.snow_chain.specs.Model.Chain.{Rules}
+use Rattle.snow_wire.specs.Model.Frame.{first_of, led_by, frames_in, frames_of, is_too_long}
+use Rattle.snow_wire.specs.Clauses.Stream.{Intake, fed, fresh}
 use Rattle.snow_wire.proofs.Streams.{frames_end, off_front}
 use Rattle.snow_lines.specs.declared.line.Line.{Line}
-use Rattle.snow_lines.specs.Text.{texts}
+use Rattle.snow_lines.specs.Model.Text.{texts}
 use Rattle.snow_engine.specs.declared.task.Task.{Task}
-use Rattle.snow_engine.specs.Staging.{Node}
-use Rattle.snow_engine.specs.Run.{Stand, Fresh, after_frames, ran, lines_of}
-use Rattle.snow_engine.specs.Serving.{stand_of, Worked, all_worked}
+use Rattle.snow_engine.specs.Kept.Staging.{Node}
+use Rattle.snow_engine.specs.Model.Run.{Stand, Fresh, after_frames, ran, lines_of}
+use Rattle.snow_engine.specs.Clauses.Serving.{stand_of, Worked, all_worked}
 use Rattle.snow_engine.proofs.Worked.{texts_parts}
 use Rattle.snow_engine.proofs.Position.{after_bytes, behind, more_bytes}
 

@@ -3,11 +3,11 @@ use Rattle.std.proofs.Common.{◌≡◌, List, Result, Ok, Err, ap}
 use Rattle.snow_lines.specs.declared.line.Line.{Line}
 use Rattle.snow_node.specs.declared.stop.Halt.{Halt}
 use Rattle.snow_node.specs.declared.stop.Halt.TheVariants as halt
-use Rattle.snow_node.specs.Stepping.{HaltsAs, Tells}
+use Rattle.snow_node.specs.Clauses.Stepping.{HaltsAs, Tells}
 use Rattle.snow_engine.specs.declared.stop.EngineStop.{EngineStop}
 use Rattle.snow_engine.specs.declared.stop.EngineStop.TheVariants as stop
-use Rattle.snow_engine.specs.Staging.{Node, staged, stop_for}
-use Rattle.snow_engine.specs.Stopping.{Logs, Starts, StopsAs}
+use Rattle.snow_engine.specs.Kept.Staging.{Node, staged, stop_for}
+use Rattle.snow_engine.specs.Clauses.Stopping.{Logs, Starts, StopsAs}
 
 -- a step of one stage is one of the node
 pub turned : (S : Type 0) (as_node : S → Node) (after : S) (expected : Result S Halt) → expected ≡ Ok after → staged as_node expected ≡ Ok (as_node after)

@@ -4,10 +4,10 @@ use Rattle.snow_lines.specs.declared.line.Line.{Line}
 use Rattle.snow_lines.specs.declared.why.SkipKind.{SkipKind}
 use Rattle.snow_engine.specs.declared.stop.EngineStop.{EngineStop}
 use Rattle.snow_engine.specs.declared.stop.EngineStop.TheVariants as stop
-use Rattle.snow_engine.specs.Staging.{Node}
-use Rattle.snow_engine.specs.Run.{standing, end_at}
-use Rattle.snow_engine.specs.Serving.{Stands, LogsFrame}
-use Rattle.snow_engine.specs.Stopping.{Logs, StopsAs}
+use Rattle.snow_engine.specs.Kept.Staging.{Node}
+use Rattle.snow_engine.specs.Model.Run.{standing, end_at}
+use Rattle.snow_engine.specs.Clauses.Serving.{Stands, LogsFrame}
+use Rattle.snow_engine.specs.Clauses.Stopping.{Logs, StopsAs}
 
 -- the run stands at the end that the stop is
 pub stands_in : (frame : ℕ) (s : EngineStop) (now : Option Node) (expected : Result Node EngineStop)

@@ -1,24 +1,24 @@
 -- One frame was worked: its lines, and where the run stands.
 use Rattle.std.proofs.Common.{◌≡◌, ℕ, ◌+◌, true, false, List, [], ◌∷◌, ◌++◌, append_assoc, append-nil, Option, Some, None, Result, Ok, Err, refl, sym, ap, ◌∙◌, subst, inr}
 use Rattle.std.proofs.lemmas.List.Concat.{flat_map-append}
-use Rattle.snow_base.specs.Outside.{AppendsFront}
+use Rattle.snow_base.specs.Clauses.Outside.{AppendsFront}
 use Rattle.snow_base.proofs.Known.{front_of_more}
-use Rattle.snow_flake.specs.Rule.{Answer}
-use Rattle.snow_chain.specs.Chain.{Rules}
-use Rattle.snow_wire.specs.Frame.{first_of, is_too_long}
-use Rattle.snow_wire.specs.Stream.{Intake}
+use Rattle.snow_flake.specs.Model.Rule.{Answer}
+use Rattle.snow_chain.specs.Model.Chain.{Rules}
+use Rattle.snow_wire.specs.Model.Frame.{first_of, is_too_long}
+use Rattle.snow_wire.specs.Clauses.Stream.{Intake}
 use Rattle.snow_wire.proofs.Streams.{long_first}
 use Rattle.snow_lines.specs.declared.line.Line.{Line}
-use Rattle.snow_lines.specs.Gathered.{Gathers}
-use Rattle.snow_lines.specs.Text.{text, texts}
+use Rattle.snow_lines.specs.Kept.Gathered.{Gathers}
+use Rattle.snow_lines.specs.Model.Text.{text, texts}
 use Rattle.snow_engine.specs.declared.task.Task.{Task}
 use Rattle.snow_engine.specs.declared.end.BadKind.TheVariants as kind
 use Rattle.snow_engine.specs.declared.end.End.{End}
 use Rattle.snow_engine.specs.declared.end.End.TheVariants as end
-use Rattle.snow_engine.specs.Staging.{Node}
-use Rattle.snow_engine.specs.Run.{Stand, after_frame, is_stopped}
-use Rattle.snow_node.specs.Stepping.{LogsFront}
-use Rattle.snow_engine.specs.Serving.{stand_of, Stands, LogsFrame, GathersLines, GathersFront, SinkFails, Halts, front_worked, one_worked}
+use Rattle.snow_engine.specs.Kept.Staging.{Node}
+use Rattle.snow_engine.specs.Model.Run.{Stand, after_frame, is_stopped}
+use Rattle.snow_node.specs.Clauses.Stepping.{LogsFront}
+use Rattle.snow_engine.specs.Clauses.Serving.{stand_of, Stands, LogsFrame, GathersLines, GathersFront, SinkFails, Halts, front_worked, one_worked}
 
 -- what isn't a stop is none
 pub no_stop : {A : Type 0} → false ≡ true → A

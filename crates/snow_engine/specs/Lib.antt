@@ -1,10 +1,3 @@
-pub mod Booting
-pub mod Catching
-pub mod Deciding
-pub mod Ends
-pub mod Node
-pub mod NodeCode
-pub mod Run
-pub mod Serving
-pub mod Staging
-pub mod Stopping
+pub mod Model
+pub mod Kept
+pub mod Clauses

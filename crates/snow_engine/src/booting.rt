@@ -1,14 +1,14 @@
 //! A node that bootstraps before it runs.
 
 ghost use Rattle.std.specs.Prelude.{◌≡◌, length, nat_lt};
-ghost use Rattle.snow_flake.specs.Parameters.{AreGood};
-ghost use Rattle.snow_chain.specs.Chain.{begun};
-ghost use Rattle.snow_chain.specs.Alone.{last_state};
-ghost use Rattle.snow_boot.specs.Calling.{Brings, Leaves, MayGoOn, OnDone, OnGoing};
-ghost use Rattle.snow_boot.specs.Calling.{Logs as BootLogs};
-ghost use Rattle.snow_engine.specs.Catching as model;
-ghost use Rattle.snow_engine.specs.Stopping.{Logs, Starts};
-ghost use Rattle.snow_node.specs.Turning.{members};
+ghost use Rattle.snow_flake.specs.Model.Parameters.{AreGood};
+ghost use Rattle.snow_chain.specs.Model.Chain.{begun};
+ghost use Rattle.snow_chain.specs.Kept.Alone.{last_state};
+ghost use Rattle.snow_boot.specs.Clauses.Calling.{Brings, Leaves, MayGoOn, OnDone, OnGoing};
+ghost use Rattle.snow_boot.specs.Clauses.Calling.{Logs as BootLogs};
+ghost use Rattle.snow_engine.specs.Model.Catching as model;
+ghost use Rattle.snow_engine.specs.Clauses.Stopping.{Logs, Starts};
+ghost use Rattle.snow_node.specs.Model.Turning.{members};
 
 use crate::stage::{Node, Stage};
 use crate::stop::EngineStop;
@@ -43,10 +43,10 @@ pub struct Booting<C: Chain> {
 }
 
 impl<C: Chain> Model for Booting<C> {
-    ghost use Rattle.snow_chain.specs.Alone.{last_state};
-    ghost use Rattle.snow_engine.specs.Booting.{Booting};
-    ghost use Rattle.snow_engine.specs.NodeCode.{coded_booting};
-    ghost use Rattle.snow_engine.specs.Booting.{IsCatchingUp};
+    ghost use Rattle.snow_chain.specs.Kept.Alone.{last_state};
+    ghost use Rattle.snow_engine.specs.Model.Booting.{Booting};
+    ghost use Rattle.snow_engine.specs.Kept.NodeCode.{coded_booting};
+    ghost use Rattle.snow_engine.specs.Model.Booting.{IsCatchingUp};
 
     ghost Value = { Booting };
 

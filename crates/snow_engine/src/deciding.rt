@@ -1,16 +1,16 @@
 //! A node that decides: it takes blocks and whole polls, and asks nobody.
 
 ghost use Rattle.std.specs.Prelude.{◌≡◌, None};
-ghost use Rattle.snow_flake.specs.Parameters.{AreGood};
-ghost use Rattle.snow_board.specs.Board.{height_of};
-ghost use Rattle.snow_board.specs.Reached.{MayIssue};
-ghost use Rattle.snow_chain.specs.Chain.{next_on};
-ghost use Rattle.snow_engine.specs.Deciding as model;
-ghost use Rattle.snow_engine.specs.Node.{decides_with};
-ghost use Rattle.snow_node.specs.Placing.{opposed};
-ghost use Rattle.snow_engine.specs.Stopping.{Starts};
-ghost use Rattle.snow_node.specs.Stepping.{Tells, Turns};
-ghost use Rattle.snow_wire.specs.Viewed.{as_event};
+ghost use Rattle.snow_flake.specs.Model.Parameters.{AreGood};
+ghost use Rattle.snow_board.specs.Model.Board.{height_of};
+ghost use Rattle.snow_board.specs.Laws.Reached.{MayIssue};
+ghost use Rattle.snow_chain.specs.Model.Chain.{next_on};
+ghost use Rattle.snow_engine.specs.Model.Deciding as model;
+ghost use Rattle.snow_engine.specs.Model.Node.{decides_with};
+ghost use Rattle.snow_node.specs.Model.Placing.{opposed};
+ghost use Rattle.snow_engine.specs.Clauses.Stopping.{Starts};
+ghost use Rattle.snow_node.specs.Clauses.Stepping.{Tells, Turns};
+ghost use Rattle.snow_wire.specs.Clauses.Viewed.{as_event};
 
 use crate::stop::EngineStop;
 use snow_base::{Header, Ids};
@@ -37,9 +37,9 @@ pub struct Deciding<C: Chain, B: Board> {
 
 impl<C: Chain, B: Board> Model for Deciding<C, B> {
     ghost use Rattle.std.specs.Prelude.{◌≡◌};
-    ghost use Rattle.snow_engine.specs.Deciding.{Deciding};
-    ghost use Rattle.snow_engine.specs.NodeCode.{coded_deciding};
-    ghost use Rattle.snow_node.specs.Matching.{IsSteady};
+    ghost use Rattle.snow_engine.specs.Model.Deciding.{Deciding};
+    ghost use Rattle.snow_engine.specs.Kept.NodeCode.{coded_deciding};
+    ghost use Rattle.snow_node.specs.Clauses.Matching.{IsSteady};
 
     ghost Value = { Deciding };
 

@@ -1,5 +1,5 @@
 ghost use Rattle.std.specs.Prelude.{◌≡◌};
-ghost use Rattle.snow_engine.specs.Run.{end_at};
+ghost use Rattle.snow_engine.specs.Model.Run.{end_at};
 
 use crate::stop::EngineStop;
 use snow_boot::BootStop;

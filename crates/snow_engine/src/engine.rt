@@ -1,11 +1,11 @@
 ghost use Rattle.std.specs.Prelude.{◌≡◌, true, IfOk};
-ghost use Rattle.snow_flake.specs.Parameters.{AreGood, checked};
-ghost use Rattle.snow_sample.specs.Roster.{first_fault};
-ghost use Rattle.snow_chain.specs.Chain.{begun};
-ghost use Rattle.snow_wire.specs.Viewed.{as_event};
-ghost use Rattle.snow_engine.specs.Node as model;
-ghost use Rattle.snow_engine.specs.Stopping.{Logs, Starts, Steps};
-ghost use Rattle.snow_node.specs.Turning.{members};
+ghost use Rattle.snow_flake.specs.Model.Parameters.{AreGood, checked};
+ghost use Rattle.snow_sample.specs.Model.Roster.{first_fault};
+ghost use Rattle.snow_chain.specs.Model.Chain.{begun};
+ghost use Rattle.snow_wire.specs.Clauses.Viewed.{as_event};
+ghost use Rattle.snow_engine.specs.Model.Node as model;
+ghost use Rattle.snow_engine.specs.Clauses.Stopping.{Logs, Starts, Steps};
+ghost use Rattle.snow_node.specs.Model.Turning.{members};
 
 use crate::booting::Booting;
 use crate::deciding::Deciding;
@@ -35,8 +35,8 @@ pub struct Engine<C: Chain, B: Board> {
 }
 
 impl<C: Chain, B: Board> Model for Engine<C, B> {
-    ghost use Rattle.snow_engine.specs.Staging.{Node};
-    ghost use Rattle.snow_engine.specs.NodeCode.{coded_node};
+    ghost use Rattle.snow_engine.specs.Kept.Staging.{Node};
+    ghost use Rattle.snow_engine.specs.Kept.NodeCode.{coded_node};
 
     ghost Value = { Node };
 

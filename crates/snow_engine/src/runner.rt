@@ -1,7 +1,7 @@
 ghost use Rattle.std.specs.Prelude.{◌≡◌, [], Some, None};
-ghost use Rattle.snow_engine.specs.Run as model;
-ghost use Rattle.snow_engine.specs.Run.{after_frame};
-ghost use Rattle.snow_engine.specs.Serving.{stand_of, told, Opens, Stands, LogsFrame};
+ghost use Rattle.snow_engine.specs.Model.Run as model;
+ghost use Rattle.snow_engine.specs.Model.Run.{after_frame};
+ghost use Rattle.snow_engine.specs.Clauses.Serving.{stand_of, told, Opens, Stands, LogsFrame};
 
 use crate::end::{BadKind, End};
 use crate::engine::Engine;

@@ -1,10 +1,10 @@
 ghost use Rattle.std.specs.Prelude.{◌≡◌, ◌≤◌, ◌<◌, [], length, take, None, Ok, IfOk, OnErr, IfSome};
 ghost use Rattle.std.specs.Io.KnownBytes.{IsAtEnd, Consumes, Keeps};
-ghost use Rattle.snow_base.specs.Outside.{HasCause};
-ghost use Rattle.snow_lines.specs.Text.{texts};
-ghost use Rattle.snow_wire.specs.Stream.{fresh};
-ghost use Rattle.snow_engine.specs.Run.{lines_of, seen, end_of};
-ghost use Rattle.snow_engine.specs.Serving.{IsEnd, Wrote, HasFault, Broke};
+ghost use Rattle.snow_base.specs.Clauses.Outside.{HasCause};
+ghost use Rattle.snow_lines.specs.Model.Text.{texts};
+ghost use Rattle.snow_wire.specs.Clauses.Stream.{fresh};
+ghost use Rattle.snow_engine.specs.Model.Run.{lines_of, seen, end_of};
+ghost use Rattle.snow_engine.specs.Clauses.Serving.{IsEnd, Wrote, HasFault, Broke};
 
 use crate::end::End;
 use crate::session::Session;

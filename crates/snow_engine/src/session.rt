@@ -1,12 +1,12 @@
 ghost use Rattle.std.specs.Prelude.{◌≡◌, ◌+◌, ◌*◌, ◌^◌, ◌-◌, ◌≤◌, ◌<◌, [], length, None, Ok, false, ◌==◌, if◌then◌else◌, is_some, IfOk, OnOk, OnErr, ◌∷◌, ◌++◌};
-ghost use Rattle.snow_base.specs.Outside.{AppendsFront, HasCause};
-ghost use Rattle.snow_lines.specs.Gathered.{Gathers};
-ghost use Rattle.snow_lines.specs.Text.{texts};
+ghost use Rattle.snow_base.specs.Clauses.Outside.{AppendsFront, HasCause};
+ghost use Rattle.snow_lines.specs.Kept.Gathered.{Gathers};
+ghost use Rattle.snow_lines.specs.Model.Text.{texts};
 ghost use Rattle.snow_lines.specs.declared.line.Line.TheVariants as line;
-ghost use Rattle.snow_wire.specs.Frame.{first_of, is_too_long};
-ghost use Rattle.snow_wire.specs.Stream.{fresh};
-ghost use Rattle.snow_engine.specs.Run.{end_behind};
-ghost use Rattle.snow_engine.specs.Serving.{stand_of, told, has_sink_failed, Goes, GathersLines, WritesLines, SinkFails, one_worked, all_worked};
+ghost use Rattle.snow_wire.specs.Model.Frame.{first_of, is_too_long};
+ghost use Rattle.snow_wire.specs.Clauses.Stream.{fresh};
+ghost use Rattle.snow_engine.specs.Model.Run.{end_behind};
+ghost use Rattle.snow_engine.specs.Clauses.Serving.{stand_of, told, has_sink_failed, Goes, GathersLines, WritesLines, SinkFails, one_worked, all_worked};
 
 use crate::end::{BadKind, End};
 use crate::runner::Runner;

@@ -29,7 +29,7 @@ pub enum EngineStop {
 
 impl From<Halt> for EngineStop {
     ghost use Rattle.std.specs.Prelude.{◌≡◌};
-    ghost use Rattle.snow_engine.specs.Staging.{stop_for};
+    ghost use Rattle.snow_engine.specs.Kept.Staging.{stop_for};
 
     ghost from_gives = { λ halt stop. stop ≡ stop_for halt };
 
@@ -55,7 +55,7 @@ impl From<AllocError> for EngineStop {
 
 impl From<ChainFault> for EngineStop {
     ghost use Rattle.std.specs.Prelude.{◌≡◌};
-    ghost use Rattle.snow_engine.specs.Stopping.{stop_of};
+    ghost use Rattle.snow_engine.specs.Clauses.Stopping.{stop_of};
 
     ghost from_gives = { λ fault stop. stop ≡ stop_of fault };
 
@@ -69,7 +69,7 @@ impl From<ChainFault> for EngineStop {
 
 impl From<RosterFault> for EngineStop {
     ghost use Rattle.std.specs.Prelude.{◌≡◌};
-    ghost use Rattle.snow_engine.specs.Stopping.{stop_of_roster};
+    ghost use Rattle.snow_engine.specs.Clauses.Stopping.{stop_of_roster};
 
     ghost from_gives = { λ fault stop. stop ≡ stop_of_roster fault };
 
@@ -83,7 +83,7 @@ impl From<RosterFault> for EngineStop {
 
 impl From<BootStop> for EngineStop {
     ghost use Rattle.std.specs.Prelude.{◌≡◌};
-    ghost use Rattle.snow_engine.specs.Staging.{stop_of_boot};
+    ghost use Rattle.snow_engine.specs.Kept.Staging.{stop_of_boot};
 
     ghost from_gives = { λ why stop. stop ≡ stop_of_boot why };
 

@@ -1,5 +1,3 @@
-pub mod Parameters
-pub mod Counter
-pub mod Instance
-pub mod Rule
-pub mod Alike
+pub mod Model
+pub mod Laws
+pub mod Kept

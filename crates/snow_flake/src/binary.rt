@@ -21,7 +21,7 @@ pub struct Binary {
 
 impl Model for Binary {
     ghost use Rattle.std.specs.Prelude.{◌≡◌, ◌<◌, false};
-    ghost use Rattle.snow_flake.specs.Instance.{Instance};
+    ghost use Rattle.snow_flake.specs.Kept.Instance.{Instance};
 
     ghost Value = { Instance };
 
@@ -49,10 +49,10 @@ impl Model for Binary {
 }
 
 impl Binary {
-    ghost use Rattle.snow_flake.specs.Counter.{followed, class, stepped, strength, raised};
-    ghost use Rattle.snow_flake.specs.Instance.{Single, at_bit, polled, failed, on_side, judged, counter_of};
-    ghost use Rattle.snow_flake.specs.Parameters.{Parameters, AreGood};
-    ghost use Rattle.snow_flake.specs.Rule.{answer_of};
+    ghost use Rattle.snow_flake.specs.Model.Counter.{followed, class, stepped, strength, raised};
+    ghost use Rattle.snow_flake.specs.Kept.Instance.{Single, at_bit, polled, failed, on_side, judged, counter_of};
+    ghost use Rattle.snow_flake.specs.Model.Parameters.{Parameters, AreGood};
+    ghost use Rattle.snow_flake.specs.Model.Rule.{answer_of};
 
     /// Returns the instance where all choices so far had this bit.
     pub(crate) fn at_bit(bit: bool, strength: u64, confidence: u32, decided: bool) -> Self

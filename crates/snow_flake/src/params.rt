@@ -40,7 +40,7 @@ pub struct Params {
 }
 
 impl Model for Params {
-    ghost use Rattle.snow_flake.specs.Parameters.{Parameters, AreGood};
+    ghost use Rattle.snow_flake.specs.Model.Parameters.{Parameters, AreGood};
 
     ghost Value = { Parameters };
 
@@ -70,7 +70,7 @@ impl Model for Params {
 }
 
 impl Params {
-    ghost use Rattle.snow_flake.specs.Parameters.{Parameters, AreGood, checked};
+    ghost use Rattle.snow_flake.specs.Model.Parameters.{Parameters, AreGood, checked};
 
     /// Returns the parameters, or the first fault in the order of `ParamFault`. `AlphaLow` comes
     /// where twice AlphaPreference is at most K, `AlphaOrder` where AlphaConfidence is below

@@ -1,5 +1,5 @@
 ghost use Rattle.std.specs.Prelude.{◌≡◌, Bool, refl};
-ghost use Rattle.snow_flake.specs.Rule.{by_preference, by_flake};
+ghost use Rattle.snow_flake.specs.Model.Rule.{by_preference, by_flake};
 
 /// How an instance that isn't final answers. Contracts see a function of the preference and the
 /// flake, which answers the bit on which both agree.

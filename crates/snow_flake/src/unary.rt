@@ -17,7 +17,7 @@ pub struct Unary {
 
 impl Model for Unary {
     ghost use Rattle.std.specs.Prelude.{◌≡◌, ◌<◌, false};
-    ghost use Rattle.snow_flake.specs.Instance.{Single};
+    ghost use Rattle.snow_flake.specs.Kept.Instance.{Single};
 
     ghost Value = { Single };
 
@@ -29,9 +29,9 @@ impl Model for Unary {
 }
 
 impl Unary {
-    ghost use Rattle.snow_flake.specs.Parameters.{Parameters, AreGood};
-    ghost use Rattle.snow_flake.specs.Counter.{fresh, stepped};
-    ghost use Rattle.snow_flake.specs.Instance.{at_bit, polled, failed, on_side, counter_of};
+    ghost use Rattle.snow_flake.specs.Model.Parameters.{Parameters, AreGood};
+    ghost use Rattle.snow_flake.specs.Model.Counter.{fresh, stepped};
+    ghost use Rattle.snow_flake.specs.Kept.Instance.{at_bit, polled, failed, on_side, counter_of};
 
     /// Returns an instance that no poll has moved: strength and confidence are 0, and it isn't
     /// final.

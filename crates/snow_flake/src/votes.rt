@@ -1,5 +1,5 @@
 ghost use Rattle.std.specs.Prelude.{◌≡◌, ◌<◌, ◌+◌};
-ghost use Rattle.snow_flake.specs.Counter.{raised, next_confidence, class};
+ghost use Rattle.snow_flake.specs.Model.Counter.{raised, next_confidence, class};
 
 use crate::params::Params;
 

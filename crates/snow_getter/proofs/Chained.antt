@@ -5,9 +5,9 @@ use Rattle.std.proofs.lemmas.Bool.{cond-true, cond-false, le-leb, lt-leb, leb-tr
 use Rattle.std.proofs.lemmas.List.{append-nil}
 use Rattle.std.proofs.lemmas.List.Sums.{sum_by-cons}
 use Rattle.snow_getter.specs.declared.served.Served.{Served}
-use Rattle.snow_getter.specs.Serving.{Serving, held}
-use Rattle.snow_getter.specs.Chain.{chain_within}
-use Rattle.snow_getter.specs.ChainLaw.{IsWalk, IsWithin, ChainIsLongest}
+use Rattle.snow_getter.specs.Model.Serving.{Serving, held}
+use Rattle.snow_getter.specs.Model.Chain.{chain_within}
+use Rattle.snow_getter.specs.Laws.ChainLaw.{IsWalk, IsWithin, ChainIsLongest}
 
 -- what follows once a block was looked for
 abbrev from_here : ℕ → ℕ → Serving → Option Served → List Served

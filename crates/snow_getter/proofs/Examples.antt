@@ -3,9 +3,9 @@ use Rattle.std.proofs.Common.{◌≡◌, ℕ, true, false, List, [], ◌∷◌, 
 use Rattle.snow_wire.specs.declared.event.Event.TheVariants as event
 use Rattle.snow_lines.specs.declared.line.Line.TheVariants as line
 use Rattle.snow_getter.specs.declared.served.Served.{Served}
-use Rattle.snow_getter.specs.Serving.{Serving, serving_from, held, is_accepted, last_accepted, after_issued, after_accepted, after_rejected}
-use Rattle.snow_getter.specs.Chain.{chain, chain_within}
-use Rattle.snow_getter.specs.Answer.{answer}
+use Rattle.snow_getter.specs.Model.Serving.{Serving, serving_from, held, is_accepted, last_accepted, after_issued, after_accepted, after_rejected}
+use Rattle.snow_getter.specs.Model.Chain.{chain, chain_within}
+use Rattle.snow_getter.specs.Model.Answer.{answer}
 
 -- an identifier by its first byte
 abbrev id_of : ℕ → List ℕ

@@ -17,8 +17,8 @@ use Rattle.std.proofs.lemmas.Map.Views.{All-map-remove_entry}
 use Rattle.std.proofs.lemmas.Map.Keys.{IsDistinct-head, IsDistinct-tail, IsDistinct-cons, IsDistinct-IsPermutation}
 use Rattle.snow_getter.specs.declared.served.Served.{Served}
 use Rattle.snow_getter.specs.declared.pending.Issued.{Issued}
-use Rattle.snow_getter.specs.Serving.{is_block, without}
-use Rattle.snow_getter.specs.Order.{block_at, block_of, issued_before, numbered, IsIssued, AreIssued}
+use Rattle.snow_getter.specs.Model.Serving.{is_block, without}
+use Rattle.snow_getter.specs.Kept.Order.{block_at, block_of, issued_before, numbered, IsIssued, AreIssued}
 use Rattle.snow_getter.proofs.Permuted.{only_one_stays}
 
 abbrev pub Entries : Type 0

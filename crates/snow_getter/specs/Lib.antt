@@ -1,5 +1,3 @@
-pub mod Serving
-pub mod Chain
-pub mod ChainLaw
-pub mod Answer
-pub mod Order
+pub mod Model
+pub mod Laws
+pub mod Kept

@@ -2,10 +2,10 @@
 ghost use Rattle.std.specs.Prelude.{◌≡◌, [], ◌∷◌, ◌++◌, map, IfOk, OnOk, OnErr};
 ghost use Rattle.std.specs.Option.{option_map_or};
 ghost use Rattle.snow_lines.specs.declared.line.Line.TheVariants as line;
-ghost use Rattle.snow_wire.specs.Viewed.{as_event};
-ghost use Rattle.snow_getter.specs.Serving.{held};
-ghost use Rattle.snow_getter.specs.Chain.{chain};
-ghost use Rattle.snow_getter.specs.Answer.{answer, accepted_among, chain_told};
+ghost use Rattle.snow_wire.specs.Clauses.Viewed.{as_event};
+ghost use Rattle.snow_getter.specs.Model.Serving.{held};
+ghost use Rattle.snow_getter.specs.Model.Chain.{chain};
+ghost use Rattle.snow_getter.specs.Model.Answer.{answer, accepted_among, chain_told};
 
 use crate::getter::Getter;
 use indexmap::IndexSet;

@@ -1,7 +1,7 @@
 ghost use Rattle.std.specs.Prelude.{◌≡◌, false, IfOk, OnOk, OnErr};
 ghost use Rattle.std.specs.Option.{option_map};
-ghost use Rattle.snow_getter.specs.Order.{as_served};
-ghost use Rattle.snow_getter.specs.Serving.{serving_from, is_pending, is_accepted, last_accepted, held, pending_block, accepted_block, after_issued, after_accepted, after_rejected};
+ghost use Rattle.snow_getter.specs.Kept.Order.{as_served};
+ghost use Rattle.snow_getter.specs.Model.Serving.{serving_from, is_pending, is_accepted, last_accepted, held, pending_block, accepted_block, after_issued, after_accepted, after_rejected};
 
 use crate::pending::Pending;
 use crate::served::{Held, Served};
@@ -27,7 +27,7 @@ pub struct Getter {
 }
 
 impl Model for Getter {
-    ghost use Rattle.snow_getter.specs.Serving.{Serving};
+    ghost use Rattle.snow_getter.specs.Model.Serving.{Serving};
 
     ghost Value = { Serving };
 

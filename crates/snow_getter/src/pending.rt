@@ -1,7 +1,7 @@
 ghost use Rattle.std.specs.Prelude.{◌≡◌, [], ◌∷◌, ◌++◌, false, find, is_some, OnOk, OnErr};
 ghost use Rattle.std.specs.Option.{option_copied, option_map};
-ghost use Rattle.snow_getter.specs.Order.{block_at};
-ghost use Rattle.snow_getter.specs.Serving.{is_block, without};
+ghost use Rattle.snow_getter.specs.Kept.Order.{block_at};
+ghost use Rattle.snow_getter.specs.Model.Serving.{is_block, without};
 
 use snow_base::{Bytes, Id};
 use snow_map::IdMap;
@@ -27,7 +27,7 @@ pub(crate) struct Pending {
 impl Model for Pending {
     ghost use Rattle.std.specs.Prelude.{List};
     ghost use Rattle.snow_getter.specs.declared.served.Served.{Served};
-    ghost use Rattle.snow_getter.specs.Order.{issued_before, AreIssued};
+    ghost use Rattle.snow_getter.specs.Kept.Order.{issued_before, AreIssued};
 
     ghost Value = { List Served };
 

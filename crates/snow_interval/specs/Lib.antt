@@ -1,3 +1,3 @@
-pub mod Heights
-pub mod Listed
-pub mod Spans
+pub mod Model
+pub mod Kept
+pub mod Clauses

@@ -1,6 +1,6 @@
 ghost use Rattle.std.specs.Prelude.{◌≡◌, ℕ, ◌+◌, ◌<◌, true, false, IfOk, OnOk, OnErr};
-ghost use Rattle.snow_interval.specs.Heights.{with_height, begins_run, lowest};
-ghost use Rattle.snow_interval.specs.Spans.{spanned, AreApart};
+ghost use Rattle.snow_interval.specs.Model.Heights.{with_height, begins_run, lowest};
+ghost use Rattle.snow_interval.specs.Kept.Spans.{spanned, AreApart};
 
 use crate::kept::Kept;
 use crate::span::Span;
@@ -19,7 +19,7 @@ pub struct Intervals {
 
 impl Model for Intervals {
     ghost use Rattle.std.specs.Prelude.{◌+◌};
-    ghost use Rattle.snow_interval.specs.Spans.{Spans, AreApart};
+    ghost use Rattle.snow_interval.specs.Kept.Spans.{Spans, AreApart};
 
     ghost Value = { Spans };
 

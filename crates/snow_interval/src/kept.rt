@@ -6,7 +6,7 @@ use std::alloc::{AllocError, Global};
 /// height whether it is held.
 /// Rule: AvalancheGo, snow/engine/snowman/bootstrap.
 pub trait Kept: Sized + Drop {
-    ghost use Rattle.snow_interval.specs.Heights as model;
+    ghost use Rattle.snow_interval.specs.Model.Heights as model;
 
     /// The height above which heights are held.
     ghost floor: { Self → ℕ };

@@ -1,6 +1,6 @@
 ghost use Rattle.std.specs.Prelude.{◌≡◌, ℕ, ◌<◌, true, false, IfOk, OnOk, OnErr};
-ghost use Rattle.snow_interval.specs.Heights.{with_height, begins_run, lowest};
-ghost use Rattle.snow_interval.specs.Listed.{listed};
+ghost use Rattle.snow_interval.specs.Model.Heights.{with_height, begins_run, lowest};
+ghost use Rattle.snow_interval.specs.Clauses.Listed.{listed};
 
 use crate::kept::Kept;
 use std::alloc::{AllocError, Global};
@@ -15,7 +15,7 @@ pub struct KeptList {
 }
 
 impl Model for KeptList {
-    ghost use Rattle.snow_interval.specs.Listed.{Listed, AreAbove};
+    ghost use Rattle.snow_interval.specs.Clauses.Listed.{Listed, AreAbove};
 
     ghost Value = { Listed };
 

@@ -1,7 +1,7 @@
 ghost use Rattle.std.specs.Prelude.{◌≡◌, ℕ, ◌+◌, ◌<◌, ◌≤◌, true, false, ◌==◌, length, take, drop, nat_le, OnOk, OnErr};
 ghost use Rattle.std.specs.List.Sorted.{IsPartitionPoint};
-ghost use Rattle.snow_interval.specs.Heights as heights;
-ghost use Rattle.snow_interval.specs.Spans.{spanned, AreApart, IsFree, behind, front, HasGrown};
+ghost use Rattle.snow_interval.specs.Model.Heights as heights;
+ghost use Rattle.snow_interval.specs.Kept.Spans.{spanned, AreApart, IsFree, behind, front, HasGrown};
 
 use crate::span::Span;
 use std::alloc::AllocError;

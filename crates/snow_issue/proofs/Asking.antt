@@ -10,8 +10,8 @@ use Rattle.std.specs.Str.{bytes_eq}
 use Rattle.std.proofs.lemmas.Bool.{or_parts, both_ways, eqb-true, lt-ltb, le-ltb, ne_eqb, eq-eqb, cases_order}
 use Rattle.snow_issue.specs.declared.get_map.Asked.{Asked}
 use Rattle.snow_issue.specs.declared.work.Get.{Get}
-use Rattle.snow_issue.specs.Lists.{asked_in, has_number, is_get, with_get, without}
-use Rattle.snow_issue.specs.Index.{AreNamedApart, HasAsked, get_of}
+use Rattle.snow_issue.specs.Model.Lists.{asked_in, has_number, is_get, with_get, without}
+use Rattle.snow_issue.specs.Kept.Index.{AreNamedApart, HasAsked, get_of}
 use Rattle.snow_lineup.proofs.Noted.{same_id, id_turned}
 use Rattle.snow_issue.proofs.Named.{named, named_removed, apart_removed, named_is_some}
 use Rattle.snow_lineup.proofs.Booleans.{or_false, or_turned, or_assoc, cond_or}

@@ -3,14 +3,14 @@ use Rattle.std.proofs.Common.{◌≡◌, ℕ, zero, suc, Bool, true, false, not,
 use Rattle.std.proofs.lemmas.Bool.{or_left, or_right}
 use Rattle.std.specs.Option.{option_map, option_and_then}
 use Rattle.std.specs.Str.{bytes_eq}
-use Rattle.snow_board.specs.Conflict.{Pending}
-use Rattle.snow_board.specs.Board.{Board, block_of, is_pending}
+use Rattle.snow_board.specs.Model.Conflict.{Pending}
+use Rattle.snow_board.specs.Model.Board.{Board, block_of, is_pending}
 use Rattle.snow_board.proofs.Cases.{split_on}
 use Rattle.snow_issue.specs.declared.gone.Gone.{Gone}
-use Rattle.snow_issue.specs.Gone.{latest, holds, stands_for}
-use Rattle.snow_issue.specs.Lists.{Lists, waits, is_asked}
-use Rattle.snow_issue.specs.Offering.{is_on, wanted}
-use Rattle.snow_issue.specs.Bubbling.{bubbled_in, bubbled, vote_at_once}
+use Rattle.snow_issue.specs.Model.Gone.{latest, holds, stands_for}
+use Rattle.snow_issue.specs.Model.Lists.{Lists, waits, is_asked}
+use Rattle.snow_issue.specs.Model.Offering.{is_on, wanted}
+use Rattle.snow_issue.specs.Model.Bubbling.{bubbled_in, bubbled, vote_at_once}
 
 pub bubbled_pending : (n : ℕ) (gone : List Gone) (board : Board) (id : List ℕ) → is_pending board id ≡ true → bubbled_in n gone board id ≡ Some id
 unfolding bubbled_in

@@ -6,7 +6,7 @@ use Rattle.std.specs.List.Sorted.{IsStrictlySortedBy}
 use Rattle.std.specs.Map.{keys_of, remove_entry, lookup}
 use Rattle.std.specs.Ordering.{nat_cmp}
 use Rattle.std.proofs.lemmas.Bool.{eqb-true, eq-eqb}
-use Rattle.snow_issue.specs.Arrivals.{Entries, PollMap, at_arrival, seat_of, IsFiled, stays, filed, filed_apart, number_of_node, IsLeaving, AreGone}
+use Rattle.snow_issue.specs.Kept.Arrivals.{Entries, PollMap, at_arrival, seat_of, IsFiled, stays, filed, filed_apart, number_of_node, IsLeaving, AreGone}
 use Rattle.snow_issue.proofs.Stocked.{same_number, number_itself, each}
 use Rattle.snow_issue.proofs.Numbered.{Numbers, Names, key_back, filed_same, filed_taken}
 use Rattle.snow_issue.proofs.Seated.{seats_filtered, all_stay, one_leaves}

@@ -4,13 +4,13 @@ use Rattle.std.specs.List.{list_any}
 use Rattle.std.specs.Option.{option_and_then}
 use Rattle.std.proofs.lemmas.Option.{none-some, same_Some}
 use Rattle.std.proofs.lemmas.Bool.{or_left, or_right}
-use Rattle.snow_board.specs.Board.{Board, is_pending}
+use Rattle.snow_board.specs.Model.Board.{Board, is_pending}
 use Rattle.snow_board.proofs.Cases.{split_on, clash, same_id}
 use Rattle.snow_board.proofs.Standing.{any-reverse}
 use Rattle.snow_issue.specs.declared.gone.Gone.{Gone}
-use Rattle.snow_issue.specs.Gone.{stands_for}
-use Rattle.snow_issue.specs.Lists.{Lists, AreWithinLimits}
-use Rattle.snow_issue.specs.Bubbling.{bubbled_in, bubbled}
+use Rattle.snow_issue.specs.Model.Gone.{stands_for}
+use Rattle.snow_issue.specs.Model.Lists.{Lists, AreWithinLimits}
+use Rattle.snow_issue.specs.Model.Bubbling.{bubbled_in, bubbled}
 
 -- ---- lists of entries
 

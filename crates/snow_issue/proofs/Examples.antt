@@ -1,18 +1,18 @@
 -- Worked examples: the definitions compute.
 use Rattle.std.proofs.Common.{◌≡◌, ℕ, true, false, List, [], ◌∷◌, replicate, Option, Some, None, refl}
 use Rattle.snow_base.specs.declared.header.Header.{Header}
-use Rattle.snow_flake.specs.Parameters.{Parameters}
-use Rattle.snow_board.specs.Board.{Board, begin, issued}
+use Rattle.snow_flake.specs.Model.Parameters.{Parameters}
+use Rattle.snow_board.specs.Model.Board.{Board, begin, issued}
 use Rattle.snow_issue.specs.declared.work.Waiting.{Waiting}
 use Rattle.snow_issue.specs.declared.work.Get.{Get}
 use Rattle.snow_issue.specs.declared.work.Held.{Held}
 use Rattle.snow_issue.specs.declared.work.Offered.TheVariants as offer
 use Rattle.snow_issue.specs.declared.work.Work.TheVariants as work
 use Rattle.snow_issue.specs.declared.gone.Gone.{Gone}
-use Rattle.snow_issue.specs.Lists.{Lists, begun, with_waiting, with_get, after_asked, after_closed, after_held, after_forgotten, after_gone}
-use Rattle.snow_issue.specs.Offering.{offered, wanted}
-use Rattle.snow_issue.specs.Settling.{work_of, after}
-use Rattle.snow_issue.specs.Bubbling.{bubbled, bubbled_in}
+use Rattle.snow_issue.specs.Model.Lists.{Lists, begun, with_waiting, with_get, after_asked, after_closed, after_held, after_forgotten, after_gone}
+use Rattle.snow_issue.specs.Model.Offering.{offered, wanted}
+use Rattle.snow_issue.specs.Model.Settling.{work_of, after}
+use Rattle.snow_issue.specs.Model.Bubbling.{bubbled, bubbled_in}
 
 -- an identifier by its first byte
 abbrev id_of : ℕ → List ℕ

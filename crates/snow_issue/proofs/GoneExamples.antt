@@ -1,7 +1,7 @@
 -- Worked examples of the gone list: the definitions compute.
 use Rattle.std.proofs.Common.{◌≡◌, ℕ, true, false, List, [], ◌∷◌, ◌++◌, Some, None, replicate, refl}
 use Rattle.snow_issue.specs.declared.gone.Gone.{Gone}
-use Rattle.snow_issue.specs.Gone.{holds, stands_for, with_gone}
+use Rattle.snow_issue.specs.Model.Gone.{holds, stands_for, with_gone}
 
 -- an identifier by its first byte
 abbrev id_of : ℕ → List ℕ

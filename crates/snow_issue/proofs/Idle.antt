@@ -6,8 +6,8 @@ use Rattle.std.specs.List.{remove, position_or_len}
 use Rattle.std.specs.Option.{option_map, option_or}
 use Rattle.snow_base.specs.declared.header.Header.{Header}
 use Rattle.snow_base.specs.declared.vote.Vote.{Vote}
-use Rattle.snow_board.specs.Board.{Board}
-use Rattle.snow_board.specs.Poll.{poll}
+use Rattle.snow_board.specs.Model.Board.{Board}
+use Rattle.snow_board.specs.Model.Poll.{poll}
 use Rattle.snow_board.proofs.Cases.{split_on}
 use Rattle.snow_issue.specs.declared.work.Get.{Get}
 use Rattle.snow_issue.specs.declared.work.Held.{Held}
@@ -15,10 +15,10 @@ use Rattle.snow_issue.specs.declared.work.Offered.{Offered}
 use Rattle.snow_issue.specs.declared.work.Offered.TheVariants as offer
 use Rattle.snow_issue.specs.declared.work.Waiting.{Waiting}
 use Rattle.snow_issue.specs.declared.work.Work.TheVariants as work
-use Rattle.snow_issue.specs.Bubbling.{bubbled, vote_at_once}
-use Rattle.snow_issue.specs.Lists.{Lists, without, waits, waits_below, is_asked, after_asked, after_forgotten, after_held, with_waiting}
-use Rattle.snow_issue.specs.Offering.{is_on, is_high, is_next, wanted, asks, refusal, offered}
-use Rattle.snow_issue.specs.Settling.{work_of, after, is_hopeless, is_ready, is_free, IsIdle}
+use Rattle.snow_issue.specs.Model.Bubbling.{bubbled, vote_at_once}
+use Rattle.snow_issue.specs.Model.Lists.{Lists, without, waits, waits_below, is_asked, after_asked, after_forgotten, after_held, with_waiting}
+use Rattle.snow_issue.specs.Model.Offering.{is_on, is_high, is_next, wanted, asks, refusal, offered}
+use Rattle.snow_issue.specs.Model.Settling.{work_of, after, is_hopeless, is_ready, is_free, IsIdle}
 use Rattle.snow_issue.proofs.Asking.{asked_with}
 use Rattle.snow_issue.proofs.Remembered.{off_polled}
 use Rattle.snow_issue.proofs.Taken.{either_more, still_busy}

@@ -4,16 +4,16 @@ use Rattle.std.specs.List.{position_or_len}
 use Rattle.std.proofs.lemmas.Bool.{cases_lt, false_from_ne_true}
 use Rattle.std.proofs.lemmas.List.{length-map}
 use Rattle.std.proofs.lemmas.List.Sums.{position_or_len_is}
-use Rattle.snow_board.specs.Board.{Board}
+use Rattle.snow_board.specs.Model.Board.{Board}
 use Rattle.snow_issue.specs.declared.work.Waiting.{Waiting}
 use Rattle.snow_lineup.specs.declared.marks.Mark.{Mark}
 use Rattle.snow_lineup.specs.declared.marks.Mark.TheVariants.{New, Quiet, Ripe}
-use Rattle.snow_issue.specs.Lists.{asked_in, waits_below}
-use Rattle.snow_issue.specs.Offering.{is_on}
-use Rattle.snow_issue.specs.Settling.{is_hopeless, is_ready}
-use Rattle.snow_issue.specs.Known.{Seen, Knows, NoneRipe, items_of, lists_of}
-use Rattle.snow_lineup.specs.Marks.{has}
-use Rattle.snow_lineup.specs.Marks.{IsOnlyAt}
+use Rattle.snow_issue.specs.Model.Lists.{asked_in, waits_below}
+use Rattle.snow_issue.specs.Model.Offering.{is_on}
+use Rattle.snow_issue.specs.Model.Settling.{is_hopeless, is_ready}
+use Rattle.snow_issue.specs.Kept.Known.{Seen, Knows, NoneRipe, items_of, lists_of}
+use Rattle.snow_lineup.specs.Kept.Marks.{has}
+use Rattle.snow_lineup.specs.Kept.Marks.{IsOnlyAt}
 use Rattle.snow_issue.proofs.Looked.{items_at, known_not_hopeless, not_hopeless, ready_is_ripe}
 use Rattle.snow_issue.proofs.Resting.{find_fails}
 

@@ -5,18 +5,18 @@ use Rattle.std.proofs.lemmas.Bool.{cases_lt, both_ways}
 use Rattle.std.proofs.lemmas.List.{length-set, get_or-set_same, get_or-set_other, get_or-map, length-map, map-set, set-get_or}
 use Rattle.std.proofs.lemmas.List.Elements.{All-set, All-head, All-tail}
 use Rattle.std.proofs.lemmas.List.Sums.{position_or_len_is, fails_before_first, passes_at_first, prefix_len-le-length}
-use Rattle.snow_board.specs.Board.{Board}
+use Rattle.snow_board.specs.Model.Board.{Board}
 use Rattle.snow_issue.specs.declared.work.Waiting.{Waiting}
 use Rattle.snow_issue.specs.declared.work.Get.{Get}
 use Rattle.snow_issue.specs.declared.work.Held.{Held}
 use Rattle.snow_lineup.specs.declared.marks.Mark.{Mark}
 use Rattle.snow_lineup.specs.declared.marks.Mark.TheVariants.{New, Quiet, Ripe}
-use Rattle.snow_issue.specs.Lists.{waits_below, asked_in}
-use Rattle.snow_issue.specs.Offering.{is_on}
-use Rattle.snow_issue.specs.Settling.{is_hopeless_by, is_ready, is_free_by}
-use Rattle.snow_issue.specs.Known.{items_of, sight, Tells}
-use Rattle.snow_lineup.specs.Marks.{has, is_mark}
-use Rattle.snow_issue.specs.Keeping.{Rests}
+use Rattle.snow_issue.specs.Model.Lists.{waits_below, asked_in}
+use Rattle.snow_issue.specs.Model.Offering.{is_on}
+use Rattle.snow_issue.specs.Model.Settling.{is_hopeless_by, is_ready, is_free_by}
+use Rattle.snow_issue.specs.Kept.Known.{items_of, sight, Tells}
+use Rattle.snow_lineup.specs.Kept.Marks.{has, is_mark}
+use Rattle.snow_issue.specs.Kept.Keeping.{Rests}
 
 -- ---- places
 

@@ -5,7 +5,7 @@ use Rattle.std.specs.Option.{is_some, option_map_or}
 use Rattle.std.specs.Str.{bytes_eq}
 use Rattle.std.proofs.lemmas.Bool.{or_parts, both_ways, false_from_ne_true}
 use Rattle.std.proofs.lemmas.List.Folds.{list_any-append}
-use Rattle.snow_issue.specs.Index.{AreNamedApart}
+use Rattle.snow_issue.specs.Kept.Index.{AreNamedApart}
 use Rattle.snow_lineup.proofs.Noted.{same_id, id_turned}
 use Rattle.snow_lineup.proofs.Booleans.{or_false, or_true}
 

@@ -6,7 +6,7 @@ use Rattle.std.proofs.lemmas.List.{get_or_default}
 use Rattle.snow_issue.specs.declared.work.Held.{Held}
 use Rattle.snow_lineup.specs.declared.marks.Mark.{Mark}
 use Rattle.snow_lineup.specs.declared.marks.Mark.TheVariants.{New}
-use Rattle.snow_lineup.specs.Marks.{has}
+use Rattle.snow_lineup.specs.Kept.Marks.{has}
 use Rattle.snow_issue.proofs.Asking.{first_at}
 
 -- a reply is the first new one

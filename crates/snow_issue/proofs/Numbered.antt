@@ -15,9 +15,9 @@ use Rattle.std.proofs.lemmas.Map.Lookups.{CmpEqualImpliesEq, exact_bytes}
 use Rattle.std.proofs.lemmas.Map.Text.{is_eq-slice_cmp}
 use Rattle.snow_issue.specs.declared.backlog.Kept.{Kept}
 use Rattle.snow_issue.specs.declared.work.Held.{Held}
-use Rattle.snow_issue.specs.Lists.{holds_in, is_reply}
-use Rattle.snow_issue.specs.Known.{items_of}
-use Rattle.snow_issue.specs.Arrivals.{Entries, at_arrival, seat_of, reply_key, IsFiled}
+use Rattle.snow_issue.specs.Model.Lists.{holds_in, is_reply}
+use Rattle.snow_issue.specs.Kept.Known.{items_of}
+use Rattle.snow_issue.specs.Kept.Arrivals.{Entries, at_arrival, seat_of, reply_key, IsFiled}
 use Rattle.snow_issue.proofs.Stocked.{same_number, number_itself, number_apart, each}
 use Rattle.snow_lineup.proofs.Booleans.{or_true}
 use Rattle.snow_lineup.proofs.Noted.{same_id, id_itself}

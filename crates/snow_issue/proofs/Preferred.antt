@@ -2,13 +2,13 @@
 use Rattle.std.proofs.Common.{◌≡◌, ℕ, Bool, true, false, ◌||◌, ◌&&◌, cond, List, [], ◌∷◌, bytes_eq, Option, Some, None, refl, sym, ap, ◌∙◌}
 use Rattle.std.specs.Option.{is_some, option_map}
 use Rattle.std.proofs.lemmas.Bool.{or_left, or_right}
-use Rattle.snow_flake.specs.Rule.{Answer}
-use Rattle.snow_board.specs.Conflict.{Pending}
-use Rattle.snow_board.specs.Conflict.{Counters, leads_to}
-use Rattle.snow_board.specs.Board.{Board, block_of, is_pending}
-use Rattle.snow_board.specs.Preference.{path_from, end_of, preferred}
+use Rattle.snow_flake.specs.Model.Rule.{Answer}
+use Rattle.snow_board.specs.Model.Conflict.{Pending}
+use Rattle.snow_board.specs.Model.Conflict.{Counters, leads_to}
+use Rattle.snow_board.specs.Model.Board.{Board, block_of, is_pending}
+use Rattle.snow_board.specs.Model.Preference.{path_from, end_of, preferred}
 use Rattle.snow_board.proofs.Cases.{split_on}
-use Rattle.snow_issue.specs.Offering.{is_on}
+use Rattle.snow_issue.specs.Model.Offering.{is_on}
 use Rattle.snow_issue.proofs.Named.{is_named, named_is_some}
 
 abbrev id_of : Pending → List ℕ

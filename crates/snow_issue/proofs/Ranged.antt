@@ -12,8 +12,8 @@ use Rattle.std.proofs.lemmas.List.Elements.{filter-append}
 use Rattle.std.proofs.lemmas.List.Quantifiers.{all_pairs_push}
 use Rattle.snow_issue.specs.declared.backlog.Kept.{Kept}
 use Rattle.snow_issue.specs.declared.roll.Place.{Place}
-use Rattle.snow_issue.specs.Arrivals.{Entries, at_arrival}
-use Rattle.snow_issue.specs.Roll.{entry_of, is_here, entries_of, Rises}
+use Rattle.snow_issue.specs.Kept.Arrivals.{Entries, at_arrival}
+use Rattle.snow_issue.specs.Kept.Roll.{entry_of, is_here, entries_of, Rises}
 use Rattle.snow_issue.proofs.Stocked.{number_itself, number_apart}
 
 -- ---- numbers rise

@@ -7,20 +7,20 @@ use Rattle.std.proofs.lemmas.Bool.{both_ways, false_from_ne_true, or_parts, or_f
 use Rattle.std.proofs.lemmas.List.Folds.{list_any-append}
 use Rattle.snow_base.specs.declared.header.Header.{Header}
 use Rattle.snow_base.specs.declared.vote.Vote.{Vote}
-use Rattle.snow_board.specs.Conflict.{Pending}
-use Rattle.snow_board.specs.Conflict.{Counters, decides}
-use Rattle.snow_board.specs.Board.{Board, issued, with_counters, with_issued, new_pending, blocks_of}
-use Rattle.snow_board.specs.Poll.{with_votes, counted, winner, promoted, poll}
+use Rattle.snow_board.specs.Model.Conflict.{Pending}
+use Rattle.snow_board.specs.Model.Conflict.{Counters, decides}
+use Rattle.snow_board.specs.Model.Board.{Board, issued, with_counters, with_issued, new_pending, blocks_of}
+use Rattle.snow_board.specs.Model.Poll.{with_votes, counted, winner, promoted, poll}
 use Rattle.snow_board.proofs.Invariant.{settled_keeps}
 use Rattle.snow_board.proofs.Lookup.{found}
 use Rattle.snow_issue.specs.declared.work.Waiting.{Waiting}
 use Rattle.snow_issue.specs.declared.work.Get.{Get}
 use Rattle.snow_lineup.specs.declared.marks.Mark.{Mark}
 use Rattle.snow_lineup.specs.declared.marks.Mark.TheVariants.{New, Quiet, Ripe}
-use Rattle.snow_issue.specs.Lists.{asked_in, waits_below}
-use Rattle.snow_issue.specs.Offering.{is_on}
-use Rattle.snow_issue.specs.Known.{Seen, items_of, sight, Tells, Knows, ForgetsChildren, NoneRipe}
-use Rattle.snow_lineup.specs.Marks.{is_mark, has}
+use Rattle.snow_issue.specs.Model.Lists.{asked_in, waits_below}
+use Rattle.snow_issue.specs.Model.Offering.{is_on}
+use Rattle.snow_issue.specs.Kept.Known.{Seen, items_of, sight, Tells, Knows, ForgetsChildren, NoneRipe}
+use Rattle.snow_lineup.specs.Kept.Marks.{is_mark, has}
 use Rattle.snow_issue.proofs.Looked.{quiet_off}
 use Rattle.snow_lineup.proofs.Noted.{id_turned}
 use Rattle.snow_lineup.proofs.Booleans.{or_false, or_true, or_assoc}

@@ -4,7 +4,7 @@ use Rattle.std.specs.Option.{option_map}
 use Rattle.std.proofs.lemmas.Bool.Decides.{nat_tests}
 use Rattle.std.proofs.lemmas.List.Elements.{All-set}
 use Rattle.snow_base.specs.declared.header.Header.{Header}
-use Rattle.snow_board.specs.Board.{Board}
+use Rattle.snow_board.specs.Model.Board.{Board}
 use Rattle.snow_board.proofs.Cases.{same_id}
 use Rattle.snow_issue.specs.declared.work.Waiting.{Waiting}
 use Rattle.snow_issue.specs.declared.work.Get.{Get}
@@ -12,11 +12,11 @@ use Rattle.snow_issue.specs.declared.work.Held.{Held}
 use Rattle.snow_issue.specs.declared.work.Work.TheVariants as work
 use Rattle.snow_lineup.specs.declared.marks.Mark.{Mark}
 use Rattle.snow_lineup.specs.declared.marks.Mark.TheVariants.{Quiet, Ripe}
-use Rattle.snow_issue.specs.Lists.{asked_in, waits_below}
-use Rattle.snow_issue.specs.Offering.{is_on}
-use Rattle.snow_issue.specs.Settling.{is_free, IsIdle}
-use Rattle.snow_issue.specs.Known.{Seen, items_of, Knows, NoneNew, NoneRipe, lists_of, sight}
-use Rattle.snow_lineup.specs.Marks.{has}
+use Rattle.snow_issue.specs.Model.Lists.{asked_in, waits_below}
+use Rattle.snow_issue.specs.Model.Offering.{is_on}
+use Rattle.snow_issue.specs.Model.Settling.{is_free, IsIdle}
+use Rattle.snow_issue.specs.Kept.Known.{Seen, items_of, Knows, NoneNew, NoneRipe, lists_of, sight}
+use Rattle.snow_lineup.specs.Kept.Marks.{has}
 use Rattle.snow_issue.proofs.Resting.{resting}
 
 quiet : (on other : Bool) → on ≡ false → other ≡ true → cond on (Some Ripe) (cond other (Some Quiet) None) ≡ Some Quiet

@@ -3,13 +3,13 @@ use Rattle.std.proofs.Common.{◌≡◌, ◌<◌, Bool, false, cond, List, [], �
 use Rattle.std.specs.Option.{option_map, option_or}
 use Rattle.std.proofs.lemmas.List.{length-map}
 use Rattle.std.proofs.lemmas.List.Elements.{All-head, All-tail}
-use Rattle.snow_board.specs.Board.{Board}
+use Rattle.snow_board.specs.Model.Board.{Board}
 use Rattle.snow_issue.specs.declared.work.Waiting.{Waiting}
 use Rattle.snow_issue.specs.declared.work.Work.TheVariants as work
 use Rattle.snow_lineup.specs.declared.marks.Mark.{Mark}
 use Rattle.snow_lineup.specs.declared.marks.Mark.TheVariants.{New}
-use Rattle.snow_issue.specs.Settling.{work_of, is_hopeless, is_ready, is_free}
-use Rattle.snow_issue.specs.Known.{Seen, Knows, NoneNew, NoneRipe, lists_of, items_of}
+use Rattle.snow_issue.specs.Model.Settling.{work_of, is_hopeless, is_ready, is_free}
+use Rattle.snow_issue.specs.Kept.Known.{Seen, Knows, NoneNew, NoneRipe, lists_of, items_of}
 use Rattle.snow_issue.proofs.Looked.{items_at, known_not_hopeless, ready_is_ripe}
 
 -- where all fail, none is found

@@ -13,10 +13,10 @@ use Rattle.snow_issue.specs.declared.backlog.Kept.{Kept}
 use Rattle.snow_issue.specs.declared.work.Held.{Held}
 use Rattle.snow_lineup.specs.declared.marks.Mark.{Mark}
 use Rattle.snow_lineup.specs.declared.marks.Mark.TheVariants.{New, Quiet}
-use Rattle.snow_lineup.specs.Marks.{has}
-use Rattle.snow_lineup.specs.Index.{woken}
-use Rattle.snow_issue.specs.Known.{items_of}
-use Rattle.snow_issue.specs.Arrivals.{Entries, at_arrival, mark_of, seat_of, loud, woken_among, IsFirst, AreQuiet, stays}
+use Rattle.snow_lineup.specs.Kept.Marks.{has}
+use Rattle.snow_lineup.specs.Kept.Index.{woken}
+use Rattle.snow_issue.specs.Kept.Known.{items_of}
+use Rattle.snow_issue.specs.Kept.Arrivals.{Entries, at_arrival, mark_of, seat_of, loud, woken_among, IsFirst, AreQuiet, stays}
 use Rattle.snow_issue.proofs.Stocked.{none_before, behind_first, first_there, each}
 use Rattle.snow_lineup.proofs.Booleans.{or_false}
 

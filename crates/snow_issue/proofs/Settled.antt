@@ -5,18 +5,18 @@ use Rattle.std.specs.Option.{option_map}
 use Rattle.std.proofs.lemmas.Bool.{cases_lt, lt-ltb, le-ltb}
 use Rattle.std.proofs.lemmas.List.{length-map, length_push, length-take, length-drop, length-append}
 use Rattle.std.proofs.lemmas.List.Edits.{length-remove}
-use Rattle.snow_board.specs.Board.{Board}
+use Rattle.snow_board.specs.Model.Board.{Board}
 use Rattle.snow_issue.specs.declared.work.Waiting.{Waiting}
 use Rattle.snow_issue.specs.declared.work.Get.{Get}
 use Rattle.snow_issue.specs.declared.work.Held.{Held}
 use Rattle.snow_issue.specs.declared.gone.Gone.{Gone}
 use Rattle.snow_lineup.specs.declared.marks.Mark.{Mark}
 use Rattle.snow_lineup.specs.declared.marks.Mark.TheVariants.{New}
-use Rattle.snow_issue.specs.Gone.{with_gone}
-use Rattle.snow_issue.specs.Lists.{Lists, with_get, is_get, without, asked_in, AreWithinLimits}
-use Rattle.snow_issue.specs.Known.{Seen, items_of, lists_of, Tells, Knows}
-use Rattle.snow_lineup.specs.Index.{woken, forgotten}
-use Rattle.snow_issue.specs.Keeping.{IsKept, Rests}
+use Rattle.snow_issue.specs.Model.Gone.{with_gone}
+use Rattle.snow_issue.specs.Model.Lists.{Lists, with_get, is_get, without, asked_in, AreWithinLimits}
+use Rattle.snow_issue.specs.Kept.Known.{Seen, items_of, lists_of, Tells, Knows}
+use Rattle.snow_lineup.specs.Kept.Index.{woken, forgotten}
+use Rattle.snow_issue.specs.Kept.Keeping.{IsKept, Rests}
 use Rattle.snow_issue.proofs.Taken.{items_woken, items_forgotten, items_pushed, items_removed, item_is, rests_left, rests_stay, rests_closed, rests_asked, rests_pushed}
 
 -- ---- lengths

@@ -3,14 +3,14 @@ use Rattle.std.proofs.Common.{◌≡◌, ℕ, ◌<◌, ◌≤◌, Bool, true, Li
 use Rattle.std.specs.List.{remove, position_or_len}
 use Rattle.std.specs.Option.{option_map, option_or}
 use Rattle.std.proofs.lemmas.List.{length-map}
-use Rattle.snow_board.specs.Board.{Board}
+use Rattle.snow_board.specs.Model.Board.{Board}
 use Rattle.snow_issue.specs.declared.work.Waiting.{Waiting}
 use Rattle.snow_issue.specs.declared.work.Work.TheVariants as work
 use Rattle.snow_lineup.specs.declared.marks.Mark.{Mark}
-use Rattle.snow_issue.specs.Lists.{Lists, without, asked_in}
-use Rattle.snow_issue.specs.Settling.{work_of, after, is_hopeless, is_ready, is_free, gone_with}
-use Rattle.snow_issue.specs.Known.{Seen, Knows, items_of, lists_of}
-use Rattle.snow_lineup.specs.Index.{woken}
+use Rattle.snow_issue.specs.Model.Lists.{Lists, without, asked_in}
+use Rattle.snow_issue.specs.Model.Settling.{work_of, after, is_hopeless, is_ready, is_free, gone_with}
+use Rattle.snow_issue.specs.Kept.Known.{Seen, Knows, items_of, lists_of}
+use Rattle.snow_lineup.specs.Kept.Index.{woken}
 use Rattle.snow_issue.proofs.Looked.{found_first, found_none, within_length}
 use Rattle.snow_issue.proofs.Settled.{lists_by, knows_from, items_left}
 use Rattle.snow_issue.proofs.Taken.{item_is, tells_left, tells_stay}

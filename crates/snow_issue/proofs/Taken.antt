@@ -6,20 +6,20 @@ use Rattle.std.proofs.lemmas.Bool.{or_left, not-false}
 use Rattle.std.proofs.lemmas.List.{get_or-map, length-map}
 use Rattle.std.proofs.lemmas.List.Elements.{All-map, All-weaker, All-push}
 use Rattle.std.proofs.lemmas.List.Folds.{list_any-append}
-use Rattle.snow_board.specs.Board.{Board}
+use Rattle.snow_board.specs.Model.Board.{Board}
 use Rattle.snow_issue.specs.declared.work.Waiting.{Waiting}
 use Rattle.snow_issue.specs.declared.work.Get.{Get}
 use Rattle.snow_issue.specs.declared.work.Held.{Held}
 use Rattle.snow_lineup.specs.declared.marks.Mark.{Mark}
 use Rattle.snow_lineup.specs.declared.marks.Mark.TheVariants.{New, Quiet, Ripe}
-use Rattle.snow_issue.specs.Lists.{waits_among, waits_below, asked_in, with_get, is_get, without}
-use Rattle.snow_issue.specs.Offering.{is_on}
-use Rattle.snow_issue.specs.Settling.{is_free_by}
-use Rattle.snow_issue.specs.Known.{items_of, sight, Tells, ForgetsChildren, NoneRipe}
-use Rattle.snow_lineup.specs.Marks.{is_mark, has}
+use Rattle.snow_issue.specs.Model.Lists.{waits_among, waits_below, asked_in, with_get, is_get, without}
+use Rattle.snow_issue.specs.Model.Offering.{is_on}
+use Rattle.snow_issue.specs.Model.Settling.{is_free_by}
+use Rattle.snow_issue.specs.Kept.Known.{items_of, sight, Tells, ForgetsChildren, NoneRipe}
+use Rattle.snow_lineup.specs.Kept.Marks.{is_mark, has}
 use Rattle.snow_lineup.proofs.Noted.{same_id, id_turned}
-use Rattle.snow_lineup.specs.Index.{woken, forgotten}
-use Rattle.snow_issue.specs.Keeping.{Rests}
+use Rattle.snow_lineup.specs.Kept.Index.{woken, forgotten}
+use Rattle.snow_issue.specs.Kept.Keeping.{Rests}
 use Rattle.snow_lineup.proofs.Tagged.{All_remove, map_remove}
 use Rattle.snow_issue.proofs.Asking.{asked_with, first_at}
 

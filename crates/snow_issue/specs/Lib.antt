@@ -1,12 +1,3 @@
-pub mod Gone
-pub mod Lists
-pub mod Offering
-pub mod Settling
-pub mod Bubbling
-pub mod BubblingLaw
-pub mod Known
-pub mod KnownLaw
-pub mod Index
-pub mod Arrivals
-pub mod Roll
-pub mod Keeping
+pub mod Model
+pub mod Laws
+pub mod Kept

@@ -6,7 +6,7 @@ ghost use Rattle.std.specs.Ordering.{nat_cmp};
 ghost use Rattle.std.specs.List.Sorted.{IsStrictlySortedBy};
 ghost use Rattle.std.specs.Map.{keys_of, remove_entry};
 ghost use Rattle.snow_issue.specs.declared.backlog.Kept.{Kept};
-ghost use Rattle.snow_issue.specs.Arrivals.{at_arrival, woken_among, filed, names, LeavesEach};
+ghost use Rattle.snow_issue.specs.Kept.Arrivals.{at_arrival, woken_among, filed, names, LeavesEach};
 
 use crate::backlog::Backlog;
 use crate::work::Held;

@@ -5,7 +5,7 @@ ghost use Rattle.std.specs.List.Sorted.{IsStrictlySortedBy};
 ghost use Rattle.std.specs.Map.{keys_of, set_value, remove_entry};
 ghost use Rattle.std.specs.Option.{option_map};
 ghost use Rattle.std.specs.Ordering.{nat_cmp};
-ghost use Rattle.snow_issue.specs.Arrivals.{at_arrival, woken_among, is_noted, IsBacklog, IsFirst, AreQuiet};
+ghost use Rattle.snow_issue.specs.Kept.Arrivals.{at_arrival, woken_among, is_noted, IsBacklog, IsFirst, AreQuiet};
 ghost use Rattle.snow_issue.specs.declared.backlog.Kept.{Kept};
 
 use crate::roll::Roll;
@@ -45,7 +45,7 @@ impl Model for Backlog {
     ghost use Rattle.std.specs.Prelude.{List, ℕ};
     ghost use Rattle.std.specs.BinaryHeap.{heap_items, heap_len, heap_capacity};
     ghost use Rattle.snow_issue.specs.declared.backlog.Kept.{Kept};
-    ghost use Rattle.snow_issue.specs.Arrivals.{IsBacklog};
+    ghost use Rattle.snow_issue.specs.Kept.Arrivals.{IsBacklog};
 
     ghost Value = { List (ℕ × Kept) };
 

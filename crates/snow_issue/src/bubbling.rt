@@ -1,6 +1,6 @@
 ghost use Rattle.std.specs.Prelude.{◌≡◌};
-ghost use Rattle.snow_board.specs.Board.{is_pending};
-ghost use Rattle.snow_issue.specs.Bubbling.{bubbled_in};
+ghost use Rattle.snow_board.specs.Model.Board.{is_pending};
+ghost use Rattle.snow_issue.specs.Model.Bubbling.{bubbled_in};
 
 use crate::gone::GoneList;
 use snow_base::Id;

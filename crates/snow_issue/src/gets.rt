@@ -1,7 +1,7 @@
 ghost use Rattle.std.specs.Prelude.{◌≡◌, ◌++◌, false, [], None, length, find, OnOk, OnErr};
 ghost use Rattle.std.specs.Option.{option_map, option_to_list};
-ghost use Rattle.snow_issue.specs.Index.{StandsAlone};
-ghost use Rattle.snow_issue.specs.Lists.{asked_in, has_number, is_get, with_get, without};
+ghost use Rattle.snow_issue.specs.Kept.Index.{StandsAlone};
+ghost use Rattle.snow_issue.specs.Model.Lists.{asked_in, has_number, is_get, with_get, without};
 
 use crate::get_map::GetMap;
 use crate::work::Get;
@@ -24,7 +24,7 @@ impl Model for Gets {
     ghost use Rattle.std.specs.Prelude.{List, ◌++◌};
     ghost use Rattle.std.specs.Option.{option_to_list};
     ghost use Rattle.snow_issue.specs.declared.work.Get.{Get};
-    ghost use Rattle.snow_issue.specs.Index.{StandsAlone};
+    ghost use Rattle.snow_issue.specs.Kept.Index.{StandsAlone};
 
     ghost Value = { List Get };
 

@@ -1,6 +1,6 @@
 ghost use Rattle.std.specs.Prelude.{◌≡◌, [], IfOk};
 ghost use Rattle.std.specs.Option.{option_copied};
-ghost use Rattle.snow_issue.specs.Gone.{with_gone, latest, stands_for, holds};
+ghost use Rattle.snow_issue.specs.Model.Gone.{with_gone, latest, stands_for, holds};
 
 use snow_base::Id;
 use snow_recent::{Named, Recent};

@@ -1,7 +1,7 @@
 //! Laws of what a queue remembers of the board, and of the votes of held replies, each a function
 //! that does nothing and ensures the law.
-ghost use Rattle.snow_issue.specs.BubblingLaw.{BubblingLaw};
-ghost use Rattle.snow_issue.specs.KnownLaw.{StaysKnownAtIssue, StaysKnownAtPoll};
+ghost use Rattle.snow_issue.specs.Laws.BubblingLaw.{BubblingLaw};
+ghost use Rattle.snow_issue.specs.Laws.KnownLaw.{StaysKnownAtIssue, StaysKnownAtPoll};
 
 /// After `Queue::next_known` returned `Ready`, what the queue remembers stays true when that block
 /// is issued: it remembers nothing of the block's children.

@@ -1,12 +1,12 @@
 ghost use Rattle.std.specs.Prelude.{◌≡◌, ◌<◌, true, false, All, length, find, IsSome};
 ghost use Rattle.std.specs.List.{position_or_len};
-ghost use Rattle.snow_board.specs.Board as model;
+ghost use Rattle.snow_board.specs.Model.Board as model;
 ghost use Rattle.snow_lineup.specs.declared.marks.Mark.TheVariants.{New};
-ghost use Rattle.snow_issue.specs.Settling.{is_hopeless_by, is_free_by};
-ghost use Rattle.snow_issue.specs.Offering.{is_on};
-ghost use Rattle.snow_issue.specs.Known.{items_of, sight, Tells, NoneNew, NoneRipe};
-ghost use Rattle.snow_lineup.specs.Marks.{has};
-ghost use Rattle.snow_issue.specs.Keeping.{Rests};
+ghost use Rattle.snow_issue.specs.Model.Settling.{is_hopeless_by, is_free_by};
+ghost use Rattle.snow_issue.specs.Model.Offering.{is_on};
+ghost use Rattle.snow_issue.specs.Kept.Known.{items_of, sight, Tells, NoneNew, NoneRipe};
+ghost use Rattle.snow_lineup.specs.Kept.Marks.{has};
+ghost use Rattle.snow_issue.specs.Kept.Keeping.{Rests};
 
 use crate::gets::Gets;
 use crate::offering::is_on;

@@ -1,8 +1,8 @@
 ghost use Rattle.std.specs.Prelude.{◌≡◌, ◌||◌, [], is_some, nat_le};
 ghost use Rattle.std.specs.Option.{option_and_then, option_copied};
-ghost use Rattle.snow_issue.specs.Offering.{is_on, is_unknown, wanted, is_high, asks, refusal};
-ghost use Rattle.snow_issue.specs.Lists.{waits};
-ghost use Rattle.snow_issue.specs.Keeping.{parts};
+ghost use Rattle.snow_issue.specs.Model.Offering.{is_on, is_unknown, wanted, is_high, asks, refusal};
+ghost use Rattle.snow_issue.specs.Model.Lists.{waits};
+ghost use Rattle.snow_issue.specs.Kept.Keeping.{parts};
 
 use crate::gets::Gets;
 use crate::gone::{Gone, GoneList};

@@ -1,14 +1,14 @@
 ghost use Rattle.std.specs.Prelude.{◌≡◌, ◌<◌, List, find, length, Some, None, IfOk, OnOk, OnErr, true, false};
 ghost use Rattle.std.specs.Option.{option_map};
-ghost use Rattle.snow_board.specs.Board as model;
+ghost use Rattle.snow_board.specs.Model.Board as model;
 ghost use Rattle.snow_issue.specs.declared.work.Get.{Get};
 ghost use Rattle.snow_issue.specs.declared.work.Waiting.{Waiting};
 ghost use Rattle.snow_issue.specs.declared.gone.Gone.{Gone};
-ghost use Rattle.snow_issue.specs.Lists.{begun, has_number, is_asked, is_get, holds_in, after_asked, after_closed, after_held, after_forgotten, after_gone, AreWithinLimits};
-ghost use Rattle.snow_issue.specs.Offering.{is_on, offered, after_offer, refusal, is_next, wanted};
-ghost use Rattle.snow_issue.specs.Settling.{work_of, after, is_free, IsIdle};
+ghost use Rattle.snow_issue.specs.Model.Lists.{begun, has_number, is_asked, is_get, holds_in, after_asked, after_closed, after_held, after_forgotten, after_gone, AreWithinLimits};
+ghost use Rattle.snow_issue.specs.Model.Offering.{is_on, offered, after_offer, refusal, is_next, wanted};
+ghost use Rattle.snow_issue.specs.Model.Settling.{work_of, after, is_free, IsIdle};
 ghost use Rattle.snow_issue.specs.declared.work.Work.TheVariants as work;
-ghost use Rattle.snow_issue.specs.Known.{lists_of, Knows, ForgetsChildren, NoneRipe, RestsAfter, TakesStep};
+ghost use Rattle.snow_issue.specs.Kept.Known.{lists_of, Knows, ForgetsChildren, NoneRipe, RestsAfter, TakesStep};
 
 use crate::gets::Gets;
 use crate::gone::{Gone, GoneList};
@@ -36,8 +36,8 @@ pub struct Queue {
 }
 
 impl Model for Queue {
-    ghost use Rattle.snow_issue.specs.Known.{Seen, items_of};
-    ghost use Rattle.snow_issue.specs.Keeping.{IsKept};
+    ghost use Rattle.snow_issue.specs.Kept.Known.{Seen, items_of};
+    ghost use Rattle.snow_issue.specs.Kept.Keeping.{IsKept};
 
     ghost Value = { Seen };
 

@@ -1,10 +1,10 @@
 ghost use Rattle.std.specs.Prelude.{◌≡◌, ℕ, ◌<◌, ◌==◌, ◌&&◌, ◌∷◌, ◌++◌, [], List, map, not, filter, find, true, false, length, slice_set, HoldsAt, Some, None, OnOk, OnErr, if◌then◌else◌};
 ghost use Rattle.std.specs.List.{position_or_len, remove};
 ghost use Rattle.std.specs.Option.{option_map};
-ghost use Rattle.snow_issue.specs.Known.{items_of};
-ghost use Rattle.snow_lineup.specs.Marks.{has};
-ghost use Rattle.snow_lineup.specs.Index.{woken};
-ghost use Rattle.snow_issue.specs.Lists.{holds_in};
+ghost use Rattle.snow_issue.specs.Kept.Known.{items_of};
+ghost use Rattle.snow_lineup.specs.Kept.Marks.{has};
+ghost use Rattle.snow_lineup.specs.Kept.Index.{woken};
+ghost use Rattle.snow_issue.specs.Model.Lists.{holds_in};
 
 use crate::arrivals;
 use crate::backlog::Backlog;
@@ -30,7 +30,7 @@ impl Model for Replies {
     ghost use Rattle.std.specs.Prelude.{List, map};
     ghost use Rattle.snow_issue.specs.declared.work.Held.{Held};
     ghost use Rattle.snow_lineup.specs.declared.marks.Mark.{Mark};
-    ghost use Rattle.snow_issue.specs.Arrivals.{IsFiled, seat_of, filed, names};
+    ghost use Rattle.snow_issue.specs.Kept.Arrivals.{IsFiled, seat_of, filed, names};
 
     ghost Value = { List (Held × Mark) };
 

@@ -3,8 +3,8 @@ ghost use Rattle.std.specs.BTreeMap.{is_at};
 ghost use Rattle.std.specs.List.Sorted.{IsStrictlySortedBy};
 ghost use Rattle.std.specs.Map.{keys_of, set_value, remove_entry};
 ghost use Rattle.std.specs.Ordering.{nat_cmp};
-ghost use Rattle.snow_issue.specs.Arrivals.{at_arrival};
-ghost use Rattle.snow_issue.specs.Roll.{Rises, is_here, entries_of};
+ghost use Rattle.snow_issue.specs.Kept.Arrivals.{at_arrival};
+ghost use Rattle.snow_issue.specs.Kept.Roll.{Rises, is_here, entries_of};
 ghost use Rattle.snow_issue.specs.declared.roll.Place.{Place};
 ghost use Rattle.snow_issue.specs.declared.backlog.Kept.{Kept};
 
@@ -29,8 +29,8 @@ pub(crate) struct Roll {
 }
 
 impl Model for Roll {
-    ghost use Rattle.snow_issue.specs.Arrivals.{Entries};
-    ghost use Rattle.snow_issue.specs.Roll.{entries_of, IsRoll};
+    ghost use Rattle.snow_issue.specs.Kept.Arrivals.{Entries};
+    ghost use Rattle.snow_issue.specs.Kept.Roll.{entries_of, IsRoll};
 
     ghost Value = { Entries };
 

@@ -1,12 +1,12 @@
 ghost use Rattle.std.specs.Prelude.{◌≡◌, ◌<◌, ◌≤◌, true, None, IfSome, find, is_some, map, length, HoldsAt, if◌then◌else◌};
 ghost use Rattle.std.specs.List.{position_or_len, remove};
 ghost use Rattle.snow_lineup.specs.declared.marks.Mark.TheVariants.{New};
-ghost use Rattle.snow_issue.specs.Settling.{is_hopeless, is_ready, is_free, gone_with};
-ghost use Rattle.snow_board.specs.Board as model;
-ghost use Rattle.snow_issue.specs.Lists.{without, is_asked, AreWithinLimits};
-ghost use Rattle.snow_issue.specs.Known.{items_of, lists_of, Knows, NoneRipe, TakesStep};
-ghost use Rattle.snow_lineup.specs.Marks.{has};
-ghost use Rattle.snow_lineup.specs.Index.{woken};
+ghost use Rattle.snow_issue.specs.Model.Settling.{is_hopeless, is_ready, is_free, gone_with};
+ghost use Rattle.snow_board.specs.Model.Board as model;
+ghost use Rattle.snow_issue.specs.Model.Lists.{without, is_asked, AreWithinLimits};
+ghost use Rattle.snow_issue.specs.Kept.Known.{items_of, lists_of, Knows, NoneRipe, TakesStep};
+ghost use Rattle.snow_lineup.specs.Kept.Marks.{has};
+ghost use Rattle.snow_lineup.specs.Kept.Index.{woken};
 
 use crate::gone::Gone;
 use crate::looking;

@@ -1,6 +1,6 @@
 ghost use Rattle.std.specs.Prelude.{◌≡◌, Some, true};
-ghost use Rattle.snow_issue.specs.Bubbling.{bubbled, vote_at_once, is_own_vote};
-ghost use Rattle.snow_issue.specs.Known.{lists_of};
+ghost use Rattle.snow_issue.specs.Model.Bubbling.{bubbled, vote_at_once, is_own_vote};
+ghost use Rattle.snow_issue.specs.Kept.Known.{lists_of};
 
 use crate::bubbling;
 use crate::queue::Queue;

@@ -1,9 +1,9 @@
 ghost use Rattle.std.specs.Prelude.{◌≡◌, ◌+◌, ◌-◌, ◌==◌, IfSome, ◌<◌, ◌∷◌, ◌++◌, [], List, map, true, false, length, slice_set, HoldsAt, OnOk, OnErr};
 ghost use Rattle.std.specs.List.{position_or_len, remove};
-ghost use Rattle.snow_issue.specs.Known.{items_of, NoneNew, NoneRipe};
-ghost use Rattle.snow_issue.specs.Lists.{waits_among, waits_below};
-ghost use Rattle.snow_lineup.specs.Marks.{has, IsOnlyAt};
-ghost use Rattle.snow_lineup.specs.Index.{woken, forgotten};
+ghost use Rattle.snow_issue.specs.Kept.Known.{items_of, NoneNew, NoneRipe};
+ghost use Rattle.snow_issue.specs.Model.Lists.{waits_among, waits_below};
+ghost use Rattle.snow_lineup.specs.Kept.Marks.{has, IsOnlyAt};
+ghost use Rattle.snow_lineup.specs.Kept.Index.{woken, forgotten};
 
 use crate::work::Waiting;
 use snow_base::{Header, Id};
@@ -32,9 +32,9 @@ impl Model for WaitingList {
     ghost use Rattle.std.specs.Prelude.{List};
     ghost use Rattle.snow_issue.specs.declared.work.Waiting.{Waiting};
     ghost use Rattle.snow_lineup.specs.declared.marks.Mark.{Mark};
-    ghost use Rattle.snow_issue.specs.Known.{items_of};
-    ghost use Rattle.snow_issue.specs.Index.{HasHeights};
-    ghost use Rattle.snow_map.specs.Entries.{value_of};
+    ghost use Rattle.snow_issue.specs.Kept.Known.{items_of};
+    ghost use Rattle.snow_issue.specs.Kept.Index.{HasHeights};
+    ghost use Rattle.snow_map.specs.Clauses.Entries.{value_of};
 
     ghost Value = { List (Waiting × Mark) };
 

@@ -4,8 +4,8 @@ use Rattle.std.specs.Ordering.{nat_cmp, eq_by_cmp}
 use Rattle.std.specs.Cmp.Lexicographic.{slice_cmp, nat_list_cmp_total}
 use Rattle.std.specs.FinMap.{empty, get-empty, get-insert, get-remove}
 use Rattle.std.proofs.lemmas.Option.{option_and_then_some}
-use Rattle.snow_chain.specs.Chain.{Held, state_of, next_on, begun, with_state, accepted, rejected}
-use Rattle.snow_ledger.specs.Ledger.{is_state, next, ledger_rules, HoldsStates}
+use Rattle.snow_chain.specs.Model.Chain.{Held, state_of, next_on, begun, with_state, accepted, rejected}
+use Rattle.snow_ledger.specs.Model.Ledger.{is_state, next, ledger_rules, HoldsStates}
 use Rattle.snow_ledger.proofs.Paths.{next_is_state}
 
 abbrev same : List ℕ → List ℕ → Bool

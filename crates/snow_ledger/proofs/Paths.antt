@@ -3,9 +3,9 @@ use Rattle.std.proofs.Common.{◌≡◌, ℕ, ◌<◌, Bool, true, false, cond, 
 use Rattle.std.proofs.lemmas.Bool.{and_parts, and_from}
 use Rattle.std.proofs.lemmas.List.{append-nil}
 use Rattle.std.proofs.lemmas.Option.{same_Some, option_and_then_some}
-use Rattle.snow_ledger.specs.Blocks.{header_of, transfers_of}
-use Rattle.snow_ledger.specs.Ledger.{accounts, held, next_in, total, is_state, balance, sequence, after, are_good, moved, next, takes}
-use Rattle.snow_ledger.specs.Law.{followed, transfers_along, LedgerLaw}
+use Rattle.snow_ledger.specs.Model.Blocks.{header_of, transfers_of}
+use Rattle.snow_ledger.specs.Model.Ledger.{accounts, held, next_in, total, is_state, balance, sequence, after, are_good, moved, next, takes}
+use Rattle.snow_ledger.specs.Laws.Law.{followed, transfers_along, LedgerLaw}
 use Rattle.snow_ledger.proofs.After.{accounts_after, held_after, next_after, after_after, after_none}
 use Rattle.snow_ledger.proofs.Good.{covers_all, are_good_after, are_good_more, front_good, good_at, total_after, state_facts, state_after, all_differ}
 

@@ -1,3 +1,2 @@
-pub mod Blocks
-pub mod Law
-pub mod Ledger
+pub mod Model
+pub mod Laws

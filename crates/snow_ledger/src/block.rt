@@ -1,5 +1,5 @@
 ghost use Rattle.std.specs.Prelude.{◌≡◌, ◌+◌, ◌<◌, ◌≤◌, true, length};
-ghost use Rattle.snow_ledger.specs.Blocks.{short_at, count_of, is_whole, header_of, transfer_at, transfer_in};
+ghost use Rattle.snow_ledger.specs.Model.Blocks.{short_at, count_of, is_whole, header_of, transfer_at, transfer_in};
 
 use crate::transfers::Transfer;
 use byteorder::{BigEndian, ByteOrder};

@@ -1,7 +1,7 @@
 ghost use Rattle.std.specs.Prelude.{◌≡◌, IfOk};
 ghost use Rattle.std.specs.Option.{option_map};
-ghost use Rattle.snow_chain.specs.Chain.{next_on};
-ghost use Rattle.snow_ledger.specs.Ledger.{ledger_rules, HoldsStates};
+ghost use Rattle.snow_chain.specs.Model.Chain.{next_on};
+ghost use Rattle.snow_ledger.specs.Model.Ledger.{ledger_rules, HoldsStates};
 
 use crate::block::header_of;
 use crate::state::{is_state, next};
@@ -21,9 +21,9 @@ pub struct LedgerChain {
 }
 
 impl Model for LedgerChain {
-    ghost use Rattle.snow_chain.specs.Chain.{Held};
-    ghost use Rattle.snow_chain.specs.Coded.{coded_held};
-    ghost use Rattle.snow_ledger.specs.Ledger.{HoldsStates};
+    ghost use Rattle.snow_chain.specs.Model.Chain.{Held};
+    ghost use Rattle.snow_chain.specs.Kept.Coded.{coded_held};
+    ghost use Rattle.snow_ledger.specs.Model.Ledger.{HoldsStates};
 
     ghost Value = { Held };
 
@@ -36,9 +36,9 @@ impl Model for LedgerChain {
 
 impl LedgerChain {
     ghost use Rattle.std.specs.Prelude.{◌≡◌, ℕ, ◌<◌, List, None, Some, true, nat_lt, if◌then◌else◌};
-    ghost use Rattle.snow_chain.specs.Alone.{last_state};
-    ghost use Rattle.snow_ledger.specs.Ledger as ledger;
-    ghost use Rattle.snow_ledger.specs.Law.{followed, transfers_along};
+    ghost use Rattle.snow_chain.specs.Kept.Alone.{last_state};
+    ghost use Rattle.snow_ledger.specs.Model.Ledger as ledger;
+    ghost use Rattle.snow_ledger.specs.Laws.Law.{followed, transfers_along};
 
     /// Returns the states that it holds.
     /// Rule: this project's own.
@@ -97,7 +97,7 @@ impl LedgerChain {
 }
 
 impl Chain for LedgerChain {
-    ghost use Rattle.snow_ledger.specs.Ledger.{ledger_needs_header};
+    ghost use Rattle.snow_ledger.specs.Model.Ledger.{ledger_needs_header};
 
     ghost rules = { ledger_rules };
 

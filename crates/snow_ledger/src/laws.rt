@@ -1,5 +1,5 @@
 //! The law of the ledger: a function that does nothing and ensures it.
-ghost use Rattle.snow_ledger.specs.Law.{LedgerLaw};
+ghost use Rattle.snow_ledger.specs.Laws.Law.{LedgerLaw};
 
 /// From a state with which a run may begin, along every path of valid blocks nothing is made,
 /// nothing is lost, nothing is spent twice, and nobody is ever below 0. Take all transfers of the

@@ -13,10 +13,10 @@ use Rattle.snow_lines.specs.declared.kind.Kind.{Kind}
 use Rattle.snow_lines.specs.declared.kind.Kind.TheVariants as kind
 use Rattle.snow_lines.specs.declared.line.Line.{Line}
 use Rattle.snow_lines.specs.declared.line.Line.TheVariants as line
-use Rattle.snow_lines.specs.Names.{line_kind_of}
-use Rattle.snow_lines.specs.Range.{IsDraw, IsId, IsLine, IsNode, IsNumber}
-use Rattle.snow_lines.specs.Reading.{asks, asks_accepted, before_newline, chits_at, fields_of, frontier_at, if_some, line_of, plain_at, split, tells_accepted, tells_ancestors, tells_block, whole_at, words_of, ◌>>=◌}
-use Rattle.snow_lines.specs.Text.{block_word, draw_word, fields, kind_word, listed, name, query_word, restart_word, text, why_word, words}
+use Rattle.snow_lines.specs.Model.Names.{line_kind_of}
+use Rattle.snow_lines.specs.Clauses.Range.{IsDraw, IsId, IsLine, IsNode, IsNumber}
+use Rattle.snow_lines.specs.Model.Reading.{asks, asks_accepted, before_newline, chits_at, fields_of, frontier_at, if_some, line_of, plain_at, split, tells_accepted, tells_ancestors, tells_block, whole_at, words_of, ◌>>=◌}
+use Rattle.snow_lines.specs.Model.Text.{block_word, draw_word, fields, kind_word, listed, name, query_word, restart_word, text, why_word, words}
 use Rattle.snow_lines.proofs.Spelled.{IsField, NoSpace, bind_shows, block_field, bytes_field, draw_field, hex_no_space, if_holds, if_shows, no_space_from, same_bytes, told_same}
 use Rattle.snow_lines.proofs.Named.{kind_field, kind_shows, query_field, restart_field, why_field}
 use Rattle.snow_lines.proofs.Fielded.{Words, asked_again, both_again, field_again, items_again, long_field, only_again, short_field, told_again}

@@ -4,7 +4,7 @@ use Rattle.std.specs.Option.{option_map}
 use Rattle.std.proofs.lemmas.List.{take_more, take_all}
 use Rattle.std.proofs.lemmas.List.Elements.{All-nil, All-cons, All-append}
 use Rattle.std.proofs.lemmas.List.Splits.{slice_split_none, slice_split_at}
-use Rattle.snow_lines.specs.Reading.{first, items, split, ◌>>=◌}
+use Rattle.snow_lines.specs.Model.Reading.{first, items, split, ◌>>=◌}
 
 -- bytes without a space are one word
 pub cut_none : (bytes : List ℕ) → All (λ b. b == 32 ≡ false) bytes → split bytes ≡ bytes ∷ []

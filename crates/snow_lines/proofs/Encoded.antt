@@ -3,9 +3,9 @@ use Rattle.std.proofs.Common.{◌≡◌, ℕ, List, [], ◌∷◌, ◌++◌, ◌
 use Rattle.std.proofs.lemmas.List.{drop_at, drop-drop, length-take-le, take-append-drop}
 use Rattle.hex.specs.Hex.{encode_lower, encode_with, lower_digits}
 use Rattle.hex.proofs.HexLemmas.{length-encode_with}
-use Rattle.snow_base.specs.Outside.{AppendsFront}
+use Rattle.snow_base.specs.Clauses.Outside.{AppendsFront}
 use Rattle.snow_base.proofs.Known.{front_of_more}
-use Rattle.snow_lines.specs.Gathered.{Gathers}
+use Rattle.snow_lines.specs.Kept.Gathered.{Gathers}
 use Rattle.snow_lines.proofs.Waiting.{gathers_none, gathers_then, gathers_then_front}
 
 -- no bytes have no digits

@@ -3,8 +3,8 @@ use Rattle.std.proofs.Common.{◌≡◌, ℕ, ◌^◌, List, [], ◌∷◌, All,
 use Rattle.std.proofs.lemmas.List.Elements.{All-nil, All-cons, All-head, All-tail}
 use Rattle.hex.specs.Hex.{encode_lower}
 use Rattle.snow_lines.specs.declared.line.Line.{Line}
-use Rattle.snow_lines.specs.Range.{IsId, IsLong, IsNode, IsNumber}
-use Rattle.snow_lines.specs.Reading.{asked_at, both_at, field, id_at, items, node_at, number_at, number_of, only_at, told_at, ◌>>=◌}
+use Rattle.snow_lines.specs.Clauses.Range.{IsId, IsLong, IsNode, IsNumber}
+use Rattle.snow_lines.specs.Model.Reading.{asked_at, both_at, field, id_at, items, node_at, number_at, number_of, only_at, told_at, ◌>>=◌}
 use Rattle.snow_lines.proofs.Spelled.{IsField, bind_shows, bytes_field, number_field}
 
 -- words

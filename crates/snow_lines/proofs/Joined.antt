@@ -2,9 +2,9 @@
 use Rattle.std.proofs.Common.{◌≡◌, ℕ, List, [], ◌∷◌, ◌++◌, flat_map, map, Option, Result, refl, sym, ap, subst, ◌∙◌, append_assoc, append-nil}
 use Rattle.std.specs.List.{join_with_byte}
 use Rattle.std.specs.Result.{OnOk, OnErr}
-use Rattle.snow_base.specs.Outside.{AppendsFront}
-use Rattle.snow_lines.specs.Gathered.{Gathers}
-use Rattle.snow_lines.specs.Text.{spaced}
+use Rattle.snow_base.specs.Clauses.Outside.{AppendsFront}
+use Rattle.snow_lines.specs.Kept.Gathered.{Gathers}
+use Rattle.snow_lines.specs.Model.Text.{spaced}
 
 -- a word and further words
 pub joined_more : (word : List ℕ) (more : List (List ℕ)) → join_with_byte 32 (word ∷ more) ≡ word ++ flat_map spaced more

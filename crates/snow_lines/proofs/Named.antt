@@ -13,8 +13,8 @@ use Rattle.snow_lines.specs.declared.why.RestartWhy.{RestartWhy}
 use Rattle.snow_lines.specs.declared.why.RestartWhy.TheVariants as restart
 use Rattle.snow_lines.specs.declared.why.SkipKind.{SkipKind}
 use Rattle.snow_lines.specs.declared.why.SkipKind.TheVariants as kind
-use Rattle.snow_lines.specs.Names.{kind_of, line_kind_of, line_name, query_of, restart_of, why_of}
-use Rattle.snow_lines.specs.Text.{kind_word, query_word, restart_word, why_word}
+use Rattle.snow_lines.specs.Model.Names.{kind_of, line_kind_of, line_name, query_of, restart_of, why_of}
+use Rattle.snow_lines.specs.Model.Text.{kind_word, query_word, restart_word, why_word}
 use Rattle.snow_lines.proofs.Spelled.{IsField, NoSpace, told_same, no_space_from}
 
 -- what was found passes the test

@@ -6,10 +6,10 @@ use Rattle.snow_lines.specs.declared.kind.Kind.{Kind}
 use Rattle.snow_lines.specs.declared.kind.Kind.TheVariants as kind
 use Rattle.snow_lines.specs.declared.line.Line.{Line}
 use Rattle.snow_lines.specs.declared.line.Line.TheVariants as line
-use Rattle.snow_lines.specs.Names.{line_name}
-use Rattle.snow_lines.specs.Range.{IsLine}
-use Rattle.snow_lines.specs.Reading.{asks, asks_accepted, block_of, bytes_of, chits_at, draw_of, ended, field, fields_of, frontier_at, id_at, if_some, items, number_at, plain_at, tells_accepted, tells_ancestors, tells_block, told_at, whole_at, ◌>>=◌}
-use Rattle.snow_lines.specs.Text.{block_word, fields, listed, name}
+use Rattle.snow_lines.specs.Model.Names.{line_name}
+use Rattle.snow_lines.specs.Clauses.Range.{IsLine}
+use Rattle.snow_lines.specs.Model.Reading.{asks, asks_accepted, block_of, bytes_of, chits_at, draw_of, ended, field, fields_of, frontier_at, id_at, if_some, items, number_at, plain_at, tells_accepted, tells_ancestors, tells_block, told_at, whole_at, ◌>>=◌}
+use Rattle.snow_lines.specs.Model.Text.{block_word, fields, listed, name}
 use Rattle.snow_lines.proofs.Spelled.{bind_shows, block_field, bytes_field, draw_field}
 use Rattle.snow_lines.proofs.Named.{kind_field, query_field, restart_field, why_field}
 use Rattle.snow_lines.proofs.Fielded.{Words, asked_shows, both_shows, field_shows, items_shows, long_field, only_shows, short_field, told_shows, unsome}

@@ -14,9 +14,9 @@ use Rattle.hex.specs.Hex.{IsBytes, encode_lower, encode_with, decode_of, decode_
 use Rattle.hex.specs.declared.error.FromHexError.{FromHexError}
 use Rattle.hex.proofs.HexLemmas.{decode_of-ok, decode_of-encode_lower, decode_sized-ok, decode_sized-twice, decode_sized-encode_lower, length-encode_with}
 use Rattle.snow_sample.specs.declared.draws.Draw.{Draw}
-use Rattle.snow_lines.specs.Range.{AreBytes, IsDraw}
-use Rattle.snow_lines.specs.Reading.{if_digits, if_written, if_draw, number_of, bytes_of, block_of, draw_of, value_after, ◌>>=◌}
-use Rattle.snow_lines.specs.Text.{block_word, draw_word}
+use Rattle.snow_lines.specs.Clauses.Range.{AreBytes, IsDraw}
+use Rattle.snow_lines.specs.Model.Reading.{if_digits, if_written, if_draw, number_of, bytes_of, block_of, draw_of, value_after, ◌>>=◌}
+use Rattle.snow_lines.specs.Model.Text.{block_word, draw_word}
 
 -- no byte is a space
 abbrev pub NoSpace : List ℕ → Type 0

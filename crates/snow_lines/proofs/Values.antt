@@ -1,7 +1,7 @@
 -- Numbers read digit by digit.
 use Rattle.std.proofs.Common.{◌≡◌, ℕ, ◌+◌, ◌-◌, ◌*◌, ◌^◌, ◌<◌, ◌≤◌, List, [], ◌∷◌, length, drop, get_or, Some, None, nat_lt, if◌then◌else◌, sym, ap, ◌∙◌, add-one, drop-cons, arith}
 use Rattle.std.proofs.lemmas.Grind.{common_steps}
-use Rattle.snow_lines.specs.Reading.{value_after}
+use Rattle.snow_lines.specs.Model.Reading.{value_after}
 
 -- more digits never make less
 pub value_grows : (n : ℕ) (cs : List ℕ) → n ≤ value_after n cs

@@ -3,8 +3,8 @@ use Rattle.std.proofs.Common.{◌≡◌, ℕ, ◌+◌, ◌<◌, List, [], ◌++�
 use Rattle.std.specs.Io.KnownBytes.{Appends}
 use Rattle.std.specs.Result.{OnOk, OnErr}
 use Rattle.snow_base.proofs.Known.{front_of_more, flat_map_more, flat_map_split}
-use Rattle.snow_base.specs.Outside.{AppendsFront}
-use Rattle.snow_lines.specs.Gathered.{Gathers}
+use Rattle.snow_base.specs.Clauses.Outside.{AppendsFront}
+use Rattle.snow_lines.specs.Kept.Gathered.{Gathers}
 
 -- nothing came
 pub gathers_none : (a : Option (List ℕ)) (t : List ℕ) → Gathers a t a t []

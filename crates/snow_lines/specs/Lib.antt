@@ -1,5 +1,3 @@
-pub mod Gathered
-pub mod Names
-pub mod Range
-pub mod Reading
-pub mod Text
+pub mod Model
+pub mod Kept
+pub mod Clauses

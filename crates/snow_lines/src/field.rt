@@ -1,6 +1,6 @@
 ghost use Rattle.std.specs.Prelude.{◌≡◌, ◌≤◌, ◌^◌, ℕ, List, Option, IfSome, nat_lt, length, take, drop, if◌then◌else◌, Some, None, IfOk};
 ghost use Rattle.hex.specs.Hex.{decode_of};
-ghost use Rattle.snow_lines.specs.Reading.{number_of, bytes_of, block_of, draw_of, if_digits, if_draw, value_after};
+ghost use Rattle.snow_lines.specs.Model.Reading.{number_of, bytes_of, block_of, draw_of, if_digits, if_draw, value_after};
 
 use crate::digits::{id_digits, node_digits};
 use crate::text::Text;

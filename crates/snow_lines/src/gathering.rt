@@ -1,6 +1,6 @@
 ghost use Rattle.std.specs.Prelude.{◌≡◌, ◌≤◌, ℕ, List, [], ◌++◌, length, take, OnOk, OnErr};
-ghost use Rattle.snow_base.specs.Outside.{AppendsFront, HasCause};
-ghost use Rattle.snow_lines.specs.Gathered.{Gathers};
+ghost use Rattle.snow_base.specs.Clauses.Outside.{AppendsFront, HasCause};
+ghost use Rattle.snow_lines.specs.Kept.Gathered.{Gathers};
 
 use snow_base::{Failed, Sink, write_whole};
 

@@ -1,6 +1,6 @@
 ghost use Rattle.std.specs.Prelude.{◌≡◌, ◌++◌};
 ghost use Rattle.std.specs.Str.{bytes_eq};
-ghost use Rattle.snow_lines.specs.Names.{answering, asking, kind_in, telling};
+ghost use Rattle.snow_lines.specs.Model.Names.{answering, asking, kind_in, telling};
 
 /// The kinds of lines.
 /// Rule: this project's own.
@@ -28,7 +28,7 @@ pub enum Kind {
 
 impl Kind {
     ghost use Rattle.std.specs.Prelude.{◌≡◌, ◌≤◌, length};
-    ghost use Rattle.snow_lines.specs.Names.{line_kind_of, line_name};
+    ghost use Rattle.snow_lines.specs.Model.Names.{line_kind_of, line_name};
 
     /// Returns the word with which the lines of this kind begin, at most 12 bytes.
     /// Rule: this project's own.

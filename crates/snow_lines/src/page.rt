@@ -1,8 +1,8 @@
 ghost use Rattle.std.specs.Prelude.{◌≡◌, ◌≤◌, ◌+◌, ◌-◌, [], ◌++◌, length, take, vec_len, IfOk, OnOk, OnErr};
 ghost use Rattle.std.specs.Io.KnownBytes.{Appends};
-ghost use Rattle.snow_base.specs.Outside.{AppendsFront, HasCause};
-ghost use Rattle.snow_lines.specs.Gathered.{Gathers};
-ghost use Rattle.snow_lines.specs.Text.{text, texts};
+ghost use Rattle.snow_base.specs.Clauses.Outside.{AppendsFront, HasCause};
+ghost use Rattle.snow_lines.specs.Kept.Gathered.{Gathers};
+ghost use Rattle.snow_lines.specs.Model.Text.{text, texts};
 
 use crate::gathering::Gather;
 use crate::line::Line;

@@ -1,9 +1,9 @@
 ghost use Rattle.std.specs.Prelude.{◌≡◌, ◌<◌, ◌≤◌, ℕ, List, [], ◌∷◌, ◌++◌, length, flat_map, codes, decimal, OnOk, OnErr};
 ghost use Rattle.hex.specs.Hex.{encode_lower};
-ghost use Rattle.snow_base.specs.Outside.{AppendsFront, HasCause};
-ghost use Rattle.snow_lines.specs.Gathered.{Gathers};
-ghost use Rattle.snow_lines.specs.Names.{line_name};
-ghost use Rattle.snow_lines.specs.Text.{spaced, draw_word, block_word, kind_word, query_word, restart_word, why_word};
+ghost use Rattle.snow_base.specs.Clauses.Outside.{AppendsFront, HasCause};
+ghost use Rattle.snow_lines.specs.Kept.Gathered.{Gathers};
+ghost use Rattle.snow_lines.specs.Model.Names.{line_name};
+ghost use Rattle.snow_lines.specs.Model.Text.{spaced, draw_word, block_word, kind_word, query_word, restart_word, why_word};
 
 use crate::digits::{marked, marked_long, marked_short, write_hex, write_id, write_node};
 use crate::gathering::Gather;

@@ -1,10 +1,10 @@
 ghost use Rattle.std.specs.Prelude.{◌∷◌, ◌++◌, flat_map, OnOk, OnErr};
 ghost use Rattle.std.specs.List.{join_with_byte};
 ghost use Rattle.std.specs.Io.KnownBytes.{Appends};
-ghost use Rattle.snow_base.specs.Outside.{AppendsFront, HasCause};
-ghost use Rattle.snow_lines.specs.Gathered.{Gathers};
+ghost use Rattle.snow_base.specs.Clauses.Outside.{AppendsFront, HasCause};
+ghost use Rattle.snow_lines.specs.Kept.Gathered.{Gathers};
 ghost use Rattle.snow_lines.specs.declared.line.Line.TheVariants as line;
-ghost use Rattle.snow_lines.specs.Text.{fields, listed, name, spaced, text, texts};
+ghost use Rattle.snow_lines.specs.Model.Text.{fields, listed, name, spaced, text, texts};
 
 use crate::gathering::{AtOnce, Gather};
 use crate::kind::Kind;

@@ -1,10 +1,10 @@
 ghost use Rattle.std.specs.Prelude.{◌≡◌, ◌^◌, IfOk, IfSome, Some};
 ghost use Rattle.std.specs.Option.{option_map};
-ghost use Rattle.snow_lines.specs.Range.{IsLine};
-ghost use Rattle.snow_lines.specs.Text.{text};
+ghost use Rattle.snow_lines.specs.Clauses.Range.{IsLine};
+ghost use Rattle.snow_lines.specs.Model.Text.{text};
 ghost use Rattle.snow_lines.specs.declared.line.Line.{Line};
-ghost use Rattle.snow_lines.specs.Reading.{Reads, asked_at, both_at, bytes_of, number_of, asks, asks_accepted, before_newline, chits_at, fields_of, frontier_at, line_of, plain_at, tells_accepted, tells_ancestors, tells_block, whole_at, words_of};
-ghost use Rattle.snow_lines.specs.Names.{kind_of, why_of};
+ghost use Rattle.snow_lines.specs.Model.Reading.{Reads, asked_at, both_at, bytes_of, number_of, asks, asks_accepted, before_newline, chits_at, fields_of, frontier_at, line_of, plain_at, tells_accepted, tells_ancestors, tells_block, whole_at, words_of};
+ghost use Rattle.snow_lines.specs.Model.Names.{kind_of, why_of};
 ghost use Rattle.snow_lines.specs.declared.line.Line.TheVariants as line;
 
 use crate::field;

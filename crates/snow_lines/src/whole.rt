@@ -2,7 +2,7 @@
 
 ghost use Rattle.std.specs.Prelude.{◌≡◌, [], ◌∷◌, ◌++◌, length};
 ghost use Rattle.hex.specs.Hex.{encode_lower};
-ghost use Rattle.snow_lines.specs.Text.{spaced};
+ghost use Rattle.snow_lines.specs.Model.Text.{spaced};
 
 use crate::digits::{write_id, write_node};
 use snow_base::{Id, NodeId};

@@ -65,7 +65,7 @@ pub enum SkipKind {
 
 impl DropWhy {
     ghost use Rattle.std.specs.Prelude.{◌≡◌, ◌≤◌, length};
-    ghost use Rattle.snow_lines.specs.Text.{spaced, why_word};
+    ghost use Rattle.snow_lines.specs.Model.Text.{spaced, why_word};
 
     /// Returns its word with a space in front.
     pub(crate) fn spaced_word(&self) -> &'static [u8]
@@ -83,7 +83,7 @@ impl DropWhy {
 
 impl QueryWhy {
     ghost use Rattle.std.specs.Prelude.{◌≡◌, ◌≤◌, length};
-    ghost use Rattle.snow_lines.specs.Text.{spaced, query_word};
+    ghost use Rattle.snow_lines.specs.Model.Text.{spaced, query_word};
 
     /// Returns its word with a space in front.
     pub(crate) fn spaced_word(&self) -> &'static [u8]
@@ -100,7 +100,7 @@ impl QueryWhy {
 
 impl RestartWhy {
     ghost use Rattle.std.specs.Prelude.{◌≡◌, ◌≤◌, length};
-    ghost use Rattle.snow_lines.specs.Text.{spaced, restart_word};
+    ghost use Rattle.snow_lines.specs.Model.Text.{spaced, restart_word};
 
     /// Returns its word with a space in front.
     pub(crate) fn spaced_word(&self) -> &'static [u8]
@@ -116,7 +116,7 @@ impl RestartWhy {
 
 impl SkipKind {
     ghost use Rattle.std.specs.Prelude.{◌≡◌, ◌≤◌, [], ◌∷◌, ◌++◌, length, take};
-    ghost use Rattle.snow_lines.specs.Text.{spaced, kind_word};
+    ghost use Rattle.snow_lines.specs.Model.Text.{spaced, kind_word};
 
     /// Returns its word with a space in front.
     pub(crate) fn spaced_word(&self) -> &'static [u8]
@@ -160,7 +160,7 @@ impl SkipKind {
 }
 
 impl Field for DropWhy {
-    ghost use Rattle.snow_lines.specs.Names.{why_of};
+    ghost use Rattle.snow_lines.specs.Model.Names.{why_of};
 
     ghost read = { why_of };
 
@@ -180,7 +180,7 @@ impl Field for DropWhy {
 }
 
 impl Field for QueryWhy {
-    ghost use Rattle.snow_lines.specs.Names.{query_of};
+    ghost use Rattle.snow_lines.specs.Model.Names.{query_of};
 
     ghost read = { query_of };
 
@@ -198,7 +198,7 @@ impl Field for QueryWhy {
 }
 
 impl Field for RestartWhy {
-    ghost use Rattle.snow_lines.specs.Names.{restart_of};
+    ghost use Rattle.snow_lines.specs.Model.Names.{restart_of};
 
     ghost read = { restart_of };
 
@@ -214,7 +214,7 @@ impl Field for RestartWhy {
 }
 
 impl Field for SkipKind {
-    ghost use Rattle.snow_lines.specs.Names.{kind_of};
+    ghost use Rattle.snow_lines.specs.Model.Names.{kind_of};
 
     ghost read = { kind_of };
 

@@ -4,11 +4,11 @@ use Rattle.std.specs.Option.{option_to_list}
 use Rattle.std.specs.Str.{bytes_eq}
 use Rattle.std.proofs.lemmas.Bool.{eqb-true}
 use Rattle.std.proofs.lemmas.List.{get_or-map}
-use Rattle.snow_map.specs.Entries.{value_of}
+use Rattle.snow_map.specs.Clauses.Entries.{value_of}
 use Rattle.snow_lineup.specs.declared.lineup.Slot.{Slot}
 use Rattle.snow_lineup.specs.declared.marks.Mark.{Mark}
 use Rattle.snow_lineup.specs.declared.marks.Mark.TheVariants.{New}
-use Rattle.snow_lineup.specs.Index.{RowMap, IsIndexed, row_of, row_before, has_place, tag_of, seat_of, woken, reset}
+use Rattle.snow_lineup.specs.Kept.Index.{RowMap, IsIndexed, row_of, row_before, has_place, tag_of, seat_of, woken, reset}
 use Rattle.snow_lineup.proofs.Booleans.{or_false}
 use Rattle.snow_lineup.proofs.Noted.{same_id}
 use Rattle.snow_lineup.proofs.Placed.{Rises, found_place, woken_one, row_wakes}

@@ -6,7 +6,7 @@ use Rattle.std.proofs.lemmas.Bool.{ne_eqb, eqb-true, false_from_ne_true}
 use Rattle.std.proofs.lemmas.List.{append_assoc}
 use Rattle.std.proofs.lemmas.List.Folds.{list_any-append}
 use Rattle.std.proofs.lemmas.Slice.Eq.{bytes_eq-Decides}
-use Rattle.snow_lineup.specs.Index.{has_place, left_by}
+use Rattle.snow_lineup.specs.Kept.Index.{has_place, left_by}
 use Rattle.snow_lineup.proofs.Booleans.{or_false}
 
 pub same_id : (a b : List ℕ) → bytes_eq a b ≡ true → a ≡ b

@@ -12,7 +12,7 @@ use Rattle.std.proofs.lemmas.List.Sums.{position_or_len_is, fails_before_first, 
 use Rattle.snow_lineup.specs.declared.lineup.Slot.{Slot}
 use Rattle.snow_lineup.specs.declared.marks.Mark.{Mark}
 use Rattle.snow_lineup.specs.declared.marks.Mark.TheVariants.{New}
-use Rattle.snow_lineup.specs.Index.{has_place, tag_of, seat_of, woken, woken_at, reset, forgotten}
+use Rattle.snow_lineup.specs.Kept.Index.{has_place, tag_of, seat_of, woken, woken_at, reset, forgotten}
 
 abbrev pub Rises : {T : Type 0} → List (Slot T) → Type 0
 Rises slots = AllPairs (λ s t. s.place < t.place) slots

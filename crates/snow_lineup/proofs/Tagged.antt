@@ -10,7 +10,7 @@ use Rattle.std.proofs.lemmas.List.Elements.{All-push, All-append, All-take, All-
 use Rattle.std.proofs.lemmas.List.Quantifiers.{all_pairs_push, all_pairs_remove}
 use Rattle.snow_lineup.specs.declared.lineup.Slot.{Slot}
 use Rattle.snow_lineup.specs.declared.marks.Mark.{Mark}
-use Rattle.snow_lineup.specs.Index.{RowMap, row_of, has_place, left_by, tag_of, seat_of, IsIndexed}
+use Rattle.snow_lineup.specs.Kept.Index.{RowMap, row_of, has_place, left_by, tag_of, seat_of, IsIndexed}
 use Rattle.snow_lineup.proofs.Noted.{id_itself, id_turned, has_pushed, has_left, none_left}
 use Rattle.snow_lineup.proofs.Booleans.{or_false, or_true}
 

@@ -9,9 +9,9 @@ use Rattle.snow_lineup.specs.declared.marks.Mark.{Mark}
 use Rattle.snow_lineup.specs.declared.marks.Mark.TheVariants.{New, Quiet, Ripe}
 use Rattle.snow_lineup.specs.declared.window.Window.{Window}
 use Rattle.snow_lineup.specs.declared.window.Windows.{Windows}
-use Rattle.snow_lineup.specs.Marks.{has}
-use Rattle.snow_lineup.specs.Index.{forgotten}
-use Rattle.snow_lineup.specs.Windows.{IsWithin, AreWithin, no_windows, no_place, all_fresh, with_place, marked, moved, closed_up, all_closed_up, window_of, from_first, narrowed}
+use Rattle.snow_lineup.specs.Kept.Marks.{has}
+use Rattle.snow_lineup.specs.Kept.Index.{forgotten}
+use Rattle.snow_lineup.specs.Kept.Windows.{IsWithin, AreWithin, no_windows, no_place, all_fresh, with_place, marked, moved, closed_up, all_closed_up, window_of, from_first, narrowed}
 
 pub within_nothing : {T : Type 0} → AreWithin {T = T} [] no_windows
 within_nothing = record { fresh = λ k d h. absurd (omega (arith, h)); ripe = λ k d h. absurd (omega (arith, h)) }

@@ -1,3 +1,1 @@
-pub mod Marks
-pub mod Index
-pub mod Windows
+pub mod Kept

@@ -1,5 +1,5 @@
 ghost use Rattle.std.specs.Prelude.{◌≡◌};
-ghost use Rattle.snow_lineup.specs.Marks.{is_mark};
+ghost use Rattle.snow_lineup.specs.Kept.Marks.{is_mark};
 
 /// What is remembered of something that waits.
 /// Rule: this project's own.

@@ -1,8 +1,8 @@
 ghost use Rattle.std.specs.Prelude.{◌≡◌, ◌==◌, ℕ, List, [], ◌∷◌, ◌++◌, true, not, Some, IsSome, IfOk, OnOk, OnErr, bytes_eq, if◌then◌else◌};
 ghost use Rattle.std.specs.Bool.{OnTrue};
 ghost use Rattle.std.specs.Option.{option_to_list};
-ghost use Rattle.snow_lineup.specs.Index.{row_of, row_before, has_place, left_by};
-ghost use Rattle.snow_map.specs.Entries.{value_of};
+ghost use Rattle.snow_lineup.specs.Kept.Index.{row_of, row_before, has_place, left_by};
+ghost use Rattle.snow_map.specs.Clauses.Entries.{value_of};
 
 use snow_base::Id;
 use snow_map::IdMap;

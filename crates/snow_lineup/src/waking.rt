@@ -1,8 +1,8 @@
 ghost use Rattle.std.specs.Prelude.{◌≡◌, ◌<◌, ◌-◌, ◌==◌, [], ◌∷◌, ◌++◌, true, map, length, nat_lt, slice_set, HoldsAt};
 ghost use Rattle.std.specs.List.{AllPairs, position_or_len};
 ghost use Rattle.std.specs.Option.{option_to_list};
-ghost use Rattle.snow_lineup.specs.Index.{seat_of, woken, woken_at, reset};
-ghost use Rattle.snow_lineup.specs.Windows.{AreWithin};
+ghost use Rattle.snow_lineup.specs.Kept.Index.{seat_of, woken, woken_at, reset};
+ghost use Rattle.snow_lineup.specs.Kept.Windows.{AreWithin};
 ghost use Rattle.snow_lineup.specs.declared.marks.Mark.TheVariants.{New};
 
 use crate::lineup::{Keyed, Lineup, Slot};

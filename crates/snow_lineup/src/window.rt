@@ -1,5 +1,5 @@
 ghost use Rattle.std.specs.Prelude.{◌≡◌, ◌+◌, ◌<◌, ◌≤◌, ◌^◌, true, IfSome};
-ghost use Rattle.snow_lineup.specs.Windows.{no_place, all_places, with_place, closed_up, from_first, all_fresh, no_windows, marked, all_closed_up, window_of, narrowed};
+ghost use Rattle.snow_lineup.specs.Kept.Windows.{no_place, all_places, with_place, closed_up, from_first, all_fresh, no_windows, marked, all_closed_up, window_of, narrowed};
 
 use crate::marks::Mark;
 

@@ -11,9 +11,9 @@ use Rattle.std.proofs.lemmas.Bool.{eqb-true, eq-eqb}
 use Rattle.std.proofs.lemmas.Map.Keys.{IsDistinct-tail}
 use Rattle.std.proofs.lemmas.Map.Text.{is_eq-slice_cmp}
 use Rattle.std.proofs.lemmas.Option.{same_Some}
-use Rattle.snow_map.specs.Entries.{value_of, HasAt}
-use Rattle.snow_map.specs.Groups.{entries_in, group_gives, IsGroup, AreGrouped}
-use Rattle.snow_map.specs.Kept.{place_of}
+use Rattle.snow_map.specs.Clauses.Entries.{value_of, HasAt}
+use Rattle.snow_map.specs.Kept.Groups.{entries_in, group_gives, IsGroup, AreGrouped}
+use Rattle.snow_map.specs.Kept.Placed.{place_of}
 use Rattle.snow_map.proofs.Lists.{split_on, clash, same_id, or_none, appended, both_once, in_order, once_in_order}
 use Rattle.snow_map.proofs.Seats.{front_alone, front_here, behind, rest_so}
 

@@ -8,8 +8,8 @@ use Rattle.std.specs.Result.{OnOk, OnErr, IsOk, IfOk}
 use Rattle.std.specs.Bool.{⊤}
 use Rattle.std.proofs.lemmas.Bool.{eqb-true, eq-eqb, true≢false}
 use Rattle.std.proofs.lemmas.Option.{same_Some}
-use Rattle.snow_map.specs.Entries.{value_of, HasAt}
-use Rattle.snow_map.specs.Kept.{place_of, gives, entries_of, is_own, is_far_by, IsPlaced, IsKept}
+use Rattle.snow_map.specs.Clauses.Entries.{value_of, HasAt}
+use Rattle.snow_map.specs.Kept.Placed.{place_of, gives, entries_of, is_own, is_far_by, IsPlaced, IsKept}
 use Rattle.snow_map.proofs.Lists.{split_on, clash, same_id, id_itself, same_cases, or_none, one_added, one_left}
 use Rattle.snow_map.proofs.Seats.{Near, found, all_distinct}
 

@@ -15,7 +15,7 @@ use Rattle.std.proofs.lemmas.Map.Keys.{IsDistinct-from_sorted, IsDistinct-cons, 
 use Rattle.std.proofs.lemmas.Map.Text.{is_eq-slice_cmp}
 use Rattle.std.proofs.lemmas.Option.{same_Some}
 use Rattle.std.proofs.lemmas.Slice.Eq.{bytes_eq-Decides}
-use Rattle.snow_map.specs.Entries.{value_of, HasAt}
+use Rattle.snow_map.specs.Clauses.Entries.{value_of, HasAt}
 
 pub when_err : {T E A : Type 0} (r : Result T E) → A → OnErr r A
 when_err (Ok value) a = tt

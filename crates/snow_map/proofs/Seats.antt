@@ -5,8 +5,8 @@ use Rattle.std.specs.Map.{lookup, keys_of}
 use Rattle.std.specs.Option.{option_or}
 use Rattle.std.proofs.lemmas.Bool.{eqb-true, eq-eqb}
 use Rattle.std.proofs.lemmas.Map.Keys.{IsDistinct-head, IsDistinct-tail}
-use Rattle.snow_map.specs.Entries.{value_of}
-use Rattle.snow_map.specs.Kept.{place_of, gives, entries_of, IsPlaced, IsKept}
+use Rattle.snow_map.specs.Clauses.Entries.{value_of}
+use Rattle.snow_map.specs.Kept.Placed.{place_of, gives, entries_of, IsPlaced, IsKept}
 use Rattle.snow_map.proofs.Lists.{split_on, same_id, appended, one_more}
 
 -- entries by seat

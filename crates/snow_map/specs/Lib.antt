@@ -1,4 +1,2 @@
-pub mod Entries
-pub mod Groups
 pub mod Kept
-pub mod Seats
+pub mod Clauses

@@ -4,7 +4,7 @@ ghost use Rattle.std.specs.HashMap.{Updates, IsUnique};
 ghost use Rattle.std.specs.List.{IsDistinct};
 ghost use Rattle.std.specs.Map.{keys_of};
 ghost use Rattle.std.specs.Option.{option_copied};
-ghost use Rattle.snow_map.specs.Entries.{value_of, HasAt};
+ghost use Rattle.snow_map.specs.Clauses.Entries.{value_of, HasAt};
 
 use crate::near::place_of;
 use snow_base::Id;
@@ -21,7 +21,7 @@ pub(crate) struct Far<V> {
 
 impl<V> Model for Far<V> {
     ghost use Rattle.std.specs.Prelude.{ℕ, List};
-    ghost use Rattle.snow_map.specs.Groups.{entries_in, AreGrouped};
+    ghost use Rattle.snow_map.specs.Kept.Groups.{entries_in, AreGrouped};
 
     ghost Value = { List (List ℕ × V) };
 

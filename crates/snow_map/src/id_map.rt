@@ -4,8 +4,8 @@ ghost use Rattle.std.specs.List.{IsDistinct};
 ghost use Rattle.std.specs.List.Sorted.{IsPermutation};
 ghost use Rattle.std.specs.Map.{keys_of, remove_entry};
 ghost use Rattle.std.specs.Option.{option_copied};
-ghost use Rattle.snow_map.specs.Entries.{value_of, HasAt};
-ghost use Rattle.snow_map.specs.Kept.{is_far};
+ghost use Rattle.snow_map.specs.Clauses.Entries.{value_of, HasAt};
+ghost use Rattle.snow_map.specs.Kept.Placed.{is_far};
 
 use crate::far::Far;
 use crate::near;
@@ -29,7 +29,7 @@ pub struct IdMap<V> {
 
 impl<V> Model for IdMap<V> {
     ghost use Rattle.std.specs.Prelude.{ℕ, List};
-    ghost use Rattle.snow_map.specs.Kept.{IsKept, entries_of};
+    ghost use Rattle.snow_map.specs.Kept.Placed.{IsKept, entries_of};
 
     ghost Value = { List (List ℕ × V) };
 

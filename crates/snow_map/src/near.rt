@@ -3,8 +3,8 @@ ghost use Rattle.std.specs.Prelude.{◌≡◌, ◌<◌, true, IsSome, IsOk, IfOk
 ghost use Rattle.std.specs.HashMap.{get, Updates, UpdatesBy, IsUnique, IsUnchanged};
 ghost use Rattle.std.specs.Option.{option_copied, option_map};
 ghost use Rattle.std.specs.Prelude.{nat_eq};
-ghost use Rattle.snow_map.specs.Kept.{place_of, gives, is_own};
-ghost use Rattle.snow_map.specs.Seats.{seat_of};
+ghost use Rattle.snow_map.specs.Kept.Placed.{place_of, gives, is_own};
+ghost use Rattle.snow_map.specs.Kept.Seats.{seat_of};
 
 use snow_base::Id;
 use std::alloc::AllocError;

@@ -1,23 +1,23 @@
 -- What would be the first thing to do is done as it comes: a reply needn't be held, nor need a block wait.
 use Rattle.std.proofs.Common.{◌≡◌, ℕ, Bool, true, false, cond, not, ◌&&◌, List, append-nil, Option, Some, Result, Ok, Err, refl, ap, ◌∙◌}
-use Rattle.snow_flake.specs.Rule.{Answer}
-use Rattle.snow_chain.specs.Chain.{Rules}
+use Rattle.snow_flake.specs.Model.Rule.{Answer}
+use Rattle.snow_chain.specs.Model.Chain.{Rules}
 use Rattle.snow_lines.specs.declared.line.Line.{Line}
 use Rattle.snow_issue.specs.declared.work.Held.{Held}
 use Rattle.snow_issue.specs.declared.work.Waiting.{Waiting}
 use Rattle.snow_issue.specs.declared.work.Work.{Work}
 use Rattle.snow_issue.specs.declared.work.Work.TheVariants as work
 use Rattle.snow_poll.specs.declared.polls.Answered.TheVariants.{Counted, NotAwaited}
-use Rattle.snow_poll.specs.Table.{is_awaited, answer as answer_of}
-use Rattle.snow_issue.specs.Lists.{Lists, after_held, with_waiting, holds_in}
-use Rattle.snow_issue.specs.Settling.{work_of, after}
+use Rattle.snow_poll.specs.Model.Table.{is_awaited, answer as answer_of}
+use Rattle.snow_issue.specs.Model.Lists.{Lists, after_held, with_waiting, holds_in}
+use Rattle.snow_issue.specs.Model.Settling.{work_of, after}
 use Rattle.snow_issue.proofs.Idle.{first_to_do, counts, next_to_do, next_parts, next_waits}
 use Rattle.snow_node.specs.declared.stop.Halt.{Halt}
-use Rattle.snow_node.specs.Outcome.{Comes, quietly, after_lines, going_on, then_comes, where_made}
-use Rattle.snow_node.specs.Running.{Running}
-use Rattle.snow_node.specs.Closing.{tallied}
-use Rattle.snow_node.specs.Settling.{placed, done, worked, carried_out, one_settled, left_to_do, settled}
-use Rattle.snow_node.specs.Hearing.{IsFirst, IsNext, waits_for, vote_held, vote_counts, vote_came, counted_if_awaited, taken_in, brought, block_brings}
+use Rattle.snow_node.specs.Model.Outcome.{Comes, quietly, after_lines, going_on, then_comes, where_made}
+use Rattle.snow_node.specs.Model.Running.{Running}
+use Rattle.snow_node.specs.Model.Closing.{tallied}
+use Rattle.snow_node.specs.Model.Settling.{placed, done, worked, carried_out, one_settled, left_to_do, settled}
+use Rattle.snow_node.specs.Model.Hearing.{IsFirst, IsNext, waits_for, vote_held, vote_counts, vote_came, counted_if_awaited, taken_in, brought, block_brings}
 use Rattle.snow_node.proofs.Looping.{settling_falls}
 use Rattle.snow_node.proofs.Made.{one_then}
 

@@ -1,37 +1,37 @@
 -- Lemmas on what a node that runs does until nothing is to be done: queries, closing and settling leave no closed poll in front.
 use Rattle.std.proofs.Common.{◌≡◌, ℕ, zero, suc, ◌<◌, Bool, true, false, cond, nat_le, List, length, Option, Some, None, Result, Ok, Err, refl, sym, ap, ◌∙◌, arith}
 use Rattle.std.proofs.lemmas.Bool.{true≢false}
-use Rattle.snow_base.specs.Numbers.{next_number}
+use Rattle.snow_base.specs.Model.Numbers.{next_number}
 use Rattle.snow_base.specs.declared.header.Header.{Header}
 use Rattle.snow_base.specs.declared.vote.Vote.{Vote}
-use Rattle.snow_flake.specs.Parameters.{Parameters, AreGood}
-use Rattle.snow_flake.specs.Rule.{Answer}
+use Rattle.snow_flake.specs.Model.Parameters.{Parameters, AreGood}
+use Rattle.snow_flake.specs.Model.Rule.{Answer}
 use Rattle.snow_sample.specs.declared.draws.Draw.{Draw}
 use Rattle.snow_sample.specs.declared.sampling.SampleFault.{SampleFault}
 use Rattle.snow_sample.specs.declared.sampling.SampleFault.TheVariants as fault
-use Rattle.snow_sample.specs.Sampling.{sample_of}
-use Rattle.snow_board.specs.Board.{height_of}
-use Rattle.snow_board.specs.Preference.{is_preferred}
-use Rattle.snow_board.specs.Poll.{poll}
+use Rattle.snow_sample.specs.Model.Sampling.{sample_of}
+use Rattle.snow_board.specs.Model.Board.{height_of}
+use Rattle.snow_board.specs.Model.Preference.{is_preferred}
+use Rattle.snow_board.specs.Model.Poll.{poll}
 use Rattle.snow_board.proofs.Cases.{split_on}
 use Rattle.snow_board.proofs.Polled.{poll_parameters}
-use Rattle.snow_chain.specs.Chain.{Rules, next_on}
+use Rattle.snow_chain.specs.Model.Chain.{Rules, next_on}
 use Rattle.snow_lines.specs.declared.why.DropWhy.{DropWhy}
 use Rattle.snow_lines.specs.declared.why.DropWhy.TheVariants as why
-use Rattle.snow_poll.specs.Table.{finished}
+use Rattle.snow_poll.specs.Model.Table.{finished}
 use Rattle.snow_issue.specs.declared.work.Work.{Work}
 use Rattle.snow_issue.specs.declared.work.Work.TheVariants as work
-use Rattle.snow_issue.specs.Bubbling.{bubbled}
-use Rattle.snow_issue.specs.Lists.{Lists}
-use Rattle.snow_issue.specs.Settling.{work_of, IsIdle}
+use Rattle.snow_issue.specs.Model.Bubbling.{bubbled}
+use Rattle.snow_issue.specs.Model.Lists.{Lists}
+use Rattle.snow_issue.specs.Model.Settling.{work_of, IsIdle}
 use Rattle.snow_node.specs.declared.stop.Halt.{Halt}
-use Rattle.snow_node.specs.Outcome.{Comes, quietly, going_on, then_comes, where_made}
-use Rattle.snow_node.specs.Again.{again, all_made}
-use Rattle.snow_node.specs.Running.{Running}
-use Rattle.snow_node.specs.Placing.{opposed}
-use Rattle.snow_node.specs.Querying.{queried, sampled, lacks_polls, one_repolled, lacking, repolled}
-use Rattle.snow_node.specs.Closing.{front_closed, one_closed, running_polls, closed_out, with_vote, tallied}
-use Rattle.snow_node.specs.Settling.{with_block, issued_by, placed_by, done, worked, without_work, one_settled, left_to_do, settled, asked_on_the_way}
+use Rattle.snow_node.specs.Model.Outcome.{Comes, quietly, going_on, then_comes, where_made}
+use Rattle.snow_node.specs.Model.Again.{again, all_made}
+use Rattle.snow_node.specs.Model.Running.{Running}
+use Rattle.snow_node.specs.Model.Placing.{opposed}
+use Rattle.snow_node.specs.Model.Querying.{queried, sampled, lacks_polls, one_repolled, lacking, repolled}
+use Rattle.snow_node.specs.Model.Closing.{front_closed, one_closed, running_polls, closed_out, with_vote, tallied}
+use Rattle.snow_node.specs.Model.Settling.{with_block, issued_by, placed_by, done, worked, without_work, one_settled, left_to_do, settled, asked_on_the_way}
 use Rattle.snow_node.proofs.Made.{Falls}
 use Rattle.snow_node.proofs.Looping.{AtOk, at_then, at_ok, repolls_fall, polls_fall, settling_falls}
 use Rattle.snow_node.proofs.Opening.{sample_counts, front_stays}

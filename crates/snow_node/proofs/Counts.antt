@@ -1,12 +1,12 @@
 -- Settling, closing and repolls: the count from which each is made is never what ends it.
 use Rattle.std.proofs.Common.{◌≡◌, ℕ, suc, ◌<◌, arith}
-use Rattle.snow_flake.specs.Rule.{Answer}
-use Rattle.snow_chain.specs.Chain.{Rules}
-use Rattle.snow_node.specs.Again.{again}
-use Rattle.snow_node.specs.Running.{Running}
-use Rattle.snow_node.specs.Querying.{one_repolled, lacking, repolled}
-use Rattle.snow_node.specs.Closing.{one_closed, running_polls, closed_out}
-use Rattle.snow_node.specs.Settling.{one_settled, left_to_do, settled}
+use Rattle.snow_flake.specs.Model.Rule.{Answer}
+use Rattle.snow_chain.specs.Model.Chain.{Rules}
+use Rattle.snow_node.specs.Model.Again.{again}
+use Rattle.snow_node.specs.Model.Running.{Running}
+use Rattle.snow_node.specs.Model.Querying.{one_repolled, lacking, repolled}
+use Rattle.snow_node.specs.Model.Closing.{one_closed, running_polls, closed_out}
+use Rattle.snow_node.specs.Model.Settling.{one_settled, left_to_do, settled}
 use Rattle.snow_node.proofs.Made.{enough}
 use Rattle.snow_node.proofs.Looping.{repolls_fall, polls_fall, settling_falls}
 

@@ -6,15 +6,15 @@ use Rattle.std.specs.Cmp.Lexicographic.{slice_cmp, nat_list_cmp_total}
 use Rattle.std.proofs.lemmas.Map.Text.{is_eq-slice_cmp}
 use Rattle.std.proofs.lemmas.List.Folds.{list_any-append}
 use Rattle.snow_base.specs.declared.header.Header.{Header}
-use Rattle.snow_flake.specs.Parameters.{Parameters, AreGood}
-use Rattle.snow_board.specs.Board.{Board, begin, blocks_of, height_of, issued}
-use Rattle.snow_board.specs.Reached.{MayIssue, Begun, Issued}
-use Rattle.snow_board.specs.Grown.{has_block, is_on}
+use Rattle.snow_flake.specs.Model.Parameters.{Parameters, AreGood}
+use Rattle.snow_board.specs.Model.Board.{Board, begin, blocks_of, height_of, issued}
+use Rattle.snow_board.specs.Laws.Reached.{MayIssue, Begun, Issued}
+use Rattle.snow_board.specs.Kept.Grown.{has_block, is_on}
 use Rattle.snow_board.proofs.Cases.{split_on, clash, same_id, id_same, id_itself, differs_back}
 use Rattle.snow_board.proofs.Children.{some_height}
 use Rattle.snow_board.proofs.Invariant.{blocks_issued}
-use Rattle.snow_chain.specs.Chain.{Held, States, state_of, begun, with_state, rejected, MayVerify, MayReject}
-use Rattle.snow_node.specs.Matching.{Matches, IsSteady}
+use Rattle.snow_chain.specs.Model.Chain.{Held, States, state_of, begun, with_state, rejected, MayVerify, MayReject}
+use Rattle.snow_node.specs.Clauses.Matching.{Matches, IsSteady}
 
 -- ---- the states that are held
 

@@ -5,23 +5,23 @@ use Rattle.std.proofs.lemmas.List.Sums.{fold-append}
 use Rattle.std.specs.List.{list_any}
 use Rattle.snow_base.specs.declared.header.Header.{Header}
 use Rattle.snow_base.specs.declared.vote.Vote.{Vote}
-use Rattle.snow_base.specs.Votes.{total_count}
-use Rattle.snow_base.specs.Ancestry.{line_in, descends}
+use Rattle.snow_base.specs.Model.Votes.{total_count}
+use Rattle.snow_base.specs.Model.Ancestry.{line_in, descends}
 use Rattle.snow_board.specs.declared.decision.Decision.{Decision}
-use Rattle.snow_board.specs.Conflict.{Pending}
-use Rattle.snow_board.specs.Board.{Board, blocks_of}
-use Rattle.snow_board.specs.Poll.{counted, winner, promoted, rejects, decisions_for, and_then, settled, poll}
-use Rattle.snow_board.specs.Reached.{Polled}
-use Rattle.snow_board.specs.Grown.{has_block, is_on, IsGrown}
+use Rattle.snow_board.specs.Model.Conflict.{Pending}
+use Rattle.snow_board.specs.Model.Board.{Board, blocks_of}
+use Rattle.snow_board.specs.Model.Poll.{counted, winner, promoted, rejects, decisions_for, and_then, settled, poll}
+use Rattle.snow_board.specs.Laws.Reached.{Polled}
+use Rattle.snow_board.specs.Kept.Grown.{has_block, is_on, IsGrown}
 use Rattle.snow_board.proofs.Cases.{split_on, clash, same_id, id_itself, differs_back}
 use Rattle.snow_board.proofs.Grown.{older, has_block-reverse}
 use Rattle.snow_board.proofs.Kept.{is_under, blocks-filter, has_filtered}
 use Rattle.snow_board.proofs.Settled.{settled_done, settled_won}
 use Rattle.snow_board.proofs.Invariant.{IsSound, sound_kept, reached_sound, blocks_counted}
 use Rattle.snow_board.proofs.Lookup.{IsWinner, won, stays, reversed_around, last_not_pending}
-use Rattle.snow_chain.specs.Chain.{Held, accepted, rejected, MayAccept, MayReject}
-use Rattle.snow_node.specs.Telling.{with_decision, with_decisions}
-use Rattle.snow_node.specs.Matching.{Matches, IsSteady, MayFollow}
+use Rattle.snow_chain.specs.Model.Chain.{Held, accepted, rejected, MayAccept, MayReject}
+use Rattle.snow_node.specs.Model.Telling.{with_decision, with_decisions}
+use Rattle.snow_node.specs.Clauses.Matching.{Matches, IsSteady, MayFollow}
 use Rattle.snow_node.proofs.Following.{holds, holds_without, turned, held_on, matching}
 
 -- ---- blocks with different identifiers

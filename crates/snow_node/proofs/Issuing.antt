@@ -1,27 +1,27 @@
 -- A block that was issued: what ties the node is kept, and its lines are told.
 use Rattle.std.proofs.Common.{◌≡◌, ℕ, Bool, true, false, List, [], ◌++◌, map, Option, Some, None, Result, refl, ap, ◌∙◌, subst}
 use Rattle.snow_base.specs.declared.header.Header.{Header}
-use Rattle.snow_flake.specs.Parameters.{Parameters}
-use Rattle.snow_flake.specs.Rule.{Answer}
+use Rattle.snow_flake.specs.Model.Parameters.{Parameters}
+use Rattle.snow_flake.specs.Model.Rule.{Answer}
 use Rattle.snow_board.specs.declared.decision.Decision.{Decision}
-use Rattle.snow_board.specs.Board.{Board, issued}
-use Rattle.snow_board.specs.Preference.{preferred}
-use Rattle.snow_chain.specs.Chain.{Held, with_state}
+use Rattle.snow_board.specs.Model.Board.{Board, issued}
+use Rattle.snow_board.specs.Model.Preference.{preferred}
+use Rattle.snow_chain.specs.Model.Chain.{Held, with_state}
 use Rattle.snow_lines.specs.declared.line.Line.{Line}
-use Rattle.snow_poll.specs.Table.{Table}
-use Rattle.snow_getter.specs.Serving.{Serving}
-use Rattle.snow_issue.specs.Known.{Seen}
-use Rattle.snow_issue.specs.Lists.{Lists}
+use Rattle.snow_poll.specs.Model.Table.{Table}
+use Rattle.snow_getter.specs.Model.Serving.{Serving}
+use Rattle.snow_issue.specs.Kept.Known.{Seen}
+use Rattle.snow_issue.specs.Model.Lists.{Lists}
 use Rattle.snow_node.specs.declared.stop.Halt.{Halt}
-use Rattle.snow_node.specs.Kept.{IsApart, IsKept}
-use Rattle.snow_node.specs.Matching.{IsSteady, Admits}
+use Rattle.snow_node.specs.Kept.Tied.{IsApart, IsKept}
+use Rattle.snow_node.specs.Clauses.Matching.{IsSteady, Admits}
 use Rattle.snow_node.specs.declared.running.remembering.Remembered.{Remembered}
-use Rattle.snow_node.specs.Remembering.{Remembers, when_issued}
-use Rattle.snow_node.specs.Running.{Running}
-use Rattle.snow_node.specs.Settling.{issued_by, asked_on_the_way}
-use Rattle.snow_node.specs.Stepping.{Tells, LogsFront}
-use Rattle.snow_node.specs.Supplying.{with_issued, if_issued}
-use Rattle.snow_node.specs.Telling.{decision_line, preference_line}
+use Rattle.snow_node.specs.Kept.Remembering.{Remembers, when_issued}
+use Rattle.snow_node.specs.Model.Running.{Running}
+use Rattle.snow_node.specs.Model.Settling.{issued_by, asked_on_the_way}
+use Rattle.snow_node.specs.Clauses.Stepping.{Tells, LogsFront}
+use Rattle.snow_node.specs.Model.Supplying.{with_issued, if_issued}
+use Rattle.snow_node.specs.Model.Telling.{decision_line, preference_line}
 use Rattle.snow_node.proofs.Keeping.{kept_issued}
 use Rattle.snow_node.proofs.Remembering.{kept_at_issue}
 use Rattle.snow_node.proofs.Logs.{logs_front_of_more}

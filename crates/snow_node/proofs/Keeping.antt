@@ -4,30 +4,30 @@ use Rattle.std.proofs.lemmas.Bool.{or_parts}
 use Rattle.std.proofs.lemmas.List.Folds.{list_any-append}
 use Rattle.std.proofs.lemmas.Bool.Decides.{nat_tests}
 use Rattle.std.specs.List.{list_any}
-use Rattle.snow_base.specs.Numbers.{next_number, last_after}
+use Rattle.snow_base.specs.Model.Numbers.{next_number, last_after}
 use Rattle.snow_base.specs.declared.header.Header.{Header}
-use Rattle.snow_flake.specs.Parameters.{Parameters, AreGood}
+use Rattle.snow_flake.specs.Model.Parameters.{Parameters, AreGood}
 use Rattle.snow_sample.specs.declared.draws.Draw.{Draw}
 use Rattle.snow_board.specs.declared.decision.Decision.{Decision}
-use Rattle.snow_board.specs.Board.{Board, begin, height_of, issued}
+use Rattle.snow_board.specs.Model.Board.{Board, begin, height_of, issued}
 use Rattle.snow_board.proofs.Cases.{split_on, clash, differs_back}
-use Rattle.snow_chain.specs.Chain.{Held, begun as first_states, with_state}
-use Rattle.snow_poll.specs.Poll.{Poll}
-use Rattle.snow_poll.specs.Table.{Table, no_polls, begun, voted, shortened, unfinished, answered, is_awaited_by, has_number as has_poll}
-use Rattle.snow_poll.specs.Closing.{is_closed}
+use Rattle.snow_chain.specs.Model.Chain.{Held, begun as first_states, with_state}
+use Rattle.snow_poll.specs.Model.Poll.{Poll}
+use Rattle.snow_poll.specs.Model.Table.{Table, no_polls, begun, voted, shortened, unfinished, answered, is_awaited_by, has_number as has_poll}
+use Rattle.snow_poll.specs.Model.Closing.{is_closed}
 use Rattle.snow_issue.specs.declared.work.Get.{Get}
 use Rattle.snow_issue.specs.declared.work.Waiting.{Waiting}
 use Rattle.snow_issue.specs.declared.work.Offered.TheVariants as offer
 use Rattle.snow_issue.specs.declared.work.Work.{Work}
-use Rattle.snow_issue.specs.Lists.{Lists, begun as first_lists, after_gone, with_get, with_waiting, waits, waits_among, has_number as has_get}
-use Rattle.snow_issue.specs.Offering.{is_on, is_next, offered}
-use Rattle.snow_issue.specs.Settling.{work_of, after as left_by}
+use Rattle.snow_issue.specs.Model.Lists.{Lists, begun as first_lists, after_gone, with_get, with_waiting, waits, waits_among, has_number as has_get}
+use Rattle.snow_issue.specs.Model.Offering.{is_on, is_next, offered}
+use Rattle.snow_issue.specs.Model.Settling.{work_of, after as left_by}
 use Rattle.snow_issue.proofs.Idle.{next_unknown}
-use Rattle.snow_node.specs.Closing.{all_gone}
-use Rattle.snow_node.specs.Kept.{AreAtMost, AreOff, IsApart, IsKept, MayWork}
-use Rattle.snow_node.specs.Matching.{IsSteady}
-use Rattle.snow_node.specs.Running.{Running}
-use Rattle.snow_node.specs.Telling.{with_decision, with_decisions}
+use Rattle.snow_node.specs.Model.Closing.{all_gone}
+use Rattle.snow_node.specs.Kept.Tied.{AreAtMost, AreOff, IsApart, IsKept, MayWork}
+use Rattle.snow_node.specs.Clauses.Matching.{IsSteady}
+use Rattle.snow_node.specs.Model.Running.{Running}
+use Rattle.snow_node.specs.Model.Telling.{with_decision, with_decisions}
 use Rattle.snow_node.proofs.Following.{begun_steady, holds, holds_with, holds_without}
 use Rattle.snow_node.proofs.Working.{work_gets, work_out}
 

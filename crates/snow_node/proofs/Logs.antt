@@ -2,7 +2,7 @@
 use Rattle.std.proofs.Common.{◌≡◌, ℕ, List, [], ◌++◌, map, take, drop, refl, sym, ap, ◌∙◌, append_assoc, append-nil, take-append-drop}
 use Rattle.std.proofs.lemmas.List.{map-append}
 use Rattle.snow_lines.specs.declared.line.Line.{Line}
-use Rattle.snow_node.specs.Stepping.{LogsFront}
+use Rattle.snow_node.specs.Clauses.Stepping.{LogsFront}
 
 -- nothing was appended
 pub logs_nothing : (before after lines : List Line) → after ≡ before → LogsFront before after lines

@@ -3,40 +3,40 @@ use Rattle.std.proofs.Common.{◌≡◌, ℕ, zero, suc, ◌-◌, ◌+◌, ◌<�
 use Rattle.std.proofs.lemmas.Bool.{and_parts}
 use Rattle.std.proofs.lemmas.Bool.Decides.{nat_tests}
 use Rattle.std.proofs.lemmas.List.{length-append}
-use Rattle.snow_base.specs.Numbers.{next_number}
+use Rattle.snow_base.specs.Model.Numbers.{next_number}
 use Rattle.snow_base.specs.declared.header.Header.{Header}
 use Rattle.snow_base.specs.declared.vote.Vote.{Vote}
-use Rattle.snow_flake.specs.Rule.{Answer}
+use Rattle.snow_flake.specs.Model.Rule.{Answer}
 use Rattle.snow_sample.specs.declared.draws.Draw.{Draw}
 use Rattle.snow_sample.specs.declared.sampling.SampleFault.{SampleFault}
 use Rattle.snow_sample.specs.declared.sampling.SampleFault.TheVariants as fault
-use Rattle.snow_sample.specs.Sampling.{sample_of}
+use Rattle.snow_sample.specs.Model.Sampling.{sample_of}
 use Rattle.snow_board.specs.declared.decision.Decision.{Decision}
-use Rattle.snow_board.specs.Board.{Board, height_of}
-use Rattle.snow_board.specs.Preference.{is_preferred}
-use Rattle.snow_board.specs.Poll.{poll}
+use Rattle.snow_board.specs.Model.Board.{Board, height_of}
+use Rattle.snow_board.specs.Model.Preference.{is_preferred}
+use Rattle.snow_board.specs.Model.Poll.{poll}
 use Rattle.snow_board.proofs.Cases.{split_on}
-use Rattle.snow_chain.specs.Chain.{Rules, next_on}
+use Rattle.snow_chain.specs.Model.Chain.{Rules, next_on}
 use Rattle.snow_lines.specs.declared.line.Line.{Line}
 use Rattle.snow_lines.specs.declared.why.DropWhy.{DropWhy}
 use Rattle.snow_lines.specs.declared.why.DropWhy.TheVariants as why
-use Rattle.snow_poll.specs.Poll.{Poll}
-use Rattle.snow_poll.specs.Closing.{is_closed}
-use Rattle.snow_poll.specs.Table.{finished, unfinished, voted}
-use Rattle.snow_issue.specs.Bubbling.{bubbled}
+use Rattle.snow_poll.specs.Model.Poll.{Poll}
+use Rattle.snow_poll.specs.Model.Closing.{is_closed}
+use Rattle.snow_poll.specs.Model.Table.{finished, unfinished, voted}
+use Rattle.snow_issue.specs.Model.Bubbling.{bubbled}
 use Rattle.snow_issue.specs.declared.work.Held.{Held}
 use Rattle.snow_issue.specs.declared.work.Work.{Work}
 use Rattle.snow_issue.specs.declared.work.Work.TheVariants as work
-use Rattle.snow_issue.specs.Lists.{Lists, after_gone, after_forgotten}
-use Rattle.snow_issue.specs.Settling.{work_of, after, IsIdle}
+use Rattle.snow_issue.specs.Model.Lists.{Lists, after_gone, after_forgotten}
+use Rattle.snow_issue.specs.Model.Settling.{work_of, after, IsIdle}
 use Rattle.snow_node.specs.declared.stop.Halt.{Halt}
-use Rattle.snow_node.specs.Outcome.{Comes, quietly, going_on, then_comes, where_made}
-use Rattle.snow_node.specs.Again.{again}
-use Rattle.snow_node.specs.Running.{Running}
-use Rattle.snow_node.specs.Placing.{opposed}
-use Rattle.snow_node.specs.Querying.{queried, sampled, lacks_polls, one_repolled}
-use Rattle.snow_node.specs.Closing.{all_gone, front_closed, one_closed, running_polls}
-use Rattle.snow_node.specs.Settling.{with_block, issued_by, placed_by, done, worked, one_settled, left_to_do, settled, asked_on_the_way}
+use Rattle.snow_node.specs.Model.Outcome.{Comes, quietly, going_on, then_comes, where_made}
+use Rattle.snow_node.specs.Model.Again.{again}
+use Rattle.snow_node.specs.Model.Running.{Running}
+use Rattle.snow_node.specs.Model.Placing.{opposed}
+use Rattle.snow_node.specs.Model.Querying.{queried, sampled, lacks_polls, one_repolled}
+use Rattle.snow_node.specs.Model.Closing.{all_gone, front_closed, one_closed, running_polls}
+use Rattle.snow_node.specs.Model.Settling.{with_block, issued_by, placed_by, done, worked, one_settled, left_to_do, settled, asked_on_the_way}
 use Rattle.snow_node.proofs.Working.{amount, work_smaller}
 
 -- ---- what holds of what comes, if it doesn't stop

@@ -3,9 +3,9 @@ use Rattle.std.proofs.Common.{◌≡◌, ℕ, zero, suc, ◌<◌, Bool, true, fa
 use Rattle.snow_lines.specs.declared.line.Line.{Line}
 use Rattle.snow_node.specs.declared.stop.Halt.{Halt}
 use Rattle.snow_node.specs.declared.stop.Halt.TheVariants as halt
-use Rattle.snow_node.specs.Outcome.{Comes, after_lines, going_on, then_comes, where_made}
-use Rattle.snow_node.specs.Again.{again, all_made}
-use Rattle.snow_node.specs.Stepping.{Tells, LogsFront, HaltsAs}
+use Rattle.snow_node.specs.Model.Outcome.{Comes, after_lines, going_on, then_comes, where_made}
+use Rattle.snow_node.specs.Model.Again.{again, all_made}
+use Rattle.snow_node.specs.Clauses.Stepping.{Tells, LogsFront, HaltsAs}
 use Rattle.snow_node.proofs.Logs.{logs_then_front, logs_front_of_more}
 
 -- lines in front of lines

@@ -2,14 +2,14 @@
 use Rattle.std.proofs.Common.{◌≡◌, ℕ, zero, suc, refl, ◌+◌, ◌<◌, true, List, length, Option, Some, None, is_some, sym, ◌∙◌, ap, subst}
 use Rattle.snow_base.specs.declared.header.Header.{Header}
 use Rattle.snow_base.specs.declared.vote.Vote.{Vote}
-use Rattle.snow_node.specs.Matching.{IsSteady}
-use Rattle.snow_chain.specs.Chain.{Held, MayReject, with_state, verified, rejected}
+use Rattle.snow_node.specs.Clauses.Matching.{IsSteady}
+use Rattle.snow_chain.specs.Model.Chain.{Held, MayReject, with_state, verified, rejected}
 use Rattle.snow_node.proofs.Following.{may_undo, undone, issued_steady}
-use Rattle.snow_board.specs.Board.{Board, height_of, issued}
+use Rattle.snow_board.specs.Model.Board.{Board, height_of, issued}
 use Rattle.snow_board.specs.declared.decision.Decision.{Decision}
-use Rattle.snow_board.specs.Conflict.{Pending}
-use Rattle.snow_board.specs.Poll.{poll, settled, counted, promoted, winner, accepted_then}
-use Rattle.snow_board.specs.Reached.{MayIssue}
+use Rattle.snow_board.specs.Model.Conflict.{Pending}
+use Rattle.snow_board.specs.Model.Poll.{poll, settled, counted, promoted, winner, accepted_then}
+use Rattle.snow_board.specs.Laws.Reached.{MayIssue}
 
 -- ---- the parameters stay
 

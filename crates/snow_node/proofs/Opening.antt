@@ -4,17 +4,17 @@ use Rattle.std.specs.Option.{option_and_then}
 use Rattle.std.proofs.lemmas.Bool.{le-ltb, ne_eqb}
 use Rattle.std.proofs.lemmas.List.Sums.{sum_by-cons}
 use Rattle.std.proofs.lemmas.Option.{none-some, same_Some}
-use Rattle.snow_flake.specs.Parameters.{Parameters, AreGood}
+use Rattle.snow_flake.specs.Model.Parameters.{Parameters, AreGood}
 use Rattle.snow_sample.specs.declared.draws.Draw.{Draw}
 use Rattle.snow_sample.specs.declared.roster.Node.{Node}
 use Rattle.snow_sample.specs.declared.sampling.SampleFault.{SampleFault}
 use Rattle.snow_sample.specs.declared.sampling.SampleFault.TheVariants as fault
-use Rattle.snow_sample.specs.Roster.{total_weight, owner}
-use Rattle.snow_sample.specs.Sampling.{swapped, with_unit, drawn_from, drawn, counted, draws_of, or_out, sample_of, draw_count}
-use Rattle.snow_sample.specs.Words.{choice}
-use Rattle.snow_poll.specs.Poll.{Poll, has_replied, outstanding}
-use Rattle.snow_poll.specs.Closing.{is_closed}
-use Rattle.snow_poll.specs.Table.{new_poll, finished}
+use Rattle.snow_sample.specs.Model.Roster.{total_weight, owner}
+use Rattle.snow_sample.specs.Model.Sampling.{swapped, with_unit, drawn_from, drawn, counted, draws_of, or_out, sample_of, draw_count}
+use Rattle.snow_sample.specs.Model.Words.{choice}
+use Rattle.snow_poll.specs.Model.Poll.{Poll, has_replied, outstanding}
+use Rattle.snow_poll.specs.Model.Closing.{is_closed}
+use Rattle.snow_poll.specs.Model.Table.{new_poll, finished}
 use Rattle.snow_board.proofs.Cases.{split_on}
 
 -- ---- a sample has as many draws as were asked for

@@ -2,9 +2,9 @@
 use Rattle.std.proofs.Common.{◌≡◌, ℕ, true, false, List, [], ◌∷◌, bytes_eq}
 use Rattle.std.proofs.lemmas.Bool.{or_left, or_right}
 use Rattle.std.specs.List.{list_any}
-use Rattle.snow_flake.specs.Rule.{Answer}
-use Rattle.snow_board.specs.Board.{Board}
-use Rattle.snow_board.specs.Preference.{end_of, preferred, preferred_path, is_preferred}
+use Rattle.snow_flake.specs.Model.Rule.{Answer}
+use Rattle.snow_board.specs.Model.Board.{Board}
+use Rattle.snow_board.specs.Model.Preference.{end_of, preferred, preferred_path, is_preferred}
 
 -- the last block of a path is on it
 end_is_on : (id : List ℕ) (path : List (List ℕ)) (other : List ℕ) → bytes_eq (end_of id path) other ≡ true → list_any (λ block. bytes_eq block other) (id ∷ path) ≡ true

@@ -1,13 +1,13 @@
 -- What a poll leaves, where its decisions were told.
 use Rattle.std.proofs.Common.{◌≡◌, ◌≤◌, List, sym, ◌∙◌, ap, subst}
 use Rattle.snow_base.specs.declared.vote.Vote.{Vote}
-use Rattle.snow_base.specs.Votes.{total_count}
+use Rattle.snow_base.specs.Model.Votes.{total_count}
 use Rattle.snow_board.specs.declared.decision.Decision.{Decision}
-use Rattle.snow_board.specs.Board.{Board}
-use Rattle.snow_board.specs.Poll.{poll}
-use Rattle.snow_chain.specs.Chain.{Held}
-use Rattle.snow_node.specs.Matching.{IsSteady, MayFollow}
-use Rattle.snow_node.specs.Telling.{with_decisions}
+use Rattle.snow_board.specs.Model.Board.{Board}
+use Rattle.snow_board.specs.Model.Poll.{poll}
+use Rattle.snow_chain.specs.Model.Chain.{Held}
+use Rattle.snow_node.specs.Clauses.Matching.{IsSteady, MayFollow}
+use Rattle.snow_node.specs.Model.Telling.{with_decisions}
 use Rattle.snow_node.proofs.Follows.{poll_follows}
 use Rattle.snow_node.proofs.Offers.{steady_as}
 

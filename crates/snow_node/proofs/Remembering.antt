@@ -3,20 +3,20 @@ use Rattle.std.proofs.Common.{◌≡◌, ℕ, Bool, true, false, List, [], ◌�
 use Rattle.snow_base.specs.declared.header.Header.{Header}
 use Rattle.snow_base.specs.declared.vote.Vote.{Vote}
 use Rattle.snow_board.specs.declared.decision.Decision.{Decision}
-use Rattle.snow_board.specs.Board.{Board, issued}
-use Rattle.snow_board.specs.Poll.{poll}
+use Rattle.snow_board.specs.Model.Board.{Board, issued}
+use Rattle.snow_board.specs.Model.Poll.{poll}
 use Rattle.snow_board.proofs.Cases.{split_on, same_id}
 use Rattle.snow_issue.specs.declared.work.Work.{Work}
 use Rattle.snow_issue.specs.declared.work.Work.TheVariants as work
-use Rattle.snow_issue.specs.Known.{Seen, lists_of, Knows, ForgetsChildren, NoneRipe, RestsAfter}
-use Rattle.snow_issue.specs.Lists.{Lists, after_gone}
-use Rattle.snow_issue.specs.Settling.{work_of, after, IsIdle}
+use Rattle.snow_issue.specs.Kept.Known.{Seen, lists_of, Knows, ForgetsChildren, NoneRipe, RestsAfter}
+use Rattle.snow_issue.specs.Model.Lists.{Lists, after_gone}
+use Rattle.snow_issue.specs.Model.Settling.{work_of, after, IsIdle}
 use Rattle.snow_issue.proofs.Idle.{idle_polled}
 use Rattle.snow_issue.proofs.Remembered.{tells_issued, tells_polled}
-use Rattle.snow_node.specs.Closing.{all_gone}
+use Rattle.snow_node.specs.Model.Closing.{all_gone}
 use Rattle.snow_node.specs.declared.running.remembering.Remembered.{Remembered}
 use Rattle.snow_node.specs.declared.running.remembering.Remembered.TheVariants as known
-use Rattle.snow_node.specs.Remembering.{Remembers, when_taken, when_woken, when_looked, when_next, when_issued, when_polled}
+use Rattle.snow_node.specs.Kept.Remembering.{Remembers, when_taken, when_woken, when_looked, when_next, when_issued, when_polled}
 
 -- no block is looked at again, and no more is to be done
 pub kept_seats : (board : Board) (old now : Seen) (k : Remembered) → ((b : Board) → Knows old b → Knows now b) → now.seats ≡ old.seats

@@ -3,33 +3,33 @@ use Rattle.std.proofs.Common.{◌≡◌, ℕ, ◌+◌, true, false, List, [], �
 use Rattle.std.specs.FinMap.{empty}
 use Rattle.std.specs.Option.{option_and_then}
 use Rattle.snow_base.specs.declared.header.Header.{Header}
-use Rattle.snow_base.specs.Identifier.{bits}
-use Rattle.snow_base.specs.Votes.{added}
-use Rattle.snow_flake.specs.Parameters.{Parameters}
-use Rattle.snow_flake.specs.Rule.{by_preference}
+use Rattle.snow_base.specs.Model.Identifier.{bits}
+use Rattle.snow_base.specs.Model.Votes.{added}
+use Rattle.snow_flake.specs.Model.Parameters.{Parameters}
+use Rattle.snow_flake.specs.Model.Rule.{by_preference}
 use Rattle.snow_sample.specs.declared.roster.Node.{Node as Member}
-use Rattle.snow_sample.specs.Words.{is_power}
-use Rattle.snow_sample.specs.Sampling.{drawn_from}
-use Rattle.snow_board.specs.Conflict.{with_child, all_polled, chosen, decided_path}
-use Rattle.snow_board.specs.Board.{begin}
-use Rattle.snow_board.specs.Poll.{counted, winner, decisions_for, promoted, settled, poll}
-use Rattle.snow_board.specs.Preference.{path_from}
-use Rattle.snow_chain.specs.Chain.{Held, begun, next_on}
-use Rattle.snow_chain.specs.Plain.{header_of, plain_rules}
-use Rattle.snow_issue.specs.Lists as lists
-use Rattle.snow_getter.specs.Chain.{chain_within}
-use Rattle.snow_getter.specs.Serving.{serving_from}
-use Rattle.snow_issue.specs.Bubbling.{bubbled_in}
+use Rattle.snow_sample.specs.Model.Words.{is_power}
+use Rattle.snow_sample.specs.Model.Sampling.{drawn_from}
+use Rattle.snow_board.specs.Model.Conflict.{with_child, all_polled, chosen, decided_path}
+use Rattle.snow_board.specs.Model.Board.{begin}
+use Rattle.snow_board.specs.Model.Poll.{counted, winner, decisions_for, promoted, settled, poll}
+use Rattle.snow_board.specs.Model.Preference.{path_from}
+use Rattle.snow_chain.specs.Model.Chain.{Held, begun, next_on}
+use Rattle.snow_chain.specs.Model.Plain.{header_of, plain_rules}
+use Rattle.snow_issue.specs.Model.Lists as lists
+use Rattle.snow_getter.specs.Model.Chain.{chain_within}
+use Rattle.snow_getter.specs.Model.Serving.{serving_from}
+use Rattle.snow_issue.specs.Model.Bubbling.{bubbled_in}
 use Rattle.snow_wire.specs.declared.event.Event.{Event}
 use Rattle.snow_wire.specs.declared.event.Event.TheVariants as event
 use Rattle.snow_lines.specs.declared.line.Line.{Line}
 use Rattle.snow_lines.specs.declared.line.Line.TheVariants as line
 use Rattle.snow_lines.specs.declared.why.QueryWhy.TheVariants as query
-use Rattle.snow_node.specs.Outcome.{Comes, quietly, then_comes, where_made}
-use Rattle.snow_node.specs.Again.{again}
-use Rattle.snow_node.specs.Running.{Running}
-use Rattle.snow_node.specs.Settling.{issued_by, one_settled}
-use Rattle.snow_node.specs.Turning.{runs_on, rounded}
+use Rattle.snow_node.specs.Model.Outcome.{Comes, quietly, then_comes, where_made}
+use Rattle.snow_node.specs.Model.Again.{again}
+use Rattle.snow_node.specs.Model.Running.{Running}
+use Rattle.snow_node.specs.Model.Settling.{issued_by, one_settled}
+use Rattle.snow_node.specs.Model.Turning.{runs_on, rounded}
 use Rattle.snow_node.proofs.Following.{state_with}
 
 -- an identifier by its first byte, and a node by its number

@@ -3,8 +3,8 @@ use Rattle.std.proofs.Common.{◌≡◌, List, ◌++◌, append_assoc, Result, O
 use Rattle.snow_lines.specs.declared.line.Line.{Line}
 use Rattle.snow_node.specs.declared.stop.Halt.{Halt}
 use Rattle.snow_node.specs.declared.stop.Halt.TheVariants as halt
-use Rattle.snow_node.specs.Outcome.{Comes, after_lines, going_on, then_comes}
-use Rattle.snow_node.specs.Stepping.{Tells, LogsFront, HaltsAs}
+use Rattle.snow_node.specs.Model.Outcome.{Comes, after_lines, going_on, then_comes}
+use Rattle.snow_node.specs.Clauses.Stepping.{Tells, LogsFront, HaltsAs}
 use Rattle.snow_node.proofs.Logs.{logs_then_front, logs_front_of_more}
 
 -- lines behind lines

@@ -6,20 +6,20 @@ use Rattle.std.proofs.lemmas.List.{map-append}
 use Rattle.snow_base.specs.declared.header.Header.{Header}
 use Rattle.snow_base.specs.declared.vote.Vote.{Vote}
 use Rattle.snow_board.specs.declared.decision.Decision.{Decision}
-use Rattle.snow_flake.specs.Parameters.{Parameters}
-use Rattle.snow_board.specs.Board.{Board, begin, blocks_of, issued}
-use Rattle.snow_board.specs.Grown.{has_block}
-use Rattle.snow_board.specs.Poll.{poll}
-use Rattle.snow_board.specs.Reached.{MayIssue}
+use Rattle.snow_flake.specs.Model.Parameters.{Parameters}
+use Rattle.snow_board.specs.Model.Board.{Board, begin, blocks_of, issued}
+use Rattle.snow_board.specs.Kept.Grown.{has_block}
+use Rattle.snow_board.specs.Model.Poll.{poll}
+use Rattle.snow_board.specs.Laws.Reached.{MayIssue}
 use Rattle.snow_board.proofs.Cases.{split_on, clash, id_itself}
 use Rattle.snow_board.proofs.Children.{some_height}
 use Rattle.snow_board.proofs.Invariant.{blocks_issued}
-use Rattle.snow_chain.specs.Chain.{Held}
+use Rattle.snow_chain.specs.Model.Chain.{Held}
 use Rattle.snow_getter.specs.declared.served.Served.{Served}
-use Rattle.snow_getter.specs.Serving.{Serving, is_block, is_pending, serving_from, without, after_rejected}
-use Rattle.snow_node.specs.Matching.{IsSteady}
-use Rattle.snow_node.specs.Supplying.{Link, link, served_link, Serves, with_issued, with_decision, with_decisions}
-use Rattle.snow_node.specs.Telling as chain
+use Rattle.snow_getter.specs.Model.Serving.{Serving, is_block, is_pending, serving_from, without, after_rejected}
+use Rattle.snow_node.specs.Clauses.Matching.{IsSteady}
+use Rattle.snow_node.specs.Model.Supplying.{Link, link, served_link, Serves, with_issued, with_decision, with_decisions}
+use Rattle.snow_node.specs.Model.Telling as chain
 use Rattle.snow_node.proofs.Following.{turned}
 use Rattle.snow_node.proofs.Undecided.{is_decided, undecided_left}
 

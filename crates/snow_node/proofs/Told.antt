@@ -2,9 +2,9 @@
 use Rattle.std.proofs.Common.{◌≡◌, ℕ, suc, ◌+◌, ◌<◌, List, ◌∷◌, length, get_or, take, drop, drop-cons, subst, sym, ap, ◌∙◌, arith}
 use Rattle.std.proofs.lemmas.List.Sums.{fold_more}
 use Rattle.snow_board.specs.declared.decision.Decision.{Decision}
-use Rattle.snow_chain.specs.Chain.{Held}
-use Rattle.snow_node.specs.Telling.{with_decision, with_decisions}
-use Rattle.snow_node.specs.Matching.{MayTell, MayFollow}
+use Rattle.snow_chain.specs.Model.Chain.{Held}
+use Rattle.snow_node.specs.Model.Telling.{with_decision, with_decisions}
+use Rattle.snow_node.specs.Clauses.Matching.{MayTell, MayFollow}
 
 -- the next decision may be told, and behind it the rest
 pub next_may : (held : Held) (decisions : List Decision) (i : ℕ) (d : Decision) → i < length decisions → d ≡ get_or decisions i d

@@ -4,9 +4,9 @@ use Rattle.std.specs.FinMap.{empty, get-empty}
 use Rattle.std.specs.Ordering.{nat_cmp}
 use Rattle.std.specs.Cmp.Lexicographic.{slice_cmp}
 use Rattle.snow_board.specs.declared.decision.Decision.{Decision}
-use Rattle.snow_chain.specs.Chain.{Held, state_of, begun, with_state, accepted}
-use Rattle.snow_node.specs.Telling.{with_decisions}
-use Rattle.snow_node.specs.Matching.{MayFollow}
+use Rattle.snow_chain.specs.Model.Chain.{Held, state_of, begun, with_state, accepted}
+use Rattle.snow_node.specs.Model.Telling.{with_decisions}
+use Rattle.snow_node.specs.Clauses.Matching.{MayFollow}
 use Rattle.snow_node.proofs.Following.{state_with, state_without}
 
 -- blocks 2 and 3 above block 1, each with a state of its own

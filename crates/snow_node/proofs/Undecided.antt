@@ -1,21 +1,21 @@
 -- The pending blocks that a poll leaves: those that it doesn't decide, in the order in which they were.
 use Rattle.std.proofs.Common.{◌≡◌, ℕ, Bool, true, false, not, ◌&&◌, ◌||◌, List, [], ◌∷◌, length, get_or, filter, bytes_eq, refl, sym, ap, ◌∙◌, subst}
 use Rattle.std.specs.List.{list_any}
-use Rattle.snow_base.specs.Ancestry.{descends}
+use Rattle.snow_base.specs.Model.Ancestry.{descends}
 use Rattle.snow_base.specs.declared.header.Header.{Header}
 use Rattle.snow_base.specs.declared.vote.Vote.{Vote}
 use Rattle.snow_board.specs.declared.decision.Decision.{Decision}
-use Rattle.snow_board.specs.Conflict.{Pending}
-use Rattle.snow_board.specs.Board.{Board, blocks_of}
-use Rattle.snow_board.specs.Poll.{counted, promoted, poll}
-use Rattle.snow_board.specs.Grown.{has_block}
+use Rattle.snow_board.specs.Model.Conflict.{Pending}
+use Rattle.snow_board.specs.Model.Board.{Board, blocks_of}
+use Rattle.snow_board.specs.Model.Poll.{counted, promoted, poll}
+use Rattle.snow_board.specs.Kept.Grown.{has_block}
 use Rattle.snow_board.proofs.Cases.{split_on, same_id}
 use Rattle.snow_board.proofs.Invariant.{reached_sound, settled_keeps, blocks_counted}
 use Rattle.snow_board.proofs.Kept.{filter_on, blocks-filter, has_filtered, has_own}
 use Rattle.snow_board.proofs.Lookup.{last_not_pending}
-use Rattle.snow_chain.specs.Chain.{Held}
-use Rattle.snow_node.specs.Matching.{IsSteady}
-use Rattle.snow_node.specs.Telling.{with_decision, with_decisions}
+use Rattle.snow_chain.specs.Model.Chain.{Held}
+use Rattle.snow_node.specs.Clauses.Matching.{IsSteady}
+use Rattle.snow_node.specs.Model.Telling.{with_decision, with_decisions}
 use Rattle.snow_node.proofs.Following.{holds, holds_without, turned, held_on}
 
 -- ---- what is open on a chain

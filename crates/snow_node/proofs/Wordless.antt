@@ -1,11 +1,11 @@
 -- No sample without a word to draw it by.
 use Rattle.std.proofs.Common.{◌≡◌, ℕ, zero, suc, ◌+◌, ◌-◌, ◌<◌, ◌≤◌, false, nat_lt, List, [], ◌∷◌, length, None, Err, refl, arith}
-use Rattle.snow_flake.specs.Parameters.{Parameters, AreGood}
+use Rattle.snow_flake.specs.Model.Parameters.{Parameters, AreGood}
 use Rattle.snow_sample.specs.declared.roster.Node.{Node}
 use Rattle.snow_sample.specs.declared.sampling.SampleFault.TheVariants as fault
-use Rattle.snow_sample.specs.Roster.{total_weight}
-use Rattle.snow_sample.specs.Sampling.{sample_of, drawn_from}
-use Rattle.snow_sample.specs.Words.{choice, is_power}
+use Rattle.snow_sample.specs.Model.Roster.{total_weight}
+use Rattle.snow_sample.specs.Model.Sampling.{sample_of, drawn_from}
+use Rattle.snow_sample.specs.Model.Words.{choice, is_power}
 use Rattle.std.proofs.lemmas.Bool.{le-ltb}
 use Rattle.snow_board.proofs.Cases.{split_on}
 

@@ -1,15 +1,15 @@
 //! What every node does with its board and its chain: it admits a block, and applies a poll.
 
 ghost use Rattle.std.specs.Prelude.{◌≡◌, ◌+◌, ◌≤◌, ◌==◌, None, length, IfOk, OnOk, OnErr};
-ghost use Rattle.snow_base.specs.Gathered.{one_each};
-ghost use Rattle.snow_base.specs.Votes.{total_count};
-ghost use Rattle.snow_board.specs.Board.{height_of};
-ghost use Rattle.snow_board.specs.Poll.{poll};
-ghost use Rattle.snow_board.specs.Reached.{MayIssue};
-ghost use Rattle.snow_chain.specs.Chain.{next_on};
-ghost use Rattle.snow_node.specs.Matching.{IsSteady, Admits};
-ghost use Rattle.snow_node.specs.Placing.{opposed};
-ghost use Rattle.snow_node.specs.Telling.{with_decisions};
+ghost use Rattle.snow_base.specs.Clauses.Gathered.{one_each};
+ghost use Rattle.snow_base.specs.Model.Votes.{total_count};
+ghost use Rattle.snow_board.specs.Model.Board.{height_of};
+ghost use Rattle.snow_board.specs.Model.Poll.{poll};
+ghost use Rattle.snow_board.specs.Laws.Reached.{MayIssue};
+ghost use Rattle.snow_chain.specs.Model.Chain.{next_on};
+ghost use Rattle.snow_node.specs.Clauses.Matching.{IsSteady, Admits};
+ghost use Rattle.snow_node.specs.Model.Placing.{opposed};
+ghost use Rattle.snow_node.specs.Model.Telling.{with_decisions};
 
 use crate::telling;
 use snow_base::{Bag, Header, Id};

@@ -1,8 +1,8 @@
 //! Laws of polls and boards together, and of a node that runs: each a function that does nothing and
 //! ensures the law.
-ghost use Rattle.snow_node.specs.CompletionLaw.{CompletionLaw};
-ghost use Rattle.snow_node.specs.LoopsLaw.{SettlingEnds, ClosingEnds, RepollsEnd};
-ghost use Rattle.snow_node.specs.RestLaw.{RestLaw};
+ghost use Rattle.snow_node.specs.Laws.CompletionLaw.{CompletionLaw};
+ghost use Rattle.snow_node.specs.Laws.LoopsLaw.{SettlingEnds, ClosingEnds, RepollsEnd};
+ghost use Rattle.snow_node.specs.Laws.RestLaw.{RestLaw};
 
 /// A poll that closes early leaves the very board that each of its completions would leave.
 /// Rule: this project's own.

@@ -1,7 +1,7 @@
 ghost use Rattle.std.specs.Prelude.{◌≡◌, [], ◌∷◌, ◌++◌, map, Err, OnOk, OnErr};
-ghost use Rattle.snow_board.specs.Preference.{preferred};
-ghost use Rattle.snow_node.specs.Telling as model;
-ghost use Rattle.snow_node.specs.Stepping.{Tells, LogsFront};
+ghost use Rattle.snow_board.specs.Model.Preference.{preferred};
+ghost use Rattle.snow_node.specs.Model.Telling as model;
+ghost use Rattle.snow_node.specs.Clauses.Stepping.{Tells, LogsFront};
 
 use crate::stop::Halt;
 use snow_base::Id;

@@ -1,21 +1,21 @@
 //! A node that runs: it asks other nodes, and decides by what they answer.
 
 ghost use Rattle.std.specs.Prelude.{◌≡◌, ◌+◌, ◌-◌, ◌^◌, ◌≤◌, [], ◌∷◌, ◌++◌, length, Err, IfOk, OnOk, OnErr};
-ghost use Rattle.snow_flake.specs.Parameters.{AreGood};
-ghost use Rattle.snow_sample.specs.Roster.{first_fault, IsRosterOf};
-ghost use Rattle.snow_getter.specs.Answer.{answer};
-ghost use Rattle.snow_board.specs.Preference.{preferred};
-ghost use Rattle.snow_wire.specs.Viewed.{as_event};
-ghost use Rattle.snow_board.specs.Board.{begin};
-ghost use Rattle.snow_chain.specs.Alone.{IsAlone, last_state};
-ghost use Rattle.snow_getter.specs.Serving.{serving_from};
-ghost use Rattle.snow_issue.specs.Known.{lists_of};
-ghost use Rattle.snow_issue.specs.Lists.{begun};
-ghost use Rattle.snow_node.specs.Hearing as hearing;
-ghost use Rattle.snow_node.specs.Outcome.{then_comes};
-ghost use Rattle.snow_node.specs.Running.{begun_above};
-ghost use Rattle.snow_node.specs.Stepping.{Tells, Turns};
-ghost use Rattle.snow_node.specs.Turning as model;
+ghost use Rattle.snow_flake.specs.Model.Parameters.{AreGood};
+ghost use Rattle.snow_sample.specs.Model.Roster.{first_fault, IsRosterOf};
+ghost use Rattle.snow_getter.specs.Model.Answer.{answer};
+ghost use Rattle.snow_board.specs.Model.Preference.{preferred};
+ghost use Rattle.snow_wire.specs.Clauses.Viewed.{as_event};
+ghost use Rattle.snow_board.specs.Model.Board.{begin};
+ghost use Rattle.snow_chain.specs.Kept.Alone.{IsAlone, last_state};
+ghost use Rattle.snow_getter.specs.Model.Serving.{serving_from};
+ghost use Rattle.snow_issue.specs.Kept.Known.{lists_of};
+ghost use Rattle.snow_issue.specs.Model.Lists.{begun};
+ghost use Rattle.snow_node.specs.Model.Hearing as hearing;
+ghost use Rattle.snow_node.specs.Model.Outcome.{then_comes};
+ghost use Rattle.snow_node.specs.Model.Running.{begun_above};
+ghost use Rattle.snow_node.specs.Clauses.Stepping.{Tells, Turns};
+ghost use Rattle.snow_node.specs.Model.Turning as model;
 
 mod closing;
 mod fetching;
@@ -70,12 +70,12 @@ pub struct Running<C: Chain, B: Board> {
 }
 
 impl<C: Chain, B: Board> Model for Running<C, B> {
-    ghost use Rattle.snow_issue.specs.Known.{lists_of};
-    ghost use Rattle.snow_node.specs.Running.{Running};
-    ghost use Rattle.snow_node.specs.RunningCode.{coded_running};
-    ghost use Rattle.snow_node.specs.Kept.{IsKept};
-    ghost use Rattle.snow_node.specs.Remembering.{Remembers};
-    ghost use Rattle.snow_node.specs.Supplying.{Serves};
+    ghost use Rattle.snow_issue.specs.Kept.Known.{lists_of};
+    ghost use Rattle.snow_node.specs.Model.Running.{Running};
+    ghost use Rattle.snow_node.specs.Kept.RunningCode.{coded_running};
+    ghost use Rattle.snow_node.specs.Kept.Tied.{IsKept};
+    ghost use Rattle.snow_node.specs.Kept.Remembering.{Remembers};
+    ghost use Rattle.snow_node.specs.Model.Supplying.{Serves};
 
     ghost Value = { Running };
 

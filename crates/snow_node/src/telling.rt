@@ -1,6 +1,6 @@
 ghost use Rattle.std.specs.Prelude.{◌≡◌};
-ghost use Rattle.snow_node.specs.Matching.{MayFollow, MayTell};
-ghost use Rattle.snow_node.specs.Telling.{with_decision, with_decisions};
+ghost use Rattle.snow_node.specs.Clauses.Matching.{MayFollow, MayTell};
+ghost use Rattle.snow_node.specs.Model.Telling.{with_decision, with_decisions};
 
 use snow_board::Decision;
 use snow_chain::Chain;

@@ -7,16 +7,16 @@ use Rattle.std.specs.Ordering.{bool_cmp, is_eq}
 use Rattle.std.specs.Cmp.Lexicographic.{pointwise, lists_ties}
 use Rattle.std.proofs.lemmas.List.Sums.{sum_by-cons}
 use Rattle.snow_base.specs.declared.vote.Vote.{Vote}
-use Rattle.snow_base.specs.Identifier.{bit, bits, bit_cmp}
+use Rattle.snow_base.specs.Model.Identifier.{bit, bits, bit_cmp}
 use Rattle.snow_base.proofs.Bits.{length-bits, drop-bits}
-use Rattle.snow_flake.specs.Parameters.{Parameters}
-use Rattle.snow_flake.specs.Counter.{Counter, fresh, stepped, admits}
-use Rattle.snow_flake.specs.Instance.{Single, at_bit, polled, on_side, counter_of}
-use Rattle.snow_flake.specs.Rule.{Answer, answer_of}
+use Rattle.snow_flake.specs.Model.Parameters.{Parameters}
+use Rattle.snow_flake.specs.Model.Counter.{Counter, fresh, stepped, admits}
+use Rattle.snow_flake.specs.Kept.Instance.{Single, at_bit, polled, on_side, counter_of}
+use Rattle.snow_flake.specs.Model.Rule.{Answer, answer_of}
 use Rattle.snow_plain.specs.declared.lone.Lone.{Lone}
-use Rattle.snow_board.specs.Conflict.{Counters, Blank, At, with_child, all_polled, votes_on, chosen, decided_path, leads_to, decides}
-use Rattle.snow_board.specs.Walk.{depth}
-use Rattle.snow_plain.specs.Alone.{linked, lined, filled, IsReserve, is_blank, along, AreFor}
+use Rattle.snow_board.specs.Model.Conflict.{Counters, Blank, At, with_child, all_polled, votes_on, chosen, decided_path, leads_to, decides}
+use Rattle.snow_board.specs.Kept.Walk.{depth}
+use Rattle.snow_plain.specs.Kept.Alone.{linked, lined, filled, IsReserve, is_blank, along, AreFor}
 use Rattle.snow_board.proofs.Cases.{split_on, same_id}
 use Rattle.snow_board.proofs.Pruning.{instance_stepped}
 

@@ -5,15 +5,15 @@ use Rattle.std.proofs.lemmas.List.Folds.{fold-map}
 use Rattle.std.proofs.lemmas.Bool.{or_parts, or_left, or_right}
 use Rattle.snow_base.specs.declared.header.Header.{Header}
 use Rattle.snow_base.specs.declared.vote.Vote.{Vote}
-use Rattle.snow_base.specs.Ancestry.{line_in, child_on, begins_with, is_below, votes_below}
-use Rattle.snow_flake.specs.Parameters.{Parameters}
+use Rattle.snow_base.specs.Model.Ancestry.{line_in, child_on, begins_with, is_below, votes_below}
+use Rattle.snow_flake.specs.Model.Parameters.{Parameters}
 use Rattle.snow_board.specs.declared.cursor.Cursor.{Cursor}
-use Rattle.snow_board.specs.Conflict.{Pending}
-use Rattle.snow_board.specs.Conflict.{all_polled}
-use Rattle.snow_board.specs.Board.{Board, blocks_of, with_counters}
-use Rattle.snow_board.specs.Poll.{with_votes, counted}
-use Rattle.snow_board.specs.Cursors.{started, moved, moved_past, child_at, votes_for, votes_at, polled}
-use Rattle.snow_board.specs.Grown.{has_block, is_on, IsGrown}
+use Rattle.snow_board.specs.Model.Conflict.{Pending}
+use Rattle.snow_board.specs.Model.Conflict.{all_polled}
+use Rattle.snow_board.specs.Model.Board.{Board, blocks_of, with_counters}
+use Rattle.snow_board.specs.Model.Poll.{with_votes, counted}
+use Rattle.snow_board.specs.Kept.Cursors.{started, moved, moved_past, child_at, votes_for, votes_at, polled}
+use Rattle.snow_board.specs.Kept.Grown.{has_block, is_on, IsGrown}
 use Rattle.snow_board.proofs.Cases.{split_on, same_id, id_itself}
 use Rattle.snow_board.proofs.Grown.{has_child, older, not_last, grown_before, latest_childless, no_child_on, line_passes}
 

@@ -1,11 +1,11 @@
 -- Lemmas on how deep the counters of a conflict stand.
 use Rattle.std.proofs.Common.{◌≡◌, ℕ, ◌≤◌, max, Bool, true, false, List, [], ◌∷◌, length, if◌then◌else◌, Result, Ok, Err, OnOk, OnErr, arith}
-use Rattle.snow_base.specs.Identifier.{bits}
+use Rattle.snow_base.specs.Model.Identifier.{bits}
 use Rattle.snow_base.proofs.Bits.{length-bits}
-use Rattle.snow_flake.specs.Parameters.{Parameters}
-use Rattle.snow_flake.specs.Counter.{stepped, admits}
-use Rattle.snow_board.specs.Conflict.{Counters, Blank, At, with_child, all_polled}
-use Rattle.snow_board.specs.Walk.{depth}
+use Rattle.snow_flake.specs.Model.Parameters.{Parameters}
+use Rattle.snow_flake.specs.Model.Counter.{stepped, admits}
+use Rattle.snow_board.specs.Model.Conflict.{Counters, Blank, At, with_child, all_polled}
+use Rattle.snow_board.specs.Kept.Walk.{depth}
 
 -- a choice of two is no deeper than both
 either_within : (n : ℕ) (b : Bool) (x y : Counters) → depth x ≤ n → depth y ≤ n → depth (if b then x else y) ≤ n

@@ -1,9 +1,9 @@
 -- Lemmas on the counters that a child adds.
 use Rattle.std.proofs.Common.{◌≡◌, ℕ, ◌+◌, ◌<◌, ◌≤◌, Bool, true, false, List, ◌∷◌, drop, Result, Ok, Err, OnOk, if◌then◌else◌, refl, sym}
-use Rattle.snow_base.specs.Identifier.{bit, bits}
+use Rattle.snow_base.specs.Model.Identifier.{bit, bits}
 use Rattle.snow_base.proofs.Bits.{drop-bits}
-use Rattle.snow_flake.specs.Counter.{Counter, fresh, admits}
-use Rattle.snow_board.specs.Conflict.{Counters, Blank, At, with_child}
+use Rattle.snow_flake.specs.Model.Counter.{Counter, fresh, admits}
+use Rattle.snow_board.specs.Model.Conflict.{Counters, Blank, At, with_child}
 use Rattle.snow_board.proofs.Walking.{drop-bits_end}
 
 -- behind the last bit no counter is added

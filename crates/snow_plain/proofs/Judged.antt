@@ -5,13 +5,13 @@ use Rattle.std.proofs.lemmas.List.{map-append, take_rest, length-map}
 use Rattle.std.proofs.lemmas.List.Elements.{filter_more, filter-append}
 use Rattle.std.proofs.lemmas.Bool.{or_left, or_right}
 use Rattle.snow_base.specs.declared.header.Header.{Header}
-use Rattle.snow_base.specs.Ancestry.{line_in, descends}
+use Rattle.snow_base.specs.Model.Ancestry.{line_in, descends}
 use Rattle.snow_board.specs.declared.decision.Decision.{Decision}
-use Rattle.snow_board.specs.Conflict.{Pending}
-use Rattle.snow_board.specs.Board.{blocks_of}
-use Rattle.snow_board.specs.Poll.{rejects}
-use Rattle.snow_board.specs.Acceptance.{outsiders, has_decision, is_rejected}
-use Rattle.snow_board.specs.Grown.{has_block, is_on, IsGrown}
+use Rattle.snow_board.specs.Model.Conflict.{Pending}
+use Rattle.snow_board.specs.Model.Board.{blocks_of}
+use Rattle.snow_board.specs.Model.Poll.{rejects}
+use Rattle.snow_board.specs.Model.Acceptance.{outsiders, has_decision, is_rejected}
+use Rattle.snow_board.specs.Kept.Grown.{has_block, is_on, IsGrown}
 use Rattle.snow_board.proofs.Cases.{split_on, same_id, id_itself}
 use Rattle.snow_board.proofs.Grown.{grown_parent, grown_rest, grown_before, on_more, older, not_last, no_line, line_passes, reversed_at, has_block-reverse}
 use Rattle.snow_board.proofs.Kept.{blocks-filter, has_filtered}

@@ -3,11 +3,11 @@ use Rattle.std.proofs.Common.{◌≡◌, ℕ, suc, ◌+◌, ◌-◌, ◌<◌, �
 use Rattle.std.proofs.lemmas.Bool.{or_parts, or_left, or_right}
 use Rattle.std.proofs.lemmas.Option.{none-some}
 use Rattle.snow_base.specs.declared.header.Header.{Header}
-use Rattle.snow_board.specs.Conflict.{Pending}
-use Rattle.snow_board.specs.Board.{Board, blocks_of}
-use Rattle.snow_board.specs.Reached.{MayIssue}
-use Rattle.snow_board.specs.Grown.{has_block, IsGrown}
-use Rattle.snow_plain.specs.Places.{place_from}
+use Rattle.snow_board.specs.Model.Conflict.{Pending}
+use Rattle.snow_board.specs.Model.Board.{Board, blocks_of}
+use Rattle.snow_board.specs.Laws.Reached.{MayIssue}
+use Rattle.snow_board.specs.Kept.Grown.{has_block, IsGrown}
+use Rattle.snow_plain.specs.Kept.Places.{place_from}
 use Rattle.snow_board.proofs.Issued.{unknown_off}
 use Rattle.snow_board.proofs.Grown.{older, reversed_at, has_block-reverse}
 use Rattle.snow_board.proofs.Cases.{split_on, clash, same_id, id_same, id_itself}

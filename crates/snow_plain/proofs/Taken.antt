@@ -6,13 +6,13 @@ use Rattle.std.proofs.lemmas.List.Elements.{filter-append}
 use Rattle.std.proofs.lemmas.List.{length-map}
 use Rattle.std.proofs.lemmas.Bool.{or_left, or_right}
 use Rattle.snow_base.specs.declared.header.Header.{Header}
-use Rattle.snow_base.specs.Ancestry.{line_in, descends}
+use Rattle.snow_base.specs.Model.Ancestry.{line_in, descends}
 use Rattle.snow_board.specs.declared.decision.Decision.{Decision}
-use Rattle.snow_board.specs.Conflict.{Pending}
-use Rattle.snow_board.specs.Board.{Board, blocks_of}
-use Rattle.snow_board.specs.Poll.{accepts, rejects, promoted, decisions_for}
-use Rattle.snow_board.specs.Acceptance.{outsiders, descendants, has_decision, Accepts}
-use Rattle.snow_board.specs.Grown.{has_block}
+use Rattle.snow_board.specs.Model.Conflict.{Pending}
+use Rattle.snow_board.specs.Model.Board.{Board, blocks_of}
+use Rattle.snow_board.specs.Model.Poll.{accepts, rejects, promoted, decisions_for}
+use Rattle.snow_board.specs.Model.Acceptance.{outsiders, descendants, has_decision, Accepts}
+use Rattle.snow_board.specs.Kept.Grown.{has_block}
 use Rattle.snow_board.proofs.Cases.{split_on, same_id, id_same, id_itself, differs_back}
 use Rattle.snow_board.proofs.Grown.{has_block-reverse}
 use Rattle.snow_board.proofs.Kept.{filter_on, is_under}

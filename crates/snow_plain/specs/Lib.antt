@@ -1,3 +1,1 @@
-pub mod Alone
-pub mod Places
-pub mod Trees
+pub mod Kept

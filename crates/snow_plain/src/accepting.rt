@@ -1,8 +1,8 @@
 ghost use Rattle.std.specs.Prelude.{◌≡◌, ◌+◌, ◌≤◌, ◌<◌, ◌∷◌, ◌++◌, slice_index_or, not, length, reverse, map, filter, vec_len, vec_capacity};
-ghost use Rattle.snow_board.specs.Board.{blocks_of};
-ghost use Rattle.snow_board.specs.Poll.{accepts, rejects};
-ghost use Rattle.snow_board.specs.Grown.{IsGrown};
-ghost use Rattle.snow_board.specs.Acceptance.{outsiders, descendants, has_decision, is_rejected};
+ghost use Rattle.snow_board.specs.Model.Board.{blocks_of};
+ghost use Rattle.snow_board.specs.Model.Poll.{accepts, rejects};
+ghost use Rattle.snow_board.specs.Kept.Grown.{IsGrown};
+ghost use Rattle.snow_board.specs.Model.Acceptance.{outsiders, descendants, has_decision, is_rejected};
 
 use crate::conflict::Conflict;
 use snow_base::{Header, Id};

@@ -22,10 +22,10 @@ pub struct Conflict {
 }
 
 impl Model for Conflict {
-    ghost use Rattle.snow_plain.specs.Alone.{counters_seen, IsKept};
-    ghost use Rattle.snow_board.specs.Conflict.{Counters};
-    ghost use Rattle.snow_board.specs.CountersCode.{coded_counters};
-    ghost use Rattle.snow_plain.specs.Trees.{counters_of};
+    ghost use Rattle.snow_plain.specs.Kept.Alone.{counters_seen, IsKept};
+    ghost use Rattle.snow_board.specs.Model.Conflict.{Counters};
+    ghost use Rattle.snow_board.specs.Kept.CountersCode.{coded_counters};
+    ghost use Rattle.snow_plain.specs.Kept.Trees.{counters_of};
 
     ghost Value = { Counters };
 
@@ -37,9 +37,9 @@ impl Model for Conflict {
 }
 
 impl Conflict {
-    ghost use Rattle.snow_base.specs.Identifier.{bits};
-    ghost use Rattle.snow_base.specs.Votes.{IsInBitOrder, total_count};
-    ghost use Rattle.snow_board.specs.Conflict.{Blank, with_child, all_polled, votes_on, leads_to, decides};
+    ghost use Rattle.snow_base.specs.Model.Identifier.{bits};
+    ghost use Rattle.snow_base.specs.Model.Votes.{IsInBitOrder, total_count};
+    ghost use Rattle.snow_board.specs.Model.Conflict.{Blank, with_child, all_polled, votes_on, leads_to, decides};
 
     /// Returns no counters, as before a child is issued. It takes no memory.
     /// Rule: AvalancheGo, snow/consensus/snowball.

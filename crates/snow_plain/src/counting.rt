@@ -1,7 +1,7 @@
 ghost use Rattle.std.specs.Prelude.{◌≡◌, ◌+◌, ◌^◌, ◌<◌, ◌≤◌, length, map, All};
-ghost use Rattle.snow_board.specs.Board.{blocks_of};
-ghost use Rattle.snow_board.specs.Conflict.{all_polled};
-ghost use Rattle.snow_board.specs.Cursors.{moved_past, votes_at, cursor_total, polled};
+ghost use Rattle.snow_board.specs.Model.Board.{blocks_of};
+ghost use Rattle.snow_board.specs.Model.Conflict.{all_polled};
+ghost use Rattle.snow_board.specs.Kept.Cursors.{moved_past, votes_at, cursor_total, polled};
 
 use crate::conflict::Conflict;
 use snow_base::{Bag, Id};

@@ -1,7 +1,7 @@
 ghost use Rattle.std.specs.Prelude.{◌≡◌, ◌<◌, IfSome, OnOk, OnErr, length, reverse, map};
-ghost use Rattle.snow_board.specs.Board.{blocks_of, with_counters, with_issued};
-ghost use Rattle.snow_board.specs.Grown.{IsGrown};
-ghost use Rattle.snow_plain.specs.Places.{place_from};
+ghost use Rattle.snow_board.specs.Model.Board.{blocks_of, with_counters, with_issued};
+ghost use Rattle.snow_board.specs.Kept.Grown.{IsGrown};
+ghost use Rattle.snow_plain.specs.Kept.Places.{place_from};
 
 use crate::conflict::Conflict;
 use snow_base::{Header, Id};

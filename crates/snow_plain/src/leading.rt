@@ -1,5 +1,5 @@
 ghost use Rattle.std.specs.Prelude.{◌≡◌};
-ghost use Rattle.snow_board.specs.Ending.{leading_after};
+ghost use Rattle.snow_board.specs.Kept.Ending.{leading_after};
 
 use crate::state::State;
 use snow_base::Header;

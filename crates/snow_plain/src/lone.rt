@@ -1,11 +1,11 @@
 ghost use Rattle.std.specs.Prelude.{◌≡◌, ◌≤◌, ◌&&◌, true, false, None, IfSome};
 ghost use Rattle.std.specs.Bool.{beq};
 ghost use Rattle.std.specs.Cmp.Lexicographic.{pointwise};
-ghost use Rattle.snow_base.specs.Identifier.{bits};
-ghost use Rattle.snow_plain.specs.Alone.{lined, counters_seen, IsReserve, IsKept, AreFor};
-ghost use Rattle.snow_board.specs.Conflict.{Counters, Blank, with_child, all_polled, votes_on, decides};
-ghost use Rattle.snow_plain.specs.Trees.{counters_of};
-ghost use Rattle.snow_board.specs.Walk.{depth};
+ghost use Rattle.snow_base.specs.Model.Identifier.{bits};
+ghost use Rattle.snow_plain.specs.Kept.Alone.{lined, counters_seen, IsReserve, IsKept, AreFor};
+ghost use Rattle.snow_board.specs.Model.Conflict.{Counters, Blank, with_child, all_polled, votes_on, decides};
+ghost use Rattle.snow_plain.specs.Kept.Trees.{counters_of};
+ghost use Rattle.snow_board.specs.Kept.Walk.{depth};
 
 use crate::tree::{Tree, fill};
 use snow_base::{Id, Vote};

@@ -1,9 +1,9 @@
 //! Where the pending blocks stand, by their identifiers.
 ghost use Rattle.std.specs.Prelude.{◌≡◌, ℕ, ◌+◌, ◌<◌, ◌≤◌, cond, List, length, reverse, Some, None, OnOk, bytes_eq};
 ghost use Rattle.std.specs.HashMap.{get, hash_map_len, spare};
-ghost use Rattle.snow_board.specs.Board.{blocks_of};
-ghost use Rattle.snow_board.specs.Grown.{IsGrown};
-ghost use Rattle.snow_plain.specs.Places.{ArePlaces};
+ghost use Rattle.snow_board.specs.Model.Board.{blocks_of};
+ghost use Rattle.snow_board.specs.Kept.Grown.{IsGrown};
+ghost use Rattle.snow_plain.specs.Kept.Places.{ArePlaces};
 
 use crate::conflict::Conflict;
 use indexmap::IndexMap;

@@ -25,9 +25,9 @@ pub struct State {
 impl Model for State {
     ghost use Rattle.std.specs.Prelude.{bytes_eq};
     ghost use Rattle.std.specs.HashMap.{get, hash_map_len};
-    ghost use Rattle.snow_board.specs.Board.{Board, blocks_of};
-    ghost use Rattle.snow_board.specs.BoardCode.{coded_board};
-    ghost use Rattle.snow_plain.specs.Places.{IsIndexed};
+    ghost use Rattle.snow_board.specs.Model.Board.{Board, blocks_of};
+    ghost use Rattle.snow_board.specs.Kept.BoardCode.{coded_board};
+    ghost use Rattle.snow_plain.specs.Kept.Places.{IsIndexed};
 
     ghost Value = { Board };
 
@@ -48,14 +48,14 @@ impl State {
     ghost use Rattle.std.specs.Prelude.{◌≡◌, ◌+◌, ◌^◌, ◌<◌, ◌≤◌, ◌++◌, ◌&&◌, true, false, length, All, OnOk, OnErr, bytes_eq, slice_get, vec_len, vec_capacity};
     ghost use Rattle.std.specs.List.{position};
     ghost use Rattle.std.specs.Option.{option_map};
-    ghost use Rattle.snow_base.specs.Votes.{total_count};
-    ghost use Rattle.snow_board.specs.Board.{begin, block_of, issued, is_pending, parent_of, height_of};
-    ghost use Rattle.snow_board.specs.Conflict.{decides};
-    ghost use Rattle.snow_board.specs.Poll.{winner, settled, counted};
-    ghost use Rattle.snow_board.specs.Preference.{preferred, is_preferred};
-    ghost use Rattle.snow_board.specs.Ending.{has_pending_child};
-    ghost use Rattle.snow_board.specs.Reached.{MayIssue};
-    ghost use Rattle.snow_board.specs.Acceptance.{Accepts};
+    ghost use Rattle.snow_base.specs.Model.Votes.{total_count};
+    ghost use Rattle.snow_board.specs.Model.Board.{begin, block_of, issued, is_pending, parent_of, height_of};
+    ghost use Rattle.snow_board.specs.Model.Conflict.{decides};
+    ghost use Rattle.snow_board.specs.Model.Poll.{winner, settled, counted};
+    ghost use Rattle.snow_board.specs.Model.Preference.{preferred, is_preferred};
+    ghost use Rattle.snow_board.specs.Kept.Ending.{has_pending_child};
+    ghost use Rattle.snow_board.specs.Laws.Reached.{MayIssue};
+    ghost use Rattle.snow_board.specs.Model.Acceptance.{Accepts};
 
     /// Returns the state where nothing is pending above this block.
     /// Rule: AvalancheGo, snow/consensus/snowman.

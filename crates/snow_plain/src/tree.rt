@@ -2,15 +2,15 @@ ghost use Rattle.std.specs.Prelude.{◌≡◌, ℕ, ◌+◌, ◌^◌, ◌<◌, �
 ghost use Rattle.std.specs.Bool.{beq};
 ghost use Rattle.std.specs.Cmp.Lexicographic.{pointwise};
 ghost use Rattle.std.specs.Option.{option_map_or};
-ghost use Rattle.snow_base.specs.Identifier.{bits};
-ghost use Rattle.snow_base.specs.Split.{AgreeBelow};
-ghost use Rattle.snow_base.specs.Votes.{IsInBitOrder, total_count};
-ghost use Rattle.snow_flake.specs.Counter.{admits, fresh, stepped};
-ghost use Rattle.snow_flake.specs.Instance.{counter_of};
-ghost use Rattle.snow_plain.specs.Alone.{filled, is_blank};
-ghost use Rattle.snow_board.specs.Conflict.{Blank, At, with_child, all_polled, chosen, decided_path};
-ghost use Rattle.snow_board.specs.Walk.{depth, is_decided_as, votes_from};
-ghost use Rattle.snow_plain.specs.Trees.{counters_of};
+ghost use Rattle.snow_base.specs.Model.Identifier.{bits};
+ghost use Rattle.snow_base.specs.Kept.Split.{AgreeBelow};
+ghost use Rattle.snow_base.specs.Model.Votes.{IsInBitOrder, total_count};
+ghost use Rattle.snow_flake.specs.Model.Counter.{admits, fresh, stepped};
+ghost use Rattle.snow_flake.specs.Kept.Instance.{counter_of};
+ghost use Rattle.snow_plain.specs.Kept.Alone.{filled, is_blank};
+ghost use Rattle.snow_board.specs.Model.Conflict.{Blank, At, with_child, all_polled, chosen, decided_path};
+ghost use Rattle.snow_board.specs.Kept.Walk.{depth, is_decided_as, votes_from};
+ghost use Rattle.snow_plain.specs.Kept.Trees.{counters_of};
 
 use snow_base::{Id, Vote, split};
 use snow_flake::{Binary, Params, Rule, Snowflake, Unary};

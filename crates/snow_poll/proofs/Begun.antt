@@ -5,12 +5,12 @@ use Rattle.std.proofs.lemmas.List.{take_more}
 use Rattle.std.proofs.lemmas.List.Folds.{list_any-append}
 use Rattle.std.proofs.lemmas.List.Sums.{sum_by-cons, sum_by_push}
 use Rattle.std.proofs.lemmas.Slice.Eq.{bytes_eq-Decides}
-use Rattle.snow_base.specs.Votes.{Votes}
+use Rattle.snow_base.specs.Model.Votes.{Votes}
 use Rattle.snow_sample.specs.declared.draws.Draw.{Draw}
-use Rattle.snow_sample.specs.Sampling.{draw_count, AreOfDistinctNodes}
-use Rattle.snow_poll.specs.Poll.{times_drawn, is_drawn, has_replied, unanswered}
-use Rattle.snow_poll.specs.Table.{new_poll}
-use Rattle.snow_poll.specs.Kept.{HasTimes, IsKept}
+use Rattle.snow_sample.specs.Model.Sampling.{draw_count, AreOfDistinctNodes}
+use Rattle.snow_poll.specs.Model.Poll.{times_drawn, is_drawn, has_replied, unanswered}
+use Rattle.snow_poll.specs.Model.Table.{new_poll}
+use Rattle.snow_poll.specs.Kept.Tallied.{HasTimes, IsKept}
 
 -- ---- a draw more
 

@@ -4,15 +4,15 @@ use Rattle.std.specs.List.{list_any}
 use Rattle.std.proofs.lemmas.Bool.{true≢false, or_cases, and_parts, cond-true, cond-false, lt-ltb, le-ltb, le-leb, lt-leb, ltb-true, leb-true, eqb-true}
 use Rattle.std.proofs.lemmas.List.Sums.{sum_by-append, sum_by-cons}
 use Rattle.snow_base.specs.declared.vote.Vote.{Vote}
-use Rattle.snow_base.specs.Votes.{total_count}
-use Rattle.snow_flake.specs.Alike.{votes_for}
-use Rattle.snow_flake.specs.Counter.{class, Low, Middle, High}
-use Rattle.snow_flake.specs.Parameters.{Parameters, AreGood}
+use Rattle.snow_base.specs.Model.Votes.{total_count}
+use Rattle.snow_flake.specs.Laws.Alike.{votes_for}
+use Rattle.snow_flake.specs.Model.Counter.{class, Low, Middle, High}
+use Rattle.snow_flake.specs.Model.Parameters.{Parameters, AreGood}
 use Rattle.snow_sample.specs.declared.draws.Draw.{Draw}
-use Rattle.snow_sample.specs.Sampling.{draw_count}
-use Rattle.snow_poll.specs.Poll.{Poll, votes_of, received, unanswered, outstanding}
-use Rattle.snow_poll.specs.Closing.{some_has, is_answered, cannot_reach_preference, has_preference_alone, has_confidence, is_closed}
-use Rattle.snow_poll.specs.Completion.{Choice, vote_of, chosen, completed, StandsForAll}
+use Rattle.snow_sample.specs.Model.Sampling.{draw_count}
+use Rattle.snow_poll.specs.Model.Poll.{Poll, votes_of, received, unanswered, outstanding}
+use Rattle.snow_poll.specs.Model.Closing.{some_has, is_answered, cannot_reach_preference, has_preference_alone, has_confidence, is_closed}
+use Rattle.snow_poll.specs.Laws.Completion.{Choice, vote_of, chosen, completed, StandsForAll}
 use Rattle.snow_poll.proofs.Counting.{total_received}
 
 -- ---- classes of numbers

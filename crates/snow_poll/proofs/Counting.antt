@@ -7,14 +7,14 @@ use Rattle.std.proofs.lemmas.Bool.{lt-leb}
 use Rattle.std.proofs.lemmas.Cmp.{tied_itself, alike_right}
 use Rattle.std.proofs.lemmas.List.Sums.{sum_by-cons}
 use Rattle.snow_base.specs.declared.vote.Vote.{Vote}
-use Rattle.snow_base.specs.Identifier.{bit_cmp}
-use Rattle.snow_base.specs.Votes.{IsInBitOrder, IsPlaceOf, added, total_count, most_count}
+use Rattle.snow_base.specs.Model.Identifier.{bit_cmp}
+use Rattle.snow_base.specs.Model.Votes.{IsInBitOrder, IsPlaceOf, added, total_count, most_count}
 use Rattle.snow_base.proofs.Adding.{total_added}
 use Rattle.snow_base.proofs.Bits.{bit_cmp-total}
 use Rattle.snow_sample.specs.declared.draws.Draw.{Draw}
 use Rattle.snow_poll.specs.declared.reply.Reply.{Reply}
-use Rattle.snow_poll.specs.Poll.{Poll, times_drawn, given, votes_of, received}
-use Rattle.snow_poll.specs.Kept.{count_of}
+use Rattle.snow_poll.specs.Model.Poll.{Poll, times_drawn, given, votes_of, received}
+use Rattle.snow_poll.specs.Kept.Tallied.{count_of}
 
 -- ---- how many there are
 

@@ -1,17 +1,17 @@
 -- Worked examples, computed on the definitions.
 use Rattle.std.proofs.Common.{◌≡◌, ℕ, true, false, Bool, List, [], ◌∷◌, map, replicate, refl, None, Some}
 use Rattle.snow_base.specs.declared.vote.Vote.{Vote}
-use Rattle.snow_base.specs.Identifier.{bits}
-use Rattle.snow_base.specs.Votes.{added}
-use Rattle.snow_flake.specs.Alike.{votes_for}
-use Rattle.snow_flake.specs.Counter.{class, Middle, High}
-use Rattle.snow_flake.specs.Parameters.{Parameters}
+use Rattle.snow_base.specs.Model.Identifier.{bits}
+use Rattle.snow_base.specs.Model.Votes.{added}
+use Rattle.snow_flake.specs.Laws.Alike.{votes_for}
+use Rattle.snow_flake.specs.Model.Counter.{class, Middle, High}
+use Rattle.snow_flake.specs.Model.Parameters.{Parameters}
 use Rattle.snow_sample.specs.declared.draws.Draw.{Draw}
 use Rattle.snow_poll.specs.declared.polls.Answered.TheVariants.{NotAwaited}
-use Rattle.snow_poll.specs.Poll.{Poll, with_reply, votes_of, received, outstanding}
-use Rattle.snow_poll.specs.Closing.{is_answered, cannot_reach_preference, has_preference_alone, has_confidence}
-use Rattle.snow_poll.specs.Completion.{completed}
-use Rattle.snow_poll.specs.Table.{Table, no_polls, new_poll, begun, voted, answer, finished, shortened}
+use Rattle.snow_poll.specs.Model.Poll.{Poll, with_reply, votes_of, received, outstanding}
+use Rattle.snow_poll.specs.Model.Closing.{is_answered, cannot_reach_preference, has_preference_alone, has_confidence}
+use Rattle.snow_poll.specs.Laws.Completion.{completed}
+use Rattle.snow_poll.specs.Model.Table.{Table, no_polls, new_poll, begun, voted, answer, finished, shortened}
 
 -- an identifier and a node, by the first byte
 abbrev block : ℕ → List ℕ

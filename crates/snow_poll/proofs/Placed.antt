@@ -8,13 +8,13 @@ use Rattle.std.proofs.lemmas.List.{length-map, length-append}
 use Rattle.std.proofs.lemmas.List.Elements.{All-map, All-append, All-cons}
 use Rattle.std.proofs.lemmas.List.Folds.{list_any-append}
 use Rattle.snow_base.specs.declared.vote.Vote.{Vote}
-use Rattle.snow_flake.specs.Parameters.{Parameters}
+use Rattle.snow_flake.specs.Model.Parameters.{Parameters}
 use Rattle.snow_sample.specs.declared.draws.Draw.{Draw}
-use Rattle.snow_sample.specs.Sampling.{draw_count}
-use Rattle.snow_poll.specs.Poll.{Poll, awaits, with_reply, replied, votes_of}
-use Rattle.snow_poll.specs.Closing.{is_closed}
-use Rattle.snow_poll.specs.Table.{has_number, HasNoneFrom, new_poll, is_awaited_by, is_awaited, answered, finished, unfinished}
-use Rattle.snow_poll.specs.Kept.{place, turn, is_front, ArePlaced, HaveOwnNumbers, IsTable}
+use Rattle.snow_sample.specs.Model.Sampling.{draw_count}
+use Rattle.snow_poll.specs.Model.Poll.{Poll, awaits, with_reply, replied, votes_of}
+use Rattle.snow_poll.specs.Model.Closing.{is_closed}
+use Rattle.snow_poll.specs.Model.Table.{has_number, HasNoneFrom, new_poll, is_awaited_by, is_awaited, answered, finished, unfinished}
+use Rattle.snow_poll.specs.Kept.Tallied.{place, turn, is_front, ArePlaced, HaveOwnNumbers, IsTable}
 
 -- ---- turns
 

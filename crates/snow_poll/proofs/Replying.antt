@@ -6,13 +6,13 @@ use Rattle.std.proofs.lemmas.List.Elements.{All-head, All-tail}
 use Rattle.std.proofs.lemmas.List.Folds.{list_any-append}
 use Rattle.std.proofs.lemmas.List.Sums.{sum_by-cons, sum_by_push, fold-append}
 use Rattle.std.proofs.lemmas.Slice.Eq.{bytes_eq-Decides}
-use Rattle.snow_base.specs.Votes.{Votes, most_count}
-use Rattle.snow_flake.specs.Parameters.{Parameters, AreGood}
+use Rattle.snow_base.specs.Model.Votes.{Votes, most_count}
+use Rattle.snow_flake.specs.Model.Parameters.{Parameters, AreGood}
 use Rattle.snow_sample.specs.declared.draws.Draw.{Draw}
 use Rattle.snow_poll.specs.declared.reply.Reply.{Reply}
-use Rattle.snow_poll.specs.Poll.{Poll, times_drawn, is_drawn, has_replied, awaits, with_reply, given, votes_of, received, unanswered, outstanding}
-use Rattle.snow_poll.specs.Closing.{some_has, has_preference_alone, is_closed}
-use Rattle.snow_poll.specs.Kept.{awaited_times, closes_by, IsKept}
+use Rattle.snow_poll.specs.Model.Poll.{Poll, times_drawn, is_drawn, has_replied, awaits, with_reply, given, votes_of, received, unanswered, outstanding}
+use Rattle.snow_poll.specs.Model.Closing.{some_has, has_preference_alone, is_closed}
+use Rattle.snow_poll.specs.Kept.Tallied.{awaited_times, closes_by, IsKept}
 use Rattle.snow_poll.proofs.Counting.{weight, some_most}
 
 -- ---- nodes

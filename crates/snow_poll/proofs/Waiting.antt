@@ -14,7 +14,7 @@ use Rattle.std.proofs.Math.Seq.{map-set_same}
 use Rattle.snow_sample.proofs.Chains.{chained_none, chained_more}
 use Rattle.snow_sample.proofs.Walks.{last_of, last_none, last_here, IsSought, sought_begins, sought_on, none_later}
 use Rattle.snow_poll.specs.declared.awaited.Wait.{Wait}
-use Rattle.snow_poll.specs.Awaited.{count_left, counts_at, spread_of, class_of, number_in, AreWaits, IsNumberOf}
+use Rattle.snow_poll.specs.Kept.Awaited.{count_left, counts_at, spread_of, class_of, number_in, AreWaits, IsNumberOf}
 
 -- whether an entry is a node's
 abbrev pub is_of : List ℕ → Wait → Bool

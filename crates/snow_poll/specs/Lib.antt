@@ -1,6 +1,3 @@
-pub mod Awaited
-pub mod Poll
-pub mod Closing
-pub mod Completion
-pub mod Table
+pub mod Model
+pub mod Laws
 pub mod Kept

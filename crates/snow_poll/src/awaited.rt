@@ -1,8 +1,8 @@
 ghost use Rattle.std.specs.Prelude.{◌≡◌, ℕ, ◌+◌, ◌^◌, ◌<◌, ◌≤◌, List, [], ◌∷◌, ◌++◌, length, map, None, Some, bytes_eq, if◌then◌else◌, true, vec_capacity, IfOk, OnOk};
 ghost use Rattle.std.specs.Option.{ForSome, is_some};
-ghost use Rattle.snow_sample.specs.Sampling.{AreOfDistinctNodes};
-ghost use Rattle.snow_poll.specs.Awaited.{counts_at, draw_of, word_at, spread_of, class_of, number_in, AreWaits, IsNumberOf, AreNumbers};
-ghost use Rattle.snow_poll.specs.Kept.{HasTimes};
+ghost use Rattle.snow_sample.specs.Model.Sampling.{AreOfDistinctNodes};
+ghost use Rattle.snow_poll.specs.Kept.Awaited.{counts_at, draw_of, word_at, spread_of, class_of, number_in, AreWaits, IsNumberOf, AreNumbers};
+ghost use Rattle.snow_poll.specs.Kept.Tallied.{HasTimes};
 
 use snow_base::NodeId;
 use snow_sample::{Draw, zeros};

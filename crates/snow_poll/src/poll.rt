@@ -1,7 +1,7 @@
 ghost use Rattle.std.specs.Prelude.{◌≡◌, ◌+◌, ◌≤◌, IfOk};
-ghost use Rattle.snow_flake.specs.Parameters.{AreGood};
-ghost use Rattle.snow_sample.specs.Sampling.{draw_count, AreOfDistinctNodes};
-ghost use Rattle.snow_poll.specs.Kept.{closes_by};
+ghost use Rattle.snow_flake.specs.Model.Parameters.{AreGood};
+ghost use Rattle.snow_sample.specs.Model.Sampling.{draw_count, AreOfDistinctNodes};
+ghost use Rattle.snow_poll.specs.Kept.Tallied.{closes_by};
 
 use crate::reply::Reply;
 use crate::room::Nodes;
@@ -26,9 +26,9 @@ pub(crate) struct Poll {
 
 impl Model for Poll {
     ghost use Rattle.std.specs.Prelude.{map, vec_capacity};
-    ghost use Rattle.snow_poll.specs.Poll as model;
-    ghost use Rattle.snow_poll.specs.Awaited.{counts_at, draw_of};
-    ghost use Rattle.snow_poll.specs.Kept.{IsKept};
+    ghost use Rattle.snow_poll.specs.Model.Poll as model;
+    ghost use Rattle.snow_poll.specs.Kept.Awaited.{counts_at, draw_of};
+    ghost use Rattle.snow_poll.specs.Kept.Tallied.{IsKept};
 
     ghost Value = { model.Poll };
 
@@ -39,9 +39,9 @@ impl Model for Poll {
 }
 
 impl Poll {
-    ghost use Rattle.snow_poll.specs.Poll.{awaits, replied, votes_of, received, outstanding};
-    ghost use Rattle.snow_poll.specs.Closing.{is_closed};
-    ghost use Rattle.snow_poll.specs.Table.{new_poll};
+    ghost use Rattle.snow_poll.specs.Model.Poll.{awaits, replied, votes_of, received, outstanding};
+    ghost use Rattle.snow_poll.specs.Model.Closing.{is_closed};
+    ghost use Rattle.snow_poll.specs.Model.Table.{new_poll};
 
     /// Returns a poll over these draws, without replies, in the room of one that left and of its
     /// votes. It makes what it will need beyond that.

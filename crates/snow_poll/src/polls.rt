@@ -1,9 +1,9 @@
 ghost use Rattle.std.specs.Prelude.{◌≡◌, ◌≤◌, ◌↔◌, true, false, length, is_some, IfSome, OnOk, OnErr, Err};
 ghost use Rattle.std.specs.Option.{option_map};
-ghost use Rattle.snow_base.specs.Votes.{total_count};
-ghost use Rattle.snow_flake.specs.Parameters.{AreGood};
-ghost use Rattle.snow_sample.specs.Sampling.{draw_count, AreOfDistinctNodes};
-ghost use Rattle.snow_poll.specs.Kept.{place, is_front, ArePlaced};
+ghost use Rattle.snow_base.specs.Model.Votes.{total_count};
+ghost use Rattle.snow_flake.specs.Model.Parameters.{AreGood};
+ghost use Rattle.snow_sample.specs.Model.Sampling.{draw_count, AreOfDistinctNodes};
+ghost use Rattle.snow_poll.specs.Kept.Tallied.{place, is_front, ArePlaced};
 
 use crate::poll::Poll;
 use crate::room::Nodes;
@@ -86,8 +86,8 @@ pub struct Polls {
 }
 
 impl Model for Polls {
-    ghost use Rattle.snow_poll.specs.Table.{Table};
-    ghost use Rattle.snow_poll.specs.Kept.{IsTable};
+    ghost use Rattle.snow_poll.specs.Model.Table.{Table};
+    ghost use Rattle.snow_poll.specs.Kept.Tallied.{IsTable};
 
     ghost Value = { Table };
 
@@ -97,7 +97,7 @@ impl Model for Polls {
 }
 
 impl Polls {
-    ghost use Rattle.snow_poll.specs.Table.{no_polls, has_number, begun, is_awaited, voted, answer, finished, shortened, StandsForFront};
+    ghost use Rattle.snow_poll.specs.Model.Table.{no_polls, has_number, begun, is_awaited, voted, answer, finished, shortened, StandsForFront};
 
     /// Returns the table without polls. It takes no memory.
     /// Rule: AvalancheGo, snow/consensus/snowman/poll.

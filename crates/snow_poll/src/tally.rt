@@ -1,7 +1,7 @@
 ghost use Rattle.std.specs.Prelude.{◌≡◌, ◌+◌, ◌^◌, ◌<◌, ◌≤◌};
-ghost use Rattle.snow_base.specs.Votes.{total_count, most_count, IsInBitOrder, IsPlaceOf};
-ghost use Rattle.snow_poll.specs.Poll.{given};
-ghost use Rattle.snow_poll.specs.Kept.{count_of};
+ghost use Rattle.snow_base.specs.Model.Votes.{total_count, most_count, IsInBitOrder, IsPlaceOf};
+ghost use Rattle.snow_poll.specs.Model.Poll.{given};
+ghost use Rattle.snow_poll.specs.Kept.Tallied.{count_of};
 
 use snow_base::{Bag, Id, Vote};
 

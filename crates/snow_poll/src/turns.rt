@@ -1,8 +1,8 @@
 ghost use Rattle.std.specs.Prelude.{◌≡◌, ℕ, ◌^◌, ◌<◌, ◌≤◌, List, length, Some, None, OnOk, OnErr, ◌==◌, ◌&&◌, false, nat_lt, if◌then◌else◌};
 ghost use Rattle.std.specs.BTreeMap.{get};
 ghost use Rattle.std.specs.Ordering.{nat_cmp};
-ghost use Rattle.snow_poll.specs.Poll.{Poll};
-ghost use Rattle.snow_poll.specs.Kept.{place, turn, is_front, ArePlaced};
+ghost use Rattle.snow_poll.specs.Model.Poll.{Poll};
+ghost use Rattle.snow_poll.specs.Kept.Tallied.{place, turn, is_front, ArePlaced};
 
 use std::alloc::{AllocError, Global};
 use std::collections::BTreeMap;

@@ -10,7 +10,7 @@ use Rattle.std.proofs.lemmas.List.Elements.{All-head, All-tail}
 use Rattle.std.proofs.lemmas.Map.Made.{IsDistinct-from_AllPairs}
 use Rattle.std.proofs.lemmas.Map.Steps.{length-le_from_distinct_below}
 use Rattle.std.proofs.lemmas.Slice.Eq.{bytes_eq-Decides}
-use Rattle.snow_recent.specs.Index.{id_at, id_of, place_of, head_of, seat_of, gives_way, seated, byte_cmp, IsRising, IsHeaded, HasLatest, IsIndex, filed}
+use Rattle.snow_recent.specs.Kept.Index.{id_at, id_of, place_of, head_of, seat_of, gives_way, seated, byte_cmp, IsRising, IsHeaded, HasLatest, IsIndex, filed}
 use Rattle.snow_recent.proofs.Filed.{all_filed, rising_filed, latest_filed, newest_filed, map_filed, not_itself, rising_numbers}
 
 -- ---- identifiers in the longer list

@@ -1,6 +1,6 @@
 -- Worked examples: the definitions compute.
 use Rattle.std.proofs.Common.{◌≡◌, ℕ, List, [], ◌∷◌, Some, None, refl}
-use Rattle.snow_recent.specs.Recent.{latest, with_latest}
+use Rattle.snow_recent.specs.Model.Recent.{latest, with_latest}
 
 -- entries of two numbers, of which the first is the identifier
 abbrev Entry : Type 0

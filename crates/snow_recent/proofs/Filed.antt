@@ -9,7 +9,7 @@ use Rattle.std.proofs.lemmas.List.Elements.{All-cons, All-head, All-tail}
 use Rattle.std.proofs.lemmas.List.Kept.{AllPairs-cons}
 use Rattle.std.proofs.lemmas.List.Sorted.{searchable_from_sorted}
 use Rattle.std.proofs.lemmas.Map.Lookups.{exact_bytes}
-use Rattle.snow_recent.specs.Index.{byte_cmp, IsRising, IsPlaceOf, HasLatest, filed}
+use Rattle.snow_recent.specs.Kept.Index.{byte_cmp, IsRising, IsPlaceOf, HasLatest, filed}
 
 -- ---- identifiers that rise
 

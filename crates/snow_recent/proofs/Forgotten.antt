@@ -5,7 +5,7 @@ use Rattle.std.proofs.lemmas.List.{get_or_default, get_or-map, length-map}
 use Rattle.std.proofs.lemmas.List.Elements.{All-cons, All-head, All-tail}
 use Rattle.std.proofs.lemmas.List.Kept.{AllPairs-cons}
 use Rattle.std.proofs.lemmas.Map.Lookups.{exact_bytes}
-use Rattle.snow_recent.specs.Index.{id_at, id_of, place_of, head_of, seat_of, byte_cmp, IsRising, IsPlaceOf, HasLatest, HasNoSeated, IsIndex, without_oldest}
+use Rattle.snow_recent.specs.Kept.Index.{id_at, id_of, place_of, head_of, seat_of, byte_cmp, IsRising, IsPlaceOf, HasLatest, HasNoSeated, IsIndex, without_oldest}
 use Rattle.snow_recent.proofs.Filed.{rising_head, rising_tail, not_itself, one_place, nowhere}
 
 -- ---- the number that is taken out

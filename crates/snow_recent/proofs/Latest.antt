@@ -8,9 +8,9 @@ use Rattle.std.proofs.lemmas.List.{reverse-append, get_or-map, length-map}
 use Rattle.std.proofs.lemmas.List.Folds.{find-append}
 use Rattle.std.proofs.lemmas.Option.{slice_get-get_or, slice_get_cases, slice_get_within}
 use Rattle.std.proofs.lemmas.Slice.Eq.{bytes_eq-Decides}
-use Rattle.snow_recent.specs.Recent.{latest}
-use Rattle.snow_recent.specs.Index.{id_at, id_of, place_of, seat_of, HasLatest, IsIndex}
-use Rattle.snow_recent.specs.Table.{IsLatest}
+use Rattle.snow_recent.specs.Model.Recent.{latest}
+use Rattle.snow_recent.specs.Kept.Index.{id_at, id_of, place_of, seat_of, HasLatest, IsIndex}
+use Rattle.snow_recent.specs.Kept.Table.{IsLatest}
 use Rattle.snow_recent.proofs.Filed.{one_place}
 
 -- ---- the latest entry of a list

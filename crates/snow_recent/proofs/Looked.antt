@@ -6,8 +6,8 @@ use Rattle.std.specs.Ordering.{is_eq, is_gt}
 use Rattle.std.proofs.lemmas.Bool.{cases_lt, or_cases, eqb-true}
 use Rattle.std.proofs.lemmas.Cmp.{nat_list_cmp_total}
 use Rattle.std.proofs.lemmas.Option.{slice_get-get_or}
-use Rattle.snow_recent.specs.Index.{byte_cmp, order_at, IsRising, IsPlaceOf}
-use Rattle.snow_recent.specs.Table.{IsLatest}
+use Rattle.snow_recent.specs.Kept.Index.{byte_cmp, order_at, IsRising, IsPlaceOf}
+use Rattle.snow_recent.specs.Kept.Table.{IsLatest}
 use Rattle.snow_recent.proofs.RowOf.{is_less, higher, rising_row, row_inside, latest_found, latest_missing}
 
 is_equal : (o : Ordering) → is_eq o ≡ true → o ≡ Equal

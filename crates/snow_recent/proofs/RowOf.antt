@@ -10,8 +10,8 @@ use Rattle.std.proofs.lemmas.List.{length-append, get_or_append_left, get_or-app
 use Rattle.std.proofs.lemmas.List.Elements.{All-nil, All-append, All-head, All-tail, Contains-append_left, Contains-append_right, filter-append}
 use Rattle.std.proofs.lemmas.Map.Lookups.{exact_bytes}
 use Rattle.std.proofs.lemmas.Option.{slice_get-get_or}
-use Rattle.snow_recent.specs.Index.{byte_cmp, IsRising, IsPlaceOf, filed, without_oldest}
-use Rattle.snow_recent.specs.Table.{ends_below, AreFilled, IsRowOf, IsLatest}
+use Rattle.snow_recent.specs.Kept.Index.{byte_cmp, IsRising, IsPlaceOf, filed, without_oldest}
+use Rattle.snow_recent.specs.Kept.Table.{ends_below, AreFilled, IsRowOf, IsLatest}
 use Rattle.snow_recent.proofs.Filed.{flip, not_itself, nowhere, step}
 use Rattle.snow_recent.proofs.Forgotten.{without_none}
 use Rattle.snow_recent.proofs.Rows.{next_is, concat_parts, concat_set, some_behind}

@@ -3,7 +3,7 @@ use Rattle.std.proofs.Common.{◌≡◌, ℕ, zero, suc, ◌+◌, ◌-◌, ◌*�
 use Rattle.std.specs.List.{concat, insert, remove}
 use Rattle.std.proofs.lemmas.List.{append_assoc, take-append-drop, length-append, length-take-le, length-drop, length-replicate, get_or_default, length_push, set-set, set-get_or, get_or-set_same, get_or-set_other, length-set}
 use Rattle.std.proofs.lemmas.List.Elements.{All-cons, All-head, All-tail, All-push, All-set, All-take}
-use Rattle.snow_recent.specs.Table.{Leads, AreFilled, AreKept, IsTable, IsWorn, HasNext, halved, joined}
+use Rattle.snow_recent.specs.Kept.Table.{Leads, AreFilled, AreKept, IsTable, IsWorn, HasNext, halved, joined}
 
 -- the next place, in either form
 pub next_is : (at : ℕ) → at + 1 ≡ suc at

@@ -1,3 +1,2 @@
-pub mod Recent
-pub mod Index
-pub mod Table
+pub mod Model
+pub mod Kept

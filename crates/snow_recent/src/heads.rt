@@ -1,6 +1,6 @@
 //! The entries that came last, by the seats of their identifiers.
 ghost use Rattle.std.specs.Prelude.{◌≡◌, ◌<◌, get_or, length, slice_set, IfOk};
-ghost use Rattle.snow_recent.specs.Index.{seat_of};
+ghost use Rattle.snow_recent.specs.Kept.Index.{seat_of};
 
 use snow_base::Id;
 use std::alloc::{AllocError, Global};

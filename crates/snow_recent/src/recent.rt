@@ -2,9 +2,9 @@ ghost use Rattle.std.specs.Prelude.{◌≡◌, ◌<◌, ◌≤◌, ◌^◌, ◌�
 ghost use Rattle.std.specs.List.{concat, last_or};
 ghost use Rattle.std.specs.Option.{option_copied, option_to_list, is_some};
 ghost use Rattle.std.specs.VecDeque.{deque_len, deque_capacity};
-ghost use Rattle.snow_recent.specs.Index.{id_of, IsRising};
-ghost use Rattle.snow_recent.specs.Recent.{with_latest, latest};
-ghost use Rattle.snow_recent.specs.Table.{IsFiled};
+ghost use Rattle.snow_recent.specs.Kept.Index.{id_of, IsRising};
+ghost use Rattle.snow_recent.specs.Model.Recent.{with_latest, latest};
+ghost use Rattle.snow_recent.specs.Kept.Table.{IsFiled};
 
 use crate::heads::Heads;
 use crate::named::Named;
@@ -33,7 +33,7 @@ impl<T: Named, const MOST: usize> Model for Recent<T, MOST> {
     ghost use Rattle.std.specs.Prelude.{List};
     ghost use Rattle.std.specs.List.{concat};
     ghost use Rattle.std.specs.VecDeque.{deque_capacity};
-    ghost use Rattle.snow_recent.specs.Index.{IsRecent};
+    ghost use Rattle.snow_recent.specs.Kept.Index.{IsRecent};
 
     ghost Value = { List T };
 

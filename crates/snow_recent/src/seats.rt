@@ -1,7 +1,7 @@
 //! How entries take seats, and what the table has of those that gave theirs up.
 ghost use Rattle.std.specs.Prelude.{◌≡◌, ◌==◌, ◌<◌, ◌&&◌, not, bytes_eq, length};
 ghost use Rattle.std.specs.List.{concat};
-ghost use Rattle.snow_recent.specs.Index.{id_of, IsRising, gives_way, seated, seat_of, HasNoSeated, without_oldest};
+ghost use Rattle.snow_recent.specs.Kept.Index.{id_of, IsRising, gives_way, seated, seat_of, HasNoSeated, without_oldest};
 
 use crate::heads::{Heads, seat_of};
 use crate::index;

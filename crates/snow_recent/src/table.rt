@@ -3,8 +3,8 @@
 //! together. So there are only so many rows, and the table makes all when it is made.
 ghost use Rattle.std.specs.Prelude.{◌≡◌, ℕ, ◌+◌, ◌-◌, ◌<◌, ◌≤◌, ◌^◌, [], ◌∷◌, ◌++◌, All, length, take, get_or, nat_lt, replicate, IfOk, vec_capacity};
 ghost use Rattle.std.specs.List.{concat};
-ghost use Rattle.snow_recent.specs.Index.{id_of, IsRising, without_oldest, filed};
-ghost use Rattle.snow_recent.specs.Table.{Shelf, AreFilled, AreKept, IsWorn, HasNext, IsLatest, halved, joined};
+ghost use Rattle.snow_recent.specs.Kept.Index.{id_of, IsRising, without_oldest, filed};
+ghost use Rattle.snow_recent.specs.Kept.Table.{Shelf, AreFilled, AreKept, IsWorn, HasNext, IsLatest, halved, joined};
 
 use crate::index;
 use crate::named::Named;
@@ -27,7 +27,7 @@ pub(crate) struct Table {
 
 impl Model for Table {
     ghost use Rattle.std.specs.Prelude.{vec_capacity};
-    ghost use Rattle.snow_recent.specs.Table.{Shelf, IsTable};
+    ghost use Rattle.snow_recent.specs.Kept.Table.{Shelf, IsTable};
 
     ghost Value = { Shelf };
 

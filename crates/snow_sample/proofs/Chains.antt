@@ -3,7 +3,7 @@ use Rattle.std.proofs.Common.{◌≡◌, ◌≢◌, ℕ, ◌+◌, ◌-◌, ◌<�
 use Rattle.std.proofs.lemmas.Bool.{cases_eq, cases_lt}
 use Rattle.std.proofs.lemmas.List.{get_or_append_left, get_or-replicate, get_or-set_same, get_or-set_other, length-append, length-replicate, length-set}
 use Rattle.std.proofs.Math.Seq.{get_or-append_seam}
-use Rattle.snow_sample.specs.Chains.{IsLast, AreChained}
+use Rattle.snow_sample.specs.Kept.Chains.{IsLast, AreChained}
 
 -- no item is chained to none
 pub chained_none : (many : ℕ) → AreChained [] [] (replicate many 0)

@@ -6,7 +6,7 @@ use Rattle.std.proofs.lemmas.List.Folds.{Any-from_list_any}
 use Rattle.std.proofs.lemmas.Nat.{and_le_r, and_mask, div-add-mod', pow-add}
 use Rattle.std.proofs.Math.Nat.{add-mul, one-mul, mod-lt, mul-le-mul_right, mul-mod_left}
 use Rattle.std.proofs.Math.Pow.{mod-mod-pow, pow_mono}
-use Rattle.snow_sample.specs.Words.{is_power, masked, reduced, choice, IsRest}
+use Rattle.snow_sample.specs.Model.Words.{is_power, masked, reduced, choice, IsRest}
 
 -- ---- powers of two
 

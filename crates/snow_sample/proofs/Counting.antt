@@ -8,8 +8,8 @@ use Rattle.std.proofs.lemmas.List.Kept.{AllPairs-cons}
 use Rattle.std.proofs.lemmas.List.Sums.{sum_by-cons}
 use Rattle.std.proofs.lemmas.Slice.Eq.{bytes_eq-Decides}
 use Rattle.snow_sample.specs.declared.draws.Draw.{Draw}
-use Rattle.snow_sample.specs.Kept.{place, is_at, one_more}
-use Rattle.snow_sample.specs.Sampling.{counted, draw_count, AreOfDistinctNodes}
+use Rattle.snow_sample.specs.Kept.Drawn.{place, is_at, one_more}
+use Rattle.snow_sample.specs.Model.Sampling.{counted, draw_count, AreOfDistinctNodes}
 
 -- ---- one draw more
 

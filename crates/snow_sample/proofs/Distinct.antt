@@ -5,8 +5,8 @@ use Rattle.std.specs.Option.{option_and_then}
 use Rattle.std.proofs.lemmas.Bool.{cases_eq, cond-true, cond-false, cond_both, eq-eqb, ne_eqb}
 use Rattle.std.proofs.lemmas.List.Elements.{All-cons}
 use Rattle.std.proofs.lemmas.List.Kept.{AllPairs-cons}
-use Rattle.snow_sample.specs.Words.{choice}
-use Rattle.snow_sample.specs.Sampling.{swapped, with_unit, drawn_from, drawn}
+use Rattle.snow_sample.specs.Model.Words.{choice}
+use Rattle.snow_sample.specs.Model.Sampling.{swapped, with_unit, drawn_from, drawn}
 use Rattle.snow_sample.proofs.Choosing.{choice_within}
 use Rattle.snow_sample.proofs.Drawing.{after_choice, drawn_step, drawn_end}
 

@@ -6,9 +6,9 @@ use Rattle.snow_sample.specs.declared.draws.Draw.{Draw}
 use Rattle.snow_sample.specs.declared.roster.Node.{Node}
 use Rattle.snow_sample.specs.declared.sampling.SampleFault.{SampleFault}
 use Rattle.snow_sample.specs.declared.sampling.SampleFault.TheVariants.{WordsOut}
-use Rattle.snow_sample.specs.Roster.{total_weight, owner}
-use Rattle.snow_sample.specs.Words.{choice, IsRest}
-use Rattle.snow_sample.specs.Sampling.{swapped, with_unit, drawn_from, drawn, counted, or_out, sample_of, draw_count, AreOfDistinctNodes}
+use Rattle.snow_sample.specs.Model.Roster.{total_weight, owner}
+use Rattle.snow_sample.specs.Model.Words.{choice, IsRest}
+use Rattle.snow_sample.specs.Model.Sampling.{swapped, with_unit, drawn_from, drawn, counted, or_out, sample_of, draw_count, AreOfDistinctNodes}
 use Rattle.snow_sample.proofs.Choosing.{rest_whole, rest_rest, choice_fewer}
 use Rattle.snow_sample.proofs.Counting.{count_more, distinct_more}
 

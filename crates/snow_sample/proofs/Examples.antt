@@ -4,9 +4,9 @@ use Rattle.snow_sample.specs.declared.draws.Draw.{Draw}
 use Rattle.snow_sample.specs.declared.roster.Node.{Node}
 use Rattle.snow_sample.specs.declared.roster.RosterFault.TheVariants as faults
 use Rattle.snow_sample.specs.declared.sampling.SampleFault.TheVariants.{TooFewUnits, WordsOut}
-use Rattle.snow_sample.specs.Roster.{first_fault}
-use Rattle.snow_sample.specs.Words.{is_power}
-use Rattle.snow_sample.specs.Sampling.{drawn_from, drawn, sample_of}
+use Rattle.snow_sample.specs.Model.Roster.{first_fault}
+use Rattle.snow_sample.specs.Model.Words.{is_power}
+use Rattle.snow_sample.specs.Model.Sampling.{drawn_from, drawn, sample_of}
 
 -- a node by its number, which is each of its bytes
 abbrev numbered : ℕ → List ℕ

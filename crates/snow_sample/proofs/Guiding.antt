@@ -6,7 +6,7 @@ use Rattle.std.proofs.lemmas.List.{get_or_append_left, get_or_past, length-appen
 use Rattle.std.proofs.lemmas.Nat.{pow_pos, shr_split}
 use Rattle.std.proofs.Math.Nat.{add-mul, one-mul, lt-div-mul-add, div-lt_iff_lt-mul}
 use Rattle.std.proofs.Math.Seq.{get_or-append_seam}
-use Rattle.snow_sample.specs.Guide.{AreStarts, IsGuide}
+use Rattle.snow_sample.specs.Kept.Guide.{AreStarts, IsGuide}
 
 -- the ends before a place are at most a unit
 abbrev pub AreBefore : List ℕ → ℕ → ℕ → Type 0

@@ -6,9 +6,9 @@ use Rattle.std.proofs.lemmas.Bool.{cases_eq, cond-true, cond-false, eq-eqb, ne_e
 use Rattle.std.proofs.lemmas.List.{get_or-set_same, get_or-set_other, length-set}
 use Rattle.std.proofs.lemmas.List.Edits.{swap_is, length-swap}
 use Rattle.std.proofs.lemmas.List.FromFn.{length-range_with_len, get_or-range_with_len}
-use Rattle.snow_sample.specs.Words.{choice}
-use Rattle.snow_sample.specs.Sampling.{swapped, with_unit, drawn_from, drawn}
-use Rattle.snow_sample.specs.Law.{listed_from}
+use Rattle.snow_sample.specs.Model.Words.{choice}
+use Rattle.snow_sample.specs.Model.Sampling.{swapped, with_unit, drawn_from, drawn}
+use Rattle.snow_sample.specs.Laws.Law.{listed_from}
 use Rattle.snow_sample.proofs.Choosing.{choice_within}
 use Rattle.snow_sample.proofs.Drawing.{swapped_same, after_choice, drawn_step, drawn_end}
 

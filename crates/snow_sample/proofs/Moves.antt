@@ -5,7 +5,7 @@ use Rattle.std.proofs.lemmas.List.{length-map, length-replicate, length-set, map
 use Rattle.std.proofs.lemmas.List.Sums.{fold-append}
 use Rattle.std.proofs.lemmas.Nat.{and_le_r}
 use Rattle.snow_sample.specs.declared.shuffle.Move.{Move}
-use Rattle.snow_sample.specs.Kept.{class_of, classes_of, AreMoves, moved_to}
+use Rattle.snow_sample.specs.Kept.Drawn.{class_of, classes_of, AreMoves, moved_to}
 use Rattle.snow_sample.proofs.Chains.{chained_none, chained_more}
 use Rattle.snow_sample.proofs.Walks.{IsSought, sought_begins, sought_on, sought_found, sought_nowhere}
 

@@ -13,9 +13,9 @@ use Rattle.snow_sample.specs.declared.draws.Draw.{Draw}
 use Rattle.snow_sample.specs.declared.roster.Node.{Node}
 use Rattle.snow_sample.specs.declared.roster.RosterFault.{RosterFault}
 use Rattle.snow_sample.specs.declared.roster.RosterFault.TheVariants as faults
-use Rattle.snow_sample.specs.Kept.{place, is_at, one_more, HasSlots}
-use Rattle.snow_sample.specs.Roster.{has_node, repeated_behind, first_repeated, none_fault, first_fault}
-use Rattle.snow_sample.specs.Sampling.{counted, draw_count}
+use Rattle.snow_sample.specs.Kept.Drawn.{place, is_at, one_more, HasSlots}
+use Rattle.snow_sample.specs.Model.Roster.{has_node, repeated_behind, first_repeated, none_fault, first_fault}
+use Rattle.snow_sample.specs.Model.Sampling.{counted, draw_count}
 use Rattle.snow_sample.proofs.Counting.{counted_at, counted_new, count_more, no_place, place_there, place_new, place_kept}
 
 -- ---- no node stands twice

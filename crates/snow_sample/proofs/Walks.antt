@@ -2,7 +2,7 @@
 use Rattle.std.proofs.Common.{◌≡◌, ℕ, zero, suc, ◌-◌, ◌<◌, ◌≤◌, Bool, true, false, cond, List, [], ◌∷◌, length, get_or, map, fold, refl, sym, ap, ◌∙◌, arith}
 use Rattle.std.proofs.lemmas.Bool.{both_ways, cond-true, cond-false, false_from_ne_true}
 use Rattle.std.proofs.lemmas.List.{get_or_default, get_or-map, length-map}
-use Rattle.snow_sample.specs.Chains.{AreChained}
+use Rattle.snow_sample.specs.Kept.Chains.{AreChained}
 use Rattle.snow_sample.proofs.Chains.{IsWalked, walk_begins, walk_on, walk_shorter}
 
 -- the value of the last item that passes, else this one

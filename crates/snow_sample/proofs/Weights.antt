@@ -11,7 +11,7 @@ use Rattle.std.proofs.lemmas.List.Folds.{list_any_more}
 use Rattle.std.proofs.lemmas.List.Sums.{sum_by-cons}
 use Rattle.std.proofs.lemmas.Map.Text.{is_eq-slice_cmp}
 use Rattle.snow_sample.specs.declared.roster.Node.{Node}
-use Rattle.snow_sample.specs.Roster.{total_weight, has_node, repeated_behind, first_repeated, ends_from, owner}
+use Rattle.snow_sample.specs.Model.Roster.{total_weight, has_node, repeated_behind, first_repeated, ends_from, owner}
 
 -- ---- nodes that stand twice
 

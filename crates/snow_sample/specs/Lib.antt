@@ -1,7 +1,3 @@
-pub mod Chains
-pub mod Guide
+pub mod Model
+pub mod Laws
 pub mod Kept
-pub mod Law
-pub mod Roster
-pub mod Sampling
-pub mod Words

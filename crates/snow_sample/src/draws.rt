@@ -34,8 +34,8 @@ impl Model for Draws {
 }
 
 impl Draws {
-    ghost use Rattle.snow_sample.specs.Kept.{is_at, one_more};
-    ghost use Rattle.snow_sample.specs.Sampling.{draw_count};
+    ghost use Rattle.snow_sample.specs.Kept.Drawn.{is_at, one_more};
+    ghost use Rattle.snow_sample.specs.Model.Sampling.{draw_count};
 
     /// Returns the empty list of draws. It takes no memory.
     /// Rule: AvalancheGo, utils/sampler.

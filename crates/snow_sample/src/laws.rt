@@ -1,4 +1,4 @@
-ghost use Rattle.snow_sample.specs.Law.{DrawsAsTheList, DrawsDistinctUnits};
+ghost use Rattle.snow_sample.specs.Laws.Law.{DrawsAsTheList, DrawsDistinctUnits};
 
 /// A sample draws the units that come from exchanging the elements of the whole list 0, 1, 2, .. of
 /// all units, though it keeps only the positions that were moved.

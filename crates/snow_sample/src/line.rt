@@ -1,6 +1,6 @@
 ghost use Rattle.std.specs.Prelude.{◌≡◌, ◌+◌, ◌^◌, ◌<◌, ◌≤◌, [], ◌++◌, length, drop, vec_len, vec_capacity, OnOk, OnErr, IfSome, IfNone};
 ghost use Rattle.std.specs.Option.{option_map};
-ghost use Rattle.snow_sample.specs.Words.{choice, reduced, IsRest};
+ghost use Rattle.snow_sample.specs.Model.Words.{choice, reduced, IsRest};
 
 use std::alloc::{AllocError, Global};
 use std::marker::Model;

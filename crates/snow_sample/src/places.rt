@@ -1,7 +1,7 @@
 ghost use Rattle.std.specs.Prelude.{◌≡◌, ◌+◌, ◌^◌, ◌<◌, [], OnOk};
-ghost use Rattle.snow_sample.specs.Kept.{HasSlots};
-ghost use Rattle.snow_sample.specs.Roster.{total_weight, owner};
-ghost use Rattle.snow_sample.specs.Sampling.{counted, draw_count};
+ghost use Rattle.snow_sample.specs.Kept.Drawn.{HasSlots};
+ghost use Rattle.snow_sample.specs.Model.Roster.{total_weight, owner};
+ghost use Rattle.snow_sample.specs.Model.Sampling.{counted, draw_count};
 
 use crate::draws::Draws;
 use crate::roster::Roster;

@@ -1,6 +1,6 @@
 ghost use Rattle.std.specs.Prelude.{◌≡◌, ◌^◌, ◌<◌, None, length, slice_index_or};
 ghost use Rattle.snow_sample.specs.declared.roster.Node.{Node};
-ghost use Rattle.snow_sample.specs.Roster.{total_weight, first_fault, IsRosterOf, owner};
+ghost use Rattle.snow_sample.specs.Model.Roster.{total_weight, first_fault, IsRosterOf, owner};
 
 use crate::guide::Guide;
 use crate::weighing;
@@ -62,8 +62,8 @@ pub struct Roster {
 impl Model for Roster {
     ghost use Rattle.std.specs.Prelude.{List};
     ghost use Rattle.snow_sample.specs.declared.roster.Node.{Node};
-    ghost use Rattle.snow_sample.specs.Guide.{IsGuide};
-    ghost use Rattle.snow_sample.specs.Roster.{IsRoster};
+    ghost use Rattle.snow_sample.specs.Kept.Guide.{IsGuide};
+    ghost use Rattle.snow_sample.specs.Model.Roster.{IsRoster};
 
     ghost Value = { List Node };
 

@@ -1,7 +1,7 @@
 ghost use Rattle.std.specs.Prelude.{◌≡◌, ℕ, ◌<◌, ◌≤◌, [], length, vec_capacity, Ok, Err, IfErr, OnOk, OnErr};
-ghost use Rattle.snow_sample.specs.Kept.{unit_at, AreMoves, HasSlots};
-ghost use Rattle.snow_sample.specs.Roster.{total_weight};
-ghost use Rattle.snow_sample.specs.Sampling.{sample_of, IsFault, draw_count, AreOfDistinctNodes};
+ghost use Rattle.snow_sample.specs.Kept.Drawn.{unit_at, AreMoves, HasSlots};
+ghost use Rattle.snow_sample.specs.Model.Roster.{total_weight};
+ghost use Rattle.snow_sample.specs.Model.Sampling.{sample_of, IsFault, draw_count, AreOfDistinctNodes};
 
 use crate::draws::Draws;
 use crate::line::Line;

@@ -1,6 +1,6 @@
 ghost use Rattle.std.specs.Prelude.{◌≡◌, ℕ, ◌==◌, ◌+◌, ◌^◌, ◌<◌, ◌≤◌, true, length, vec_capacity, if◌then◌else◌, IfOk, OnOk};
-ghost use Rattle.snow_sample.specs.Kept.{AreMoves, moved_to, unit_at};
-ghost use Rattle.snow_sample.specs.Sampling.{swapped};
+ghost use Rattle.snow_sample.specs.Kept.Drawn.{AreMoves, moved_to, unit_at};
+ghost use Rattle.snow_sample.specs.Model.Sampling.{swapped};
 
 use crate::fresh;
 use std::alloc::{AllocError, Global};

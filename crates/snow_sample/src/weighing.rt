@@ -1,6 +1,6 @@
 ghost use Rattle.std.specs.Prelude.{◌≡◌, ◌≤◌, ◌<◌, ◌^◌, ◌-◌, true, false, Some, None, IfOk, length, nat_le, nat_lt, if◌then◌else◌};
 ghost use Rattle.std.specs.List.Sorted.{IsPartitionedBy, IsPartitionPoint};
-ghost use Rattle.snow_sample.specs.Roster.{total_weight, first_repeated, first_weightless, ends_from};
+ghost use Rattle.snow_sample.specs.Model.Roster.{total_weight, first_repeated, first_weightless, ends_from};
 
 use crate::roster::Node;
 use snow_base::NodeId;

@@ -1,6 +1,6 @@
 ghost use Rattle.std.specs.Prelude.{◌≡◌, ◌+◌, ◌≤◌, [], ◌++◌, length, Ok, IfErr, OnOk, OnErr};
-ghost use Rattle.snow_sample.specs.Roster.{total_weight};
-ghost use Rattle.snow_sample.specs.Sampling.{sample_of, IsFault, draw_count, AreOfDistinctNodes};
+ghost use Rattle.snow_sample.specs.Model.Roster.{total_weight};
+ghost use Rattle.snow_sample.specs.Model.Sampling.{sample_of, IsFault, draw_count, AreOfDistinctNodes};
 
 use crate::draws::Draws;
 use crate::line::Line;

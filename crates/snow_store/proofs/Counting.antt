@@ -9,10 +9,10 @@ use Rattle.std.specs.Prelude.{is_some, Ok}
 use Rattle.std.proofs.lemmas.Map.Text.{is_eq-slice_cmp}
 use Rattle.snow_store.specs.declared.block.KeptBlock.{KeptBlock}
 use Rattle.snow_store.specs.declared.verdict.Verdict.TheVariants as verdict
-use Rattle.snow_store.specs.Keeping.{taken, keeping}
-use Rattle.snow_store.specs.Linking.{IsLinked}
-use Rattle.snow_store.specs.Needing.{need_at, names, is_missed, missing, counted, Counts, has_need, HasNeeds, with_more, with_less, with_none, passed_on}
-use Rattle.snow_store.specs.Paths.{Fetch, has_id, missed, is_whole}
+use Rattle.snow_store.specs.Model.Keeping.{taken, keeping}
+use Rattle.snow_store.specs.Laws.Linking.{IsLinked}
+use Rattle.snow_store.specs.Model.Needing.{need_at, names, is_missed, missing, counted, Counts, has_need, HasNeeds, with_more, with_less, with_none, passed_on}
+use Rattle.snow_store.specs.Model.Paths.{Fetch, has_id, missed, is_whole}
 use Rattle.snow_store.proofs.Cases.{split_on, clash, same_id, id_same, same_some, none_not}
 use Rattle.snow_store.proofs.Missing.{name_kept, none_missed, some_missed}
 use Rattle.snow_store.proofs.Needed.{with_kept, with_found, low_names}

@@ -10,8 +10,8 @@ use Rattle.std.proofs.lemmas.List.{length-reverse, reverse-append}
 use Rattle.std.proofs.lemmas.Map.Text.{is_eq-slice_cmp}
 use Rattle.snow_store.specs.declared.block.KeptBlock.{KeptBlock}
 use Rattle.snow_store.specs.declared.index.Children.{Children}
-use Rattle.snow_store.specs.Keeping.{held, highest, higher}
-use Rattle.snow_store.specs.Indexing.{place_of, top_of, higher_height, with_child, children_of, HasPlaces, HasTops, HasChildren}
+use Rattle.snow_store.specs.Model.Keeping.{held, highest, higher}
+use Rattle.snow_store.specs.Kept.Indexing.{place_of, top_of, higher_height, with_child, children_of, HasPlaces, HasTops, HasChildren}
 use Rattle.snow_store.proofs.Cases.{same_id, none_not, picked, passed}
 
 -- whichever of two numbers is compared to the other

@@ -9,8 +9,8 @@ use Rattle.snow_store.specs.declared.stop.BootStop.{BootStop}
 use Rattle.snow_store.specs.declared.stop.BootStop.TheVariants as stop
 use Rattle.snow_store.specs.declared.verdict.Verdict.{Verdict}
 use Rattle.snow_store.specs.declared.verdict.Verdict.TheVariants as verdict
-use Rattle.snow_store.specs.Keeping.{Store, held, stray, unless, child_stop, fork_stop, below_stop, above_stop, misplaced, placed, most_kept, taken, keeping}
-use Rattle.snow_store.specs.Linking.{IsLinked}
+use Rattle.snow_store.specs.Model.Keeping.{Store, held, stray, unless, child_stop, fork_stop, below_stop, above_stop, misplaced, placed, most_kept, taken, keeping}
+use Rattle.snow_store.specs.Laws.Linking.{IsLinked}
 use Rattle.snow_store.proofs.Cases.{split_on, same_id, same_some, not_none, none_not, picked}
 
 -- what is known of a block that is kept

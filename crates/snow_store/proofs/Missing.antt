@@ -5,10 +5,10 @@ use Rattle.std.specs.Prelude.{is_none, Ok}
 use Rattle.std.proofs.lemmas.Bool.{or_right}
 use Rattle.snow_store.specs.declared.block.KeptBlock.{KeptBlock}
 use Rattle.snow_store.specs.declared.verdict.Verdict.TheVariants as verdict
-use Rattle.snow_store.specs.Keeping.{taken, keeping}
-use Rattle.snow_store.specs.Linking.{IsLinked}
-use Rattle.snow_store.specs.Needing.{need_at, names, is_missed}
-use Rattle.snow_store.specs.Paths.{Fetch, has_id, missed}
+use Rattle.snow_store.specs.Model.Keeping.{taken, keeping}
+use Rattle.snow_store.specs.Laws.Linking.{IsLinked}
+use Rattle.snow_store.specs.Model.Needing.{need_at, names, is_missed}
+use Rattle.snow_store.specs.Model.Paths.{Fetch, has_id, missed}
 use Rattle.snow_store.proofs.Cases.{split_on, clash, same_id, id_same}
 use Rattle.snow_store.proofs.Needed.{with_kept, keep_moves, keep_stays}
 use Rattle.snow_store.proofs.Whole.{first_or, later, first}

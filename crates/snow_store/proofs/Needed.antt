@@ -4,18 +4,18 @@ use Rattle.std.specs.Prelude.{is_some, Ok, Err, Result}
 use Rattle.std.proofs.lemmas.Bool.{ne_eqb, lt-ltb, leb-true}
 use Rattle.std.proofs.lemmas.List.Folds.{list_any-append}
 use Rattle.std.specs.Option.{option_map}
-use Rattle.snow_interval.specs.Heights.{Heights, lowest}
+use Rattle.snow_interval.specs.Model.Heights.{Heights, lowest}
 use Rattle.snow_base.specs.declared.header.Header.{Header}
 use Rattle.snow_store.specs.declared.block.KeptBlock.{KeptBlock}
 use Rattle.snow_store.specs.declared.stop.BootStop.{BootStop}
 use Rattle.snow_store.specs.declared.stop.BootStop.TheVariants as stop
 use Rattle.snow_store.specs.declared.verdict.Verdict.{Verdict}
 use Rattle.snow_store.specs.declared.verdict.Verdict.TheVariants as verdict
-use Rattle.snow_store.specs.Keeping.{Store, held, highest, higher, lower, strays, stray, unless, child_stop, misplaced, most_kept, placed, taken, keeping}
-use Rattle.snow_store.specs.Linking.{IsLinked, held_heights}
-use Rattle.snow_store.specs.Needing.{need_at, names}
-use Rattle.snow_store.specs.Paths.{Fetch, wanted_below, has_id, missed_from, missed}
-use Rattle.snow_store.specs.Coming.{noted}
+use Rattle.snow_store.specs.Model.Keeping.{Store, held, highest, higher, lower, strays, stray, unless, child_stop, misplaced, most_kept, placed, taken, keeping}
+use Rattle.snow_store.specs.Laws.Linking.{IsLinked, held_heights}
+use Rattle.snow_store.specs.Model.Needing.{need_at, names}
+use Rattle.snow_store.specs.Model.Paths.{Fetch, wanted_below, has_id, missed_from, missed}
+use Rattle.snow_store.specs.Clauses.Coming.{noted}
 use Rattle.snow_store.proofs.Cases.{split_on, clash, same_id, id_same, id_turned, none_not, picked, passed, or_false}
 use Rattle.snow_store.proofs.Holding.{held_height, held_above, held_later, highest_held}
 use Rattle.snow_store.proofs.Linked.{IsPlaced, keeps_facts, linked_above, kept_linked}

@@ -1,19 +1,19 @@
 -- A block that a target misses advances it.
 use Rattle.std.proofs.Common.{◌≡◌, ℕ, zero, suc, Bool, true, false, ◌==◌, ◌||◌, ◌&&◌, not, List, [], ◌∷◌, length, Option, Some, None, bytes_eq, nat_le, if◌then◌else◌, inl, inr, refl, sym, ap, ◌∙◌, arith}
 use Rattle.std.specs.Prelude.{is_some, Result, Ok, Err}
-use Rattle.snow_interval.specs.Heights.{Heights, lowest}
+use Rattle.snow_interval.specs.Model.Heights.{Heights, lowest}
 use Rattle.snow_base.specs.declared.header.Header.{Header}
 use Rattle.snow_store.specs.declared.block.KeptBlock.{KeptBlock}
 use Rattle.snow_store.specs.declared.stop.BootStop.{BootStop}
 use Rattle.snow_store.specs.declared.stop.BootStop.TheVariants as stop
 use Rattle.snow_store.specs.declared.verdict.Verdict.{Verdict}
 use Rattle.snow_store.specs.declared.verdict.Verdict.TheVariants as verdict
-use Rattle.snow_store.specs.Keeping.{Store, held, highest, higher, stray, unless, child_stop, misplaced, most_kept, placed, taken}
-use Rattle.snow_store.specs.Linking.{IsLinked, held_heights}
-use Rattle.snow_store.specs.Needing.{need_at, names}
-use Rattle.snow_store.specs.Paths.{Fetch, has_id, missed}
-use Rattle.snow_store.specs.ProgressLaw.{Advances}
-use Rattle.snow_store.specs.Coming.{if_taken, came}
+use Rattle.snow_store.specs.Model.Keeping.{Store, held, highest, higher, stray, unless, child_stop, misplaced, most_kept, placed, taken}
+use Rattle.snow_store.specs.Laws.Linking.{IsLinked, held_heights}
+use Rattle.snow_store.specs.Model.Needing.{need_at, names}
+use Rattle.snow_store.specs.Model.Paths.{Fetch, has_id, missed}
+use Rattle.snow_store.specs.Laws.ProgressLaw.{Advances}
+use Rattle.snow_store.specs.Clauses.Coming.{if_taken, came}
 use Rattle.snow_store.proofs.Cases.{clash, same_id, id_same, same_some, not_none, none_not, picked}
 use Rattle.snow_store.proofs.Needed.{with_kept, with_found, keep_moves, low_facts, low_unmissed, low_names, missed_none, need_named, missed_top, run_of, right_above, option_cases}
 

@@ -9,12 +9,12 @@ use Rattle.snow_store.specs.declared.due.Due.{Due}
 use Rattle.snow_store.specs.declared.due.Due.TheVariants as due
 use Rattle.snow_store.specs.declared.verdict.Verdict.{Verdict}
 use Rattle.snow_store.specs.declared.verdict.Verdict.TheVariants as verdict
-use Rattle.snow_store.specs.Coming.{after_verdict}
-use Rattle.snow_store.specs.Keeping.{Store, taken, keeping, after_taking}
-use Rattle.snow_store.specs.Linking.{IsLinked, held_heights}
-use Rattle.snow_store.specs.Needing.{need_at, names, is_missed, missing, counted, Counts, has_need, HasNeeds, with_more, with_less, with_none, passed_on, Covers}
-use Rattle.snow_store.specs.Paths.{Fetch, has_id, missed}
-use Rattle.snow_store.specs.Renewing.{fetch_by, MayRenew, IsRenewed}
+use Rattle.snow_store.specs.Clauses.Coming.{after_verdict}
+use Rattle.snow_store.specs.Model.Keeping.{Store, taken, keeping, after_taking}
+use Rattle.snow_store.specs.Laws.Linking.{IsLinked, held_heights}
+use Rattle.snow_store.specs.Model.Needing.{need_at, names, is_missed, missing, counted, Counts, has_need, HasNeeds, with_more, with_less, with_none, passed_on, Covers}
+use Rattle.snow_store.specs.Model.Paths.{Fetch, has_id, missed}
+use Rattle.snow_store.specs.Kept.Renewing.{fetch_by, MayRenew, IsRenewed}
 use Rattle.snow_store.proofs.Cases.{split_on, clash, same_id}
 use Rattle.snow_store.proofs.Holding.{held_first}
 use Rattle.snow_store.proofs.Counting.{counts_same, has_missed, missing_kept, missing_moved, missing_low}

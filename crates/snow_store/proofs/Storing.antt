@@ -3,14 +3,14 @@ use Rattle.std.proofs.Common.{◌≡◌, ℕ, zero, suc, ◌^◌, ◌<◌, Bool,
 use Rattle.std.specs.BTreeMap.{BTreeMap}
 use Rattle.std.specs.Option.{option_map}
 use Rattle.std.specs.Prelude.{is_some, Ok}
-use Rattle.snow_interval.specs.Heights.{Heights, with_height, lowest}
+use Rattle.snow_interval.specs.Model.Heights.{Heights, with_height, lowest}
 use Rattle.snow_store.specs.declared.block.KeptBlock.{KeptBlock}
 use Rattle.snow_store.specs.declared.index.Children.{Children}
 use Rattle.snow_store.specs.declared.verdict.Verdict.TheVariants as verdict
-use Rattle.snow_store.specs.Keeping.{Store, held, highest, taken, keeping}
-use Rattle.snow_store.specs.Linking.{IsLinked, held_heights}
-use Rattle.snow_store.specs.Paths.{Fetch, path, last_of, wanted_below, missed_from, missed}
-use Rattle.snow_store.specs.Indexing.{IsStored, HasPlaces, HasTops, HasChildren, top_of}
+use Rattle.snow_store.specs.Model.Keeping.{Store, held, highest, taken, keeping}
+use Rattle.snow_store.specs.Laws.Linking.{IsLinked, held_heights}
+use Rattle.snow_store.specs.Model.Paths.{Fetch, path, last_of, wanted_below, missed_from, missed}
+use Rattle.snow_store.specs.Kept.Indexing.{IsStored, HasPlaces, HasTops, HasChildren, top_of}
 use Rattle.snow_store.proofs.Cases.{clash, none_not, same_some}
 use Rattle.snow_store.proofs.Indexed.{turned}
 use Rattle.snow_store.proofs.Holding.{highest_held}

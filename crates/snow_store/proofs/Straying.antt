@@ -5,9 +5,9 @@ use Rattle.std.specs.Prelude.{is_some}
 use Rattle.std.proofs.lemmas.Bool.{ne_eqb, lt-ltb, le-ltb, cases_order}
 use Rattle.snow_store.specs.declared.block.KeptBlock.{KeptBlock}
 use Rattle.snow_store.specs.declared.index.Children.{Children}
-use Rattle.snow_store.specs.Keeping.{held, lower, strays, stray}
-use Rattle.snow_store.specs.Linking.{AreApart, held_heights}
-use Rattle.snow_store.specs.Indexing.{lower_height, with_child, children_of, stray_height}
+use Rattle.snow_store.specs.Model.Keeping.{held, lower, strays, stray}
+use Rattle.snow_store.specs.Laws.Linking.{AreApart, held_heights}
+use Rattle.snow_store.specs.Kept.Indexing.{lower_height, with_child, children_of, stray_height}
 use Rattle.snow_store.proofs.Cases.{split_on, clash, same_some, none_not, picked}
 use Rattle.snow_store.proofs.Holding.{held_first, held_later}
 

@@ -2,11 +2,11 @@
 use Rattle.std.proofs.Common.{◌≡◌, ℕ, zero, suc, ◌+◌, ◌-◌, ◌≤◌, Bool, true, false, List, [], ◌∷◌, ◌++◌, reverse, Option, Some, None, if◌then◌else◌, ◌⊎◌, inl, inr, refl, sym, ap, subst, ◌∙◌, arith, append_assoc, append-nil, add-one}
 use Rattle.std.specs.Prelude.{is_some}
 use Rattle.std.proofs.lemmas.List.{reverse-append}
-use Rattle.snow_interval.specs.Heights.{Heights, lowest}
+use Rattle.snow_interval.specs.Model.Heights.{Heights, lowest}
 use Rattle.snow_store.specs.declared.block.KeptBlock.{KeptBlock}
-use Rattle.snow_store.specs.Keeping.{Store, held}
-use Rattle.snow_store.specs.Paths.{path, last_of}
-use Rattle.snow_store.specs.Linking.{IsLinked, held_heights, listed, upward}
+use Rattle.snow_store.specs.Model.Keeping.{Store, held}
+use Rattle.snow_store.specs.Model.Paths.{path, last_of}
+use Rattle.snow_store.specs.Laws.Linking.{IsLinked, held_heights, listed, upward}
 use Rattle.std.proofs.lemmas.Bool.Decides.{leb_tells}
 use Rattle.snow_store.proofs.Cases.{split_on, id_same}
 use Rattle.snow_store.proofs.Holding.{held_height, held_above}

@@ -3,11 +3,11 @@ use Rattle.std.proofs.Common.{◌≡◌, ℕ, suc, ◌+◌, ◌-◌, ◌<◌, �
 use Rattle.std.specs.Prelude.{is_some, is_none}
 use Rattle.std.specs.List.{list_all}
 use Rattle.std.proofs.lemmas.Bool.Decides.{nat_tests}
-use Rattle.snow_interval.specs.Heights.{lowest}
+use Rattle.snow_interval.specs.Model.Heights.{lowest}
 use Rattle.snow_store.specs.declared.block.KeptBlock.{KeptBlock}
-use Rattle.snow_store.specs.Keeping.{held, highest, higher}
-use Rattle.snow_store.specs.Paths.{Fetch, path, last_of, wanted_below, has_id, missed_from, missed, is_whole, higher_of, highest_target}
-use Rattle.snow_store.specs.Linking.{IsLinked, held_heights, upward, IsWholePath}
+use Rattle.snow_store.specs.Model.Keeping.{held, highest, higher}
+use Rattle.snow_store.specs.Model.Paths.{Fetch, path, last_of, wanted_below, has_id, missed_from, missed, is_whole, higher_of, highest_target}
+use Rattle.snow_store.specs.Laws.Linking.{IsLinked, held_heights, upward, IsWholePath}
 use Rattle.snow_store.proofs.Cases.{clash, same_id, id_same, same_some, not_none, none_not}
 use Rattle.snow_store.proofs.Holding.{held_height, held_above, highest_held}
 use Rattle.snow_store.proofs.Walking.{bottom, path_upward, run_held, at_most}

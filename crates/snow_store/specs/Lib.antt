@@ -1,9 +1,4 @@
-pub mod Coming
-pub mod Indexing
-pub mod Keeping
-pub mod Linking
-pub mod Needing
-pub mod Paths
-pub mod ProgressLaw
-pub mod Renewing
-pub mod StoreCode
+pub mod Model
+pub mod Laws
+pub mod Kept
+pub mod Clauses

@@ -1,6 +1,6 @@
 //! Laws of the kept blocks, each a function that does nothing and ensures the law.
-ghost use Rattle.snow_store.specs.Linking.{LinkedLaw, RunLaw, PathLaw};
-ghost use Rattle.snow_store.specs.ProgressLaw.{ProgressLaw};
+ghost use Rattle.snow_store.specs.Laws.Linking.{LinkedLaw, RunLaw, PathLaw};
+ghost use Rattle.snow_store.specs.Laws.ProgressLaw.{ProgressLaw};
 
 /// Taking keeps the blocks linked: above the last accepted block, no two at one height, the block
 /// right above it its child, and of two at neighbouring heights the higher the lower one's.

@@ -3,13 +3,13 @@
 //! other target.
 ghost use Rattle.std.specs.Prelude.{◌≡◌, ◌<◌, ℕ, Bool, List, true, false, ◌||◌, bytes_eq, IfOk, OnOk};
 ghost use Rattle.std.specs.List.{IsDistinct};
-ghost use Rattle.snow_store.specs.Keeping as keeping;
-ghost use Rattle.snow_store.specs.Keeping.{after_taking};
-ghost use Rattle.snow_store.specs.Linking.{held_heights};
-ghost use Rattle.snow_store.specs.Needing.{need_at, names, has_need, HasNeeds, Counts, with_more, with_less, with_none, passed_on, is_due, Covers};
-ghost use Rattle.snow_store.specs.Paths.{Fetch, has_id, missed, is_whole};
-ghost use Rattle.snow_store.specs.Renewing.{fetch_by, MayRenew, IsRenewed};
-ghost use Rattle.snow_store.specs.Coming.{noted, after_verdict};
+ghost use Rattle.snow_store.specs.Model.Keeping as keeping;
+ghost use Rattle.snow_store.specs.Model.Keeping.{after_taking};
+ghost use Rattle.snow_store.specs.Laws.Linking.{held_heights};
+ghost use Rattle.snow_store.specs.Model.Needing.{need_at, names, has_need, HasNeeds, Counts, with_more, with_less, with_none, passed_on, is_due, Covers};
+ghost use Rattle.snow_store.specs.Model.Paths.{Fetch, has_id, missed, is_whole};
+ghost use Rattle.snow_store.specs.Kept.Renewing.{fetch_by, MayRenew, IsRenewed};
+ghost use Rattle.snow_store.specs.Clauses.Coming.{noted, after_verdict};
 ghost use Rattle.snow_store.specs.declared.verdict.Verdict.TheVariants.{Keeps, Low};
 
 use crate::due::Due;

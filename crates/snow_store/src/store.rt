@@ -2,11 +2,11 @@ ghost use Rattle.std.specs.Prelude.{◌≡◌, ℕ, ◌+◌, ◌-◌, ◌<◌, L
 ghost use Rattle.std.specs.List.{slice_get};
 ghost use Rattle.std.specs.Option.{option_copied};
 ghost use Rattle.snow_store.specs.declared.verdict.Verdict.TheVariants.{Keeps};
-ghost use Rattle.snow_store.specs.Keeping.{held, highest, stray, child_stop, fork_stop, below_stop, above_stop, misplaced, placed_there, placed, taken, keeping, after_taking, Answers};
-ghost use Rattle.snow_store.specs.Paths.{has_id, wanted_below, missed_from};
-ghost use Rattle.snow_store.specs.Indexing.{top_of};
-ghost use Rattle.snow_store.specs.Linking.{IsLinked, held_heights};
-ghost use Rattle.snow_store.specs.Needing.{need_at};
+ghost use Rattle.snow_store.specs.Model.Keeping.{held, highest, stray, child_stop, fork_stop, below_stop, above_stop, misplaced, placed_there, placed, taken, keeping, after_taking, Answers};
+ghost use Rattle.snow_store.specs.Model.Paths.{has_id, wanted_below, missed_from};
+ghost use Rattle.snow_store.specs.Kept.Indexing.{top_of};
+ghost use Rattle.snow_store.specs.Laws.Linking.{IsLinked, held_heights};
+ghost use Rattle.snow_store.specs.Model.Needing.{need_at};
 
 use crate::block::KeptBlock;
 use crate::index;
@@ -41,8 +41,8 @@ pub struct Store<H: Kept> {
 
 impl<H: Kept> Model for Store<H> {
     ghost use Rattle.std.specs.Prelude.{◌≡◌, true, reverse};
-    ghost use Rattle.snow_store.specs.StoreCode.{coded_shelf};
-    ghost use Rattle.snow_store.specs.Indexing.{Shelf, IsStored};
+    ghost use Rattle.snow_store.specs.Kept.StoreCode.{coded_shelf};
+    ghost use Rattle.snow_store.specs.Kept.Indexing.{Shelf, IsStored};
 
     ghost Value = { Shelf };
 

@@ -2,9 +2,9 @@
 use Rattle.std.proofs.Common.{◌≡◌, ℕ, ◌<◌, ◌≤◌, ◌^◌, ◌==◌, if◌then◌else◌, Bool, true, false, List, [], ◌∷◌, ◌++◌, length, map, decimal, refl, arith}
 use Rattle.std.specs.List.{AllByRecursion}
 use Rattle.std.proofs.lemmas.List.{length-append}
-use Rattle.snow_text.specs.Words.{Word}
-use Rattle.snow_text.specs.Bytes.{runs_of}
-use Rattle.snow_text.specs.Shown.{listed_text, some_field, some_word, times_text, times_texts}
+use Rattle.snow_text.specs.Model.Words.{Word}
+use Rattle.snow_text.specs.Model.Bytes.{runs_of}
+use Rattle.snow_text.specs.Model.Shown.{listed_text, some_field, some_word, times_text, times_texts}
 use Rattle.snow_text.proofs.Marks.{AllLack, IsMark, Lacks, decimal_lacks, hash, lacks_both, lacks_cons, newline, space}
 use Rattle.snow_text.proofs.Runs.{AreBelow, AreRuns, IsRun, runs_are}
 use Rattle.snow_text.proofs.Framed.{AreWords}

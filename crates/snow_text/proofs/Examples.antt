@@ -2,18 +2,18 @@
 use Rattle.std.proofs.Common.{◌≡◌, ℕ, List, [], ◌∷◌, ◌++◌, replicate, codes, Ok, Err, refl}
 use Rattle.hex.specs.Hex.{decode_pairs, encode_with}
 use Rattle.std.specs.Fmt.{digits}
-use Rattle.snow_wire.specs.Spelling.{number}
-use Rattle.snow_wire.specs.Frame.{frames_of, frames_in, first_of}
-use Rattle.snow_wire.specs.Reading.{event_of, fields_at, start_at, sender_at, single_at, message_at, number_at, limited_at, flag_at, bytes_at, sized_at, counted_at, items_at, weighed_at}
+use Rattle.snow_wire.specs.Model.Spelling.{number}
+use Rattle.snow_wire.specs.Model.Frame.{frames_of, frames_in, first_of}
+use Rattle.snow_wire.specs.Model.Reading.{event_of, fields_at, start_at, sender_at, single_at, message_at, number_at, limited_at, flag_at, bytes_at, sized_at, counted_at, items_at, weighed_at}
 use Rattle.snow_text.specs.declared.refusal.Reason.TheVariants as reason
 use Rattle.snow_text.specs.declared.form.BlockForm.TheVariants as form
-use Rattle.snow_text.specs.Words.{words_of, said, spaced, column_of, each, all_of, one, all, ◌&◌, ended}
-use Rattle.snow_text.specs.Names.{called}
-use Rattle.snow_text.specs.Bytes.{number_below, number_word, digits_word, piece_of, bytes_word, fixed_word, part_word, item_word, bytes_of, runs_of, pieces_of, short, bytes_text, trimmed, fixed_text}
-use Rattle.snow_text.specs.Lines.{kinds_of, long_as, long_words, line_of, short_as, short_words, line_words}
-use Rattle.snow_text.specs.Events.{listed, times_of, weighed_word, value_word, if_some, nodes_field, transfer_word, block_of, blocks_of, tagged, start_field, payload_of}
-use Rattle.snow_text.specs.Made.{Frame, say_words, naming, none_say, made_from, made}
-use Rattle.snow_text.specs.Shown.{event_words, say, shown_frame, shown_rest, shown, short_lines, tidied}
+use Rattle.snow_text.specs.Model.Words.{words_of, said, spaced, column_of, each, all_of, one, all, ◌&◌, ended}
+use Rattle.snow_text.specs.Model.Names.{called}
+use Rattle.snow_text.specs.Model.Bytes.{number_below, number_word, digits_word, piece_of, bytes_word, fixed_word, part_word, item_word, bytes_of, runs_of, pieces_of, short, bytes_text, trimmed, fixed_text}
+use Rattle.snow_text.specs.Model.Lines.{kinds_of, long_as, long_words, line_of, short_as, short_words, line_words}
+use Rattle.snow_text.specs.Model.Events.{listed, times_of, weighed_word, value_word, if_some, nodes_field, transfer_word, block_of, blocks_of, tagged, start_field, payload_of}
+use Rattle.snow_text.specs.Model.Made.{Frame, say_words, naming, none_say, made_from, made}
+use Rattle.snow_text.specs.Model.Shown.{event_words, say, shown_frame, shown_rest, shown, short_lines, tidied}
 
 -- an identifier by its first byte
 abbrev id_of : ℕ → List ℕ

@@ -4,13 +4,13 @@ use Rattle.std.specs.List.{AllByRecursion, flat_map}
 use Rattle.std.specs.Str.{bytes_eq}
 use Rattle.std.proofs.lemmas.Bool.{lt-ltb, eqb-true}
 use Rattle.std.proofs.lemmas.List.{length-map}
-use Rattle.snow_wire.specs.Reading.{IsBytes}
-use Rattle.snow_wire.specs.Spelling.{counted, number, sender}
+use Rattle.snow_wire.specs.Model.Reading.{IsBytes}
+use Rattle.snow_wire.specs.Model.Spelling.{counted, number, sender}
 use Rattle.snow_text.specs.declared.refusal.Reason.{Reason}
-use Rattle.snow_text.specs.Words.{Word, Field, Halt, ◌>>=◌, ◌&◌, all, all_of, at, each, ended, one}
-use Rattle.snow_text.specs.Bytes.{fixed_text, item_word, number_word, runs_of}
-use Rattle.snow_text.specs.Events.{if_some, list_field, list_word, listed, named, node_field, nodes_field, number_field, sent, tagged, times_of, times_word, value_word, weighed_word}
-use Rattle.snow_text.specs.Shown.{field, listed_text, some_field, some_word, times_text, times_texts, weighed_text}
+use Rattle.snow_text.specs.Model.Words.{Word, Field, Halt, ◌>>=◌, ◌&◌, all, all_of, at, each, ended, one}
+use Rattle.snow_text.specs.Model.Bytes.{fixed_text, item_word, number_word, runs_of}
+use Rattle.snow_text.specs.Model.Events.{if_some, list_field, list_word, listed, named, node_field, nodes_field, number_field, sent, tagged, times_of, times_word, value_word, weighed_word}
+use Rattle.snow_text.specs.Model.Shown.{field, listed_text, some_field, some_word, times_text, times_texts, weighed_text}
 use Rattle.snow_text.proofs.Marks.{AllLack, Lacks, colon, decimal_lacks, lacks_joined, parts_joined, parts_more, parts_one, star}
 use Rattle.snow_text.proofs.Runs.{AreBelow, AreRuns, IsRun, runs_are, runs_spread, spread}
 use Rattle.snow_text.proofs.Pieces.{number_again, same_bytes}

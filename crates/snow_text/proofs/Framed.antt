@@ -4,17 +4,17 @@ use Rattle.std.specs.List.{filter, flat_map, list_all}
 use Rattle.std.proofs.lemmas.Bool.{and_parts, le-leb}
 use Rattle.std.proofs.lemmas.List.Elements.{All-head, All-tail}
 use Rattle.snow_wire.specs.declared.event.Event.{Event}
-use Rattle.snow_wire.specs.Frame.{IsPayload, frame, frames_of}
-use Rattle.snow_wire.specs.Reading.{IsBytes, event_of}
-use Rattle.snow_wire.specs.Spelling.{number}
+use Rattle.snow_wire.specs.Model.Frame.{IsPayload, frame, frames_of}
+use Rattle.snow_wire.specs.Model.Reading.{IsBytes, event_of}
+use Rattle.snow_wire.specs.Model.Spelling.{number}
 use Rattle.snow_wire.proofs.Numbers.{IsBytes-behind}
 use Rattle.snow_wire.proofs.Streams.{are_frames}
 use Rattle.snow_text.specs.declared.form.BlockForm.{BlockForm}
-use Rattle.snow_text.specs.Words.{Word, Halt, is_word, parts, said, spaced, words_of}
-use Rattle.snow_text.specs.Bytes.{bytes_of, bytes_text}
-use Rattle.snow_text.specs.Events.{payload_of}
-use Rattle.snow_text.specs.Made.{Said, Name, names_behind, Nothing, Frame, Rest, joined, made, made_from, none_say, say_words}
-use Rattle.snow_text.specs.Shown.{event_words, frame_words, is_frame, line, say, shown, shown_frame, shown_rest, words_as}
+use Rattle.snow_text.specs.Model.Words.{Word, Halt, is_word, parts, said, spaced, words_of}
+use Rattle.snow_text.specs.Model.Bytes.{bytes_of, bytes_text}
+use Rattle.snow_text.specs.Model.Events.{payload_of}
+use Rattle.snow_text.specs.Model.Made.{Said, Name, names_behind, Nothing, Frame, Rest, joined, made, made_from, none_say, say_words}
+use Rattle.snow_text.specs.Model.Shown.{event_words, frame_words, is_frame, line, say, shown, shown_frame, shown_rest, words_as}
 use Rattle.snow_text.proofs.Marks.{AllLack, Lacks, hash, lacks_from, lacks_joined, newline, parts_joined, parts_more, space}
 use Rattle.snow_text.proofs.Runs.{bytes_front}
 use Rattle.snow_text.proofs.Pieces.{IsBytesWord, bytes_text_is, told_same, word_if}

@@ -8,7 +8,7 @@ use Rattle.std.proofs.lemmas.List.Elements.{All-nil, All-cons, All-append}
 use Rattle.std.proofs.lemmas.List.Splits.{slice_split_none, slice_split_at}
 use Rattle.std.proofs.lemmas.Str.Parse.{digit_from_value}
 use Rattle.hex.specs.Hex.{encode_lower, encode_with, lower_digits}
-use Rattle.snow_text.specs.Words.{parts}
+use Rattle.snow_text.specs.Model.Words.{parts}
 
 -- no byte is c
 abbrev pub Lacks : ℕ → List ℕ → Type 0

@@ -1,12 +1,12 @@
 -- Lines of the project's pages: what the definitions say of each is what the maker of streams writes.
 use Rattle.std.proofs.Common.{◌≡◌, [], ◌∷◌, ◌++◌, replicate, codes, Ok, refl}
 use Rattle.hex.specs.Hex.{decode_pairs, encode_with}
-use Rattle.snow_wire.specs.Spelling.{number}
-use Rattle.snow_text.specs.Words.{words_of, said, spaced, each, all_of, one, all, ◌&◌, ended}
-use Rattle.snow_text.specs.Bytes.{number_below, number_word, digits_word, piece_of, bytes_word, fixed_word, part_word, item_word, bytes_of}
-use Rattle.snow_text.specs.Lines.{kinds_of, long_as, long_words, line_of}
-use Rattle.snow_text.specs.Events.{listed, times_of, weighed_word, value_word, if_some, nodes_field, transfer_word, block_of, blocks_of, tagged, start_field, payload_of}
-use Rattle.snow_text.specs.Made.{Frame, say_words}
+use Rattle.snow_wire.specs.Model.Spelling.{number}
+use Rattle.snow_text.specs.Model.Words.{words_of, said, spaced, each, all_of, one, all, ◌&◌, ended}
+use Rattle.snow_text.specs.Model.Bytes.{number_below, number_word, digits_word, piece_of, bytes_word, fixed_word, part_word, item_word, bytes_of}
+use Rattle.snow_text.specs.Model.Lines.{kinds_of, long_as, long_words, line_of}
+use Rattle.snow_text.specs.Model.Events.{listed, times_of, weighed_word, value_word, if_some, nodes_field, transfer_word, block_of, blocks_of, tagged, start_field, payload_of}
+use Rattle.snow_text.specs.Model.Made.{Frame, say_words}
 
 -- 1024-polls.txt
 pub line_1 : say_words [] (words_of (codes "start k=1 alpha-preference=1 alpha-confidence=1 beta=1 repolls=1 boot=0 last=ff.. height=0 nodes=01*20:1")) ≡ Ok (Frame ((1 ∷ 0 ∷ 0 ∷ 0 ∷ 1 ∷ 0 ∷ 0 ∷ 0 ∷ 1 ∷ 0 ∷ 0 ∷ 0 ∷ 1 ∷ 0 ∷ 0 ∷ 0 ∷ 1 ∷ 0 ∷ 0 ∷ 0 ∷ 1 ∷ 0 ∷ 255 ∷ []) ++ (replicate 42 0) ++ (replicate 21 1) ++ (replicate 7 0) ++ (1 ∷ [])))

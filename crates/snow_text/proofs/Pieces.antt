@@ -11,11 +11,11 @@ use Rattle.std.proofs.lemmas.Slice.Eq.{bytes_eq-Decides}
 use Rattle.std.proofs.lemmas.Str.Parse.{IsNumeralModel, numerals_by_value, tells_all_ascii_digits}
 use Rattle.hex.specs.Hex.{encode_lower, encode_with, lower_digits}
 use Rattle.hex.proofs.HexLemmas.{decode_of-encode_lower, length-encode_with}
-use Rattle.snow_wire.specs.Reading.{IsBytes}
+use Rattle.snow_wire.specs.Model.Reading.{IsBytes}
 use Rattle.snow_text.specs.declared.refusal.Reason.TheVariants as reason
-use Rattle.snow_text.specs.Words.{Word, where_holds, is_word, each, all_of}
-use Rattle.snow_text.specs.Names.{is_call}
-use Rattle.snow_text.specs.Bytes.{part_word, Piece, Plain, Again, bytes_of, bytes_text, bytes_word, digits_word, is_small, number_below, piece_of, piece_text, piece_word, pieces_of, runs_of, short}
+use Rattle.snow_text.specs.Model.Words.{Word, where_holds, is_word, each, all_of}
+use Rattle.snow_text.specs.Model.Names.{is_call}
+use Rattle.snow_text.specs.Model.Bytes.{part_word, Piece, Plain, Again, bytes_of, bytes_text, bytes_word, digits_word, is_small, number_below, piece_of, piece_text, piece_word, pieces_of, runs_of, short}
 use Rattle.snow_text.proofs.Marks.{AllLack, IsMark, Lacks, decimal_lacks, dollar, full_stop, hex_lacks, lacks_both, lacks_cons, lacks_joined, lacks_nil, parts_joined, parts_more, parts_one, plus, star}
 use Rattle.snow_text.proofs.Runs.{ArePieces, IsPiece, bytes_below, bytes_in, bytes_through, pieces_are, pieces_through, runs_are, runs_spread}
 

@@ -2,8 +2,8 @@
 use Rattle.std.proofs.Common.{◌≡◌, ℕ, zero, suc, ◌+◌, ◌<◌, ◌≤◌, ◌==◌, ◌&&◌, nat_lt, if◌then◌else◌, Bool, true, false, List, [], ◌∷◌, ◌++◌, length, replicate, refl, sym, ap, ◌∙◌, append_assoc, add-one, arith}
 use Rattle.std.proofs.lemmas.Bool.{and_parts, eqb-true, ltb-true}
 use Rattle.std.proofs.lemmas.List.{length-append}
-use Rattle.snow_wire.specs.Reading.{IsBytes}
-use Rattle.snow_text.specs.Bytes.{led_by, runs_of, Piece, Plain, Again, onto, pieces_of}
+use Rattle.snow_wire.specs.Model.Reading.{IsBytes}
+use Rattle.snow_text.specs.Model.Bytes.{led_by, runs_of, Piece, Plain, Again, onto, pieces_of}
 
 -- ---- bytes
 

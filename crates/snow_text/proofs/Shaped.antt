@@ -7,17 +7,17 @@ use Rattle.std.proofs.lemmas.List.Elements.{All-head, All-tail}
 use Rattle.std.proofs.lemmas.List.Splits.{join_with_byte-slice_split, slice_split-cons_no}
 use Rattle.byteorder.specs.Endian.{big_number}
 use Rattle.byteorder.specs.Numbers.{big_from-lt}
-use Rattle.snow_wire.specs.Frame.{IsPayload}
-use Rattle.snow_wire.specs.Reading.{IsBytes}
-use Rattle.snow_wire.specs.Spelling.{IsSender, counted, number, sender, sized}
+use Rattle.snow_wire.specs.Model.Frame.{IsPayload}
+use Rattle.snow_wire.specs.Model.Reading.{IsBytes}
+use Rattle.snow_wire.specs.Model.Spelling.{IsSender, counted, number, sender, sized}
 use Rattle.snow_wire.proofs.Numbers.{IsBytes-behind, IsBytes-take}
 use Rattle.snow_text.specs.declared.form.BlockForm.{BlockForm}
 use Rattle.snow_text.specs.declared.form.BlockForm.TheVariants as form
-use Rattle.snow_text.specs.Words.{Word, Halt, all, parts, spaced, all_of}
-use Rattle.snow_text.specs.Bytes.{bytes_text, fixed_text, short, some_of, trimmed}
-use Rattle.snow_text.specs.Events.{block_of, blocks_of, listed_block, payload_of, sized_block}
-use Rattle.snow_text.specs.Blocks.{behind_words, block_line, block_words, is_block, transfer_text, transfer_texts, words_if, words_in}
-use Rattle.snow_text.specs.Shown.{line, listed_text, say, sent_words, some_word}
+use Rattle.snow_text.specs.Model.Words.{Word, Halt, all, parts, spaced, all_of}
+use Rattle.snow_text.specs.Model.Bytes.{bytes_text, fixed_text, short, some_of, trimmed}
+use Rattle.snow_text.specs.Model.Events.{block_of, blocks_of, listed_block, payload_of, sized_block}
+use Rattle.snow_text.specs.Model.Blocks.{behind_words, block_line, block_words, is_block, transfer_text, transfer_texts, words_if, words_in}
+use Rattle.snow_text.specs.Model.Shown.{line, listed_text, say, sent_words, some_word}
 use Rattle.snow_text.proofs.Marks.{AllLack, Lacks, comma, lacks_both, lacks_cons, lacks_from, lacks_joined, lacks_nil, parts_joined, parts_more}
 use Rattle.snow_text.proofs.Runs.{bytes_front}
 use Rattle.snow_text.proofs.Pieces.{bytes_text_is, short_is, told_same}

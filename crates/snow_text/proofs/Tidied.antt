@@ -3,18 +3,18 @@ use Rattle.std.proofs.Common.{All, not, is_some, drop, Option, Some, None, nat_l
 use Rattle.std.specs.List.{find, flat_map}
 use Rattle.std.specs.Str.{bytes_eq}
 use Rattle.std.proofs.lemmas.Bool.{leb-true, eqb-true}
-use Rattle.snow_wire.specs.Frame.{IsPayload, first_of, frame, frames_in, frames_of}
-use Rattle.snow_wire.specs.Reading.{IsBytes}
+use Rattle.snow_wire.specs.Model.Frame.{IsPayload, first_of, frame, frames_in, frames_of}
+use Rattle.snow_wire.specs.Model.Reading.{IsBytes}
 use Rattle.snow_wire.proofs.Streams.{frame_first, frames_end, frames_front}
 use Rattle.snow_text.specs.declared.form.BlockForm.{BlockForm}
 use Rattle.snow_text.specs.declared.refusal.Reason.TheVariants as reason
 use Rattle.snow_text.specs.declared.refusal.Refusal.{Refusal}
-use Rattle.snow_text.specs.Words.{Word, Halt, ◌>>=◌, at, ended, parts, words_of}
-use Rattle.snow_text.specs.Bytes.{bytes_of}
-use Rattle.snow_text.specs.Names.{Named, Names, is_name}
-use Rattle.snow_text.specs.Events.{Chain, chain_of, first_word, payload_of}
-use Rattle.snow_text.specs.Made.{Said, Nothing, Name, Frame, Rest, framed, in_line, joined, made, made_from, named_as, names_behind, naming, none_say, refusal, say_words}
-use Rattle.snow_text.specs.Shown.{names_after, short_lines, short_of, shown, shown_frame, shown_rest, tidied}
+use Rattle.snow_text.specs.Model.Words.{Word, Halt, ◌>>=◌, at, ended, parts, words_of}
+use Rattle.snow_text.specs.Model.Bytes.{bytes_of}
+use Rattle.snow_text.specs.Model.Names.{Named, Names, is_name}
+use Rattle.snow_text.specs.Model.Events.{Chain, chain_of, first_word, payload_of}
+use Rattle.snow_text.specs.Model.Made.{Said, Nothing, Name, Frame, Rest, framed, in_line, joined, made, made_from, named_as, names_behind, naming, none_say, refusal, say_words}
+use Rattle.snow_text.specs.Model.Shown.{names_after, short_lines, short_of, shown, shown_frame, shown_rest, tidied}
 use Rattle.snow_text.proofs.Marks.{parts_more}
 use Rattle.snow_text.proofs.Framed.{made_again}
 

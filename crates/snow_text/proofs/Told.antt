@@ -4,17 +4,17 @@ use Rattle.std.proofs.lemmas.List.Elements.{recursion_from_All}
 use Rattle.snow_wire.specs.declared.event.Event.{Event}
 use Rattle.snow_wire.specs.declared.event.Event.TheVariants as event
 use Rattle.snow_wire.specs.declared.event.Start.{Start}
-use Rattle.snow_wire.specs.Frame.{IsPayload}
-use Rattle.snow_wire.specs.Reading.{IsBytes, event_of}
-use Rattle.snow_wire.specs.Spelling.{IsInRange, IsSender, IsSizedStart, counted, flag, number, parameters, sender, sized, spelling, start, weighed}
+use Rattle.snow_wire.specs.Model.Frame.{IsPayload}
+use Rattle.snow_wire.specs.Model.Reading.{IsBytes, event_of}
+use Rattle.snow_wire.specs.Model.Spelling.{IsInRange, IsSender, IsSizedStart, counted, flag, number, parameters, sender, sized, spelling, start, weighed}
 use Rattle.snow_wire.proofs.Numbers.{IsBytes-behind}
 use Rattle.snow_wire.proofs.Events.{event_taken}
 use Rattle.snow_text.specs.declared.refusal.Reason.{Reason}
 use Rattle.snow_text.specs.declared.form.BlockForm.{BlockForm}
-use Rattle.snow_text.specs.Words.{Word, Field, ◌&◌}
-use Rattle.snow_text.specs.Bytes.{fixed_text, item_word, number_word}
-use Rattle.snow_text.specs.Events.{if_some, named, none, payload_of, sent, start_field, tagged, times_word, weighed_word}
-use Rattle.snow_text.specs.Shown.{event_words, field, is_line, line, say, sent_words, shown_frame, some_field, start_words, times_texts, weighed_text, words_as}
+use Rattle.snow_text.specs.Model.Words.{Word, Field, ◌&◌}
+use Rattle.snow_text.specs.Model.Bytes.{fixed_text, item_word, number_word}
+use Rattle.snow_text.specs.Model.Events.{if_some, named, none, payload_of, sent, start_field, tagged, times_word, weighed_word}
+use Rattle.snow_text.specs.Model.Shown.{event_words, field, is_line, line, say, sent_words, shown_frame, some_field, start_words, times_texts, weighed_text, words_as}
 use Rattle.snow_text.proofs.Marks.{Lacks, comma, equals, lacks_from}
 use Rattle.snow_text.proofs.Runs.{bytes_front}
 use Rattle.snow_text.proofs.Values.{Says, item_says, number_says}

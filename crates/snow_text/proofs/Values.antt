@@ -5,12 +5,12 @@ use Rattle.std.proofs.lemmas.Bool.{eq-eqb, eqb-true, false_from_ne_true, both_wa
 use Rattle.std.proofs.lemmas.Fmt.{decimal_nonempty}
 use Rattle.std.proofs.lemmas.List.{length-append, take-append-drop}
 use Rattle.std.proofs.lemmas.List.Elements.{All-head, All-tail}
-use Rattle.snow_wire.specs.Reading.{IsBytes}
-use Rattle.snow_wire.specs.Spelling.{number}
+use Rattle.snow_wire.specs.Model.Reading.{IsBytes}
+use Rattle.snow_wire.specs.Model.Spelling.{number}
 use Rattle.snow_text.specs.declared.refusal.Reason.{Reason}
-use Rattle.snow_text.specs.Words.{Word, ◌>>=◌}
-use Rattle.snow_text.specs.Names.{is_call}
-use Rattle.snow_text.specs.Bytes.{exactly, fixed_text, fixed_word, is_open, item_word, kept, number_below, number_word, short, some_of, trimmed}
+use Rattle.snow_text.specs.Model.Words.{Word, ◌>>=◌}
+use Rattle.snow_text.specs.Model.Names.{is_call}
+use Rattle.snow_text.specs.Model.Bytes.{exactly, fixed_text, fixed_word, is_open, item_word, kept, number_below, number_word, short, some_of, trimmed}
 use Rattle.snow_text.proofs.Marks.{IsMark, Lacks, decimal_lacks, dollar, full_stop, lacks_both, lacks_cons, lacks_nil}
 use Rattle.snow_text.proofs.Runs.{bytes_front, length_again}
 use Rattle.snow_text.proofs.Pieces.{IsShort, no_call, number_again, same_bytes, short_is, told_same}

@@ -4,15 +4,15 @@ use Rattle.std.specs.List.{AllByRecursion, flat_map, list_all}
 use Rattle.std.specs.Str.{bytes_eq}
 use Rattle.std.proofs.lemmas.Bool.{and_from, not_from_false, le-leb, false_from_ne_true, both_ways}
 use Rattle.std.proofs.lemmas.List.Elements.{All-head, All-tail, recursion_from_All}
-use Rattle.snow_wire.specs.Frame.{IsPayload}
-use Rattle.snow_wire.specs.Reading.{IsBytes}
-use Rattle.snow_wire.specs.Spelling.{IsId, IsSender, IsWeighed, counted, number, sender, weighed}
+use Rattle.snow_wire.specs.Model.Frame.{IsPayload}
+use Rattle.snow_wire.specs.Model.Reading.{IsBytes}
+use Rattle.snow_wire.specs.Model.Spelling.{IsId, IsSender, IsWeighed, counted, number, sender, weighed}
 use Rattle.snow_wire.proofs.Numbers.{IsBytes-behind}
-use Rattle.snow_text.specs.Words.{Word, Field, words_of}
-use Rattle.snow_text.specs.Bytes.{fixed_text, item_word}
-use Rattle.snow_text.specs.Events.{block_of, id_field, ids_word, list_field, nodes_field, none, payload_of, sent, tagged, times_word, weighed_word}
-use Rattle.snow_text.specs.Made.{Frame, say_words}
-use Rattle.snow_text.specs.Shown.{is_frame, line, say, sent_words, some_word, times_texts, weighed_text}
+use Rattle.snow_text.specs.Model.Words.{Word, Field, words_of}
+use Rattle.snow_text.specs.Model.Bytes.{fixed_text, item_word}
+use Rattle.snow_text.specs.Model.Events.{block_of, id_field, ids_word, list_field, nodes_field, none, payload_of, sent, tagged, times_word, weighed_word}
+use Rattle.snow_text.specs.Model.Made.{Frame, say_words}
+use Rattle.snow_text.specs.Model.Shown.{is_frame, line, say, sent_words, some_word, times_texts, weighed_text}
 use Rattle.snow_text.proofs.Marks.{IsMark, Lacks, comma, decimal_lacks, lacks_both, lacks_cons, lacks_from, lacks_joined}
 use Rattle.snow_text.proofs.Runs.{AreBelow, bytes_front}
 use Rattle.snow_text.proofs.Pieces.{IsBytesWord, same_bytes, told_same}

@@ -1,12 +1,12 @@
 ghost use Rattle.std.specs.Prelude.{◌≡◌, ◌==◌, ℕ, false, List, [], ◌∷◌, ◌++◌, All, Ok, None};
 ghost use Rattle.snow_wire.specs.declared.event.Event.{Event};
-ghost use Rattle.snow_wire.specs.Frame.{IsPayload, first_of, frame};
-ghost use Rattle.snow_wire.specs.Reading.{IsBytes, event_of};
+ghost use Rattle.snow_wire.specs.Model.Frame.{IsPayload, first_of, frame};
+ghost use Rattle.snow_wire.specs.Model.Reading.{IsBytes, event_of};
 ghost use Rattle.snow_text.specs.declared.form.BlockForm.{BlockForm};
-ghost use Rattle.snow_text.specs.Words.{parts};
-ghost use Rattle.snow_text.specs.Names.{Names};
-ghost use Rattle.snow_text.specs.Made.{made, made_from};
-ghost use Rattle.snow_text.specs.Shown.{event_words, is_line, line, shown, shown_frame, shown_rest, tidied};
+ghost use Rattle.snow_text.specs.Model.Words.{parts};
+ghost use Rattle.snow_text.specs.Model.Names.{Names};
+ghost use Rattle.snow_text.specs.Model.Made.{made, made_from};
+ghost use Rattle.snow_text.specs.Model.Shown.{event_words, is_line, line, shown, shown_frame, shown_rest, tidied};
 
 /// Each stream is made again from its text, to the byte, however its blocks are shown.
 /// Rule: this project's own.

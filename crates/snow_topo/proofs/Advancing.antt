@@ -8,15 +8,15 @@ use Rattle.std.proofs.lemmas.List.{get_or-map, length-map}
 use Rattle.std.proofs.lemmas.List.Elements.{All-head, All-tail}
 use Rattle.std.proofs.lemmas.Option.{none-some, same_Some}
 use Rattle.snow_base.specs.declared.header.Header.{Header}
-use Rattle.snow_base.specs.Identifier.{bits}
-use Rattle.snow_base.specs.Ancestry.{line_in, descends}
-use Rattle.snow_flake.specs.Rule.{Answer}
-use Rattle.snow_board.specs.Conflict.{Pending}
-use Rattle.snow_board.specs.Conflict.{Counters, decided_path, decides, leads_to}
-use Rattle.snow_board.specs.Board.{Board, blocks_of}
-use Rattle.snow_board.specs.Grown.{IsGrown}
-use Rattle.snow_board.specs.Poll.{winner, promoted, settled}
-use Rattle.snow_board.specs.Preference.{path_from, preferred_path, preferred, end_of}
+use Rattle.snow_base.specs.Model.Identifier.{bits}
+use Rattle.snow_base.specs.Model.Ancestry.{line_in, descends}
+use Rattle.snow_flake.specs.Model.Rule.{Answer}
+use Rattle.snow_board.specs.Model.Conflict.{Pending}
+use Rattle.snow_board.specs.Model.Conflict.{Counters, decided_path, decides, leads_to}
+use Rattle.snow_board.specs.Model.Board.{Board, blocks_of}
+use Rattle.snow_board.specs.Kept.Grown.{IsGrown}
+use Rattle.snow_board.specs.Model.Poll.{winner, promoted, settled}
+use Rattle.snow_board.specs.Model.Preference.{path_from, preferred_path, preferred, end_of}
 use Rattle.snow_board.proofs.Cases.{split_on, clash, same_id}
 use Rattle.snow_board.proofs.Grown.{has_child, latest_childless, grown_before}
 use Rattle.snow_board.proofs.Kept.{descendants_grown}

@@ -1,12 +1,12 @@
 -- Lemmas on numbers of polls that begin anew.
 use Rattle.std.proofs.Common.{◌≡◌, ℕ, zero, suc, ◌≤◌, ◌==◌, Bool, true, false, List, [], ◌∷◌, length, get_or, map, All, Some, slice_get, refl, sym, ap, subst, arith, if◌then◌else◌}
 use Rattle.std.proofs.lemmas.List.Elements.{All-map}
-use Rattle.snow_flake.specs.Parameters.{Parameters}
+use Rattle.snow_flake.specs.Model.Parameters.{Parameters}
 use Rattle.snow_board.proofs.Cases.{split_on}
-use Rattle.snow_tree.specs.Held.{Entry, Held, blocks_in, children_of, set_load}
-use Rattle.snow_topo.specs.Kept.{Kept, shown, IsFit}
-use Rattle.snow_topo.specs.View.{view, all_pending, AreFit}
-use Rattle.snow_topo.specs.Renewed.{renewed, renewed_entry, all_renewed}
+use Rattle.snow_tree.specs.Kept.Held.{Entry, Held, blocks_in, children_of, set_load}
+use Rattle.snow_topo.specs.Kept.Children.{Kept, shown, IsFit}
+use Rattle.snow_topo.specs.Kept.View.{view, all_pending, AreFit}
+use Rattle.snow_topo.specs.Kept.Renewed.{renewed, renewed_entry, all_renewed}
 
 -- what is shown stays
 shown_anew : (p : Parameters) (polls : ℕ) (kept : Kept) → shown p 1 (renewed polls kept) ≡ shown p polls kept

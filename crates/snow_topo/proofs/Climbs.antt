@@ -5,20 +5,20 @@ use Rattle.std.proofs.lemmas.List.{get_or-map, length-map}
 use Rattle.std.proofs.lemmas.Option.{none-some, slice_get-map, slice_get_within, get_or_from_slice_get, slice_get_past, slice_get-get_or}
 use Rattle.snow_base.specs.declared.header.Header.{Header}
 use Rattle.snow_base.specs.declared.vote.Vote.{Vote}
-use Rattle.snow_base.specs.Ancestry.{votes_below}
-use Rattle.snow_flake.specs.Parameters.{Parameters, AreGood}
+use Rattle.snow_base.specs.Model.Ancestry.{votes_below}
+use Rattle.snow_flake.specs.Model.Parameters.{Parameters, AreGood}
 use Rattle.snow_board.specs.declared.cursor.Cursor.{Cursor}
-use Rattle.snow_board.specs.Conflict.{all_polled}
-use Rattle.snow_board.specs.Cursors.{votes_at}
-use Rattle.snow_board.specs.Grown.{IsGrown}
-use Rattle.snow_tree.specs.Held.{Entry, Held, blocks_in, children_of, set_load, with_load}
-use Rattle.snow_topo.specs.Kept.{Kept, shown, IsFit}
-use Rattle.snow_topo.specs.View.{pending_of, all_pending}
+use Rattle.snow_board.specs.Model.Conflict.{all_polled}
+use Rattle.snow_board.specs.Kept.Cursors.{votes_at}
+use Rattle.snow_board.specs.Kept.Grown.{IsGrown}
+use Rattle.snow_tree.specs.Kept.Held.{Entry, Held, blocks_in, children_of, set_load, with_load}
+use Rattle.snow_topo.specs.Kept.Children.{Kept, shown, IsFit}
+use Rattle.snow_topo.specs.Kept.View.{pending_of, all_pending}
 use Rattle.snow_climb.specs.declared.climber.Climber.{Climber}
-use Rattle.snow_climb.specs.Climbing.{reach, cursors_of, votes_for, merged, AreBelow, ArePlaced, HasCome}
-use Rattle.snow_topo.specs.Half.{stepped_by, IsHalf, HasTaken}
-use Rattle.snow_climb.specs.Rising.{AreClimbing}
-use Rattle.snow_climb.specs.Ladder.{under, up_from}
+use Rattle.snow_climb.specs.Kept.Climbing.{reach, cursors_of, votes_for, merged, AreBelow, ArePlaced, HasCome}
+use Rattle.snow_topo.specs.Kept.Half.{stepped_by, IsHalf, HasTaken}
+use Rattle.snow_climb.specs.Kept.Rising.{AreClimbing}
+use Rattle.snow_climb.specs.Kept.Ladder.{under, up_from}
 use Rattle.snow_climb.proofs.Climbers.{group_came, rest_others}
 use Rattle.snow_climb.proofs.Reached.{reach_at, parent_low}
 use Rattle.snow_topo.proofs.Halfway.{sunk, visited}

@@ -6,15 +6,15 @@ use Rattle.std.proofs.lemmas.List.{get_or-map, length-map}
 use Rattle.std.proofs.lemmas.Option.{slice_get_within, get_or_from_slice_get}
 use Rattle.snow_base.specs.declared.header.Header.{Header}
 use Rattle.snow_base.specs.declared.vote.Vote.{Vote}
-use Rattle.snow_base.specs.Ancestry.{is_below}
-use Rattle.snow_flake.specs.Parameters.{Parameters}
-use Rattle.snow_board.specs.Board.{Board, blocks_of, is_pending}
+use Rattle.snow_base.specs.Model.Ancestry.{is_below}
+use Rattle.snow_flake.specs.Model.Parameters.{Parameters}
+use Rattle.snow_board.specs.Model.Board.{Board, blocks_of, is_pending}
 use Rattle.snow_board.proofs.Cases.{split_on}
-use Rattle.snow_tree.specs.Held.{Entry, blocks_in, children_of}
-use Rattle.snow_climb.specs.Starting.{votes_by}
-use Rattle.snow_topo.specs.Costs.{pending_votes, most_steps}
-use Rattle.snow_topo.specs.Kept.{Kept}
-use Rattle.snow_topo.specs.Recording.{recording_at, recording_in, recording}
+use Rattle.snow_tree.specs.Kept.Held.{Entry, blocks_in, children_of}
+use Rattle.snow_climb.specs.Kept.Starting.{votes_by}
+use Rattle.snow_topo.specs.Laws.Costs.{pending_votes, most_steps}
+use Rattle.snow_topo.specs.Kept.Children.{Kept}
+use Rattle.snow_topo.specs.Kept.Recording.{recording_at, recording_in, recording}
 
 -- where there is no quorum there are too few
 pub no_quorum : (least n : ℕ) → nat_le least n ≡ false → n < least

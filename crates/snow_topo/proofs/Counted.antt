@@ -2,22 +2,22 @@
 use Rattle.std.proofs.Common.{◌≡◌, ℕ, ◌+◌, false, List, [], ◌∷◌, get_or, map, reverse, bytes_eq, refl, sym, ap, ◌∙◌, arith, if◌then◌else◌}
 use Rattle.snow_base.specs.declared.header.Header.{Header}
 use Rattle.snow_base.specs.declared.vote.Vote.{Vote}
-use Rattle.snow_base.specs.Ancestry.{votes_below}
-use Rattle.snow_flake.specs.Parameters.{Parameters}
+use Rattle.snow_base.specs.Model.Ancestry.{votes_below}
+use Rattle.snow_flake.specs.Model.Parameters.{Parameters}
 use Rattle.snow_board.specs.declared.cursor.Cursor.{Cursor}
-use Rattle.snow_board.specs.Board.{blocks_of}
-use Rattle.snow_board.specs.Conflict.{all_polled}
-use Rattle.snow_board.specs.Cursors.{child_at, votes_at, votes_for as of_child}
-use Rattle.snow_board.specs.Grown.{has_block, IsGrown}
-use Rattle.snow_board.specs.Poll.{counted}
+use Rattle.snow_board.specs.Model.Board.{blocks_of}
+use Rattle.snow_board.specs.Model.Conflict.{all_polled}
+use Rattle.snow_board.specs.Kept.Cursors.{child_at, votes_at, votes_for as of_child}
+use Rattle.snow_board.specs.Kept.Grown.{has_block, IsGrown}
+use Rattle.snow_board.specs.Model.Poll.{counted}
 use Rattle.snow_board.proofs.Cases.{split_on}
-use Rattle.snow_tree.specs.Held.{Entry, Held, blocks_in}
+use Rattle.snow_tree.specs.Kept.Held.{Entry, Held, blocks_in}
 use Rattle.snow_tree.proofs.Descending.{last_off}
-use Rattle.snow_topo.specs.Kept.{Kept, shown}
-use Rattle.snow_topo.specs.View.{view, all_pending}
-use Rattle.snow_climb.specs.Climbing.{reach, is_for}
-use Rattle.snow_topo.specs.Half.{stepped_by}
-use Rattle.snow_climb.specs.Rising.{AreClimbing}
+use Rattle.snow_topo.specs.Kept.Children.{Kept, shown}
+use Rattle.snow_topo.specs.Kept.View.{view, all_pending}
+use Rattle.snow_climb.specs.Kept.Climbing.{reach, is_for}
+use Rattle.snow_topo.specs.Kept.Half.{stepped_by}
+use Rattle.snow_climb.specs.Kept.Rising.{AreClimbing}
 use Rattle.snow_climb.proofs.Reached.{near, off_reach, off_below}
 use Rattle.snow_climb.proofs.Passed.{sum_same}
 

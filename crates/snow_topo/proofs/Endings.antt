@@ -7,24 +7,24 @@ use Rattle.std.proofs.lemmas.Bool.{or_parts, or_left, or_right, or_from}
 use Rattle.std.proofs.lemmas.List.Elements.{All-head, All-tail, All-map}
 use Rattle.std.proofs.lemmas.Option.{none-some, same_Some, slice_get_within, slice_get-get_or, get_or_from_slice_get}
 use Rattle.snow_base.specs.declared.header.Header.{Header}
-use Rattle.snow_flake.specs.Parameters.{Parameters}
-use Rattle.snow_flake.specs.Rule.{Answer}
-use Rattle.snow_board.specs.Conflict.{Pending}
-use Rattle.snow_board.specs.Conflict.{Counters, Blank, leads_to}
-use Rattle.snow_board.specs.FailingLaw.{failed}
-use Rattle.snow_board.specs.Board.{blocks_of, block_of, is_pending, height_of, counters_on}
-use Rattle.snow_board.specs.Ending.{end_counters, has_pending_child, IsTop}
-use Rattle.snow_board.specs.Grown.{has_block, is_on, IsGrown}
-use Rattle.snow_board.specs.Preference.{path_from, end_of, preferred, is_preferred}
+use Rattle.snow_flake.specs.Model.Parameters.{Parameters}
+use Rattle.snow_flake.specs.Model.Rule.{Answer}
+use Rattle.snow_board.specs.Model.Conflict.{Pending}
+use Rattle.snow_board.specs.Model.Conflict.{Counters, Blank, leads_to}
+use Rattle.snow_board.specs.Laws.FailingLaw.{failed}
+use Rattle.snow_board.specs.Model.Board.{blocks_of, block_of, is_pending, height_of, counters_on}
+use Rattle.snow_board.specs.Kept.Ending.{end_counters, has_pending_child, IsTop}
+use Rattle.snow_board.specs.Kept.Grown.{has_block, is_on, IsGrown}
+use Rattle.snow_board.specs.Model.Preference.{path_from, end_of, preferred, is_preferred}
 use Rattle.snow_board.proofs.Cases.{split_on, clash, same_id, id_same, id_itself}
-use Rattle.snow_tree.specs.Held.{Entry, Held, blocks_in, children_of, entry_in, place_in}
+use Rattle.snow_tree.specs.Kept.Held.{Entry, Held, blocks_in, children_of, entry_in, place_in}
 use Rattle.snow_tree.proofs.Descending.{last_off}
 use Rattle.snow_tree.proofs.Placed.{position_cons}
-use Rattle.snow_trie.specs.Whole.{Compressed, HasFewNodes}
-use Rattle.snow_topo.specs.Kept.{Kept, contest_of, counters_in, ids_in, shown, IsFit}
-use Rattle.snow_topo.specs.Standing.{AreKept}
-use Rattle.snow_topo.specs.View.{pending_of, all_pending, view, AreFit}
-use Rattle.snow_topo.specs.Walking.{kept_of}
+use Rattle.snow_trie.specs.Kept.Whole.{Compressed, HasFewNodes}
+use Rattle.snow_topo.specs.Kept.Children.{Kept, contest_of, counters_in, ids_in, shown, IsFit}
+use Rattle.snow_topo.specs.Kept.Standing.{AreKept}
+use Rattle.snow_topo.specs.Kept.View.{pending_of, all_pending, view, AreFit}
+use Rattle.snow_topo.specs.Kept.Walking.{kept_of}
 use Rattle.snow_topo.proofs.Climbs.{one_of}
 use Rattle.snow_topo.proofs.Counted.{blocks_seen}
 use Rattle.snow_topo.proofs.Standings.{pending_there}

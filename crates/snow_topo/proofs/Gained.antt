@@ -8,24 +8,24 @@ use Rattle.std.proofs.lemmas.List.{get_or-map, length-map, map-append}
 use Rattle.std.proofs.lemmas.List.Elements.{All-append, All-map, All-cons, All-nil}
 use Rattle.std.proofs.lemmas.Option.{slice_get-map, slice_get_within, get_or_from_slice_get}
 use Rattle.snow_base.specs.declared.header.Header.{Header}
-use Rattle.snow_base.specs.Identifier.{bits}
-use Rattle.snow_flake.specs.Parameters.{Parameters, AreGood}
-use Rattle.snow_board.specs.Conflict.{with_child}
-use Rattle.snow_board.specs.FailingLaw.{failed}
-use Rattle.snow_board.specs.Board.{with_counters, with_issued, issued}
-use Rattle.snow_board.specs.Grown.{has_block, is_on, IsGrown}
+use Rattle.snow_base.specs.Model.Identifier.{bits}
+use Rattle.snow_flake.specs.Model.Parameters.{Parameters, AreGood}
+use Rattle.snow_board.specs.Model.Conflict.{with_child}
+use Rattle.snow_board.specs.Laws.FailingLaw.{failed}
+use Rattle.snow_board.specs.Model.Board.{with_counters, with_issued, issued}
+use Rattle.snow_board.specs.Kept.Grown.{has_block, is_on, IsGrown}
 use Rattle.snow_board.proofs.Cases.{split_on, clash, same_id, id_same}
 use Rattle.snow_board.proofs.Failing.{fails_or_adds}
 use Rattle.snow_board.proofs.Grown.{has_block-reverse}
-use Rattle.snow_tree.specs.Held.{Entry, Held, blocks_in, children_of, inserted, place_in, set_load}
+use Rattle.snow_tree.specs.Kept.Held.{Entry, Held, blocks_in, children_of, inserted, place_in, set_load}
 use Rattle.snow_tree.proofs.Listed.{children_push, no_children}
 use Rattle.snow_board.proofs.Kept.{has_own}
 use Rattle.snow_tree.proofs.Descending.{last_off}
 use Rattle.snow_tree.proofs.Placed.{either_way}
-use Rattle.snow_topo.specs.Kept.{Contest, Kept, bare, joined, gained, counters_in, ids_in, shown, IsFit}
-use Rattle.snow_topo.specs.View.{pending_of, all_pending, view, AreFit}
-use Rattle.snow_topo.specs.Gaining.{gained_by, with_gain, all_gained}
-use Rattle.snow_climb.specs.Climbing.{above, reach}
+use Rattle.snow_topo.specs.Kept.Children.{Contest, Kept, bare, joined, gained, counters_in, ids_in, shown, IsFit}
+use Rattle.snow_topo.specs.Kept.View.{pending_of, all_pending, view, AreFit}
+use Rattle.snow_topo.specs.Kept.Gaining.{gained_by, with_gain, all_gained}
+use Rattle.snow_climb.specs.Kept.Climbing.{above, reach}
 use Rattle.snow_topo.proofs.Stamped.{same_number, shown_none}
 use Rattle.snow_climb.proofs.Reached.{reach_at, at_reach, reach_within, reach_seen}
 use Rattle.snow_topo.proofs.Climbs.{entry_at, set_here, set_other, same_slices}

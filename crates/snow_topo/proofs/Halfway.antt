@@ -5,17 +5,17 @@ use Rattle.std.proofs.lemmas.List.{get_or-map, length-map}
 use Rattle.std.proofs.lemmas.Option.{slice_get-map, slice_get_within, get_or_from_slice_get}
 use Rattle.snow_base.specs.declared.header.Header.{Header}
 use Rattle.snow_base.specs.declared.vote.Vote.{Vote}
-use Rattle.snow_base.specs.Ancestry.{votes_below}
-use Rattle.snow_flake.specs.Parameters.{Parameters, AreGood}
+use Rattle.snow_base.specs.Model.Ancestry.{votes_below}
+use Rattle.snow_flake.specs.Model.Parameters.{Parameters, AreGood}
 use Rattle.snow_board.specs.declared.cursor.Cursor.{Cursor}
-use Rattle.snow_board.specs.Grown.{IsGrown}
+use Rattle.snow_board.specs.Kept.Grown.{IsGrown}
 use Rattle.snow_board.proofs.Failing.{few_fail}
-use Rattle.snow_tree.specs.Held.{Entry, blocks_in, children_of}
-use Rattle.snow_topo.specs.Kept.{Kept, shown, IsFit}
-use Rattle.snow_topo.specs.View.{pending_of, all_pending}
-use Rattle.snow_climb.specs.Climbing.{reach, AreBelow, votes_for}
-use Rattle.snow_topo.specs.Half.{stepped_by, IsHalf}
-use Rattle.snow_climb.specs.Rising.{AreClimbing}
+use Rattle.snow_tree.specs.Kept.Held.{Entry, blocks_in, children_of}
+use Rattle.snow_topo.specs.Kept.Children.{Kept, shown, IsFit}
+use Rattle.snow_topo.specs.Kept.View.{pending_of, all_pending}
+use Rattle.snow_climb.specs.Kept.Climbing.{reach, AreBelow, votes_for}
+use Rattle.snow_topo.specs.Kept.Half.{stepped_by, IsHalf}
+use Rattle.snow_climb.specs.Kept.Rising.{AreClimbing}
 use Rattle.snow_topo.proofs.Stamped.{later}
 use Rattle.snow_climb.proofs.Reached.{reach_at}
 use Rattle.snow_climb.proofs.Passed.{halves, unsought}

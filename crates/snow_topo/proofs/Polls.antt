@@ -2,8 +2,8 @@
 use Rattle.std.proofs.Common.{◌≡◌, List, length, ap, ◌∙◌}
 use Rattle.std.proofs.lemmas.List.{length-map}
 use Rattle.snow_base.specs.declared.vote.Vote.{Vote}
-use Rattle.snow_board.specs.Board.{Board, blocks_of, with_counters}
-use Rattle.snow_board.specs.Poll.{with_votes, counted, settled, poll}
+use Rattle.snow_board.specs.Model.Board.{Board, blocks_of, with_counters}
+use Rattle.snow_board.specs.Model.Poll.{with_votes, counted, settled, poll}
 
 -- what acceptance makes of the board after the bit step is what the poll makes
 pub polled : (old new : Board) (votes : List Vote) → new ≡ counted old votes → settled (length new.pending) new ≡ poll old votes

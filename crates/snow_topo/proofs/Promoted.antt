@@ -7,20 +7,20 @@ use Rattle.std.proofs.lemmas.List.{get_or-map, get_or_default, length-map}
 use Rattle.std.proofs.lemmas.List.Elements.{All-filter, filter_passes}
 use Rattle.std.proofs.lemmas.List.Folds.{find_at}
 use Rattle.std.proofs.lemmas.Option.{none-some, slice_get_within, get_or_from_slice_get}
-use Rattle.snow_base.specs.Ancestry.{descends}
-use Rattle.snow_flake.specs.Parameters.{Parameters}
-use Rattle.snow_board.specs.Conflict.{Pending}
-use Rattle.snow_board.specs.Acceptance.{Accepts}
-use Rattle.snow_board.specs.Grown.{has_block, IsGrown}
-use Rattle.snow_board.specs.Poll.{winner, rejects, promoted, decisions_for}
+use Rattle.snow_base.specs.Model.Ancestry.{descends}
+use Rattle.snow_flake.specs.Model.Parameters.{Parameters}
+use Rattle.snow_board.specs.Model.Conflict.{Pending}
+use Rattle.snow_board.specs.Model.Acceptance.{Accepts}
+use Rattle.snow_board.specs.Kept.Grown.{has_block, IsGrown}
+use Rattle.snow_board.specs.Model.Poll.{winner, rejects, promoted, decisions_for}
 use Rattle.snow_board.specs.declared.decision.Decision.{Decision}
 use Rattle.snow_board.proofs.Cases.{split_on, same_id}
 use Rattle.snow_board.proofs.Lookup.{won}
-use Rattle.snow_tree.specs.Held.{Entry, Held, blocks_in, children_of, entry_in, promoted as left_above}
+use Rattle.snow_tree.specs.Kept.Held.{Entry, Held, blocks_in, children_of, entry_in, promoted as left_above}
 use Rattle.snow_tree.proofs.Left.{own, one_block, children_stay}
-use Rattle.snow_topo.specs.Kept.{Kept, shown, IsFit}
-use Rattle.snow_topo.specs.Told.{rejection, told}
-use Rattle.snow_topo.specs.View.{pending_of, all_pending, view, AreFit}
+use Rattle.snow_topo.specs.Kept.Children.{Kept, shown, IsFit}
+use Rattle.snow_topo.specs.Clauses.Told.{rejection, told}
+use Rattle.snow_topo.specs.Kept.View.{pending_of, all_pending, view, AreFit}
 use Rattle.snow_topo.proofs.Climbs.{one_of}
 use Rattle.snow_topo.proofs.Counted.{blocks_seen}
 

@@ -1,12 +1,12 @@
 -- Lemmas on what trees show after so many polls.
 use Rattle.std.proofs.Common.{◌≡◌, ℕ, ◌+◌, ◌<◌, ◌≤◌, Bool, true, false, not, List, ◌==◌, Some, None, IfSome, refl, sym, ap, subst, ◌∙◌, arith, if◌then◌else◌}
 use Rattle.std.proofs.lemmas.Grind.{common_steps}
-use Rattle.snow_flake.specs.Parameters.{Parameters, AreGood}
-use Rattle.snow_board.specs.Conflict.{Counters, Blank, all_polled}
-use Rattle.snow_board.specs.FailingLaw.{failed}
+use Rattle.snow_flake.specs.Model.Parameters.{Parameters, AreGood}
+use Rattle.snow_board.specs.Model.Conflict.{Counters, Blank, all_polled}
+use Rattle.snow_board.specs.Laws.FailingLaw.{failed}
 use Rattle.snow_board.proofs.Cases.{split_on}
 use Rattle.snow_board.proofs.Failing.{fails_once}
-use Rattle.snow_topo.specs.Kept.{Contest, Kept, counters_in, shown, IsFit}
+use Rattle.snow_topo.specs.Kept.Children.{Contest, Kept, counters_in, shown, IsFit}
 
 -- a number is found equal to itself
 pub same_number : (n : ℕ) → (n == n) ≡ true

@@ -6,27 +6,27 @@ use Rattle.std.proofs.lemmas.List.Elements.{All-filter, All-nil, All-push}
 use Rattle.std.proofs.lemmas.List.Sums.{sum_by-cons}
 use Rattle.snow_base.specs.declared.header.Header.{Header}
 use Rattle.snow_base.specs.declared.vote.Vote.{Vote}
-use Rattle.snow_base.specs.Ancestry.{descends, is_below, votes_below}
-use Rattle.snow_flake.specs.Parameters.{Parameters}
-use Rattle.snow_board.specs.Conflict.{Pending}
-use Rattle.snow_flake.specs.Rule.{Answer}
-use Rattle.snow_board.specs.Board.{Board, blocks_of, is_pending, height_of, with_counters, with_issued, new_pending, issued}
-use Rattle.snow_board.specs.Grown.{has_block, is_on, IsGrown}
-use Rattle.snow_board.specs.Preference.{path_from}
-use Rattle.snow_board.specs.Poll.{counted, winner, promoted, poll}
+use Rattle.snow_base.specs.Model.Ancestry.{descends, is_below, votes_below}
+use Rattle.snow_flake.specs.Model.Parameters.{Parameters}
+use Rattle.snow_board.specs.Model.Conflict.{Pending}
+use Rattle.snow_flake.specs.Model.Rule.{Answer}
+use Rattle.snow_board.specs.Model.Board.{Board, blocks_of, is_pending, height_of, with_counters, with_issued, new_pending, issued}
+use Rattle.snow_board.specs.Kept.Grown.{has_block, is_on, IsGrown}
+use Rattle.snow_board.specs.Model.Preference.{path_from}
+use Rattle.snow_board.specs.Model.Poll.{counted, winner, promoted, poll}
 use Rattle.snow_board.proofs.Cases.{split_on}
 use Rattle.snow_board.proofs.Children.{some_height}
 use Rattle.snow_board.proofs.Invariant.{settled_keeps, blocks_counted, blocks_issued}
 use Rattle.snow_board.proofs.Kept.{blocks-filter}
-use Rattle.snow_tree.specs.Held.{Held, blocks_in, begun}
-use Rattle.snow_topo.specs.Kept.{Kept, bare}
-use Rattle.snow_climb.specs.Ladder.{Rungs, IsReady}
-use Rattle.snow_topo.specs.Standing.{IsStanding}
-use Rattle.snow_topo.specs.View.{pending_of, all_pending, view}
-use Rattle.snow_topo.specs.Recording.{recording, recording_at, recording_in}
-use Rattle.snow_topo.specs.Costs.{pending_votes, most_steps}
-use Rattle.snow_base.specs.Gathered.{IsNamed}
-use Rattle.snow_topo.specs.Walking.{AreNamed}
+use Rattle.snow_tree.specs.Kept.Held.{Held, blocks_in, begun}
+use Rattle.snow_topo.specs.Kept.Children.{Kept, bare}
+use Rattle.snow_climb.specs.Kept.Ladder.{Rungs, IsReady}
+use Rattle.snow_topo.specs.Kept.Standing.{IsStanding}
+use Rattle.snow_topo.specs.Kept.View.{pending_of, all_pending, view}
+use Rattle.snow_topo.specs.Kept.Recording.{recording, recording_at, recording_in}
+use Rattle.snow_topo.specs.Laws.Costs.{pending_votes, most_steps}
+use Rattle.snow_base.specs.Clauses.Gathered.{IsNamed}
+use Rattle.snow_topo.specs.Kept.Walking.{AreNamed}
 use Rattle.snow_topo.proofs.Counted.{blocks_seen}
 use Rattle.snow_climb.proofs.Reached.{off_below}
 

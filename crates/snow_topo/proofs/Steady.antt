@@ -3,17 +3,17 @@ use Rattle.std.proofs.Common.{◌≡◌, ℕ, zero, suc, ◌==◌, Bool, ◌&&�
 use Rattle.std.specs.Bool.{beq}
 use Rattle.std.specs.Cmp.Lexicographic.{pointwise}
 use Rattle.snow_base.specs.declared.header.Header.{Header}
-use Rattle.snow_base.specs.Identifier.{bits}
-use Rattle.snow_flake.specs.Parameters.{Parameters, AreGood}
-use Rattle.snow_flake.specs.Rule.{Answer}
-use Rattle.snow_board.specs.Conflict.{Counters, chosen}
-use Rattle.snow_board.specs.Preference.{path_from, preferred, end_of}
+use Rattle.snow_base.specs.Model.Identifier.{bits}
+use Rattle.snow_flake.specs.Model.Parameters.{Parameters, AreGood}
+use Rattle.snow_flake.specs.Model.Rule.{Answer}
+use Rattle.snow_board.specs.Model.Conflict.{Counters, chosen}
+use Rattle.snow_board.specs.Model.Preference.{path_from, preferred, end_of}
 use Rattle.snow_board.proofs.Cases.{split_on}
 use Rattle.snow_trie.proofs.Chosen.{chosen_failed}
-use Rattle.snow_tree.specs.Held.{Entry, Held, set_load}
-use Rattle.snow_topo.specs.Kept.{Kept, counters_in, shown}
-use Rattle.snow_topo.specs.View.{all_pending, view}
-use Rattle.snow_topo.specs.Leading.{leads_in, all_leads}
+use Rattle.snow_tree.specs.Kept.Held.{Entry, Held, set_load}
+use Rattle.snow_topo.specs.Kept.Children.{Kept, counters_in, shown}
+use Rattle.snow_topo.specs.Kept.View.{all_pending, view}
+use Rattle.snow_topo.specs.Kept.Leading.{leads_in, all_leads}
 
 -- what is shown leads where what is kept leads
 pub chosen_shown : (answer : Answer) (p : Parameters) (polls : ℕ) (kept : Kept) → AreGood p → chosen answer (shown p polls kept) ≡ leads_in answer kept

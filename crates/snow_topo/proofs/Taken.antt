@@ -2,11 +2,11 @@
 use Rattle.std.proofs.Common.{◌≡◌, ℕ, zero, suc, ◌+◌, ◌<◌, Bool, List, [], ◌∷◌, Option, Some, None, slice_get, IfSome, refl, sym, ap, ◌∙◌, arith}
 use Rattle.std.specs.Option.{option_map}
 use Rattle.std.proofs.lemmas.Option.{none-some}
-use Rattle.snow_flake.specs.Parameters.{Parameters, AreGood}
-use Rattle.snow_board.specs.Conflict.{all_polled}
+use Rattle.snow_flake.specs.Model.Parameters.{Parameters, AreGood}
+use Rattle.snow_board.specs.Model.Conflict.{all_polled}
 use Rattle.snow_board.proofs.Failing.{few_fail}
-use Rattle.snow_tree.specs.Held.{Entry, set_load}
-use Rattle.snow_topo.specs.Kept.{Kept, shown, IsFit}
+use Rattle.snow_tree.specs.Kept.Held.{Entry, set_load}
+use Rattle.snow_topo.specs.Kept.Children.{Kept, shown, IsFit}
 use Rattle.snow_topo.proofs.Stamped.{later}
 
 -- the entry whose load was read

@@ -8,24 +8,24 @@ use Rattle.std.proofs.lemmas.List.{get_or_default, length-map, map-append, rever
 use Rattle.std.proofs.lemmas.List.Elements.{All-head, All-tail, All-map, All-filter, All-nil, All-cons, filter_passes, All-contains, All-contains_itself}
 use Rattle.std.proofs.lemmas.Option.{none-some, slice_get_within, same_Some}
 use Rattle.snow_base.specs.declared.header.Header.{Header}
-use Rattle.snow_base.specs.Identifier.{bits}
+use Rattle.snow_base.specs.Model.Identifier.{bits}
 use Rattle.snow_base.proofs.Bits.{get_or-bits, bit_cmp-same, same_from_bit_cmp}
-use Rattle.snow_flake.specs.Parameters.{Parameters, AreGood}
-use Rattle.snow_flake.specs.Rule.{Answer}
-use Rattle.snow_board.specs.Conflict.{Pending}
-use Rattle.snow_board.specs.Conflict.{Counters, Blank, chosen, leads_to}
-use Rattle.snow_board.specs.Grown.{has_block, IsGrown}
-use Rattle.snow_board.specs.Preference.{path_from}
+use Rattle.snow_flake.specs.Model.Parameters.{Parameters, AreGood}
+use Rattle.snow_flake.specs.Model.Rule.{Answer}
+use Rattle.snow_board.specs.Model.Conflict.{Pending}
+use Rattle.snow_board.specs.Model.Conflict.{Counters, Blank, chosen, leads_to}
+use Rattle.snow_board.specs.Kept.Grown.{has_block, IsGrown}
+use Rattle.snow_board.specs.Model.Preference.{path_from}
 use Rattle.snow_board.proofs.Cases.{split_on, clash, same_id, id_same}
 use Rattle.snow_board.proofs.Grown.{grown_new, grown_before, has_child, latest_childless, has_block-reverse}
 use Rattle.snow_board.proofs.Kept.{has_own}
 use Rattle.snow_board.proofs.Standing.{any-reverse}
-use Rattle.snow_tree.specs.Held.{Entry, blocks_in, children_of}
+use Rattle.snow_tree.specs.Kept.Held.{Entry, blocks_in, children_of}
 use Rattle.snow_tree.proofs.Left.{one_block}
-use Rattle.snow_topo.specs.Kept.{Contest, Kept, counters_in, ids_in, shown, IsFit}
-use Rattle.snow_topo.specs.View.{pending_of, all_pending}
-use Rattle.snow_base.specs.Gathered.{IsNamed}
-use Rattle.snow_topo.specs.Walking.{AreNamed}
+use Rattle.snow_topo.specs.Kept.Children.{Contest, Kept, counters_in, ids_in, shown, IsFit}
+use Rattle.snow_topo.specs.Kept.View.{pending_of, all_pending}
+use Rattle.snow_base.specs.Clauses.Gathered.{IsNamed}
+use Rattle.snow_topo.specs.Kept.Walking.{AreNamed}
 use Rattle.snow_topo.proofs.Gained.{block_there}
 use Rattle.snow_topo.proofs.Stamped.{shown_none}
 use Rattle.snow_topo.proofs.Steady.{chosen_shown}

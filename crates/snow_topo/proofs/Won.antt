@@ -10,20 +10,20 @@ use Rattle.std.proofs.lemmas.List.Folds.{find_at}
 use Rattle.std.proofs.lemmas.Option.{none-some, same_Some, slice_get_past}
 use Rattle.std.proofs.lemmas.Bool.{ltb-false}
 use Rattle.std.proofs.lemmas.Slice.Eq.{slice_eq-Decides}
-use Rattle.snow_base.specs.Identifier.{bits, FirstDiffers}
+use Rattle.snow_base.specs.Model.Identifier.{bits, FirstDiffers}
 use Rattle.snow_base.proofs.Bits.{length-bits, get_or-bits}
-use Rattle.snow_flake.specs.Parameters.{Parameters, AreGood}
-use Rattle.snow_flake.specs.Counter.{Decided, Undecided}
-use Rattle.snow_flake.specs.Rule.{Answer}
-use Rattle.snow_board.specs.Conflict.{Counters, Blank, At, all_polled, chosen, decided_path, decides}
-use Rattle.snow_board.specs.FailingLaw.{failed}
-use Rattle.snow_board.specs.Poll.{winner}
+use Rattle.snow_flake.specs.Model.Parameters.{Parameters, AreGood}
+use Rattle.snow_flake.specs.Model.Counter.{Decided, Undecided}
+use Rattle.snow_flake.specs.Model.Rule.{Answer}
+use Rattle.snow_board.specs.Model.Conflict.{Counters, Blank, At, all_polled, chosen, decided_path, decides}
+use Rattle.snow_board.specs.Laws.FailingLaw.{failed}
+use Rattle.snow_board.specs.Model.Poll.{winner}
 use Rattle.snow_board.proofs.Cases.{split_on}
 use Rattle.snow_board.proofs.Failing.{fails}
-use Rattle.snow_tree.specs.Held.{Entry, Held, blocks_in, children_of}
-use Rattle.snow_topo.specs.Kept.{Kept, counters_in, shown}
-use Rattle.snow_topo.specs.View.{all_pending, view}
-use Rattle.snow_topo.specs.Leading.{HasDecided}
+use Rattle.snow_tree.specs.Kept.Held.{Entry, Held, blocks_in, children_of}
+use Rattle.snow_topo.specs.Kept.Children.{Kept, counters_in, shown}
+use Rattle.snow_topo.specs.Kept.View.{all_pending, view}
+use Rattle.snow_topo.specs.Kept.Leading.{HasDecided}
 
 -- ---- identifiers with the same bits
 

@@ -1,14 +1,3 @@
+pub mod Laws
 pub mod Kept
-pub mod KeptCode
-pub mod View
-pub mod Half
-pub mod Climbed
-pub mod Leading
-pub mod Recording
-pub mod Told
-pub mod Renewed
-pub mod Gaining
-pub mod Walking
-pub mod Standing
-pub mod Costs
-pub mod Ballot
+pub mod Clauses

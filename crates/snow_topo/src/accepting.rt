@@ -1,10 +1,10 @@
 ghost use Rattle.std.specs.Prelude.{◌≡◌, ◌+◌, ◌≤◌, ◌++◌, Some, IfSome, map, length, vec_capacity};
 ghost use Rattle.std.specs.Option.{option_map};
-ghost use Rattle.snow_board.specs.Acceptance.{Accepts};
-ghost use Rattle.snow_board.specs.Poll.{winner};
-ghost use Rattle.snow_tree.specs.Held.{entry_in, promoted};
-ghost use Rattle.snow_topo.specs.Told.{rejection, told};
-ghost use Rattle.snow_topo.specs.View.{view, AreFit};
+ghost use Rattle.snow_board.specs.Model.Acceptance.{Accepts};
+ghost use Rattle.snow_board.specs.Model.Poll.{winner};
+ghost use Rattle.snow_tree.specs.Kept.Held.{entry_in, promoted};
+ghost use Rattle.snow_topo.specs.Clauses.Told.{rejection, told};
+ghost use Rattle.snow_topo.specs.Kept.View.{view, AreFit};
 
 use crate::load::Load;
 use crate::spare::SpareTrees;

@@ -1,12 +1,12 @@
 ghost use Rattle.std.specs.Prelude.{◌≡◌, ◌+◌, ◌*◌, ◌^◌, ◌<◌, ◌≤◌, false, List, length, vec_capacity};
 ghost use Rattle.snow_base.specs.declared.vote.Vote.{Vote};
-ghost use Rattle.snow_board.specs.Poll.{poll};
-ghost use Rattle.snow_board.specs.Preference.{preferred};
-ghost use Rattle.snow_tree.specs.Held.{blocks_in};
-ghost use Rattle.snow_climb.specs.Ladder.{KeepsRoom};
-ghost use Rattle.snow_topo.specs.Recording.{recording};
-ghost use Rattle.snow_climb.specs.Starting.{HaveBegun, IsLoaded};
-ghost use Rattle.snow_topo.specs.View.{view, AreFit};
+ghost use Rattle.snow_board.specs.Model.Poll.{poll};
+ghost use Rattle.snow_board.specs.Model.Preference.{preferred};
+ghost use Rattle.snow_tree.specs.Kept.Held.{blocks_in};
+ghost use Rattle.snow_climb.specs.Kept.Ladder.{KeepsRoom};
+ghost use Rattle.snow_topo.specs.Kept.Recording.{recording};
+ghost use Rattle.snow_climb.specs.Kept.Starting.{HaveBegun, IsLoaded};
+ghost use Rattle.snow_topo.specs.Kept.View.{view, AreFit};
 
 use crate::counting::count;
 use crate::load::Load;

@@ -1,10 +1,10 @@
 ghost use Rattle.std.specs.Prelude.{◌≤◌, List, length};
-ghost use Rattle.snow_base.specs.Votes.{total_count};
+ghost use Rattle.snow_base.specs.Model.Votes.{total_count};
 ghost use Rattle.snow_base.specs.declared.vote.Vote.{Vote};
-ghost use Rattle.snow_climb.specs.Ladder.{KeepsRoom, IsReady};
-ghost use Rattle.snow_climb.specs.Majority.{StandFor};
-ghost use Rattle.snow_climb.specs.Starting.{HaveBegun, IsLoaded};
-ghost use Rattle.snow_topo.specs.Ballot.{votes_of};
+ghost use Rattle.snow_climb.specs.Kept.Ladder.{KeepsRoom, IsReady};
+ghost use Rattle.snow_climb.specs.Kept.Majority.{StandFor};
+ghost use Rattle.snow_climb.specs.Kept.Starting.{HaveBegun, IsLoaded};
+ghost use Rattle.snow_topo.specs.Clauses.Ballot.{votes_of};
 
 use snow_base::{Bag, Id};
 use snow_climb::{Ladder, start_ids, start_votes};

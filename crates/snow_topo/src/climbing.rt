@@ -1,11 +1,11 @@
 ghost use Rattle.std.specs.Prelude.{◌≡◌, ℕ, ◌+◌, ◌*◌, ◌^◌, ◌<◌, ◌≤◌, ◌||◌, false, List, length};
 ghost use Rattle.snow_base.specs.declared.vote.Vote.{Vote};
-ghost use Rattle.snow_tree.specs.Held.{blocks_in};
-ghost use Rattle.snow_climb.specs.Starting.{HaveBegun, IsLoaded};
-ghost use Rattle.snow_topo.specs.Climbed.{HasClimbed};
-ghost use Rattle.snow_topo.specs.Leading.{all_leads};
-ghost use Rattle.snow_topo.specs.Recording.{recording_in};
-ghost use Rattle.snow_topo.specs.View.{AllFit};
+ghost use Rattle.snow_tree.specs.Kept.Held.{blocks_in};
+ghost use Rattle.snow_climb.specs.Kept.Starting.{HaveBegun, IsLoaded};
+ghost use Rattle.snow_topo.specs.Kept.Climbed.{HasClimbed};
+ghost use Rattle.snow_topo.specs.Kept.Leading.{all_leads};
+ghost use Rattle.snow_topo.specs.Kept.Recording.{recording_in};
+ghost use Rattle.snow_topo.specs.Kept.View.{AllFit};
 
 use crate::load::Load;
 use crate::visiting::visit;

@@ -1,10 +1,10 @@
 ghost use Rattle.std.specs.Prelude.{◌≡◌, ℕ, true, false, IfSome, OnOk, OnErr, slice_get};
-ghost use Rattle.snow_board.specs.Board.{issued};
-ghost use Rattle.snow_board.specs.Grown.{is_on};
-ghost use Rattle.snow_tree.specs.Held.{blocks_in, place_in, inserted, taken_back, with_load};
-ghost use Rattle.snow_topo.specs.Kept.{bare, gained};
-ghost use Rattle.snow_topo.specs.View.{view, AreFit};
-ghost use Rattle.snow_topo.specs.Gaining.{gained_by, all_gained};
+ghost use Rattle.snow_board.specs.Model.Board.{issued};
+ghost use Rattle.snow_board.specs.Kept.Grown.{is_on};
+ghost use Rattle.snow_tree.specs.Kept.Held.{blocks_in, place_in, inserted, taken_back, with_load};
+ghost use Rattle.snow_topo.specs.Kept.Children.{bare, gained};
+ghost use Rattle.snow_topo.specs.Kept.View.{view, AreFit};
+ghost use Rattle.snow_topo.specs.Kept.Gaining.{gained_by, all_gained};
 
 use crate::load::Load;
 use crate::spare::SpareTrees;

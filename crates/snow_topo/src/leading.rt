@@ -2,13 +2,13 @@ ghost use Rattle.std.specs.Prelude.{◌≡◌, true, false, [], ◌∷◌, None,
 ghost use Rattle.std.specs.List.{list_any};
 ghost use Rattle.std.specs.Option.{option_copied};
 ghost use Rattle.snow_board.specs.declared.leading.Leading.{Leading};
-ghost use Rattle.snow_board.specs.Ending.{IsTop, leading_after};
-ghost use Rattle.snow_board.specs.Grown.{is_on};
-ghost use Rattle.snow_board.specs.Preference.{path_from, preferred_path, preferred, is_preferred};
-ghost use Rattle.snow_tree.specs.Held.{blocks_in, children_of, place_in};
-ghost use Rattle.snow_topo.specs.Kept.{shown, IsFit};
-ghost use Rattle.snow_topo.specs.View.{all_pending, view, AllFit, AreFit};
-ghost use Rattle.snow_topo.specs.Walking.{AreNamed, kept_of};
+ghost use Rattle.snow_board.specs.Kept.Ending.{IsTop, leading_after};
+ghost use Rattle.snow_board.specs.Kept.Grown.{is_on};
+ghost use Rattle.snow_board.specs.Model.Preference.{path_from, preferred_path, preferred, is_preferred};
+ghost use Rattle.snow_tree.specs.Kept.Held.{blocks_in, children_of, place_in};
+ghost use Rattle.snow_topo.specs.Kept.Children.{shown, IsFit};
+ghost use Rattle.snow_topo.specs.Kept.View.{all_pending, view, AllFit, AreFit};
+ghost use Rattle.snow_topo.specs.Kept.Walking.{AreNamed, kept_of};
 
 use crate::load::Load;
 use snow_base::{Header, Id};

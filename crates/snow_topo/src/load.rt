@@ -1,9 +1,9 @@
 ghost use Rattle.std.specs.Prelude.{◌≡◌, ◌+◌, ◌≤◌, All, Contains, None, IfSome, IfOk, false, if◌then◌else◌};
-ghost use Rattle.snow_base.specs.Votes.{IsInBitOrder, total_count};
-ghost use Rattle.snow_board.specs.Conflict.{all_polled, votes_on, chosen};
-ghost use Rattle.snow_board.specs.FailingLaw.{failed};
-ghost use Rattle.snow_trie.specs.Whole.{HasFewNodes, begun};
-ghost use Rattle.snow_topo.specs.Leading.{HasDecided};
+ghost use Rattle.snow_base.specs.Model.Votes.{IsInBitOrder, total_count};
+ghost use Rattle.snow_board.specs.Model.Conflict.{all_polled, votes_on, chosen};
+ghost use Rattle.snow_board.specs.Laws.FailingLaw.{failed};
+ghost use Rattle.snow_trie.specs.Kept.Whole.{HasFewNodes, begun};
+ghost use Rattle.snow_topo.specs.Kept.Leading.{HasDecided};
 
 use crate::spare::SpareTrees;
 use snow_base::{Id, Steps, Vote};
@@ -30,9 +30,9 @@ pub(crate) type Contest<R> = Option<Box<Trie<R>>>;
 impl<R: Rule> Model for Load<R> {
     ghost use Rattle.std.specs.Prelude.{IfSome};
     ghost use Rattle.std.specs.Option.{option_map};
-    ghost use Rattle.snow_trie.specs.Whole.{HasFewNodes};
-    ghost use Rattle.snow_topo.specs.Kept.{Kept, contest_of};
-    ghost use Rattle.snow_topo.specs.KeptCode.{coded_kept};
+    ghost use Rattle.snow_trie.specs.Kept.Whole.{HasFewNodes};
+    ghost use Rattle.snow_topo.specs.Kept.Children.{Kept, contest_of};
+    ghost use Rattle.snow_topo.specs.Kept.ChildrenCode.{coded_kept};
 
     ghost Value = { Kept };
 
@@ -105,10 +105,10 @@ fn decided_in<R: Rule>(trie: &Trie<R>) -> Option<Id>
 impl<R: Rule> Load<R> {
     ghost use Rattle.std.specs.Prelude.{ℕ, ◌^◌, ◌*◌, ◌-◌, ◌<◌, List, length, IfSome, OnOk, OnErr};
     ghost use Rattle.std.specs.Option.{option_map, option_copied};
-    ghost use Rattle.snow_flake.specs.Parameters.{Parameters};
-    ghost use Rattle.snow_topo.specs.Kept.{bare, gained, contest_of, counters_in, ids_in, shown, IsFit};
-    ghost use Rattle.snow_topo.specs.Leading.{leads_in};
-    ghost use Rattle.snow_topo.specs.Renewed.{renewed};
+    ghost use Rattle.snow_flake.specs.Model.Parameters.{Parameters};
+    ghost use Rattle.snow_topo.specs.Kept.Children.{bare, gained, contest_of, counters_in, ids_in, shown, IsFit};
+    ghost use Rattle.snow_topo.specs.Kept.Leading.{leads_in};
+    ghost use Rattle.snow_topo.specs.Kept.Renewed.{renewed};
 
     /// Returns what the board keeps of a block without children.
     pub(crate) fn new() -> Self

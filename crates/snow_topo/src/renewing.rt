@@ -1,8 +1,8 @@
 ghost use Rattle.std.specs.Prelude.{◌≡◌, ◌+◌, ◌^◌, ◌<◌, ◌≤◌, IfSome, slice_get};
-ghost use Rattle.snow_flake.specs.Parameters.{Parameters};
-ghost use Rattle.snow_tree.specs.Held.{with_load};
-ghost use Rattle.snow_topo.specs.Renewed.{renewed, all_renewed};
-ghost use Rattle.snow_topo.specs.View.{view, AreFit};
+ghost use Rattle.snow_flake.specs.Model.Parameters.{Parameters};
+ghost use Rattle.snow_tree.specs.Kept.Held.{with_load};
+ghost use Rattle.snow_topo.specs.Kept.Renewed.{renewed, all_renewed};
+ghost use Rattle.snow_topo.specs.Kept.View.{view, AreFit};
 
 use crate::load::Load;
 use snow_flake::Rule;

@@ -1,6 +1,6 @@
 ghost use Rattle.std.specs.Prelude.{◌≡◌, ◌+◌, ◌≤◌, All};
-ghost use Rattle.snow_base.specs.Votes.{total_count};
-ghost use Rattle.snow_topo.specs.Costs.{replayed, replay_steps};
+ghost use Rattle.snow_base.specs.Model.Votes.{total_count};
+ghost use Rattle.snow_topo.specs.Laws.Costs.{replayed, replay_steps};
 
 use crate::topo::Topo;
 use snow_base::{Bag, Steps};

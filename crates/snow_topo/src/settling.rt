@@ -1,6 +1,6 @@
 ghost use Rattle.std.specs.Prelude.{◌≡◌, ◌+◌, ◌≤◌, ◌++◌, length, vec_capacity};
-ghost use Rattle.snow_board.specs.Poll.{settled};
-ghost use Rattle.snow_topo.specs.View.{view, AreFit};
+ghost use Rattle.snow_board.specs.Model.Poll.{settled};
+ghost use Rattle.snow_topo.specs.Kept.View.{view, AreFit};
 
 use crate::accepting::accept_next;
 use crate::load::Load;

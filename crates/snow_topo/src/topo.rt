@@ -1,14 +1,14 @@
 ghost use Rattle.std.specs.Prelude.{◌≡◌, ◌+◌, ◌<◌, ◌≤◌, ◌&&◌, IfSome, is_some, length};
 ghost use Rattle.std.specs.Option.{option_copied};
-ghost use Rattle.snow_base.specs.Gathered.{one_each};
-ghost use Rattle.snow_base.specs.Votes.{total_count};
-ghost use Rattle.snow_board.specs.Board.{blocks_of, counters_on};
-ghost use Rattle.snow_board.specs.Ending.{has_pending_child};
-ghost use Rattle.snow_board.specs.Grown.{is_on};
-ghost use Rattle.snow_board.specs.Poll.{poll};
-ghost use Rattle.snow_topo.specs.Ballot.{votes_of};
-ghost use Rattle.snow_topo.specs.Costs.{most_steps};
-ghost use Rattle.snow_topo.specs.Standing.{AreKept};
+ghost use Rattle.snow_base.specs.Clauses.Gathered.{one_each};
+ghost use Rattle.snow_base.specs.Model.Votes.{total_count};
+ghost use Rattle.snow_board.specs.Model.Board.{blocks_of, counters_on};
+ghost use Rattle.snow_board.specs.Kept.Ending.{has_pending_child};
+ghost use Rattle.snow_board.specs.Kept.Grown.{is_on};
+ghost use Rattle.snow_board.specs.Model.Poll.{poll};
+ghost use Rattle.snow_topo.specs.Clauses.Ballot.{votes_of};
+ghost use Rattle.snow_topo.specs.Laws.Costs.{most_steps};
+ghost use Rattle.snow_topo.specs.Kept.Standing.{AreKept};
 
 use crate::applying::apply;
 use crate::ballot::{Ballot, start};
@@ -53,8 +53,8 @@ pub struct Topo<R: Rule> {
 
 impl<R: Rule> Model for Topo<R> {
     ghost use Rattle.std.specs.Prelude.{◌+◌, length, vec_capacity};
-    ghost use Rattle.snow_board.specs.Shown.{Shown, coded_shown};
-    ghost use Rattle.snow_topo.specs.Standing.{shown_board, IsStanding};
+    ghost use Rattle.snow_board.specs.Clauses.Shown.{Shown, coded_shown};
+    ghost use Rattle.snow_topo.specs.Kept.Standing.{shown_board, IsStanding};
 
     ghost Value = { Shown };
 

@@ -1,15 +1,15 @@
 ghost use Rattle.std.specs.Prelude.{◌≡◌, ◌+◌, ◌*◌, ◌^◌, ◌<◌, ◌≤◌, nat_le, [], List, All, Contains, IfSome, IsPermutation, length, slice_get, if◌then◌else◌};
-ghost use Rattle.snow_base.specs.Votes.{IsInBitOrder, total_count};
+ghost use Rattle.snow_base.specs.Model.Votes.{IsInBitOrder, total_count};
 ghost use Rattle.snow_base.specs.declared.vote.Vote.{Vote};
-ghost use Rattle.snow_flake.specs.Parameters.{AreGood};
-ghost use Rattle.snow_board.specs.Cursors.{votes_at};
-ghost use Rattle.snow_tree.specs.Held.{blocks_in, children_of, with_load};
-ghost use Rattle.snow_topo.specs.Kept.{Kept, ids_in, IsFit};
-ghost use Rattle.snow_climb.specs.Climbing.{climber_total, cursors_of, merged, ArePlaced, HasCome};
-ghost use Rattle.snow_climb.specs.Rising.{AreClimbing};
-ghost use Rattle.snow_topo.specs.Half.{IsRecorded, HasTaken};
-ghost use Rattle.snow_climb.specs.Ladder.{KeepsRoom};
-ghost use Rattle.snow_topo.specs.Leading.{IsSteady};
+ghost use Rattle.snow_flake.specs.Model.Parameters.{AreGood};
+ghost use Rattle.snow_board.specs.Kept.Cursors.{votes_at};
+ghost use Rattle.snow_tree.specs.Kept.Held.{blocks_in, children_of, with_load};
+ghost use Rattle.snow_topo.specs.Kept.Children.{Kept, ids_in, IsFit};
+ghost use Rattle.snow_climb.specs.Kept.Climbing.{climber_total, cursors_of, merged, ArePlaced, HasCome};
+ghost use Rattle.snow_climb.specs.Kept.Rising.{AreClimbing};
+ghost use Rattle.snow_topo.specs.Kept.Half.{IsRecorded, HasTaken};
+ghost use Rattle.snow_climb.specs.Kept.Ladder.{KeepsRoom};
+ghost use Rattle.snow_topo.specs.Kept.Leading.{IsSteady};
 
 use crate::load::Load;
 use snow_base::{Bag, Steps, Vote};

@@ -3,9 +3,9 @@ ghost use Rattle.std.specs.Bool.{beq};
 ghost use Rattle.std.specs.Cmp.Lexicographic.{pointwise};
 ghost use Rattle.std.specs.List.{position};
 ghost use Rattle.std.specs.Option.{option_map};
-ghost use Rattle.snow_base.specs.Identifier.{bits};
-ghost use Rattle.snow_board.specs.Poll.{winner};
-ghost use Rattle.snow_topo.specs.View.{view};
+ghost use Rattle.snow_base.specs.Model.Identifier.{bits};
+ghost use Rattle.snow_board.specs.Model.Poll.{winner};
+ghost use Rattle.snow_topo.specs.Kept.View.{view};
 
 use crate::load::Load;
 use snow_base::Id;

@@ -4,12 +4,12 @@ use Rattle.std.specs.Option.{option_map}
 use Rattle.std.specs.List.{position}
 use Rattle.std.proofs.lemmas.Option.{slice_get-map, slice_get_within, get_or_from_slice_get}
 use Rattle.snow_base.specs.declared.header.Header.{Header}
-use Rattle.snow_base.specs.Ancestry.{line_in, child_on}
-use Rattle.snow_board.specs.Grown.{has_block, IsGrown}
+use Rattle.snow_base.specs.Model.Ancestry.{line_in, child_on}
+use Rattle.snow_board.specs.Kept.Grown.{has_block, IsGrown}
 use Rattle.snow_board.proofs.Cases.{split_on, same_id, differs_back}
 use Rattle.snow_board.proofs.Grown.{no_line, has_block-reverse}
 use Rattle.snow_tree.specs.declared.node.Node.{Node}
-use Rattle.snow_tree.specs.Nodes.{block_of, blocks_of}
+use Rattle.snow_tree.specs.Kept.Nodes.{block_of, blocks_of}
 use Rattle.snow_tree.proofs.Descending.{line_at, parent_before}
 use Rattle.snow_tree.proofs.Noted.{blocks-take}
 use Rattle.snow_tree.proofs.Placed.{position_cons}

@@ -4,8 +4,8 @@ use mathlib.Core.List.{reverse-cons}
 use Rattle.std.specs.List.{list_any}
 use Rattle.std.proofs.lemmas.List.{reverse-append}
 use Rattle.snow_base.specs.declared.header.Header.{Header}
-use Rattle.snow_base.specs.Ancestry.{line_in, descends}
-use Rattle.snow_board.specs.Grown.{has_block, IsGrown}
+use Rattle.snow_base.specs.Model.Ancestry.{line_in, descends}
+use Rattle.snow_board.specs.Kept.Grown.{has_block, IsGrown}
 use Rattle.snow_board.proofs.Grown.{grown_before, grown_parent, not_last, no_line, has_block-reverse}
 use Rattle.snow_board.proofs.Lines.{line_of}
 

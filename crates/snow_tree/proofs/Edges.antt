@@ -8,15 +8,15 @@ use Rattle.std.proofs.lemmas.List.{length-map, map-append}
 use Rattle.std.proofs.lemmas.Option.{none-some, same_Some, slice_get-map, slice_get_within}
 use Rattle.snow_board.proofs.Cases.{split_on, differs_back}
 use Rattle.snow_tree.specs.declared.node.Node.{Node}
-use Rattle.snow_tree.specs.Hints.{hint_of, slot_of}
-use Rattle.snow_tree.specs.Row.{Edge, IsBefore, IsOwn, AreInOrder, IsNumbered, edge_of, edges_of, gives_way, number_at, set_children_at, set_load_at, untold}
+use Rattle.snow_tree.specs.Kept.Hints.{hint_of, slot_of}
+use Rattle.snow_tree.specs.Kept.Row.{Edge, IsBefore, IsOwn, AreInOrder, IsNumbered, edge_of, edges_of, gives_way, number_at, set_children_at, set_load_at, untold}
 use Rattle.snow_tree.proofs.Ordered.{split_at, of_all, none_position, position_at, another_number, number_tests}
 use Rattle.snow_tree.proofs.Searched.{node_at}
 use Rattle.snow_tree.proofs.Told.{one_gone, own_number, way_at}
-use Rattle.snow_board.specs.Grown.{is_on, IsGrown}
+use Rattle.snow_board.specs.Kept.Grown.{is_on, IsGrown}
 use Rattle.snow_board.proofs.Grown.{has_block-reverse}
-use Rattle.snow_tree.specs.Held.{children_of}
-use Rattle.snow_tree.specs.Nodes.{blocks_of}
+use Rattle.snow_tree.specs.Kept.Held.{children_of}
+use Rattle.snow_tree.specs.Kept.Nodes.{blocks_of}
 use Rattle.snow_tree.proofs.Listed.{no_children}
 use Rattle.snow_tree.proofs.Placed.{place_same, position_cons}
 

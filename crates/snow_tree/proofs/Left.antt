@@ -10,14 +10,14 @@ use Rattle.std.proofs.lemmas.List.Elements.{All-head, All-tail, All-filter, filt
 use Rattle.std.proofs.lemmas.Bool.{or_parts, or_left, or_right, and_parts}
 use Rattle.std.proofs.lemmas.Option.{none-some, slice_get_within, get_or_from_slice_get}
 use Rattle.snow_base.specs.declared.header.Header.{Header}
-use Rattle.snow_base.specs.Ancestry.{line_in, descends}
-use Rattle.snow_board.specs.Grown.{has_block, IsGrown}
+use Rattle.snow_base.specs.Model.Ancestry.{line_in, descends}
+use Rattle.snow_board.specs.Kept.Grown.{has_block, IsGrown}
 use Rattle.snow_board.proofs.Cases.{split_on, clash, same_id, id_same, differs_back}
 use Rattle.snow_board.proofs.Grown.{grown_parent, grown_rest, has_block-reverse}
 use Rattle.snow_board.proofs.Kept.{filter-reverse, grown_kept, has_own}
 use Rattle.snow_tree.specs.declared.node.Node.{Node}
-use Rattle.snow_tree.specs.Held.{children_of, stays_with, blocks_in}
-use Rattle.snow_tree.specs.Nodes.{block_of, blocks_of, entry_of, left, outsiders, IsKept}
+use Rattle.snow_tree.specs.Kept.Held.{children_of, stays_with, blocks_in}
+use Rattle.snow_tree.specs.Kept.Nodes.{block_of, blocks_of, entry_of, left, outsiders, IsKept}
 use Rattle.snow_tree.proofs.Descending.{line_at, descends_at, last_descends, parent_before}
 use Rattle.snow_tree.proofs.Listed.{filter_kept}
 use Rattle.snow_tree.proofs.Placed.{apart_off}

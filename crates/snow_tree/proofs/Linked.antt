@@ -8,14 +8,14 @@ use Rattle.std.proofs.lemmas.List.{map-append, reverse-append, length-map}
 use Rattle.std.proofs.lemmas.List.Elements.{All-append, All-map, All-cons, All-nil, All-head, All-tail}
 use Rattle.std.proofs.lemmas.Bool.{or_parts}
 use Rattle.std.proofs.lemmas.Option.{none-some, same_Some, slice_get-map}
-use Rattle.snow_tree.specs.Row.{set_children_at}
+use Rattle.snow_tree.specs.Kept.Row.{set_children_at}
 use Rattle.snow_base.specs.declared.header.Header.{Header}
-use Rattle.snow_board.specs.Grown.{has_block, is_on, IsGrown, Grew}
+use Rattle.snow_board.specs.Kept.Grown.{has_block, is_on, IsGrown, Grew}
 use Rattle.snow_board.proofs.Cases.{split_on, clash, same_id, differs_back}
 use Rattle.snow_board.proofs.Grown.{grown_rest, has_block-reverse}
 use Rattle.snow_tree.specs.declared.node.Node.{Node}
-use Rattle.snow_tree.specs.Held.{children_of}
-use Rattle.snow_tree.specs.Nodes.{block_of, blocks_of, linked, unlinked, with_children, IsKept}
+use Rattle.snow_tree.specs.Kept.Held.{children_of}
+use Rattle.snow_tree.specs.Kept.Nodes.{block_of, blocks_of, linked, unlinked, with_children, IsKept}
 use Rattle.snow_tree.proofs.Placed.{either_way, apart_off, found_at}
 use Rattle.snow_tree.proofs.Listed.{children_push, no_children}
 use Rattle.snow_tree.proofs.Numbered.{of_key}

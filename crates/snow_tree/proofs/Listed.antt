@@ -4,11 +4,11 @@ use Rattle.std.proofs.lemmas.List.{map-append, reverse-reverse}
 use Rattle.std.proofs.lemmas.List.Elements.{filter-append, All-head, All-tail}
 use Rattle.std.proofs.lemmas.Bool.{or_parts}
 use Rattle.snow_base.specs.declared.header.Header.{Header}
-use Rattle.snow_board.specs.Grown.{is_on, IsGrown}
+use Rattle.snow_board.specs.Kept.Grown.{is_on, IsGrown}
 use Rattle.snow_board.proofs.Cases.{split_on}
 use Rattle.snow_board.proofs.Grown.{has_child, childless}
 use Rattle.snow_board.proofs.Kept.{filter-reverse}
-use Rattle.snow_tree.specs.Held.{children_of}
+use Rattle.snow_tree.specs.Kept.Held.{children_of}
 
 -- with one block more
 pub children_push : (bs : List Header) (b : Header) (q : List ℕ) → children_of (bs ++ b ∷ []) q ≡ children_of bs q ++ (if bytes_eq b.parent q then b.id ∷ [] else [])

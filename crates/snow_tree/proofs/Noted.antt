@@ -5,7 +5,7 @@ use Rattle.std.specs.Option.{option_map}
 use Rattle.std.proofs.lemmas.Option.{none-some}
 use Rattle.snow_base.specs.declared.header.Header.{Header}
 use Rattle.snow_tree.specs.declared.node.Node.{Node}
-use Rattle.snow_tree.specs.Nodes.{block_of, blocks_of}
+use Rattle.snow_tree.specs.Kept.Nodes.{block_of, blocks_of}
 
 -- what a look at a place shows was there
 read_back : {X Y : Type 0} (o : Option X) (f : X → Y) (y : Y) → option_map f o ≡ Some y → (x : X) × (o ≡ Some x) × (f x ≡ y)

@@ -5,7 +5,7 @@ use Rattle.std.specs.Option.{option_map, option_map_or}
 use Rattle.std.proofs.lemmas.Bool.{eq-eqb}
 use Rattle.std.proofs.lemmas.Option.{none-some, same_Some}
 use Rattle.snow_board.proofs.Cases.{split_on, clash, same_id, differs_back}
-use Rattle.snow_tree.specs.Row.{Edge, IsBefore, AreInOrder, IsOwn, number_in}
+use Rattle.snow_tree.specs.Kept.Row.{Edge, IsBefore, AreInOrder, IsOwn, number_in}
 use Rattle.snow_tree.proofs.Placed.{position_cons}
 
 -- ---- what is so of all

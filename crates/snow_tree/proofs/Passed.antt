@@ -4,8 +4,8 @@ use Rattle.std.specs.List.{swap}
 use Rattle.std.proofs.lemmas.List.{map-append, length-drop}
 use Rattle.std.proofs.lemmas.Option.{none-some, same_Some}
 use Rattle.snow_tree.specs.declared.node.Node.{Node}
-use Rattle.snow_tree.specs.Row.{AreInOrder, edge_of, edges_of, IsNumbered, is_above, staying, leaving, untold}
-use Rattle.snow_tree.specs.Hints.{hint_of}
+use Rattle.snow_tree.specs.Kept.Row.{AreInOrder, edge_of, edges_of, IsNumbered, is_above, staying, leaving, untold}
+use Rattle.snow_tree.specs.Kept.Hints.{hint_of}
 use Rattle.snow_tree.proofs.Ordered.{order_left}
 use Rattle.snow_tree.proofs.Searched.{there}
 use Rattle.snow_tree.proofs.Edges.{place_own}

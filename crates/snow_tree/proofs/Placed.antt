@@ -8,10 +8,10 @@ use Rattle.std.proofs.lemmas.List.{get_or-map}
 use Rattle.std.proofs.lemmas.List.Quantifiers.{position-Some}
 use Rattle.std.proofs.lemmas.Map.Entries.{length-keys_of}
 use Rattle.std.proofs.lemmas.Option.{none-some, slice_get_cases}
-use Rattle.snow_board.specs.Grown.{has_block}
+use Rattle.snow_board.specs.Kept.Grown.{has_block}
 use Rattle.snow_board.proofs.Cases.{split_on, same_id, id_same, differs_back}
 use Rattle.snow_tree.specs.declared.node.Node.{Node}
-use Rattle.snow_tree.specs.Nodes.{blocks_of}
+use Rattle.snow_tree.specs.Kept.Nodes.{blocks_of}
 
 -- a test of two identifiers says the same either way
 pub either_way : (a b : List ℕ) → bytes_eq a b ≡ bytes_eq b a

@@ -8,15 +8,15 @@ use Rattle.std.proofs.lemmas.List.{length-map}
 use Rattle.std.proofs.lemmas.Map.Entries.{place_from_lookup}
 use Rattle.std.proofs.lemmas.Option.{none-some, slice_get-map, slice_get_within, get_or_from_slice_get}
 use Rattle.std.proofs.lemmas.List.Elements.{All-cons, All-head, All-tail}
-use Rattle.snow_tree.specs.Row.{set_load_at}
+use Rattle.snow_tree.specs.Kept.Row.{set_load_at}
 use Rattle.snow_base.specs.declared.header.Header.{Header}
-use Rattle.snow_base.specs.Ancestry.{line_in, child_on}
-use Rattle.snow_board.specs.Grown.{has_block, is_on, IsGrown}
+use Rattle.snow_base.specs.Model.Ancestry.{line_in, child_on}
+use Rattle.snow_board.specs.Kept.Grown.{has_block, is_on, IsGrown}
 use Rattle.snow_board.proofs.Cases.{split_on, same_id, id_same, differs_back}
 use Rattle.snow_board.proofs.Grown.{grown_parent, grown_rest, no_line, has_block-reverse}
 use Rattle.snow_tree.specs.declared.node.Node.{Node}
-use Rattle.snow_tree.specs.Held.{children_of, set_load}
-use Rattle.snow_tree.specs.Nodes.{block_of, blocks_of, entry_of, with_children, IsKept}
+use Rattle.snow_tree.specs.Kept.Held.{children_of, set_load}
+use Rattle.snow_tree.specs.Kept.Nodes.{block_of, blocks_of, entry_of, with_children, IsKept}
 use Rattle.snow_tree.proofs.Listed.{no_children}
 use Rattle.snow_tree.proofs.Linked.{no_block}
 use Rattle.snow_tree.proofs.Edges.{read_loaded}

@@ -2,7 +2,7 @@
 use Rattle.std.proofs.Common.{◌≡◌, ℕ, zero, suc, ◌+◌, ◌-◌, ◌*◌, ◌/◌, ◌%◌, ◌^◌, ◌<◌, List, ◌++◌, length, get_or, slice_range, bit_and, refl, sym, ap, subst, ◌∙◌, length-append, arith}
 use Rattle.std.proofs.lemmas.List.{get_or_append_left, get_or-append_right, take_all}
 use Rattle.std.proofs.lemmas.Nat.{and_mask, pow-add, mod-pow-add, mod_below, pow_pos}
-use Rattle.snow_tree.specs.Hints.{seat_of, hint_of, IsPower}
+use Rattle.snow_tree.specs.Kept.Hints.{seat_of, hint_of, IsPower}
 
 -- the lowest bits of a seat are its slot
 pub masked : (slots seat : ℕ) → IsPower slots → 0 < slots → slots < 2 ^ 64 → bit_and seat ((slots + (2 ^ 64 - 1)) % 2 ^ 64) ≡ seat % slots

@@ -7,14 +7,14 @@ use Rattle.std.proofs.lemmas.List.{map-append}
 use Rattle.std.proofs.lemmas.List.Elements.{filter-append}
 use Rattle.std.proofs.lemmas.Option.{slice_get-map, slice_get_within, get_or_from_slice_get}
 use Rattle.snow_base.specs.declared.header.Header.{Header}
-use Rattle.snow_base.specs.Ancestry.{descends}
-use Rattle.snow_board.specs.Grown.{has_block, IsGrown}
+use Rattle.snow_base.specs.Model.Ancestry.{descends}
+use Rattle.snow_board.specs.Kept.Grown.{has_block, IsGrown}
 use Rattle.snow_board.proofs.Cases.{split_on, same_id, differs_back}
 use Rattle.snow_board.proofs.Grown.{no_line, has_block-reverse}
 use Rattle.snow_board.proofs.Kept.{has_filtered}
 use Rattle.snow_tree.specs.declared.node.Node.{Node}
-use Rattle.snow_tree.specs.Nodes.{block_of, blocks_of, left, outsiders}
-use Rattle.snow_tree.specs.Row.{Edge, IsBefore, AreInOrder, IsOwn, edge_of, edges_of, is_above, staying, leaving}
+use Rattle.snow_tree.specs.Kept.Nodes.{block_of, blocks_of, left, outsiders}
+use Rattle.snow_tree.specs.Kept.Row.{Edge, IsBefore, AreInOrder, IsOwn, edge_of, edges_of, is_above, staying, leaving}
 use Rattle.snow_tree.proofs.Descending.{descends_at}
 use Rattle.snow_tree.proofs.Left.{own, blocks-filter}
 use Rattle.snow_tree.proofs.Ordered.{all_without, all_there, all_left, all_weaker, another_number, split_at, order_without, order_front, order_back}

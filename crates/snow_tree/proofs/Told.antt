@@ -7,8 +7,8 @@ use Rattle.std.proofs.lemmas.List.{length-set, get_or-set_same, get_or-set_other
 use Rattle.std.proofs.lemmas.Nat.{mod_below}
 use Rattle.std.proofs.lemmas.Option.{none-some, same_Some}
 use Rattle.snow_board.proofs.Cases.{split_on, clash, same_id, id_itself}
-use Rattle.snow_tree.specs.Hints.{seat_of, slot_of, hint_of}
-use Rattle.snow_tree.specs.Row.{Edge, IsBefore, AreInOrder, IsOwn, number_in, untold, gives_way, IsNumbered}
+use Rattle.snow_tree.specs.Kept.Hints.{seat_of, slot_of, hint_of}
+use Rattle.snow_tree.specs.Kept.Row.{Edge, IsBefore, AreInOrder, IsOwn, number_in, untold, gives_way, IsNumbered}
 use Rattle.snow_tree.proofs.Ordered.{all_without, all_joined, all_weaker, of_all, found_there, find_more, find_skip, order_without, order_more, own_found, whose_number, number_without, numbered, position_none, place_is, find_none}
 
 -- where another number is told, this one isn't

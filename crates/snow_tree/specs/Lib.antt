@@ -1,6 +1,2 @@
-pub mod Held
-pub mod Hints
-pub mod Row
-pub mod Nodes
-pub mod Lent
-pub mod Lending
+pub mod Kept
+pub mod Clauses

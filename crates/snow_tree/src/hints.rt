@@ -1,6 +1,6 @@
 //! A table that tells an identifier's number from its slot.
 ghost use Rattle.std.specs.Prelude.{◌≡◌, ◌==◌, ◌<◌, ◌≤◌, ℕ, List, [], length, slice_set, OnOk};
-ghost use Rattle.snow_tree.specs.Hints.{slot_of, hint_of};
+ghost use Rattle.snow_tree.specs.Kept.Hints.{slot_of, hint_of};
 
 use snow_base::Id;
 use snow_map::seat_of;
@@ -19,7 +19,7 @@ pub(crate) struct Hints {
 
 impl Model for Hints {
     ghost use Rattle.std.specs.Prelude.{ℕ, List, length};
-    ghost use Rattle.snow_tree.specs.Hints.{AreSlots};
+    ghost use Rattle.snow_tree.specs.Kept.Hints.{AreSlots};
 
     ghost Value = { List ℕ };
 

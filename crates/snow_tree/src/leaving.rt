@@ -2,11 +2,11 @@ ghost use Rattle.std.specs.Prelude.{◌≡◌, ℕ, ◌+◌, ◌≤◌, List, �
 ghost use Rattle.std.specs.List.{remove};
 ghost use Rattle.std.specs.Map.{lookup};
 ghost use Rattle.std.specs.Option.{option_map};
-ghost use Rattle.snow_board.specs.Grown.{IsGrown};
+ghost use Rattle.snow_board.specs.Kept.Grown.{IsGrown};
 ghost use Rattle.snow_tree.specs.declared.node.Node.{Node};
-ghost use Rattle.snow_tree.specs.Held.{children_of};
-ghost use Rattle.snow_tree.specs.Nodes.{IsTakenOver, blocks_of, left, outsiders};
-ghost use Rattle.snow_tree.specs.Row.{staying, leaving};
+ghost use Rattle.snow_tree.specs.Kept.Held.{children_of};
+ghost use Rattle.snow_tree.specs.Kept.Nodes.{IsTakenOver, blocks_of, left, outsiders};
+ghost use Rattle.snow_tree.specs.Kept.Row.{staying, leaving};
 
 use crate::children::Children;
 use crate::node::Node;

@@ -1,10 +1,10 @@
 ghost use Rattle.std.specs.Prelude.{◌≡◌, ◌+◌, ◌-◌, ◌<◌, ◌≤◌, ◌∷◌, ◌++◌, [], Some, false, bytes_eq, vec_capacity, length, take, map, slice_get, OnOk, OnErr};
 ghost use Rattle.std.specs.List.{position};
 ghost use Rattle.std.specs.Map.{values_of};
-ghost use Rattle.snow_board.specs.Grown.{has_block};
+ghost use Rattle.snow_board.specs.Kept.Grown.{has_block};
 ghost use Rattle.snow_tree.specs.declared.node.Node.{Node};
-ghost use Rattle.snow_tree.specs.Nodes.{blocks_of, linked, unlinked, with_children};
-ghost use Rattle.snow_tree.specs.Row.{set_children_at};
+ghost use Rattle.snow_tree.specs.Kept.Nodes.{blocks_of, linked, unlinked, with_children};
+ghost use Rattle.snow_tree.specs.Kept.Row.{set_children_at};
 
 use crate::children::Children;
 use crate::row::Row;

@@ -1,9 +1,9 @@
 ghost use Rattle.std.specs.Prelude.{◌≡◌, ◌<◌, reverse, slice_get, bytes_eq};
 ghost use Rattle.std.specs.List.{position};
 ghost use Rattle.std.specs.Option.{option_map};
-ghost use Rattle.snow_base.specs.Ancestry.{child_on};
-ghost use Rattle.snow_board.specs.Grown.{IsGrown};
-ghost use Rattle.snow_tree.specs.Nodes.{block_of, blocks_of};
+ghost use Rattle.snow_base.specs.Model.Ancestry.{child_on};
+ghost use Rattle.snow_board.specs.Kept.Grown.{IsGrown};
+ghost use Rattle.snow_tree.specs.Kept.Nodes.{block_of, blocks_of};
 
 use crate::row::Row;
 use snow_base::{Header, Id};

@@ -1,8 +1,8 @@
 //! The numbers of a row's entries, by their identifiers.
 ghost use Rattle.std.specs.Prelude.{◌≡◌, ◌<◌, ◌≤◌, ℕ, List, [], None, Some, OnOk, cond, length, slice_set, bytes_eq};
 ghost use Rattle.std.specs.HashMap.{get, spare};
-ghost use Rattle.snow_tree.specs.Hints.{slot_of, hint_of};
-ghost use Rattle.snow_tree.specs.Row.{AreInOrder, edges_of, untold, gives_way};
+ghost use Rattle.snow_tree.specs.Kept.Hints.{slot_of, hint_of};
+ghost use Rattle.snow_tree.specs.Kept.Row.{AreInOrder, edges_of, untold, gives_way};
 
 use crate::hints::Hints;
 use crate::node::Entries;

@@ -4,7 +4,7 @@ ghost use Rattle.std.specs.HashMap.{get};
 ghost use Rattle.std.specs.List.{position};
 ghost use Rattle.std.specs.Map.{keys_of};
 ghost use Rattle.snow_tree.specs.declared.node.Node.{Node};
-ghost use Rattle.snow_tree.specs.Row.{AreInOrder, IsNumbered, IsToldPlace, edges_of};
+ghost use Rattle.snow_tree.specs.Kept.Row.{AreInOrder, IsNumbered, IsToldPlace, edges_of};
 
 use crate::node::Entries;
 use crate::numbers::Numbers;

@@ -3,7 +3,7 @@ ghost use Rattle.std.specs.List.{AllByRecursion, IsDistinct, position, remove};
 ghost use Rattle.std.specs.Map.{keys_of, values_of, lookup};
 ghost use Rattle.std.specs.Option.{option_map, option_copied, option_copied_mut};
 ghost use Rattle.snow_tree.specs.declared.node.Node.{Node};
-ghost use Rattle.snow_tree.specs.Row.{AreInOrder, IsOwn, edges_of, number_at, staying, leaving};
+ghost use Rattle.snow_tree.specs.Kept.Row.{AreInOrder, IsOwn, edges_of, number_at, staying, leaving};
 
 use crate::children::Children;
 use crate::node::{Entries, Node};
@@ -28,7 +28,7 @@ impl<T> Model for Row<T> {
     ghost use Rattle.std.specs.Prelude.{◌-◌, ◌^◌, min, length, bytes_eq};
     ghost use Rattle.std.specs.HashMap.{get, spare};
     ghost use Rattle.std.specs.VecDeque.{deque_len, deque_capacity};
-    ghost use Rattle.snow_tree.specs.Row.{Lined, IsNumbered, edges_of};
+    ghost use Rattle.snow_tree.specs.Kept.Row.{Lined, IsNumbered, edges_of};
 
     ghost Value = { Lined T };
 
@@ -44,7 +44,7 @@ impl<T> Model for Row<T> {
 
 impl<T> Row<T> {
     ghost use Rattle.std.specs.Borrow.{sem};
-    ghost use Rattle.snow_tree.specs.Lent.{lends_children_at, lends_load_at};
+    ghost use Rattle.snow_tree.specs.Clauses.Lent.{lends_children_at, lends_load_at};
 
     /// Returns no node. It takes no memory.
     pub(crate) fn new(alloc: Global) -> Self

@@ -2,8 +2,8 @@
 ghost use Rattle.std.specs.Prelude.{◌≡◌, ℕ, List, ◌+◌, ◌<◌, ◌≤◌, ◌∷◌, ◌++◌, [], None, Some, bytes_eq, cond, length, slice_get, take, vec_len, vec_capacity};
 ghost use Rattle.std.specs.HashMap.{get};
 ghost use Rattle.snow_tree.specs.declared.node.Node.{Node};
-ghost use Rattle.snow_tree.specs.Hints.{hint_of};
-ghost use Rattle.snow_tree.specs.Row.{AreInOrder, IsNumbered, edges_of, untold, is_above, staying, leaving};
+ghost use Rattle.snow_tree.specs.Kept.Hints.{hint_of};
+ghost use Rattle.snow_tree.specs.Kept.Row.{AreInOrder, IsNumbered, edges_of, untold, is_above, staying, leaving};
 
 use crate::node::{Entries, Node};
 use crate::numbers::Numbers;

@@ -1,7 +1,7 @@
 ghost use Rattle.std.specs.Prelude.{◌≡◌, ◌-◌, true, false, Some, length, slice_get, is_some, OnOk, OnErr, IfErr, IfSome};
 ghost use Rattle.std.specs.Option.{option_map, option_copied};
-ghost use Rattle.snow_board.specs.Grown.{has_block, is_on};
-ghost use Rattle.snow_tree.specs.Held.{blocks_in, begun, inserted, taken_back, place_in, entry_in, children_of, ancestor_in, promoted};
+ghost use Rattle.snow_board.specs.Kept.Grown.{has_block, is_on};
+ghost use Rattle.snow_tree.specs.Kept.Held.{blocks_in, begun, inserted, taken_back, place_in, entry_in, children_of, ancestor_in, promoted};
 
 use crate::children::Children;
 use crate::leaving::take_accepted;
@@ -38,8 +38,8 @@ pub struct Tree<T> {
 
 impl<T> Model for Tree<T> {
     ghost use Rattle.std.specs.Prelude.{map, vec_capacity};
-    ghost use Rattle.snow_tree.specs.Held.{Held};
-    ghost use Rattle.snow_tree.specs.Nodes.{entry_of, IsKept};
+    ghost use Rattle.snow_tree.specs.Kept.Held.{Held};
+    ghost use Rattle.snow_tree.specs.Kept.Nodes.{entry_of, IsKept};
 
     ghost Value = { Held T };
 
@@ -58,8 +58,8 @@ impl<T: Drop> Tree<T> {
     ghost use Rattle.std.specs.Borrow.{sem};
     ghost use Rattle.std.specs.Option.{option_copied_mut};
     ghost use Rattle.snow_base.specs.declared.header.Header.{Header};
-    ghost use Rattle.snow_board.specs.Grown.{IsGrown};
-    ghost use Rattle.snow_tree.specs.Lending.{lends_load};
+    ghost use Rattle.snow_board.specs.Kept.Grown.{IsGrown};
+    ghost use Rattle.snow_tree.specs.Clauses.Lending.{lends_load};
 
     /// Returns the tree where nothing is pending above this block, whose height is below 2^64. It
     /// takes no memory.

@@ -4,24 +4,24 @@ use Rattle.std.specs.Option.{option_map}
 use Rattle.std.proofs.lemmas.Bool.{eq-eqb, ne_eqb, true≢false}
 use Rattle.std.proofs.lemmas.List.Elements.{All-cons, All-nil}
 use Rattle.snow_base.specs.declared.vote.Vote.{Vote}
-use Rattle.snow_base.specs.Identifier.{bit, bits}
+use Rattle.snow_base.specs.Model.Identifier.{bit, bits}
 use Rattle.snow_base.proofs.Bits.{drop-bits}
-use Rattle.snow_flake.specs.Counter.{Counter, Decided, Undecided, admits, is_decided}
-use Rattle.snow_flake.specs.Rule.{Answer, answer_of}
-use Rattle.snow_flake.specs.Instance.{at_bit}
-use Rattle.snow_flake.specs.Parameters.{Parameters, AreGood}
-use Rattle.snow_board.specs.Conflict.{Counters, Blank, At, all_polled, chosen, decided_path}
-use Rattle.snow_board.specs.FailingLaw.{failed}
+use Rattle.snow_flake.specs.Model.Counter.{Counter, Decided, Undecided, admits, is_decided}
+use Rattle.snow_flake.specs.Model.Rule.{Answer, answer_of}
+use Rattle.snow_flake.specs.Kept.Instance.{at_bit}
+use Rattle.snow_flake.specs.Model.Parameters.{Parameters, AreGood}
+use Rattle.snow_board.specs.Model.Conflict.{Counters, Blank, At, all_polled, chosen, decided_path}
+use Rattle.snow_board.specs.Laws.FailingLaw.{failed}
 use Rattle.snow_board.proofs.Failing.{fails}
 use Rattle.snow_board.proofs.Walking.{drop-bits_end}
 use Rattle.snow_trie.specs.declared.fork.Fork.{Fork}
-use Rattle.snow_trie.specs.Counted.{run_counter, fork_counter}
-use Rattle.snow_trie.specs.Tree.{Tree, Tip, Line, Two}
-use Rattle.snow_trie.specs.Stamped.{between, linked, strand, pruned, counters, whole}
-use Rattle.snow_trie.specs.Outline.{outline, IsLeaf, IsSorted}
-use Rattle.snow_trie.specs.Shape.{IsPlaced, IsOpen}
-use Rattle.snow_trie.specs.Peeling.{peeled, preferred}
-use Rattle.snow_trie.specs.Whole.{IsWhole, next_leader}
+use Rattle.snow_trie.specs.Kept.Counted.{run_counter, fork_counter}
+use Rattle.snow_trie.specs.Kept.Tree.{Tree, Tip, Line, Two}
+use Rattle.snow_trie.specs.Kept.Stamped.{between, linked, strand, pruned, counters, whole}
+use Rattle.snow_trie.specs.Kept.Outline.{outline, IsLeaf, IsSorted}
+use Rattle.snow_trie.specs.Kept.Shape.{IsPlaced, IsOpen}
+use Rattle.snow_trie.specs.Kept.Peeling.{peeled, preferred}
+use Rattle.snow_trie.specs.Kept.Whole.{IsWhole, next_leader}
 use Rattle.snow_trie.proofs.Strands.{between_first, between_same, span_drop}
 use Rattle.snow_trie.proofs.Stamps.{own_answer, same_answer}
 use Rattle.snow_trie.proofs.Visited.{placed_within}

@@ -1,13 +1,13 @@
 -- Worked examples, computed on the definitions.
 use Rattle.std.proofs.Common.{◌≡◌, ℕ, Bool, true, false, List, [], ◌∷◌, ◌++◌, replicate, is_some, refl}
-use Rattle.snow_base.specs.Identifier.{bits}
-use Rattle.snow_flake.specs.Parameters.{Parameters}
-use Rattle.snow_flake.specs.Rule.{by_preference}
-use Rattle.snow_board.specs.Conflict.{Counters, Blank, with_child, all_polled, votes_on, chosen, decided_path}
-use Rattle.snow_board.specs.FailingLaw.{failed}
-use Rattle.snow_trie.specs.Outline.{size}
-use Rattle.snow_trie.specs.Stamped.{counters}
-use Rattle.snow_trie.specs.Growing.{branch, grown}
+use Rattle.snow_base.specs.Model.Identifier.{bits}
+use Rattle.snow_flake.specs.Model.Parameters.{Parameters}
+use Rattle.snow_flake.specs.Model.Rule.{by_preference}
+use Rattle.snow_board.specs.Model.Conflict.{Counters, Blank, with_child, all_polled, votes_on, chosen, decided_path}
+use Rattle.snow_board.specs.Laws.FailingLaw.{failed}
+use Rattle.snow_trie.specs.Kept.Outline.{size}
+use Rattle.snow_trie.specs.Kept.Stamped.{counters}
+use Rattle.snow_trie.specs.Kept.Growing.{branch, grown}
 
 -- an identifier by its first byte, and one by its last
 abbrev named : ℕ → List ℕ

@@ -1,19 +1,19 @@
 -- Lemmas on a tree to which an identifier is added.
 use Rattle.std.proofs.Common.{◌≡◌, ℕ, ◌+◌, ◌<◌, ◌≤◌, ◌==◌, Bool, true, false, List, ◌∷◌, drop, Option, Some, None, nat_lt, if◌then◌else◌, refl, sym, ap, ◌∙◌, subst, arith}
 use Rattle.std.proofs.lemmas.Bool.{ltb-true, ltb-false}
-use Rattle.snow_base.specs.Identifier.{bit, bits, AgreeFrom}
-use Rattle.snow_flake.specs.Counter.{Counter, fresh, admits}
-use Rattle.snow_board.specs.Conflict.{Counters, Blank, At, with_child}
+use Rattle.snow_base.specs.Model.Identifier.{bit, bits, AgreeFrom}
+use Rattle.snow_flake.specs.Model.Counter.{Counter, fresh, admits}
+use Rattle.snow_board.specs.Model.Conflict.{Counters, Blank, At, with_child}
 use Rattle.snow_board.proofs.Cases.{split_on}
 use Rattle.snow_board.proofs.Walking.{drop-bits_end}
 use Rattle.snow_base.proofs.Bits.{drop-bits}
 use Rattle.snow_trie.specs.declared.run.Run.{Run}
 use Rattle.snow_trie.specs.declared.fork.Fork.{Fork}
-use Rattle.snow_trie.specs.Counted.{run_counter, fork_counter}
-use Rattle.snow_trie.specs.Tree.{Tree, Tip, Line, Two}
-use Rattle.snow_trie.specs.Stamped.{between, strand, pruned, counters}
-use Rattle.snow_trie.specs.Shape.{IsPlaced}
-use Rattle.snow_trie.specs.Growing.{parting, fresh_run, branch, after, before, fork_of, joined, parted, or_parted, grown}
+use Rattle.snow_trie.specs.Kept.Counted.{run_counter, fork_counter}
+use Rattle.snow_trie.specs.Kept.Tree.{Tree, Tip, Line, Two}
+use Rattle.snow_trie.specs.Kept.Stamped.{between, strand, pruned, counters}
+use Rattle.snow_trie.specs.Kept.Shape.{IsPlaced}
+use Rattle.snow_trie.specs.Kept.Growing.{parting, fresh_run, branch, after, before, fork_of, joined, parted, or_parted, grown}
 use Rattle.snow_trie.proofs.Strands.{between_split, between_none, strand-append, strand_same, grown_strand, fresh_strand, parted_strand, forked}
 use Rattle.snow_trie.proofs.Stamps.{own_bit}
 use Rattle.snow_trie.proofs.Parting.{IsParting, agrees, parts}

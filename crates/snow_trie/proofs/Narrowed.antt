@@ -3,12 +3,12 @@ use Rattle.std.proofs.Common.{◌≡◌, ℕ, ◌+◌, ◌≤◌, Bool, List, []
 use Rattle.std.proofs.lemmas.Bool.{cases_lt}
 use Rattle.std.proofs.lemmas.List.Elements.{All-contains, All-contains_itself}
 use Rattle.snow_base.specs.declared.vote.Vote.{Vote}
-use Rattle.snow_base.specs.Identifier.{bit, AgreeFrom}
-use Rattle.snow_base.specs.Split.{AgreeBelow, HaveBit}
-use Rattle.snow_base.specs.Votes.{IsInBitOrder, total_count}
-use Rattle.snow_board.specs.Walk.{votes_from}
-use Rattle.snow_trie.specs.Stamped.{between}
-use Rattle.snow_trie.specs.Polled.{IsNarrowed}
+use Rattle.snow_base.specs.Model.Identifier.{bit, AgreeFrom}
+use Rattle.snow_base.specs.Kept.Split.{AgreeBelow, HaveBit}
+use Rattle.snow_base.specs.Model.Votes.{IsInBitOrder, total_count}
+use Rattle.snow_board.specs.Kept.Walk.{votes_from}
+use Rattle.snow_trie.specs.Kept.Stamped.{between}
+use Rattle.snow_trie.specs.Kept.Polled.{IsNarrowed}
 use Rattle.snow_trie.proofs.Strands.{between_split, between_first, between_none}
 use Rattle.snow_trie.proofs.Visited.{no_more_votes}
 

@@ -4,20 +4,20 @@ use Rattle.std.specs.Bool.{beq}
 use Rattle.std.specs.List.{starts_with}
 use Rattle.std.proofs.lemmas.Bool.{true≢false}
 use Rattle.snow_base.specs.declared.vote.Vote.{Vote}
-use Rattle.snow_base.specs.Identifier.{bit, bits}
-use Rattle.snow_base.specs.Votes.{total_count}
-use Rattle.snow_flake.specs.Parameters.{Parameters, AreGood}
-use Rattle.snow_flake.specs.Counter.{Counter, Decided, Undecided, Standing, fresh, stepped, admits, is_decided}
-use Rattle.snow_flake.specs.Instance.{Instance, at_bit, counter_of}
-use Rattle.snow_board.specs.Conflict.{Counters, Blank, At, with_child, all_polled}
-use Rattle.snow_board.specs.Walk.{votes_from}
+use Rattle.snow_base.specs.Model.Identifier.{bit, bits}
+use Rattle.snow_base.specs.Model.Votes.{total_count}
+use Rattle.snow_flake.specs.Model.Parameters.{Parameters, AreGood}
+use Rattle.snow_flake.specs.Model.Counter.{Counter, Decided, Undecided, Standing, fresh, stepped, admits, is_decided}
+use Rattle.snow_flake.specs.Kept.Instance.{Instance, at_bit, counter_of}
+use Rattle.snow_board.specs.Model.Conflict.{Counters, Blank, At, with_child, all_polled}
+use Rattle.snow_board.specs.Kept.Walk.{votes_from}
 use Rattle.snow_board.proofs.Order.{bounded, kept}
 use Rattle.snow_board.proofs.Below.{starts_front, one_side, counted_more, counted_apart}
 use Rattle.snow_board.proofs.Cases.{split_on}
-use Rattle.snow_trie.specs.Counted.{standing_at, run_counter, fork_counter}
-use Rattle.snow_trie.specs.Tree.{Tree, Tip, Line, Two}
-use Rattle.snow_trie.specs.Stamped.{between, linked, strand, counters}
-use Rattle.snow_trie.specs.Shape.{IsPlaced, IsOpenFirst, IsOpen, IsBelow, IsOrdered}
+use Rattle.snow_trie.specs.Kept.Counted.{standing_at, run_counter, fork_counter}
+use Rattle.snow_trie.specs.Kept.Tree.{Tree, Tip, Line, Two}
+use Rattle.snow_trie.specs.Kept.Stamped.{between, linked, strand, counters}
+use Rattle.snow_trie.specs.Kept.Shape.{IsPlaced, IsOpenFirst, IsOpen, IsBelow, IsOrdered}
 use Rattle.snow_trie.proofs.Strands.{between_first}
 
 -- ---- counts of votes

@@ -3,13 +3,13 @@ use Rattle.std.proofs.Common.{◌≡◌, ◌≢◌, ℕ, zero, suc, ◌+◌, ◌
 use Rattle.std.specs.Bool.{beq}
 use Rattle.std.proofs.lemmas.Bool.{eqb-true, eq-eqb, true≢false}
 use Rattle.std.proofs.lemmas.Option.{none-some, same_Some}
-use Rattle.snow_base.specs.Identifier.{bit, AgreeFrom, FirstDiffers}
-use Rattle.snow_flake.specs.Counter.{Counter, Decided, Undecided, Standing, fresh, is_decided}
-use Rattle.snow_flake.specs.Instance.{Single, at_bit, counter_of}
+use Rattle.snow_base.specs.Model.Identifier.{bit, AgreeFrom, FirstDiffers}
+use Rattle.snow_flake.specs.Model.Counter.{Counter, Decided, Undecided, Standing, fresh, is_decided}
+use Rattle.snow_flake.specs.Kept.Instance.{Single, at_bit, counter_of}
 use Rattle.snow_board.proofs.Cases.{split_on}
-use Rattle.snow_trie.specs.Tree.{Tree, Tip, Line, Two}
-use Rattle.snow_trie.specs.Shape.{IsPlaced}
-use Rattle.snow_trie.specs.Growing.{differs_at, parting}
+use Rattle.snow_trie.specs.Kept.Tree.{Tree, Tip, Line, Two}
+use Rattle.snow_trie.specs.Kept.Shape.{IsPlaced}
+use Rattle.snow_trie.specs.Kept.Growing.{differs_at, parting}
 
 -- ---- where an identifier differs
 

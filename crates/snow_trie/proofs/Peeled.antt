@@ -1,19 +1,19 @@
 -- Lemmas on a tree whose decided first nodes are taken off.
 use Rattle.std.proofs.Common.{◌≡◌, inl, inr, ℕ, ◌+◌, ◌<◌, ◌≤◌, ◌==◌, Bool, true, false, List, if◌then◌else◌, refl, sym, ap, ◌∙◌, subst, arith}
 use Rattle.std.proofs.lemmas.Bool.{cases_lt}
-use Rattle.snow_base.specs.Identifier.{bit, AgreeFrom}
-use Rattle.snow_flake.specs.Counter.{Decided}
-use Rattle.snow_flake.specs.Instance.{Instance, at_bit, counter_of}
-use Rattle.snow_board.specs.Conflict.{Counters}
+use Rattle.snow_base.specs.Model.Identifier.{bit, AgreeFrom}
+use Rattle.snow_flake.specs.Model.Counter.{Decided}
+use Rattle.snow_flake.specs.Kept.Instance.{Instance, at_bit, counter_of}
+use Rattle.snow_board.specs.Model.Conflict.{Counters}
 use Rattle.snow_board.proofs.Cases.{split_on}
 use Rattle.snow_trie.specs.declared.run.Run.{Run}
 use Rattle.snow_trie.specs.declared.fork.Fork.{Fork}
-use Rattle.snow_trie.specs.Counted.{standing_at, run_counter}
-use Rattle.snow_trie.specs.Tree.{Tree, Tip, Line, Two}
-use Rattle.snow_trie.specs.Stamped.{between, linked, strand, pruned, counters}
-use Rattle.snow_trie.specs.Outline.{outline, size, Leads, IsLeaf, IsSorted}
-use Rattle.snow_trie.specs.Shape.{IsPlaced, IsStamped, IsOpenFirst}
-use Rattle.snow_trie.specs.Peeling.{peeled, first_leaf}
+use Rattle.snow_trie.specs.Kept.Counted.{standing_at, run_counter}
+use Rattle.snow_trie.specs.Kept.Tree.{Tree, Tip, Line, Two}
+use Rattle.snow_trie.specs.Kept.Stamped.{between, linked, strand, pruned, counters}
+use Rattle.snow_trie.specs.Kept.Outline.{outline, size, Leads, IsLeaf, IsSorted}
+use Rattle.snow_trie.specs.Kept.Shape.{IsPlaced, IsStamped, IsOpenFirst}
+use Rattle.snow_trie.specs.Kept.Peeling.{peeled, first_leaf}
 use Rattle.snow_trie.proofs.Strands.{between_split, between_none, between_first, between_same, strand-append, strand_same}
 
 -- what is left of a tree

@@ -1,19 +1,19 @@
 -- Lemmas on stamps: a node that isn't visited fails by itself.
 use Rattle.std.proofs.Common.{◌≡◌, ℕ, ◌+◌, ◌≤◌, ◌==◌, Bool, true, false, refl, sym, ap, ◌∙◌, arith}
 use Rattle.std.proofs.lemmas.Bool.{eq-eqb, ne_eqb}
-use Rattle.snow_flake.specs.Parameters.{Parameters, AreGood}
-use Rattle.snow_flake.specs.Counter.{Counter, Decided, Undecided, admits}
-use Rattle.snow_flake.specs.Rule.{Answer, answer_of}
-use Rattle.snow_flake.specs.Instance.{Instance, Single, at_bit, counter_of, failed as instance_failed}
-use Rattle.snow_board.specs.Conflict.{all_polled}
-use Rattle.snow_board.specs.FailingLaw.{failed}
+use Rattle.snow_flake.specs.Model.Parameters.{Parameters, AreGood}
+use Rattle.snow_flake.specs.Model.Counter.{Counter, Decided, Undecided, admits}
+use Rattle.snow_flake.specs.Model.Rule.{Answer, answer_of}
+use Rattle.snow_flake.specs.Kept.Instance.{Instance, Single, at_bit, counter_of, failed as instance_failed}
+use Rattle.snow_board.specs.Model.Conflict.{all_polled}
+use Rattle.snow_board.specs.Laws.FailingLaw.{failed}
 use Rattle.snow_board.proofs.Failing.{quiet}
 use Rattle.snow_board.proofs.Cases.{split_on}
 use Rattle.snow_trie.specs.declared.run.Run.{Run}
-use Rattle.snow_trie.specs.Counted.{standing_at, run_counter, fork_counter}
-use Rattle.snow_trie.specs.Tree.{Tree, Tip, Line, Two}
-use Rattle.snow_trie.specs.Stamped.{between, strand, pruned, counters}
-use Rattle.snow_trie.specs.Shape.{IsStamped}
+use Rattle.snow_trie.specs.Kept.Counted.{standing_at, run_counter, fork_counter}
+use Rattle.snow_trie.specs.Kept.Tree.{Tree, Tip, Line, Two}
+use Rattle.snow_trie.specs.Kept.Stamped.{between, strand, pruned, counters}
+use Rattle.snow_trie.specs.Kept.Shape.{IsStamped}
 use Rattle.snow_trie.proofs.Strands.{strand_same, failed_strand, failed_pruned}
 
 -- ---- one counter

@@ -1,13 +1,13 @@
 -- Lemmas on which identifiers stand in a tree, and where, once one is added.
 use Rattle.std.proofs.Common.{◌≡◌, ◌⊎◌, inl, inr, ℕ, ◌+◌, ◌<◌, ◌≤◌, Bool, true, false, not, List, refl, sym, subst, arith}
-use Rattle.snow_base.specs.Identifier.{bit, AgreeFrom}
+use Rattle.snow_base.specs.Model.Identifier.{bit, AgreeFrom}
 use Rattle.snow_board.proofs.Cases.{clash}
 use Rattle.snow_trie.specs.declared.run.Run.{Run}
 use Rattle.snow_trie.specs.declared.fork.Fork.{Fork}
-use Rattle.snow_trie.specs.Tree.{Tree, Tip, Line, Two}
-use Rattle.snow_trie.specs.Outline.{outline, size, Leads, IsLeaf, IsSorted}
-use Rattle.snow_trie.specs.Shape.{IsPlaced, IsStamped, IsOpen}
-use Rattle.snow_trie.specs.Growing.{branch, after, before, fork_of, joined, grown}
+use Rattle.snow_trie.specs.Kept.Tree.{Tree, Tip, Line, Two}
+use Rattle.snow_trie.specs.Kept.Outline.{outline, size, Leads, IsLeaf, IsSorted}
+use Rattle.snow_trie.specs.Kept.Shape.{IsPlaced, IsStamped, IsOpen}
+use Rattle.snow_trie.specs.Kept.Growing.{branch, after, before, fork_of, joined, grown}
 use Rattle.snow_trie.proofs.Grown.{by_choice, by_before, by_after, by_branch, by_line}
 
 -- a bit is one of two

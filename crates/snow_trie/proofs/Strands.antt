@@ -1,20 +1,20 @@
 -- Lemmas on the bits of identifiers, and on counters for each of them, one below the other.
 use Rattle.std.proofs.Common.{◌≡◌, ℕ, zero, suc, ◌+◌, ◌-◌, ◌<◌, ◌≤◌, Bool, true, false, not, List, [], ◌∷◌, ◌++◌, drop, All, if◌then◌else◌, refl, sym, ap, ◌∙◌, add-zero, zero-add, arith}
 use Rattle.snow_base.specs.declared.vote.Vote.{Vote}
-use Rattle.snow_base.specs.Identifier.{bit, bits, AgreeFrom}
-use Rattle.snow_base.specs.Split.{HaveBit}
-use Rattle.snow_base.specs.Votes.{total_count}
+use Rattle.snow_base.specs.Model.Identifier.{bit, bits, AgreeFrom}
+use Rattle.snow_base.specs.Kept.Split.{HaveBit}
+use Rattle.snow_base.specs.Model.Votes.{total_count}
 use Rattle.snow_base.proofs.Bits.{drop-bits}
-use Rattle.snow_flake.specs.Parameters.{Parameters, AreGood}
-use Rattle.snow_flake.specs.Counter.{Counter, fresh, stepped, admits}
-use Rattle.snow_flake.specs.Instance.{on_side}
-use Rattle.snow_board.specs.Conflict.{Counters, Blank, At, with_child, all_polled}
-use Rattle.snow_board.specs.FailingLaw.{failed}
-use Rattle.snow_board.specs.Walk.{votes_from}
+use Rattle.snow_flake.specs.Model.Parameters.{Parameters, AreGood}
+use Rattle.snow_flake.specs.Model.Counter.{Counter, fresh, stepped, admits}
+use Rattle.snow_flake.specs.Kept.Instance.{on_side}
+use Rattle.snow_board.specs.Model.Conflict.{Counters, Blank, At, with_child, all_polled}
+use Rattle.snow_board.specs.Laws.FailingLaw.{failed}
+use Rattle.snow_board.specs.Kept.Walk.{votes_from}
 use Rattle.snow_board.proofs.Failing.{quiet, fails, admits-quiet}
 use Rattle.snow_board.proofs.Excluding.{closed_stays}
 use Rattle.snow_board.proofs.Polling.{votes_same, votes_other}
-use Rattle.snow_trie.specs.Stamped.{span, between, linked, strand, pruned}
+use Rattle.snow_trie.specs.Kept.Stamped.{span, between, linked, strand, pruned}
 
 -- ---- the bits of an identifier
 

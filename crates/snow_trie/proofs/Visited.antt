@@ -5,25 +5,25 @@ use Rattle.std.specs.List.{starts_with}
 use Rattle.std.proofs.lemmas.Bool.{cases_lt}
 use Rattle.std.proofs.lemmas.List.Sums.{sum_by-take-drop}
 use Rattle.snow_base.specs.declared.vote.Vote.{Vote}
-use Rattle.snow_base.specs.Identifier.{bits, AgreeFrom}
-use Rattle.snow_base.specs.Split.{AgreeBelow, HaveBit}
-use Rattle.snow_base.specs.Votes.{total_count}
-use Rattle.snow_flake.specs.Parameters.{Parameters, AreGood}
-use Rattle.snow_flake.specs.Counter.{Counter, stepped, admits, is_decided}
-use Rattle.snow_flake.specs.Instance.{on_side, at_bit}
-use Rattle.snow_board.specs.Conflict.{all_polled}
-use Rattle.snow_board.specs.Walk.{votes_from}
+use Rattle.snow_base.specs.Model.Identifier.{bits, AgreeFrom}
+use Rattle.snow_base.specs.Kept.Split.{AgreeBelow, HaveBit}
+use Rattle.snow_base.specs.Model.Votes.{total_count}
+use Rattle.snow_flake.specs.Model.Parameters.{Parameters, AreGood}
+use Rattle.snow_flake.specs.Model.Counter.{Counter, stepped, admits, is_decided}
+use Rattle.snow_flake.specs.Kept.Instance.{on_side, at_bit}
+use Rattle.snow_board.specs.Model.Conflict.{all_polled}
+use Rattle.snow_board.specs.Kept.Walk.{votes_from}
 use Rattle.snow_board.proofs.Failing.{few_fail}
 use Rattle.snow_board.proofs.Below.{counted_more}
 use Rattle.snow_board.proofs.Polling.{below_zero, below_one}
 use Rattle.snow_trie.specs.declared.run.Run.{Run}
 use Rattle.snow_trie.specs.declared.fork.Fork.{Fork}
-use Rattle.snow_trie.specs.Counted.{run_counter, fork_counter}
-use Rattle.snow_trie.specs.Tree.{Tree, Tip, Line, Two}
-use Rattle.snow_trie.specs.Stamped.{between, strand, pruned, counters}
-use Rattle.snow_trie.specs.Outline.{Outline, Straight, Split, outline, Leads}
-use Rattle.snow_trie.specs.Shape.{IsPlaced, IsStamped}
-use Rattle.snow_trie.specs.Polled.{IsPolled, IsRestamped}
+use Rattle.snow_trie.specs.Kept.Counted.{run_counter, fork_counter}
+use Rattle.snow_trie.specs.Kept.Tree.{Tree, Tip, Line, Two}
+use Rattle.snow_trie.specs.Kept.Stamped.{between, strand, pruned, counters}
+use Rattle.snow_trie.specs.Kept.Outline.{Outline, Straight, Split, outline, Leads}
+use Rattle.snow_trie.specs.Kept.Shape.{IsPlaced, IsStamped}
+use Rattle.snow_trie.specs.Kept.Polled.{IsPolled, IsRestamped}
 use Rattle.snow_trie.proofs.Ordered.{decided_final}
 use Rattle.snow_trie.proofs.Strands.{strand_same, polled_strand, polled_pruned}
 use Rattle.snow_trie.proofs.Stamps.{own_bit, later, stamped_later}

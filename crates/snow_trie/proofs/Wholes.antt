@@ -3,22 +3,22 @@ use Rattle.std.proofs.Common.{◌≡◌, inl, inr, ℕ, ◌+◌, ◌-◌, ◌^�
 use Rattle.std.proofs.lemmas.Bool.{eqb-true, cases_lt}
 use Rattle.std.proofs.lemmas.List.Elements.{All-contains, Contains-push, Contains-push_cases, Contains-append_left}
 use Rattle.snow_base.specs.declared.vote.Vote.{Vote}
-use Rattle.snow_base.specs.Identifier.{bit, bits, AgreeFrom}
-use Rattle.snow_base.specs.Votes.{total_count}
-use Rattle.snow_flake.specs.Parameters.{Parameters, AreGood}
-use Rattle.snow_flake.specs.Counter.{Decided, admits}
-use Rattle.snow_board.specs.Conflict.{Counters, Blank, with_child, all_polled, votes_on}
-use Rattle.snow_board.specs.FailingLaw.{failed}
-use Rattle.snow_board.specs.Walk.{votes_from}
+use Rattle.snow_base.specs.Model.Identifier.{bit, bits, AgreeFrom}
+use Rattle.snow_base.specs.Model.Votes.{total_count}
+use Rattle.snow_flake.specs.Model.Parameters.{Parameters, AreGood}
+use Rattle.snow_flake.specs.Model.Counter.{Decided, admits}
+use Rattle.snow_board.specs.Model.Conflict.{Counters, Blank, with_child, all_polled, votes_on}
+use Rattle.snow_board.specs.Laws.FailingLaw.{failed}
+use Rattle.snow_board.specs.Kept.Walk.{votes_from}
 use Rattle.snow_board.proofs.Failing.{few_fail}
-use Rattle.snow_trie.specs.Tree.{Tree, Tip, Line, Two}
-use Rattle.snow_trie.specs.Stamped.{between, linked, strand, counters, whole}
-use Rattle.snow_trie.specs.Outline.{Outline, Leaf, Straight, Split, outline, size, Leads, IsLeaf, IsSorted}
-use Rattle.snow_trie.specs.Shape.{IsPlaced, IsStamped, IsOrdered}
-use Rattle.snow_trie.specs.Growing.{differs_at, or_parted, branch, grown}
-use Rattle.snow_trie.specs.Peeling.{peeled, first_leaf}
-use Rattle.snow_trie.specs.Polled.{IsPolled, IsRestamped, IsNarrowed}
-use Rattle.snow_trie.specs.Whole.{added, next_leader, nodes_of, IsWhole, Compressed, HasFewNodes}
+use Rattle.snow_trie.specs.Kept.Tree.{Tree, Tip, Line, Two}
+use Rattle.snow_trie.specs.Kept.Stamped.{between, linked, strand, counters, whole}
+use Rattle.snow_trie.specs.Kept.Outline.{Outline, Leaf, Straight, Split, outline, size, Leads, IsLeaf, IsSorted}
+use Rattle.snow_trie.specs.Kept.Shape.{IsPlaced, IsStamped, IsOrdered}
+use Rattle.snow_trie.specs.Kept.Growing.{differs_at, or_parted, branch, grown}
+use Rattle.snow_trie.specs.Kept.Peeling.{peeled, first_leaf}
+use Rattle.snow_trie.specs.Kept.Polled.{IsPolled, IsRestamped, IsNarrowed}
+use Rattle.snow_trie.specs.Kept.Whole.{added, next_leader, nodes_of, IsWhole, Compressed, HasFewNodes}
 use Rattle.snow_trie.proofs.Strands.{between_split, between_first, between_same, strand-append, polled_linked, failed_strand, grown_strand, parted_strand, forked}
 use Rattle.snow_trie.proofs.Stamps.{later, stamped_later}
 use Rattle.snow_trie.proofs.Parting.{IsParting, agrees, parts}

@@ -1,9 +1,1 @@
-pub mod Counted
-pub mod Tree
-pub mod Stamped
-pub mod Outline
-pub mod Shape
-pub mod Growing
-pub mod Peeling
-pub mod Polled
-pub mod Whole
+pub mod Kept

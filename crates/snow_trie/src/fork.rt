@@ -1,9 +1,9 @@
 ghost use Rattle.std.specs.Prelude.{◌≡◌, ℕ, ◌+◌, ◌^◌, ◌<◌, false, true};
-ghost use Rattle.snow_flake.specs.Counter.{stepped};
-ghost use Rattle.snow_flake.specs.Rule.{answer_of};
-ghost use Rattle.snow_flake.specs.Instance.{counter_of};
-ghost use Rattle.snow_trie.specs.Counted.{fork_counter, standing_at};
-ghost use Rattle.snow_trie.specs.Growing.{fork_of};
+ghost use Rattle.snow_flake.specs.Model.Counter.{stepped};
+ghost use Rattle.snow_flake.specs.Model.Rule.{answer_of};
+ghost use Rattle.snow_flake.specs.Kept.Instance.{counter_of};
+ghost use Rattle.snow_trie.specs.Kept.Counted.{fork_counter, standing_at};
+ghost use Rattle.snow_trie.specs.Kept.Growing.{fork_of};
 
 use crate::run::Run;
 use snow_flake::{Binary, Params, Rule};

@@ -1,9 +1,9 @@
 ghost use Rattle.std.specs.Prelude.{◌≡◌, ◌+◌, ◌<◌, IfOk, OnOk, OnErr};
-ghost use Rattle.snow_base.specs.Identifier.{bit};
-ghost use Rattle.snow_trie.specs.Tree.{Tip, Line, tree_of};
-ghost use Rattle.snow_trie.specs.Shape.{IsPlaced};
-ghost use Rattle.snow_trie.specs.Growing.{grown, branch, parted, before, after, joined, fork_of};
-ghost use Rattle.snow_trie.specs.Whole.{added};
+ghost use Rattle.snow_base.specs.Model.Identifier.{bit};
+ghost use Rattle.snow_trie.specs.Kept.Tree.{Tip, Line, tree_of};
+ghost use Rattle.snow_trie.specs.Kept.Shape.{IsPlaced};
+ghost use Rattle.snow_trie.specs.Kept.Growing.{grown, branch, parted, before, after, joined, fork_of};
+ghost use Rattle.snow_trie.specs.Kept.Whole.{added};
 
 use crate::fork::Fork;
 use crate::node::{self, Node};

@@ -1,9 +1,9 @@
 ghost use Rattle.std.specs.Prelude.{◌≡◌, ◌+◌, ◌<◌, ◌≤◌, Bool, List, ◌∷◌, ◌++◌, All, Contains};
-ghost use Rattle.snow_base.specs.Split.{AgreeBelow, HaveBit};
-ghost use Rattle.snow_base.specs.Votes.{IsInBitOrder, total_count};
-ghost use Rattle.snow_board.specs.Walk.{votes_from};
-ghost use Rattle.snow_trie.specs.Stamped.{between};
-ghost use Rattle.snow_trie.specs.Polled.{IsNarrowed};
+ghost use Rattle.snow_base.specs.Kept.Split.{AgreeBelow, HaveBit};
+ghost use Rattle.snow_base.specs.Model.Votes.{IsInBitOrder, total_count};
+ghost use Rattle.snow_board.specs.Kept.Walk.{votes_from};
+ghost use Rattle.snow_trie.specs.Kept.Stamped.{between};
+ghost use Rattle.snow_trie.specs.Kept.Polled.{IsNarrowed};
 
 use snow_base::{Id, Vote, split};
 use snow_flake::Params;

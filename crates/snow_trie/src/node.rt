@@ -1,10 +1,10 @@
 ghost use Rattle.std.specs.Prelude.{◌≡◌, ◌+◌, ◌-◌, ◌^◌, ◌<◌, ◌≤◌, Option};
-ghost use Rattle.snow_flake.specs.Rule.{answer_of};
-ghost use Rattle.snow_trie.specs.Tree.{tree_of};
-ghost use Rattle.snow_trie.specs.Outline.{size};
-ghost use Rattle.snow_trie.specs.Shape.{IsPlaced};
-ghost use Rattle.snow_trie.specs.Growing.{parting, branch};
-ghost use Rattle.snow_trie.specs.Peeling.{preferred, first_leaf};
+ghost use Rattle.snow_flake.specs.Model.Rule.{answer_of};
+ghost use Rattle.snow_trie.specs.Kept.Tree.{tree_of};
+ghost use Rattle.snow_trie.specs.Kept.Outline.{size};
+ghost use Rattle.snow_trie.specs.Kept.Shape.{IsPlaced};
+ghost use Rattle.snow_trie.specs.Kept.Growing.{parting, branch};
+ghost use Rattle.snow_trie.specs.Kept.Peeling.{preferred, first_leaf};
 
 use crate::fork::Fork;
 use crate::run::Run;

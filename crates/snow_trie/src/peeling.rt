@@ -1,8 +1,8 @@
 ghost use Rattle.std.specs.Prelude.{◌≡◌, ℕ, ◌+◌, ◌<◌, false};
-ghost use Rattle.snow_trie.specs.Tree.{Tip, Line, tree_of};
-ghost use Rattle.snow_trie.specs.Shape.{IsPlaced};
-ghost use Rattle.snow_trie.specs.Peeling.{peeled};
-ghost use Rattle.snow_trie.specs.Whole.{next_leader};
+ghost use Rattle.snow_trie.specs.Kept.Tree.{Tip, Line, tree_of};
+ghost use Rattle.snow_trie.specs.Kept.Shape.{IsPlaced};
+ghost use Rattle.snow_trie.specs.Kept.Peeling.{peeled};
+ghost use Rattle.snow_trie.specs.Kept.Whole.{next_leader};
 
 use crate::node::{Node, first_leaf};
 use crate::run::Run;

@@ -1,11 +1,11 @@
 ghost use Rattle.std.specs.Prelude.{◌≡◌, ◌+◌, ◌^◌, ◌<◌, ◌≤◌, false, max, All};
-ghost use Rattle.snow_base.specs.Split.{AgreeBelow};
-ghost use Rattle.snow_base.specs.Votes.{IsInBitOrder, total_count};
-ghost use Rattle.snow_trie.specs.Tree.{tree_of};
-ghost use Rattle.snow_trie.specs.Outline.{outline, size, Leads};
-ghost use Rattle.snow_trie.specs.Shape.{IsPlaced, IsStamped};
-ghost use Rattle.snow_trie.specs.Polled.{IsPolled, IsRestamped};
-ghost use Rattle.snow_trie.specs.Peeling.{preferred};
+ghost use Rattle.snow_base.specs.Kept.Split.{AgreeBelow};
+ghost use Rattle.snow_base.specs.Model.Votes.{IsInBitOrder, total_count};
+ghost use Rattle.snow_trie.specs.Kept.Tree.{tree_of};
+ghost use Rattle.snow_trie.specs.Kept.Outline.{outline, size, Leads};
+ghost use Rattle.snow_trie.specs.Kept.Shape.{IsPlaced, IsStamped};
+ghost use Rattle.snow_trie.specs.Kept.Polled.{IsPolled, IsRestamped};
+ghost use Rattle.snow_trie.specs.Kept.Peeling.{preferred};
 
 use crate::narrowing::total;
 use crate::node::Node;

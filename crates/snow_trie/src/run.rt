@@ -1,8 +1,8 @@
 ghost use Rattle.std.specs.Prelude.{◌≡◌, ◌+◌, ◌^◌, ◌<◌, Bool, true, false};
-ghost use Rattle.snow_flake.specs.Counter.{stepped};
-ghost use Rattle.snow_flake.specs.Instance.{on_side, at_bit};
-ghost use Rattle.snow_trie.specs.Counted.{run_counter, standing_at};
-ghost use Rattle.snow_trie.specs.Growing.{fresh_run};
+ghost use Rattle.snow_flake.specs.Model.Counter.{stepped};
+ghost use Rattle.snow_flake.specs.Kept.Instance.{on_side, at_bit};
+ghost use Rattle.snow_trie.specs.Kept.Counted.{run_counter, standing_at};
+ghost use Rattle.snow_trie.specs.Kept.Growing.{fresh_run};
 
 use snow_base::Id;
 use snow_flake::{Params, Unary};

@@ -37,9 +37,9 @@ pub struct Trie<R: Rule> {
 
 impl<R: Rule> Model for Trie<R> {
     ghost use Rattle.std.specs.Prelude.{◌∷◌};
-    ghost use Rattle.snow_trie.specs.Tree.{tree_of};
-    ghost use Rattle.snow_trie.specs.Stamped.{whole};
-    ghost use Rattle.snow_trie.specs.Whole.{Compressed, coded_compressed, nodes_of, IsWhole};
+    ghost use Rattle.snow_trie.specs.Kept.Tree.{tree_of};
+    ghost use Rattle.snow_trie.specs.Kept.Stamped.{whole};
+    ghost use Rattle.snow_trie.specs.Kept.Whole.{Compressed, coded_compressed, nodes_of, IsWhole};
 
     ghost Value = { Compressed };
 
@@ -64,11 +64,11 @@ fn has_moved(moved: bool, before: u64, polls: u64, from: u16, decided: u16) -> b
 }
 
 impl<R: Rule> Trie<R> {
-    ghost use Rattle.snow_base.specs.Identifier.{bits};
-    ghost use Rattle.snow_base.specs.Votes.{IsInBitOrder, total_count};
-    ghost use Rattle.snow_board.specs.Conflict.{with_child, all_polled, votes_on, chosen, decided_path};
-    ghost use Rattle.snow_board.specs.FailingLaw.{failed};
-    ghost use Rattle.snow_trie.specs.Whole.{begun, HasFewNodes};
+    ghost use Rattle.snow_base.specs.Model.Identifier.{bits};
+    ghost use Rattle.snow_base.specs.Model.Votes.{IsInBitOrder, total_count};
+    ghost use Rattle.snow_board.specs.Model.Conflict.{with_child, all_polled, votes_on, chosen, decided_path};
+    ghost use Rattle.snow_board.specs.Laws.FailingLaw.{failed};
+    ghost use Rattle.snow_trie.specs.Kept.Whole.{begun, HasFewNodes};
 
     /// Returns the counters where one identifier stands alone: one node. On want of memory it
     /// returns `AllocError`.

@@ -6,7 +6,7 @@ use Rattle.std.proofs.Math.Seq.{take-append-add, take-append_seam}
 use Rattle.std.proofs.lemmas.List.{take_all, take-append-le, length-drop, length-take-le, drop-take}
 use Rattle.std.proofs.lemmas.List.Edits.{take-paste}
 use borrow.Rule.Slice.PartMut.{put_mid, post_of}
-use Rattle.snow_wire.specs.Filling.{TakesIn}
+use Rattle.snow_wire.specs.Clauses.Filling.{TakesIn}
 
 -- a front stays where the list grows
 pub grown : (xs ys : List ℕ) (end n : ℕ) → end ≤ length xs → length xs ≤ n → take end (take n xs ++ ys) ≡ take end xs

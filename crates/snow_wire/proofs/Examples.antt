@@ -2,10 +2,10 @@
 use Rattle.std.proofs.Common.{◌≡◌, ℕ, false, List, [], ◌∷◌, ◌++◌, replicate, take, Ok, Err, refl}
 use Rattle.snow_wire.specs.declared.event.Event.{Event}
 use Rattle.snow_wire.specs.declared.event.Event.TheVariants as event
-use Rattle.snow_wire.specs.Spelling.{number, spelling}
+use Rattle.snow_wire.specs.Model.Spelling.{number, spelling}
 use Rattle.snow_wire.specs.declared.fault.Fault.TheVariants.{Tag, Short, Extra, Count}
-use Rattle.snow_wire.specs.Reading.{bytes_at, number_at, limited_at, flag_at, sized_at, items_at, counted_at, start_at, single_at, message_at, fields_at, event_of}
-use Rattle.snow_wire.specs.Frame.{first_of, frames_in, frames_of}
+use Rattle.snow_wire.specs.Model.Reading.{bytes_at, number_at, limited_at, flag_at, sized_at, items_at, counted_at, start_at, single_at, message_at, fields_at, event_of}
+use Rattle.snow_wire.specs.Model.Frame.{first_of, frames_in, frames_of}
 
 -- an identifier by its first byte
 abbrev id_of : ℕ → List ℕ

@@ -3,8 +3,8 @@ use Rattle.std.proofs.Common.{◌≡◌, ℕ, zero, suc, ◌+◌, ◌<◌, ◌�
 use Rattle.std.proofs.lemmas.Bool.Decides.{nat_tests}
 use Rattle.std.proofs.lemmas.List.{length-append, length-drop, take-append-le, drop-append-le}
 use Rattle.byteorder.specs.Numbers.{big_from-append}
-use Rattle.snow_wire.specs.Frame.{length_word, is_whole, is_too_long, first_of, led_by, frames_in, frames_of}
-use Rattle.snow_wire.specs.Stream.{Intake, without, taken}
+use Rattle.snow_wire.specs.Model.Frame.{length_word, is_whole, is_too_long, first_of, led_by, frames_in, frames_of}
+use Rattle.snow_wire.specs.Clauses.Stream.{Intake, without, taken}
 use Rattle.snow_wire.proofs.Streams.{IsWhole, whole_if, if_whole, given_if, long_first, frames_front, frames_end}
 
 -- frames that were given, and what is behind them

@@ -3,8 +3,8 @@ use Rattle.std.proofs.Common.{◌≡◌, ℕ, ◌^◌, ◌<◌, ◌≤◌, List,
 use Rattle.snow_wire.specs.declared.event.Event.{Event}
 use Rattle.snow_wire.specs.declared.event.Event.TheVariants as event
 use Rattle.snow_wire.specs.declared.event.Start.{Start}
-use Rattle.snow_wire.specs.Spelling.{number, spelling, start, parameters, counted, weighed, flag, IsWeighed, IsSizedStart, IsInRange}
-use Rattle.snow_wire.specs.Reading.{IsBytes, number_at, counted_at, weighed_at, start_at}
+use Rattle.snow_wire.specs.Model.Spelling.{number, spelling, start, parameters, counted, weighed, flag, IsWeighed, IsSizedStart, IsInRange}
+use Rattle.snow_wire.specs.Model.Reading.{IsBytes, number_at, counted_at, weighed_at, start_at}
 use Rattle.snow_wire.proofs.Numbers.{width4, width8}
 use Rattle.snow_wire.proofs.Fields.{IsField, by_step, again_then, join, bytes_field, number_field, flag_field, counted_field, weighed_field}
 use Rattle.snow_wire.proofs.Tagged.{IsTagged, HasFields, tagged}

@@ -6,9 +6,9 @@ use Rattle.std.proofs.lemmas.List.{take_at, drop_at, drop-drop, take-append-drop
 use Rattle.std.proofs.lemmas.List.Concat.{flat_map-cons}
 use Rattle.std.proofs.lemmas.List.Elements.{All-nil, All-cons, recursion_from_All}
 use Rattle.byteorder.specs.Numbers.{big_number-reads_back, length-bytes_high_first}
-use Rattle.snow_wire.specs.Spelling.{number}
-use Rattle.snow_wire.specs.Reading.{IsBytes}
-use Rattle.snow_wire.specs.Frame.{IsPayload, IsRest, AreFrames, frame, length_word, is_whole, is_too_long, first_of, led_by, frames_in, frames_of}
+use Rattle.snow_wire.specs.Model.Spelling.{number}
+use Rattle.snow_wire.specs.Model.Reading.{IsBytes}
+use Rattle.snow_wire.specs.Model.Frame.{IsPayload, IsRest, AreFrames, frame, length_word, is_whole, is_too_long, first_of, led_by, frames_in, frames_of}
 use Rattle.snow_wire.proofs.Numbers.{IsBytes-behind, width4, front_spells}
 
 -- ---- the first frame

@@ -1,8 +1,8 @@
 -- The fields behind a tag: those that are read are those that the event's spelling has there.
 use Rattle.std.proofs.Common.{◌≡◌, ℕ, List, [], ◌∷◌, ◌++◌, Ok, sym, ap, subst, ◌∙◌, append_assoc, append-nil}
 use Rattle.snow_wire.specs.declared.event.Event.{Event}
-use Rattle.snow_wire.specs.Spelling.{number, spelling, sender, IsSender, IsInRange}
-use Rattle.snow_wire.specs.Reading.{IsBytes, Read, ◌>>=◌, number_at, single_at, sender_at, message_at}
+use Rattle.snow_wire.specs.Model.Spelling.{number, spelling, sender, IsSender, IsInRange}
+use Rattle.snow_wire.specs.Model.Reading.{IsBytes, Read, ◌>>=◌, number_at, single_at, sender_at, message_at}
 use Rattle.snow_wire.proofs.Numbers.{width4}
 use Rattle.snow_wire.proofs.Fields.{IsField, step, again_then, ok_is, done, join, bytes_field, number_field}
 

@@ -1,6 +1,2 @@
-pub mod Spelling
-pub mod Reading
-pub mod Filling
-pub mod Frame
-pub mod Stream
-pub mod Viewed
+pub mod Model
+pub mod Clauses

@@ -1,7 +1,7 @@
 ghost use Rattle.std.specs.Prelude.{◌≡◌, ◌^◌, ◌<◌, ◌≤◌, ◌++◌, [], length, drop, Ok, IfOk, OnOk, OnErr};
 ghost use Rattle.std.specs.Io.KnownBytes.{IsAtEnd, Keeps};
-ghost use Rattle.snow_base.specs.Outside.{HasCause};
-ghost use Rattle.snow_wire.specs.Filling.{TakesIn};
+ghost use Rattle.snow_base.specs.Clauses.Outside.{HasCause};
+ghost use Rattle.snow_wire.specs.Clauses.Filling.{TakesIn};
 
 use snow_base::{Failed, Source};
 use std::alloc::{AllocError, Global};
@@ -17,7 +17,7 @@ pub(crate) struct Buffer {
 
 impl Model for Buffer {
     ghost use Rattle.std.specs.Prelude.{take, ◌-◌, ◌≤◌, vec_len};
-    ghost use Rattle.snow_wire.specs.Filling.{Filled};
+    ghost use Rattle.snow_wire.specs.Clauses.Filling.{Filled};
 
     ghost Value = { Filled };
 

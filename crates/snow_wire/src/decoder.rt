@@ -2,7 +2,7 @@ ghost use Rattle.std.specs.Prelude.{◌≡◌, ◌-◌, ◌^◌, ◌<◌, ◌≤
 ghost use Rattle.std.specs.Borrow.{sem};
 ghost use Rattle.std.specs.Io.BufRead.{Rests};
 ghost use Rattle.std.specs.Io.KnownBytes.{IsAtEnd, Keeps};
-ghost use Rattle.snow_base.specs.Outside.{Rose};
+ghost use Rattle.snow_base.specs.Clauses.Outside.{Rose};
 ghost use Rattle.snow_wire.specs.declared.decoder.ReadFault.TheVariants as fault;
 
 use crate::buffer::Buffer;
@@ -39,7 +39,7 @@ pub struct Decoder {
 
 impl Model for Decoder {
     ghost use Rattle.std.specs.Prelude.{◌≤◌, drop, length};
-    ghost use Rattle.snow_wire.specs.Stream.{Intake};
+    ghost use Rattle.snow_wire.specs.Clauses.Stream.{Intake};
 
     ghost Value = { Intake };
 
@@ -49,8 +49,8 @@ impl Model for Decoder {
 }
 
 impl Decoder {
-    ghost use Rattle.snow_wire.specs.Filling.{TakesIn};
-    ghost use Rattle.snow_wire.specs.Stream.{IsNext, fed, fresh, taken};
+    ghost use Rattle.snow_wire.specs.Clauses.Filling.{TakesIn};
+    ghost use Rattle.snow_wire.specs.Clauses.Stream.{IsNext, fed, fresh, taken};
     ghost use Rattle.snow_wire.specs.contracts.decoder.Decoder.{the_row};
 
     /// Returns a decoder that got no byte yet. It takes no memory.

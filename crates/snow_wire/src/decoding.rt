@@ -1,7 +1,7 @@
 ghost use Rattle.std.specs.Prelude.{◌≡◌, Ok, IfOk};
 ghost use Rattle.snow_wire.specs.declared.event.Event.{Event};
-ghost use Rattle.snow_wire.specs.Spelling.{IsInRange, spelling};
-ghost use Rattle.snow_wire.specs.Reading.{Gives, event_of};
+ghost use Rattle.snow_wire.specs.Model.Spelling.{IsInRange, spelling};
+ghost use Rattle.snow_wire.specs.Model.Reading.{Gives, event_of};
 
 use crate::event::Event;
 use crate::skip::Skip;

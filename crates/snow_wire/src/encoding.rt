@@ -1,5 +1,5 @@
 ghost use Rattle.std.specs.Prelude.{◌≡◌, ◌<◌, ◌^◌, ◌∷◌, ◌++◌, length, All, IfOk, OnOk};
-ghost use Rattle.snow_wire.specs.Spelling.{IsWithinLimits, spelling, start, parameters, flag, number, sender, sized, counted};
+ghost use Rattle.snow_wire.specs.Model.Spelling.{IsWithinLimits, spelling, start, parameters, flag, number, sender, sized, counted};
 
 use crate::event::{Event, Start};
 use crate::field::{Field, write_counted, write_sized, write_u32, write_u64};

@@ -1,5 +1,5 @@
 ghost use Rattle.std.specs.Prelude.{◌≡◌, ◌<◌, ◌^◌, ◌++◌, List, ℕ, length, All, OnOk, ⊤};
-ghost use Rattle.snow_wire.specs.Spelling.{IsBlock, counted, number, sized, weighed};
+ghost use Rattle.snow_wire.specs.Model.Spelling.{IsBlock, counted, number, sized, weighed};
 
 use byteorder::{BigEndian, ByteOrder};
 use snow_base::{Bytes, Id, Items, NodeId};

@@ -1,6 +1,6 @@
 ghost use Rattle.std.specs.Prelude.{◌≡◌, ◌+◌, length, IfSome, Some, None, if◌then◌else◌};
 ghost use Rattle.std.specs.Option.{option_map};
-ghost use Rattle.snow_wire.specs.Frame.{first_of, is_too_long, length_word};
+ghost use Rattle.snow_wire.specs.Model.Frame.{first_of, is_too_long, length_word};
 
 use byteorder::{BigEndian, ByteOrder};
 

@@ -1,8 +1,8 @@
 ghost use Rattle.std.specs.Prelude.{◌≡◌, ◌≢◌, ◌++◌, ℕ, List, Ok, IsSome};
 ghost use Rattle.snow_wire.specs.declared.event.Event.{Event};
-ghost use Rattle.snow_wire.specs.Spelling.{IsInRange, spelling};
-ghost use Rattle.snow_wire.specs.Reading.{IsBytes, event_of};
-ghost use Rattle.snow_wire.specs.Frame.{AreFrames, IsPayload, frame, frames_of};
+ghost use Rattle.snow_wire.specs.Model.Spelling.{IsInRange, spelling};
+ghost use Rattle.snow_wire.specs.Model.Reading.{IsBytes, event_of};
+ghost use Rattle.snow_wire.specs.Model.Frame.{AreFrames, IsPayload, frame, frames_of};
 
 /// Each event in range is read back from its spelling, and no other payload is read as it. No
 /// payload is read as an event that is out of range.

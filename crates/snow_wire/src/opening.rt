@@ -1,6 +1,6 @@
 ghost use Rattle.std.specs.Prelude.{◌≡◌, IfOk};
-ghost use Rattle.snow_wire.specs.Reading.{ReadsAs, start_at};
-ghost use Rattle.snow_wire.specs.Viewed.{as_start};
+ghost use Rattle.snow_wire.specs.Model.Reading.{ReadsAs, start_at};
+ghost use Rattle.snow_wire.specs.Clauses.Viewed.{as_start};
 ghost use Rattle.snow_wire.specs.declared.event.Event.TheVariants as event;
 
 use crate::event::Start;

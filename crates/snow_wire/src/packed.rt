@@ -1,6 +1,6 @@
 ghost use Rattle.std.specs.Prelude.{◌≡◌, IfOk};
 ghost use Rattle.std.specs.Iterator.{YieldsFirstRef};
-ghost use Rattle.snow_wire.specs.Reading.{ReadsAs, block_at, counted_at, items_at, items_in};
+ghost use Rattle.snow_wire.specs.Model.Reading.{ReadsAs, block_at, counted_at, items_at, items_in};
 
 use crate::fault::Fault;
 use crate::reader::{MAX_BLOCK, Reader};
@@ -19,7 +19,7 @@ pub struct Packed<'a> {
 
 impl<'a> Model for Packed<'a> {
     ghost use Rattle.std.specs.Prelude.{ℕ, List, IsOk};
-    ghost use Rattle.snow_wire.specs.Reading.{block_at, items_at, items_in};
+    ghost use Rattle.snow_wire.specs.Model.Reading.{block_at, items_at, items_in};
 
     ghost Value = { List (List ℕ) };
 

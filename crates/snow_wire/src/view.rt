@@ -1,6 +1,6 @@
 ghost use Rattle.std.specs.Prelude.{◌≡◌, IfOk};
-ghost use Rattle.snow_wire.specs.Reading.{ReadsAs, event_of, fields_at};
-ghost use Rattle.snow_wire.specs.Viewed.{as_event, seen};
+ghost use Rattle.snow_wire.specs.Model.Reading.{ReadsAs, event_of, fields_at};
+ghost use Rattle.snow_wire.specs.Clauses.Viewed.{as_event, seen};
 
 use crate::event::Event;
 use crate::fault::Fault;

@@ -2,7 +2,7 @@
 #![tactic(auto)]
 
 ghost use Rattle.std.specs.Prelude.{◌≡◌, codes, if◌then◌else◌};
-ghost use Rattle.snow_cli.specs.Answer.{TookLine};
+ghost use Rattle.snow_cli.specs.Clauses.Answer.{TookLine};
 
 use snow_base::{ReadSource, Sink, WriteSink, write_whole};
 use snow_cli::top;

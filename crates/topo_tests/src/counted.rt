@@ -1,5 +1,5 @@
 ghost use Rattle.std.specs.Prelude.{◌≡◌, ◌<◌, ◌≤◌, true, All, IfOk};
-ghost use Rattle.snow_base.specs.Votes.{total_count};
+ghost use Rattle.snow_base.specs.Model.Votes.{total_count};
 
 use crate::tools::{chain, named, offer_all, record, votes_for};
 use snow_base::{Bag, Steps};

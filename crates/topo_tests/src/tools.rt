@@ -1,5 +1,5 @@
 ghost use Rattle.std.specs.Prelude.{◌≡◌, ◌<◌, ◌≤◌, length};
-ghost use Rattle.snow_base.specs.Votes.{total_count};
+ghost use Rattle.snow_base.specs.Model.Votes.{total_count};
 
 use snow_base::{Bag, Id};
 use snow_board::Board;

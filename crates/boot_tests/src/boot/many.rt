@@ -1,6 +1,6 @@
 //! Nodes that aim at many targets.
 
-ghost use Rattle.snow_boot.specs.Calling.{MayGoOn, OnGoing};
+ghost use Rattle.snow_boot.specs.Clauses.Calling.{MayGoOn, OnGoing};
 
 use super::{Order, Run, begin, fill, numbered};
 use snow_base::{Id, Ids, NodeId};

@@ -1,11 +1,11 @@
 ghost use Rattle.std.specs.Prelude.{◌≡◌, ◌≤◌};
-ghost use Rattle.snow_base.specs.Votes.{total_count};
-ghost use Rattle.snow_board.specs.Poll.{poll};
-ghost use Rattle.snow_board.specs.Board.{Board};
-ghost use Rattle.snow_poll.specs.Table.{answer};
-ghost use Rattle.snow_issue.specs.Known.{Knows, lists_of};
-ghost use Rattle.snow_node.specs.Closing as model;
-ghost use Rattle.snow_node.specs.Stepping.{Answers, Tells, Turns};
+ghost use Rattle.snow_base.specs.Model.Votes.{total_count};
+ghost use Rattle.snow_board.specs.Model.Poll.{poll};
+ghost use Rattle.snow_board.specs.Model.Board.{Board};
+ghost use Rattle.snow_poll.specs.Model.Table.{answer};
+ghost use Rattle.snow_issue.specs.Kept.Known.{Knows, lists_of};
+ghost use Rattle.snow_node.specs.Model.Closing as model;
+ghost use Rattle.snow_node.specs.Clauses.Stepping.{Answers, Tells, Turns};
 
 use crate::admitting::apply;
 use crate::reporting::tell;

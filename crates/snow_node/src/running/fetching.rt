@@ -1,11 +1,11 @@
 //! How a node that runs asks for blocks.
 
 ghost use Rattle.std.specs.Prelude.{◌≡◌, None, IfSome, OnOk};
-ghost use Rattle.snow_issue.specs.Lists.{has_number};
-ghost use Rattle.snow_node.specs.Kept.{MayFetch, AreBothOff};
-ghost use Rattle.snow_node.specs.Running.{numbered};
-ghost use Rattle.snow_node.specs.Hearing as model;
-ghost use Rattle.snow_node.specs.Stepping.{Tells, Turns};
+ghost use Rattle.snow_issue.specs.Model.Lists.{has_number};
+ghost use Rattle.snow_node.specs.Kept.Tied.{MayFetch, AreBothOff};
+ghost use Rattle.snow_node.specs.Model.Running.{numbered};
+ghost use Rattle.snow_node.specs.Model.Hearing as model;
+ghost use Rattle.snow_node.specs.Clauses.Stepping.{Tells, Turns};
 
 use crate::running::Running;
 use crate::stop::Halt;

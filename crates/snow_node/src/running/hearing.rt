@@ -2,12 +2,12 @@ ghost use Rattle.std.specs.Prelude.{◌≡◌, Some, None, true, false, IfOk, If
 ghost use Rattle.snow_lines.specs.declared.line.Line.TheVariants as line;
 ghost use Rattle.snow_lines.specs.declared.why.SkipKind.TheVariants as kind;
 ghost use Rattle.snow_issue.specs.declared.work.Waiting.{Waiting as Block};
-ghost use Rattle.snow_issue.specs.Lists.{holds_in};
-ghost use Rattle.snow_node.specs.Hearing as model;
-ghost use Rattle.snow_node.specs.Closing.{closed_out};
-ghost use Rattle.snow_node.specs.Outcome.{then_comes, with_line};
-ghost use Rattle.snow_node.specs.Settling.{placed, settled};
-ghost use Rattle.snow_node.specs.Stepping.{Tells, Turns};
+ghost use Rattle.snow_issue.specs.Model.Lists.{holds_in};
+ghost use Rattle.snow_node.specs.Model.Hearing as model;
+ghost use Rattle.snow_node.specs.Model.Closing.{closed_out};
+ghost use Rattle.snow_node.specs.Model.Outcome.{then_comes, with_line};
+ghost use Rattle.snow_node.specs.Model.Settling.{placed, settled};
+ghost use Rattle.snow_node.specs.Clauses.Stepping.{Tells, Turns};
 
 use crate::reporting::{drop_block, write};
 use crate::running::Running;

@@ -1,8 +1,8 @@
 ghost use Rattle.std.specs.Prelude.{◌≡◌, ◌<◌, [], length, true, Err};
-ghost use Rattle.snow_sample.specs.Sampling.{sample_of, draw_count, AreOfDistinctNodes};
-ghost use Rattle.snow_node.specs.Running.{numbered};
-ghost use Rattle.snow_node.specs.Querying as model;
-ghost use Rattle.snow_node.specs.Stepping.{Answers, Tells, Turns};
+ghost use Rattle.snow_sample.specs.Model.Sampling.{sample_of, draw_count, AreOfDistinctNodes};
+ghost use Rattle.snow_node.specs.Model.Running.{numbered};
+ghost use Rattle.snow_node.specs.Model.Querying as model;
+ghost use Rattle.snow_node.specs.Clauses.Stepping.{Answers, Tells, Turns};
 
 use crate::running::Running;
 use crate::stop::Halt;

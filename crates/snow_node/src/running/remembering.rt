@@ -1,7 +1,7 @@
 //! How far the node can trust what its queue remembers of the board.
 
 ghost use Rattle.std.specs.Prelude.{◌≡◌};
-ghost use Rattle.snow_node.specs.Remembering as model;
+ghost use Rattle.snow_node.specs.Kept.Remembering as model;
 
 use snow_base::Id;
 use snow_issue::Work;

@@ -1,16 +1,16 @@
 ghost use Rattle.std.specs.Prelude.{◌≡◌, true, IfSome};
-ghost use Rattle.snow_board.specs.Board.{height_of};
-ghost use Rattle.snow_board.specs.Preference.{is_preferred};
-ghost use Rattle.snow_board.specs.Reached.{MayIssue};
-ghost use Rattle.snow_chain.specs.Chain.{next_on};
-ghost use Rattle.snow_issue.specs.Known.{Knows, RestsAfter, lists_of};
-ghost use Rattle.snow_issue.specs.Settling.{after, work_of, IsIdle};
-ghost use Rattle.snow_node.specs.Remembering.{Remembers};
-ghost use Rattle.snow_node.specs.Kept.{IsApart, MayWork};
-ghost use Rattle.snow_node.specs.Outcome.{then_comes};
-ghost use Rattle.snow_node.specs.Placing.{opposed};
-ghost use Rattle.snow_node.specs.Settling as model;
-ghost use Rattle.snow_node.specs.Stepping.{Answers, Tells, Turns};
+ghost use Rattle.snow_board.specs.Model.Board.{height_of};
+ghost use Rattle.snow_board.specs.Model.Preference.{is_preferred};
+ghost use Rattle.snow_board.specs.Laws.Reached.{MayIssue};
+ghost use Rattle.snow_chain.specs.Model.Chain.{next_on};
+ghost use Rattle.snow_issue.specs.Kept.Known.{Knows, RestsAfter, lists_of};
+ghost use Rattle.snow_issue.specs.Model.Settling.{after, work_of, IsIdle};
+ghost use Rattle.snow_node.specs.Kept.Remembering.{Remembers};
+ghost use Rattle.snow_node.specs.Kept.Tied.{IsApart, MayWork};
+ghost use Rattle.snow_node.specs.Model.Outcome.{then_comes};
+ghost use Rattle.snow_node.specs.Model.Placing.{opposed};
+ghost use Rattle.snow_node.specs.Model.Settling as model;
+ghost use Rattle.snow_node.specs.Clauses.Stepping.{Answers, Tells, Turns};
 
 use crate::admitting::opposition;
 use crate::reporting::{drop_block, tell};

@@ -1,10 +1,10 @@
 ghost use Rattle.std.specs.Prelude.{◌≡◌, [], Err, IfOk, OnOk, OnErr};
-ghost use Rattle.snow_board.specs.Board.{issued};
-ghost use Rattle.snow_board.specs.Reached.{MayIssue};
-ghost use Rattle.snow_chain.specs.Chain.{next_on};
-ghost use Rattle.snow_node.specs.Matching.{IsSteady, Admits};
-ghost use Rattle.snow_node.specs.Supplying as model;
-ghost use Rattle.snow_node.specs.Supplying.{Serves};
+ghost use Rattle.snow_board.specs.Model.Board.{issued};
+ghost use Rattle.snow_board.specs.Laws.Reached.{MayIssue};
+ghost use Rattle.snow_chain.specs.Model.Chain.{next_on};
+ghost use Rattle.snow_node.specs.Clauses.Matching.{IsSteady, Admits};
+ghost use Rattle.snow_node.specs.Model.Supplying as model;
+ghost use Rattle.snow_node.specs.Model.Supplying.{Serves};
 
 use snow_base::{Bytes, Header};
 use snow_board::{Board, Decision};

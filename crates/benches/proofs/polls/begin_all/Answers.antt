@@ -1,6 +1,6 @@
 -- The next number was not begun before.
 use Rattle.std.proofs.Common.{ap, arith, ◌∙◌}
-use Rattle.snow_poll.specs.Table.{Table}
+use Rattle.snow_poll.specs.Model.Table.{Table}
 use Rattle.snow_poll.proofs.Placed.{none_from_more}
 use Rattle.benches.proofs.polls.begin_all.Goals as goal
 

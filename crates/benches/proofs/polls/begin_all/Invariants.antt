@@ -1,6 +1,6 @@
 -- The numbers so far were begun in order.
 use Rattle.std.proofs.Common.{◌≡◌}
-use Rattle.snow_poll.specs.Table.{HasNoneFrom}
+use Rattle.snow_poll.specs.Model.Table.{HasNoneFrom}
 use Rattle.benches.proofs.polls.begin_all.Given as goal
 
 abbrev pub invariant-loop-number : goal.invariant-loop-number

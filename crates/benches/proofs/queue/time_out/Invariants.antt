@@ -1,5 +1,5 @@
 -- What the queue remembers stays true.
-use Rattle.snow_issue.specs.Known.{Knows}
+use Rattle.snow_issue.specs.Kept.Known.{Knows}
 use Rattle.benches.proofs.queue.time_out.Given as goal
 
 abbrev pub invariant-loop : goal.invariant-loop

@@ -1,7 +1,7 @@
 -- The chain holds the state of the last accepted block alone.
 use Rattle.std.proofs.Common.{[], sym, ap, subst}
-use Rattle.snow_chain.specs.Chain.{Held}
-use Rattle.snow_chain.specs.Alone.{IsAlone}
+use Rattle.snow_chain.specs.Model.Chain.{Held}
+use Rattle.snow_chain.specs.Kept.Alone.{IsAlone}
 use Rattle.snow_boot.proofs.Alone.{begun_alone}
 use Rattle.boot_tests.proofs.boot.begin.Goals as goal
 

@@ -1,5 +1,5 @@
 use Rattle.std.proofs.Common.{◌≡◌, length, ◌-◌, ◌+◌, sym, ◌∙◌, arith, Err, subst}
-use Rattle.snow_base.specs.Votes.{IsPlaceOf}
+use Rattle.snow_base.specs.Model.Votes.{IsPlaceOf}
 use Rattle.snow_base.proofs.Adding.{place_behind}
 use Rattle.snow_base.proofs.bag.place.Goals as goal
 

@@ -1,5 +1,5 @@
 use Rattle.std.proofs.Common.{◌≡◌, ◌-◌, ◌+◌, sym, ◌∙◌, arith, Err, subst}
-use Rattle.snow_base.specs.Votes.{IsPlaceOf}
+use Rattle.snow_base.specs.Model.Votes.{IsPlaceOf}
 use Rattle.snow_base.proofs.Adding.{AllBehind, place_behind, place_at, place_first, behind_more}
 use Rattle.snow_base.proofs.bag.place_among_few.Goals as goal
 

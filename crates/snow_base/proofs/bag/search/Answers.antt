@@ -1,6 +1,6 @@
 use Rattle.std.proofs.Common.{rules}
 use Rattle.std.proofs.lemmas.Fn.{always_returns_same}
-use Rattle.snow_base.specs.Identifier.{bit_cmp}
+use Rattle.snow_base.specs.Model.Identifier.{bit_cmp}
 use Rattle.snow_base.proofs.Adding.{searched}
 use Rattle.snow_base.proofs.bag.search.Goals as goal
 

@@ -1,6 +1,6 @@
 use Rattle.std.proofs.Common.{true, false, not, rules}
 use Rattle.std.proofs.lemmas.List.Sorted.{IsPartitionPoint-from_clause}
-use Rattle.snow_base.specs.Identifier.{bit}
+use Rattle.snow_base.specs.Model.Identifier.{bit}
 use Rattle.snow_base.proofs.Splitting.{IsSplit, partitioned, zeros_in_front, ones_behind, agree_more, agree_take, agree_drop}
 use Rattle.snow_base.proofs.sides.split.Goals as goal
 use Rattle.snow_base.proofs.sides.split.Goals.{After-partition_point}

@@ -1,6 +1,6 @@
 use Rattle.std.proofs.Common.{sym, ap, ◌∙◌, set}
 use Rattle.std.proofs.lemmas.List.Edits.{map_over_more}
-use Rattle.snow_board.specs.Cursors.{moved}
+use Rattle.snow_board.specs.Kept.Cursors.{moved}
 use Rattle.snow_board.proofs.cursor.advance.Goals as goal
 
 pub loop-cursor-preserved : goal.loop-cursor-preserved

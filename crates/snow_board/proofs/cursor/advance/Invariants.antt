@@ -1,5 +1,5 @@
 use Rattle.std.proofs.Common.{◌≡◌, ◌++◌, map, take, drop}
-use Rattle.snow_board.specs.Cursors.{moved}
+use Rattle.snow_board.specs.Kept.Cursors.{moved}
 use Rattle.snow_board.proofs.cursor.advance.Given as goal
 
 abbrev pub invariant-loop-cursor : goal.invariant-loop-cursor

@@ -1,7 +1,7 @@
 use Rattle.std.proofs.Common.{◌<◌, sym, ap, ◌∙◌, length, arith}
-use Rattle.snow_base.specs.Votes.{total_count}
+use Rattle.snow_base.specs.Model.Votes.{total_count}
 use Rattle.snow_base.proofs.Adding.{total_added}
-use Rattle.snow_board.specs.Conflict.{votes_on}
+use Rattle.snow_board.specs.Model.Conflict.{votes_on}
 use Rattle.snow_board.proofs.Gathered.{ok_then, length-added, gathered_some, gathered_none, total_more}
 use Rattle.snow_board.proofs.cursor.gather.Goals as goal
 use Rattle.snow_board.proofs.cursor.gather.Goals.{in-Some, in_default}

@@ -1,7 +1,7 @@
 use Rattle.std.proofs.Common.{◌≡◌, ◌+◌, ◌≤◌, length, take}
-use Rattle.snow_base.specs.Votes.{total_count}
-use Rattle.snow_board.specs.Conflict.{votes_on}
-use Rattle.snow_board.specs.Cursors.{votes_at, cursor_total}
+use Rattle.snow_base.specs.Model.Votes.{total_count}
+use Rattle.snow_board.specs.Model.Conflict.{votes_on}
+use Rattle.snow_board.specs.Kept.Cursors.{votes_at, cursor_total}
 use Rattle.snow_board.proofs.cursor.gather.Given as goal
 
 abbrev pub invariant-loop-cursor : goal.invariant-loop-cursor

@@ -1,5 +1,5 @@
 use Rattle.std.proofs.Common.{◌≡◌, map, take, vec_capacity}
-use Rattle.snow_board.specs.Cursors.{started}
+use Rattle.snow_board.specs.Kept.Cursors.{started}
 use Rattle.snow_board.proofs.cursor.start_all.Given as goal
 
 abbrev pub invariant-loop-vote : goal.invariant-loop-vote

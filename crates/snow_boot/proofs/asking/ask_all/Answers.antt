@@ -2,9 +2,9 @@
 use Rattle.std.proofs.Common.{◌≡◌, ◌+◌, ◌∷◌, drop, arith, subst}
 use Rattle.std.specs.Prelude.{Ok, Err}
 use Rattle.std.proofs.lemmas.List.{drop_all}
-use Rattle.snow_boot.specs.Asking.{asked_one, asked}
-use Rattle.snow_store.specs.Paths.{missed}
-use Rattle.snow_boot.specs.Requesting.{Asks}
+use Rattle.snow_boot.specs.Model.Asking.{asked_one, asked}
+use Rattle.snow_store.specs.Model.Paths.{missed}
+use Rattle.snow_boot.specs.Clauses.Requesting.{Asks}
 use Rattle.snow_boot.proofs.Asked.{asks_on, asks_stop, asks_all}
 use Rattle.snow_store.proofs.Cases.{next_of}
 use Rattle.snow_boot.proofs.Underway.{IsUnderway}

@@ -1,7 +1,7 @@
 -- What is still to be asked for makes the whole of what was.
 use Rattle.std.proofs.Common.{drop}
-use Rattle.snow_boot.specs.Asking.{asked}
-use Rattle.snow_boot.specs.Calling.{AreDrawn}
+use Rattle.snow_boot.specs.Model.Asking.{asked}
+use Rattle.snow_boot.specs.Clauses.Calling.{AreDrawn}
 use Rattle.snow_boot.proofs.Underway.{IsUnderway}
 use Rattle.snow_boot.proofs.asking.ask_all.Given as goal
 

@@ -3,9 +3,9 @@ use Rattle.std.proofs.Common.{refl, sym, ap, subst, ◌∙◌, append-nil}
 use Rattle.std.specs.Prelude.{Ok}
 use Rattle.snow_store.specs.declared.due.Due.{Due}
 use Rattle.snow_store.specs.declared.due.Due.TheVariants as due
-use Rattle.snow_boot.specs.Asking.{Asked, asked_one}
-use Rattle.snow_boot.specs.Asking.{AreAskedBut}
-use Rattle.snow_boot.specs.Requesting.{Asks}
+use Rattle.snow_boot.specs.Model.Asking.{Asked, asked_one}
+use Rattle.snow_boot.specs.Model.Asking.{AreAskedBut}
+use Rattle.snow_boot.specs.Clauses.Requesting.{Asks}
 use Rattle.snow_boot.proofs.Owed.{all_asked_for, asked_but_one}
 use Rattle.snow_boot.proofs.Requested.{nothing_to_ask}
 use Rattle.snow_boot.proofs.asking.ask_due.Goals as goal

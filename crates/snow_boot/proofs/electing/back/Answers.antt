@@ -4,8 +4,8 @@ use Rattle.std.specs.List.{IsDistinct}
 use Rattle.std.specs.Map.{lookup}
 use Rattle.std.proofs.lemmas.List.{take_all}
 use Rattle.snow_store.proofs.Cases.{next_of}
-use Rattle.snow_store.specs.Paths.{has_id}
-use Rattle.snow_boot.specs.Electing.{candidates_of}
+use Rattle.snow_store.specs.Model.Paths.{has_id}
+use Rattle.snow_boot.specs.Model.Electing.{candidates_of}
 use Rattle.snow_boot.proofs.Elected.{with_weights, none_backed, backs_within, new_at, backed_on, all_backed}
 use Rattle.snow_boot.proofs.electing.back.Goals as goal
 

@@ -2,7 +2,7 @@
 use Rattle.std.proofs.Common.{◌||◌, sym, ap, ◌∙◌, arith}
 use Rattle.std.proofs.lemmas.List.{drop_all}
 use Rattle.snow_store.proofs.Cases.{or_false}
-use Rattle.snow_store.specs.Paths.{has_id}
+use Rattle.snow_store.specs.Model.Paths.{has_id}
 use Rattle.snow_boot.proofs.Elected.{once_on}
 use Rattle.snow_boot.proofs.electing.each_once.Goals as goal
 

@@ -1,6 +1,6 @@
 -- The identifiers so far and those that are left are all.
 use Rattle.std.proofs.Common.{◌≡◌, ◌||◌, ℕ, List, drop}
-use Rattle.snow_store.specs.Paths.{has_id}
+use Rattle.snow_store.specs.Model.Paths.{has_id}
 use Rattle.snow_boot.proofs.electing.each_once.Given as goal
 
 abbrev pub invariant-loop-id : goal.invariant-loop-id

@@ -1,7 +1,7 @@
 -- One height after another is executed.
 use Rattle.std.proofs.Common.{arith, subst}
 use Rattle.std.specs.Prelude.{Ok, Err}
-use Rattle.snow_boot.specs.Accepting.{Executes}
+use Rattle.snow_boot.specs.Clauses.Accepting.{Executes}
 use Rattle.snow_boot.proofs.Accepted.{left_of, executes_on, execution_stops, execution_ends}
 use Rattle.snow_boot.proofs.executing.execute.Goals as goal
 

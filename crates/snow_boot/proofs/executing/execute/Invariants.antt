@@ -1,6 +1,6 @@
 -- The blocks that are still to be executed make the whole of what was.
 use Rattle.std.proofs.Common.{◌≡◌}
-use Rattle.snow_chain.specs.Alone.{IsAlone}
+use Rattle.snow_chain.specs.Kept.Alone.{IsAlone}
 use Rattle.snow_boot.proofs.Accepted.{left_of}
 use Rattle.snow_boot.proofs.Underway.{IsUnderway}
 use Rattle.snow_boot.proofs.executing.execute.Given as goal

@@ -1,6 +1,6 @@
 -- There is a block, which is accepted or refused.
 use Rattle.snow_boot.proofs.Accepted.{refuses_at, accepts_at}
-use Rattle.snow_store.specs.Keeping.{held}
+use Rattle.snow_store.specs.Model.Keeping.{held}
 use Rattle.snow_boot.proofs.executing.execute_at.Goals as goal
 
 pub returns-in-Ok : goal.returns-in-Ok

@@ -1,12 +1,12 @@
 -- The path of the highest kept target has a block at each height.
 use Rattle.std.proofs.Common.{◌+◌, ◌-◌, [], append-nil, refl, sym, ap, subst, ◌∙◌}
 use Rattle.std.specs.Prelude.{Ok, Err}
-use Rattle.snow_boot.specs.Accepting.{Concludes}
-use Rattle.snow_boot.specs.Booting.{Outcome, ended}
-use Rattle.snow_chain.specs.Alone.{last_state}
-use Rattle.snow_boot.specs.Executing.{executed}
-use Rattle.snow_store.specs.Indexing.{Shelf}
-use Rattle.snow_store.specs.Linking.{IsLinked, upward}
+use Rattle.snow_boot.specs.Clauses.Accepting.{Concludes}
+use Rattle.snow_boot.specs.Model.Booting.{Outcome, ended}
+use Rattle.snow_chain.specs.Kept.Alone.{last_state}
+use Rattle.snow_boot.specs.Model.Executing.{executed}
+use Rattle.snow_store.specs.Kept.Indexing.{Shelf}
+use Rattle.snow_store.specs.Laws.Linking.{IsLinked, upward}
 use Rattle.snow_boot.proofs.Concluded.{concludes_at, concludes_not, path_of_top, path_of_none}
 use Rattle.snow_boot.proofs.executing.finish.Goals as goal
 

@@ -1,7 +1,7 @@
 -- One node more in front.
 use Rattle.std.proofs.Common.{◌≡◌, ◌+◌, ◌-◌, ◌∷◌, length, drop, sym, ap, subst, ◌∙◌, arith}
 use Rattle.std.proofs.lemmas.List.{drop_all}
-use Rattle.snow_boot.specs.Surveying.{HasWeights}
+use Rattle.snow_boot.specs.Kept.Surveying.{HasWeights}
 use Rattle.snow_store.proofs.Cases.{next_of}
 use Rattle.snow_boot.proofs.Weighed.{none_weigh, more_weigh}
 use Rattle.snow_boot.proofs.survey.weights_of.Goals as goal

@@ -1,6 +1,6 @@
 -- The table has the nodes that were passed over.
 use Rattle.std.proofs.Common.{◌≤◌, drop, length}
-use Rattle.snow_boot.specs.Surveying.{HasWeights}
+use Rattle.snow_boot.specs.Kept.Surveying.{HasWeights}
 use Rattle.snow_boot.proofs.survey.weights_of.Given as goal
 
 abbrev pub invariant-loop-at : goal.invariant-loop-at

@@ -1,6 +1,6 @@
 -- Where a digit gives no number, all give none.
 use Rattle.std.proofs.Common.{◌≡◌, ◌≤◌, ◌∙◌, Some, None, length, slice_index, sym, rules}
-use Rattle.snow_cli.specs.Words.{with_digit}
+use Rattle.snow_cli.specs.Model.Words.{with_digit}
 use Rattle.snow_cli.proofs.Digits.{none_first}
 use Rattle.snow_cli.proofs.figures.digits_within.Goals as goal
 

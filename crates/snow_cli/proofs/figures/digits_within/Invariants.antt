@@ -1,6 +1,6 @@
 -- The digits that are left follow those that were read.
 use Rattle.std.proofs.Common.{◌≡◌, ◌≤◌, Some, fold, length}
-use Rattle.snow_cli.specs.Words.{with_digit, digits_within}
+use Rattle.snow_cli.specs.Model.Words.{with_digit, digits_within}
 use Rattle.snow_cli.proofs.figures.digits_within.Given as goal
 
 abbrev pub invariant-loop-left : goal.invariant-loop-left

@@ -1,7 +1,7 @@
 -- The words that are left come to the same as all.
 use Rattle.std.proofs.Common.{◌≡◌, length}
-use Rattle.snow_cli.specs.Request.{blank, texts, with_items}
-use Rattle.snow_cli.specs.Words.{items}
+use Rattle.snow_cli.specs.Kept.Request.{blank, texts, with_items}
+use Rattle.snow_cli.specs.Model.Words.{items}
 use Rattle.snow_cli.proofs.ordering.ask.Given as goal
 
 abbrev pub invariant-loop-word : goal.invariant-loop-word

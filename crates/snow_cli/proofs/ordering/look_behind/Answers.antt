@@ -1,6 +1,6 @@
 use Rattle.std.proofs.Common.{rules, ◌≡◌, length, ◌==◌, false}
 use Rattle.std.specs.List.{position_or_len}
-use Rattle.snow_cli.specs.Words.{is_equals}
+use Rattle.snow_cli.specs.Model.Words.{is_equals}
 use Rattle.snow_cli.proofs.Looks.{name_alone}
 use Rattle.snow_cli.proofs.ordering.look_behind.Goals as goal
 

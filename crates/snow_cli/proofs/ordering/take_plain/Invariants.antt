@@ -1,7 +1,7 @@
 -- The words that are left come to the same as all.
 use Rattle.std.proofs.Common.{◌≡◌, ◌≤◌, length, map}
-use Rattle.snow_cli.specs.Request.{texts, with_items}
-use Rattle.snow_cli.specs.Words.{Plain}
+use Rattle.snow_cli.specs.Kept.Request.{texts, with_items}
+use Rattle.snow_cli.specs.Model.Words.{Plain}
 use Rattle.snow_cli.proofs.ordering.take_plain.Given as goal
 
 abbrev pub invariant-loop-word : goal.invariant-loop-word

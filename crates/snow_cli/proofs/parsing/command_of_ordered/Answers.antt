@@ -2,7 +2,7 @@ use Rattle.std.proofs.Common.{◌≡◌, ◌∙◌, rules, inl, inr}
 use Rattle.clap.specs.Walk.{texts}
 use Rattle.clap.specs.Words.{found_of}
 use Rattle.clap.specs.Values.{kind_of}
-use Rattle.snow_cli.specs.Request.{texts as words_of}
+use Rattle.snow_cli.specs.Kept.Request.{texts as words_of}
 use Rattle.snow_cli.proofs.Tested.{chain_names, rule_names, task_names}
 use Rattle.snow_cli.proofs.Answered.{found_asks, nothing_asked}
 use Rattle.snow_cli.proofs.parsing.command_of_ordered.Goals as goal

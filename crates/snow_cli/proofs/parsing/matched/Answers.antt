@@ -1,5 +1,5 @@
 use Rattle.clap.specs.Words.{app_of}
-use Rattle.snow_cli.specs.Request.{texts}
+use Rattle.snow_cli.specs.Kept.Request.{texts}
 use Rattle.snow_cli.proofs.Matching.{rows_are, faults_are}
 use Rattle.snow_cli.proofs.parsing.matched.Goals as goal
 

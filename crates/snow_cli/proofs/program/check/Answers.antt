@@ -1,6 +1,6 @@
 -- What the audit found, as it was told.
-use Rattle.snow_audit.specs.Auditing.{audit_of}
-use Rattle.snow_cli.specs.Answer.{answer_of}
+use Rattle.snow_audit.specs.Model.Auditing.{audit_of}
+use Rattle.snow_cli.specs.Clauses.Answer.{answer_of}
 use Rattle.snow_cli.proofs.Finished.{finish_known, wrote_known, told_kept, told_read, told_fault}
 use Rattle.snow_cli.proofs.program.check.Goals as goal
 

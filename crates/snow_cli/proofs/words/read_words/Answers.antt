@@ -1,8 +1,8 @@
 use Rattle.std.proofs.Common.{◌≡◌, rules, Some}
 use Rattle.std.specs.Option.{option_and_then}
-use Rattle.snow_cli.specs.Words.{items}
-use Rattle.snow_cli.specs.Request.{blank, texts, with_items}
-use Rattle.snow_cli.specs.Parsing.{ordered}
+use Rattle.snow_cli.specs.Model.Words.{items}
+use Rattle.snow_cli.specs.Kept.Request.{blank, texts, with_items}
+use Rattle.snow_cli.specs.Kept.Parsing.{ordered}
 use Rattle.snow_cli.proofs.Whole.{asks}
 use Rattle.snow_cli.proofs.words.read_words.Goals as goal
 

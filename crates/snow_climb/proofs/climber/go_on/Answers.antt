@@ -1,6 +1,6 @@
 use Rattle.std.proofs.Common.{ap}
-use Rattle.snow_tree.specs.Held.{blocks_in}
-use Rattle.snow_climb.specs.Ladder.{Rungs}
+use Rattle.snow_tree.specs.Kept.Held.{blocks_in}
+use Rattle.snow_climb.specs.Kept.Ladder.{Rungs}
 use Rattle.snow_climb.proofs.Climbers.{put_last}
 use Rattle.snow_climb.proofs.climber.go_on.Goals as goal
 

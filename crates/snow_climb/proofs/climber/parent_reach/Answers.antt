@@ -1,7 +1,7 @@
 use Rattle.std.proofs.Common.{slice_get, sym, ap, ◌∙◌, arith}
 use Rattle.std.proofs.lemmas.List.{length-map}
-use Rattle.snow_tree.specs.Held.{blocks_in}
-use Rattle.snow_climb.specs.Climbing.{above, parent_in}
+use Rattle.snow_tree.specs.Kept.Held.{blocks_in}
+use Rattle.snow_climb.specs.Kept.Climbing.{above, parent_in}
 use Rattle.snow_climb.proofs.Climbers.{parent_placed}
 use Rattle.snow_climb.proofs.Reached.{reach_within}
 use Rattle.snow_climb.proofs.climber.parent_reach.Goals as goal

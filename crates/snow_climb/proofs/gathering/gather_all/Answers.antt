@@ -1,9 +1,9 @@
 use Rattle.std.proofs.Common.{◌≡◌, ℕ, ◌-◌, ◌<◌, ◌≤◌, List, [], ◌∷◌, length, get_or, sym, subst, ◌∙◌, arith}
 use Rattle.snow_board.proofs.Gathered.{ok_then}
-use Rattle.snow_tree.specs.Held.{Entry}
+use Rattle.snow_tree.specs.Kept.Held.{Entry}
 use Rattle.snow_base.specs.declared.vote.Vote.{Vote}
 use Rattle.snow_climb.specs.declared.ladder.Link.{Link}
-use Rattle.snow_climb.specs.Ladder.{no_link, chain, AreLinked}
+use Rattle.snow_climb.specs.Kept.Ladder.{no_link, chain, AreLinked}
 use Rattle.snow_climb.proofs.Chains.{chain_next, next_falls}
 use Rattle.snow_climb.proofs.Climbers.{child_seen, child_there}
 use Rattle.snow_climb.proofs.Gatherings.{AreGathered, is_among, none_gathered, more_gathered, total_left, short_left, all_votes, all_counts}

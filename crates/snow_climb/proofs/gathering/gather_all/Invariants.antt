@@ -1,5 +1,5 @@
 use Rattle.std.proofs.Common.{◌+◌, ◌≤◌, length}
-use Rattle.snow_climb.specs.Ladder.{chain}
+use Rattle.snow_climb.specs.Kept.Ladder.{chain}
 use Rattle.snow_climb.proofs.Gatherings.{AreGathered}
 use Rattle.snow_climb.proofs.gathering.gather_all.Given as goal
 

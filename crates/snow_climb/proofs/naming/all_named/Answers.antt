@@ -1,7 +1,7 @@
 use Rattle.std.proofs.Common.{All, take, get_or, sym, subst}
 use Rattle.std.proofs.lemmas.List.{take_more}
 use Rattle.std.proofs.lemmas.List.Elements.{All-push}
-use Rattle.snow_base.specs.Gathered.{IsNamed}
+use Rattle.snow_base.specs.Clauses.Gathered.{IsNamed}
 use Rattle.snow_climb.proofs.naming.all_named.Goals as goal
 
 pub loop-id-preserved : goal.loop-id-preserved

@@ -1,6 +1,6 @@
 use Rattle.std.proofs.Common.{◌+◌, ◌<◌, ◌∙◌, length, get_or, take, take_all, refl, ap, arith}
 use Rattle.std.proofs.lemmas.List.{length-set}
-use Rattle.snow_climb.specs.Starting.{votes_by, ids_by}
+use Rattle.snow_climb.specs.Kept.Starting.{votes_by, ids_by}
 use Rattle.snow_climb.proofs.Started.{same_started, beside, seat_taken, seat_back, total_set, one_of_total}
 use Rattle.snow_climb.proofs.starting.count_each.Goals as goal
 

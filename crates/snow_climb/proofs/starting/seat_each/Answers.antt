@@ -1,5 +1,5 @@
 use Rattle.std.proofs.Common.{◌+◌, sym, refl, ◌∙◌, arith}
-use Rattle.snow_climb.specs.Starting.{votes_by, ids_by}
+use Rattle.snow_climb.specs.Kept.Starting.{votes_by, ids_by}
 use Rattle.snow_climb.proofs.Started.{same_started}
 use Rattle.snow_climb.proofs.starting.seat_each.Goals as goal
 

@@ -1,8 +1,8 @@
 use Rattle.std.proofs.Common.{◌≡◌, ◌+◌, ◌≤◌, [], length, refl, sym, ap, subst, arith}
-use Rattle.snow_base.specs.Gathered.{one_each}
+use Rattle.snow_base.specs.Clauses.Gathered.{one_each}
 use Rattle.snow_board.proofs.OneEach.{total_each}
-use Rattle.snow_climb.specs.Ladder.{Rungs}
-use Rattle.snow_climb.specs.Starting.{votes_by, ids_by, HaveStarted}
+use Rattle.snow_climb.specs.Kept.Ladder.{Rungs}
+use Rattle.snow_climb.specs.Kept.Starting.{votes_by, ids_by, HaveStarted}
 use Rattle.snow_climb.proofs.Started.{none_started, same_started, each_passes, begun_from, begun_fewer, begun_places}
 use Rattle.snow_climb.proofs.starting.start_each.Given as given
 use Rattle.snow_climb.proofs.starting.start_each.Goals as goal

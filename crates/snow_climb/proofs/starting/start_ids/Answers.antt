@@ -1,10 +1,10 @@
 use Rattle.std.proofs.Common.{◌≡◌, ◌≤◌, ℕ, [], ◌∷◌, Option, Some, IfSome, List, length, bytes_eq, subst, ap, arith}
 use Rattle.std.proofs.lemmas.List.Sums.{sum_by-cons}
 use Rattle.snow_base.specs.declared.vote.Vote.{Vote}
-use Rattle.snow_base.specs.Gathered.{one_each}
-use Rattle.snow_base.specs.Votes.{total_count}
-use Rattle.snow_flake.specs.Parameters.{Parameters}
-use Rattle.snow_climb.specs.Majority.{StandsForPoll}
+use Rattle.snow_base.specs.Clauses.Gathered.{one_each}
+use Rattle.snow_base.specs.Model.Votes.{total_count}
+use Rattle.snow_flake.specs.Model.Parameters.{Parameters}
+use Rattle.snow_climb.specs.Kept.Majority.{StandsForPoll}
 use Rattle.snow_climb.proofs.Majorities.{ids_few, one_for_all, all_for_all}
 use Rattle.snow_climb.proofs.starting.start_ids.Goals as goal
 

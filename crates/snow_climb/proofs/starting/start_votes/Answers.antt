@@ -1,6 +1,6 @@
 use Rattle.std.proofs.Common.{◌≡◌, [], sym, ap, subst, arith}
-use Rattle.snow_climb.specs.Ladder.{Rungs}
-use Rattle.snow_climb.specs.Starting.{votes_by, HaveStarted}
+use Rattle.snow_climb.specs.Kept.Ladder.{Rungs}
+use Rattle.snow_climb.specs.Kept.Starting.{votes_by, HaveStarted}
 use Rattle.snow_climb.proofs.Started.{none_started, begun_from, begun_fewer, begun_places}
 use Rattle.snow_climb.proofs.starting.start_votes.Given as given
 use Rattle.snow_climb.proofs.starting.start_votes.Goals as goal

@@ -1,6 +1,6 @@
 -- The lines so far were noted.
 use Rattle.std.proofs.Common.{◌≡◌, fold, take}
-use Rattle.snow_drill.specs.Told.{noted}
+use Rattle.snow_drill.specs.Kept.Told.{noted}
 use Rattle.snow_drill.proofs.account.note_each.Given as goal
 
 abbrev pub invariant-loop-line : goal.invariant-loop-line

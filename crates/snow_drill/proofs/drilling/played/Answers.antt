@@ -3,10 +3,10 @@ use Rattle.std.proofs.Common.{◌≡◌, List, Ok, subst}
 use Rattle.std.specs.Prelude.{IfOk}
 use Rattle.sha2.specs.Sha256.{sha256}
 use Rattle.snow_lines.specs.declared.line.Line.{Line}
-use Rattle.snow_lines.specs.Text.{texts}
+use Rattle.snow_lines.specs.Model.Text.{texts}
 use Rattle.snow_drill.specs.declared.account.Account.{Account}
-use Rattle.snow_drill.specs.Following.{Digests}
-use Rattle.snow_drill.specs.Summary.{summary_of}
+use Rattle.snow_drill.specs.Kept.Following.{Digests}
+use Rattle.snow_drill.specs.Model.Summary.{summary_of}
 use Rattle.snow_drill.proofs.Played.{drilled_so}
 use Rattle.snow_drill.proofs.drilling.played.Goals as goal
 

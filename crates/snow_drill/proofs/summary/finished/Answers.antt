@@ -2,8 +2,8 @@
 use Rattle.std.proofs.Common.{◌≡◌, ℕ, List, subst}
 use Rattle.std.specs.Prelude.{IfOk}
 use Rattle.sha2.specs.Sha256.{sha256}
-use Rattle.snow_lines.specs.Text.{texts}
-use Rattle.snow_drill.specs.Summary.{summary_of}
+use Rattle.snow_lines.specs.Model.Text.{texts}
+use Rattle.snow_drill.specs.Model.Summary.{summary_of}
 use Rattle.snow_drill.proofs.summary.finished.Goals as goal
 
 pub returns : goal.returns

@@ -1,6 +1,6 @@
 -- The replies go one by one, and at the end no node is left.
 use Rattle.std.proofs.Common.{◌≡◌, ◌<◌, List, [], ◌∷◌, length, refl, arith}
-use Rattle.snow_issue.specs.Arrivals.{names}
+use Rattle.snow_issue.specs.Kept.Arrivals.{names}
 use Rattle.snow_issue.proofs.Departed.{leaving_step, leaving_ended}
 use Rattle.snow_issue.proofs.arrivals.drop_each.Goals as goal
 

@@ -1,5 +1,5 @@
 use Rattle.std.proofs.Common.{ℕ, List, Option, length}
-use Rattle.snow_issue.specs.Arrivals.{IsFiled, IsLeaving, filed_apart, names}
+use Rattle.snow_issue.specs.Kept.Arrivals.{IsFiled, IsLeaving, filed_apart, names}
 use Rattle.snow_issue.proofs.arrivals.drop_each.Given as goal
 
 abbrev pub invariant-loop-arrival : goal.invariant-loop-arrival

@@ -1,7 +1,7 @@
 use Rattle.std.proofs.Common.{true, cond, ◌&&◌, ap, ◌∙◌}
 use Rattle.std.specs.BTreeMap.{is_at}
 use Rattle.std.specs.Ordering.{nat_cmp}
-use Rattle.snow_issue.specs.Arrivals.{names}
+use Rattle.snow_issue.specs.Kept.Arrivals.{names}
 use Rattle.snow_issue.proofs.Stocked.{number_itself}
 use Rattle.snow_issue.proofs.Numbered.{node_itself}
 use Rattle.snow_issue.proofs.arrivals.keep.Goals as goal

@@ -6,7 +6,7 @@ use Rattle.std.specs.Option.{is_some}
 use Rattle.std.specs.Ordering.{nat_cmp}
 use Rattle.std.proofs.lemmas.Result.{err_from_is_err_and}
 use Rattle.std.proofs.lemmas.Map.Lookups.{exact_bytes}
-use Rattle.snow_issue.specs.Arrivals.{names, has_number_in}
+use Rattle.snow_issue.specs.Kept.Arrivals.{names, has_number_in}
 use Rattle.snow_issue.proofs.Numbered.{nested, nested_same}
 use Rattle.snow_issue.proofs.arrivals.name.Goals as goal
 

@@ -2,7 +2,7 @@ use Rattle.std.proofs.Common.{None, sym, ◌∙◌}
 use Rattle.std.specs.Cmp.Lexicographic.{slice_cmp}
 use Rattle.std.specs.Ordering.{nat_cmp}
 use Rattle.std.proofs.lemmas.Map.Lookups.{exact_bytes}
-use Rattle.snow_issue.specs.Arrivals.{has_number_in}
+use Rattle.snow_issue.specs.Kept.Arrivals.{has_number_in}
 use Rattle.snow_issue.proofs.Numbered.{nested_same}
 use Rattle.snow_issue.proofs.arrivals.unname.Goals as goal
 

@@ -4,7 +4,7 @@ use Rattle.std.specs.Cmp.Lexicographic.{slice_cmp}
 use Rattle.std.specs.Option.{is_some}
 use Rattle.std.specs.Ordering.{nat_cmp}
 use Rattle.std.proofs.lemmas.Map.Lookups.{exact_bytes}
-use Rattle.snow_issue.specs.Arrivals.{names, has_number_in}
+use Rattle.snow_issue.specs.Kept.Arrivals.{names, has_number_in}
 use Rattle.snow_issue.proofs.Numbered.{nested, nested_missing}
 use Rattle.snow_issue.proofs.arrivals.unname_number.Goals as goal
 

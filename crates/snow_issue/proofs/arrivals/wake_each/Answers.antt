@@ -1,6 +1,6 @@
 -- Each number in turn.
 use Rattle.std.proofs.Common.{map, sym, ap, ◌∙◌}
-use Rattle.snow_issue.specs.Arrivals.{woken_among}
+use Rattle.snow_issue.specs.Kept.Arrivals.{woken_among}
 use Rattle.snow_issue.proofs.Seated.{woken_on, woken_by_none}
 use Rattle.snow_issue.proofs.arrivals.wake_each.Goals as goal
 

@@ -1,5 +1,5 @@
 use Rattle.std.proofs.Common.{◌≡◌, map}
-use Rattle.snow_issue.specs.Arrivals.{woken_among}
+use Rattle.snow_issue.specs.Kept.Arrivals.{woken_among}
 use Rattle.snow_issue.proofs.arrivals.wake_each.Given as goal
 
 abbrev pub invariant-loop-arrival : goal.invariant-loop-arrival

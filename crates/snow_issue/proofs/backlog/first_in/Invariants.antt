@@ -1,5 +1,5 @@
 use Rattle.std.specs.BinaryHeap.{heap_items, heap_len, heap_capacity}
-use Rattle.snow_issue.specs.Arrivals.{IsBacklog}
+use Rattle.snow_issue.specs.Kept.Arrivals.{IsBacklog}
 use Rattle.snow_issue.proofs.backlog.first_in.Given as goal
 
 abbrev pub invariant-loop-top : goal.invariant-loop-top

@@ -1,7 +1,7 @@
 -- Each turn replaces a block by the parent that stands for it.
 use Rattle.std.proofs.Common.{◌≡◌, ℕ, ◌-◌, ◌+◌, suc, Bool, true, false, List, sym, ap, ◌∙◌, arith}
 use Rattle.std.specs.Str.{bytes_eq}
-use Rattle.snow_issue.specs.Bubbling.{bubbled_in}
+use Rattle.snow_issue.specs.Model.Bubbling.{bubbled_in}
 use Rattle.snow_issue.proofs.Bubbled.{bubbled_pending, bubbled_last, bubbled_lost, bubbled_up, bubbled_end}
 use Rattle.snow_issue.proofs.bubbling.climb.Goals as goal
 

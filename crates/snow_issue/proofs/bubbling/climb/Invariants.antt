@@ -1,5 +1,5 @@
 use Rattle.std.proofs.Common.{◌≡◌, ◌-◌}
-use Rattle.snow_issue.specs.Bubbling.{bubbled_in}
+use Rattle.snow_issue.specs.Model.Bubbling.{bubbled_in}
 use Rattle.snow_issue.proofs.bubbling.climb.Given as goal
 
 abbrev pub invariant-loop : goal.invariant-loop

@@ -5,8 +5,8 @@ use Rattle.std.proofs.lemmas.List.{length-map}
 use Rattle.snow_issue.specs.declared.work.Held.{Held}
 use Rattle.snow_lineup.specs.declared.marks.Mark.{Mark}
 use Rattle.snow_lineup.specs.declared.marks.Mark.TheVariants.{Quiet}
-use Rattle.snow_issue.specs.Settling.{is_free_by}
-use Rattle.snow_issue.specs.Known.{items_of}
+use Rattle.snow_issue.specs.Model.Settling.{is_free_by}
+use Rattle.snow_issue.specs.Kept.Known.{items_of}
 use Rattle.snow_issue.proofs.Looked.{known_not_free, none_passing, first_passing_at, found_first, found_none, smaller_after, items_after_set, rests_after}
 use Rattle.snow_issue.proofs.Next.{IsNext, next_is, no_next}
 use Rattle.snow_issue.proofs.Seated.{place}

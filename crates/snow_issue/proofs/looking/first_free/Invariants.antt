@@ -1,8 +1,8 @@
 use Rattle.std.proofs.Common.{◌-◌, length}
 use Rattle.std.specs.List.{position_or_len}
 use Rattle.snow_lineup.specs.declared.marks.Mark.TheVariants.{New}
-use Rattle.snow_issue.specs.Known.{items_of}
-use Rattle.snow_lineup.specs.Marks.{has}
+use Rattle.snow_issue.specs.Kept.Known.{items_of}
+use Rattle.snow_lineup.specs.Kept.Marks.{has}
 use Rattle.snow_issue.proofs.Looked.{IsChecking}
 use Rattle.snow_issue.proofs.looking.first_free.Given as goal
 

@@ -3,10 +3,10 @@ use Rattle.std.proofs.Common.{◌≡◌, ◌<◌, ◌||◌, Some, length, get_or
 use Rattle.std.specs.List.{position_or_len}
 use Rattle.snow_issue.specs.declared.work.Waiting.{Waiting}
 use Rattle.snow_lineup.specs.declared.marks.Mark.{Mark}
-use Rattle.snow_issue.specs.Lists.{asked_in, waits_below}
-use Rattle.snow_issue.specs.Offering.{is_on}
-use Rattle.snow_issue.specs.Settling.{is_hopeless_by}
-use Rattle.snow_issue.specs.Known.{items_of, sight}
+use Rattle.snow_issue.specs.Model.Lists.{asked_in, waits_below}
+use Rattle.snow_issue.specs.Model.Offering.{is_on}
+use Rattle.snow_issue.specs.Model.Settling.{is_hopeless_by}
+use Rattle.snow_issue.specs.Kept.Known.{items_of, sight}
 use Rattle.snow_issue.proofs.Looked.{known_not_hopeless, none_passing, first_passing_at, smaller_after, items_after_set, tells_after, never_new, is_lost}
 use Rattle.snow_issue.proofs.looking.first_hopeless.Goals as goal
 

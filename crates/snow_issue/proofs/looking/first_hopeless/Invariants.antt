@@ -1,7 +1,7 @@
 use Rattle.std.proofs.Common.{◌-◌, length}
 use Rattle.std.specs.List.{position_or_len}
 use Rattle.snow_lineup.specs.declared.marks.Mark.TheVariants.{New}
-use Rattle.snow_lineup.specs.Marks.{has}
+use Rattle.snow_lineup.specs.Kept.Marks.{has}
 use Rattle.snow_issue.proofs.Looked.{IsLooking}
 use Rattle.snow_issue.proofs.looking.first_hopeless.Given as goal
 

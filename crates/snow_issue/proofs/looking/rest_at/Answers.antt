@@ -2,8 +2,8 @@
 use Rattle.std.proofs.Common.{◌≡◌, true, ◌||◌, sym, ap, ◌∙◌}
 use Rattle.std.proofs.lemmas.Bool.{or_left}
 use Rattle.snow_lineup.specs.declared.marks.Mark.TheVariants.{Quiet}
-use Rattle.snow_issue.specs.Lists.{asked_in, waits_below}
-use Rattle.snow_issue.specs.Known.{items_of, sight}
+use Rattle.snow_issue.specs.Model.Lists.{asked_in, waits_below}
+use Rattle.snow_issue.specs.Kept.Known.{items_of, sight}
 use Rattle.snow_lineup.proofs.Booleans.{or_true}
 use Rattle.snow_issue.proofs.Looked.{items_after_set, tells_after}
 use Rattle.snow_issue.proofs.Rested.{sees_quiet}

@@ -1,6 +1,6 @@
 use Rattle.std.proofs.Common.{rules}
 use Rattle.std.proofs.lemmas.List.Elements.{filter_from_retain}
-use Rattle.snow_issue.specs.Roll.{is_here}
+use Rattle.snow_issue.specs.Kept.Roll.{is_here}
 use Rattle.snow_issue.proofs.roll.clear.Goals as goal
 
 pub returns : goal.returns

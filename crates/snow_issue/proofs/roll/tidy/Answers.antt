@@ -3,8 +3,8 @@ use Rattle.std.proofs.Common.{◌<◌, All, filter, refl, sym, ap, ◌∙◌, su
 use Rattle.std.proofs.lemmas.List.Elements.{filter_passes}
 use Rattle.std.proofs.lemmas.List.Kept.{AllPairs-filter}
 use Rattle.snow_issue.specs.declared.roll.Place.{Place}
-use Rattle.snow_issue.specs.Arrivals.{Entries, at_arrival}
-use Rattle.snow_issue.specs.Roll.{is_here, entries_of, Rises}
+use Rattle.snow_issue.specs.Kept.Arrivals.{Entries, at_arrival}
+use Rattle.snow_issue.specs.Kept.Roll.{is_here, entries_of, Rises}
 use Rattle.snow_issue.proofs.Ranged.{cleared, all_below, here_below}
 use Rattle.snow_issue.proofs.roll.tidy.Goals as goal
 

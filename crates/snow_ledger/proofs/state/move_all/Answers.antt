@@ -4,8 +4,8 @@ use Rattle.std.proofs.lemmas.Bool.{and_left, cases_lt}
 use Rattle.std.proofs.lemmas.List.{append-nil}
 use Rattle.std.proofs.lemmas.List.FromFn.{map-range_with_len_more}
 use Rattle.snow_ledger.specs.declared.transfers.Transfer.{Transfer}
-use Rattle.snow_ledger.specs.Blocks.{count_of, transfer_at, first_transfers}
-use Rattle.snow_ledger.specs.Ledger.{is_state, after, is_good, are_good}
+use Rattle.snow_ledger.specs.Model.Blocks.{count_of, transfer_at, first_transfers}
+use Rattle.snow_ledger.specs.Model.Ledger.{is_state, after, is_good, are_good}
 use Rattle.snow_ledger.proofs.After.{after_after, after_none}
 use Rattle.snow_ledger.proofs.Good.{covers_all, good_after, are_good_more, state_facts, state_after}
 use Rattle.snow_ledger.proofs.state.move_all.Invariants.{SoFar}

@@ -1,6 +1,6 @@
 -- What a good transfer says makes its numbers fit, and what is written is the state after it.
 use Rattle.std.proofs.Common.{◌≡◌, ℕ, true, [], ◌∙◌, ap, subst, sym, arith, ◌<◌, ◌≤◌, ◌+◌, ◌^◌}
-use Rattle.snow_ledger.specs.Ledger.{held, next_in, is_good}
+use Rattle.snow_ledger.specs.Model.Ledger.{held, next_in, is_good}
 use Rattle.snow_ledger.proofs.Good.{facts_of}
 use Rattle.snow_ledger.proofs.Moves.{written, moved_one, within_held, counts_on, fits_receiver}
 use Rattle.snow_ledger.proofs.state.move_one.Goals as goal

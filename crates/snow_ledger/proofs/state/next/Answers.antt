@@ -1,8 +1,8 @@
 -- The copy was made the state after all transfers.
 use Rattle.std.proofs.Common.{◌≡◌, true, [], Some, ap, sym, ◌∙◌, arith}
 use Rattle.std.proofs.lemmas.Grind.{common_steps}
-use Rattle.snow_ledger.specs.Blocks.{is_whole, transfers_of}
-use Rattle.snow_ledger.specs.Ledger.{after, are_good}
+use Rattle.snow_ledger.specs.Model.Blocks.{is_whole, transfers_of}
+use Rattle.snow_ledger.specs.Model.Ledger.{after, are_good}
 use Rattle.snow_ledger.proofs.Blocks.{next_moved}
 use Rattle.snow_ledger.proofs.state.next.Goals as goal
 

@@ -1,6 +1,6 @@
 -- One account more.
 use Rattle.std.proofs.Common.{arith}
-use Rattle.snow_ledger.specs.Ledger.{held}
+use Rattle.snow_ledger.specs.Model.Ledger.{held}
 use Rattle.snow_ledger.proofs.Sums.{sum_next}
 use Rattle.snow_ledger.proofs.state.total.Goals as goal
 

@@ -1,6 +1,6 @@
 use Rattle.std.proofs.Common.{◌≡◌, ◌*◌, ◌≤◌}
 use Rattle.std.specs.List.{sum_by, range_with_len}
-use Rattle.snow_ledger.specs.Ledger.{held}
+use Rattle.snow_ledger.specs.Model.Ledger.{held}
 use Rattle.snow_ledger.proofs.state.total.Given as goal
 
 -- the sum over the accounts so far, each of which holds a number of 64 bits

@@ -1,5 +1,5 @@
 use Rattle.std.proofs.Common.{rules, arith, ◌≡◌, ◌^◌, ◌*◌, ◌+◌, ◌-◌, ◌<◌, ◌≤◌, length, drop, get_or, sym, ◌∙◌, ap, None}
-use Rattle.snow_lines.specs.Reading.{value_after}
+use Rattle.snow_lines.specs.Model.Reading.{value_after}
 use Rattle.snow_lines.proofs.Values.{value_too_large, limited_none, limited_some, value_done, value_next}
 use Rattle.snow_lines.proofs.field.value.Goals as goal
 

@@ -1,5 +1,5 @@
 use Rattle.std.proofs.Common.{◌≡◌, ◌<◌, ◌^◌, drop}
-use Rattle.snow_lines.specs.Reading.{value_after}
+use Rattle.snow_lines.specs.Model.Reading.{value_after}
 use Rattle.snow_lines.proofs.field.value.Given as goal
 
 abbrev pub invariant-loop-byte : goal.invariant-loop-byte

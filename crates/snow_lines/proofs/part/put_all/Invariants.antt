@@ -1,6 +1,6 @@
 -- The parts so far were written or wait.
 use Rattle.std.proofs.Common.{◌≤◌, flat_map, take}
-use Rattle.snow_lines.specs.Gathered.{Gathers}
+use Rattle.snow_lines.specs.Kept.Gathered.{Gathers}
 use Rattle.snow_lines.proofs.part.put_all.Given as goal
 
 abbrev pub invariant-loop-part : goal.invariant-loop-part

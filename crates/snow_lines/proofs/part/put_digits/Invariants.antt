@@ -1,6 +1,6 @@
 use Rattle.std.proofs.Common.{◌≡◌, ℕ, ◌≤◌, List, ◌++◌, Option, length}
 use Rattle.hex.specs.Hex.{encode_lower}
-use Rattle.snow_lines.specs.Gathered.{Gathers}
+use Rattle.snow_lines.specs.Kept.Gathered.{Gathers}
 use Rattle.snow_lines.proofs.part.put_digits.Given as goal
 
 -- the digits of a front were written or wait, and the other bytes are left

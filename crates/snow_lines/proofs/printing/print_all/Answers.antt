@@ -1,10 +1,10 @@
 -- A line failed: what was written of it is in front of what is left.
 use Rattle.std.proofs.Common.{subst}
 use Rattle.std.proofs.lemmas.Result.{err_from_is_err_and}
-use Rattle.snow_base.specs.Outside.{AppendsFront}
+use Rattle.snow_base.specs.Clauses.Outside.{AppendsFront}
 use Rattle.snow_base.proofs.Known.{fails_inside}
 use Rattle.snow_lines.specs.declared.line.Line.{Line}
-use Rattle.snow_lines.specs.Text.{text}
+use Rattle.snow_lines.specs.Model.Text.{text}
 use Rattle.snow_lines.proofs.printing.print_all.Goals as goal
 
 pub returns-in_err-print-clause-err : goal.returns-in_err-print-clause-err

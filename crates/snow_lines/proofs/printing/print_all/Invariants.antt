@@ -1,7 +1,7 @@
 -- The lines so far were written.
 use Rattle.std.proofs.Common.{◌≤◌, take}
 use Rattle.std.specs.Io.KnownBytes.{Appends}
-use Rattle.snow_lines.specs.Text.{texts}
+use Rattle.snow_lines.specs.Model.Text.{texts}
 use Rattle.snow_lines.proofs.printing.print_all.Given as goal
 
 abbrev pub invariant-loop-line : goal.invariant-loop-line

@@ -3,8 +3,8 @@ use Rattle.std.proofs.Common.{sym, subst}
 use Rattle.std.specs.Result.{OnOk}
 use Rattle.snow_lines.specs.declared.line.Line.TheVariants as line
 use Rattle.snow_lines.specs.declared.why.QueryWhy.{QueryWhy}
-use Rattle.snow_lines.specs.Gathered.{Gathers}
-use Rattle.snow_lines.specs.Text.{text}
+use Rattle.snow_lines.specs.Kept.Gathered.{Gathers}
+use Rattle.snow_lines.specs.Model.Text.{text}
 use Rattle.snow_lines.proofs.printing.put_dropped_query.Goals as goal
 
 pub returns-in-Full-clause-ok : goal.returns-in-Full-clause-ok

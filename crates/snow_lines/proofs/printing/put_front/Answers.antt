@@ -3,8 +3,8 @@ use Rattle.std.proofs.Common.{◌∷◌, subst, sym}
 use Rattle.std.specs.List.{join_with_byte}
 use Rattle.std.specs.Result.{OnOk}
 use Rattle.snow_lines.specs.declared.line.Line.{Line}
-use Rattle.snow_lines.specs.Gathered.{Gathers}
-use Rattle.snow_lines.specs.Text.{fields, name}
+use Rattle.snow_lines.specs.Kept.Gathered.{Gathers}
+use Rattle.snow_lines.specs.Model.Text.{fields, name}
 use Rattle.snow_lines.proofs.printing.put_front.Goals as goal
 
 pub returns-in-DropQuery-clause-ok : goal.returns-in-DropQuery-clause-ok

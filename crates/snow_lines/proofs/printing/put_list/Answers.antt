@@ -3,10 +3,10 @@ use Rattle.std.proofs.Common.{◌++◌, sym, subst}
 use Rattle.std.specs.List.{flat_map}
 use Rattle.std.specs.Result.{OnOk, OnErr}
 use Rattle.hex.specs.Hex.{encode_lower}
-use Rattle.snow_base.specs.Outside.{AppendsFront}
+use Rattle.snow_base.specs.Clauses.Outside.{AppendsFront}
 use Rattle.snow_lines.specs.declared.line.Line.{Line}
-use Rattle.snow_lines.specs.Gathered.{Gathers}
-use Rattle.snow_lines.specs.Text.{block_word, draw_word, listed, spaced}
+use Rattle.snow_lines.specs.Kept.Gathered.{Gathers}
+use Rattle.snow_lines.specs.Model.Text.{block_word, draw_word, listed, spaced}
 use Rattle.snow_lines.proofs.Joined.{list_came, list_failed}
 use Rattle.snow_lines.proofs.printing.put_list.Goals as goal
 

@@ -1,8 +1,8 @@
 -- A walk through the window finds the first slot with the mark, or none.
 use Rattle.std.proofs.Common.{◌<◌, length, map, sym, ap, ◌∙◌, arith}
 use Rattle.std.proofs.lemmas.List.{get_or-map, length-map}
-use Rattle.snow_lineup.specs.Marks.{is_mark}
-use Rattle.snow_lineup.specs.Index.{seat_of}
+use Rattle.snow_lineup.specs.Kept.Marks.{is_mark}
+use Rattle.snow_lineup.specs.Kept.Index.{seat_of}
 use Rattle.snow_lineup.proofs.Windowed.{none_outside, none_further, first_found, first_missing}
 use Rattle.snow_lineup.proofs.lineup.first_in.Goals as goal
 

@@ -1,5 +1,5 @@
 use Rattle.std.proofs.Common.{map}
-use Rattle.snow_lineup.specs.Index.{seat_of}
+use Rattle.snow_lineup.specs.Kept.Index.{seat_of}
 use Rattle.snow_lineup.proofs.Windowed.{NoneBelow}
 use Rattle.snow_lineup.proofs.lineup.first_in.Given as goal
 

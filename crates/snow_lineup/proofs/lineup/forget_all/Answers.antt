@@ -1,6 +1,6 @@
 use Rattle.std.proofs.Common.{slice_index_or, ap}
 use Rattle.std.proofs.lemmas.List.Edits.{map_over_more}
-use Rattle.snow_lineup.specs.Index.{reset}
+use Rattle.snow_lineup.specs.Kept.Index.{reset}
 use Rattle.snow_lineup.proofs.lineup.forget_all.Goals as goal
 
 pub loop-slot-preserved : goal.loop-slot-preserved

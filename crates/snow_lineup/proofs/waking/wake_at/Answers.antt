@@ -1,7 +1,7 @@
 use Rattle.std.proofs.Common.{map, slice_index_or, arith}
 use Rattle.std.proofs.lemmas.List.{length-map}
 use Rattle.snow_lineup.specs.declared.marks.Mark.TheVariants.{New}
-use Rattle.snow_lineup.specs.Index.{seat_of, reset}
+use Rattle.snow_lineup.specs.Kept.Index.{seat_of, reset}
 use Rattle.snow_lineup.proofs.Tagged.{seats_set}
 use Rattle.snow_lineup.proofs.Windowed.{within_marked}
 use Rattle.snow_lineup.proofs.waking.wake_at.Goals as goal

@@ -1,6 +1,6 @@
 use Rattle.std.proofs.Common.{[], ◌∷◌, map, take, sym, ap, ◌∙◌, subst, slice_index}
 use Rattle.std.proofs.lemmas.List.{take_more}
-use Rattle.snow_lineup.specs.Index.{woken_at}
+use Rattle.snow_lineup.specs.Kept.Index.{woken_at}
 use Rattle.snow_lineup.proofs.Placed.{rises_woken, woken_more, woken_by_none, Rises}
 use Rattle.snow_lineup.proofs.waking.wake_each.Goals as goal
 

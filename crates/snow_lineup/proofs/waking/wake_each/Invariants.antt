@@ -1,6 +1,6 @@
 use Rattle.std.proofs.Common.{◌≡◌, map, take}
-use Rattle.snow_lineup.specs.Index.{seat_of, woken_at}
-use Rattle.snow_lineup.specs.Windows.{AreWithin}
+use Rattle.snow_lineup.specs.Kept.Index.{seat_of, woken_at}
+use Rattle.snow_lineup.specs.Kept.Windows.{AreWithin}
 use Rattle.snow_lineup.proofs.waking.wake_each.Given as goal
 
 abbrev pub invariant-loop-place : goal.invariant-loop-place

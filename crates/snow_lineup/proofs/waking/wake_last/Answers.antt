@@ -1,6 +1,6 @@
 use Rattle.std.proofs.Common.{map, sym, ap, ◌∙◌}
 use Rattle.std.specs.Option.{option_to_list}
-use Rattle.snow_lineup.specs.Index.{woken_at}
+use Rattle.snow_lineup.specs.Kept.Index.{woken_at}
 use Rattle.snow_lineup.proofs.Placed.{woken_by_none}
 use Rattle.snow_lineup.proofs.waking.wake_last.Goals as goal
 

@@ -1,6 +1,6 @@
 use Rattle.std.proofs.Common.{map, sym, ap, ◌∙◌, subst}
 use Rattle.std.specs.Option.{option_to_list}
-use Rattle.snow_lineup.specs.Index.{woken_at}
+use Rattle.snow_lineup.specs.Kept.Index.{woken_at}
 use Rattle.snow_lineup.proofs.Placed.{Rises, rises_woken, woken_row}
 use Rattle.snow_lineup.proofs.waking.wake_row.Goals as goal
 

@@ -1,7 +1,7 @@
 -- The chain can be told the decisions, and then belongs to the board.
 use Rattle.std.proofs.Common.{◌≤◌, ◌∙◌, arith}
-use Rattle.snow_base.specs.Gathered.{one_each}
-use Rattle.snow_base.specs.Votes.{total_count}
+use Rattle.snow_base.specs.Clauses.Gathered.{one_each}
+use Rattle.snow_base.specs.Model.Votes.{total_count}
 use Rattle.snow_board.proofs.OneEach.{total_each}
 use Rattle.snow_node.proofs.Recorded.{may_be_told, steady_told}
 use Rattle.snow_node.proofs.admitting.apply_votes.Goals as goal

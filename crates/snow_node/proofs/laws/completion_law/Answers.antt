@@ -1,5 +1,5 @@
 -- The votes of each completion are alike to those that the board was given.
-use Rattle.snow_poll.specs.Completion.{completed}
+use Rattle.snow_poll.specs.Laws.Completion.{completed}
 use Rattle.snow_node.proofs.laws.completion_law.Goals as goal
 
 pub returns : goal.returns

@@ -1,7 +1,7 @@
 -- The lines of the decisions so far are a front of all.
 use Rattle.std.proofs.Common.{◌∙◌}
 use Rattle.std.proofs.lemmas.Result.{err_from_is_err_and}
-use Rattle.snow_node.specs.Telling.{decision_line}
+use Rattle.snow_node.specs.Model.Telling.{decision_line}
 use Rattle.snow_node.proofs.Logs.{logs_some}
 use Rattle.snow_node.proofs.reporting.tell_decisions.Goals as goal
 

@@ -1,7 +1,7 @@
 -- The chain was told the decisions so far, and may be told the rest.
 use Rattle.std.proofs.Common.{◌≡◌, take, drop}
-use Rattle.snow_node.specs.Matching.{MayFollow}
-use Rattle.snow_node.specs.Telling.{with_decisions}
+use Rattle.snow_node.specs.Clauses.Matching.{MayFollow}
+use Rattle.snow_node.specs.Model.Telling.{with_decisions}
 use Rattle.snow_node.proofs.telling.notify_chain.Given as goal
 
 abbrev pub invariant-loop-decision : goal.invariant-loop-decision

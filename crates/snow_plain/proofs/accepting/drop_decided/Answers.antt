@@ -1,6 +1,6 @@
 use Rattle.std.proofs.Common.{not, rules}
 use Rattle.std.proofs.lemmas.Fn.{filter_same}
-use Rattle.snow_board.specs.Acceptance.{has_decision}
+use Rattle.snow_board.specs.Model.Acceptance.{has_decision}
 use Rattle.snow_plain.proofs.accepting.drop_decided.Goals as goal
 
 pub returns : goal.returns

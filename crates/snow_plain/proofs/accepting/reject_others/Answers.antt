@@ -1,5 +1,5 @@
 use Rattle.std.proofs.Common.{◌≡◌, ◌+◌, ◌++◌, cond, [], ◌∷◌, map, vec_capacity, sym, ap, ◌∙◌, append-nil, arith}
-use Rattle.snow_board.specs.Poll.{rejects}
+use Rattle.snow_board.specs.Model.Poll.{rejects}
 use Rattle.snow_plain.proofs.Judged.{rejected_before, told_since, told_next, told_room}
 use Rattle.snow_plain.proofs.accepting.reject_others.Goals as goal
 use Rattle.snow_plain.proofs.accepting.reject_others.Goals.{then-is_rejected, else-is_rejected, After-is_rejected}

@@ -1,5 +1,5 @@
 use Rattle.std.proofs.Common.{◌≡◌, ◌++◌, map, vec_capacity}
-use Rattle.snow_board.specs.Poll.{rejects}
+use Rattle.snow_board.specs.Model.Poll.{rejects}
 use Rattle.snow_plain.proofs.Judged.{rejected_before}
 use Rattle.snow_plain.proofs.accepting.reject_others.Given as goal
 

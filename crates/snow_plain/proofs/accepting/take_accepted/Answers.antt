@@ -1,7 +1,7 @@
 use Rattle.std.proofs.Common.{◌≡◌, ◌<◌, ◌∷◌, ◌++◌, length, map, filter, not, sym, ap, ◌∙◌, arith}
 use Rattle.std.proofs.lemmas.List.{get_or_default}
-use Rattle.snow_board.specs.Poll.{accepts, rejects}
-use Rattle.snow_board.specs.Acceptance.{outsiders, descendants, has_decision}
+use Rattle.snow_board.specs.Model.Poll.{accepts, rejects}
+use Rattle.snow_board.specs.Model.Acceptance.{outsiders, descendants, has_decision}
 use Rattle.snow_plain.proofs.Judged.{told_since}
 use Rattle.snow_plain.proofs.Taken.{fewer_left, told_all, told_fewer, left_after}
 use Rattle.snow_plain.proofs.accepting.take_accepted.Goals as goal

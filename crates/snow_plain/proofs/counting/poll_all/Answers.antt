@@ -1,7 +1,7 @@
 use Rattle.std.proofs.Common.{◌<◌, List, All, sym, ap, subst, arith}
 use Rattle.snow_board.specs.declared.cursor.Cursor.{Cursor}
-use Rattle.snow_board.specs.Board.{blocks_of}
-use Rattle.snow_board.specs.Cursors.{cursor_total}
+use Rattle.snow_board.specs.Model.Board.{blocks_of}
+use Rattle.snow_board.specs.Kept.Cursors.{cursor_total}
 use Rattle.snow_plain.proofs.Swept.{counts_kept, total_kept}
 use Rattle.snow_plain.proofs.counting.poll_all.Goals as goal
 

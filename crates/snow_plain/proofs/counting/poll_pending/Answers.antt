@@ -1,8 +1,8 @@
 use Rattle.std.proofs.Common.{◌≡◌, ℕ, suc, ◌-◌, ◌<◌, ◌++◌, List, length, take, drop, map, All, sym, ap, ◌∙◌, subst, arith}
 use Rattle.snow_board.specs.declared.cursor.Cursor.{Cursor}
-use Rattle.snow_board.specs.Conflict.{Pending}
-use Rattle.snow_board.specs.Board.{blocks_of}
-use Rattle.snow_board.specs.Cursors.{moved, moved_past, cursor_total, polled}
+use Rattle.snow_board.specs.Model.Conflict.{Pending}
+use Rattle.snow_board.specs.Model.Board.{blocks_of}
+use Rattle.snow_board.specs.Kept.Cursors.{moved, moved_past, cursor_total, polled}
 use Rattle.snow_plain.proofs.Swept.{swept_none, unmoved, moved_more, next_is, swept_more, counts_kept, total_kept}
 use Rattle.snow_plain.proofs.counting.poll_pending.Goals as goal
 

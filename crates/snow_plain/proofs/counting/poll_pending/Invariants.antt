@@ -1,6 +1,6 @@
 use Rattle.std.proofs.Common.{◌≡◌, ◌+◌, ◌≤◌, ◌++◌, length, map, take, drop}
-use Rattle.snow_board.specs.Board.{blocks_of}
-use Rattle.snow_board.specs.Cursors.{moved_past, polled}
+use Rattle.snow_board.specs.Model.Board.{blocks_of}
+use Rattle.snow_board.specs.Kept.Cursors.{moved_past, polled}
 use Rattle.snow_plain.proofs.counting.poll_pending.Given as goal
 
 abbrev pub invariant-loop-i : goal.invariant-loop-i

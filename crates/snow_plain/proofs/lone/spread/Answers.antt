@@ -1,8 +1,8 @@
 use Rattle.std.proofs.Common.{◌≡◌, Option, Some, sym, ap, ◌∙◌, subst}
 use Rattle.snow_plain.specs.declared.lone.Lone.{Lone}
-use Rattle.snow_plain.specs.Trees.{counters_of}
-use Rattle.snow_plain.specs.Alone.{counters_seen, IsReserve, lined}
-use Rattle.snow_base.specs.Identifier.{bits}
+use Rattle.snow_plain.specs.Kept.Trees.{counters_of}
+use Rattle.snow_plain.specs.Kept.Alone.{counters_seen, IsReserve, lined}
+use Rattle.snow_base.specs.Model.Identifier.{bits}
 use Rattle.snow_plain.proofs.Alone.{filled_reserve, depth_alone}
 use Rattle.snow_plain.proofs.lone.spread.Goals as goal
 use Rattle.snow_plain.proofs.lone.spread.Goals.{After-fill}

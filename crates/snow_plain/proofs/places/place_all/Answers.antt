@@ -1,5 +1,5 @@
 use Rattle.std.proofs.Common.{◌≡◌, ◌-◌, ◌+◌, ◌<◌, length, drop, ◌∙◌, arith}
-use Rattle.snow_board.specs.Board.{blocks_of}
+use Rattle.snow_board.specs.Model.Board.{blocks_of}
 use Rattle.snow_plain.proofs.Placed.{no_place, none_behind}
 use Rattle.snow_plain.proofs.places.place_all.Goals as goal
 

@@ -1,7 +1,7 @@
 use Rattle.std.proofs.Common.{◌≡◌, ℕ, ◌+◌, ◌≤◌, List, length, drop, bytes_eq}
 use Rattle.std.specs.HashMap.{get, hash_map_len, spare}
-use Rattle.snow_board.specs.Board.{blocks_of}
-use Rattle.snow_plain.specs.Places.{place_from}
+use Rattle.snow_board.specs.Model.Board.{blocks_of}
+use Rattle.snow_plain.specs.Kept.Places.{place_from}
 use Rattle.snow_plain.proofs.places.place_all.Given as goal
 
 abbrev pub invariant-loop-at : goal.invariant-loop-at

@@ -1,6 +1,6 @@
 use Rattle.std.proofs.Common.{sym, ◌∙◌, arith}
-use Rattle.snow_flake.specs.Instance.{counter_of}
-use Rattle.snow_plain.specs.Trees.{counters_of}
+use Rattle.snow_flake.specs.Kept.Instance.{counter_of}
+use Rattle.snow_plain.specs.Kept.Trees.{counters_of}
 use Rattle.snow_plain.proofs.Growing.{grown_dead, grown_zero, grown_one}
 use Rattle.snow_plain.proofs.tree.+add.Goals as goal
 

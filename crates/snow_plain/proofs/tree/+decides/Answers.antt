@@ -1,7 +1,7 @@
 use Rattle.std.proofs.Common.{sym, ◌∙◌, arith}
-use Rattle.snow_flake.specs.Instance.{counter_of}
-use Rattle.snow_board.specs.Conflict.{decided_path}
-use Rattle.snow_plain.specs.Trees.{counters_of}
+use Rattle.snow_flake.specs.Kept.Instance.{counter_of}
+use Rattle.snow_board.specs.Model.Conflict.{decided_path}
+use Rattle.snow_plain.specs.Kept.Trees.{counters_of}
 use Rattle.snow_board.proofs.Walking.{ends, decides_apart, decides_along}
 use Rattle.snow_plain.proofs.tree.+decides.Goals as goal
 use Rattle.snow_plain.proofs.tree.+decides.Goals.{then-side, else-side}

@@ -1,7 +1,7 @@
 use Rattle.std.proofs.Common.{sym, ◌∙◌, arith}
-use Rattle.snow_flake.specs.Instance.{counter_of}
-use Rattle.snow_board.specs.Conflict.{chosen}
-use Rattle.snow_plain.specs.Trees.{counters_of}
+use Rattle.snow_flake.specs.Kept.Instance.{counter_of}
+use Rattle.snow_board.specs.Model.Conflict.{chosen}
+use Rattle.snow_plain.specs.Kept.Trees.{counters_of}
 use Rattle.snow_board.proofs.Walking.{ends, leads_apart, leads_zero, leads_one}
 use Rattle.snow_plain.proofs.tree.+leads_to.Goals as goal
 use Rattle.snow_plain.proofs.tree.+leads_to.Goals.{then-side, else-side}

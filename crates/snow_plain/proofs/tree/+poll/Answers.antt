@@ -1,9 +1,9 @@
 use Rattle.std.proofs.Common.{◌<◌, ◌^◌, arith, refl}
 use Rattle.std.proofs.lemmas.List.Sums.{sum_by-take-le, sum_by-take-drop}
-use Rattle.snow_base.specs.Votes.{total_count}
-use Rattle.snow_flake.specs.Instance.{counter_of}
-use Rattle.snow_board.specs.Conflict.{all_polled}
-use Rattle.snow_plain.specs.Trees.{counters_of}
+use Rattle.snow_base.specs.Model.Votes.{total_count}
+use Rattle.snow_flake.specs.Kept.Instance.{counter_of}
+use Rattle.snow_board.specs.Model.Conflict.{all_polled}
+use Rattle.snow_plain.specs.Kept.Trees.{counters_of}
 use Rattle.snow_board.proofs.Polling.{polled_fork}
 use Rattle.snow_plain.proofs.tree.+poll.Goals as goal
 

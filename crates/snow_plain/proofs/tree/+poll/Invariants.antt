@@ -1,6 +1,6 @@
 use Rattle.std.proofs.Common.{◌+◌, ◌*◌}
-use Rattle.snow_board.specs.Walk.{depth}
-use Rattle.snow_plain.specs.Trees.{counters_of}
+use Rattle.snow_board.specs.Kept.Walk.{depth}
+use Rattle.snow_plain.specs.Kept.Trees.{counters_of}
 use Rattle.snow_plain.proofs.tree.+poll.Given as goal
 
 -- twice the depth

@@ -1,5 +1,5 @@
 use Rattle.std.proofs.Common.{◌≡◌, ◌+◌, ◌-◌, sym, ◌∙◌, arith}
-use Rattle.snow_board.specs.Conflict.{Blank}
+use Rattle.snow_board.specs.Model.Conflict.{Blank}
 use Rattle.snow_plain.proofs.Growing.{grown_end, grown_fresh}
 use Rattle.snow_plain.proofs.tree.chain.Goals as goal
 

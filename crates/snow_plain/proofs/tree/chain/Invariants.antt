@@ -1,7 +1,7 @@
 use Rattle.std.proofs.Common.{◌≡◌, ◌≤◌, drop}
-use Rattle.snow_base.specs.Identifier.{bits}
-use Rattle.snow_board.specs.Conflict.{Blank, with_child}
-use Rattle.snow_plain.specs.Trees.{counters_of}
+use Rattle.snow_base.specs.Model.Identifier.{bits}
+use Rattle.snow_board.specs.Model.Conflict.{Blank, with_child}
+use Rattle.snow_plain.specs.Kept.Trees.{counters_of}
 use Rattle.snow_plain.proofs.tree.chain.Given as goal
 
 -- the counters from bit `at` on stand

@@ -1,7 +1,7 @@
 -- The entry is chained before the last one of its class.
 use Rattle.std.proofs.Common.{◌≡◌, ◌+◌, false, List, [], ◌∷◌, length, map, ap, ◌∙◌, arith}
 use Rattle.std.proofs.lemmas.List.{get_or_read, map-append}
-use Rattle.snow_poll.specs.Awaited.{draw_of, class_of}
+use Rattle.snow_poll.specs.Kept.Awaited.{draw_of, class_of}
 use Rattle.snow_poll.specs.declared.awaited.Wait.{Wait}
 use Rattle.snow_poll.proofs.Waiting.{within_classes, waits_more}
 use Rattle.snow_poll.proofs.awaited.enter.Goals as goal

@@ -2,7 +2,7 @@
 use Rattle.std.proofs.Common.{List, length, map, ap, arith, ◌∙◌}
 use Rattle.std.proofs.lemmas.List.{length-map, length-take-le}
 use Rattle.snow_sample.specs.declared.draws.Draw.{Draw}
-use Rattle.snow_poll.specs.Awaited.{counts_at, draw_of}
+use Rattle.snow_poll.specs.Kept.Awaited.{counts_at, draw_of}
 use Rattle.snow_poll.proofs.Begun.{times_more, drawn_more}
 use Rattle.snow_poll.proofs.awaited.enter_all.Goals as goal
 

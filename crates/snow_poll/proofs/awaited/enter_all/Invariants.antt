@@ -1,7 +1,7 @@
 -- The nodes so far have their draws.
 use Rattle.std.proofs.Common.{◌≡◌, map, take, vec_capacity}
-use Rattle.snow_poll.specs.Awaited.{counts_at, draw_of, AreWaits}
-use Rattle.snow_poll.specs.Kept.{HasTimes}
+use Rattle.snow_poll.specs.Kept.Awaited.{counts_at, draw_of, AreWaits}
+use Rattle.snow_poll.specs.Kept.Tallied.{HasTimes}
 use Rattle.snow_poll.proofs.awaited.enter_all.Given as goal
 
 abbrev pub invariant-loop-draw : goal.invariant-loop-draw

@@ -1,6 +1,6 @@
 -- The next node has its number.
 use Rattle.std.proofs.Common.{◌≡◌, ◌+◌, arith, ap, ◌∙◌, cond, bytes_eq}
-use Rattle.snow_poll.specs.Awaited.{number_in}
+use Rattle.snow_poll.specs.Kept.Awaited.{number_in}
 use Rattle.snow_poll.proofs.Waiting.{numbers_more, number_put}
 use Rattle.snow_poll.proofs.awaited.number_all.Goals as goal
 

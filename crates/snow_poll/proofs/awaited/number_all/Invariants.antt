@@ -1,6 +1,6 @@
 -- The nodes so far have their numbers.
 use Rattle.std.proofs.Common.{◌≡◌, ℕ, List}
-use Rattle.snow_poll.specs.Awaited.{number_in}
+use Rattle.snow_poll.specs.Kept.Awaited.{number_in}
 use Rattle.snow_poll.proofs.Waiting.{IsNumberAmong}
 use Rattle.snow_poll.proofs.awaited.number_all.Given as goal
 

@@ -1,7 +1,7 @@
 -- A binary search in bit order finds the place.
 use Rattle.std.proofs.Common.{rules}
 use Rattle.std.proofs.lemmas.Fn.{always_returns_same}
-use Rattle.snow_base.specs.Identifier.{bit_cmp}
+use Rattle.snow_base.specs.Model.Identifier.{bit_cmp}
 use Rattle.snow_base.proofs.Adding.{searched}
 use Rattle.snow_poll.proofs.tally.place.Goals as goal
 

@@ -1,5 +1,5 @@
 use Rattle.std.proofs.Common.{◌∙◌}
-use Rattle.snow_recent.specs.Index.{id_of}
+use Rattle.snow_recent.specs.Kept.Index.{id_of}
 use Rattle.snow_recent.proofs.Filed.{filed_set, filed_insert}
 use Rattle.snow_recent.proofs.index.file.Goals as goal
 

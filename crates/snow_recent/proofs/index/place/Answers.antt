@@ -1,7 +1,7 @@
 use Rattle.std.proofs.Common.{rules, arith, sym, ap, ◌∙◌}
 use Rattle.std.proofs.lemmas.Fn.{always_returns_same}
 use Rattle.std.specs.Ordering.{is_eq, is_gt}
-use Rattle.snow_recent.specs.Index.{byte_cmp, id_of}
+use Rattle.snow_recent.specs.Kept.Index.{byte_cmp, id_of}
 use Rattle.snow_recent.proofs.Filed.{searched}
 use Rattle.snow_recent.proofs.Looked.{found_at, placed_at}
 use Rattle.snow_recent.proofs.index.place.Goals as goal

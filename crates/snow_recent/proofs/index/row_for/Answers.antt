@@ -1,7 +1,7 @@
 use Rattle.std.proofs.Common.{rules, arith}
 use Rattle.std.proofs.lemmas.List.Sorted.{IsPartitionPoint-from_clause}
-use Rattle.snow_recent.specs.Index.{id_of}
-use Rattle.snow_recent.specs.Table.{ends_below}
+use Rattle.snow_recent.specs.Kept.Index.{id_of}
+use Rattle.snow_recent.specs.Kept.Table.{ends_below}
 use Rattle.snow_recent.proofs.RowOf.{rows_partitioned, row_found, row_seen}
 use Rattle.snow_recent.proofs.index.row_for.Goals as goal
 

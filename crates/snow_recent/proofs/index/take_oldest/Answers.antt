@@ -1,6 +1,6 @@
 use Rattle.std.proofs.Common.{◌≡◌, get_or, sym, ap, ◌∙◌}
 use Rattle.std.proofs.lemmas.List.{get_or_default}
-use Rattle.snow_recent.specs.Index.{id_of}
+use Rattle.snow_recent.specs.Kept.Index.{id_of}
 use Rattle.snow_recent.proofs.Forgotten.{without_at, without_other, without_place}
 use Rattle.snow_recent.proofs.index.take_oldest.Goals as goal
 

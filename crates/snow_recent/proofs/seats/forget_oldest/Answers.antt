@@ -1,6 +1,6 @@
 use Rattle.std.proofs.Common.{ℕ, List, get_or, sym, ap, ◌∙◌}
 use Rattle.std.specs.List.{concat}
-use Rattle.snow_recent.specs.Index.{seat_of}
+use Rattle.snow_recent.specs.Kept.Index.{seat_of}
 use Rattle.snow_recent.proofs.Forgotten.{without_none}
 use Rattle.snow_recent.proofs.seats.forget_oldest.Goals as goal
 

@@ -1,7 +1,7 @@
 use Rattle.std.proofs.Common.{◌≡◌, ◌+◌, ◌-◌, ◌<◌, ◌≤◌, length, get_or, [], sym, ◌∙◌, ap, arith, subst}
 use Rattle.std.proofs.lemmas.Bool.{ltb-true, ltb-false}
 use Rattle.std.proofs.lemmas.List.{get_or_default}
-use Rattle.snow_recent.specs.Table.{IsWorn}
+use Rattle.snow_recent.specs.Kept.Table.{IsWorn}
 use Rattle.snow_recent.proofs.Rows.{AreJoined, joined_count, joined_numbers, joined_kept, joined_filled, filled_before}
 use Rattle.snow_recent.proofs.table.join_last.Goals as goal
 use Rattle.snow_recent.proofs.table.join_last.Goals.{After-join, then-len-eq0-via-then-len-eq0, then-len-eq0-via-else-len-eq0+then-is_thin}

@@ -1,6 +1,6 @@
 -- The starts so far, and where the last run's search ended.
 use Rattle.std.proofs.Common.{◌≡◌, ◌*◌, ◌≤◌, length}
-use Rattle.snow_sample.specs.Guide.{AreStarts}
+use Rattle.snow_sample.specs.Kept.Guide.{AreStarts}
 use Rattle.snow_sample.proofs.Guiding.{AreBefore}
 use Rattle.snow_sample.proofs.guide.starts_of.Given as goal
 

@@ -1,7 +1,7 @@
 -- One more word is taken, or passed over.
 use Rattle.std.proofs.Common.{◌≡◌, ◌+◌, ◌∷◌, drop, slice_index, ◌∙◌, sym, ap, arith, refl}
 use Rattle.std.proofs.lemmas.List.{drop_more}
-use Rattle.snow_sample.specs.Words.{reduced}
+use Rattle.snow_sample.specs.Model.Words.{reduced}
 use Rattle.snow_sample.proofs.Choosing.{rest_whole, rest_more, taken, passed}
 use Rattle.snow_sample.proofs.line.reduce.Goals as goal
 

@@ -1,6 +1,6 @@
 -- The words so far were passed over.
 use Rattle.std.proofs.Common.{◌≡◌, ◌-◌, ◌≤◌, length, drop}
-use Rattle.snow_sample.specs.Words.{reduced, IsRest}
+use Rattle.snow_sample.specs.Model.Words.{reduced, IsRest}
 use Rattle.snow_sample.proofs.line.reduce.Given as goal
 
 abbrev pub invariant-loop-at : goal.invariant-loop-at

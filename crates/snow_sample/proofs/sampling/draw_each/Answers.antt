@@ -1,7 +1,7 @@
 -- One more draw, the end, or a fault.
 use Rattle.std.proofs.Common.{◌≡◌, ◌+◌, ◌∙◌, arith, refl}
 use Rattle.std.proofs.lemmas.Result.{err_from_is_err_and}
-use Rattle.snow_sample.specs.Kept.{unit_at}
+use Rattle.snow_sample.specs.Kept.Drawn.{unit_at}
 use Rattle.snow_sample.proofs.Choosing.{rest_rest}
 use Rattle.snow_sample.proofs.Drawing.{drawing_begins, drawing_more, drawing_fails, drawing_ends}
 use Rattle.snow_sample.proofs.sampling.draw_each.Goals as goal

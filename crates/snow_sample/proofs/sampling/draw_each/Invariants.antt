@@ -1,7 +1,7 @@
 -- The draws so far are made, each took a word, and each node's slot has their place.
 use Rattle.std.proofs.Common.{◌≡◌, ◌+◌, ◌≤◌, length}
 use Rattle.std.specs.Vec.{vec_capacity}
-use Rattle.snow_sample.specs.Kept.{unit_at, AreMoves, HasSlots}
+use Rattle.snow_sample.specs.Kept.Drawn.{unit_at, AreMoves, HasSlots}
 use Rattle.snow_sample.proofs.Drawing.{Drawing}
 use Rattle.snow_sample.proofs.sampling.draw_each.Given as goal
 

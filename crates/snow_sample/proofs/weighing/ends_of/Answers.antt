@@ -2,7 +2,7 @@
 use Rattle.std.proofs.Common.{◌≡◌, ℕ, ◌+◌, ◌++◌, ◌∷◌, [], take, add-one, arith, sym, ap, ◌∙◌}
 use Rattle.std.proofs.lemmas.List.Sums.{sum_by_more}
 use Rattle.snow_sample.specs.declared.roster.Node.{Node}
-use Rattle.snow_sample.specs.Roster.{total_weight, ends_from}
+use Rattle.snow_sample.specs.Model.Roster.{total_weight, ends_from}
 use Rattle.snow_sample.proofs.Weights.{ends_more}
 use Rattle.snow_sample.proofs.weighing.ends_of.Goals as goal
 

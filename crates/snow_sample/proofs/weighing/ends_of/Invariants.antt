@@ -1,6 +1,6 @@
 -- The ends of the nodes so far.
 use Rattle.std.proofs.Common.{◌≡◌, take}
-use Rattle.snow_sample.specs.Roster.{total_weight, ends_from}
+use Rattle.snow_sample.specs.Model.Roster.{total_weight, ends_from}
 use Rattle.snow_sample.proofs.weighing.ends_of.Given as goal
 
 abbrev pub invariant-loop-node : goal.invariant-loop-node

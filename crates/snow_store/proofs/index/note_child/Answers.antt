@@ -1,6 +1,6 @@
 -- The parent has one child more.
 use Rattle.std.proofs.Common.{ap, ◌∙◌}
-use Rattle.snow_store.specs.Indexing.{with_child}
+use Rattle.snow_store.specs.Kept.Indexing.{with_child}
 use Rattle.snow_store.proofs.Indexed.{children_more}
 use Rattle.snow_store.proofs.index.note_child.Goals as goal
 

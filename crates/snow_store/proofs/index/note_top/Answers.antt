@@ -1,6 +1,6 @@
 -- The identifier has the higher of the two heights.
 use Rattle.std.proofs.Common.{ap, ◌∙◌}
-use Rattle.snow_store.specs.Indexing.{higher_height}
+use Rattle.snow_store.specs.Kept.Indexing.{higher_height}
 use Rattle.snow_store.proofs.Indexed.{tops_more}
 use Rattle.snow_store.proofs.index.note_top.Goals as goal
 

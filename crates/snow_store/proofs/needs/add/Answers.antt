@@ -1,7 +1,7 @@
 -- Nothing is missed, or one number is higher.
 use Rattle.std.proofs.Common.{◌≡◌, ◌+◌, ◌||◌, sym, ap, ◌∙◌}
 use Rattle.std.specs.Option.{unwrap_or}
-use Rattle.snow_store.specs.Needing.{names, counted, has_need, with_more}
+use Rattle.snow_store.specs.Model.Needing.{names, counted, has_need, with_more}
 use Rattle.snow_store.proofs.Counting.{added, has_added, there_is}
 use Rattle.snow_store.proofs.needs.add.Goals as goal
 

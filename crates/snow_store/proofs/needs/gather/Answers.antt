@@ -2,9 +2,9 @@
 use Rattle.std.proofs.Common.{◌≡◌, ◌+◌, suc, ◌++◌, [], ◌∷◌, take, sym, ap, arith, ◌∙◌}
 use Rattle.std.proofs.Math.Seq.{take-suc}
 use Rattle.std.proofs.lemmas.List.{take_all}
-use Rattle.snow_store.specs.Needing.{missing, with_more}
-use Rattle.snow_store.specs.Paths.{missed}
-use Rattle.snow_store.specs.Renewing.{fetch_by}
+use Rattle.snow_store.specs.Model.Needing.{missing, with_more}
+use Rattle.snow_store.specs.Model.Paths.{missed}
+use Rattle.snow_store.specs.Kept.Renewing.{fetch_by}
 use Rattle.snow_store.proofs.Counting.{missing_last, counts_same, no_counts}
 use Rattle.snow_store.proofs.Storing.{missed_is}
 use Rattle.snow_store.proofs.needs.gather.Goals as goal

@@ -1,5 +1,5 @@
 -- So many more miss it.
-use Rattle.snow_store.specs.Needing.{has_need}
+use Rattle.snow_store.specs.Model.Needing.{has_need}
 use Rattle.snow_store.proofs.needs.join.Goals as goal
 
 pub returns-clause-due : goal.returns-clause-due

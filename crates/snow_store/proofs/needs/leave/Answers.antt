@@ -1,7 +1,7 @@
 -- One of several is left, or none.
 use Rattle.std.proofs.Common.{◌≡◌, ◌≤◌, sym, ap, ◌∙◌, arith}
 use Rattle.std.specs.Option.{unwrap_or}
-use Rattle.snow_store.specs.Needing.{counted, with_less}
+use Rattle.snow_store.specs.Model.Needing.{counted, with_less}
 use Rattle.snow_store.proofs.Counting.{lessened, lessened_all, has_lessened, there_is}
 use Rattle.snow_store.proofs.needs.leave.Goals as goal
 

@@ -1,6 +1,6 @@
 -- Whoever missed the block misses what its run misses.
 use Rattle.std.proofs.Common.{ap, ◌∙◌}
-use Rattle.snow_store.specs.Needing.{need_at, with_more, with_none, passed_on}
+use Rattle.snow_store.specs.Model.Needing.{need_at, with_more, with_none, passed_on}
 use Rattle.snow_store.proofs.Counting.{some_there, removed, counts_same}
 use Rattle.snow_store.proofs.needs.pass_on.Goals as goal
 

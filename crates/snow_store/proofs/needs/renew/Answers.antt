@@ -3,10 +3,10 @@ use Rattle.std.proofs.Common.{◌≡◌, refl, sym, subst}
 use Rattle.snow_store.specs.declared.block.KeptBlock.{KeptBlock}
 use Rattle.snow_store.specs.declared.due.Due.{Due}
 use Rattle.snow_store.specs.declared.verdict.Verdict.{Verdict}
-use Rattle.snow_store.specs.Keeping.{after_taking}
-use Rattle.snow_store.specs.Needing.{missing}
-use Rattle.snow_store.specs.Renewing.{fetch_by, MayRenew, IsRenewed}
-use Rattle.snow_store.specs.Coming.{after_verdict}
+use Rattle.snow_store.specs.Model.Keeping.{after_taking}
+use Rattle.snow_store.specs.Model.Needing.{missing}
+use Rattle.snow_store.specs.Kept.Renewing.{fetch_by, MayRenew, IsRenewed}
+use Rattle.snow_store.specs.Clauses.Coming.{after_verdict}
 use Rattle.snow_store.proofs.Needed.{with_found}
 use Rattle.snow_store.proofs.Renewed.{low_renewed, same_renewed}
 use Rattle.snow_store.proofs.needs.renew.Goals as goal

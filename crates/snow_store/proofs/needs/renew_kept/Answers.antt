@@ -1,7 +1,7 @@
 -- Whoever missed the block misses what its run misses, and its target what is missed below its highest block.
 use Rattle.std.proofs.Common.{◌≡◌, true, false, sym, ◌∙◌}
-use Rattle.snow_store.specs.Paths.{has_id, missed}
-use Rattle.snow_store.specs.Renewing.{fetch_by}
+use Rattle.snow_store.specs.Model.Paths.{has_id, missed}
+use Rattle.snow_store.specs.Kept.Renewing.{fetch_by}
 use Rattle.snow_store.proofs.Cases.{clash}
 use Rattle.snow_store.proofs.Renewed.{passed_renewed, target_renewed}
 use Rattle.snow_store.proofs.Storing.{missed_is}

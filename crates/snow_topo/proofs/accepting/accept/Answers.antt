@@ -1,6 +1,6 @@
 use Rattle.std.proofs.Common.{◌≡◌, ◌++◌, IfSome, length, sym, ap, subst, ◌∙◌, arith}
-use Rattle.snow_tree.specs.Held.{Held, entry_in, promoted}
-use Rattle.snow_topo.specs.Told.{told}
+use Rattle.snow_tree.specs.Kept.Held.{Held, entry_in, promoted}
+use Rattle.snow_topo.specs.Clauses.Told.{told}
 use Rattle.snow_topo.proofs.Climbs.{some_of}
 use Rattle.snow_topo.proofs.Promoted.{child_entry, fewer_left}
 use Rattle.snow_topo.proofs.accepting.accept.Goals as goal

@@ -1,10 +1,10 @@
 use Rattle.std.proofs.Common.{Some, length, sym, ap, subst, ◌∙◌, arith, length-append}
 use Rattle.std.specs.Option.{option_map}
 use Rattle.std.proofs.lemmas.List.{length-map}
-use Rattle.snow_tree.specs.Held.{Held, entry_in, promoted}
-use Rattle.snow_topo.specs.Kept.{Kept}
-use Rattle.snow_topo.specs.View.{AreFit}
-use Rattle.snow_topo.specs.Told.{rejection, told}
+use Rattle.snow_tree.specs.Kept.Held.{Held, entry_in, promoted}
+use Rattle.snow_topo.specs.Kept.Children.{Kept}
+use Rattle.snow_topo.specs.Kept.View.{AreFit}
+use Rattle.snow_topo.specs.Clauses.Told.{rejection, told}
 use Rattle.snow_topo.proofs.Climbs.{some_of}
 use Rattle.snow_topo.proofs.Promoted.{next_entry, accepted_next, accepted_none, fewer_left, fit_promoted}
 use Rattle.snow_topo.proofs.accepting.accept_next.Goals as goal

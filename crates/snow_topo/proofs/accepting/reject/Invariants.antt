@@ -1,5 +1,5 @@
 use Rattle.std.proofs.Common.{◌≡◌, ◌++◌, map, take, vec_capacity}
-use Rattle.snow_topo.specs.Told.{rejection}
+use Rattle.snow_topo.specs.Clauses.Told.{rejection}
 use Rattle.snow_topo.proofs.accepting.reject.Given as goal
 
 abbrev pub invariant-loop-id : goal.invariant-loop-id

@@ -1,9 +1,9 @@
 use Rattle.std.proofs.Common.{◌+◌, ◌++◌, length, reverse, sym, ap, subst, ◌∙◌, arith}
 use Rattle.std.proofs.lemmas.List.{length-map}
-use Rattle.snow_board.specs.Poll.{settled}
-use Rattle.snow_board.specs.Grown.{IsGrown}
-use Rattle.snow_board.specs.Preference.{preferred}
-use Rattle.snow_topo.specs.View.{view}
+use Rattle.snow_board.specs.Model.Poll.{settled}
+use Rattle.snow_board.specs.Kept.Grown.{IsGrown}
+use Rattle.snow_board.specs.Model.Preference.{preferred}
+use Rattle.snow_topo.specs.Kept.View.{view}
 use Rattle.snow_topo.proofs.Advancing.{preferred_settled}
 use Rattle.snow_topo.proofs.Counted.{blocks_seen}
 use Rattle.snow_topo.proofs.Polls.{polled}

@@ -1,10 +1,10 @@
 use Rattle.std.proofs.Common.{◌≡◌, ◌≤◌, length, sym, ap, subst, ◌∙◌, arith}
-use Rattle.snow_base.specs.Gathered.{one_each}
-use Rattle.snow_base.specs.Votes.{total_count}
-use Rattle.snow_climb.specs.Majority.{StandFor}
+use Rattle.snow_base.specs.Clauses.Gathered.{one_each}
+use Rattle.snow_base.specs.Model.Votes.{total_count}
+use Rattle.snow_climb.specs.Kept.Majority.{StandFor}
 use Rattle.snow_climb.proofs.Majorities.{all_for_all}
 use Rattle.snow_board.proofs.OneEach.{total_each}
-use Rattle.snow_topo.specs.Ballot.{votes_of}
+use Rattle.snow_topo.specs.Clauses.Ballot.{votes_of}
 use Rattle.snow_topo.proofs.ballot.start.Goals as goal
 
 pub start_votes-requires-clause-few : goal.start_votes-requires-clause-few

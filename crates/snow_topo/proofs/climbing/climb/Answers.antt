@@ -4,17 +4,17 @@ use Rattle.std.proofs.lemmas.List.{length-map}
 use Rattle.std.proofs.lemmas.List.Sorted.{All-permutation, IsPermutation-sym, length_permutation}
 use Rattle.snow_climb.specs.declared.climber.Climber.{Climber}
 use Rattle.snow_base.specs.declared.vote.Vote.{Vote}
-use Rattle.snow_base.specs.Ancestry.{votes_below}
-use Rattle.snow_board.specs.Cursors.{votes_at}
-use Rattle.snow_tree.specs.Held.{Held, blocks_in, children_of, set_load, with_load}
-use Rattle.snow_topo.specs.Kept.{Kept, ids_in, IsFit}
-use Rattle.snow_climb.specs.Climbing.{reach, cursor_of, cursors_of, ArePlaced, AreBelow, merged}
-use Rattle.snow_climb.specs.Rising.{AreClimbing}
-use Rattle.snow_climb.specs.Starting.{HaveBegun}
-use Rattle.snow_topo.specs.Half.{IsHalf, HasTaken}
+use Rattle.snow_base.specs.Model.Ancestry.{votes_below}
+use Rattle.snow_board.specs.Kept.Cursors.{votes_at}
+use Rattle.snow_tree.specs.Kept.Held.{Held, blocks_in, children_of, set_load, with_load}
+use Rattle.snow_topo.specs.Kept.Children.{Kept, ids_in, IsFit}
+use Rattle.snow_climb.specs.Kept.Climbing.{reach, cursor_of, cursors_of, ArePlaced, AreBelow, merged}
+use Rattle.snow_climb.specs.Kept.Rising.{AreClimbing}
+use Rattle.snow_climb.specs.Kept.Starting.{HaveBegun}
+use Rattle.snow_topo.specs.Kept.Half.{IsHalf, HasTaken}
 use Rattle.snow_climb.proofs.Merged.{fewer_merged}
-use Rattle.snow_topo.specs.Leading.{all_leads, IsSteady}
-use Rattle.snow_topo.specs.Recording.{recording_at, recording_in}
+use Rattle.snow_topo.specs.Kept.Leading.{all_leads, IsSteady}
+use Rattle.snow_topo.specs.Kept.Recording.{recording_at, recording_in}
 use Rattle.snow_topo.proofs.Steady.{leads_set}
 use Rattle.snow_climb.proofs.Begun.{climbing_again}
 use Rattle.snow_climb.proofs.Climbers.{below_places, within_places}

@@ -1,13 +1,13 @@
 use Rattle.std.proofs.Common.{◌≡◌, ◌+◌, ◌*◌, ◌<◌, ◌≤◌, false, List, drop, length}
 use Rattle.snow_base.specs.declared.vote.Vote.{Vote}
-use Rattle.snow_tree.specs.Held.{blocks_in}
-use Rattle.snow_climb.specs.Climbing.{cursors_of, ArePlaced}
-use Rattle.snow_climb.specs.Rising.{AreClimbing}
-use Rattle.snow_climb.specs.Starting.{HaveBegun}
-use Rattle.snow_topo.specs.Half.{IsHalf}
-use Rattle.snow_climb.specs.Ladder.{KeepsRoom}
-use Rattle.snow_topo.specs.Leading.{all_leads}
-use Rattle.snow_topo.specs.Recording.{recording_in}
+use Rattle.snow_tree.specs.Kept.Held.{blocks_in}
+use Rattle.snow_climb.specs.Kept.Climbing.{cursors_of, ArePlaced}
+use Rattle.snow_climb.specs.Kept.Rising.{AreClimbing}
+use Rattle.snow_climb.specs.Kept.Starting.{HaveBegun}
+use Rattle.snow_topo.specs.Kept.Half.{IsHalf}
+use Rattle.snow_climb.specs.Kept.Ladder.{KeepsRoom}
+use Rattle.snow_topo.specs.Kept.Leading.{all_leads}
+use Rattle.snow_topo.specs.Kept.Recording.{recording_in}
 use Rattle.snow_topo.proofs.climbing.climb.Given as goal
 
 abbrev pub invariant-loop-top : goal.invariant-loop-top

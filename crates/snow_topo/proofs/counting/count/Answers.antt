@@ -1,14 +1,14 @@
 use Rattle.std.proofs.Common.{◌≡◌, ◌+◌, ◌*◌, ◌<◌, ◌≤◌, ℕ, nat_le, [], List, All, length, slice_get, sym, ap, subst, ◌∙◌, arith, if◌then◌else◌}
 use Rattle.std.proofs.lemmas.Bool.{or_parts}
 use Rattle.std.proofs.lemmas.List.{length-map}
-use Rattle.snow_base.specs.Ancestry.{votes_below}
-use Rattle.snow_board.specs.Conflict.{all_polled}
-use Rattle.snow_board.specs.Cursors.{votes_at}
-use Rattle.snow_tree.specs.Held.{Held, blocks_in, children_of}
-use Rattle.snow_topo.specs.Kept.{ids_in, shown, IsFit}
-use Rattle.snow_climb.specs.Ladder.{Rungs}
-use Rattle.snow_topo.specs.Recording.{recording_at}
-use Rattle.snow_climb.specs.Climbing.{climber_total, cursors_of, cursor_of, parent_in, reach, HasCome}
+use Rattle.snow_base.specs.Model.Ancestry.{votes_below}
+use Rattle.snow_board.specs.Model.Conflict.{all_polled}
+use Rattle.snow_board.specs.Kept.Cursors.{votes_at}
+use Rattle.snow_tree.specs.Kept.Held.{Held, blocks_in, children_of}
+use Rattle.snow_topo.specs.Kept.Children.{ids_in, shown, IsFit}
+use Rattle.snow_climb.specs.Kept.Ladder.{Rungs}
+use Rattle.snow_topo.specs.Kept.Recording.{recording_at}
+use Rattle.snow_climb.specs.Kept.Climbing.{climber_total, cursors_of, cursor_of, parent_in, reach, HasCome}
 use Rattle.snow_climb.proofs.Begun.{no_block}
 use Rattle.snow_climb.proofs.Climbers.{all_back, same_total, have_come_last, highest_place, of_group, group_total, group_few, group_come_last, votes_of_all, none_under}
 use Rattle.snow_topo.proofs.Counted.{came_last, counted_view}

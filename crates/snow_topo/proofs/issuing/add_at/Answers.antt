@@ -1,8 +1,8 @@
 use Rattle.std.proofs.Common.{◌≡◌, IfSome, OnOk, sym, ap, subst, ◌∙◌}
 use Rattle.std.specs.Option.{option_copied_mut}
 use Rattle.std.proofs.lemmas.Result.{on_ok_weaker, on_err_weaker}
-use Rattle.snow_tree.specs.Held.{set_load, with_load}
-use Rattle.snow_topo.specs.Kept.{gained}
+use Rattle.snow_tree.specs.Kept.Held.{set_load, with_load}
+use Rattle.snow_topo.specs.Kept.Children.{gained}
 use Rattle.snow_topo.proofs.Taken.{entry_read, same_load}
 use Rattle.snow_topo.proofs.issuing.add_at.Goals as goal
 

@@ -1,6 +1,6 @@
 use Rattle.std.proofs.Common.{refl, sym, ap, ◌∙◌}
 use Rattle.std.proofs.lemmas.Result.{on_ok_weaker}
-use Rattle.snow_tree.specs.Held.{blocks_in}
+use Rattle.snow_tree.specs.Kept.Held.{blocks_in}
 use Rattle.snow_tree.proofs.Linked.{on_ok}
 use Rattle.snow_climb.proofs.Begun.{block_off}
 use Rattle.snow_topo.proofs.Climbs.{some_of}

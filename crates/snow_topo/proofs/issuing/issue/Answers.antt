@@ -1,11 +1,11 @@
 use Rattle.std.proofs.Common.{◌≡◌, bytes_eq, sym, ap, subst, ◌∙◌}
-use Rattle.snow_tree.specs.Held.{Held, blocks_in, place_in, inserted, taken_back}
+use Rattle.snow_tree.specs.Kept.Held.{Held, blocks_in, place_in, inserted, taken_back}
 use Rattle.snow_tree.proofs.Linked.{all_but_last}
 use Rattle.snow_tree.proofs.Numbered.{place_kept}
 use Rattle.snow_tree.proofs.Seen.{ok_after}
-use Rattle.snow_topo.specs.Kept.{Kept, bare}
-use Rattle.snow_topo.specs.View.{view, AreFit}
-use Rattle.snow_topo.specs.Gaining.{gained_by, all_gained}
+use Rattle.snow_topo.specs.Kept.Children.{Kept, bare}
+use Rattle.snow_topo.specs.Kept.View.{view, AreFit}
+use Rattle.snow_topo.specs.Kept.Gaining.{gained_by, all_gained}
 use Rattle.snow_topo.proofs.Gained.{err_after, on_err, not_own, issued_view, all_fit_gained}
 use Rattle.snow_topo.proofs.issuing.issue.Goals as goal
 

@@ -1,6 +1,6 @@
 use Rattle.std.proofs.Common.{refl, sym, ap, ◌∙◌}
 use Rattle.std.specs.Option.{option_map}
-use Rattle.snow_tree.specs.Held.{blocks_in}
+use Rattle.snow_tree.specs.Kept.Held.{blocks_in}
 use Rattle.snow_climb.proofs.Begun.{block_off}
 use Rattle.snow_topo.proofs.Endings.{entry_found, kept_away}
 use Rattle.snow_topo.proofs.Gained.{is_last, placed_away}

@@ -1,13 +1,13 @@
 use Rattle.std.proofs.Common.{◌≡◌, ◌∷◌, Contains, sym, ap, subst, ◌∙◌}
 use Rattle.std.specs.Option.{option_map}
 use Rattle.std.proofs.lemmas.Option.{none-some, same_Some}
-use Rattle.snow_base.specs.Identifier.{bits}
-use Rattle.snow_board.specs.Grown.{has_block}
-use Rattle.snow_board.specs.Preference.{path_from}
+use Rattle.snow_base.specs.Model.Identifier.{bits}
+use Rattle.snow_board.specs.Kept.Grown.{has_block}
+use Rattle.snow_board.specs.Model.Preference.{path_from}
 use Rattle.snow_board.proofs.Cases.{clash}
-use Rattle.snow_tree.specs.Held.{Entry, blocks_in, children_of}
-use Rattle.snow_topo.specs.Kept.{Kept, contest_of, shown, IsFit}
-use Rattle.snow_topo.specs.View.{all_pending}
+use Rattle.snow_tree.specs.Kept.Held.{Entry, blocks_in, children_of}
+use Rattle.snow_topo.specs.Kept.Children.{Kept, contest_of, shown, IsFit}
+use Rattle.snow_topo.specs.Kept.View.{all_pending}
 use Rattle.snow_topo.proofs.Climbs.{one_of}
 use Rattle.snow_topo.proofs.Gained.{placed}
 use Rattle.snow_topo.proofs.Walked.{walk_on, walk_ends, given_there}

@@ -1,9 +1,9 @@
 use Rattle.std.proofs.Common.{◌≡◌, length, bytes_eq}
 use Rattle.std.specs.List.{list_any}
-use Rattle.snow_board.specs.Preference.{path_from, preferred_path}
-use Rattle.snow_tree.specs.Held.{blocks_in, children_of}
-use Rattle.snow_topo.specs.Kept.{shown, IsFit}
-use Rattle.snow_topo.specs.View.{all_pending, view}
+use Rattle.snow_board.specs.Model.Preference.{path_from, preferred_path}
+use Rattle.snow_tree.specs.Kept.Held.{blocks_in, children_of}
+use Rattle.snow_topo.specs.Kept.Children.{shown, IsFit}
+use Rattle.snow_topo.specs.Kept.View.{all_pending, view}
 use Rattle.snow_topo.proofs.leading.passes.Given as goal
 
 abbrev pub invariant-loop-next : goal.invariant-loop-next

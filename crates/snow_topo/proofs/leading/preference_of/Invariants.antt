@@ -1,8 +1,8 @@
 use Rattle.std.proofs.Common.{◌≡◌, length}
-use Rattle.snow_board.specs.Preference.{path_from, end_of, preferred}
-use Rattle.snow_tree.specs.Held.{blocks_in, children_of}
-use Rattle.snow_topo.specs.Kept.{shown, IsFit}
-use Rattle.snow_topo.specs.View.{all_pending, view}
+use Rattle.snow_board.specs.Model.Preference.{path_from, end_of, preferred}
+use Rattle.snow_tree.specs.Kept.Held.{blocks_in, children_of}
+use Rattle.snow_topo.specs.Kept.Children.{shown, IsFit}
+use Rattle.snow_topo.specs.Kept.View.{all_pending, view}
 use Rattle.snow_topo.proofs.leading.preference_of.Given as goal
 
 abbrev pub invariant-loop-next : goal.invariant-loop-next

@@ -1,5 +1,5 @@
 use Rattle.std.proofs.Common.{All, Contains, sym, subst, ◌∙◌}
-use Rattle.snow_trie.specs.Whole.{Compressed}
+use Rattle.snow_trie.specs.Kept.Whole.{Compressed}
 use Rattle.snow_topo.proofs.load.catch_up.Goals as goal
 use Rattle.snow_topo.proofs.load.catch_up.Goals.{then-is_behind, else-is_behind}
 

@@ -1,7 +1,7 @@
 use Rattle.std.proofs.Common.{sym, subst, ◌∙◌}
-use Rattle.snow_topo.specs.Kept.{Kept}
-use Rattle.snow_topo.specs.View.{view, AreFit}
-use Rattle.snow_topo.specs.Renewed.{renewed}
+use Rattle.snow_topo.specs.Kept.Children.{Kept}
+use Rattle.snow_topo.specs.Kept.View.{view, AreFit}
+use Rattle.snow_topo.specs.Kept.Renewed.{renewed}
 use Rattle.snow_topo.proofs.Anew.{view_anew, all_fit_anew}
 use Rattle.snow_topo.proofs.renewing.renew.Goals as goal
 

@@ -1,7 +1,7 @@
 use Rattle.std.proofs.Common.{◌≡◌, ◌+◌, suc, length, slice_get, Some, ap, ◌∙◌, arith}
-use Rattle.snow_tree.specs.Held.{Held, with_load}
-use Rattle.snow_topo.specs.Kept.{Kept}
-use Rattle.snow_topo.specs.Renewed.{renewed}
+use Rattle.snow_tree.specs.Kept.Held.{Held, with_load}
+use Rattle.snow_topo.specs.Kept.Children.{Kept}
+use Rattle.snow_topo.specs.Kept.Renewed.{renewed}
 use Rattle.snow_topo.proofs.Climbs.{entry_at, some_of}
 use Rattle.snow_topo.proofs.Anew.{renewed_to, renewed_next, renewed_length, renewed_all}
 use Rattle.snow_topo.proofs.renewing.renew_all.Goals as goal

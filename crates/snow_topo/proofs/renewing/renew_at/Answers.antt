@@ -1,7 +1,7 @@
 use Rattle.std.proofs.Common.{◌≡◌, IfSome, sym, ap, subst, ◌∙◌}
 use Rattle.std.specs.Option.{option_copied_mut}
-use Rattle.snow_tree.specs.Held.{with_load}
-use Rattle.snow_topo.specs.Renewed.{renewed}
+use Rattle.snow_tree.specs.Kept.Held.{with_load}
+use Rattle.snow_topo.specs.Kept.Renewed.{renewed}
 use Rattle.snow_topo.proofs.Taken.{entry_read}
 use Rattle.snow_topo.proofs.renewing.renew_at.Goals as goal
 

@@ -1,11 +1,11 @@
 use Rattle.std.proofs.Common.{◌≡◌, ◌+◌, ◌∷◌, drop, sym, ap, ◌∙◌, arith}
 use Rattle.std.proofs.lemmas.List.{drop_more}
-use Rattle.snow_base.specs.Votes.{Votes}
-use Rattle.snow_board.specs.Board.{Board}
-use Rattle.snow_board.specs.Poll.{poll}
-use Rattle.snow_board.specs.Shown.{Shown}
+use Rattle.snow_base.specs.Model.Votes.{Votes}
+use Rattle.snow_board.specs.Model.Board.{Board}
+use Rattle.snow_board.specs.Model.Poll.{poll}
+use Rattle.snow_board.specs.Clauses.Shown.{Shown}
 use Rattle.snow_board.proofs.Polled.{poll_parameters}
-use Rattle.snow_topo.specs.Costs.{replayed, replay_steps}
+use Rattle.snow_topo.specs.Laws.Costs.{replayed, replay_steps}
 use Rattle.snow_topo.proofs.replaying.replay_counted.Goals as goal
 
 pub loop-votes-preserved : goal.loop-votes-preserved

@@ -1,5 +1,5 @@
 use Rattle.std.proofs.Common.{◌≡◌, ◌+◌, ◌≤◌, drop}
-use Rattle.snow_topo.specs.Costs.{replayed, replay_steps}
+use Rattle.snow_topo.specs.Laws.Costs.{replayed, replay_steps}
 use Rattle.snow_topo.proofs.replaying.replay_counted.Given as goal
 
 abbrev pub invariant-loop-votes : goal.invariant-loop-votes

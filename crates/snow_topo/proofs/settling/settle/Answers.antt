@@ -1,12 +1,12 @@
 use Rattle.std.proofs.Common.{◌≡◌, ℕ, ◌<◌, Bool, List, None, true, false, refl, subst, ◌∙◌, arith}
-use Rattle.snow_flake.specs.Parameters.{Parameters, AreGood}
+use Rattle.snow_flake.specs.Model.Parameters.{Parameters, AreGood}
 use Rattle.snow_board.specs.declared.decision.Decision.{Decision}
-use Rattle.snow_board.specs.Board.{Board}
+use Rattle.snow_board.specs.Model.Board.{Board}
 use Rattle.snow_board.proofs.Settled.{IsSettling, to_do, settling_none, settling_more, settling_less}
-use Rattle.snow_tree.specs.Held.{Held}
-use Rattle.snow_topo.specs.Kept.{Kept, counters_in}
-use Rattle.snow_topo.specs.Leading.{HasDecided}
-use Rattle.snow_topo.specs.View.{view}
+use Rattle.snow_tree.specs.Kept.Held.{Held}
+use Rattle.snow_topo.specs.Kept.Children.{Kept, counters_in}
+use Rattle.snow_topo.specs.Kept.Leading.{HasDecided}
+use Rattle.snow_topo.specs.Kept.View.{view}
 use Rattle.snow_topo.proofs.Promoted.{accepted_none}
 use Rattle.snow_topo.proofs.Won.{none_wins}
 use Rattle.snow_topo.proofs.settling.settle.Given as given

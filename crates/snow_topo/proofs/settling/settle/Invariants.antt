@@ -1,6 +1,6 @@
 use Rattle.std.proofs.Common.{◌≡◌, ◌+◌, ◌≤◌, length, vec_capacity}
 use Rattle.snow_board.proofs.Settled.{IsSettling, to_do}
-use Rattle.snow_topo.specs.View.{view, AreFit}
+use Rattle.snow_topo.specs.Kept.View.{view, AreFit}
 use Rattle.snow_topo.proofs.settling.settle.Given as goal
 
 abbrev pub invariant-loop-more : goal.invariant-loop-more

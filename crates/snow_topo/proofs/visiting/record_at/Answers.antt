@@ -1,9 +1,9 @@
 use Rattle.std.proofs.Common.{◌≡◌, ◌+◌, ◌*◌, ◌≤◌, length, All, Contains, IfSome, refl, sym, ap, subst, ◌∙◌}
 use Rattle.std.specs.Option.{option_copied_mut}
-use Rattle.snow_tree.specs.Held.{with_load}
-use Rattle.snow_topo.specs.Kept.{Kept, ids_in}
-use Rattle.snow_topo.specs.Half.{IsRecorded}
-use Rattle.snow_topo.specs.Leading.{IsSteady}
+use Rattle.snow_tree.specs.Kept.Held.{with_load}
+use Rattle.snow_topo.specs.Kept.Children.{Kept, ids_in}
+use Rattle.snow_topo.specs.Kept.Half.{IsRecorded}
+use Rattle.snow_topo.specs.Kept.Leading.{IsSteady}
 use Rattle.snow_topo.proofs.Taken.{entry_read}
 use Rattle.snow_topo.proofs.visiting.record_at.Goals as goal
 

@@ -1,12 +1,12 @@
 use Rattle.std.proofs.Common.{◌∙◌, ℕ, Bool, List, All, Contains, IfSome, slice_get, refl, sym, ap, subst, arith}
-use Rattle.snow_board.specs.Conflict.{votes_on}
-use Rattle.snow_board.specs.Cursors.{votes_at}
-use Rattle.snow_tree.specs.Held.{blocks_in, children_of}
-use Rattle.snow_climb.specs.Climbing.{cursors_of, HasCome}
+use Rattle.snow_board.specs.Model.Conflict.{votes_on}
+use Rattle.snow_board.specs.Kept.Cursors.{votes_at}
+use Rattle.snow_tree.specs.Kept.Held.{blocks_in, children_of}
+use Rattle.snow_climb.specs.Kept.Climbing.{cursors_of, HasCome}
 use Rattle.snow_climb.proofs.Climbers.{same_total}
 use Rattle.snow_climb.proofs.Merged.{few_came}
-use Rattle.snow_topo.specs.Half.{HasTaken}
-use Rattle.snow_topo.specs.Kept.{IsFit}
+use Rattle.snow_topo.specs.Kept.Half.{HasTaken}
+use Rattle.snow_topo.specs.Kept.Children.{IsFit}
 use Rattle.snow_topo.proofs.Costing.{no_quorum}
 use Rattle.snow_topo.proofs.Taken.{same_load, left_alone, if_some}
 use Rattle.snow_topo.proofs.visiting.record_came.Goals as goal

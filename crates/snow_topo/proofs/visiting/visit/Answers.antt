@@ -1,13 +1,13 @@
 use Rattle.std.proofs.Common.{◌≡◌, ◌<◌, ◌+◌, ◌*◌, ◌≤◌, ℕ, nat_le, nat_lt, [], ◌∷◌, Bool, List, IsPermutation, length, slice_get, rules, sym, ap, subst, ◌∙◌, arith, if◌then◌else◌}
 use Rattle.std.proofs.lemmas.List.{length-map}
 use Rattle.std.proofs.lemmas.Option.{slice_get_within}
-use Rattle.snow_board.specs.Cursors.{votes_at}
-use Rattle.snow_tree.specs.Held.{Held, blocks_in}
+use Rattle.snow_board.specs.Kept.Cursors.{votes_at}
+use Rattle.snow_tree.specs.Kept.Held.{Held, blocks_in}
 use Rattle.snow_climb.specs.declared.climber.Climber.{Climber}
-use Rattle.snow_topo.specs.Kept.{Kept, ids_in}
-use Rattle.snow_topo.specs.Half.{HasTaken}
-use Rattle.snow_climb.specs.Climbing.{climber_total, cursor_of, cursors_of, parent_in, passing, reach}
-use Rattle.snow_climb.specs.Ladder.{Rungs}
+use Rattle.snow_topo.specs.Kept.Children.{Kept, ids_in}
+use Rattle.snow_topo.specs.Kept.Half.{HasTaken}
+use Rattle.snow_climb.specs.Kept.Climbing.{climber_total, cursor_of, cursors_of, parent_in, passing, reach}
+use Rattle.snow_climb.specs.Kept.Ladder.{Rungs}
 use Rattle.snow_climb.proofs.Climbers.{all_back, same_total, highest_place, of_group, group_total, group_few, votes_of_group, passed_on, merged_on, placed_on}
 use Rattle.snow_topo.proofs.Climbs.{block_at, entry_at, blocks_after, parent_reach, group_come, group_others, some_of}
 use Rattle.snow_climb.proofs.Merged.{all_came}

@@ -1,7 +1,7 @@
 use Rattle.std.proofs.Common.{find, sym, ap, ◌∙◌}
 use Rattle.std.specs.Bool.{beq}
 use Rattle.std.specs.Cmp.Lexicographic.{pointwise}
-use Rattle.snow_base.specs.Identifier.{bits}
+use Rattle.snow_base.specs.Model.Identifier.{bits}
 use Rattle.snow_topo.proofs.Won.{none_wins, child_wins}
 use Rattle.snow_topo.proofs.winning.next_child.Goals as goal
 

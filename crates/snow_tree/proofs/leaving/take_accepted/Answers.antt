@@ -1,6 +1,6 @@
 use Rattle.std.proofs.Common.{◌++◌, length, slice_get, sym, ap, ◌∙◌, append-nil, bytes_eq}
 use Rattle.std.specs.Map.{lookup}
-use Rattle.snow_tree.specs.Nodes.{IsTakenOver}
+use Rattle.snow_tree.specs.Kept.Nodes.{IsTakenOver}
 use Rattle.snow_tree.proofs.Left.{alone_left, alone_first, alone_told}
 use Rattle.snow_tree.proofs.Seen.{found_child, only_child}
 use Rattle.snow_tree.proofs.leaving.take_accepted.Goals as goal

@@ -4,7 +4,7 @@ use Rattle.std.specs.Map.{keys_of, lookup, values_of}
 use Rattle.std.specs.Option.{option_map}
 use Rattle.std.proofs.lemmas.Option.{none-some, same_Some}
 use Rattle.snow_tree.specs.declared.node.Node.{Node}
-use Rattle.snow_tree.specs.Nodes.{IsTakenOver}
+use Rattle.snow_tree.specs.Kept.Nodes.{IsTakenOver}
 use Rattle.snow_tree.proofs.Edges.{edge_key, looked_at, value_there}
 use Rattle.snow_tree.proofs.Placed.{found_at}
 use Rattle.snow_tree.proofs.Seen.{found_child}

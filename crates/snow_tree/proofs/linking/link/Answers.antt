@@ -1,7 +1,7 @@
 use Rattle.std.proofs.Common.{◌∙◌, ap, sym}
 use Rattle.snow_board.proofs.Cases.{same_id}
-use Rattle.snow_board.specs.Grown.{has_block}
-use Rattle.snow_tree.specs.Nodes.{blocks_of, linked}
+use Rattle.snow_board.specs.Kept.Grown.{has_block}
+use Rattle.snow_tree.specs.Kept.Nodes.{blocks_of, linked}
 use Rattle.snow_tree.proofs.Linked.{on_ok, linked_only, none_changed, linked_at}
 use Rattle.snow_tree.proofs.Placed.{place_same, not_placed}
 use Rattle.snow_tree.proofs.linking.link.Goals as goal

@@ -1,7 +1,7 @@
 use Rattle.std.proofs.Common.{◌∙◌, ap, sym}
-use Rattle.snow_board.specs.Grown.{has_block}
+use Rattle.snow_board.specs.Kept.Grown.{has_block}
 use Rattle.snow_board.proofs.Cases.{same_id}
-use Rattle.snow_tree.specs.Nodes.{blocks_of, unlinked}
+use Rattle.snow_tree.specs.Kept.Nodes.{blocks_of, unlinked}
 use Rattle.snow_tree.proofs.Linked.{unlinked_only, none_changed, unlinked_at}
 use Rattle.snow_tree.proofs.Placed.{not_placed}
 use Rattle.snow_tree.proofs.linking.unlink.Goals as goal

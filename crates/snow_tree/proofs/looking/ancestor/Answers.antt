@@ -1,7 +1,7 @@
 use Rattle.std.proofs.Common.{◌≡◌, Some, if◌then◌else◌, ◌+◌, ◌<◌, subst, sym, ap, ◌∙◌}
 use Rattle.std.specs.Option.{option_map}
-use Rattle.snow_base.specs.Ancestry.{child_on}
-use Rattle.snow_tree.specs.Nodes.{blocks_of}
+use Rattle.snow_base.specs.Model.Ancestry.{child_on}
+use Rattle.snow_tree.specs.Kept.Nodes.{blocks_of}
 use Rattle.snow_tree.proofs.Climbed.{height_of, climbed_at, climbed_none, climbed_some, step_at, lower_place, child_from, sought_at}
 use Rattle.snow_tree.proofs.Noted.{parent_told}
 use Rattle.snow_tree.proofs.looking.ancestor.Goals as goal

@@ -1,4 +1,4 @@
-use Rattle.snow_tree.specs.Nodes.{blocks_of}
+use Rattle.snow_tree.specs.Kept.Nodes.{blocks_of}
 use Rattle.snow_tree.proofs.Climbed.{IsClimbed, height_of}
 use Rattle.snow_tree.proofs.looking.ancestor.Given as goal
 

@@ -1,7 +1,7 @@
 use Rattle.std.proofs.Common.{nat_eq, bytes_eq, sym, ap, subst, ◌∙◌}
 use Rattle.std.specs.HashMap.{get}
 use Rattle.std.specs.List.{position}
-use Rattle.snow_tree.specs.Row.{IsToldPlace, edges_of}
+use Rattle.snow_tree.specs.Kept.Row.{IsToldPlace, edges_of}
 use Rattle.snow_tree.proofs.Ordered.{number_place}
 use Rattle.snow_tree.proofs.Searched.{all_taken}
 use Rattle.snow_tree.proofs.Told.{looked_up, no_number}

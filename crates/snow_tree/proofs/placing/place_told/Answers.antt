@@ -2,7 +2,7 @@ use Rattle.std.proofs.Common.{◌≡◌, ◌<◌, length, None, Some, bytes_eq, 
 use Rattle.std.specs.List.{position}
 use Rattle.std.proofs.lemmas.Option.{same_Some, slice_get_within}
 use Rattle.snow_board.proofs.Cases.{clash}
-use Rattle.snow_tree.specs.Row.{IsToldPlace, edge_of, edges_of}
+use Rattle.snow_tree.specs.Kept.Row.{IsToldPlace, edge_of, edges_of}
 use Rattle.snow_tree.proofs.Edges.{node_there}
 use Rattle.snow_tree.proofs.Ordered.{number_place, own_place, position_at}
 use Rattle.snow_tree.proofs.Searched.{all_taken, edge_there, node_at}

@@ -1,7 +1,7 @@
 use Rattle.std.proofs.Common.{◌≡◌, ◌<◌, ◌||◌, false, length, take, nat_eq, is_some, refl, sym, ap, ◌∙◌, arith, ne_eqb}
 use Rattle.std.specs.List.{list_any}
 use Rattle.std.proofs.lemmas.Option.{none-some, same_Some}
-use Rattle.snow_tree.specs.Row.{is_above}
+use Rattle.snow_tree.specs.Kept.Row.{is_above}
 use Rattle.snow_tree.proofs.Edges.{node_there, node_missing, number_among}
 use Rattle.snow_tree.proofs.sweeping.is_above.Goals as goal
 

@@ -1,8 +1,8 @@
 use Rattle.std.proofs.Common.{◌≡◌, ◌<◌, ◌≤◌, ◌∷◌, ◌++◌, [], cond, None, Some, length, length-append, bytes_eq, refl, sym, ap, subst, ◌∙◌, arith}
 use Rattle.std.specs.HashMap.{get}
 use Rattle.std.proofs.lemmas.Option.{slice_get_within, same_Some}
-use Rattle.snow_tree.specs.Hints.{hint_of}
-use Rattle.snow_tree.specs.Row.{IsNumbered, edges_of, is_above, untold}
+use Rattle.snow_tree.specs.Kept.Hints.{hint_of}
+use Rattle.snow_tree.specs.Kept.Row.{IsNumbered, edges_of, is_above, untold}
 use Rattle.snow_tree.proofs.Edges.{node_there}
 use Rattle.snow_tree.proofs.Passed.{none_passed, next_one, one_stays, one_leaves, front_kept, order_kept, own_passed, all_passed}
 use Rattle.snow_tree.proofs.sweeping.sweep.Goals as goal

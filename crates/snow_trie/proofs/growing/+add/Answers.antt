@@ -1,5 +1,5 @@
 use Rattle.std.proofs.Common.{sym}
-use Rattle.snow_trie.specs.Tree.{tree_of}
+use Rattle.snow_trie.specs.Kept.Tree.{tree_of}
 use Rattle.snow_trie.proofs.Parting.{parting_small}
 use Rattle.snow_trie.proofs.growing.+add.Goals as goal
 

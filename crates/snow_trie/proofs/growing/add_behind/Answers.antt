@@ -1,5 +1,5 @@
 use Rattle.std.proofs.Common.{Some, None, refl}
-use Rattle.snow_trie.specs.Tree.{tree_of}
+use Rattle.snow_trie.specs.Kept.Tree.{tree_of}
 use Rattle.snow_trie.proofs.Parting.{prefix_found}
 use Rattle.snow_trie.proofs.Visited.{placed_within}
 use Rattle.snow_trie.proofs.growing.add_behind.Goals as goal

@@ -1,5 +1,5 @@
 use Rattle.std.proofs.Common.{◌≡◌, ◌+◌, arith, subst}
-use Rattle.snow_trie.specs.Polled.{IsNarrowed}
+use Rattle.snow_trie.specs.Kept.Polled.{IsNarrowed}
 use Rattle.snow_trie.proofs.Narrowed.{all_votes, narrowed_more, few_more, fewer_votes}
 use Rattle.snow_trie.proofs.narrowing.narrowed.Goals as goal
 

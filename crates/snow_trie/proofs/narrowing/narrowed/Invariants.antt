@@ -1,6 +1,6 @@
 use Rattle.std.proofs.Common.{◌≤◌}
-use Rattle.snow_base.specs.Votes.{total_count}
-use Rattle.snow_trie.specs.Polled.{IsNarrowed}
+use Rattle.snow_base.specs.Model.Votes.{total_count}
+use Rattle.snow_trie.specs.Kept.Polled.{IsNarrowed}
 use Rattle.snow_trie.proofs.narrowing.narrowed.Given as goal
 
 -- the votes that agree on the bits so far, which are no more than there were

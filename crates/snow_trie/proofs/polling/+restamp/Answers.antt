@@ -1,4 +1,4 @@
-use Rattle.snow_trie.specs.Tree.{tree_of}
+use Rattle.snow_trie.specs.Kept.Tree.{tree_of}
 use Rattle.snow_trie.proofs.Visited.{restamped_line, restamped_last}
 use Rattle.snow_trie.proofs.polling.+restamp.Goals as goal
 

@@ -1,8 +1,8 @@
 use Rattle.std.proofs.Common.{◌+◌, take, drop, if◌then◌else◌, arith}
 use Rattle.std.proofs.lemmas.List.Elements.{All-take, All-drop}
-use Rattle.snow_trie.specs.Tree.{tree_of}
-use Rattle.snow_trie.specs.Outline.{Split, outline, Leads}
-use Rattle.snow_trie.specs.Peeling.{preferred}
+use Rattle.snow_trie.specs.Kept.Tree.{tree_of}
+use Rattle.snow_trie.specs.Kept.Outline.{Split, outline, Leads}
+use Rattle.snow_trie.specs.Kept.Peeling.{preferred}
 use Rattle.snow_trie.proofs.Visited.{at_end, agree_on, down_zero, down_one, polled_line, polled_last, polled_two, unvisited, both_sides, few_ones, few_zeros}
 use Rattle.snow_trie.proofs.polling.+visit.Goals as goal
 

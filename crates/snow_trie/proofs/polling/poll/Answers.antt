@@ -1,7 +1,7 @@
 use Rattle.std.proofs.Common.{◌≡◌, arith, subst, sym}
-use Rattle.snow_trie.specs.Tree.{tree_of}
-use Rattle.snow_trie.specs.Shape.{IsPlaced}
-use Rattle.snow_trie.specs.Polled.{IsPolled}
+use Rattle.snow_trie.specs.Kept.Tree.{tree_of}
+use Rattle.snow_trie.specs.Kept.Shape.{IsPlaced}
+use Rattle.snow_trie.specs.Kept.Polled.{IsPolled}
 use Rattle.snow_trie.proofs.Visited.{ended, polled_last, placed_within}
 use Rattle.snow_trie.proofs.polling.poll.Goals as goal
 

@@ -1,5 +1,5 @@
 use Rattle.std.proofs.lemmas.Result.{err_from_is_err_and}
-use Rattle.snow_wire.specs.Reading.{block_at, items_at}
+use Rattle.snow_wire.specs.Model.Reading.{block_at, items_at}
 use Rattle.snow_wire.proofs.Listed.{left_by, goes_on, ends, is_done}
 use Rattle.snow_wire.proofs.packed.pass.Goals as goal
 

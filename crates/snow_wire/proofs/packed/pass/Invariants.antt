@@ -1,5 +1,5 @@
 use Rattle.std.proofs.Common.{◌≡◌, ◌-◌}
-use Rattle.snow_wire.specs.Reading.{block_at, items_at}
+use Rattle.snow_wire.specs.Model.Reading.{block_at, items_at}
 use Rattle.snow_wire.proofs.Listed.{left_by}
 use Rattle.snow_wire.proofs.packed.pass.Given as goal
 

@@ -1,6 +1,6 @@
 use Rattle.std.proofs.Common.{◌≤◌, subst, arith}
 use Rattle.std.proofs.lemmas.List.Elements.{All-more}
-use Rattle.snow_base.specs.Votes.{Votes, total_count}
+use Rattle.snow_base.specs.Model.Votes.{Votes, total_count}
 use Rattle.topo_tests.proofs.counted.are_few.Goals as goal
 
 pub loop-votes-preserved : goal.loop-votes-preserved

@@ -1,5 +1,5 @@
 use Rattle.std.proofs.Common.{ap, ◌∙◌}
-use Rattle.snow_board.specs.Board.{Board}
+use Rattle.snow_board.specs.Model.Board.{Board}
 use Rattle.snow_board.proofs.Polled.{poll_parameters}
 use Rattle.topo_tests.proofs.tools.record.Goals as goal
 

@@ -1,7 +1,7 @@
 use Rattle.std.proofs.Common.{◌≡◌, ap, ◌∙◌, Result, Ok, Err, OnOk, OnErr}
-use Rattle.snow_base.specs.Gathered.{one_each}
-use Rattle.snow_board.specs.Board.{Board}
-use Rattle.snow_board.specs.Poll.{poll}
+use Rattle.snow_base.specs.Clauses.Gathered.{one_each}
+use Rattle.snow_board.specs.Model.Board.{Board}
+use Rattle.snow_board.specs.Model.Poll.{poll}
 use Rattle.snow_board.proofs.Polled.{poll_parameters}
 use Rattle.topo_tests.proofs.tools.record_each.Goals as goal
 

@@ -1,5 +1,5 @@
 -- The node goes on.
-use Rattle.snow_boot.specs.Calling.{MayGoOn}
+use Rattle.snow_boot.specs.Clauses.Calling.{MayGoOn}
 use Rattle.boot_tests.proofs.boot.many.others_wait.Given as goal
 
 abbrev pub invariant-loop-number : goal.invariant-loop-number

@@ -2,12 +2,12 @@
 use Rattle.std.proofs.Common.{◌≡◌, ◌+◌, ◌-◌, refl, ap, sym, ◌∙◌, subst, length, Ok, rules, arith}
 use Rattle.std.proofs.lemmas.List.{length-append}
 use Rattle.std.specs.Io.KnownBytes.{IsAtEnd}
-use Rattle.snow_engine.specs.Run.{after_frame}
+use Rattle.snow_engine.specs.Model.Run.{after_frame}
 use Rattle.snow_engine.specs.declared.task.Task.TheVariants as task
 use Rattle.snow_engine.proofs.Served.{fed_as, kept_as, taken_few, less_room, nothing_taken}
 use Rattle.snow_audit.specs.declared.auditing.AuditEnd.{AuditEnd}
-use Rattle.snow_audit.specs.Answering.{HasFault, IsRead, IsTold}
-use Rattle.snow_audit.specs.Following.{between, owed_of}
+use Rattle.snow_audit.specs.Clauses.Answering.{HasFault, IsRead, IsTold}
+use Rattle.snow_audit.specs.Kept.Following.{between, owed_of}
 use Rattle.snow_audit.proofs.Framed.{begun_so, answered, finished, limited, none_first, took_piece}
 use Rattle.snow_audit.proofs.Taken.{kept_stand}
 use Rattle.snow_audit.proofs.Answered.{run_begins, answers_all, answered_all, any_read, limit_plain, limit_read, plain_fault, plain_told, read_plain, took_plain, took_read}

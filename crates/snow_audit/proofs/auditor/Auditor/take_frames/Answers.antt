@@ -1,9 +1,9 @@
 -- One frame more, none any more, or the answer.
 use Rattle.std.proofs.Common.{◌≡◌, Ok, refl, sym, ap, ◌∙◌, le_trans}
 use Rattle.std.proofs.lemmas.Result.{err_from_is_err_and}
-use Rattle.snow_engine.specs.Run.{after_frame}
+use Rattle.snow_engine.specs.Model.Run.{after_frame}
 use Rattle.snow_engine.specs.declared.task.Task.TheVariants as task
-use Rattle.snow_audit.specs.Following.{between}
+use Rattle.snow_audit.specs.Kept.Following.{between}
 use Rattle.snow_audit.proofs.Taken.{then_answers}
 use Rattle.snow_audit.proofs.auditor.Auditor.take_frames.Goals as goal
 

@@ -1,8 +1,8 @@
 -- What is left to do is the same from here.
 use Rattle.std.proofs.Common.{◌≡◌, ℕ, ◌+◌, ◌*◌, ◌≤◌, Bool, List, length}
-use Rattle.snow_engine.specs.Run.{after_frame}
+use Rattle.snow_engine.specs.Model.Run.{after_frame}
 use Rattle.snow_engine.specs.declared.task.Task.TheVariants as task
-use Rattle.snow_audit.specs.Following.{IsKept, between, finish}
+use Rattle.snow_audit.specs.Kept.Following.{IsKept, between, finish}
 use Rattle.snow_audit.proofs.auditor.Auditor.take_frames.Given as goal
 
 abbrev pub invariant-loop : goal.invariant-loop

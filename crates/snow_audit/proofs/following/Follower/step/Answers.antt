@@ -2,10 +2,10 @@
 use Rattle.std.proofs.Common.{◌≡◌, ℕ, ◌+◌, [], List, Option, Err, subst}
 use Rattle.snow_lines.specs.declared.line.Line.{Line}
 use Rattle.snow_lines.specs.declared.why.SkipKind.{SkipKind}
-use Rattle.snow_engine.specs.Run.{Stand, after_frame}
-use Rattle.snow_engine.specs.Serving.{stand_of, Stands, LogsFrame}
+use Rattle.snow_engine.specs.Model.Run.{Stand, after_frame}
+use Rattle.snow_engine.specs.Clauses.Serving.{stand_of, Stands, LogsFrame}
 use Rattle.snow_engine.specs.declared.task.Task.TheVariants as task
-use Rattle.snow_audit.specs.Following.{between, stands}
+use Rattle.snow_audit.specs.Kept.Following.{between, stands}
 use Rattle.snow_audit.proofs.Stepped.{same_frame, run_stopped, stop_kept}
 use Rattle.snow_audit.proofs.following.Follower.step.Goals as goal
 

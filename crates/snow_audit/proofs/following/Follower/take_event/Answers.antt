@@ -1,9 +1,9 @@
 -- A line is owed.
 use Rattle.std.proofs.Common.{◌≡◌, Err, refl, sym, subst}
-use Rattle.snow_engine.specs.Run.{after_frame}
+use Rattle.snow_engine.specs.Model.Run.{after_frame}
 use Rattle.snow_engine.specs.declared.task.Task.TheVariants as task
 use Rattle.snow_audit.specs.declared.auditing.AuditEnd.{AuditEnd}
-use Rattle.snow_audit.specs.Following.{Moves, between, event_comes, owed_of, stepped}
+use Rattle.snow_audit.specs.Kept.Following.{Moves, between, event_comes, owed_of, stepped}
 use Rattle.snow_audit.proofs.Owing.{owing_event}
 use Rattle.snow_audit.proofs.following.Follower.take_event.Goals as goal
 

@@ -1,5 +1,5 @@
 use Rattle.std.proofs.Common.{◌+◌, ◌^◌, ◌<◌, refl, ap, arith}
-use Rattle.snow_base.specs.Votes.{total_count}
+use Rattle.snow_base.specs.Model.Votes.{total_count}
 use Rattle.snow_base.proofs.Adding.{tally_added, total_added}
 use Rattle.snow_base.proofs.bag.Bag.add.Goals as goal
 

@@ -1,5 +1,5 @@
 use Rattle.std.proofs.Common.{◌≡◌, take}
-use Rattle.snow_base.specs.Votes.{most_count}
+use Rattle.snow_base.specs.Model.Votes.{most_count}
 use Rattle.snow_base.proofs.bag.Bag.most.Given as goal
 
 -- the greatest count so far

@@ -1,6 +1,6 @@
 use Rattle.std.proofs.Common.{◌≡◌, take, All}
-use Rattle.snow_base.specs.Gathered.{IsNamed, one_each}
-use Rattle.snow_base.specs.Votes.{total_count}
+use Rattle.snow_base.specs.Clauses.Gathered.{IsNamed, one_each}
+use Rattle.snow_base.specs.Model.Votes.{total_count}
 use Rattle.snow_base.proofs.bag.Bag.of.Given as goal
 
 -- one vote for each identifier so far

@@ -2,7 +2,7 @@ use Rattle.std.proofs.Common.{◌≡◌, sym, ap, ◌∙◌, arith, inl, inr}
 use Rattle.std.proofs.lemmas.Bool.{cases_lt}
 use Rattle.std.proofs.lemmas.Cmp.{tied_itself}
 use Rattle.std.proofs.lemmas.Slice.Eq.{bytes_eq-Decides}
-use Rattle.snow_base.specs.Identifier.{bit_cmp}
+use Rattle.snow_base.specs.Model.Identifier.{bit_cmp}
 use Rattle.snow_base.proofs.Bits.{bit_cmp-first, bit_cmp-same, bit_cmp-total}
 use Rattle.snow_base.proofs.identifier.Id.bit_cmp_past.Goals as goal
 

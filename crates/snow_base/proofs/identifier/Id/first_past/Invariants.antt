@@ -1,5 +1,5 @@
 use Rattle.std.proofs.Common.{◌*◌}
-use Rattle.snow_base.specs.Identifier.{AgreeFrom}
+use Rattle.snow_base.specs.Model.Identifier.{AgreeFrom}
 use Rattle.snow_base.proofs.identifier.Id.first_past.Given as goal
 
 -- the bits so far agree

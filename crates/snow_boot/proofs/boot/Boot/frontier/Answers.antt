@@ -1,7 +1,7 @@
 -- What comes of the event has all that is promised.
-use Rattle.snow_chain.specs.Alone.{last_state}
-use Rattle.snow_boot.specs.Coursing.{boot_of}
-use Rattle.snow_boot.specs.Booting.{frontier_came}
+use Rattle.snow_chain.specs.Kept.Alone.{last_state}
+use Rattle.snow_boot.specs.Kept.Coursing.{boot_of}
+use Rattle.snow_boot.specs.Model.Booting.{frontier_came}
 use Rattle.snow_boot.proofs.Promised.{promised}
 use Rattle.snow_boot.proofs.Quiet.{all_quiet}
 use Rattle.snow_boot.proofs.boot.Boot.frontier.Goals as goal

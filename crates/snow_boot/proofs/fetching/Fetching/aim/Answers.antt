@@ -1,6 +1,6 @@
 -- All that the new targets miss was gathered.
 use Rattle.std.proofs.Common.{ap, ◌∙◌}
-use Rattle.snow_boot.specs.Fetching.{Hunt}
+use Rattle.snow_boot.specs.Kept.Fetching.{Hunt}
 use Rattle.snow_boot.proofs.fetching.Fetching.aim.Goals as goal
 
 pub gather-requires : goal.gather-requires

@@ -1,7 +1,7 @@
 -- Nothing is missed yet.
 use Rattle.std.proofs.Common.{ap}
-use Rattle.snow_store.specs.Indexing.{Shelf}
-use Rattle.snow_store.specs.Renewing.{fetch_by}
+use Rattle.snow_store.specs.Kept.Indexing.{Shelf}
+use Rattle.snow_store.specs.Kept.Renewing.{fetch_by}
 use Rattle.snow_store.proofs.Counting.{none_needed}
 use Rattle.snow_boot.proofs.fetching.Fetching.begin.Goals as goal
 

@@ -1,13 +1,13 @@
 -- What is missed is known again once the block was taken.
 use Rattle.std.proofs.Common.{refl, sym, ap, subst, ◌∙◌}
 use Rattle.snow_store.specs.declared.block.KeptBlock.{KeptBlock}
-use Rattle.snow_boot.specs.Fetching.{Hunt}
-use Rattle.snow_store.specs.Indexing.{Shelf}
-use Rattle.snow_store.specs.Linking.{held_heights}
-use Rattle.snow_store.specs.Needing.{is_missed, Covers}
-use Rattle.snow_store.specs.Renewing.{fetch_by}
-use Rattle.snow_store.specs.Paths.{missed}
-use Rattle.snow_store.specs.Coming.{after_verdict}
+use Rattle.snow_boot.specs.Kept.Fetching.{Hunt}
+use Rattle.snow_store.specs.Kept.Indexing.{Shelf}
+use Rattle.snow_store.specs.Laws.Linking.{held_heights}
+use Rattle.snow_store.specs.Model.Needing.{is_missed, Covers}
+use Rattle.snow_store.specs.Kept.Renewing.{fetch_by}
+use Rattle.snow_store.specs.Model.Paths.{missed}
+use Rattle.snow_store.specs.Clauses.Coming.{after_verdict}
 use Rattle.snow_store.proofs.Renewed.{kept_there}
 use Rattle.snow_boot.proofs.Fetched.{has_come}
 use Rattle.snow_boot.proofs.fetching.Fetching.came.Goals as goal

@@ -1,8 +1,8 @@
 -- Nothing is missed where the set is empty.
 use Rattle.std.proofs.Common.{ap, ◌∙◌}
-use Rattle.snow_boot.specs.Fetching.{Hunt}
-use Rattle.snow_store.specs.Paths.{is_whole}
-use Rattle.snow_store.specs.Renewing.{fetch_by}
+use Rattle.snow_boot.specs.Kept.Fetching.{Hunt}
+use Rattle.snow_store.specs.Model.Paths.{is_whole}
+use Rattle.snow_store.specs.Kept.Renewing.{fetch_by}
 use Rattle.snow_boot.proofs.fetching.Fetching.is_whole.Goals as goal
 
 pub returns : goal.returns

@@ -1,7 +1,7 @@
 -- What a target misses, as its block or its absence in the list of those found tells.
 use Rattle.std.proofs.Common.{ap, ◌∙◌}
-use Rattle.snow_boot.specs.Fetching.{Hunt}
-use Rattle.snow_store.specs.Paths.{Fetch, missed}
+use Rattle.snow_boot.specs.Kept.Fetching.{Hunt}
+use Rattle.snow_store.specs.Model.Paths.{Fetch, missed}
 use Rattle.snow_store.proofs.Storing.{missed_is}
 use Rattle.snow_boot.proofs.fetching.Fetching.missed.Goals as goal
 

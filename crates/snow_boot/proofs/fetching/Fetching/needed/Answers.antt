@@ -1,8 +1,8 @@
 -- The set has what the targets miss.
 use Rattle.std.proofs.Common.{◌≡◌, Bool, Some, None, if◌then◌else◌, sym, ap, ◌∙◌}
-use Rattle.snow_boot.specs.Fetching.{Hunt}
-use Rattle.snow_store.specs.Needing.{is_missed}
-use Rattle.snow_store.specs.Renewing.{fetch_by}
+use Rattle.snow_boot.specs.Kept.Fetching.{Hunt}
+use Rattle.snow_store.specs.Model.Needing.{is_missed}
+use Rattle.snow_store.specs.Kept.Renewing.{fetch_by}
 use Rattle.snow_store.proofs.Counting.{has_missed}
 use Rattle.snow_boot.proofs.fetching.Fetching.needed.Goals as goal
 

@@ -2,10 +2,10 @@
 use Rattle.std.proofs.Common.{subst, ◌∙◌}
 use Rattle.std.specs.Prelude.{OnOk}
 use Rattle.snow_store.specs.declared.due.Due.{Due}
-use Rattle.snow_boot.specs.Fetching.{Fetches}
-use Rattle.snow_store.specs.Needing.{is_missed, Covers}
-use Rattle.snow_store.specs.Paths.{Fetch}
-use Rattle.snow_boot.specs.Replying.{replied}
+use Rattle.snow_boot.specs.Kept.Fetching.{Fetches}
+use Rattle.snow_store.specs.Model.Needing.{is_missed, Covers}
+use Rattle.snow_store.specs.Model.Paths.{Fetch}
+use Rattle.snow_boot.specs.Model.Replying.{replied}
 use Rattle.snow_boot.proofs.fetching.Fetching.reply.Goals as goal
 
 pub reply_on-requires : goal.reply_on-requires

@@ -1,7 +1,7 @@
 -- What is still to come of the reply makes of what is known what the whole reply makes of what was known.
 use Rattle.std.proofs.Common.{◌≡◌, true, drop}
-use Rattle.snow_store.specs.Needing.{is_missed, Covers}
-use Rattle.snow_boot.specs.Replying.{replied}
+use Rattle.snow_store.specs.Model.Needing.{is_missed, Covers}
+use Rattle.snow_boot.specs.Model.Replying.{replied}
 use Rattle.snow_boot.proofs.fetching.Fetching.reply_on.Given as goal
 
 abbrev pub invariant-loop-bytes : goal.invariant-loop-bytes

@@ -1,7 +1,7 @@
 -- The store is as it should be.
 use Rattle.std.proofs.Common.{true, ap, ◌∙◌}
-use Rattle.snow_boot.specs.Fetching.{Hunt}
-use Rattle.snow_store.specs.Indexing.{Shelf}
+use Rattle.snow_boot.specs.Kept.Fetching.{Hunt}
+use Rattle.snow_store.specs.Kept.Indexing.{Shelf}
 use Rattle.snow_boot.proofs.fetching.Fetching.store.Goals as goal
 
 pub returns : goal.returns

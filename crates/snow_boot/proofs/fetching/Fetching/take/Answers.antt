@@ -2,10 +2,10 @@
 use Rattle.std.proofs.Common.{◌≡◌, true, subst, ◌∙◌}
 use Rattle.std.specs.Prelude.{OnOk, IfOk}
 use Rattle.snow_store.specs.declared.due.Due.{Due}
-use Rattle.snow_store.specs.Keeping.{taken, Answers}
-use Rattle.snow_store.specs.Needing.{is_missed, Covers}
-use Rattle.snow_store.specs.Paths.{Fetch}
-use Rattle.snow_store.specs.Coming.{after_verdict}
+use Rattle.snow_store.specs.Model.Keeping.{taken, Answers}
+use Rattle.snow_store.specs.Model.Needing.{is_missed, Covers}
+use Rattle.snow_store.specs.Model.Paths.{Fetch}
+use Rattle.snow_store.specs.Clauses.Coming.{after_verdict}
 use Rattle.snow_boot.proofs.fetching.Fetching.take.Goals as goal
 
 pub came-requires : goal.came-requires

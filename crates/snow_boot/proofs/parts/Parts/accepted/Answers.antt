@@ -1,9 +1,9 @@
 -- The node's answer is awaited, or nobody waits for it.
 use Rattle.std.specs.Prelude.{Ok}
 use Rattle.snow_boot.specs.declared.stage.Stage.TheVariants as stage
-use Rattle.snow_boot.specs.Booting as model
-use Rattle.snow_chain.specs.Alone.{last_state}
-use Rattle.snow_boot.specs.Coursing.{boot_of}
+use Rattle.snow_boot.specs.Model.Booting as model
+use Rattle.snow_chain.specs.Kept.Alone.{last_state}
+use Rattle.snow_boot.specs.Kept.Coursing.{boot_of}
 use Rattle.snow_boot.proofs.Followed.{comes_as, comes_ignored}
 use Rattle.snow_boot.proofs.Heard.{accepted_ignored, accepted_heard}
 use Rattle.snow_boot.proofs.parts.Parts.accepted.Goals as goal

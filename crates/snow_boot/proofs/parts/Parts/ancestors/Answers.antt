@@ -1,9 +1,9 @@
 -- The reply is to an open request, or nobody waits for it.
 use Rattle.std.proofs.Common.{Some, sym, ◌∙◌}
 use Rattle.snow_store.specs.declared.due.Due.TheVariants as due
-use Rattle.snow_boot.specs.Booting as model
-use Rattle.snow_chain.specs.Alone.{last_state}
-use Rattle.snow_boot.specs.Coursing.{boot_of}
+use Rattle.snow_boot.specs.Model.Booting as model
+use Rattle.snow_chain.specs.Kept.Alone.{last_state}
+use Rattle.snow_boot.specs.Kept.Coursing.{boot_of}
 use Rattle.snow_boot.proofs.Followed.{comes_as}
 use Rattle.snow_boot.proofs.Heard.{reply_ignored, reply_came, reply_stops, drawn_without}
 use Rattle.snow_boot.proofs.Owed.{covered, closed_due}

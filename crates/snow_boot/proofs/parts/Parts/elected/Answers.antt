@@ -1,7 +1,7 @@
 -- All that the new targets miss is due.
 use Rattle.std.proofs.Common.{ap}
-use Rattle.snow_boot.specs.Fetching.{Hunt}
-use Rattle.snow_store.specs.Needing.{is_due}
+use Rattle.snow_boot.specs.Kept.Fetching.{Hunt}
+use Rattle.snow_store.specs.Model.Needing.{is_due}
 use Rattle.snow_store.proofs.Cases.{clash}
 use Rattle.snow_boot.proofs.parts.Parts.elected.Goals as goal
 

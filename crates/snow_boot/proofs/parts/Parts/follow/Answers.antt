@@ -2,9 +2,9 @@
 use Rattle.std.proofs.Common.{◌≡◌, sym, subst, ◌∙◌}
 use Rattle.std.specs.Prelude.{Ok, Err}
 use Rattle.snow_boot.specs.declared.question.Question.TheVariants as question
-use Rattle.snow_boot.specs.Asking.{asked}
-use Rattle.snow_chain.specs.Alone.{last_state}
-use Rattle.snow_boot.specs.Requesting.{Asks}
+use Rattle.snow_boot.specs.Model.Asking.{asked}
+use Rattle.snow_chain.specs.Kept.Alone.{last_state}
+use Rattle.snow_boot.specs.Clauses.Requesting.{Asks}
 use Rattle.snow_boot.proofs.Followed.{follows_question, follows_whole, follows_asked, follows_stopped}
 use Rattle.snow_boot.proofs.parts.Parts.follow.Goals as goal
 

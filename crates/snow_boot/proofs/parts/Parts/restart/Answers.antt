@@ -1,9 +1,9 @@
 -- The restart is told first.
 use Rattle.std.proofs.Common.{[], ◌∷◌}
-use Rattle.snow_base.specs.Numbers.{next_number}
+use Rattle.snow_base.specs.Model.Numbers.{next_number}
 use Rattle.snow_lines.specs.declared.line.Line.TheVariants as line
-use Rattle.snow_boot.specs.Booting.{ask_frontier}
-use Rattle.snow_boot.specs.Coursing.{boot_of}
+use Rattle.snow_boot.specs.Model.Booting.{ask_frontier}
+use Rattle.snow_boot.specs.Kept.Coursing.{boot_of}
 use Rattle.snow_boot.proofs.Followed.{comes_behind, frontier_refuses}
 use Rattle.snow_boot.proofs.parts.Parts.restart.Goals as goal
 

@@ -1,10 +1,10 @@
 -- The bytes are those of a block, or are passed over.
 use Rattle.std.proofs.Common.{sym, ap, ◌∙◌}
 use Rattle.snow_store.specs.declared.due.Due.TheVariants as due
-use Rattle.snow_boot.specs.Booting as model
-use Rattle.snow_store.specs.Paths.{Fetch}
-use Rattle.snow_chain.specs.Alone.{last_state}
-use Rattle.snow_boot.specs.Coursing.{boot_of}
+use Rattle.snow_boot.specs.Model.Booting as model
+use Rattle.snow_store.specs.Model.Paths.{Fetch}
+use Rattle.snow_chain.specs.Kept.Alone.{last_state}
+use Rattle.snow_boot.specs.Kept.Coursing.{boot_of}
 use Rattle.snow_boot.proofs.Followed.{comes_as}
 use Rattle.snow_boot.proofs.Heard.{skipped, stored_kept, stored_stops}
 use Rattle.snow_boot.proofs.Owed.{none_due, covered}

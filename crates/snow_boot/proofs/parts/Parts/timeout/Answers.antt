@@ -3,11 +3,11 @@ use Rattle.std.proofs.Common.{sym, ap, subst, ◌∙◌}
 use Rattle.std.specs.Prelude.{Ok, is_none}
 use Rattle.snow_boot.specs.declared.stage.Stage.TheVariants as stage
 use Rattle.snow_store.specs.declared.due.Due.{Due}
-use Rattle.snow_boot.specs.Booting as model
-use Rattle.snow_boot.specs.Asking.{AreAskedBut}
-use Rattle.snow_store.specs.Paths.{Fetch}
-use Rattle.snow_chain.specs.Alone.{last_state}
-use Rattle.snow_boot.specs.Coursing.{boot_of}
+use Rattle.snow_boot.specs.Model.Booting as model
+use Rattle.snow_boot.specs.Model.Asking.{AreAskedBut}
+use Rattle.snow_store.specs.Model.Paths.{Fetch}
+use Rattle.snow_chain.specs.Kept.Alone.{last_state}
+use Rattle.snow_boot.specs.Kept.Coursing.{boot_of}
 use Rattle.snow_boot.proofs.Followed.{comes_as, comes_ignored}
 use Rattle.snow_boot.proofs.Heard.{drawn_without, timeout_closed, timeout_ignored, timeout_heard}
 use Rattle.snow_boot.proofs.Owed.{closed_due}

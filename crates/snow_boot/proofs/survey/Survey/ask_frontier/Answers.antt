@@ -2,8 +2,8 @@
 use Rattle.std.proofs.Common.{◌≡◌, List, [], ap, subst, sym, ◌∙◌}
 use Rattle.snow_sample.specs.declared.roster.Node.{Node}
 use Rattle.snow_boot.specs.declared.question.Question.TheVariants as question
-use Rattle.snow_boot.specs.Electing.{candidates_of}
-use Rattle.snow_boot.specs.Surveying.{Surveyed, surveyed, nodes_in, HasWeights}
+use Rattle.snow_boot.specs.Model.Electing.{candidates_of}
+use Rattle.snow_boot.specs.Kept.Surveying.{Surveyed, surveyed, nodes_in, HasWeights}
 use Rattle.snow_boot.proofs.Surveyed.{survey_frontier}
 use Rattle.snow_boot.proofs.Weighed.{all_in}
 use Rattle.snow_boot.proofs.survey.Survey.ask_frontier.Goals as goal

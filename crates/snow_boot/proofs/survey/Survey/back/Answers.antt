@@ -4,9 +4,9 @@ use Rattle.std.specs.Option.{option_map}
 use Rattle.snow_sample.specs.declared.roster.Node.{Node}
 use Rattle.snow_boot.specs.declared.question.Candidate.{Candidate}
 use Rattle.snow_boot.specs.declared.question.Question.TheVariants as question
-use Rattle.snow_boot.specs.Electing.{awaits, still_awaited, backed, candidates_of}
-use Rattle.snow_boot.specs.Surveying.{Surveyed, surveyed}
-use Rattle.snow_store.specs.Paths.{has_id}
+use Rattle.snow_boot.specs.Model.Electing.{awaits, still_awaited, backed, candidates_of}
+use Rattle.snow_boot.specs.Kept.Surveying.{Surveyed, surveyed}
+use Rattle.snow_store.specs.Model.Paths.{has_id}
 use Rattle.snow_boot.proofs.Surveyed.{survey_backed, small_weight, small_backing, backed_same}
 use Rattle.snow_boot.proofs.Weighed.{still_in, still_weigh}
 use Rattle.snow_boot.proofs.survey.Survey.back.Goals as goal

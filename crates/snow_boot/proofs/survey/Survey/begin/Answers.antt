@@ -1,10 +1,10 @@
 -- Nothing is asked yet.
 use Rattle.std.proofs.Common.{◌≡◌, List, [], None, sym, ap, ◌∙◌}
 use Rattle.snow_sample.specs.declared.roster.Node.{Node}
-use Rattle.snow_sample.specs.Roster.{total_weight, first_fault}
+use Rattle.snow_sample.specs.Model.Roster.{total_weight, first_fault}
 use Rattle.snow_boot.specs.declared.question.Question.TheVariants as question
-use Rattle.snow_boot.specs.Electing.{candidates_of}
-use Rattle.snow_boot.specs.Surveying.{Surveyed}
+use Rattle.snow_boot.specs.Model.Electing.{candidates_of}
+use Rattle.snow_boot.specs.Kept.Surveying.{Surveyed}
 use Rattle.snow_boot.proofs.Surveyed.{survey_begun}
 use Rattle.snow_boot.proofs.Weighed.{none_in, none_known}
 use Rattle.snow_boot.proofs.survey.Survey.begin.Goals as goal

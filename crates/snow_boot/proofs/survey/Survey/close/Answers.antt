@@ -1,9 +1,9 @@
 -- No node is awaited.
 use Rattle.std.proofs.Common.{List, [], ap, ◌∙◌}
 use Rattle.snow_sample.specs.declared.roster.Node.{Node}
-use Rattle.snow_boot.specs.Electing.{candidates_of}
+use Rattle.snow_boot.specs.Model.Electing.{candidates_of}
 use Rattle.snow_boot.specs.declared.question.Question.TheVariants as question
-use Rattle.snow_boot.specs.Surveying.{Surveyed, surveyed}
+use Rattle.snow_boot.specs.Kept.Surveying.{Surveyed, surveyed}
 use Rattle.snow_boot.proofs.Surveyed.{survey_closed}
 use Rattle.snow_boot.proofs.Weighed.{none_in, none_known}
 use Rattle.snow_boot.proofs.survey.Survey.close.Goals as goal

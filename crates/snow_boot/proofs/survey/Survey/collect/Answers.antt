@@ -2,8 +2,8 @@
 use Rattle.std.proofs.Common.{List, ap, ◌∙◌}
 use Rattle.snow_sample.specs.declared.roster.Node.{Node}
 use Rattle.snow_boot.specs.declared.question.Candidate.{Candidate}
-use Rattle.snow_boot.specs.Electing.{still_awaited, candidates_of, collected}
-use Rattle.snow_boot.specs.Surveying.{Surveyed, surveyed, nodes_in}
+use Rattle.snow_boot.specs.Model.Electing.{still_awaited, candidates_of, collected}
+use Rattle.snow_boot.specs.Kept.Surveying.{Surveyed, surveyed, nodes_in}
 use Rattle.snow_boot.proofs.Surveyed.{survey_collected}
 use Rattle.snow_boot.proofs.Weighed.{still_in, still_weigh}
 use Rattle.snow_boot.proofs.survey.Survey.collect.Goals as goal

@@ -1,8 +1,8 @@
 -- One node less is awaited.
 use Rattle.std.proofs.Common.{List, ap, ◌∙◌}
 use Rattle.snow_sample.specs.declared.roster.Node.{Node}
-use Rattle.snow_boot.specs.Electing.{still_awaited, candidates_of}
-use Rattle.snow_boot.specs.Surveying.{Surveyed, surveyed}
+use Rattle.snow_boot.specs.Model.Electing.{still_awaited, candidates_of}
+use Rattle.snow_boot.specs.Kept.Surveying.{Surveyed, surveyed}
 use Rattle.snow_boot.proofs.Surveyed.{survey_heard}
 use Rattle.snow_boot.proofs.Weighed.{still_in, still_weigh}
 use Rattle.snow_boot.proofs.survey.Survey.hear.Goals as goal

@@ -1,6 +1,6 @@
 -- None has a weight just where none is awaited.
 use Rattle.std.proofs.Common.{length, ◌==◌, ap, ◌∙◌}
-use Rattle.snow_boot.specs.Surveying.{Surveyed, nodes_in}
+use Rattle.snow_boot.specs.Kept.Surveying.{Surveyed, nodes_in}
 use Rattle.snow_boot.proofs.survey.Survey.is_heard.Goals as goal
 
 pub returns : goal.returns

@@ -1,6 +1,6 @@
 -- The keys are the identifiers of the candidates.
 use Rattle.std.proofs.Common.{map, ap, ◌∙◌}
-use Rattle.snow_boot.specs.Surveying.{Surveyed}
+use Rattle.snow_boot.specs.Kept.Surveying.{Surveyed}
 use Rattle.snow_boot.proofs.Elected.{are_named}
 use Rattle.snow_boot.proofs.survey.Survey.named.Goals as goal
 

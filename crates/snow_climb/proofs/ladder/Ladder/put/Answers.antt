@@ -2,7 +2,7 @@ use Rattle.std.proofs.Common.{◌≡◌, ◌+◌, ◌%◌, ◌^◌, ◌<◌, suc
 use Rattle.std.proofs.lemmas.List.{get_or_default, length-set}
 use Rattle.snow_climb.specs.declared.ladder.Head.{Head}
 use Rattle.snow_climb.specs.declared.ladder.Link.{Link}
-use Rattle.snow_climb.specs.Ladder.{Rungs, no_head, climbers_of, under, chain, IsHung}
+use Rattle.snow_climb.specs.Kept.Ladder.{Rungs, no_head, climbers_of, under, chain, IsHung}
 use Rattle.snow_climb.proofs.Chains.{chain_before}
 use Rattle.snow_climb.proofs.Hung.{one_hung, under_more, written}
 use Rattle.snow_climb.proofs.ladder.Ladder.put.Goals as goal

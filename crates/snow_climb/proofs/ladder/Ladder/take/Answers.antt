@@ -2,8 +2,8 @@ use Rattle.std.proofs.Common.{◌≡◌, ℕ, List, ◌%◌, ◌^◌, ◌<◌, �
 use Rattle.std.proofs.lemmas.List.{get_or_default}
 use Rattle.snow_climb.specs.declared.ladder.Head.{Head}
 use Rattle.snow_climb.specs.declared.ladder.Link.{Link}
-use Rattle.snow_climb.specs.Climbing.{climber_total}
-use Rattle.snow_climb.specs.Ladder.{Rungs, no_head, climbers_of, under, up_from, latest, group, chain, IsHung}
+use Rattle.snow_climb.specs.Kept.Climbing.{climber_total}
+use Rattle.snow_climb.specs.Kept.Ladder.{Rungs, no_head, climbers_of, under, up_from, latest, group, chain, IsHung}
 use Rattle.snow_climb.proofs.Chains.{latest_within, chain_latest}
 use Rattle.snow_climb.proofs.Hung.{under_twice, taken_off, rung_empty, written}
 use Rattle.snow_climb.proofs.ladder.Ladder.take.Goals as goal

@@ -1,5 +1,5 @@
 use Rattle.std.proofs.Common.{◌≡◌, ◌≤◌, get_or, All, sym, subst, arith}
-use Rattle.snow_climb.specs.Ladder.{Rungs, no_link, mark_at}
+use Rattle.snow_climb.specs.Kept.Ladder.{Rungs, no_link, mark_at}
 use Rattle.snow_climb.proofs.Hung.{each_seen}
 use Rattle.snow_climb.proofs.ladder.Ladder.top.Goals as goal
 

@@ -2,7 +2,7 @@
 use Rattle.std.proofs.Common.{◌≡◌, ℕ, List, [], ◌∷◌, ◌++◌, map, sym, ap, ◌∙◌}
 use Rattle.std.proofs.lemmas.List.{map-append}
 use Rattle.byteorder.specs.Endian.{big_number}
-use Rattle.snow_drill.specs.Generator.{following, last_of, values}
+use Rattle.snow_drill.specs.Model.Generator.{following, last_of, values}
 use Rattle.snow_drill.proofs.Spelled.{last_more, values_more}
 use Rattle.snow_drill.proofs.generator.Generator.values.Goals as goal
 

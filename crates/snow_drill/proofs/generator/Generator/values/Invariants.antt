@@ -1,7 +1,7 @@
 -- The values so far.
 use Rattle.std.proofs.Common.{◌≡◌, map}
 use Rattle.byteorder.specs.Endian.{big_number}
-use Rattle.snow_drill.specs.Generator.{last_of, values}
+use Rattle.snow_drill.specs.Model.Generator.{last_of, values}
 use Rattle.snow_drill.proofs.generator.Generator.values.Given as goal
 
 abbrev pub invariant-loop : goal.invariant-loop

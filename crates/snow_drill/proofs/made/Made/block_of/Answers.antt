@@ -1,5 +1,5 @@
 use Rattle.std.proofs.Common.{ap, ◌∙◌}
-use Rattle.snow_drill.specs.Made.{block_of}
+use Rattle.snow_drill.specs.Model.Made.{block_of}
 use Rattle.snow_drill.proofs.made.Made.block_of.Goals as goal
 
 pub returns : goal.returns

@@ -1,6 +1,6 @@
 use Rattle.std.proofs.Common.{bytes_eq, sym, ap, ◌∙◌}
 use Rattle.std.specs.HashMap.{get}
-use Rattle.snow_drill.specs.Made.{block_of, HasFirsts}
+use Rattle.snow_drill.specs.Model.Made.{block_of, HasFirsts}
 use Rattle.snow_drill.proofs.Firsts.{first_filed}
 use Rattle.snow_drill.proofs.made.Made.push.Goals as goal
 

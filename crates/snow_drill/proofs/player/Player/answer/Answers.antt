@@ -1,7 +1,7 @@
 -- The query is taken out, and then all of its nodes vote.
 use Rattle.std.proofs.Common.{Some, rules}
 use Rattle.std.proofs.lemmas.Result.{on_ok_weaker}
-use Rattle.snow_drill.specs.Following.{Takes}
+use Rattle.snow_drill.specs.Kept.Following.{Takes}
 use Rattle.snow_drill.proofs.Played.{follows_answer}
 use Rattle.snow_drill.proofs.player.Player.answer.Goals as goal
 

@@ -1,6 +1,6 @@
 -- The answers so far.
-use Rattle.snow_drill.specs.Drill.{with_answers}
-use Rattle.snow_drill.specs.Following.{Follows}
+use Rattle.snow_drill.specs.Model.Drill.{with_answers}
+use Rattle.snow_drill.specs.Kept.Following.{Follows}
 use Rattle.snow_drill.proofs.player.Player.answers.Given as goal
 
 abbrev pub invariant-loop : goal.invariant-loop

@@ -1,8 +1,8 @@
 -- The parent by the first value, and the amount by the second.
 use Rattle.std.proofs.Common.{◌≡◌, rules}
 use Rattle.std.proofs.lemmas.Result.{on_ok_weaker}
-use Rattle.snow_drill.specs.Generator.{following, picked}
-use Rattle.snow_drill.specs.Made.{chosen_by}
+use Rattle.snow_drill.specs.Model.Generator.{following, picked}
+use Rattle.snow_drill.specs.Model.Made.{chosen_by}
 use Rattle.snow_drill.proofs.Played.{follows_block}
 use Rattle.snow_drill.proofs.player.Player.block.Goals as goal
 

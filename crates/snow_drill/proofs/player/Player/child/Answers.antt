@@ -1,8 +1,8 @@
 -- The block is the newest, and its event follows.
 use Rattle.std.proofs.Common.{◌≡◌, ◌+◌, ◌++◌, [], ◌∷◌, refl, rules}
 use Rattle.std.proofs.lemmas.Result.{on_ok_weaker}
-use Rattle.snow_drill.specs.Made.{height_in, bytes_of, headed}
-use Rattle.snow_drill.specs.First.{node}
+use Rattle.snow_drill.specs.Model.Made.{height_in, bytes_of, headed}
+use Rattle.snow_drill.specs.Model.First.{node}
 use Rattle.snow_drill.proofs.Played.{follows_child}
 use Rattle.snow_drill.proofs.player.Player.child.Goals as goal
 

@@ -1,7 +1,7 @@
 -- The event, and then a Timeout for each of its lines that asks for a block.
 use Rattle.std.proofs.Common.{rules}
 use Rattle.std.proofs.lemmas.Result.{on_ok_weaker}
-use Rattle.snow_wire.specs.Viewed.{as_event}
+use Rattle.snow_wire.specs.Clauses.Viewed.{as_event}
 use Rattle.snow_drill.proofs.Played.{follows_made}
 use Rattle.snow_drill.proofs.player.Player.event_on.Goals as goal
 

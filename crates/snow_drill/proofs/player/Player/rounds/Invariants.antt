@@ -1,6 +1,6 @@
 -- The rounds so far.
-use Rattle.snow_drill.specs.Drill.{with_rounds}
-use Rattle.snow_drill.specs.Following.{Follows}
+use Rattle.snow_drill.specs.Model.Drill.{with_rounds}
+use Rattle.snow_drill.specs.Kept.Following.{Follows}
 use Rattle.snow_drill.proofs.player.Player.rounds.Given as goal
 
 abbrev pub invariant-loop-i : goal.invariant-loop-i

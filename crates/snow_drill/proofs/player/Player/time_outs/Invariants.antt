@@ -1,7 +1,7 @@
 -- The Timeouts so far.
 use Rattle.std.proofs.Common.{fold, take}
-use Rattle.snow_drill.specs.Drill.{timed_out}
-use Rattle.snow_drill.specs.Following.{Follows}
+use Rattle.snow_drill.specs.Model.Drill.{timed_out}
+use Rattle.snow_drill.specs.Kept.Following.{Follows}
 use Rattle.snow_drill.proofs.player.Player.time_outs.Given as goal
 
 abbrev pub invariant-loop-line : goal.invariant-loop-line

@@ -1,8 +1,8 @@
 -- The block that the node votes for.
 use Rattle.std.proofs.Common.{◌≡◌, rules}
 use Rattle.std.proofs.lemmas.Result.{on_ok_weaker}
-use Rattle.snow_drill.specs.Generator.{following}
-use Rattle.snow_drill.specs.Made.{voted_by}
+use Rattle.snow_drill.specs.Model.Generator.{following}
+use Rattle.snow_drill.specs.Model.Made.{voted_by}
 use Rattle.snow_drill.proofs.Played.{follows_vote}
 use Rattle.snow_drill.proofs.player.Player.vote.Goals as goal
 

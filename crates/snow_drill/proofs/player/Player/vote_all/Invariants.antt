@@ -1,7 +1,7 @@
 -- The votes so far.
 use Rattle.std.proofs.Common.{fold, take}
-use Rattle.snow_drill.specs.Drill.{with_vote}
-use Rattle.snow_drill.specs.Following.{Follows}
+use Rattle.snow_drill.specs.Model.Drill.{with_vote}
+use Rattle.snow_drill.specs.Kept.Following.{Follows}
 use Rattle.snow_drill.proofs.player.Player.vote_all.Given as goal
 
 abbrev pub invariant-loop-node : goal.invariant-loop-node

@@ -1,10 +1,10 @@
 -- Bootstrapping may go on, with a number that is still small; or the node runs, and the lines are those of the event.
 use Rattle.std.proofs.Common.{◌++◌, Ok, ap, ◌∙◌, subst}
 use Rattle.snow_boot.specs.declared.stage.Stage.{Stage}
-use Rattle.snow_chain.specs.Alone.{last_state}
-use Rattle.snow_boot.specs.Calling.{Brings, MayGoOn, OnGoing}
-use Rattle.snow_engine.specs.Booting.{Booting}
-use Rattle.snow_engine.specs.Catching.{heard}
+use Rattle.snow_chain.specs.Kept.Alone.{last_state}
+use Rattle.snow_boot.specs.Clauses.Calling.{Brings, MayGoOn, OnGoing}
+use Rattle.snow_engine.specs.Model.Booting.{Booting}
+use Rattle.snow_engine.specs.Model.Catching.{heard}
 use Rattle.snow_engine.proofs.Drawn.{still_fits}
 use Rattle.snow_engine.proofs.booting.Booting.catch_up.Goals as goal
 

@@ -1,6 +1,6 @@
 -- Bootstrapping may go on over a chain that begins.
 use Rattle.std.proofs.Common.{ap}
-use Rattle.snow_chain.specs.Chain.{Held}
+use Rattle.snow_chain.specs.Model.Chain.{Held}
 use Rattle.snow_engine.proofs.Beginning.{begun_alone, first_number, boots}
 use Rattle.snow_engine.proofs.booting.Booting.start.Goals as goal
 

@@ -1,7 +1,7 @@
 -- A board with nothing pending belongs to a chain that holds one state.
 use Rattle.std.proofs.Common.{ap}
-use Rattle.snow_board.specs.Board.{Board, begin}
-use Rattle.snow_chain.specs.Chain.{begun}
+use Rattle.snow_board.specs.Model.Board.{Board, begin}
+use Rattle.snow_chain.specs.Model.Chain.{begun}
 use Rattle.snow_node.proofs.Following.{begun_steady}
 use Rattle.snow_node.proofs.Offers.{steady_as}
 use Rattle.snow_engine.proofs.deciding.Deciding.start.Goals as goal

@@ -1,9 +1,9 @@
 -- The lines before a stop of bootstrapping are those of the step.
 use Rattle.std.proofs.Common.{◌≡◌, rules}
-use Rattle.snow_wire.specs.Viewed.{as_event}
+use Rattle.snow_wire.specs.Clauses.Viewed.{as_event}
 use Rattle.snow_engine.specs.declared.stage.Stage.TheVariants as stage
-use Rattle.snow_engine.specs.Catching.{boots_on}
-use Rattle.snow_engine.specs.Staging.{Node}
+use Rattle.snow_engine.specs.Model.Catching.{boots_on}
+use Rattle.snow_engine.specs.Kept.Staging.{Node}
 use Rattle.snow_engine.proofs.Staged.{stop_logged}
 use Rattle.snow_engine.proofs.engine.Engine.catch_up.Goals as goal
 

@@ -1,6 +1,6 @@
 -- What was gathered was written, or a front of it.
 use Rattle.std.proofs.Common.{ℕ, List, subst}
-use Rattle.snow_engine.specs.Serving.{stand_of, GathersLines, all_worked}
+use Rattle.snow_engine.specs.Clauses.Serving.{stand_of, GathersLines, all_worked}
 use Rattle.snow_engine.proofs.Flushed.{flushed, broken}
 use Rattle.snow_engine.proofs.session.Session.work.Goals as goal
 

@@ -1,7 +1,7 @@
 -- One frame more, none any more, or the end of the run.
 use Rattle.std.proofs.Common.{sym, ◌∙◌, le_trans}
 use Rattle.std.proofs.lemmas.Result.{err_from_is_err_and}
-use Rattle.snow_engine.specs.Serving.{stand_of}
+use Rattle.snow_engine.specs.Clauses.Serving.{stand_of}
 use Rattle.snow_engine.proofs.Going.{goes_all, gathers_all, goes_on, all_gone, smaller_as, shorter_as, none_behind}
 use Rattle.snow_engine.proofs.session.Session.work_frames.Goals as goal
 

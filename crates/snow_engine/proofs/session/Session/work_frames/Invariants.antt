@@ -1,6 +1,6 @@
 -- The lines of the frames so far were gathered, and those of the others are still to come.
 use Rattle.std.proofs.Common.{◌≡◌, ◌+◌, ◌*◌, ◌^◌, ◌≤◌, length}
-use Rattle.snow_engine.specs.Serving.{stand_of}
+use Rattle.snow_engine.specs.Clauses.Serving.{stand_of}
 use Rattle.snow_engine.proofs.Going.{Gone}
 use Rattle.snow_engine.proofs.session.Session.work_frames.Given as goal
 

@@ -1,16 +1,16 @@
 -- A length that no frame has ends the run, and no line comes of it.
 use Rattle.std.proofs.Common.{◌++◌, refl, ap, sym, subst, List, ℕ}
 use Rattle.snow_lines.specs.declared.line.Line.{Line}
-use Rattle.snow_lines.specs.Gathered.{Gathers}
-use Rattle.snow_lines.specs.Text.{texts}
+use Rattle.snow_lines.specs.Kept.Gathered.{Gathers}
+use Rattle.snow_lines.specs.Model.Text.{texts}
 use Rattle.snow_lines.proofs.Waiting.{gathers_none}
 use Rattle.snow_wire.specs.declared.frame.TooLong.{TooLong}
 use Rattle.snow_wire.proofs.Streams.{long_first}
 use Rattle.snow_engine.specs.declared.end.BadKind.TheVariants as kind
 use Rattle.snow_engine.specs.declared.end.End.TheVariants as end
-use Rattle.snow_engine.specs.Serving.{Halts, Worked, stand_of, told, one_worked}
-use Rattle.snow_base.specs.Outside.{AppendsFront}
-use Rattle.snow_wire.specs.Stream.{taken}
+use Rattle.snow_engine.specs.Clauses.Serving.{Halts, Worked, stand_of, told, one_worked}
+use Rattle.snow_base.specs.Clauses.Outside.{AppendsFront}
+use Rattle.snow_wire.specs.Clauses.Stream.{taken}
 use Rattle.snow_engine.proofs.Worked.{failed_first, long_halts, none_worked}
 use Rattle.snow_engine.proofs.session.Session.work_next.Goals as goal
 

@@ -1,6 +1,6 @@
 use Rattle.std.proofs.Common.{◌≡◌, ◌-◌, ◌+◌, ◌∷◌, ◌++◌, [], suc, ap, ◌∙◌, arith, refl}
-use Rattle.snow_getter.specs.Chain.{chain, chain_within}
-use Rattle.snow_getter.specs.Order.{as_served}
+use Rattle.snow_getter.specs.Model.Chain.{chain, chain_within}
+use Rattle.snow_getter.specs.Kept.Order.{as_served}
 use Rattle.snow_getter.proofs.Chained.{bytes_of, ends_there, ends_before, taken_all, one_taken}
 use Rattle.snow_getter.proofs.getter.Getter.chain.Goals as goal
 

@@ -1,5 +1,5 @@
 use Rattle.std.proofs.Common.{◌≡◌, ◌++◌, ◌-◌, map}
-use Rattle.snow_getter.specs.Chain.{chain, chain_within}
+use Rattle.snow_getter.specs.Model.Chain.{chain, chain_within}
 use Rattle.snow_getter.proofs.getter.Getter.chain.Given as goal
 
 -- what was taken, and then the chain from the next block on, are the chain

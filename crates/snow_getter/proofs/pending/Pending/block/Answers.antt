@@ -1,8 +1,8 @@
 -- The block of an identifier is the one that the map has.
 use Rattle.std.proofs.Common.{find, sym, ap, ◌∙◌}
 use Rattle.std.specs.Option.{option_map}
-use Rattle.snow_getter.specs.Serving.{is_block}
-use Rattle.snow_getter.specs.Order.{block_at}
+use Rattle.snow_getter.specs.Model.Serving.{is_block}
+use Rattle.snow_getter.specs.Kept.Order.{block_at}
 use Rattle.snow_getter.proofs.Ordered.{block_found}
 use Rattle.snow_getter.proofs.pending.Pending.block.Goals as goal
 

@@ -1,6 +1,6 @@
 use Rattle.std.proofs.Common.{refl, sym, subst, arith}
 use Rattle.std.specs.List.{IsDistinct}
-use Rattle.snow_getter.specs.Order.{AreIssued, issued_before}
+use Rattle.snow_getter.specs.Kept.Order.{AreIssued, issued_before}
 use Rattle.snow_getter.proofs.pending.Pending.new.Goals as goal
 
 pub returns : goal.returns

@@ -2,11 +2,11 @@
 use Rattle.std.proofs.Common.{◌≡◌, ◌+◌, suc, List, ◌∷◌, [], ◌++◌, find, arith, ap, ◌∙◌, None, subst}
 use Rattle.std.specs.List.Sorted.{IsPermutation}
 use Rattle.std.specs.Option.{is_some}
-use Rattle.snow_map.specs.Entries.{value_of}
+use Rattle.snow_map.specs.Clauses.Entries.{value_of}
 use Rattle.snow_getter.specs.declared.served.Served.{Served}
 use Rattle.snow_getter.specs.declared.pending.Issued.{Issued}
-use Rattle.snow_getter.specs.Serving.{is_block}
-use Rattle.snow_getter.specs.Order.{AreIssued, block_at, issued_before}
+use Rattle.snow_getter.specs.Model.Serving.{is_block}
+use Rattle.snow_getter.specs.Kept.Order.{AreIssued, block_at, issued_before}
 use Rattle.snow_getter.proofs.Ordered.{block_pushed, issued_pushed, missing}
 use Rattle.snow_getter.proofs.pending.Pending.push.Goals.{In_ok-insert}
 use Rattle.snow_getter.proofs.pending.Pending.push.Goals as goal

@@ -1,8 +1,8 @@
 -- The block of an identifier goes with the map's entry.
 use Rattle.std.proofs.Common.{find, sym, ap, ◌∙◌}
 use Rattle.std.specs.Option.{option_map}
-use Rattle.snow_getter.specs.Serving.{is_block, without}
-use Rattle.snow_getter.specs.Order.{block_at}
+use Rattle.snow_getter.specs.Model.Serving.{is_block, without}
+use Rattle.snow_getter.specs.Kept.Order.{block_at}
 use Rattle.snow_getter.proofs.Ordered.{block_found, block_left, issued_left}
 use Rattle.snow_getter.proofs.pending.Pending.take.Goals as goal
 

@@ -1,6 +1,6 @@
 -- The run goes on, or begins here.
 use Rattle.std.proofs.Common.{◌∙◌, sym}
-use Rattle.snow_interval.specs.Listed.{listed}
+use Rattle.snow_interval.specs.Clauses.Listed.{listed}
 use Rattle.snow_interval.proofs.Running.{run_on, run_begins, run_ends}
 use Rattle.snow_interval.proofs.list.KeptListKept.lowest.Goals as goal
 

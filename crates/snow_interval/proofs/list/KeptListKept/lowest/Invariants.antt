@@ -1,7 +1,7 @@
 -- The run is the same from here on.
 use Rattle.std.proofs.Common.{◌≡◌}
-use Rattle.snow_interval.specs.Heights.{lowest}
-use Rattle.snow_interval.specs.Listed.{listed}
+use Rattle.snow_interval.specs.Model.Heights.{lowest}
+use Rattle.snow_interval.specs.Clauses.Listed.{listed}
 use Rattle.snow_interval.proofs.list.KeptListKept.lowest.Given as goal
 
 abbrev pub invariant-loop-low : goal.invariant-loop-low

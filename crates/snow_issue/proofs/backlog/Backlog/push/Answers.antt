@@ -4,7 +4,7 @@ use Rattle.std.specs.BinaryHeap.{heap_items, heap_len, heap_capacity}
 use Rattle.std.specs.BTreeMap.{is_at}
 use Rattle.std.specs.Ordering.{nat_cmp}
 use Rattle.snow_issue.specs.declared.backlog.Kept.{Kept}
-use Rattle.snow_issue.specs.Arrivals.{Entries, IsBacklog, at_arrival}
+use Rattle.snow_issue.specs.Kept.Arrivals.{Entries, IsBacklog, at_arrival}
 use Rattle.snow_issue.proofs.Stocked.{stocked_wider, stocked_pushed, appended_there}
 use Rattle.snow_issue.proofs.backlog.Backlog.push.Goals as goal
 

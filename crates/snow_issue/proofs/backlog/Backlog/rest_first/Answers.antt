@@ -8,7 +8,7 @@ use Rattle.std.specs.Option.{is_some}
 use Rattle.std.specs.Ordering.{nat_cmp}
 use Rattle.std.proofs.lemmas.Map.{keys-set_value}
 use Rattle.snow_issue.specs.declared.backlog.Kept.{Kept}
-use Rattle.snow_issue.specs.Arrivals.{Entries, at_arrival, IsFirst}
+use Rattle.snow_issue.specs.Kept.Arrivals.{Entries, at_arrival, IsFirst}
 use Rattle.snow_issue.proofs.Stocked.{stocked_rested, some_is, one_first, changed_there}
 use Rattle.snow_issue.proofs.backlog.Backlog.rest_first.Goals as goal
 

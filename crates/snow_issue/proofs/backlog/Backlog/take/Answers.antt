@@ -3,7 +3,7 @@ use Rattle.std.proofs.Common.{◌≡◌, ℕ, None, cond, ap, ◌∙◌}
 use Rattle.std.specs.BinaryHeap.{heap_items, heap_len, heap_capacity}
 use Rattle.std.specs.BTreeMap.{is_at}
 use Rattle.std.specs.Ordering.{nat_cmp}
-use Rattle.snow_issue.specs.Arrivals.{Entries, IsBacklog, at_arrival}
+use Rattle.snow_issue.specs.Kept.Arrivals.{Entries, IsBacklog, at_arrival}
 use Rattle.snow_issue.proofs.Stocked.{stocked_taken, left_there}
 use Rattle.snow_issue.proofs.backlog.Backlog.take.Goals as goal
 use Rattle.snow_issue.proofs.backlog.Backlog.take.Goals.{After-take}

@@ -8,7 +8,7 @@ use Rattle.std.specs.Ordering.{nat_cmp}
 use Rattle.std.specs.Str.{bytes_eq}
 use Rattle.std.proofs.lemmas.Bool.{and_parts}
 use Rattle.snow_issue.specs.declared.backlog.Kept.{Kept}
-use Rattle.snow_issue.specs.Arrivals.{Entries, IsBacklog, at_arrival, loud, woken_among}
+use Rattle.snow_issue.specs.Kept.Arrivals.{Entries, IsBacklog, at_arrival, loud, woken_among}
 use Rattle.snow_issue.proofs.Stocked.{stocked_woken, room_for, missing_woken, woken_there, woken_same, changed_there}
 use Rattle.snow_issue.proofs.backlog.Backlog.wake.Goals as goal
 

@@ -5,8 +5,8 @@ use Rattle.std.specs.Option.{option_map}
 use Rattle.std.specs.Str.{bytes_eq}
 use Rattle.std.proofs.lemmas.Bool.{not-true, not-false}
 use Rattle.snow_issue.specs.declared.work.Get.{Get}
-use Rattle.snow_issue.specs.Lists.{is_get, without}
-use Rattle.snow_issue.specs.Index.{HasAsked, get_of}
+use Rattle.snow_issue.specs.Model.Lists.{is_get, without}
+use Rattle.snow_issue.specs.Kept.Index.{HasAsked, get_of}
 use Rattle.snow_issue.proofs.Asking.{id_of_get, closed_missing, found_number, left_number, none_without, asked_closed}
 use Rattle.snow_issue.proofs.get_map.GetMap.close.Goals as goal
 

@@ -1,5 +1,5 @@
 use Rattle.std.proofs.Common.{ap, ◌∙◌}
-use Rattle.snow_issue.specs.Lists.{has_number}
+use Rattle.snow_issue.specs.Model.Lists.{has_number}
 use Rattle.snow_issue.proofs.Asking.{number_known}
 use Rattle.snow_issue.proofs.get_map.GetMap.has_number.Goals as goal
 

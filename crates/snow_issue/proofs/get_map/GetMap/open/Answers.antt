@@ -4,8 +4,8 @@ use Rattle.std.specs.HashSet.{contains}
 use Rattle.std.specs.Str.{bytes_eq}
 use Rattle.snow_issue.specs.declared.get_map.Asked.{Asked}
 use Rattle.snow_issue.specs.declared.work.Get.{Get}
-use Rattle.snow_issue.specs.Lists.{asked_in, has_number, with_get}
-use Rattle.snow_issue.specs.Index.{HasAsked, get_of}
+use Rattle.snow_issue.specs.Model.Lists.{asked_in, has_number, with_get}
+use Rattle.snow_issue.specs.Kept.Index.{HasAsked, get_of}
 use Rattle.snow_issue.proofs.Asking.{entered, asked_opened, asked_undone}
 use Rattle.snow_issue.proofs.get_map.GetMap.open.Goals as goal
 

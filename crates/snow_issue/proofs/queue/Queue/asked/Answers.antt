@@ -1,7 +1,7 @@
 use Rattle.std.proofs.Common.{◌<◌, List, length, All, sym, ap, subst}
 use Rattle.snow_issue.specs.declared.work.Get.{Get}
-use Rattle.snow_issue.specs.Known.{Seen, items_of, Tells}
-use Rattle.snow_issue.specs.Keeping.{IsKept}
+use Rattle.snow_issue.specs.Kept.Known.{Seen, items_of, Tells}
+use Rattle.snow_issue.specs.Kept.Keeping.{IsKept}
 use Rattle.snow_issue.proofs.Settled.{limits, kept_asked, knows_by}
 use Rattle.snow_issue.proofs.Taken.{tells_asked}
 use Rattle.snow_issue.proofs.queue.Queue.asked.Goals as goal

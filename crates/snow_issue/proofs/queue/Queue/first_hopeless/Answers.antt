@@ -2,9 +2,9 @@
 use Rattle.std.proofs.Common.{List, sym, ap, ◌∙◌}
 use Rattle.std.specs.List.{position_or_len}
 use Rattle.snow_issue.specs.declared.work.Waiting.{Waiting}
-use Rattle.snow_issue.specs.Lists.{Lists}
-use Rattle.snow_issue.specs.Settling.{is_hopeless_by}
-use Rattle.snow_issue.specs.Known.{items_of, lists_of}
+use Rattle.snow_issue.specs.Model.Lists.{Lists}
+use Rattle.snow_issue.specs.Model.Settling.{is_hopeless_by}
+use Rattle.snow_issue.specs.Kept.Known.{items_of, lists_of}
 use Rattle.snow_issue.proofs.queue.Queue.first_hopeless.Goals as goal
 
 pub returns-clause-first : goal.returns-clause-first

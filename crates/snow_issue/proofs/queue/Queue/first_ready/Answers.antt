@@ -4,9 +4,9 @@ use Rattle.std.specs.List.{position_or_len}
 use Rattle.snow_issue.specs.declared.work.Waiting.{Waiting}
 use Rattle.snow_lineup.specs.declared.marks.Mark.{Mark}
 use Rattle.snow_lineup.specs.declared.marks.Mark.TheVariants.{New, Ripe}
-use Rattle.snow_issue.specs.Settling.{is_ready}
-use Rattle.snow_issue.specs.Known.{Seen, items_of}
-use Rattle.snow_lineup.specs.Marks.{has}
+use Rattle.snow_issue.specs.Model.Settling.{is_ready}
+use Rattle.snow_issue.specs.Kept.Known.{Seen, items_of}
+use Rattle.snow_lineup.specs.Kept.Marks.{has}
 use Rattle.snow_issue.proofs.Looked.{position_same, ready_all, none_ripe}
 use Rattle.snow_issue.proofs.Settled.{knows_by}
 use Rattle.snow_issue.proofs.queue.Queue.first_ready.Goals as goal

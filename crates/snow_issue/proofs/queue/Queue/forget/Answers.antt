@@ -2,9 +2,9 @@ use Rattle.std.proofs.Common.{List, All, not, ◌==◌, sym, ap, ◌∙◌, subs
 use Rattle.std.proofs.lemmas.List.Elements.{All-filter}
 use Rattle.snow_issue.specs.declared.work.Held.{Held}
 use Rattle.snow_lineup.specs.declared.marks.Mark.{Mark}
-use Rattle.snow_issue.specs.Lists.{Lists, after_forgotten}
-use Rattle.snow_issue.specs.Known.{Seen, items_of, lists_of}
-use Rattle.snow_issue.specs.Keeping.{Rests}
+use Rattle.snow_issue.specs.Model.Lists.{Lists, after_forgotten}
+use Rattle.snow_issue.specs.Kept.Known.{Seen, items_of, lists_of}
+use Rattle.snow_issue.specs.Kept.Keeping.{Rests}
 use Rattle.snow_issue.proofs.Seated.{items_filtered}
 use Rattle.snow_issue.proofs.Settled.{kept_replies}
 use Rattle.snow_issue.proofs.queue.Queue.forget.Goals as goal

@@ -2,7 +2,7 @@
 use Rattle.std.proofs.Common.{List, All, refl, sym, ap, subst, ◌∙◌}
 use Rattle.snow_issue.specs.declared.work.Waiting.{Waiting}
 use Rattle.snow_lineup.specs.declared.marks.Mark.{Mark}
-use Rattle.snow_issue.specs.Known.{Seen, items_of, lists_of, Tells, NoneRipe}
+use Rattle.snow_issue.specs.Kept.Known.{Seen, items_of, lists_of, Tells, NoneRipe}
 use Rattle.snow_issue.proofs.Settled.{kept_seats, knows_by, lists_by}
 use Rattle.snow_issue.proofs.Taken.{items_woken, tells_woken, unripe_woken, woken_forgets}
 use Rattle.snow_issue.proofs.queue.Queue.forget_children.Goals as goal

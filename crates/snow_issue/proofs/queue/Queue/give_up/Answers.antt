@@ -6,9 +6,9 @@ use Rattle.snow_base.specs.declared.header.Header.{Header}
 use Rattle.snow_lineup.specs.declared.marks.Mark.{Mark}
 use Rattle.snow_lineup.specs.declared.marks.Mark.TheVariants.{New}
 use Rattle.snow_issue.specs.declared.work.Waiting.{Waiting}
-use Rattle.snow_issue.specs.Keeping.{IsKept}
-use Rattle.snow_issue.specs.Lists.{asked_in, is_asked}
-use Rattle.snow_issue.specs.Known.{Seen, items_of, lists_of}
+use Rattle.snow_issue.specs.Kept.Keeping.{IsKept}
+use Rattle.snow_issue.specs.Model.Lists.{asked_in, is_asked}
+use Rattle.snow_issue.specs.Kept.Known.{Seen, items_of, lists_of}
 use Rattle.snow_issue.proofs.Settled.{kept_stay, seen}
 use Rattle.snow_issue.proofs.Stepped.{left_knows, left_items, stay_knows}
 use Rattle.snow_issue.proofs.Taken.{items_removed}

@@ -1,7 +1,7 @@
 -- A pending block that neither waits nor is asked for is its own vote.
 use Rattle.std.proofs.Common.{◌≡◌, false, sym, ap, ◌∙◌}
-use Rattle.snow_issue.specs.Lists.{waits, is_asked}
-use Rattle.snow_issue.specs.Known.{Seen, lists_of}
+use Rattle.snow_issue.specs.Model.Lists.{waits, is_asked}
+use Rattle.snow_issue.specs.Kept.Known.{Seen, lists_of}
 use Rattle.snow_issue.proofs.Bubbled.{own_vote}
 use Rattle.snow_issue.proofs.queue.Queue.is_own_vote.Goals as goal
 

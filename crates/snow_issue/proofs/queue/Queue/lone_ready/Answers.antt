@@ -3,9 +3,9 @@ use Rattle.std.proofs.Common.{◌≡◌, ◌<◌, true, get_or, length, sym, ap,
 use Rattle.snow_issue.specs.declared.work.Waiting.{Waiting}
 use Rattle.snow_lineup.specs.declared.marks.Mark.{Mark}
 use Rattle.snow_lineup.specs.declared.marks.Mark.TheVariants.{New}
-use Rattle.snow_issue.specs.Offering.{is_on}
-use Rattle.snow_issue.specs.Known.{Seen, NoneRipe}
-use Rattle.snow_lineup.specs.Marks.{IsOnlyAt}
+use Rattle.snow_issue.specs.Model.Offering.{is_on}
+use Rattle.snow_issue.specs.Kept.Known.{Seen, NoneRipe}
+use Rattle.snow_lineup.specs.Kept.Marks.{IsOnlyAt}
 use Rattle.snow_issue.proofs.Lone.{none_hopeless, lone_first}
 use Rattle.snow_issue.proofs.queue.Queue.lone_ready.Goals as goal
 use Rattle.snow_issue.proofs.queue.Queue.lone_ready.Goals.{After-is_on}

@@ -1,7 +1,7 @@
 -- Nothing waits, and one block is gone.
 use Rattle.std.proofs.Common.{None, ap, ◌∙◌, arith, length}
 use Rattle.snow_issue.specs.declared.gone.Gone.{Gone}
-use Rattle.snow_issue.specs.Gone.{with_gone}
+use Rattle.snow_issue.specs.Model.Gone.{with_gone}
 use Rattle.snow_issue.proofs.queue.Queue.new.Goals as goal
 
 pub invariant_of-result : goal.invariant_of-result

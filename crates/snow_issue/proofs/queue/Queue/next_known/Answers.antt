@@ -1,6 +1,6 @@
 -- Where each waiting block was looked at and none is ripe, a step is a vote.
 use Rattle.std.proofs.Common.{◌∙◌, subst}
-use Rattle.snow_issue.specs.Known.{Seen, NoneNew, NoneRipe}
+use Rattle.snow_issue.specs.Kept.Known.{Seen, NoneNew, NoneRipe}
 use Rattle.snow_issue.proofs.Resting.{resting}
 use Rattle.snow_issue.proofs.queue.Queue.next_known.Goals as goal
 

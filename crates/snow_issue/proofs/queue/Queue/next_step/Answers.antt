@@ -1,8 +1,8 @@
 -- The first places of a hopeless and of a ready block tell the step.
 use Rattle.std.proofs.Common.{◌≡◌, ◌≤◌, None, length, find, sym, ap, ◌∙◌, subst, arith}
-use Rattle.snow_issue.specs.Lists.{Lists}
-use Rattle.snow_issue.specs.Settling.{is_hopeless, is_ready, work_of, after}
-use Rattle.snow_issue.specs.Known.{Seen, Knows, lists_of, items_of}
+use Rattle.snow_issue.specs.Model.Lists.{Lists}
+use Rattle.snow_issue.specs.Model.Settling.{is_hopeless, is_ready, work_of, after}
+use Rattle.snow_issue.specs.Kept.Known.{Seen, Knows, lists_of, items_of}
 use Rattle.snow_issue.proofs.Stepped.{none_first, at_end, vote_step}
 use Rattle.snow_issue.proofs.queue.Queue.next_step.Goals as goal
 use Rattle.snow_issue.proofs.queue.Queue.next_step.Goals.{After-first_ready-ready}

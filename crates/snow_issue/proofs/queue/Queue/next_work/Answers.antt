@@ -2,9 +2,9 @@
 use Rattle.std.proofs.Common.{◌≡◌, List, All, sym, ap, ◌∙◌, subst}
 use Rattle.snow_issue.specs.declared.work.Waiting.{Waiting}
 use Rattle.snow_lineup.specs.declared.marks.Mark.{Mark}
-use Rattle.snow_issue.specs.Settling.{work_of, after}
-use Rattle.snow_issue.specs.Known.{Seen, items_of, lists_of, Tells}
-use Rattle.snow_issue.specs.Keeping.{IsKept}
+use Rattle.snow_issue.specs.Model.Settling.{work_of, after}
+use Rattle.snow_issue.specs.Kept.Known.{Seen, items_of, lists_of, Tells}
+use Rattle.snow_issue.specs.Kept.Keeping.{IsKept}
 use Rattle.snow_issue.proofs.Settled.{seen, kept_forgotten, lists_by}
 use Rattle.snow_issue.proofs.Taken.{tells_forgotten, items_forgotten}
 use Rattle.snow_issue.proofs.queue.Queue.next_work.Goals as goal

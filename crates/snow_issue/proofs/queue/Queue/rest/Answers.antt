@@ -1,6 +1,6 @@
 -- What is remembered stays true, and where no reply is held nothing is to be done.
 use Rattle.std.proofs.Common.{sym, ap, ◌∙◌}
-use Rattle.snow_issue.specs.Known.{Seen, items_of}
+use Rattle.snow_issue.specs.Kept.Known.{Seen, items_of}
 use Rattle.snow_issue.proofs.Settled.{knows_by}
 use Rattle.snow_issue.proofs.Rested.{rests_idle, none_held}
 use Rattle.snow_issue.proofs.queue.Queue.rest.Goals as goal

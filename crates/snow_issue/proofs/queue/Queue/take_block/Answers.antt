@@ -2,8 +2,8 @@
 use Rattle.std.proofs.Common.{◌<◌, length, map, get_or, sym, ap, subst, ◌∙◌}
 use Rattle.std.specs.List.{remove}
 use Rattle.snow_issue.specs.declared.work.Held.{Held}
-use Rattle.snow_issue.specs.Known.{Seen, items_of}
-use Rattle.snow_lineup.specs.Index.{woken}
+use Rattle.snow_issue.specs.Kept.Known.{Seen, items_of}
+use Rattle.snow_lineup.specs.Kept.Index.{woken}
 use Rattle.snow_issue.proofs.Settled.{kept_left}
 use Rattle.snow_issue.proofs.Stepped.{parent_of_block}
 use Rattle.snow_issue.proofs.Taken.{items_woken}

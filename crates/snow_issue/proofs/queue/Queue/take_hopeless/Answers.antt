@@ -1,7 +1,7 @@
 -- The earliest hopeless block is taken out.
 use Rattle.std.proofs.Common.{ap, ◌∙◌}
-use Rattle.snow_issue.specs.Settling.{is_hopeless, gone_with}
-use Rattle.snow_issue.specs.Known.{items_of, lists_of}
+use Rattle.snow_issue.specs.Model.Settling.{is_hopeless, gone_with}
+use Rattle.snow_issue.specs.Kept.Known.{items_of, lists_of}
 use Rattle.snow_issue.proofs.Settled.{knows_from}
 use Rattle.snow_issue.proofs.Stepped.{IsTaken, first_taken, hopeless_step, after_hopeless}
 use Rattle.snow_issue.proofs.queue.Queue.take_hopeless.Goals as goal

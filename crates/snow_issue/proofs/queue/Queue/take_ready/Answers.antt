@@ -1,8 +1,8 @@
 -- The earliest ready block is taken out.
 use Rattle.std.proofs.Common.{sym}
 use Rattle.std.specs.List.{remove}
-use Rattle.snow_issue.specs.Settling.{is_ready}
-use Rattle.snow_issue.specs.Known.{lists_of}
+use Rattle.snow_issue.specs.Model.Settling.{is_ready}
+use Rattle.snow_issue.specs.Kept.Known.{lists_of}
 use Rattle.snow_issue.proofs.Stepped.{IsTaken, left_items, left_knows, first_taken, ready_step, after_ready}
 use Rattle.snow_issue.proofs.Taken.{woken_forgets}
 use Rattle.snow_issue.proofs.queue.Queue.take_ready.Goals as goal

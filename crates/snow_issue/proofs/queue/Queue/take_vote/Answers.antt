@@ -4,10 +4,10 @@ use Rattle.std.specs.List.{remove}
 use Rattle.snow_issue.specs.declared.work.Held.{Held}
 use Rattle.snow_lineup.specs.declared.marks.Mark.{Mark}
 use Rattle.snow_lineup.proofs.Tagged.{All_remove}
-use Rattle.snow_issue.specs.Lists.{without}
-use Rattle.snow_issue.specs.Settling.{is_free}
-use Rattle.snow_issue.specs.Known.{Seen, items_of, lists_of}
-use Rattle.snow_issue.specs.Keeping.{Rests}
+use Rattle.snow_issue.specs.Model.Lists.{without}
+use Rattle.snow_issue.specs.Model.Settling.{is_free}
+use Rattle.snow_issue.specs.Kept.Known.{Seen, items_of, lists_of}
+use Rattle.snow_issue.specs.Kept.Keeping.{Rests}
 use Rattle.snow_issue.proofs.Seated.{place}
 use Rattle.snow_issue.proofs.Settled.{kept_replies}
 use Rattle.snow_issue.proofs.Taken.{items_removed}

@@ -1,7 +1,7 @@
 -- A block that gives a vote is on the board or gone, so that it needn't be asked for.
 use Rattle.std.proofs.Common.{◌≡◌, false, sym, ap, ◌∙◌}
-use Rattle.snow_issue.specs.Lists.{waits, is_asked}
-use Rattle.snow_issue.specs.Known.{Seen, lists_of}
+use Rattle.snow_issue.specs.Model.Lists.{waits, is_asked}
+use Rattle.snow_issue.specs.Kept.Known.{Seen, lists_of}
 use Rattle.snow_issue.proofs.Bubbled.{vote_is}
 use Rattle.snow_issue.proofs.queue.Queue.vote_at_once.Goals as goal
 

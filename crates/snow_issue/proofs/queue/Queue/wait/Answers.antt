@@ -1,7 +1,7 @@
 use Rattle.std.proofs.Common.{List, All, sym, ap, subst}
 use Rattle.snow_issue.specs.declared.work.Waiting.{Waiting}
 use Rattle.snow_lineup.specs.declared.marks.Mark.{Mark}
-use Rattle.snow_issue.specs.Known.{Seen, items_of, Tells, NoneRipe}
+use Rattle.snow_issue.specs.Kept.Known.{Seen, items_of, Tells, NoneRipe}
 use Rattle.snow_issue.proofs.Settled.{knows_by}
 use Rattle.snow_issue.proofs.Taken.{tells_pushed, unripe_pushed}
 use Rattle.snow_issue.proofs.queue.Queue.wait.Goals as goal

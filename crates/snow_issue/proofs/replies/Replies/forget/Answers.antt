@@ -2,7 +2,7 @@
 use Rattle.std.proofs.Common.{not, ◌==◌, filter, sym, ap, ◌∙◌}
 use Rattle.snow_issue.specs.declared.work.Held.{Held}
 use Rattle.snow_lineup.specs.declared.marks.Mark.{Mark}
-use Rattle.snow_issue.specs.Arrivals.{filed, names, AreGone}
+use Rattle.snow_issue.specs.Kept.Arrivals.{filed, names, AreGone}
 use Rattle.snow_issue.proofs.Departed.{filed_out, filed_without, none_gone, gone_view}
 use Rattle.snow_issue.proofs.replies.Replies.forget.Goals as goal
 use Rattle.snow_issue.proofs.replies.Replies.forget.Goals.{After-drop_each}

@@ -2,9 +2,9 @@ use Rattle.std.proofs.Common.{List, ap, ◌∙◌}
 use Rattle.std.specs.Option.{is_some}
 use Rattle.snow_issue.specs.declared.work.Held.{Held}
 use Rattle.snow_lineup.specs.declared.marks.Mark.{Mark}
-use Rattle.snow_issue.specs.Lists.{holds_in}
-use Rattle.snow_issue.specs.Known.{items_of}
-use Rattle.snow_issue.specs.Arrivals.{filed, names, number_of_node}
+use Rattle.snow_issue.specs.Model.Lists.{holds_in}
+use Rattle.snow_issue.specs.Kept.Known.{items_of}
+use Rattle.snow_issue.specs.Kept.Arrivals.{filed, names, number_of_node}
 use Rattle.snow_issue.proofs.Numbered.{held_by_number}
 use Rattle.snow_issue.proofs.replies.Replies.has_node.Goals as goal
 

@@ -2,9 +2,9 @@
 use Rattle.std.proofs.Common.{◌≡◌, None, false, cond, List, sym, ap, ◌∙◌, subst}
 use Rattle.snow_issue.specs.declared.work.Held.{Held}
 use Rattle.snow_lineup.specs.declared.marks.Mark.{Mark}
-use Rattle.snow_issue.specs.Lists.{holds_in}
-use Rattle.snow_issue.specs.Known.{items_of}
-use Rattle.snow_issue.specs.Arrivals.{Entries, IsFiled, filed, names}
+use Rattle.snow_issue.specs.Model.Lists.{holds_in}
+use Rattle.snow_issue.specs.Kept.Known.{items_of}
+use Rattle.snow_issue.specs.Kept.Arrivals.{Entries, IsFiled, filed, names}
 use Rattle.snow_issue.proofs.Numbered.{is_of, no_number, filed_same, filed_names, filed_pushed, filed_undone}
 use Rattle.snow_issue.proofs.replies.Replies.push.Goals as goal
 use Rattle.snow_issue.proofs.replies.Replies.push.Goals.{After-keep}

@@ -8,8 +8,8 @@ use Rattle.snow_issue.specs.declared.backlog.Kept.{Kept}
 use Rattle.snow_issue.specs.declared.work.Held.{Held}
 use Rattle.snow_lineup.specs.declared.marks.Mark.{Mark}
 use Rattle.snow_lineup.specs.declared.marks.Mark.TheVariants.{New, Quiet}
-use Rattle.snow_lineup.specs.Marks.{has}
-use Rattle.snow_issue.specs.Arrivals.{Entries, at_arrival, filed, names, seat_of}
+use Rattle.snow_lineup.specs.Kept.Marks.{has}
+use Rattle.snow_issue.specs.Kept.Arrivals.{Entries, at_arrival, filed, names, seat_of}
 use Rattle.snow_issue.proofs.Numbered.{filed_by}
 use Rattle.snow_issue.proofs.Seated.{place, seats_rested, replies_rested, first_at_place, none_found}
 use Rattle.snow_issue.proofs.Next.{none_there}

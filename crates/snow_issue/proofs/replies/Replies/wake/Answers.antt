@@ -6,8 +6,8 @@ use Rattle.std.specs.Option.{option_map}
 use Rattle.std.specs.Ordering.{nat_cmp}
 use Rattle.snow_issue.specs.declared.backlog.Kept.{Kept}
 use Rattle.snow_issue.specs.declared.work.Held.{Held}
-use Rattle.snow_lineup.specs.Index.{woken}
-use Rattle.snow_issue.specs.Arrivals.{Entries, at_arrival, filed, names, has_number_in, seat_of}
+use Rattle.snow_lineup.specs.Kept.Index.{woken}
+use Rattle.snow_issue.specs.Kept.Arrivals.{Entries, at_arrival, filed, names, has_number_in, seat_of}
 use Rattle.snow_issue.proofs.Numbered.{filed_by, all_named}
 use Rattle.snow_issue.proofs.Seated.{woken_by_none, keys_woken, replies_woken, seats_woken}
 use Rattle.snow_issue.proofs.replies.Replies.wake.Goals as goal

@@ -2,7 +2,7 @@
 use Rattle.std.proofs.Common.{false, List, length, sym, ap, subst, arith}
 use Rattle.std.proofs.lemmas.List.{length_push}
 use Rattle.snow_issue.specs.declared.roll.Place.{Place}
-use Rattle.snow_issue.specs.Roll.{entries_of, Rises}
+use Rattle.snow_issue.specs.Kept.Roll.{entries_of, Rises}
 use Rattle.snow_issue.proofs.Ranged.{one_more, rises_more, in_order, few}
 use Rattle.snow_issue.proofs.roll.Roll.push.Goals as goal
 use Rattle.snow_issue.proofs.roll.Roll.push.Goals.{In_ok-push}

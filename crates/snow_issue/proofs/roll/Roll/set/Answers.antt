@@ -5,8 +5,8 @@ use Rattle.std.specs.Map.{set_value}
 use Rattle.std.specs.Ordering.{nat_cmp}
 use Rattle.std.proofs.lemmas.Map.{length-set_value}
 use Rattle.snow_issue.specs.declared.roll.Place.{Place}
-use Rattle.snow_issue.specs.Arrivals.{Entries}
-use Rattle.snow_issue.specs.Roll.{entries_of}
+use Rattle.snow_issue.specs.Kept.Arrivals.{Entries}
+use Rattle.snow_issue.specs.Kept.Roll.{entries_of}
 use Rattle.snow_issue.proofs.Ranged.{changed, rises_still}
 use Rattle.snow_issue.proofs.roll.Roll.set.Goals as goal
 use Rattle.snow_issue.proofs.roll.Roll.set.Goals.{After-index_mut}

@@ -5,8 +5,8 @@ use Rattle.std.specs.List.Sorted.{IsStrictlySortedBy}
 use Rattle.std.specs.Map.{keys_of, remove_entry}
 use Rattle.std.specs.Ordering.{nat_cmp}
 use Rattle.snow_issue.specs.declared.roll.Place.{Place}
-use Rattle.snow_issue.specs.Arrivals.{Entries, at_arrival}
-use Rattle.snow_issue.specs.Roll.{entries_of, Rises}
+use Rattle.snow_issue.specs.Kept.Arrivals.{Entries, at_arrival}
+use Rattle.snow_issue.specs.Kept.Roll.{entries_of, Rises}
 use Rattle.snow_issue.proofs.Ranged.{taken, none_taken, one_fewer, rises_still, in_order}
 use Rattle.snow_issue.proofs.roll.Roll.take.Goals as goal
 use Rattle.snow_issue.proofs.roll.Roll.take.Goals.{After-index_mut}

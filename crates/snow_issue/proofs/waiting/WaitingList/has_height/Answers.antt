@@ -1,7 +1,7 @@
 use Rattle.std.proofs.Common.{ap, ◌∙◌}
-use Rattle.snow_map.specs.Entries.{value_of}
-use Rattle.snow_issue.specs.Lists.{waits_among}
-use Rattle.snow_issue.specs.Known.{items_of}
+use Rattle.snow_map.specs.Clauses.Entries.{value_of}
+use Rattle.snow_issue.specs.Model.Lists.{waits_among}
+use Rattle.snow_issue.specs.Kept.Known.{items_of}
 use Rattle.snow_issue.proofs.Heights.{waits_known}
 use Rattle.snow_issue.proofs.waiting.WaitingList.has_height.Goals as goal
 

@@ -1,7 +1,7 @@
 use Rattle.std.proofs.Common.{ap, ◌∙◌}
-use Rattle.snow_map.specs.Entries.{value_of}
-use Rattle.snow_issue.specs.Lists.{waits_below}
-use Rattle.snow_issue.specs.Known.{items_of}
+use Rattle.snow_map.specs.Clauses.Entries.{value_of}
+use Rattle.snow_issue.specs.Model.Lists.{waits_below}
+use Rattle.snow_issue.specs.Kept.Known.{items_of}
 use Rattle.snow_issue.proofs.Heights.{below_known, below_missing}
 use Rattle.snow_issue.proofs.waiting.WaitingList.has_height_below.Goals as goal
 

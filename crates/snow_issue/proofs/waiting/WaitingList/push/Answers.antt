@@ -1,10 +1,10 @@
 use Rattle.std.proofs.Common.{◌≡◌, List, false, sym, ap, ◌∙◌, subst}
 use Rattle.snow_issue.specs.declared.work.Waiting.{Waiting}
 use Rattle.snow_lineup.specs.declared.marks.Mark.TheVariants.{New}
-use Rattle.snow_map.specs.Entries.{value_of}
-use Rattle.snow_issue.specs.Lists.{waits_among}
-use Rattle.snow_issue.specs.Known.{items_of}
-use Rattle.snow_issue.specs.Index.{HasHeights}
+use Rattle.snow_map.specs.Clauses.Entries.{value_of}
+use Rattle.snow_issue.specs.Model.Lists.{waits_among}
+use Rattle.snow_issue.specs.Kept.Known.{items_of}
+use Rattle.snow_issue.specs.Kept.Index.{HasHeights}
 use Rattle.snow_issue.proofs.Heights.{heights_pushed}
 use Rattle.snow_issue.proofs.Taken.{items_pushed}
 use Rattle.snow_issue.proofs.waiting.WaitingList.push.Goals as goal

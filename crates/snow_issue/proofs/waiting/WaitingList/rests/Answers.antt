@@ -1,7 +1,7 @@
 use Rattle.std.proofs.Common.{List, subst}
 use Rattle.snow_issue.specs.declared.work.Waiting.{Waiting}
 use Rattle.snow_lineup.specs.declared.marks.Mark.{Mark}
-use Rattle.snow_issue.specs.Known.{NoneNew, NoneRipe}
+use Rattle.snow_issue.specs.Kept.Known.{NoneNew, NoneRipe}
 use Rattle.snow_issue.proofs.waiting.WaitingList.rests.Goals as goal
 
 pub returns-clause-new : goal.returns-clause-new

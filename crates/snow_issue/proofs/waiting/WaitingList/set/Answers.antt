@@ -1,7 +1,7 @@
 use Rattle.std.proofs.Common.{◌<◌, List, length, sym, subst}
-use Rattle.snow_map.specs.Entries.{value_of}
+use Rattle.snow_map.specs.Clauses.Entries.{value_of}
 use Rattle.snow_issue.specs.declared.work.Waiting.{Waiting}
-use Rattle.snow_issue.specs.Index.{HasHeights}
+use Rattle.snow_issue.specs.Kept.Index.{HasHeights}
 use Rattle.snow_issue.proofs.Looked.{items_after_set}
 use Rattle.snow_issue.proofs.waiting.WaitingList.set.Goals as goal
 

@@ -1,10 +1,10 @@
 use Rattle.std.proofs.Common.{◌<◌, List, length, sym, ap, ◌∙◌, subst, arith}
 use Rattle.std.proofs.lemmas.List.{length-map}
-use Rattle.snow_map.specs.Entries.{value_of}
+use Rattle.snow_map.specs.Clauses.Entries.{value_of}
 use Rattle.snow_issue.specs.declared.work.Waiting.{Waiting}
 use Rattle.snow_lineup.specs.declared.marks.Mark.{Mark}
-use Rattle.snow_issue.specs.Known.{items_of}
-use Rattle.snow_issue.specs.Index.{HasHeights}
+use Rattle.snow_issue.specs.Kept.Known.{items_of}
+use Rattle.snow_issue.specs.Kept.Index.{HasHeights}
 use Rattle.snow_issue.proofs.Heights.{heights_removed}
 use Rattle.snow_issue.proofs.Taken.{item_is, items_removed}
 use Rattle.snow_issue.proofs.waiting.WaitingList.take.Goals as goal

@@ -1,11 +1,11 @@
 -- The block that came last is found by its place.
 use Rattle.std.proofs.Common.{◌<◌, ◌-◌, length, sym, ap, ◌∙◌, arith}
 use Rattle.std.proofs.lemmas.List.{length-map}
-use Rattle.snow_map.specs.Entries.{value_of}
+use Rattle.snow_map.specs.Clauses.Entries.{value_of}
 use Rattle.snow_issue.specs.declared.work.Waiting.{Waiting}
 use Rattle.snow_lineup.specs.declared.marks.Mark.{Mark}
-use Rattle.snow_issue.specs.Lists.{waits_below}
-use Rattle.snow_issue.specs.Known.{items_of}
+use Rattle.snow_issue.specs.Model.Lists.{waits_below}
+use Rattle.snow_issue.specs.Kept.Known.{items_of}
 use Rattle.snow_issue.proofs.Heights.{below_at}
 use Rattle.snow_issue.proofs.Taken.{item_is}
 use Rattle.snow_issue.proofs.waiting.WaitingList.waits_below.Goals as goal

@@ -1,8 +1,8 @@
 use Rattle.std.proofs.Common.{List, sym, ap, ◌∙◌, subst}
-use Rattle.snow_map.specs.Entries.{value_of}
+use Rattle.snow_map.specs.Clauses.Entries.{value_of}
 use Rattle.snow_issue.specs.declared.work.Waiting.{Waiting}
-use Rattle.snow_issue.specs.Known.{items_of}
-use Rattle.snow_issue.specs.Index.{HasHeights}
+use Rattle.snow_issue.specs.Kept.Known.{items_of}
+use Rattle.snow_issue.specs.Kept.Index.{HasHeights}
 use Rattle.snow_issue.proofs.Taken.{items_woken}
 use Rattle.snow_issue.proofs.waiting.WaitingList.wake.Goals as goal
 

@@ -1,6 +1,6 @@
 -- The path leads to the state that is held.
 use Rattle.std.proofs.Common.{ap, Some, ◌∙◌, arith}
-use Rattle.snow_ledger.specs.Ledger.{held}
+use Rattle.snow_ledger.specs.Model.Ledger.{held}
 use Rattle.snow_ledger.proofs.Paths.{accounts_along, balance_along}
 use Rattle.snow_ledger.proofs.chain.LedgerChain.balance.Goals as goal
 

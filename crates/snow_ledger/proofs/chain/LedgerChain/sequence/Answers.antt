@@ -1,6 +1,6 @@
 -- The path leads to the state that is held.
 use Rattle.std.proofs.Common.{ap, Some, ◌∙◌, arith}
-use Rattle.snow_ledger.specs.Ledger.{next_in}
+use Rattle.snow_ledger.specs.Model.Ledger.{next_in}
 use Rattle.snow_ledger.proofs.Paths.{accounts_along, sequence_along}
 use Rattle.snow_ledger.proofs.chain.LedgerChain.sequence.Goals as goal
 

@@ -1,7 +1,7 @@
 -- A line failed, or is done.
 use Rattle.std.proofs.Common.{rules, ap}
 use Rattle.std.proofs.lemmas.Result.{err_from_is_err_and}
-use Rattle.snow_lines.specs.Text.{text}
+use Rattle.snow_lines.specs.Model.Text.{text}
 use Rattle.snow_lines.proofs.Waiting.{gathers_next, gathers_inside}
 use Rattle.snow_lines.proofs.page.Page.print_some.Goals as goal
 

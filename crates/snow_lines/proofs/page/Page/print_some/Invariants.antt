@@ -1,7 +1,7 @@
 -- The lines so far were written or wait.
 use Rattle.std.proofs.Common.{◌≤◌, take}
-use Rattle.snow_lines.specs.Gathered.{Gathers}
-use Rattle.snow_lines.specs.Text.{texts}
+use Rattle.snow_lines.specs.Kept.Gathered.{Gathers}
+use Rattle.snow_lines.specs.Model.Text.{texts}
 use Rattle.snow_lines.proofs.page.Page.print_some.Given as goal
 
 abbrev pub invariant-loop-line : goal.invariant-loop-line

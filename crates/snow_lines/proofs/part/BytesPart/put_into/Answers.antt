@@ -1,7 +1,7 @@
 -- The space failed.
 use Rattle.std.proofs.Common.{[], ◌∷◌}
 use Rattle.std.proofs.lemmas.Result.{err_from_is_err_and}
-use Rattle.snow_lines.specs.Text.{block_word}
+use Rattle.snow_lines.specs.Model.Text.{block_word}
 use Rattle.snow_lines.proofs.Waiting.{fails_first}
 use Rattle.snow_lines.proofs.part.BytesPart.put_into.Goals as goal
 

@@ -1,5 +1,5 @@
 use Rattle.std.proofs.Common.{◌≡◌, length}
-use Rattle.snow_lines.specs.Reading.{block_of, items}
+use Rattle.snow_lines.specs.Model.Reading.{block_of, items}
 use Rattle.snow_lines.proofs.Cutting.{onto}
 use Rattle.snow_lines.proofs.words.Words.blocks.Given as goal
 

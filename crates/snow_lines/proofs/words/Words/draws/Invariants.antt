@@ -1,5 +1,5 @@
 use Rattle.std.proofs.Common.{◌≡◌, length}
-use Rattle.snow_lines.specs.Reading.{draw_of, items}
+use Rattle.snow_lines.specs.Model.Reading.{draw_of, items}
 use Rattle.snow_lines.proofs.Cutting.{onto}
 use Rattle.snow_lines.proofs.words.Words.draws.Given as goal
 

@@ -1,8 +1,8 @@
 use Rattle.std.proofs.Common.{◌≡◌, map, length, sym, ap, ◌∙◌}
 use Rattle.std.proofs.lemmas.List.{length-map}
 use Rattle.std.specs.List.{position_or_len}
-use Rattle.snow_lineup.specs.Marks.{has}
-use Rattle.snow_lineup.specs.Index.{seat_of}
+use Rattle.snow_lineup.specs.Kept.Marks.{has}
+use Rattle.snow_lineup.specs.Kept.Index.{seat_of}
 use Rattle.snow_lineup.proofs.Windowed.{within_narrowed}
 use Rattle.snow_lineup.proofs.lineup.Lineup.first.Goals as goal
 

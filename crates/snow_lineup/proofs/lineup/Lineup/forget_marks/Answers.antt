@@ -1,8 +1,8 @@
 use Rattle.std.proofs.Common.{◌≡◌, List, map, length, sym, ap, ◌∙◌, subst}
 use Rattle.std.proofs.lemmas.List.{length-map, with_items_is}
 use Rattle.snow_lineup.specs.declared.lineup.Slot.{Slot}
-use Rattle.snow_lineup.specs.Index.{IsIndexed, tag_of, seat_of, reset, forgotten}
-use Rattle.snow_lineup.specs.Windows.{AreWithin}
+use Rattle.snow_lineup.specs.Kept.Index.{IsIndexed, tag_of, seat_of, reset, forgotten}
+use Rattle.snow_lineup.specs.Kept.Windows.{AreWithin}
 use Rattle.snow_lineup.proofs.Placed.{tags_reset, seats_reset}
 use Rattle.snow_lineup.proofs.Windowed.{within_forgotten}
 use Rattle.snow_lineup.proofs.lineup.Lineup.forget_marks.Goals as goal

@@ -2,7 +2,7 @@ use Rattle.std.proofs.Common.{◌≡◌, ◌<◌, ◌-◌, bytes_eq, List, lengt
 use Rattle.std.proofs.lemmas.List.{length-map}
 use Rattle.snow_lineup.specs.declared.marks.Mark.{Mark}
 use Rattle.snow_lineup.specs.declared.marks.Mark.TheVariants.{New}
-use Rattle.snow_lineup.specs.Index.{seat_of, woken}
+use Rattle.snow_lineup.specs.Kept.Index.{seat_of, woken}
 use Rattle.snow_lineup.proofs.Newest.{wakes_one}
 use Rattle.snow_lineup.proofs.lineup.Lineup.is_of_newest.Goals as goal
 

@@ -3,7 +3,7 @@ use Rattle.std.proofs.lemmas.Grind.{common_steps}
 use Rattle.std.proofs.lemmas.List.{map_push}
 use Rattle.snow_lineup.specs.declared.lineup.Slot.{Slot}
 use Rattle.snow_lineup.specs.declared.marks.Mark.TheVariants.{New}
-use Rattle.snow_lineup.specs.Index.{tag_of, seat_of}
+use Rattle.snow_lineup.specs.Kept.Index.{tag_of, seat_of}
 use Rattle.snow_lineup.proofs.Tagged.{indexed_push, indexed_same}
 use Rattle.snow_lineup.proofs.Windowed.{within_pushed}
 use Rattle.snow_lineup.proofs.lineup.Lineup.push.Goals as goal

@@ -1,8 +1,8 @@
 use Rattle.std.proofs.Common.{◌≡◌, false, List, All, map, subst}
 use Rattle.snow_lineup.specs.declared.marks.Mark.{Mark}
 use Rattle.snow_lineup.specs.declared.marks.Mark.TheVariants.{New, Ripe}
-use Rattle.snow_lineup.specs.Marks.{has}
-use Rattle.snow_lineup.specs.Index.{seat_of}
+use Rattle.snow_lineup.specs.Kept.Marks.{has}
+use Rattle.snow_lineup.specs.Kept.Index.{seat_of}
 use Rattle.snow_lineup.proofs.Windowed.{no_mark}
 use Rattle.snow_lineup.proofs.lineup.Lineup.rests.Goals as goal
 

@@ -2,7 +2,7 @@ use Rattle.std.proofs.Common.{◌<◌, map, length, set, get_or, sym, ap, ◌∙
 use Rattle.std.proofs.lemmas.List.{length-map, get_or-map}
 use Rattle.snow_lineup.specs.declared.lineup.Slot.{Slot}
 use Rattle.snow_lineup.specs.declared.marks.Mark.{Mark}
-use Rattle.snow_lineup.specs.Index.{seat_of}
+use Rattle.snow_lineup.specs.Kept.Index.{seat_of}
 use Rattle.snow_lineup.proofs.Tagged.{tags_set, seats_set}
 use Rattle.snow_lineup.proofs.Windowed.{within_marked}
 use Rattle.snow_lineup.proofs.lineup.Lineup.set.Goals as goal

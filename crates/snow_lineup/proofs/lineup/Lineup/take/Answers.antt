@@ -1,7 +1,7 @@
 use Rattle.std.proofs.Common.{◌<◌, map, length, sym, ap, ◌∙◌, subst, arith}
 use Rattle.std.specs.List.{remove}
 use Rattle.std.proofs.lemmas.List.{length-map, get_or-map}
-use Rattle.snow_lineup.specs.Index.{tag_of, seat_of}
+use Rattle.snow_lineup.specs.Kept.Index.{tag_of, seat_of}
 use Rattle.snow_lineup.proofs.Tagged.{map_remove, indexed_remove, has_own_place}
 use Rattle.snow_lineup.proofs.Windowed.{within_removed}
 use Rattle.snow_lineup.proofs.lineup.Lineup.take.Goals as goal

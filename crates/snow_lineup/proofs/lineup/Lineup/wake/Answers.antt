@@ -1,7 +1,7 @@
 use Rattle.std.proofs.Common.{◌≡◌, ◌<◌, ◌-◌, length, map, ap, arith}
 use Rattle.std.proofs.lemmas.List.{length-map}
 use Rattle.snow_lineup.specs.declared.marks.Mark.TheVariants.{New}
-use Rattle.snow_lineup.specs.Index.{seat_of, woken}
+use Rattle.snow_lineup.specs.Kept.Index.{seat_of, woken}
 use Rattle.snow_lineup.proofs.Newest.{set_last}
 use Rattle.snow_lineup.proofs.lineup.Lineup.wake.Goals as goal
 

@@ -3,8 +3,8 @@ use Rattle.std.specs.Option.{option_to_list}
 use Rattle.std.specs.Str.{bytes_eq}
 use Rattle.std.proofs.lemmas.List.{with_items_is}
 use Rattle.snow_lineup.specs.declared.lineup.Slot.{Slot}
-use Rattle.snow_lineup.specs.Index.{IsIndexed, tag_of, seat_of, woken, woken_at, row_of, has_place}
-use Rattle.snow_lineup.specs.Windows.{AreWithin}
+use Rattle.snow_lineup.specs.Kept.Index.{IsIndexed, tag_of, seat_of, woken, woken_at, row_of, has_place}
+use Rattle.snow_lineup.specs.Kept.Windows.{AreWithin}
 use Rattle.snow_lineup.proofs.Placed.{Rises, tags_woken, row_wakes}
 use Rattle.snow_lineup.proofs.Tagged.{All_unmap, AllPairs_unmap}
 use Rattle.snow_lineup.proofs.lineup.Lineup.wake_key.Goals as goal

@@ -1,6 +1,6 @@
 use Rattle.std.proofs.Common.{◌==◌, ℕ, not, ap, ◌∙◌, rules}
 use Rattle.std.proofs.lemmas.Fn.{filter_same}
-use Rattle.snow_lineup.specs.Index.{left_by}
+use Rattle.snow_lineup.specs.Kept.Index.{left_by}
 use Rattle.snow_lineup.proofs.rows.Row.leave.Goals as goal
 
 pub returns-clause-left : goal.returns-clause-left

@@ -1,6 +1,6 @@
 use Rattle.std.proofs.Common.{sym, ap, ◌∙◌}
-use Rattle.snow_map.specs.Entries.{value_of}
-use Rattle.snow_map.specs.Groups.{group_gives}
+use Rattle.snow_map.specs.Clauses.Entries.{value_of}
+use Rattle.snow_map.specs.Kept.Groups.{group_gives}
 use Rattle.snow_map.proofs.Grouped.{here_gives}
 use Rattle.snow_map.proofs.Lists.{in_order}
 use Rattle.snow_map.proofs.far.Far.find.Goals as goal

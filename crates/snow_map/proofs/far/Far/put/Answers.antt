@@ -2,8 +2,8 @@ use Rattle.std.proofs.Common.{cond, Some, sym, ap, subst, ◌∙◌, bytes_eq, n
 use Rattle.std.specs.List.{IsDistinct}
 use Rattle.std.specs.Map.{lookup, keys_of}
 use Rattle.std.specs.Option.{is_some}
-use Rattle.snow_map.specs.Entries.{value_of, HasAt}
-use Rattle.snow_map.specs.Groups.{entries_in, group_gives, AreGrouped}
+use Rattle.snow_map.specs.Clauses.Entries.{value_of, HasAt}
+use Rattle.snow_map.specs.Kept.Groups.{entries_in, group_gives, AreGrouped}
 use Rattle.snow_map.proofs.Grouped.{IsRegrouped, here_gives, all_once, changed_in, same_in, same_written}
 use Rattle.snow_map.proofs.Lists.{in_order, when_err}
 use Rattle.snow_map.proofs.far.Far.put.Goals as goal

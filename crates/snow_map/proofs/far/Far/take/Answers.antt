@@ -3,8 +3,8 @@ use Rattle.std.specs.List.{IsDistinct}
 use Rattle.std.specs.Map.{lookup, keys_of}
 use Rattle.std.specs.Option.{is_some}
 use Rattle.std.proofs.lemmas.Map.Text.{is_eq-slice_cmp}
-use Rattle.snow_map.specs.Entries.{value_of, HasAt}
-use Rattle.snow_map.specs.Groups.{entries_in, group_gives}
+use Rattle.snow_map.specs.Clauses.Entries.{value_of, HasAt}
+use Rattle.snow_map.specs.Kept.Groups.{entries_in, group_gives}
 use Rattle.snow_map.proofs.Grouped.{IsRegrouped, here_gives, all_once, changed_in, emptied_in}
 use Rattle.snow_map.proofs.Lists.{same_id, in_order}
 use Rattle.snow_map.proofs.far.Far.take.Goals as goal

@@ -2,7 +2,7 @@ use Rattle.std.proofs.Common.{sym, ap, subst, ◌∙◌, bytes_eq}
 use Rattle.std.specs.List.{IsDistinct}
 use Rattle.std.specs.Map.{keys_of}
 use Rattle.std.specs.Option.{option_copied, option_or}
-use Rattle.snow_map.specs.Entries.{value_of}
+use Rattle.snow_map.specs.Clauses.Entries.{value_of}
 use Rattle.snow_map.proofs.Seats.{found, all_distinct}
 use Rattle.snow_map.proofs.id_map.IdMap.get.Goals as goal
 

@@ -1,9 +1,9 @@
 use Rattle.std.proofs.Common.{nat_eq, None, Some, sym, ap, subst, ◌∙◌, ◌≡◌, ◌∷◌}
 use Rattle.std.specs.List.Sorted.{IsPermutation}
-use Rattle.snow_map.specs.Entries.{value_of, HasAt}
+use Rattle.snow_map.specs.Clauses.Entries.{value_of, HasAt}
 use Rattle.std.specs.Map.{lookup}
 use Rattle.std.specs.Option.{IsSome}
-use Rattle.snow_map.specs.Kept.{place_of, entries_of}
+use Rattle.snow_map.specs.Kept.Placed.{place_of, entries_of}
 use Rattle.snow_map.proofs.Kept.{added, own_value, far_value, near_put, near_put_kept, far_put, far_put_kept, when_ok, when_ok_with, must_succeed, some_within}
 use Rattle.snow_map.proofs.id_map.IdMap.insert.Goals as goal
 

@@ -1,8 +1,8 @@
 use Rattle.std.proofs.Common.{None, sym, ap, subst, ◌∙◌, bytes_eq}
 use Rattle.std.specs.List.Sorted.{IsPermutation}
 use Rattle.std.specs.Map.{remove_entry}
-use Rattle.snow_map.specs.Entries.{value_of, HasAt}
-use Rattle.snow_map.specs.Kept.{entries_of}
+use Rattle.snow_map.specs.Clauses.Entries.{value_of, HasAt}
+use Rattle.snow_map.specs.Kept.Placed.{entries_of}
 use Rattle.snow_map.proofs.Kept.{left, near_value, other_value, near_take, far_take}
 use Rattle.snow_map.proofs.id_map.IdMap.remove.Goals as goal
 

@@ -1,8 +1,8 @@
 -- A node that begins to run has nothing that could be at odds.
 use Rattle.std.proofs.Common.{◌∙◌, ap}
-use Rattle.snow_chain.specs.Chain.{begun}
-use Rattle.snow_chain.specs.Alone.{last_state}
-use Rattle.snow_issue.specs.Known.{lists_of}
+use Rattle.snow_chain.specs.Model.Chain.{begun}
+use Rattle.snow_chain.specs.Kept.Alone.{last_state}
+use Rattle.snow_issue.specs.Kept.Known.{lists_of}
 use Rattle.snow_node.proofs.Keeping.{kept_new}
 use Rattle.snow_node.proofs.Supplying.{serves_new}
 use Rattle.snow_node.proofs.running.Running.above.Goals as goal

@@ -2,11 +2,11 @@
 use Rattle.std.proofs.Common.{sym, subst}
 use Rattle.std.proofs.lemmas.Result.{err_from_is_err_and}
 use Rattle.snow_issue.specs.declared.work.Waiting.{Waiting}
-use Rattle.snow_node.specs.Outcome.{Comes}
-use Rattle.snow_node.specs.Running.{Running}
-use Rattle.snow_node.specs.Hearing.{brought}
-use Rattle.snow_node.specs.Settling.{settled}
-use Rattle.snow_node.specs.Stepping.{Tells, Turns}
+use Rattle.snow_node.specs.Model.Outcome.{Comes}
+use Rattle.snow_node.specs.Model.Running.{Running}
+use Rattle.snow_node.specs.Model.Hearing.{brought}
+use Rattle.snow_node.specs.Model.Settling.{settled}
+use Rattle.snow_node.specs.Clauses.Stepping.{Tells, Turns}
 use Rattle.snow_node.proofs.AtOnce.{placed_at_once}
 use Rattle.snow_node.proofs.Sequel.{lines_first, lines_then}
 use Rattle.snow_node.proofs.running.Running.bring.Goals as goal

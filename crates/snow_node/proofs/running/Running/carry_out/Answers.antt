@@ -1,9 +1,9 @@
 -- A stop of what is done is that of the step.
 use Rattle.std.proofs.Common.{Bool, true}
 use Rattle.std.proofs.lemmas.Result.{err_from_is_err_and}
-use Rattle.snow_node.specs.Outcome.{quietly}
-use Rattle.snow_node.specs.Running.{Running}
-use Rattle.snow_node.specs.Settling.{done}
+use Rattle.snow_node.specs.Model.Outcome.{quietly}
+use Rattle.snow_node.specs.Model.Running.{Running}
+use Rattle.snow_node.specs.Model.Settling.{done}
 use Rattle.snow_node.proofs.Sequel.{stop_first, lines_first}
 use Rattle.snow_node.proofs.running.Running.carry_out.Goals as goal
 

@@ -1,8 +1,8 @@
 -- Closed polls leave, and then all is settled.
 use Rattle.std.proofs.lemmas.Result.{err_from_is_err_and}
-use Rattle.snow_node.specs.Running.{Running}
-use Rattle.snow_node.specs.Closing.{closed_out}
-use Rattle.snow_node.specs.Settling.{settled}
+use Rattle.snow_node.specs.Model.Running.{Running}
+use Rattle.snow_node.specs.Model.Closing.{closed_out}
+use Rattle.snow_node.specs.Model.Settling.{settled}
 use Rattle.snow_node.proofs.Sequel.{lines_first, lines_then}
 use Rattle.snow_node.proofs.running.Running.close_and_settle.Goals as goal
 

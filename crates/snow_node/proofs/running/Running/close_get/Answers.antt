@@ -1,6 +1,6 @@
 -- Where no get has the number, none is closed.
 use Rattle.std.proofs.Common.{◌∙◌, sym, ap}
-use Rattle.snow_issue.specs.Lists.{Lists}
+use Rattle.snow_issue.specs.Model.Lists.{Lists}
 use Rattle.snow_node.proofs.Working.{none_closed, none_numbered}
 use Rattle.snow_node.proofs.running.Running.close_get.Goals as goal
 

@@ -1,9 +1,9 @@
 -- A get is closed, or there is none.
 use Rattle.std.proofs.Common.{◌∙◌, sym, subst}
-use Rattle.snow_issue.specs.Lists.{after_closed}
-use Rattle.snow_issue.specs.Known.{lists_of}
+use Rattle.snow_issue.specs.Model.Lists.{after_closed}
+use Rattle.snow_issue.specs.Kept.Known.{lists_of}
 use Rattle.snow_node.specs.declared.running.remembering.Remembered.{Remembered}
-use Rattle.snow_node.specs.Remembering.{Remembers}
+use Rattle.snow_node.specs.Kept.Remembering.{Remembers}
 use Rattle.snow_node.proofs.Keeping.{kept_queue_as, same_lists}
 use Rattle.snow_node.proofs.Remembering.{kept_woken}
 use Rattle.snow_node.proofs.Working.{none_closed, closed_gets}

@@ -1,8 +1,8 @@
 -- A poll that leaves takes its replies with it, and nothing else.
 use Rattle.std.proofs.Common.{sym, subst}
-use Rattle.snow_issue.specs.Known.{lists_of}
-use Rattle.snow_issue.specs.Lists.{Lists, after_forgotten}
-use Rattle.snow_issue.specs.Settling.{IsIdle}
+use Rattle.snow_issue.specs.Kept.Known.{lists_of}
+use Rattle.snow_issue.specs.Model.Lists.{Lists, after_forgotten}
+use Rattle.snow_issue.specs.Model.Settling.{IsIdle}
 use Rattle.snow_issue.proofs.Idle.{idle_forgotten}
 use Rattle.snow_node.proofs.Keeping.{kept_shortened, kept_queue_as}
 use Rattle.snow_node.proofs.Remembering.{kept_seats}

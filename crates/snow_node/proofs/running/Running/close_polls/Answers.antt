@@ -1,8 +1,8 @@
 -- One step more, the last one, or a stop.
 use Rattle.std.proofs.Common.{ap, ◌∙◌, Ok, Bool}
 use Rattle.std.proofs.lemmas.Result.{err_from_is_err_and}
-use Rattle.snow_node.specs.Closing.{running_polls, one_closed}
-use Rattle.snow_node.specs.Running.{Running}
+use Rattle.snow_node.specs.Model.Closing.{running_polls, one_closed}
+use Rattle.snow_node.specs.Model.Running.{Running}
 use Rattle.snow_node.proofs.Looping.{polls_fall}
 use Rattle.snow_node.proofs.Made.{begins, more, done, stopped}
 use Rattle.snow_node.proofs.running.Running.close_polls.Goals as goal

@@ -1,6 +1,6 @@
 -- The polls so far have left.
-use Rattle.snow_node.specs.Closing.{running_polls, one_closed}
-use Rattle.snow_node.specs.Running.{Running}
+use Rattle.snow_node.specs.Model.Closing.{running_polls, one_closed}
+use Rattle.snow_node.specs.Model.Running.{Running}
 use Rattle.snow_node.proofs.Made.{Along}
 use Rattle.snow_node.proofs.running.Running.close_polls.Given as goal
 

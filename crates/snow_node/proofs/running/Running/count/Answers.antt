@@ -1,10 +1,10 @@
 -- What was counted was awaited, and where nothing was counted nothing changed.
 use Rattle.std.proofs.Common.{◌++◌, append-nil, Ok, refl, sym, ap, ◌∙◌, subst}
-use Rattle.snow_node.specs.Outcome.{Comes, then_comes}
-use Rattle.snow_node.specs.Running.{Running}
-use Rattle.snow_node.specs.Closing.{closed_out}
-use Rattle.snow_node.specs.Settling.{settled}
-use Rattle.snow_node.specs.Stepping.{Tells, Turns}
+use Rattle.snow_node.specs.Model.Outcome.{Comes, then_comes}
+use Rattle.snow_node.specs.Model.Running.{Running}
+use Rattle.snow_node.specs.Model.Closing.{closed_out}
+use Rattle.snow_node.specs.Model.Settling.{settled}
+use Rattle.snow_node.specs.Clauses.Stepping.{Tells, Turns}
 use Rattle.snow_node.proofs.AtOnce.{was_counted, not_counted}
 use Rattle.snow_node.proofs.running.Running.count.Goals as goal
 

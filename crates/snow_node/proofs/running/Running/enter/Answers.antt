@@ -1,7 +1,7 @@
 -- A vote changes no number.
 use Rattle.std.proofs.Common.{◌∙◌, ap}
-use Rattle.snow_poll.specs.Table.{Table}
-use Rattle.snow_issue.specs.Known.{lists_of}
+use Rattle.snow_poll.specs.Model.Table.{Table}
+use Rattle.snow_issue.specs.Kept.Known.{lists_of}
 use Rattle.snow_node.proofs.Keeping.{kept_voted}
 use Rattle.snow_node.proofs.running.Running.enter.Goals as goal
 

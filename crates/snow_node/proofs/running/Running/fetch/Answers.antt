@@ -1,8 +1,8 @@
 -- The number is new, and no get has a greater one.
 use Rattle.std.proofs.Common.{sym, ap, subst}
-use Rattle.snow_issue.specs.Known.{lists_of}
-use Rattle.snow_issue.specs.Lists.{Lists}
-use Rattle.snow_issue.specs.Settling.{IsIdle}
+use Rattle.snow_issue.specs.Kept.Known.{lists_of}
+use Rattle.snow_issue.specs.Model.Lists.{Lists}
+use Rattle.snow_issue.specs.Model.Settling.{IsIdle}
 use Rattle.snow_issue.proofs.Idle.{idle_asked}
 use Rattle.snow_node.proofs.Keeping.{kept_numbered, kept_asked, kept_unasked, new_to_gets}
 use Rattle.snow_node.proofs.Remembering.{kept_seats, kept_seen}

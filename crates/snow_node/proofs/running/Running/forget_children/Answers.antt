@@ -1,8 +1,8 @@
 -- The lists stay, and so does what is known of them.
 use Rattle.std.proofs.Common.{sym, subst}
-use Rattle.snow_issue.specs.Known.{lists_of}
+use Rattle.snow_issue.specs.Kept.Known.{lists_of}
 use Rattle.snow_node.specs.declared.running.remembering.Remembered.{Remembered}
-use Rattle.snow_node.specs.Remembering.{Remembers}
+use Rattle.snow_node.specs.Kept.Remembering.{Remembers}
 use Rattle.snow_node.proofs.Keeping.{kept_same, same_lists}
 use Rattle.snow_node.proofs.Remembering.{kept_next}
 use Rattle.snow_node.proofs.running.Running.forget_children.Goals as goal

@@ -1,8 +1,8 @@
 -- A reply is held, and then all is settled.
 use Rattle.std.proofs.lemmas.Result.{err_from_is_err_and}
-use Rattle.snow_node.specs.Running.{Running}
-use Rattle.snow_node.specs.Hearing.{vote_held}
-use Rattle.snow_node.specs.Settling.{settled}
+use Rattle.snow_node.specs.Model.Running.{Running}
+use Rattle.snow_node.specs.Model.Hearing.{vote_held}
+use Rattle.snow_node.specs.Model.Settling.{settled}
 use Rattle.snow_node.proofs.Sequel.{lines_first, lines_then}
 use Rattle.snow_node.proofs.running.Running.hold_and_settle.Goals as goal
 

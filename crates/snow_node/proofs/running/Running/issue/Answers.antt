@@ -1,14 +1,14 @@
 -- A block that was admitted is told of.
 use Rattle.std.proofs.Common.{sym, subst}
 use Rattle.std.proofs.lemmas.Result.{err_from_is_err_and}
-use Rattle.snow_chain.specs.Chain.{next_on}
-use Rattle.snow_issue.specs.Known.{lists_of}
-use Rattle.snow_node.specs.Kept.{IsApart}
+use Rattle.snow_chain.specs.Model.Chain.{next_on}
+use Rattle.snow_issue.specs.Kept.Known.{lists_of}
+use Rattle.snow_node.specs.Kept.Tied.{IsApart}
 use Rattle.snow_node.specs.declared.running.remembering.Remembered.{Remembered}
-use Rattle.snow_node.specs.Remembering.{Remembers}
-use Rattle.snow_node.specs.Running.{Running}
-use Rattle.snow_node.specs.Settling.{issued_by}
-use Rattle.snow_node.specs.Stepping.{Tells, LogsFront}
+use Rattle.snow_node.specs.Kept.Remembering.{Remembers}
+use Rattle.snow_node.specs.Model.Running.{Running}
+use Rattle.snow_node.specs.Model.Settling.{issued_by}
+use Rattle.snow_node.specs.Clauses.Stepping.{Tells, LogsFront}
 use Rattle.snow_node.proofs.Issuing.{kept_admitted, remembers_admitted, issue_front, issue_lines}
 use Rattle.snow_node.proofs.running.Running.issue.Goals as goal
 

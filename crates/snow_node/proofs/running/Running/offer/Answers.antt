@@ -1,10 +1,10 @@
 -- A block that waits now is apart from all others.
 use Rattle.std.proofs.Common.{sym, ap, ◌∙◌, subst}
 use Rattle.snow_issue.specs.declared.work.Waiting.{Waiting}
-use Rattle.snow_issue.specs.Known.{lists_of}
-use Rattle.snow_issue.specs.Offering.{after_offer}
+use Rattle.snow_issue.specs.Kept.Known.{lists_of}
+use Rattle.snow_issue.specs.Model.Offering.{after_offer}
 use Rattle.snow_node.specs.declared.running.remembering.Remembered.{Remembered}
-use Rattle.snow_node.specs.Remembering.{Remembers}
+use Rattle.snow_node.specs.Kept.Remembering.{Remembers}
 use Rattle.snow_node.proofs.Keeping.{kept_same, kept_waiting, offered_apart}
 use Rattle.snow_node.proofs.Remembering.{kept_woken}
 use Rattle.snow_node.proofs.running.Running.offer.Goals as goal

@@ -1,9 +1,9 @@
 -- A vote came, and the event ends.
 use Rattle.std.proofs.Common.{sym}
 use Rattle.std.proofs.lemmas.Result.{err_from_is_err_and}
-use Rattle.snow_node.specs.Running.{Running}
-use Rattle.snow_node.specs.Hearing.{vote_came}
-use Rattle.snow_node.specs.Turning.{rounded}
+use Rattle.snow_node.specs.Model.Running.{Running}
+use Rattle.snow_node.specs.Model.Hearing.{vote_came}
+use Rattle.snow_node.specs.Model.Turning.{rounded}
 use Rattle.snow_node.proofs.Sequel.{lines_first, lines_then}
 use Rattle.snow_node.proofs.running.Running.on_chits.Goals as goal
 

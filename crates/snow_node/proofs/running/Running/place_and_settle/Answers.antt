@@ -1,7 +1,7 @@
 -- A block is placed, and then all is settled.
 use Rattle.std.proofs.lemmas.Result.{err_from_is_err_and}
-use Rattle.snow_node.specs.Running.{Running}
-use Rattle.snow_node.specs.Settling.{placed, settled}
+use Rattle.snow_node.specs.Model.Running.{Running}
+use Rattle.snow_node.specs.Model.Settling.{placed, settled}
 use Rattle.snow_node.proofs.Sequel.{lines_first, lines_then}
 use Rattle.snow_node.proofs.running.Running.place_and_settle.Goals as goal
 

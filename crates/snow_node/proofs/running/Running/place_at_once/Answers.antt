@@ -1,7 +1,7 @@
 -- A block that is ready as it comes is apart from all that waits.
 use Rattle.std.proofs.Common.{◌∙◌, sym, subst}
-use Rattle.snow_node.specs.Kept.{IsApart}
-use Rattle.snow_node.specs.Running.{Running}
+use Rattle.snow_node.specs.Kept.Tied.{IsApart}
+use Rattle.snow_node.specs.Model.Running.{Running}
 use Rattle.snow_node.proofs.Keeping.{next_apart}
 use Rattle.snow_node.proofs.running.Running.place_at_once.Goals as goal
 

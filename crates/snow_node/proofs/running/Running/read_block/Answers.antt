@@ -2,10 +2,10 @@
 use Rattle.std.proofs.Common.{Bool, cond, Option, sym, subst, ◌∙◌}
 use Rattle.snow_base.specs.declared.header.Header.{Header}
 use Rattle.snow_issue.specs.declared.work.Waiting.{Waiting}
-use Rattle.snow_node.specs.Outcome.{quietly, then_comes}
-use Rattle.snow_node.specs.Hearing.{brought, read_as}
-use Rattle.snow_node.specs.Settling.{settled}
-use Rattle.snow_node.specs.Stepping.{Tells, Turns}
+use Rattle.snow_node.specs.Model.Outcome.{quietly, then_comes}
+use Rattle.snow_node.specs.Model.Hearing.{brought, read_as}
+use Rattle.snow_node.specs.Model.Settling.{settled}
+use Rattle.snow_node.specs.Clauses.Stepping.{Tells, Turns}
 use Rattle.snow_node.proofs.running.Running.read_block.Goals as goal
 
 pub returns-in_default-clause-answer : goal.returns-in_default-clause-answer

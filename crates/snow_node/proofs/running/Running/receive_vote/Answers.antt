@@ -1,9 +1,9 @@
 -- A reply that would be the first thing to do is counted where it is awaited.
 use Rattle.std.proofs.Common.{◌≡◌, false, Some, sym, subst, rules}
-use Rattle.snow_issue.specs.Lists.{holds_in}
-use Rattle.snow_node.specs.Outcome.{Comes}
-use Rattle.snow_node.specs.Running.{Running}
-use Rattle.snow_node.specs.Stepping.{Tells, Turns}
+use Rattle.snow_issue.specs.Model.Lists.{holds_in}
+use Rattle.snow_node.specs.Model.Outcome.{Comes}
+use Rattle.snow_node.specs.Model.Running.{Running}
+use Rattle.snow_node.specs.Clauses.Stepping.{Tells, Turns}
 use Rattle.snow_node.proofs.AtOnce.{came_at_once}
 use Rattle.snow_node.proofs.running.Running.receive_vote.Goals as goal
 

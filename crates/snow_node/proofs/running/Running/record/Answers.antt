@@ -1,10 +1,10 @@
 -- What was decided is off the board, and so is what waits.
 use Rattle.std.proofs.Common.{ap, ◌∙◌, sym, subst}
-use Rattle.snow_board.specs.Poll.{poll}
-use Rattle.snow_issue.specs.Known.{lists_of}
+use Rattle.snow_board.specs.Model.Poll.{poll}
+use Rattle.snow_issue.specs.Kept.Known.{lists_of}
 use Rattle.snow_node.specs.declared.running.remembering.Remembered.{Remembered}
-use Rattle.snow_node.specs.Closing.{all_gone}
-use Rattle.snow_node.specs.Remembering.{Remembers}
+use Rattle.snow_node.specs.Model.Closing.{all_gone}
+use Rattle.snow_node.specs.Kept.Remembering.{Remembers}
 use Rattle.snow_node.proofs.Keeping.{kept_polled}
 use Rattle.snow_node.proofs.Remembering.{kept_at_poll}
 use Rattle.snow_node.proofs.Supplying.{serves_polled}

@@ -1,8 +1,8 @@
 -- A block that is gone leaves what waits, and nothing more to do.
 use Rattle.std.proofs.Common.{Some, sym, subst}
-use Rattle.snow_issue.specs.Known.{lists_of}
-use Rattle.snow_issue.specs.Lists.{Lists, after_gone}
-use Rattle.snow_issue.specs.Settling.{IsIdle}
+use Rattle.snow_issue.specs.Kept.Known.{lists_of}
+use Rattle.snow_issue.specs.Model.Lists.{Lists, after_gone}
+use Rattle.snow_issue.specs.Model.Settling.{IsIdle}
 use Rattle.snow_node.proofs.Keeping.{kept_queue_as}
 use Rattle.snow_node.proofs.Remembering.{kept_seats}
 use Rattle.snow_node.proofs.running.Running.refuse.Goals as goal

@@ -1,6 +1,6 @@
 -- The queries so far were made.
-use Rattle.snow_node.specs.Querying.{lacking, one_repolled}
-use Rattle.snow_node.specs.Running.{Running}
+use Rattle.snow_node.specs.Model.Querying.{lacking, one_repolled}
+use Rattle.snow_node.specs.Model.Running.{Running}
 use Rattle.snow_node.proofs.Made.{Along}
 use Rattle.snow_node.proofs.running.Running.repoll.Given as goal
 

@@ -1,10 +1,10 @@
 -- The lists stay, and what is remembered of them stays true.
 use Rattle.std.proofs.Common.{sym, subst}
-use Rattle.snow_issue.specs.Known.{lists_of}
+use Rattle.snow_issue.specs.Kept.Known.{lists_of}
 use Rattle.snow_node.specs.declared.running.remembering.Remembered.{Remembered}
-use Rattle.snow_node.specs.Running.{Running}
-use Rattle.snow_node.specs.Kept.{AreBothOff}
-use Rattle.snow_node.specs.Remembering.{Remembers}
+use Rattle.snow_node.specs.Model.Running.{Running}
+use Rattle.snow_node.specs.Kept.Tied.{AreBothOff}
+use Rattle.snow_node.specs.Kept.Remembering.{Remembers}
 use Rattle.snow_node.proofs.Keeping.{kept_same, same_lists}
 use Rattle.snow_node.proofs.Remembering.{kept_looked}
 use Rattle.snow_node.proofs.running.Running.rest.Goals as goal

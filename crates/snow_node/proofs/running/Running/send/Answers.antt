@@ -1,5 +1,5 @@
 -- The number is new, and no poll has a greater one.
-use Rattle.snow_issue.specs.Known.{lists_of}
+use Rattle.snow_issue.specs.Kept.Known.{lists_of}
 use Rattle.snow_node.proofs.Keeping.{kept_numbered, kept_begun, kept_unbegun, new_to_polls}
 use Rattle.snow_node.proofs.running.Running.send.Goals as goal
 

@@ -1,7 +1,7 @@
 -- Where nothing is to do all is settled.
 use Rattle.std.proofs.Common.{ap, sym, ◌∙◌, ◌++◌, append-nil}
-use Rattle.snow_node.specs.Outcome.{Comes}
-use Rattle.snow_node.specs.Running.{Running}
+use Rattle.snow_node.specs.Model.Outcome.{Comes}
+use Rattle.snow_node.specs.Model.Running.{Running}
 use Rattle.snow_node.proofs.Looping.{none_settled}
 use Rattle.snow_node.proofs.running.Running.settle.Goals as goal
 

@@ -1,6 +1,6 @@
 -- The steps so far were done.
-use Rattle.snow_node.specs.Settling.{left_to_do, one_settled}
-use Rattle.snow_node.specs.Running.{Running}
+use Rattle.snow_node.specs.Model.Settling.{left_to_do, one_settled}
+use Rattle.snow_node.specs.Model.Running.{Running}
 use Rattle.snow_node.proofs.Made.{Along}
 use Rattle.snow_node.proofs.running.Running.settle_all.Given as goal
 

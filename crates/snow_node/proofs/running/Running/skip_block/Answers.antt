@@ -5,10 +5,10 @@ use Rattle.snow_lines.specs.declared.line.Line.TheVariants as line
 use Rattle.snow_lines.specs.declared.why.SkipKind.TheVariants as kind
 use Rattle.snow_node.specs.declared.stop.Halt.{Halt}
 use Rattle.snow_node.specs.declared.stop.Halt.TheVariants as halt
-use Rattle.snow_node.specs.Outcome.{with_line}
-use Rattle.snow_node.specs.Running.{Running}
-use Rattle.snow_node.specs.Settling.{settled}
-use Rattle.snow_node.specs.Stepping.{HaltsAs}
+use Rattle.snow_node.specs.Model.Outcome.{with_line}
+use Rattle.snow_node.specs.Model.Running.{Running}
+use Rattle.snow_node.specs.Model.Settling.{settled}
+use Rattle.snow_node.specs.Clauses.Stepping.{HaltsAs}
 use Rattle.snow_node.proofs.Sequel.{lines_first, lines_then}
 use Rattle.snow_node.proofs.running.Running.skip_block.Goals as goal
 

@@ -1,8 +1,8 @@
 -- What was taken out can be done, and what is known of the queue's memory is known anew.
 use Rattle.std.proofs.Common.{sym, subst}
-use Rattle.snow_issue.specs.Known.{lists_of}
+use Rattle.snow_issue.specs.Kept.Known.{lists_of}
 use Rattle.snow_node.specs.declared.running.remembering.Remembered.{Remembered}
-use Rattle.snow_node.specs.Remembering.{Remembers}
+use Rattle.snow_node.specs.Kept.Remembering.{Remembers}
 use Rattle.snow_node.proofs.Keeping.{kept_taken_out}
 use Rattle.snow_node.proofs.Remembering.{kept_taken}
 use Rattle.snow_node.proofs.running.Running.take_work.Goals as goal

@@ -1,8 +1,8 @@
 -- A get or a vote is given up, and then all is settled.
 use Rattle.std.proofs.lemmas.Result.{err_from_is_err_and}
-use Rattle.snow_node.specs.Running.{Running}
-use Rattle.snow_node.specs.Hearing.{asked_by, given_up_on}
-use Rattle.snow_node.specs.Settling.{settled}
+use Rattle.snow_node.specs.Model.Running.{Running}
+use Rattle.snow_node.specs.Model.Hearing.{asked_by, given_up_on}
+use Rattle.snow_node.specs.Model.Settling.{settled}
 use Rattle.snow_node.proofs.Sequel.{lines_first, lines_then}
 use Rattle.snow_node.proofs.running.Running.time_out.Goals as goal
 

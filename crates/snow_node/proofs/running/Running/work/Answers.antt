@@ -1,8 +1,8 @@
 -- Each arm does what its work asks for.
 use Rattle.std.proofs.Common.{sym, subst}
 use Rattle.snow_issue.specs.declared.work.Work.{Work}
-use Rattle.snow_node.specs.Settling.{done}
-use Rattle.snow_node.specs.Stepping.{Tells, Turns}
+use Rattle.snow_node.specs.Model.Settling.{done}
+use Rattle.snow_node.specs.Clauses.Stepping.{Tells, Turns}
 use Rattle.snow_node.proofs.running.Running.work.Goals as goal
 
 pub returns-in-Ready-clause-answer : goal.returns-in-Ready-clause-answer

@@ -2,9 +2,9 @@
 use Rattle.std.proofs.Common.{◌∙◌, sym, ap, take, None}
 use Rattle.std.proofs.lemmas.List.Sums.{fold_more}
 use Rattle.snow_board.specs.declared.decision.Decision.{Decision}
-use Rattle.snow_issue.specs.Known.{lists_of}
-use Rattle.snow_issue.specs.Lists.{Lists, after_gone}
-use Rattle.snow_node.specs.Closing.{all_gone}
+use Rattle.snow_issue.specs.Kept.Known.{lists_of}
+use Rattle.snow_issue.specs.Model.Lists.{Lists, after_gone}
+use Rattle.snow_node.specs.Model.Closing.{all_gone}
 use Rattle.snow_node.proofs.running.closing.mark_gone.Goals as goal
 
 abbrev one_gone : Lists → Decision → Lists

@@ -1,8 +1,8 @@
 -- The decisions so far are gone.
 use Rattle.std.proofs.Common.{◌≡◌, take}
-use Rattle.snow_board.specs.Board.{Board}
-use Rattle.snow_issue.specs.Known.{Knows, lists_of}
-use Rattle.snow_node.specs.Closing.{all_gone}
+use Rattle.snow_board.specs.Model.Board.{Board}
+use Rattle.snow_issue.specs.Kept.Known.{Knows, lists_of}
+use Rattle.snow_node.specs.Model.Closing.{all_gone}
 use Rattle.snow_node.proofs.running.closing.mark_gone.Given as goal
 
 abbrev pub invariant-loop-decision : goal.invariant-loop-decision

@@ -1,8 +1,8 @@
 -- One decision more was followed.
 use Rattle.std.proofs.Common.{◌∙◌, sym, ap, take}
 use Rattle.std.proofs.lemmas.List.Sums.{fold_more}
-use Rattle.snow_getter.specs.Serving.{Serving}
-use Rattle.snow_node.specs.Supplying.{with_decision, with_decisions}
+use Rattle.snow_getter.specs.Model.Serving.{Serving}
+use Rattle.snow_node.specs.Model.Supplying.{with_decision, with_decisions}
 use Rattle.snow_node.proofs.running.supplying.serve_decisions.Goals as goal
 
 pub loop-decision-preserved : goal.loop-decision-preserved

@@ -1,6 +1,6 @@
 -- What peers are served followed the decisions so far.
 use Rattle.std.proofs.Common.{◌≡◌, take}
-use Rattle.snow_node.specs.Supplying.{with_decisions}
+use Rattle.snow_node.specs.Model.Supplying.{with_decisions}
 use Rattle.snow_node.proofs.running.supplying.serve_decisions.Given as goal
 
 abbrev pub invariant-loop-decision : goal.invariant-loop-decision

@@ -1,6 +1,6 @@
 -- A valid block is taken, or taken back where there is no room for it.
 use Rattle.std.proofs.Common.{rules}
-use Rattle.snow_chain.specs.Chain.{next_on}
+use Rattle.snow_chain.specs.Model.Chain.{next_on}
 use Rattle.snow_node.proofs.Offers.{as_before, taken, taken_back}
 use Rattle.snow_node.proofs.running.supplying.verify_and_issue.Goals as goal
 

@@ -1,8 +1,8 @@
 use Rattle.std.proofs.Common.{Option, sym, ap, ◌∙◌}
 use Rattle.snow_plain.specs.declared.lone.Lone.{Lone}
-use Rattle.snow_board.specs.Conflict.{Counters, leads_to}
-use Rattle.snow_plain.specs.Trees.{counters_of}
-use Rattle.snow_plain.specs.Alone.{counters_seen}
+use Rattle.snow_board.specs.Model.Conflict.{Counters, leads_to}
+use Rattle.snow_plain.specs.Kept.Trees.{counters_of}
+use Rattle.snow_plain.specs.Kept.Alone.{counters_seen}
 use Rattle.snow_plain.proofs.Alone.{leads_alone}
 use Rattle.snow_plain.proofs.conflict.Conflict.leads_to.Goals as goal
 

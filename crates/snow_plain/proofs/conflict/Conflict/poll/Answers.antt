@@ -1,6 +1,6 @@
 use Rattle.std.proofs.Common.{ap, arith}
-use Rattle.snow_board.specs.Walk.{depth, votes_from}
-use Rattle.snow_plain.specs.Trees.{counters_of}
+use Rattle.snow_board.specs.Kept.Walk.{depth, votes_from}
+use Rattle.snow_plain.specs.Kept.Trees.{counters_of}
 use Rattle.snow_plain.proofs.Depths.{depth_polled}
 use Rattle.snow_plain.proofs.conflict.Conflict.poll.Goals as goal
 

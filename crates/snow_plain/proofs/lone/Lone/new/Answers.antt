@@ -1,4 +1,4 @@
-use Rattle.snow_base.specs.Identifier.{bits}
+use Rattle.snow_base.specs.Model.Identifier.{bits}
 use Rattle.snow_plain.proofs.Alone.{fresh_lined}
 use Rattle.snow_plain.proofs.lone.Lone.new.Goals as goal
 

@@ -1,9 +1,9 @@
 use Rattle.std.proofs.Common.{◌≡◌, ◌++◌, length, sym, ap, ◌∙◌, true≢false, arith}
-use Rattle.snow_base.specs.Votes.{total_count}
-use Rattle.snow_flake.specs.Parameters.{Parameters}
-use Rattle.snow_board.specs.Board.{Board}
-use Rattle.snow_board.specs.Poll.{counted, settled, poll}
-use Rattle.snow_board.specs.Shown.{Shown}
+use Rattle.snow_base.specs.Model.Votes.{total_count}
+use Rattle.snow_flake.specs.Model.Parameters.{Parameters}
+use Rattle.snow_board.specs.Model.Board.{Board}
+use Rattle.snow_board.specs.Model.Poll.{counted, settled, poll}
+use Rattle.snow_board.specs.Clauses.Shown.{Shown}
 use Rattle.snow_board.proofs.Same.{gives_all}
 use Rattle.snow_board.proofs.Polled.{few_votes, counted_length, poll_is, settled_counted}
 use Rattle.snow_plain.proofs.plain.PlainBoardBoard.apply_poll.Given as given

@@ -1,8 +1,8 @@
 use Rattle.std.proofs.Common.{◌≡◌, false, None, sym, ap, ◌∙◌, arith}
 use Rattle.std.proofs.lemmas.Grind.{common_steps}
-use Rattle.snow_board.specs.Board.{Board, issued, height_of}
-use Rattle.snow_board.specs.Shown.{Shown}
-use Rattle.snow_board.specs.Ending.{has_pending_child}
+use Rattle.snow_board.specs.Model.Board.{Board, issued, height_of}
+use Rattle.snow_board.specs.Clauses.Shown.{Shown}
+use Rattle.snow_board.specs.Kept.Ending.{has_pending_child}
 use Rattle.snow_board.proofs.Ended.{leading_issued}
 use Rattle.snow_base.specs.declared.header.Header.{Header}
 use Rattle.snow_plain.proofs.plain.PlainBoardBoard.issue.Goals as goal

@@ -1,9 +1,9 @@
 use Rattle.std.proofs.Common.{List, length, reverse, slice_get, true, sym, ap, ◌∙◌, subst, arith}
 use Rattle.std.proofs.lemmas.List.{length-map}
-use Rattle.snow_board.specs.Conflict.{Pending}
-use Rattle.snow_board.specs.Board.{Board, blocks_of}
-use Rattle.snow_board.specs.Grown.{IsGrown}
-use Rattle.snow_board.specs.Acceptance.{Accepts}
+use Rattle.snow_board.specs.Model.Conflict.{Pending}
+use Rattle.snow_board.specs.Model.Board.{Board, blocks_of}
+use Rattle.snow_board.specs.Kept.Grown.{IsGrown}
+use Rattle.snow_board.specs.Model.Acceptance.{Accepts}
 use Rattle.snow_board.proofs.Kept.{descendants_grown}
 use Rattle.snow_plain.proofs.Taken.{accepted}
 use Rattle.snow_plain.proofs.state.State.accept.Goals as goal

@@ -1,4 +1,4 @@
-use Rattle.snow_board.specs.Grown.{Bare}
+use Rattle.snow_board.specs.Kept.Grown.{Bare}
 use Rattle.snow_plain.proofs.state.State.begin.Goals as goal
 
 pub invariant_of-result : goal.invariant_of-result

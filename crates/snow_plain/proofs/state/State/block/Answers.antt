@@ -1,6 +1,6 @@
 use Rattle.std.proofs.Common.{Some, sym, ap, ◌∙◌, arith}
 use Rattle.std.specs.Option.{option_map}
-use Rattle.snow_board.specs.Board.{Board, block_of}
+use Rattle.snow_board.specs.Model.Board.{Board, block_of}
 use Rattle.snow_plain.proofs.Placed.{first_at, not_found}
 use Rattle.snow_plain.proofs.state.State.block.Goals as goal
 

@@ -4,12 +4,12 @@ use Rattle.std.specs.HashMap.{get, hash_map_len}
 use Rattle.std.proofs.lemmas.List.{with_items_is}
 use Rattle.snow_base.specs.declared.header.Header.{Header}
 use Rattle.snow_board.specs.declared.cursor.Cursor.{Cursor}
-use Rattle.snow_board.specs.Conflict.{Pending}
-use Rattle.snow_board.specs.Conflict.{Counters, all_polled}
-use Rattle.snow_board.specs.Board.{Board, blocks_of}
-use Rattle.snow_board.specs.Poll.{counted}
-use Rattle.snow_board.specs.Cursors.{started, moved_past, votes_at, polled}
-use Rattle.snow_plain.specs.Places.{IsIndexed}
+use Rattle.snow_board.specs.Model.Conflict.{Pending}
+use Rattle.snow_board.specs.Model.Conflict.{Counters, all_polled}
+use Rattle.snow_board.specs.Model.Board.{Board, blocks_of}
+use Rattle.snow_board.specs.Model.Poll.{counted}
+use Rattle.snow_board.specs.Kept.Cursors.{started, moved_past, votes_at, polled}
+use Rattle.snow_plain.specs.Kept.Places.{IsIndexed}
 use Rattle.snow_plain.proofs.Swept.{counts_started, blocks-polled}
 use Rattle.snow_plain.proofs.Climbed.{counted_is}
 use Rattle.snow_plain.proofs.state.State.count.Goals as goal

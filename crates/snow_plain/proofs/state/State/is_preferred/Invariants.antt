@@ -1,6 +1,6 @@
 use Rattle.std.proofs.Common.{◌≡◌, drop, bytes_eq}
 use Rattle.std.specs.List.{list_any}
-use Rattle.snow_board.specs.Preference.{path_from, is_preferred}
+use Rattle.snow_board.specs.Model.Preference.{path_from, is_preferred}
 use Rattle.snow_plain.proofs.state.State.is_preferred.Given as goal
 
 abbrev pub invariant-loop-entry : goal.invariant-loop-entry

@@ -2,12 +2,12 @@ use Rattle.std.proofs.Common.{◌≡◌, ◌+◌, cond, List, [], ◌∷◌, ◌
 use Rattle.std.specs.HashMap.{get}
 use Rattle.std.proofs.lemmas.Grind.{common_steps}
 use Rattle.std.proofs.lemmas.List.{length-map}
-use Rattle.snow_board.specs.Conflict.{Pending}
-use Rattle.snow_board.specs.Board.{Board, blocks_of, new_pending}
-use Rattle.snow_board.specs.Reached.{MayIssue}
-use Rattle.snow_plain.specs.Places.{place_from}
-use Rattle.snow_board.specs.Grown.{IsGrown}
-use Rattle.snow_board.specs.Ending.{has_pending_child}
+use Rattle.snow_board.specs.Model.Conflict.{Pending}
+use Rattle.snow_board.specs.Model.Board.{Board, blocks_of, new_pending}
+use Rattle.snow_board.specs.Laws.Reached.{MayIssue}
+use Rattle.snow_plain.specs.Kept.Places.{place_from}
+use Rattle.snow_board.specs.Kept.Grown.{IsGrown}
+use Rattle.snow_board.specs.Kept.Ending.{has_pending_child}
 use Rattle.snow_board.proofs.Ended.{latest_alone}
 use Rattle.snow_board.proofs.Invariant.{blocks_issued}
 use Rattle.snow_board.proofs.Issued.{after_issue, grown_issued}

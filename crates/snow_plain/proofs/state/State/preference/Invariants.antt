@@ -1,5 +1,5 @@
 use Rattle.std.proofs.Common.{◌≡◌, drop}
-use Rattle.snow_board.specs.Preference.{path_from, end_of, preferred}
+use Rattle.snow_board.specs.Model.Preference.{path_from, end_of, preferred}
 use Rattle.snow_plain.proofs.state.State.preference.Given as goal
 
 abbrev pub invariant-loop-entry : goal.invariant-loop-entry

@@ -3,7 +3,7 @@ use Rattle.std.proofs.Common.{◌≡◌, ◌-◌, true, None, Some, get_or, refl
 use Rattle.std.proofs.lemmas.Bool.{cond-true, cond-false}
 use Rattle.std.proofs.lemmas.List.{get_or_read}
 use Rattle.std.proofs.Math.Seq.{map-set_same}
-use Rattle.snow_poll.specs.Awaited.{draw_of, number_in}
+use Rattle.snow_poll.specs.Kept.Awaited.{draw_of, number_in}
 use Rattle.snow_poll.specs.declared.awaited.Wait.{Wait}
 use Rattle.snow_poll.proofs.Waiting.{counts_here, counts_none, counts_same, counts_less, waits_kept, numbers_kept}
 use Rattle.snow_poll.proofs.awaited.Awaited.remove.Goals as goal

@@ -1,7 +1,7 @@
 -- A walk of the node's class finds its last entry.
 use Rattle.std.proofs.Common.{◌≡◌, ◌-◌, get_or, ap, sym, ◌∙◌}
 use Rattle.std.proofs.lemmas.List.{get_or_read}
-use Rattle.snow_poll.specs.Awaited.{class_of}
+use Rattle.snow_poll.specs.Kept.Awaited.{class_of}
 use Rattle.snow_poll.proofs.Waiting.{is_of, within_classes, read_at, nowhere, walk_for, walk_past, walk_ends}
 use Rattle.snow_poll.proofs.awaited.Awaited.walk.Goals as goal
 

@@ -1,9 +1,9 @@
 -- What is kept of a new poll.
 use Rattle.std.proofs.Common.{ap, arith, length, List, ◌∙◌, vec_capacity}
 use Rattle.snow_sample.specs.declared.draws.Draw.{Draw}
-use Rattle.snow_sample.specs.Sampling.{draw_count}
+use Rattle.snow_sample.specs.Model.Sampling.{draw_count}
 use Rattle.snow_sample.proofs.Slots.{few_places}
-use Rattle.snow_poll.specs.Awaited.{counts_at}
+use Rattle.snow_poll.specs.Kept.Awaited.{counts_at}
 use Rattle.snow_poll.proofs.Begun.{kept_new}
 use Rattle.snow_poll.proofs.poll.Poll.begin.Goals as goal
 

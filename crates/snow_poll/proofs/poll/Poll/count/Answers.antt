@@ -1,14 +1,14 @@
 -- Where the node is awaited its draws are outstanding, and there is room for its reply; else nothing changes.
 use Rattle.std.proofs.Common.{◌≡◌, ℕ, ◌-◌, ◌<◌, List, [], ◌∷◌, ◌++◌, map, bytes_eq, if◌then◌else◌, None, ap, sym, subst, arith, vec_len, vec_capacity, ◌∙◌}
 use Rattle.std.proofs.lemmas.Bool.{cond-true, cond-false}
-use Rattle.snow_base.specs.Votes.{Votes, total_count}
+use Rattle.snow_base.specs.Model.Votes.{Votes, total_count}
 use Rattle.snow_sample.specs.declared.draws.Draw.{Draw}
 use Rattle.snow_poll.specs.declared.awaited.Wait.{Wait}
 use Rattle.snow_poll.specs.declared.reply.Reply.{Reply}
 use Rattle.snow_poll.specs.declared.room.Nodes.{Nodes}
-use Rattle.snow_poll.specs.Awaited.{counts_at, draw_of}
-use Rattle.snow_poll.specs.Poll.{Poll, awaits, replied, with_reply, given}
-use Rattle.snow_poll.specs.Kept.{IsKept}
+use Rattle.snow_poll.specs.Kept.Awaited.{counts_at, draw_of}
+use Rattle.snow_poll.specs.Model.Poll.{Poll, awaits, replied, with_reply, given}
+use Rattle.snow_poll.specs.Kept.Tallied.{IsKept}
 use Rattle.snow_poll.proofs.Counting.{total_received}
 use Rattle.snow_poll.proofs.Replying.{falls, taken_some, taken_none, kept_more}
 use Rattle.snow_poll.proofs.poll.Poll.count.Goals as goal

@@ -1,10 +1,10 @@
 -- The votes received and outstanding fit 32 bits, and the numbers that are kept tell whether the poll is closed.
 use Rattle.std.proofs.Common.{ap, arith, map, ◌∙◌, ◌+◌}
-use Rattle.snow_base.specs.Votes.{total_count}
-use Rattle.snow_poll.specs.Awaited.{draw_of}
-use Rattle.snow_poll.specs.Closing.{is_closed}
-use Rattle.snow_poll.specs.Kept.{closes_by}
-use Rattle.snow_poll.specs.Poll.{Poll, received}
+use Rattle.snow_base.specs.Model.Votes.{total_count}
+use Rattle.snow_poll.specs.Kept.Awaited.{draw_of}
+use Rattle.snow_poll.specs.Model.Closing.{is_closed}
+use Rattle.snow_poll.specs.Kept.Tallied.{closes_by}
+use Rattle.snow_poll.specs.Model.Poll.{Poll, received}
 use Rattle.snow_poll.proofs.Counting.{total_received}
 use Rattle.snow_poll.proofs.Replying.{closes}
 use Rattle.snow_poll.proofs.poll.Poll.is_closed.Goals as goal

@@ -1,6 +1,6 @@
 -- The poll of the number is asked, where there is one.
 use Rattle.std.proofs.Common.{ap, arith, sym, ◌∙◌}
-use Rattle.snow_poll.specs.Table.{Table, is_awaited}
+use Rattle.snow_poll.specs.Model.Table.{Table, is_awaited}
 use Rattle.snow_poll.proofs.Placed.{none_awaits, unplaced, place_within, awaited_at}
 use Rattle.snow_poll.proofs.polls.Polls.awaits.Goals as goal
 

@@ -1,7 +1,7 @@
 -- The new poll stands at the end, and its number has its place.
 use Rattle.std.proofs.Common.{◌≡◌, ap, arith, sym, ◌++◌, ◌∷◌, [], List, length, ◌<◌, ◌∙◌}
-use Rattle.snow_poll.specs.Poll.{Poll}
-use Rattle.snow_poll.specs.Table.{Table, has_number}
+use Rattle.snow_poll.specs.Model.Poll.{Poll}
+use Rattle.snow_poll.specs.Model.Table.{Table, has_number}
 use Rattle.snow_poll.proofs.Placed.{table_begun}
 use Rattle.snow_poll.proofs.polls.Polls.begin.Goals as goal
 

@@ -1,7 +1,7 @@
 -- Where no poll is closed in front, all stay.
 use Rattle.std.proofs.Common.{List, sym, ap, ◌∙◌}
-use Rattle.snow_poll.specs.Poll.{Poll}
-use Rattle.snow_poll.specs.Table.{Table}
+use Rattle.snow_poll.specs.Model.Poll.{Poll}
+use Rattle.snow_poll.specs.Model.Table.{Table}
 use Rattle.snow_poll.proofs.Placed.{none_taken}
 use Rattle.snow_poll.proofs.polls.Polls.take_finished.Goals as goal
 

@@ -1,9 +1,9 @@
 -- The front poll was closed, and all others move up.
 use Rattle.std.proofs.Common.{◌+◌, ◌≤◌, List, is_some, ap, arith, sym, subst, ◌∙◌}
-use Rattle.snow_base.specs.Votes.{total_count}
-use Rattle.snow_flake.specs.Parameters.{AreGood}
-use Rattle.snow_poll.specs.Poll.{Poll, received, outstanding}
-use Rattle.snow_poll.specs.Table.{Table, StandsForFront, finished, unfinished, shortened}
+use Rattle.snow_base.specs.Model.Votes.{total_count}
+use Rattle.snow_flake.specs.Model.Parameters.{AreGood}
+use Rattle.snow_poll.specs.Model.Poll.{Poll, received, outstanding}
+use Rattle.snow_poll.specs.Model.Table.{Table, StandsForFront, finished, unfinished, shortened}
 use Rattle.snow_poll.proofs.Closing.{closed_stands}
 use Rattle.snow_poll.proofs.Counting.{total_received}
 use Rattle.snow_poll.proofs.Placed.{table_left, front_taken}

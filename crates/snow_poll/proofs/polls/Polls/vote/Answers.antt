@@ -1,11 +1,11 @@
 -- The reply is counted in the front poll, where that has the number and awaits it.
 use Rattle.std.proofs.Common.{ap, arith, sym, set, List, ◌∙◌}
 use Rattle.std.proofs.lemmas.Bool.{cond-true, cond-false}
-use Rattle.snow_flake.specs.Parameters.{Parameters}
+use Rattle.snow_flake.specs.Model.Parameters.{Parameters}
 use Rattle.snow_poll.specs.declared.polls.Answered.TheVariants.{Counted, NotAwaited}
-use Rattle.snow_poll.specs.Poll.{Poll}
-use Rattle.snow_poll.specs.Table.{Table, answer, voted}
-use Rattle.snow_poll.specs.Kept.{is_front}
+use Rattle.snow_poll.specs.Model.Poll.{Poll}
+use Rattle.snow_poll.specs.Model.Table.{Table, answer, voted}
+use Rattle.snow_poll.specs.Kept.Tallied.{is_front}
 use Rattle.snow_poll.proofs.Placed.{front_place, unchanged, place_within, awaited_at, voted_at, table_voted}
 use Rattle.snow_poll.proofs.polls.Polls.vote.Goals as goal
 

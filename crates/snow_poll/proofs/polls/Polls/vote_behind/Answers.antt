@@ -1,10 +1,10 @@
 -- The reply is counted in the poll of the number, where that awaits it.
 use Rattle.std.proofs.Common.{ap, arith, sym, set, List, ◌∙◌}
 use Rattle.std.proofs.lemmas.Bool.{cond-true, cond-false}
-use Rattle.snow_flake.specs.Parameters.{Parameters}
+use Rattle.snow_flake.specs.Model.Parameters.{Parameters}
 use Rattle.snow_poll.specs.declared.polls.Answered.TheVariants.{Counted, NotAwaited}
-use Rattle.snow_poll.specs.Poll.{Poll}
-use Rattle.snow_poll.specs.Table.{Table, answer, voted}
+use Rattle.snow_poll.specs.Model.Poll.{Poll}
+use Rattle.snow_poll.specs.Model.Table.{Table, answer, voted}
 use Rattle.snow_poll.proofs.Placed.{none_awaits, unplaced, unchanged, place_within, awaited_at, voted_at, table_voted}
 use Rattle.snow_poll.proofs.polls.Polls.vote_behind.Goals as goal
 

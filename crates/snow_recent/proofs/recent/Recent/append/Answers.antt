@@ -1,7 +1,7 @@
 use Rattle.std.proofs.Common.{◌≡◌, ℕ, List, ◌<◌, get_or, ap, ◌∙◌, arith, length}
 use Rattle.std.specs.List.{concat}
 use Rattle.std.proofs.lemmas.List.{length_push}
-use Rattle.snow_recent.specs.Index.{head_of, seat_of}
+use Rattle.snow_recent.specs.Kept.Index.{head_of, seat_of}
 use Rattle.snow_recent.proofs.Appended.{appended, rising_before, few_numbers, small_seated}
 use Rattle.snow_recent.proofs.recent.Recent.append.Goals as goal
 

@@ -2,7 +2,7 @@ use Rattle.std.proofs.Common.{◌<◌, ◌^◌, ap, arith, length, not, ◌==◌
 use Rattle.std.specs.List.{concat}
 use Rattle.std.proofs.lemmas.List.{length-drop}
 use Rattle.std.proofs.lemmas.List.Elements.{All-filter}
-use Rattle.snow_recent.specs.Index.{head_of}
+use Rattle.snow_recent.specs.Kept.Index.{head_of}
 use Rattle.snow_recent.proofs.Appended.{rising_before}
 use Rattle.snow_recent.proofs.Forgotten.{forgotten, no_oldest}
 use Rattle.snow_recent.proofs.recent.Recent.forget_oldest.Goals as goal

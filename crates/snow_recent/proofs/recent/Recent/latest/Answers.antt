@@ -2,8 +2,8 @@ use Rattle.std.proofs.Common.{◌≡◌, true, false, sym, ap, ◌∙◌}
 use Rattle.std.specs.List.{concat, slice_get}
 use Rattle.std.specs.Option.{option_copied}
 use Rattle.std.proofs.lemmas.Slice.Eq.{bytes_eq-Decides}
-use Rattle.snow_recent.specs.Recent.{latest}
-use Rattle.snow_recent.specs.Index.{head_of, id_at, place_of, seat_of}
+use Rattle.snow_recent.specs.Model.Recent.{latest}
+use Rattle.snow_recent.specs.Kept.Index.{head_of, id_at, place_of, seat_of}
 use Rattle.snow_recent.proofs.Appended.{rising_before}
 use Rattle.snow_recent.proofs.Latest.{head_found, head_other, headless, filed_latest}
 use Rattle.snow_recent.proofs.recent.Recent.latest.Goals as goal

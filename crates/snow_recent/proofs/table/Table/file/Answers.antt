@@ -2,8 +2,8 @@ use Rattle.std.proofs.Common.{◌≡◌, ◌+◌, ◌<◌, ◌≤◌, ℕ, List,
 use Rattle.std.specs.List.{concat}
 use Rattle.std.proofs.lemmas.Bool.{cases_lt}
 use Rattle.std.proofs.lemmas.List.{get_or_default, get_or-set_same, length-set}
-use Rattle.snow_recent.specs.Index.{id_of, IsRising, filed}
-use Rattle.snow_recent.specs.Table.{Shelf, IsRowOf}
+use Rattle.snow_recent.specs.Kept.Index.{id_of, IsRising, filed}
+use Rattle.snow_recent.specs.Kept.Table.{Shelf, IsRowOf}
 use Rattle.snow_recent.proofs.RowOf.{belonging, rising_row, filed_in_row, long_filed}
 use Rattle.snow_recent.proofs.Rows.{some_spare, table_grown, table_halved, concat_halved}
 use Rattle.snow_recent.proofs.table.Table.file.Goals as goal

@@ -2,8 +2,8 @@ use Rattle.std.proofs.Common.{◌≡◌, ◌<◌, ◌-◌, ℕ, true, List, [], 
 use Rattle.std.specs.List.{concat}
 use Rattle.std.specs.Ordering.{is_eq, is_gt, is_lt}
 use Rattle.std.proofs.lemmas.List.{get_or_default}
-use Rattle.snow_recent.specs.Index.{id_of, order_at, IsRising}
-use Rattle.snow_recent.specs.Table.{Shelf, IsLatest}
+use Rattle.snow_recent.specs.Kept.Index.{id_of, order_at, IsRising}
+use Rattle.snow_recent.specs.Kept.Table.{Shelf, IsLatest}
 use Rattle.snow_recent.proofs.Looked.{there, latest_at, latest_inside}
 use Rattle.snow_recent.proofs.table.Table.latest.Goals as goal
 use Rattle.snow_recent.proofs.table.Table.latest.Goals.{After-order_at-found}

@@ -1,8 +1,8 @@
 use Rattle.std.proofs.Common.{◌≡◌, ℕ, List, [], get_or, Some, None, Ok, Err, sym, ap, ◌∙◌, subst}
 use Rattle.std.specs.List.{concat}
 use Rattle.std.proofs.lemmas.List.{get_or_default}
-use Rattle.snow_recent.specs.Index.{id_of, IsRising, IsPlaceOf}
-use Rattle.snow_recent.specs.Table.{Shelf, IsRowOf, IsLatest}
+use Rattle.snow_recent.specs.Kept.Index.{id_of, IsRising, IsPlaceOf}
+use Rattle.snow_recent.specs.Kept.Table.{Shelf, IsRowOf, IsLatest}
 use Rattle.snow_recent.proofs.RowOf.{rising_row, latest_found, latest_missing}
 use Rattle.snow_recent.proofs.table.Table.search.Goals as goal
 use Rattle.snow_recent.proofs.table.Table.search.Goals.{After-list-row}

@@ -2,8 +2,8 @@ use Rattle.std.proofs.Common.{◌≡◌, ◌==◌, ℕ, List, [], length, get_or
 use Rattle.std.specs.List.{concat}
 use Rattle.std.proofs.lemmas.List.{get_or_default}
 use Rattle.std.proofs.lemmas.List.Sums.{length-filter, count_by-le-length}
-use Rattle.snow_recent.specs.Index.{id_of, IsRising, without_oldest}
-use Rattle.snow_recent.specs.Table.{Shelf, IsRowOf}
+use Rattle.snow_recent.specs.Kept.Index.{id_of, IsRising, without_oldest}
+use Rattle.snow_recent.specs.Kept.Table.{Shelf, IsRowOf}
 use Rattle.snow_recent.proofs.RowOf.{belonging, rising_row, without_in_row}
 use Rattle.snow_recent.proofs.Rows.{kept_set, worn_by}
 use Rattle.snow_recent.proofs.table.Table.take_oldest.Goals as goal

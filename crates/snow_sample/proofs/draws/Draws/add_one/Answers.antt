@@ -1,7 +1,7 @@
 -- The count is written back.
 use Rattle.std.proofs.Common.{List, ap, arith, length, ◌∙◌}
 use Rattle.snow_sample.specs.declared.draws.Draw.{Draw}
-use Rattle.snow_sample.specs.Kept.{one_more}
+use Rattle.snow_sample.specs.Kept.Drawn.{one_more}
 use Rattle.snow_sample.proofs.Counting.{written}
 use Rattle.snow_sample.proofs.draws.Draws.add_one.Goals as goal
 

@@ -1,6 +1,6 @@
 -- The one rule is that of all numbers.
 use Rattle.std.proofs.Common.{sym, ap, ◌∙◌}
-use Rattle.snow_sample.specs.Words.{reduced}
+use Rattle.snow_sample.specs.Model.Words.{reduced}
 use Rattle.snow_sample.proofs.Choosing.{choice_reduced}
 use Rattle.snow_sample.proofs.line.Line.choose.Goals as goal
 

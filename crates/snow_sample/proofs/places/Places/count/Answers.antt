@@ -1,7 +1,7 @@
 -- A node that was drawn is counted at its place, and another at the end.
 use Rattle.std.proofs.Common.{arith, ◌∙◌, ap, sym}
-use Rattle.snow_sample.specs.Kept.{is_at}
-use Rattle.snow_sample.specs.Sampling.{counted}
+use Rattle.snow_sample.specs.Kept.Drawn.{is_at}
+use Rattle.snow_sample.specs.Model.Sampling.{counted}
 use Rattle.snow_sample.proofs.Slots.{drawn_again, drawn_first, few_drawn}
 use Rattle.snow_sample.proofs.places.Places.count.Goals as goal
 

@@ -2,7 +2,7 @@
 use Rattle.std.proofs.Common.{List, length, get_or, ap, arith, ◌∙◌}
 use Rattle.std.proofs.lemmas.List.{get_or_default}
 use Rattle.snow_sample.specs.declared.roster.Node.{Node}
-use Rattle.snow_sample.specs.Roster.{total_weight}
+use Rattle.snow_sample.specs.Model.Roster.{total_weight}
 use Rattle.snow_sample.proofs.Weights.{ends_partitioned, owner_place}
 use Rattle.snow_sample.proofs.roster.Roster.place.Goals as goal
 

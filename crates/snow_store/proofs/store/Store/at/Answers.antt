@@ -2,8 +2,8 @@
 use Rattle.std.proofs.Common.{reverse, sym, ap, ◌∙◌}
 use Rattle.std.specs.List.{slice_get}
 use Rattle.std.proofs.lemmas.List.{reverse-reverse}
-use Rattle.snow_store.specs.Indexing.{Shelf}
-use Rattle.snow_store.specs.Keeping.{held}
+use Rattle.snow_store.specs.Kept.Indexing.{Shelf}
+use Rattle.snow_store.specs.Model.Keeping.{held}
 use Rattle.snow_store.proofs.Indexed.{no_place, at_place}
 use Rattle.snow_store.proofs.store.Store.at.Goals as goal
 

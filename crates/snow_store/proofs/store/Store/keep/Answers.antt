@@ -4,8 +4,8 @@ use Rattle.std.specs.Prelude.{is_some, Ok}
 use Rattle.std.proofs.lemmas.List.{reverse-append, length-reverse}
 use Rattle.snow_store.specs.declared.block.KeptBlock.{KeptBlock}
 use Rattle.snow_store.specs.declared.verdict.Verdict.TheVariants as verdict
-use Rattle.snow_store.specs.Indexing.{Shelf}
-use Rattle.snow_store.specs.Keeping.{Store, taken}
+use Rattle.snow_store.specs.Kept.Indexing.{Shelf}
+use Rattle.snow_store.specs.Model.Keeping.{Store, taken}
 use Rattle.snow_store.proofs.Linked.{keeps_facts}
 use Rattle.snow_store.proofs.Storing.{stored_more}
 use Rattle.snow_store.proofs.store.Store.keep.Goals as goal

@@ -1,11 +1,11 @@
 -- What is missed below the highest block of a kept target.
 use Rattle.std.proofs.Common.{◌≡◌, Some, reverse, refl, sym, ap, ◌∙◌}
-use Rattle.snow_interval.specs.Heights.{lowest}
-use Rattle.snow_store.specs.Indexing.{Shelf, top_of}
-use Rattle.snow_store.specs.Keeping.{Store, highest}
-use Rattle.snow_store.specs.Linking.{held_heights}
-use Rattle.snow_store.specs.Needing.{need_at}
-use Rattle.snow_store.specs.Paths.{missed_from}
+use Rattle.snow_interval.specs.Model.Heights.{lowest}
+use Rattle.snow_store.specs.Kept.Indexing.{Shelf, top_of}
+use Rattle.snow_store.specs.Model.Keeping.{Store, highest}
+use Rattle.snow_store.specs.Laws.Linking.{held_heights}
+use Rattle.snow_store.specs.Model.Needing.{need_at}
+use Rattle.snow_store.specs.Model.Paths.{missed_from}
 use Rattle.snow_store.proofs.Storing.{top_held, missed_kept}
 use Rattle.snow_store.proofs.store.Store.missed.Goals as goal
 

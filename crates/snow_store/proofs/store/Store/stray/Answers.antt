@@ -1,8 +1,8 @@
 -- The two lowest children tell the lowest one at a wrong height.
 use Rattle.std.proofs.Common.{◌≡◌, Some, None, reverse, sym, ap, ◌∙◌}
 use Rattle.std.specs.Option.{option_and_then}
-use Rattle.snow_store.specs.Indexing.{Shelf, stray_height, children_of}
-use Rattle.snow_store.specs.Keeping.{held, stray}
+use Rattle.snow_store.specs.Kept.Indexing.{Shelf, stray_height, children_of}
+use Rattle.snow_store.specs.Model.Keeping.{held, stray}
 use Rattle.snow_store.proofs.Straying.{stray_found}
 use Rattle.snow_store.proofs.store.Store.stray.Goals as goal
 

@@ -1,11 +1,11 @@
 -- The lowest block of the run.
 use Rattle.std.proofs.Common.{◌≡◌, Some, None, reverse, sym, ap, ◌∙◌}
-use Rattle.snow_interval.specs.Heights.{lowest}
-use Rattle.snow_store.specs.Indexing.{Shelf}
-use Rattle.snow_store.specs.Keeping.{Store, held}
-use Rattle.snow_store.specs.Linking.{held_heights}
-use Rattle.snow_store.specs.Needing.{need_at}
-use Rattle.snow_store.specs.Paths.{wanted_below}
+use Rattle.snow_interval.specs.Model.Heights.{lowest}
+use Rattle.snow_store.specs.Kept.Indexing.{Shelf}
+use Rattle.snow_store.specs.Model.Keeping.{Store, held}
+use Rattle.snow_store.specs.Laws.Linking.{held_heights}
+use Rattle.snow_store.specs.Model.Needing.{need_at}
+use Rattle.snow_store.specs.Model.Paths.{wanted_below}
 use Rattle.snow_store.proofs.Storing.{same_lowest}
 use Rattle.snow_store.proofs.store.Store.wanted_at.Goals as goal
 

@@ -1,7 +1,7 @@
 use Rattle.std.proofs.Common.{None, sym, subst}
 use Rattle.std.specs.Option.{option_map}
-use Rattle.snow_topo.specs.Kept.{Kept, contest_of, counters_in}
-use Rattle.snow_topo.specs.Leading.{HasDecided}
+use Rattle.snow_topo.specs.Kept.Children.{Kept, contest_of, counters_in}
+use Rattle.snow_topo.specs.Kept.Leading.{HasDecided}
 use Rattle.snow_topo.proofs.Won.{decided_blank}
 use Rattle.snow_topo.proofs.load.Load.decided.Goals as goal
 

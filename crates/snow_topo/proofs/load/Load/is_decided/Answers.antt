@@ -1,8 +1,8 @@
 use Rattle.std.proofs.Common.{None, sym, subst, ◌∙◌}
 use Rattle.std.specs.Option.{option_map}
-use Rattle.snow_trie.specs.Whole.{Compressed}
-use Rattle.snow_topo.specs.Kept.{Kept, contest_of, counters_in}
-use Rattle.snow_topo.specs.Leading.{HasDecided}
+use Rattle.snow_trie.specs.Kept.Whole.{Compressed}
+use Rattle.snow_topo.specs.Kept.Children.{Kept, contest_of, counters_in}
+use Rattle.snow_topo.specs.Kept.Leading.{HasDecided}
 use Rattle.snow_topo.proofs.Won.{decided_blank, decided_none}
 use Rattle.snow_topo.proofs.load.Load.is_decided.Goals as goal
 

@@ -1,8 +1,8 @@
 use Rattle.std.proofs.Common.{◌+◌, All, Contains, Some, sym, ap, subst, ◌∙◌}
 use Rattle.std.specs.Option.{option_map}
-use Rattle.snow_board.specs.Conflict.{votes_on}
-use Rattle.snow_trie.specs.Whole.{Compressed}
-use Rattle.snow_topo.specs.Kept.{Kept, contest_of, ids_in, IsFit}
+use Rattle.snow_board.specs.Model.Conflict.{votes_on}
+use Rattle.snow_trie.specs.Kept.Whole.{Compressed}
+use Rattle.snow_topo.specs.Kept.Children.{Kept, contest_of, ids_in, IsFit}
 use Rattle.snow_topo.proofs.Stamped.{recorded_some, recorded_none}
 use Rattle.snow_topo.proofs.load.Load.record.Goals as goal
 use Rattle.snow_topo.proofs.load.Load.record.Goals.{in-Some, in-None}

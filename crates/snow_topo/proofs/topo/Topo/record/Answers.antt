@@ -1,15 +1,15 @@
 use Rattle.std.proofs.Common.{◌≡◌, ◌+◌, ◌≤◌, length, sym, ap, subst, ◌∙◌, arith}
-use Rattle.snow_board.specs.Board.{Board, blocks_of}
-use Rattle.snow_board.specs.Poll.{poll}
-use Rattle.snow_board.specs.Preference.{preferred}
-use Rattle.snow_board.specs.Shown.{Shown}
+use Rattle.snow_board.specs.Model.Board.{Board, blocks_of}
+use Rattle.snow_board.specs.Model.Poll.{poll}
+use Rattle.snow_board.specs.Model.Preference.{preferred}
+use Rattle.snow_board.specs.Clauses.Shown.{Shown}
 use Rattle.snow_board.proofs.Same.{same_board}
-use Rattle.snow_tree.specs.Held.{blocks_in}
-use Rattle.snow_topo.specs.Ballot.{votes_of}
-use Rattle.snow_topo.specs.Costs.{most_steps}
-use Rattle.snow_topo.specs.Recording.{recording}
-use Rattle.snow_topo.specs.View.{view}
-use Rattle.snow_topo.specs.Walking.{AreNamed}
+use Rattle.snow_tree.specs.Kept.Held.{blocks_in}
+use Rattle.snow_topo.specs.Clauses.Ballot.{votes_of}
+use Rattle.snow_topo.specs.Laws.Costs.{most_steps}
+use Rattle.snow_topo.specs.Kept.Recording.{recording}
+use Rattle.snow_topo.specs.Kept.View.{view}
+use Rattle.snow_topo.specs.Kept.Walking.{AreNamed}
 use Rattle.snow_topo.proofs.Costing.{fewer_steps}
 use Rattle.snow_topo.proofs.Counted.{blocks_seen}
 use Rattle.snow_topo.proofs.Standings.{view_length, names_seen, names_kept, names_polled, bounded}

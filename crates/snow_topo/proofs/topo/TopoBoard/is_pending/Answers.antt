@@ -1,6 +1,6 @@
 use Rattle.std.proofs.Common.{◌≡◌, true, bytes_eq, is_some, not, sym, ap, ◌∙◌}
-use Rattle.snow_board.specs.Preference.{preferred}
-use Rattle.snow_topo.specs.View.{view}
+use Rattle.snow_board.specs.Model.Preference.{preferred}
+use Rattle.snow_topo.specs.Kept.View.{view}
 use Rattle.snow_topo.proofs.Endings.{pending_seen, preferred_pending}
 use Rattle.snow_topo.proofs.topo.TopoBoard.is_pending.Goals as goal
 

@@ -2,16 +2,16 @@ use Rattle.std.proofs.Common.{◌≡◌, ◌+◌, true, length, sym, ap, subst, 
 use Rattle.std.proofs.lemmas.Grind.{common_steps}
 use Rattle.snow_base.specs.declared.header.Header.{Header}
 use Rattle.snow_board.specs.declared.leading.Leading.{Leading}
-use Rattle.snow_board.specs.Board.{Board, issued}
-use Rattle.snow_board.specs.Grown.{is_on}
-use Rattle.snow_board.specs.Ending.{IsLeading, leading_after}
-use Rattle.snow_board.specs.Preference.{preferred}
-use Rattle.snow_board.specs.Reached.{MayIssue}
-use Rattle.snow_board.specs.Shown.{Shown}
+use Rattle.snow_board.specs.Model.Board.{Board, issued}
+use Rattle.snow_board.specs.Kept.Grown.{is_on}
+use Rattle.snow_board.specs.Kept.Ending.{IsLeading, leading_after}
+use Rattle.snow_board.specs.Model.Preference.{preferred}
+use Rattle.snow_board.specs.Laws.Reached.{MayIssue}
+use Rattle.snow_board.specs.Clauses.Shown.{Shown}
 use Rattle.snow_board.proofs.Ended.{latest_alone, leading_issued}
-use Rattle.snow_tree.specs.Held.{blocks_in}
-use Rattle.snow_climb.specs.Ladder.{IsReady}
-use Rattle.snow_topo.specs.View.{view}
+use Rattle.snow_tree.specs.Kept.Held.{blocks_in}
+use Rattle.snow_climb.specs.Kept.Ladder.{IsReady}
+use Rattle.snow_topo.specs.Kept.View.{view}
 use Rattle.snow_topo.proofs.Standings.{issue_unknown, issue_follows, grown_seen, issued_length, view_length, names_issued, names_seen, names_kept}
 use Rattle.snow_topo.proofs.topo.TopoBoard.issue.Given as given
 use Rattle.snow_topo.proofs.topo.TopoBoard.issue.Goals as goal

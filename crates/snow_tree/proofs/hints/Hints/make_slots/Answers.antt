@@ -1,6 +1,6 @@
 use Rattle.std.proofs.Common.{◌<◌, length, length-append, is_ok, sym, subst, ap, ◌∙◌, arith}
 use Rattle.snow_board.proofs.Cases.{split_on}
-use Rattle.snow_tree.specs.Hints.{hint_of, IsPower}
+use Rattle.snow_tree.specs.Kept.Hints.{hint_of, IsPower}
 use Rattle.snow_tree.proofs.Slots.{twice_power, told_twice, whole}
 use Rattle.snow_tree.proofs.hints.Hints.make_slots.Goals as goal
 

@@ -1,5 +1,5 @@
 use Rattle.std.proofs.Common.{◌≡◌, length, ap, ◌∙◌, arith}
-use Rattle.snow_tree.specs.Hints.{seat_of, slot_of}
+use Rattle.snow_tree.specs.Kept.Hints.{seat_of, slot_of}
 use Rattle.snow_tree.proofs.Slots.{masked}
 use Rattle.snow_tree.proofs.hints.Hints.slot_of.Goals as goal
 

@@ -2,8 +2,8 @@ use Rattle.std.proofs.Common.{◌≡◌, false, cond, None, Some, bytes_eq, nat_
 use Rattle.std.specs.HashMap.{get}
 use Rattle.std.specs.List.{position}
 use Rattle.snow_board.proofs.Cases.{split_on}
-use Rattle.snow_tree.specs.Hints.{hint_of}
-use Rattle.snow_tree.specs.Row.{edges_of, gives_way}
+use Rattle.snow_tree.specs.Kept.Hints.{hint_of}
+use Rattle.snow_tree.specs.Kept.Row.{edges_of, gives_way}
 use Rattle.snow_tree.proofs.Edges.{gives_way_at}
 use Rattle.snow_tree.proofs.Searched.{all_taken}
 use Rattle.snow_tree.proofs.Told.{no_way}

@@ -1,7 +1,7 @@
 use Rattle.std.proofs.Common.{◌≡◌, ◌<◌, ◌≤◌, ◌-◌, ◌^◌, inl, inr, min, length, slice_set, bytes_eq, deque_len, deque_capacity, refl, sym, ap, subst, ◌∙◌, arith}
 use Rattle.std.specs.HashMap.{get, spare}
 use Rattle.std.specs.Option.{option_map}
-use Rattle.snow_tree.specs.Row.{IsNumbered, edge_of, edges_of, set_load_at}
+use Rattle.snow_tree.specs.Kept.Row.{IsNumbered, edge_of, edges_of, set_load_at}
 use Rattle.snow_tree.proofs.Edges.{read_loaded, load_written, node_there, value_there, value_missing}
 use Rattle.snow_tree.proofs.row.Row.load_mut.Goals as goal
 

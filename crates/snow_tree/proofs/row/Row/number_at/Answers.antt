@@ -1,5 +1,5 @@
 use Rattle.std.proofs.Common.{sym, ap, ◌∙◌}
-use Rattle.snow_tree.specs.Row.{number_at}
+use Rattle.snow_tree.specs.Kept.Row.{number_at}
 use Rattle.snow_tree.proofs.Edges.{number_read}
 use Rattle.snow_tree.proofs.row.Row.number_at.Goals as goal
 

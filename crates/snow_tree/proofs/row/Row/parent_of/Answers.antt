@@ -1,7 +1,7 @@
 use Rattle.std.proofs.Common.{◌<◌, length, nat_eq, refl, ap, ◌∙◌, arith}
 use Rattle.std.specs.List.{position}
 use Rattle.std.proofs.lemmas.Option.{none-some}
-use Rattle.snow_tree.specs.Row.{edge_of, edges_of}
+use Rattle.snow_tree.specs.Kept.Row.{edge_of, edges_of}
 use Rattle.snow_tree.proofs.Edges.{edge_place, node_there, node_missing}
 use Rattle.snow_tree.proofs.Ordered.{parent_place}
 use Rattle.snow_tree.proofs.Searched.{all_taken, edge_there}

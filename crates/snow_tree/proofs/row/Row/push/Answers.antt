@@ -1,8 +1,8 @@
 use Rattle.std.proofs.Common.{ℕ, List, ◌+◌, ◌<◌, ◌∷◌, [], length, bytes_eq, slice_set, sym, subst, arith}
 use Rattle.std.proofs.lemmas.List.{map-append}
 use Rattle.std.specs.HashMap.{get}
-use Rattle.snow_tree.specs.Hints.{slot_of}
-use Rattle.snow_tree.specs.Row.{IsNumbered, edge_of, edges_of}
+use Rattle.snow_tree.specs.Kept.Hints.{slot_of}
+use Rattle.snow_tree.specs.Kept.Row.{IsNumbered, edge_of, edges_of}
 use Rattle.snow_tree.specs.declared.node.Node.{Node}
 use Rattle.snow_tree.proofs.Edges.{before_new}
 use Rattle.snow_tree.proofs.Told.{one_told}

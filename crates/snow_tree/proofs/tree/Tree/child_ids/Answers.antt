@@ -1,8 +1,8 @@
 use Rattle.std.proofs.Common.{sym, ap, ◌∙◌}
 use Rattle.std.specs.Option.{option_copied}
 use Rattle.snow_board.proofs.Cases.{same_id}
-use Rattle.snow_tree.specs.Held.{children_of}
-use Rattle.snow_tree.specs.Nodes.{blocks_of}
+use Rattle.snow_tree.specs.Kept.Held.{children_of}
+use Rattle.snow_tree.specs.Kept.Nodes.{blocks_of}
 use Rattle.snow_tree.proofs.Left.{same_blocks}
 use Rattle.snow_tree.proofs.Seen.{children_found, children_none}
 use Rattle.snow_tree.proofs.tree.Tree.child_ids.Goals as goal

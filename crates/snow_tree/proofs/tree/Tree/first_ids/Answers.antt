@@ -1,5 +1,5 @@
 use Rattle.std.proofs.Common.{sym, ap, ◌∙◌}
-use Rattle.snow_tree.specs.Held.{children_of}
+use Rattle.snow_tree.specs.Kept.Held.{children_of}
 use Rattle.snow_tree.proofs.Left.{same_blocks}
 use Rattle.snow_tree.proofs.tree.Tree.first_ids.Goals as goal
 

@@ -3,11 +3,11 @@ use Rattle.std.specs.List.{AllByRecursion}
 use Rattle.std.proofs.lemmas.Bool.{or_parts}
 use Rattle.std.proofs.lemmas.List.{map-append}
 use Rattle.snow_base.specs.declared.header.Header.{Header}
-use Rattle.snow_board.specs.Grown.{has_block, is_on}
+use Rattle.snow_board.specs.Kept.Grown.{has_block, is_on}
 use Rattle.snow_tree.specs.declared.node.Node.{Node}
-use Rattle.snow_tree.specs.Held.{Held, blocks_in, place_in}
-use Rattle.snow_tree.specs.Nodes.{blocks_of, entry_of, linked, with_children}
-use Rattle.snow_tree.specs.Row.{edge_of, edges_of}
+use Rattle.snow_tree.specs.Kept.Held.{Held, blocks_in, place_in}
+use Rattle.snow_tree.specs.Kept.Nodes.{blocks_of, entry_of, linked, with_children}
+use Rattle.snow_tree.specs.Kept.Row.{edge_of, edges_of}
 use Rattle.snow_tree.proofs.Descending.{last_off}
 use Rattle.snow_tree.proofs.Edges.{read_through, same_place, childless_edges}
 use Rattle.snow_tree.proofs.Left.{same_blocks}

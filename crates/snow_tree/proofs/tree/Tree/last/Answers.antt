@@ -1,5 +1,5 @@
 use Rattle.std.proofs.Common.{reverse, sym, subst}
-use Rattle.snow_board.specs.Grown.{IsGrown}
+use Rattle.snow_board.specs.Kept.Grown.{IsGrown}
 use Rattle.snow_tree.proofs.Left.{same_blocks}
 use Rattle.snow_tree.proofs.tree.Tree.last.Goals as goal
 

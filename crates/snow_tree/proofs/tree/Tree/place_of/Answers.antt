@@ -1,5 +1,5 @@
 use Rattle.std.proofs.Common.{is_some, sym, ap, ◌∙◌}
-use Rattle.snow_board.specs.Grown.{has_block}
+use Rattle.snow_board.specs.Kept.Grown.{has_block}
 use Rattle.snow_tree.proofs.Left.{same_blocks}
 use Rattle.snow_tree.proofs.Placed.{place_there}
 use Rattle.snow_tree.proofs.Seen.{place_seen}

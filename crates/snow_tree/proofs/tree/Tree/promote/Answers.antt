@@ -1,7 +1,7 @@
 use Rattle.std.proofs.Common.{◌≡◌, ◌++◌, Some, IfSome, map, sym, ap, subst, ◌∙◌}
 use Rattle.std.specs.Option.{option_map}
-use Rattle.snow_tree.specs.Held.{Held, promoted}
-use Rattle.snow_tree.specs.Nodes.{IsTakenOver, entry_of, outsiders}
+use Rattle.snow_tree.specs.Kept.Held.{Held, promoted}
+use Rattle.snow_tree.specs.Kept.Nodes.{IsTakenOver, entry_of, outsiders}
 use Rattle.snow_tree.proofs.Left.{kept_accepted, left_seen, outsiders_seen, found_seen}
 use Rattle.snow_tree.proofs.Seen.{found_back}
 use Rattle.snow_tree.proofs.tree.Tree.promote.Goals as goal

@@ -1,8 +1,8 @@
 use Rattle.std.proofs.Common.{◌≡◌, ◌∷◌, ◌++◌, ◌-◌, [], length, take, map, slice_get, sym, ap, ◌∙◌}
 use Rattle.std.specs.Option.{option_map}
 use Rattle.std.proofs.lemmas.List.{map-append}
-use Rattle.snow_board.specs.Grown.{has_block}
-use Rattle.snow_tree.specs.Nodes.{blocks_of, entry_of, unlinked}
+use Rattle.snow_board.specs.Kept.Grown.{has_block}
+use Rattle.snow_tree.specs.Kept.Nodes.{blocks_of, entry_of, unlinked}
 use Rattle.snow_tree.proofs.Descending.{last_off}
 use Rattle.snow_tree.proofs.Linked.{kept_back, all_but_last}
 use Rattle.snow_tree.proofs.Seen.{fewer_off, seen_changed, last_seen}

@@ -1,5 +1,5 @@
 use Rattle.std.proofs.Common.{◌<◌, ◌^◌, length, ◌++◌, ◌∷◌, [], refl, arith}
-use Rattle.snow_trie.specs.Tree.{tree_of}
+use Rattle.snow_trie.specs.Kept.Tree.{tree_of}
 use Rattle.snow_trie.proofs.Wholes.{added_counters, whole_added, few_added, few_nodes}
 use Rattle.snow_trie.proofs.trie.Trie.add.Goals as goal
 

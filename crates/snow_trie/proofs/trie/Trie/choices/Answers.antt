@@ -1,5 +1,5 @@
 use Rattle.std.proofs.Common.{◌∷◌}
-use Rattle.snow_trie.specs.Tree.{tree_of}
+use Rattle.snow_trie.specs.Kept.Tree.{tree_of}
 use Rattle.snow_trie.proofs.Chosen.{chosen_alone}
 use Rattle.snow_trie.proofs.trie.Trie.choices.Goals as goal
 

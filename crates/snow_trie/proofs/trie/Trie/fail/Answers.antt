@@ -1,9 +1,9 @@
 use Rattle.std.proofs.Common.{◌∷◌, max, refl, ap, ◌∙◌}
-use Rattle.snow_flake.specs.Counter.{Decided}
-use Rattle.snow_board.specs.Conflict.{chosen}
-use Rattle.snow_board.specs.FailingLaw.{failed}
-use Rattle.snow_trie.specs.Tree.{tree_of}
-use Rattle.snow_trie.specs.Stamped.{between, strand, whole}
+use Rattle.snow_flake.specs.Model.Counter.{Decided}
+use Rattle.snow_board.specs.Model.Conflict.{chosen}
+use Rattle.snow_board.specs.Laws.FailingLaw.{failed}
+use Rattle.snow_trie.specs.Kept.Tree.{tree_of}
+use Rattle.snow_trie.specs.Kept.Stamped.{between, strand, whole}
 use Rattle.snow_trie.proofs.Chosen.{chosen_failed}
 use Rattle.snow_trie.proofs.Wholes.{whole_restamped, whole_failed, failed_counters, same_size, few_nodes}
 use Rattle.snow_trie.proofs.trie.Trie.fail.Goals as goal

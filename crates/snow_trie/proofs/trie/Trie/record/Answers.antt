@@ -1,8 +1,8 @@
 use Rattle.std.proofs.Common.{◌∷◌, ◌+◌, ◌≤◌, All, Contains, refl, sym, ap, subst, ◌∙◌, arith}
 use Rattle.snow_base.specs.declared.vote.Vote.{Vote}
-use Rattle.snow_base.specs.Votes.{total_count}
-use Rattle.snow_trie.specs.Tree.{tree_of}
-use Rattle.snow_trie.specs.Whole.{Compressed}
+use Rattle.snow_base.specs.Model.Votes.{total_count}
+use Rattle.snow_trie.specs.Kept.Tree.{tree_of}
+use Rattle.snow_trie.specs.Kept.Whole.{Compressed}
 use Rattle.snow_trie.proofs.Chosen.{still_chosen}
 use Rattle.snow_trie.proofs.Wholes.{all_lead, few_whole, polled_counters, whole_polled, fewer_nodes, same_size, few_nodes}
 use Rattle.snow_trie.proofs.Narrowed.{fewer_votes}

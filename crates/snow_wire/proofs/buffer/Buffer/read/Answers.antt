@@ -1,7 +1,7 @@
 -- What was read stands behind the bytes that were held.
 use Rattle.std.proofs.Common.{◌≡◌, ◌+◌, ◌-◌, ℕ, List, take, ap, ◌∙◌, subst, rules, arith}
 use borrow.Rule.Slice.PartMut.{put_mid}
-use Rattle.snow_wire.specs.Filling.{Filled, TakesIn}
+use Rattle.snow_wire.specs.Clauses.Filling.{Filled, TakesIn}
 use Rattle.snow_wire.proofs.Behind.{read_behind, written_back}
 use Rattle.snow_wire.proofs.buffer.Buffer.read.Goals as goal
 

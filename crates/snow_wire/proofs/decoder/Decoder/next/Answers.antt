@@ -1,8 +1,8 @@
 use Rattle.std.proofs.Common.{◌≡◌, ◌+◌, ◌-◌, ℕ, List, length, take, drop, refl, ap, sym, ◌∙◌, Some, None, true, false}
 use Rattle.std.proofs.lemmas.List.{take_rest}
-use Rattle.snow_wire.specs.Frame.{is_too_long, length_word, first_of}
+use Rattle.snow_wire.specs.Model.Frame.{is_too_long, length_word, first_of}
 use Rattle.snow_wire.specs.declared.frame.TooLong.{TooLong}
-use Rattle.snow_wire.specs.Stream.{Intake, without, taken}
+use Rattle.snow_wire.specs.Clauses.Stream.{Intake, without, taken}
 use Rattle.snow_wire.proofs.Streams.{none_if, given_if, small_rest, off_place, long_first}
 use Rattle.snow_wire.proofs.decoder.Decoder.next.Goals as goal
 

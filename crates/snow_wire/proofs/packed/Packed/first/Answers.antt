@@ -1,6 +1,6 @@
 -- The first block is taken off those that are left.
 use Rattle.std.proofs.Common.{◌≡◌, ◌-◌, suc, Ok, ap, sym, ◌∙◌, arith}
-use Rattle.snow_wire.specs.Reading.{block_at}
+use Rattle.snow_wire.specs.Model.Reading.{block_at}
 use Rattle.snow_wire.proofs.Listed.{none_left, none_refused, others_read, first_taken}
 use Rattle.snow_wire.proofs.packed.Packed.first.Goals as goal
 

@@ -1,0 +1,3 @@
+-- What the code keeps beside the model, and what is always true of it.
+pub mod Split
+pub mod Words

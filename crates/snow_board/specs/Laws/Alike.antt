@@ -1,0 +1,14 @@
+-- What each multiset of votes leaves that is alike to these.
+use Rattle.std.specs.Prelude.{◌≡◌, ◌≤◌, List}
+use Rattle.snow_base.specs.declared.vote.Vote.{Vote}
+use Rattle.snow_base.specs.Model.Votes.{total_count}
+use Rattle.snow_flake.specs.Laws.Alike.{AreAlike}
+use Rattle.snow_board.specs.declared.decision.Decision.{Decision}
+use Rattle.snow_board.specs.Model.Board.{Board}
+use Rattle.snow_board.specs.Model.Poll.{poll}
+
+-- what is left is what a poll with each multiset gives that is alike to these votes and has at most K
+abbrev pub GivesAll : Board → List Vote → Board → List Decision → Type 0
+GivesAll before votes after decisions =
+    (others : List Vote) → AreAlike before.parameters votes others → total_count others ≤ before.parameters.k
+    → (after ≡ (poll before others).0) × (decisions ≡ (poll before others).1)

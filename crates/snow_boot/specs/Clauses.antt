@@ -1,0 +1,5 @@
+-- Words of the clauses.
+pub mod Accepting
+pub mod Calling
+pub mod Promising
+pub mod Requesting

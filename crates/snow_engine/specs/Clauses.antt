@@ -1,0 +1,4 @@
+-- Words of the clauses.
+pub mod Ends
+pub mod Serving
+pub mod Stopping

@@ -1,0 +1,81 @@
+-- The step of a node that bootstraps, event by event, until it runs.
+use Rattle.std.specs.Prelude.{ℕ, ◌+◌, List, [], ◌++◌, length, Result, Ok, Err, nat_lt, if◌then◌else◌}
+use Rattle.snow_flake.specs.Model.Parameters.{Parameters}
+use Rattle.snow_chain.specs.Model.Chain.{Rules}
+use Rattle.snow_wire.specs.declared.event.Event.{Event}
+use Rattle.snow_wire.specs.declared.event.Event.TheVariants as event
+use Rattle.snow_wire.specs.declared.event.Start.{Start}
+use Rattle.snow_lines.specs.declared.line.Line.TheVariants as line
+use Rattle.snow_lines.specs.declared.why.SkipKind.{SkipKind}
+use Rattle.snow_lines.specs.declared.why.SkipKind.TheVariants as kind
+use Rattle.snow_store.specs.declared.stop.BootStop.{BootStop}
+use Rattle.snow_boot.specs.Model.Booting.{Boot, Next, Going, Done, Outcome, begun, started as asked_first, frontier_came, accepted_came, ancestors_came, timeout_came, stored_came}
+use Rattle.snow_engine.specs.declared.stage.Stage.TheVariants as stage
+use Rattle.snow_engine.specs.declared.stop.EngineStop.{EngineStop}
+use Rattle.snow_engine.specs.declared.stop.EngineStop.TheVariants as stop
+use Rattle.snow_node.specs.Model.Outcome.{quietly, with_line, stops}
+use Rattle.snow_engine.specs.Model.Booting.{Booting}
+use Rattle.snow_node.specs.Model.Running.{begun_above}
+use Rattle.snow_engine.specs.Kept.Staging.{Node, Comes, stop_of_boot}
+use Rattle.snow_node.specs.Model.Turning.{members}
+
+-- ---- what comes of bootstrapping
+
+-- it goes on, or the node runs above the block that was accepted last
+abbrev pub brought : Booting → Next → Node
+brought node (Going boot drawn) = stage.Booting (record node { boot = boot; last = drawn })
+brought node (Done last height state) = stage.Running (begun_above node.parameters node.roster node.words node.last last height state)
+
+abbrev pub brings : Booting → Result Next BootStop → Result Node EngineStop
+brings node (Ok next) = Ok (brought node next)
+brings node (Err stop) = Err (stop_of_boot stop)
+
+abbrev pub came_to : Booting → Outcome → Comes Node
+came_to node outcome = (outcome.0, brings node outcome.1)
+
+-- ---- the beginning
+
+-- a node that begins to bootstrap
+abbrev pub new_booting : Start → Parameters → Booting
+new_booting s p = record { parameters = p; roster = members s.nodes; boot = begun s.last s.height (members s.nodes); state = s.state; words = []; last = 0 }
+
+-- it asks all nodes for their frontier
+abbrev pub boots_first : Start → Parameters → Comes Node
+boots_first s p = came_to (new_booting s p) (asked_first s.last s.height (members s.nodes) 0)
+
+-- ---- the step
+
+-- a frame is passed over
+abbrev pub passed_over : Booting → ℕ → SkipKind → Comes Node
+passed_over node frame word = with_line (line.Skip frame word) (stage.Booting node)
+
+-- words came
+abbrev pub words_kept : Booting → ℕ → List ℕ → Comes Node
+words_kept node frame words =
+    if nat_lt 65536 (length node.words + length words) then passed_over node frame kind.Full
+    else quietly (stage.Booting (record node { words = node.words ++ words }))
+
+-- what an event brings to bootstrapping: an answer, its absence, or a block that was stored earlier; any other brings nothing
+abbrev pub heard : Rules → List ℕ → Boot → ℕ → ℕ → Event → Outcome
+heard rules state boot drawn frame (event.Frontier peer number id) = frontier_came rules state boot drawn peer number id
+heard rules state boot drawn frame (event.Accepted peer number ids) = accepted_came rules state boot drawn peer number ids
+heard rules state boot drawn frame (event.Ancestors peer number blocks) = ancestors_came rules state boot drawn peer number blocks
+heard rules state boot drawn frame (event.Timeout peer number) = timeout_came rules state boot drawn peer number
+heard rules state boot drawn frame (event.Stored bytes) = stored_came rules state boot drawn frame bytes
+heard rules state boot drawn frame _ = ([], Ok (Going boot drawn))
+
+-- a node that bootstraps takes words, answers, timeouts and stored blocks; a second Start stops it. Blocks, validators and questions are
+-- for a node that runs, and a vote, which nobody awaits, changes nothing
+unfoldable pub boots_on : Rules → Booting → ℕ → Event → Comes Node
+boots_on rules node frame (event.Start s) = stops stop.SecondStart
+boots_on rules node frame (event.Words words) = words_kept node frame words
+boots_on rules node frame (event.Poll ids) = passed_over node frame kind.Task
+boots_on rules node frame (event.Line text) = passed_over node frame kind.Task
+boots_on rules node frame (event.Block peer number bytes) = passed_over node frame kind.Stage
+boots_on rules node frame (event.Validators nodes) = passed_over node frame kind.Stage
+boots_on rules node frame (event.AskQuery peer number) = passed_over node frame kind.Stage
+boots_on rules node frame (event.AskFrontier peer number) = passed_over node frame kind.Stage
+boots_on rules node frame (event.AskAccepted peer number ids) = passed_over node frame kind.Stage
+boots_on rules node frame (event.AskAncestors peer number id) = passed_over node frame kind.Stage
+boots_on rules node frame (event.AskBlock peer number id) = passed_over node frame kind.Stage
+boots_on rules node frame other = came_to node (heard rules node.state node.boot node.last frame other)

@@ -1,0 +1,3 @@
+-- Laws of the model, and what is said in them alone.
+pub mod BubblingLaw
+pub mod KnownLaw

@@ -1,0 +1,92 @@
+-- The lists of a queue, and what they say of an identifier.
+use Rattle.std.specs.Prelude.{ℕ, ◌+◌, ◌≤◌, Bool, not, ◌&&◌, ◌==◌, List, [], ◌∷◌, ◌++◌, length, filter, bytes_eq, None, nat_lt, if◌then◌else◌}
+use Rattle.std.specs.List.{list_any, remove, position_or_len}
+use Rattle.snow_base.specs.declared.header.Header.{Header}
+use Rattle.snow_issue.specs.declared.work.Waiting.{Waiting}
+use Rattle.snow_issue.specs.declared.work.Get.{Get}
+use Rattle.snow_issue.specs.declared.work.Held.{Held}
+use Rattle.snow_issue.specs.declared.gone.Gone.{Gone}
+use Rattle.snow_issue.specs.Model.Gone.{with_gone}
+
+-- the waiting blocks in order of arrival, the open gets in order of number, the held replies in order of arrival, and the gone list
+pub record Lists : Type 0 where
+  pub waiting : List Waiting
+  pub gets : List Get
+  pub held : List Held
+  pub gone : List Gone
+
+-- the lists of a node that begins to run above this block
+abbrev pub begun : List ℕ → Lists
+begun last = record { waiting = []; gets = []; held = []; gone = record { id = last; parent = None } ∷ [] }
+
+-- the list without the first item that passes
+abbrev pub without : {T : Type 0} → (T → Bool) → List T → List T
+without test items = remove items (position_or_len test items)
+
+-- whether a block waits
+abbrev pub waits_among : List Waiting → List ℕ → Bool
+waits_among waiting id = list_any (λ w. bytes_eq w.header.id id) waiting
+
+abbrev pub waits : Lists → List ℕ → Bool
+waits q id = waits_among q.waiting id
+
+-- whether the parent of a block waits, at the height right below it
+abbrev pub waits_below : List Waiting → Header → Bool
+waits_below waiting child = list_any (λ w. bytes_eq w.header.id child.parent && (w.header.height + 1 == child.height)) waiting
+
+-- whether a block is asked for
+abbrev pub asked_in : List Get → List ℕ → Bool
+asked_in gets id = list_any (λ g. bytes_eq g.id id) gets
+
+abbrev pub is_asked : Lists → List ℕ → Bool
+is_asked q id = asked_in q.gets id
+
+-- whether a get with this number is open
+abbrev pub has_number : List Get → ℕ → Bool
+has_number gets number = list_any (λ g. g.number == number) gets
+
+-- whether this is the get of that number and node
+abbrev pub is_get : ℕ → List ℕ → Get → Bool
+is_get number node g = (g.number == number) && bytes_eq g.node node
+
+-- the open gets with one more, in order of number
+abbrev pub with_get : List Get → Get → List Get
+with_get [] get = get ∷ []
+with_get (g ∷ gets) get = if nat_lt get.number g.number then get ∷ g ∷ gets else g ∷ with_get gets get
+
+-- whether this is the reply of that node to that poll
+abbrev pub is_reply : ℕ → List ℕ → Held → Bool
+is_reply number node h = (h.number == number) && bytes_eq h.node node
+
+-- whether a reply of a node to a poll is held
+abbrev pub holds_in : List Held → ℕ → List ℕ → Bool
+holds_in held number node = list_any (is_reply number node) held
+
+abbrev pub with_waiting : Lists → Waiting → Lists
+with_waiting q w = record q { waiting = q.waiting ++ w ∷ [] }
+
+-- a get is opened
+abbrev pub after_asked : Lists → Get → Lists
+after_asked q get = record q { gets = with_get q.gets get }
+
+-- a get is closed
+abbrev pub after_closed : Lists → ℕ → List ℕ → Lists
+after_closed q number node = record q { gets = without (is_get number node) q.gets }
+
+-- a reply is held
+abbrev pub after_held : Lists → Held → Lists
+after_held q reply = record q { held = q.held ++ reply ∷ [] }
+
+-- a block goes
+abbrev pub after_gone : Lists → Gone → Lists
+after_gone q entry = record q { gone = with_gone q.gone entry }
+
+-- a poll leaves, and its replies with it
+abbrev pub after_forgotten : Lists → ℕ → Lists
+after_forgotten q number = record q { held = filter (λ h. not (h.number == number)) q.held }
+
+-- the most that the lists hold
+pub record AreWithinLimits (q : Lists) : Type 0 where
+  pub few_waiting : length q.waiting ≤ 4096
+  pub few_gets : length q.gets ≤ 4096
+  pub few_gone : length q.gone ≤ 8192

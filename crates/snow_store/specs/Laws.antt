@@ -1,0 +1,3 @@
+-- Laws of the model, and what is said in them alone.
+pub mod Linking
+pub mod ProgressLaw

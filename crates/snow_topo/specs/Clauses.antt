@@ -1,0 +1,3 @@
+-- Words of the clauses.
+pub mod Told
+pub mod Ballot

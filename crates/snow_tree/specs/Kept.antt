@@ -1,0 +1,5 @@
+-- What the code keeps beside the model, and what is always true of it.
+pub mod Held
+pub mod Hints
+pub mod Row
+pub mod Nodes

@@ -1,0 +1,4 @@
+-- Words of the clauses.
+pub mod Filling
+pub mod Stream
+pub mod Viewed
