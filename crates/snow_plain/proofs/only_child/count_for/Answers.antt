@@ -2,7 +2,7 @@ use Rattle.std.proofs.Common.{List, sym, ◌∙◌, subst, arith}
 use Rattle.snow_base.specs.declared.vote.Vote.{Vote}
 use Rattle.snow_plain.specs.Kept.Alone.{AreFor}
 use Rattle.snow_plain.proofs.Alone.{one_for, only_vote}
-use Rattle.snow_plain.proofs.lone.count_for.Goals as goal
+use Rattle.snow_plain.proofs.only_child.count_for.Goals as goal
 
 pub returns-in-len1 : goal.returns-in-len1
 returns-in-len1 c =

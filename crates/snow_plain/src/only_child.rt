@@ -15,19 +15,19 @@ use snow_flake::{Params, Unary};
 /// for them.
 /// Rule: this project's own.
 #[derive(Clone, Copy)]
-pub struct Lone {
+pub struct OnlyChild {
     pub child: Id,
     pub counter: Unary,
 }
 
-impl Lone {
+impl OnlyChild {
     /// Returns a child that is issued now.
     /// Rule: this project's own.
     pub fn new(child: &Id) -> Self
         ensures child { result.child ≡ child.now }
         ensures fresh { lined result.counter (bits child.now) ≡ with_child (bits child.now) Blank }
     {
-        Lone {
+        OnlyChild {
             child: *child,
             counter: Unary::new(),
         }
@@ -81,13 +81,13 @@ fn count_for(votes: &[Vote], child: &Id) -> Option<u32>
 /// Lets all counters of an only child make the bit step, and returns true. Where there is none, or
 /// votes for others come, it does nothing and returns false.
 /// Rule: this project's own.
-pub fn poll_alone(lone: &mut Option<Lone>, params: &Params, votes: &[Vote]) -> bool
+pub fn poll_alone(only_child: &mut Option<OnlyChild>, params: &Params, votes: &[Vote]) -> bool
     ensures polled { result ≡ true → (c : Counters)
-        → counters_seen lone.new c ≡ all_polled params.now (votes_on votes.now) (counters_seen lone.old c) }
-    ensures stays { result ≡ false → lone.new ≡ lone.old }
-    ensures reserve { (c : Counters) → IsReserve lone.old c → IsReserve lone.new c }
+        → counters_seen only_child.new c ≡ all_polled params.now (votes_on votes.now) (counters_seen only_child.old c) }
+    ensures stays { result ≡ false → only_child.new ≡ only_child.old }
+    ensures reserve { (c : Counters) → IsReserve only_child.old c → IsReserve only_child.new c }
 {
-    match lone {
+    match only_child {
         Some(only) => only.poll(params, votes),
         None => false,
     }
@@ -96,13 +96,13 @@ pub fn poll_alone(lone: &mut Option<Lone>, params: &Params, votes: &[Vote]) -> b
 /// Puts the counters of an only child into the tree, where they stand from now on. It takes no
 /// memory.
 /// Rule: this project's own.
-pub fn spread(tree: &mut Tree, lone: &mut Option<Lone>)
-    requires { IsKept lone.old (counters_of tree.old) }
-    ensures counters { counters_of tree.new ≡ counters_seen lone.old (counters_of tree.old) }
+pub fn spread(tree: &mut Tree, only_child: &mut Option<OnlyChild>)
+    requires { IsKept only_child.old (counters_of tree.old) }
+    ensures counters { counters_of tree.new ≡ counters_seen only_child.old (counters_of tree.old) }
     ensures shallow { depth (counters_of tree.new) ≤ 256 }
-    ensures none { lone.new ≡ None }
+    ensures none { only_child.new ≡ None }
 {
-    if let Some(only) = lone.take() {
+    if let Some(only) = only_child.take() {
         fill(tree, &only.counter);
     }
 }

@@ -1,5 +1,5 @@
 use Rattle.snow_plain.proofs.Alone.{polled_alone}
-use Rattle.snow_plain.proofs.lone.Lone.poll.Goals as goal
+use Rattle.snow_plain.proofs.only_child.OnlyChild.poll.Goals as goal
 
 pub returns-in-Some-clause-polled : goal.returns-in-Some-clause-polled
 returns-in-Some-clause-polled c = λ _.
