@@ -3,10 +3,10 @@ use Rattle.std.proofs.lemmas.List.Sums.{sum_by_more, sum_by_more_le, sum_by-take
 use Rattle.snow_base.specs.declared.vote.Vote.{Vote}
 use Rattle.snow_climb.specs.Kept.Starting.{votes_by}
 use Rattle.snow_climb.proofs.Started.{next_waits, all_started}
-use Rattle.snow_climb.proofs.starting.let_all_go.Goals as goal
+use Rattle.snow_climb.proofs.starting.start_all_waiting.Goals as goal
 
-pub let_go-requires-clause-room : goal.let_go-requires-clause-room
-let_go-requires-clause-room g c =
+pub start_waiting-requires-clause-room : goal.start_waiting-requires-clause-room
+start_waiting-requires-clause-room g c =
     let v = c.vote-item.result in
     omega (
       arith,
@@ -25,14 +25,14 @@ loop-vote-preserved g c =
     let v = c.vote-item.result in
     record {
       started = λ counted h.
-          c.let_go.ensures.started (λ test. votes_by test (drop (i + 1) votes)) counted
+          c.start_waiting.ensures.started (λ test. votes_by test (drop (i + 1) votes)) counted
           (next_waits c.args.tree.now.pending votes i v counted c.loop-vote.ladder.climbers c.loop-vote-test.true c.vote-item.is (so_far.started counted h));
-      put = omega (arith, c.let_go.ensures.put, so_far.put, sum_by_more (λ (v : Vote). v.count) votes i v c.loop-vote-test.true, ap (λ (v : Vote). v.count) c.vote-item.is);
-      low = c.let_go.ensures.low ∙ so_far.low;
+      put = omega (arith, c.start_waiting.ensures.put, so_far.put, sum_by_more (λ (v : Vote). v.count) votes i v c.loop-vote-test.true, ap (λ (v : Vote). v.count) c.vote-item.is);
+      low = c.start_waiting.ensures.low ∙ so_far.low;
       room = record {
-        most = c.let_go.ensures.room.most ∙ so_far.room.most;
-        votes = c.let_go.ensures.room.votes ∙ so_far.room.votes;
-        rungs = c.let_go.ensures.room.rungs ∙ so_far.room.rungs;
+        most = c.start_waiting.ensures.room.most ∙ so_far.room.most;
+        votes = c.start_waiting.ensures.room.votes ∙ so_far.room.votes;
+        rungs = c.start_waiting.ensures.room.rungs ∙ so_far.room.rungs;
       };
     }
 

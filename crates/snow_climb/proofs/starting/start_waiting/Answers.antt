@@ -1,6 +1,6 @@
 use Rattle.std.proofs.Common.{arith}
 use Rattle.snow_climb.proofs.Started.{one_started}
-use Rattle.snow_climb.proofs.starting.let_go.Goals as goal
+use Rattle.snow_climb.proofs.starting.start_waiting.Goals as goal
 
 pub returns-then-vote-gt0-clause-started : goal.returns-then-vote-gt0-clause-started
 returns-then-vote-gt0-clause-started g c =

@@ -2,7 +2,7 @@ use Rattle.std.proofs.Common.{◌≡◌, ℕ, ◌+◌, ◌≤◌, Bool, List, ta
 use Rattle.snow_base.specs.Model.Votes.{total_count}
 use Rattle.snow_climb.specs.Kept.Ladder.{KeepsRoom}
 use Rattle.snow_climb.specs.Kept.Starting.{votes_by, HaveStarted}
-use Rattle.snow_climb.proofs.starting.let_all_go.Given as goal
+use Rattle.snow_climb.proofs.starting.start_all_waiting.Given as goal
 
 abbrev pub invariant-loop-vote : goal.invariant-loop-vote
 invariant-loop-vote g l = record {
