@@ -7,7 +7,7 @@ use Rattle.snow_tree.specs.Kept.Row.{edges_of, gives_way}
 use Rattle.snow_tree.proofs.Edges.{gives_way_at}
 use Rattle.snow_tree.proofs.Searched.{all_taken}
 use Rattle.snow_tree.proofs.Told.{no_way}
-use Rattle.snow_tree.proofs.numbers.Numbers.make_way.Goals as goal
+use Rattle.snow_tree.proofs.id_index.IdIndex.make_way.Goals as goal
 
 pub returns-then-share-clause-map : goal.returns-then-share-clause-map
 returns-then-share-clause-map g c =

@@ -15,18 +15,18 @@ use std::collections::HashMap;
 /// The slots of `Hints` tell most of them. The map has just the others, whose slot tells a later
 /// entry of another identifier. So a block that comes and goes mostly leaves the map alone.
 #[derive(Debug, Drop)]
-pub(crate) struct Numbers {
+pub(crate) struct IdIndex {
     pub(crate) map: HashMap<Id, usize, IdHashing>,
     pub(crate) hints: Hints,
 }
 
-impl Numbers {
+impl IdIndex {
     /// Returns no number. It takes no memory.
     pub(crate) fn new(alloc: Global) -> Self
         ensures map { (id : List ℕ) → get bytes_eq result.map id ≡ None }
         ensures hints { result.hints ≡ [] }
     {
-        Numbers {
+        IdIndex {
             map: HashMap::with_hasher(alloc, IdHashing::new()),
             hints: Hints::new(alloc),
         }
