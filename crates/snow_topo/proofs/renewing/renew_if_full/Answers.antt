@@ -3,7 +3,7 @@ use Rattle.snow_topo.specs.Kept.Children.{Kept}
 use Rattle.snow_topo.specs.Kept.View.{view, AreFit}
 use Rattle.snow_topo.specs.Kept.Renewed.{renewed}
 use Rattle.snow_topo.proofs.Anew.{view_anew, all_fit_anew}
-use Rattle.snow_topo.proofs.renewing.renew.Goals as goal
+use Rattle.snow_topo.proofs.renewing.renew_if_full.Goals as goal
 
 pub returns-clause-board : goal.returns-clause-board
 returns-clause-board g c = λ p fit. (λ i. view p 1 (c.renew.ensures i) (c.renew_all.ensures i)) ∙ view_anew p c.args.polls c.args.root.now c.args.tree.now
