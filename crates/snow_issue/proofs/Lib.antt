@@ -4,7 +4,7 @@ mod GoneExamples
 pub mod Examples
 mod Heights
 pub mod Idle
-mod Lone
+mod OnlyNew
 mod Looked
 mod Named
 mod Preferred
@@ -16,7 +16,7 @@ mod Departed
 mod Next
 mod Settled
 mod Taken
-mod Rested
+mod Quieted
 mod Resting
 mod Ranged
 mod Stepped

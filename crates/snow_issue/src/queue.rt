@@ -8,7 +8,7 @@ ghost use Rattle.snow_issue.specs.Model.Lists.{begun, has_number, is_asked, is_g
 ghost use Rattle.snow_issue.specs.Model.Offering.{is_on, offered, after_offer, refusal, is_next, wanted};
 ghost use Rattle.snow_issue.specs.Model.Settling.{work_of, after, is_free, IsIdle};
 ghost use Rattle.snow_issue.specs.declared.work.Work.TheVariants as work;
-ghost use Rattle.snow_issue.specs.Kept.Known.{lists_of, Knows, ForgetsChildren, NoneRipe, RestsAfter, TakesStep};
+ghost use Rattle.snow_issue.specs.Kept.Known.{lists_of, Knows, ForgetsChildren, NoneRipe, MarksAfter, TakesStep};
 
 use crate::gets::Gets;
 use crate::gone::{Gone, GoneList};
@@ -206,7 +206,7 @@ impl Queue {
     /// settling applies then, and may return `false` there too. The lists stay as they were. It
     /// looks neither at the board nor at any other block.
     /// Rule: this project's own.
-    pub fn rest(&mut self, block: &Header) -> bool
+    pub fn mark_quiet(&mut self, block: &Header) -> bool
         ensures lists { lists_of self.new ≡ lists_of self.old }
         ensures knows { (b : model.Board) → is_on b block.now.id ≡ false → is_on b block.now.parent ≡ false → Knows self.old b → Knows self.new b }
         ensures ripe { NoneRipe self.old.seats → NoneRipe self.new.seats }
@@ -214,8 +214,8 @@ impl Queue {
         ensures idle { (b : model.Board) → result ≡ true → Knows self.new b → IsIdle (lists_of self.new) b }
         ensures limits { AreWithinLimits (lists_of self.new) }
     {
-        let rests = looking::rest_last(&mut self.waiting, &self.gets, block);
-        rests && self.replies.len() == 0
+        let all_quiet = looking::mark_last_quiet(&mut self.waiting, &self.gets, block);
+        all_quiet && self.replies.len() == 0
     }
 
     /// Closes the get of this number and node, and returns the block for which it asked. It returns
@@ -303,7 +303,7 @@ impl Queue {
         ensures work { result ≡ work_of (lists_of self.old) (B.board board.now) }
         ensures lists { lists_of self.new ≡ after (lists_of self.old) (B.board board.now) result }
         ensures knows { Knows self.new (B.board board.now) }
-        ensures rests { RestsAfter result self.new.seats }
+        ensures marks { MarksAfter result self.new.seats }
         ensures limits { AreWithinLimits (lists_of self.new) }
     {
         self.waiting.forget_marks();
@@ -319,13 +319,13 @@ impl Queue {
         ensures work { result ≡ work_of (lists_of self.old) (B.board board.now) }
         ensures lists { lists_of self.new ≡ after (lists_of self.old) (B.board board.now) result }
         ensures knows { Knows self.new (B.board board.now) }
-        ensures rests { RestsAfter result self.new.seats }
+        ensures marks { MarksAfter result self.new.seats }
         ensures limits { AreWithinLimits (lists_of self.new) }
     {
-        if self.waiting.rests() {
+        if self.waiting.all_quiet() {
             return self.next_vote();
         }
-        if let Some(at) = self.lone_ready(board) {
+        if let Some(at) = self.only_new_ready(board) {
             return self.take_ready(at, board);
         }
         self.next_step(board)
@@ -352,7 +352,7 @@ impl Queue {
         ensures work { result ≡ option_map work.Vote (find (is_free (lists_of self.old)) self.old.held) }
         ensures lists { (b : model.Board) → lists_of self.new ≡ after (lists_of self.old) b result }
         ensures knows { (b : model.Board) → Knows self.old b → Knows self.new b }
-        ensures rests { NoneRipe self.old.seats → RestsAfter result self.new.seats }
+        ensures marks { NoneRipe self.old.seats → MarksAfter result self.new.seats }
         ensures limits { AreWithinLimits (lists_of self.new) }
     {
         if self.replies.len() == 0 {
@@ -366,7 +366,7 @@ impl Queue {
         ensures work { result ≡ option_map work.Vote (find (is_free (lists_of self.old)) self.old.held) }
         ensures lists { (b : model.Board) → lists_of self.new ≡ after (lists_of self.old) b result }
         ensures knows { (b : model.Board) → Knows self.old b → Knows self.new b }
-        ensures rests { NoneRipe self.old.seats → RestsAfter result self.new.seats }
+        ensures marks { NoneRipe self.old.seats → MarksAfter result self.new.seats }
         ensures limits { AreWithinLimits (lists_of self.new) }
     {
         match self.take_vote() {

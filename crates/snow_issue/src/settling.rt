@@ -50,13 +50,13 @@ impl Queue {
 
     /// Returns where the only block marked `New` stands, if it is ready: mostly the child of the
     /// block that was issued last. Then none is hopeless, and it is the earliest ready one.
-    pub(crate) fn lone_ready<B: Board>(&self, board: &B) -> Option<usize>
+    pub(crate) fn only_new_ready<B: Board>(&self, board: &B) -> Option<usize>
         requires { Knows self.now (B.board board.now) }
         ensures there { IfSome result (λ at. at < length self.now.seats) }
         ensures none { IfSome result (λ at. find (is_hopeless (lists_of self.now) (B.board board.now)) (lists_of self.now).waiting ≡ None) }
         ensures first { IfSome result (λ at. at ≡ position_or_len (is_ready (B.board board.now)) (lists_of self.now).waiting) }
     {
-        let at = self.waiting.lone()?;
+        let at = self.waiting.only_new()?;
         if is_on(board, &self.waiting.header(at).parent) {
             return Some(at);
         }

@@ -40,8 +40,8 @@ unripe_after (s ∷ seats) after at there is none =
     subst NoneRipe (sym (is s)) (All-set (λ (t : Waiting × Mark). has Ripe t ≡ false) all at ((get_or all at s).0, Quiet) refl none)
 
 -- where something is remembered of each block, none is ripe and no reply is held, nothing is to be done
-pub rests_idle : (s : Seen) (board : Board) → Knows s board → NoneNew s.seats → NoneRipe s.seats → s.held ≡ [] → IsIdle (lists_of s) board
-rests_idle s board knows new ripe empty =
+pub all_quiet_idle : (s : Seen) (board : Board) → Knows s board → NoneNew s.seats → NoneRipe s.seats → s.held ≡ [] → IsIdle (lists_of s) board
+all_quiet_idle s board knows new ripe empty =
     sym (resting s board knows new ripe)
     ∙ ap (λ (held : List Held). option_map work.Vote (find (is_free (lists_of s)) held)) empty
 

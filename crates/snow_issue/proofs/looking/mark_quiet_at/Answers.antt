@@ -6,9 +6,9 @@ use Rattle.snow_issue.specs.Model.Lists.{asked_in, waits_below}
 use Rattle.snow_issue.specs.Kept.Known.{items_of, sight}
 use Rattle.snow_lineup.proofs.Booleans.{or_true}
 use Rattle.snow_issue.proofs.Looked.{items_after_set, tells_after}
-use Rattle.snow_issue.proofs.Rested.{sees_quiet}
-use Rattle.snow_issue.proofs.looking.rest_at.Goals as goal
-use Rattle.snow_issue.proofs.looking.rest_at.Goals.{then-asks_for, else-asks_for}
+use Rattle.snow_issue.proofs.Quieted.{sees_quiet}
+use Rattle.snow_issue.proofs.looking.mark_quiet_at.Goals as goal
+use Rattle.snow_issue.proofs.looking.mark_quiet_at.Goals.{then-asks_for, else-asks_for}
 
 pub returns-then-waits_below-clause-same : goal.returns-then-waits_below-clause-same
 returns-then-waits_below-clause-same c = items_after_set c.args.waiting.now c.set.new.self c.args.at Quiet c.requires c.set.ensures

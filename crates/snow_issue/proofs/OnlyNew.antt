@@ -18,15 +18,15 @@ use Rattle.snow_issue.proofs.Looked.{items_at, known_not_hopeless, not_hopeless,
 use Rattle.snow_issue.proofs.Resting.{find_fails}
 
 -- at no other place is a block new
-abbrev IsAlone : List (Waiting × Mark) → ℕ → Type 0
-IsAlone seats at = IsOnlyAt New seats at
+abbrev IsOnlyNew : List (Waiting × Mark) → ℕ → Type 0
+IsOnlyNew seats at = IsOnlyAt New seats at
 
-old : (seats : List (Waiting × Mark)) (at k : ℕ) (d : Waiting × Mark) → IsAlone seats at → k < length seats → (k ≡ at → ⊥) → has New (get_or seats k d) ≡ false
+old : (seats : List (Waiting × Mark)) (at k : ℕ) (d : Waiting × Mark) → IsOnlyNew seats at → k < length seats → (k ≡ at → ⊥) → has New (get_or seats k d) ≡ false
 old seats at k d alone within other =
     false_from_ne_true (has New (get_or seats k d)) (λ t.
     absurd (other (alone k d within t)))
 
-none_lost : (s : Seen) (board : Board) (at : ℕ) → Knows s board → IsAlone s.seats at → ((d : Waiting × Mark) → is_on board (get_or s.seats at d).0.header.parent ≡ true)
+none_lost : (s : Seen) (board : Board) (at : ℕ) → Knows s board → IsOnlyNew s.seats at → ((d : Waiting × Mark) → is_on board (get_or s.seats at d).0.header.parent ≡ true)
     → All (λ w. is_hopeless (lists_of s) board w ≡ false) (items_of s.seats)
 none_lost s board at knows alone on k d within =
     let e : Waiting × Mark = (d, New) in
@@ -47,11 +47,11 @@ none_lost s board at knows alone on k d within =
     (cases_lt at k))
     (cases_lt k at)
 
-pub none_hopeless : (s : Seen) (board : Board) (at : ℕ) → Knows s board → IsAlone s.seats at → ((d : Waiting × Mark) → is_on board (get_or s.seats at d).0.header.parent ≡ true)
+pub none_hopeless : (s : Seen) (board : Board) (at : ℕ) → Knows s board → IsOnlyNew s.seats at → ((d : Waiting × Mark) → is_on board (get_or s.seats at d).0.header.parent ≡ true)
     → find (is_hopeless (lists_of s) board) (items_of s.seats) ≡ None
 none_hopeless s board at knows alone on = sym (find_fails (is_hopeless (lists_of s) board) (items_of s.seats) (none_lost s board at knows alone on))
 
-first_ready : (s : Seen) (board : Board) (at : ℕ) (d : Waiting × Mark) → Knows s board → at < length s.seats → IsAlone s.seats at → NoneRipe s.seats
+first_ready : (s : Seen) (board : Board) (at : ℕ) (d : Waiting × Mark) → Knows s board → at < length s.seats → IsOnlyNew s.seats at → NoneRipe s.seats
     → is_on board (get_or s.seats at d).0.header.parent ≡ true → at ≡ position_or_len (is_ready board) (items_of s.seats)
 first_ready s board at d knows there alone ripe on =
     let items = items_of s.seats in
@@ -65,9 +65,9 @@ first_ready s board at d knows there alone ripe on =
     ∙ ripe k d h)
     (λ within. ap (is_ready board) (items_at s.seats at d there) ∙ on))
 
-pub lone_first : (s : Seen) (board : Board) (at : ℕ) → Knows s board → at < length s.seats → IsAlone s.seats at → NoneRipe s.seats
+pub only_new_first : (s : Seen) (board : Board) (at : ℕ) → Knows s board → at < length s.seats → IsOnlyNew s.seats at → NoneRipe s.seats
     → ((d : Waiting × Mark) → is_on board (get_or s.seats at d).0.header.parent ≡ true) → at ≡ position_or_len (is_ready board) (items_of s.seats)
-lone_first s board at knows there alone ripe on = by s.seats refl
+only_new_first s board at knows there alone ripe on = by s.seats refl
   where
     by : (seats : List (Waiting × Mark)) → seats ≡ s.seats → at ≡ position_or_len (is_ready board) (items_of s.seats)
     by [] e = let empty : length s.seats ≡ 0 = ap (λ (l : List (Waiting × Mark)). length l) (sym e) in absurd (omega (arith, empty, there))

@@ -4,7 +4,7 @@ use Rattle.std.specs.Ordering.{nat_cmp}
 use Rattle.snow_issue.specs.Kept.Arrivals.{names}
 use Rattle.snow_issue.proofs.Stocked.{number_itself}
 use Rattle.snow_issue.proofs.Numbered.{node_itself}
-use Rattle.snow_issue.proofs.arrivals.keep.Goals as goal
+use Rattle.snow_issue.proofs.arrivals.keep_reply.Goals as goal
 
 pub returns-clause-named : goal.returns-clause-named
 returns-clause-named c =

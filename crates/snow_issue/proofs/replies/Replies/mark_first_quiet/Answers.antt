@@ -11,10 +11,10 @@ use Rattle.snow_lineup.specs.declared.marks.Mark.TheVariants.{New, Quiet}
 use Rattle.snow_lineup.specs.Kept.Marks.{has}
 use Rattle.snow_issue.specs.Kept.Arrivals.{Entries, at_arrival, filed, names, seat_of}
 use Rattle.snow_issue.proofs.Numbered.{filed_by}
-use Rattle.snow_issue.proofs.Seated.{place, seats_rested, replies_rested, first_at_place, none_found}
+use Rattle.snow_issue.proofs.Seated.{place, seats_quieted, replies_quieted, first_at_place, none_found}
 use Rattle.snow_issue.proofs.Next.{none_there}
-use Rattle.snow_issue.proofs.replies.Replies.rest_first.Goals as goal
-use Rattle.snow_issue.proofs.replies.Replies.rest_first.Goals.{After-rest_first}
+use Rattle.snow_issue.proofs.replies.Replies.mark_first_quiet.Goals as goal
+use Rattle.snow_issue.proofs.replies.Replies.mark_first_quiet.Goals.{After-mark_first_quiet}
 
 pub returns-in_default : goal.returns-in_default
 returns-in_default c d =
@@ -23,23 +23,23 @@ returns-in_default c d =
     let there : place seats < length seats = subst (λ (l : List (Held × Mark)). place l < length l) (sym c.self.view_is) c.requires in
     absurd (omega (arith, none, there))
 
-rested : (c : After-rest_first) → c.rest_first.new.self ≡ set_value (is_at (nat_cmp c.in-Some.arrival)) c.self.inside.backlog (record { reply = c.in-Some.reply; quiet = true })
-rested c =
-    c.rest_first.ensures.rest ∙ ap (λ (l : Entries). set_value (is_at (nat_cmp c.in-Some.arrival)) l (record { reply = c.in-Some.reply; quiet = true })) c.in-Some.ensures.same
+quieted : (c : After-mark_first_quiet) → c.mark_first_quiet.new.self ≡ set_value (is_at (nat_cmp c.in-Some.arrival)) c.self.inside.backlog (record { reply = c.in-Some.reply; quiet = true })
+quieted c =
+    c.mark_first_quiet.ensures.rest ∙ ap (λ (l : Entries). set_value (is_at (nat_cmp c.in-Some.arrival)) l (record { reply = c.in-Some.reply; quiet = true })) c.in-Some.ensures.same
 
 pub invariant_of-self-2 : goal.invariant_of-self-2
 invariant_of-self-2 c =
     let inside = c.self.inside in
-    filed_by inside.backlog c.rest_first.new.self (filed inside.polls) (names inside.blocks) inside.next c.self.invariant c.rest_first.ensures.sorted
-    (λ a. ap (λ (l : Entries). option_map (λ (k : Kept). k.reply) (at_arrival l a)) (rested (goal.at.invariant_of-self-2 c).After-rest_first)
-    ∙ replies_rested inside.backlog c.in-Some.arrival c.in-Some.reply a c.in-Some.ensures.first)
+    filed_by inside.backlog c.mark_first_quiet.new.self (filed inside.polls) (names inside.blocks) inside.next c.self.invariant c.mark_first_quiet.ensures.sorted
+    (λ a. ap (λ (l : Entries). option_map (λ (k : Kept). k.reply) (at_arrival l a)) (quieted (goal.at.invariant_of-self-2 c).After-mark_first_quiet)
+    ∙ replies_quieted inside.backlog c.in-Some.arrival c.in-Some.reply a c.in-Some.ensures.first)
 
 pub returns : goal.returns
 returns c d =
     let es = c.self.inside.backlog in
     let seats = map seat_of es in
     let quiet : Held → Held × Mark = λ h. (h, Quiet) in
-    ap (map seat_of) (rested (goal.at.returns c).After-rest_first)
-    ∙ seats_rested es c.in-Some.arrival c.in-Some.reply c.in-Some.ensures.sorted c.in-Some.ensures.first
+    ap (map seat_of) (quieted (goal.at.returns c).After-mark_first_quiet)
+    ∙ seats_quieted es c.in-Some.arrival c.in-Some.reply c.in-Some.ensures.sorted c.in-Some.ensures.first
     ∙ ap (λ h. set seats (place seats) (quiet h)) (sym (first_at_place es c.in-Some.arrival c.in-Some.reply d c.in-Some.ensures.sorted c.in-Some.ensures.first))
     ∙ ap (λ (l : List (Held × Mark)). set l (place l) (quiet (get_or l (place l) d).0)) c.self.view_is

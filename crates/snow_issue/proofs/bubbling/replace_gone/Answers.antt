@@ -3,7 +3,7 @@ use Rattle.std.proofs.Common.{◌≡◌, ℕ, ◌-◌, ◌+◌, suc, Bool, true,
 use Rattle.std.specs.Str.{bytes_eq}
 use Rattle.snow_issue.specs.Model.Bubbling.{bubbled_in}
 use Rattle.snow_issue.proofs.Bubbled.{bubbled_pending, bubbled_last, bubbled_lost, bubbled_up, bubbled_end}
-use Rattle.snow_issue.proofs.bubbling.climb.Goals as goal
+use Rattle.snow_issue.proofs.bubbling.replace_gone.Goals as goal
 
 -- the last accepted block, by its name
 last : (a b id : List ℕ) (answer : Bool) → a ≡ b → bytes_eq a id ≡ answer → bytes_eq b id ≡ answer

@@ -4,7 +4,7 @@ use Rattle.snow_lineup.specs.declared.marks.Mark.TheVariants.{New, Ripe}
 use Rattle.snow_lineup.specs.Kept.Marks.{has}
 use Rattle.snow_lineup.specs.Kept.Index.{seat_of}
 use Rattle.snow_lineup.proofs.Windowed.{no_mark}
-use Rattle.snow_lineup.proofs.lineup.Lineup.rests.Goals as goal
+use Rattle.snow_lineup.proofs.lineup.Lineup.all_quiet.Goals as goal
 
 pub returns-clause-new : goal.returns-clause-new
 returns-clause-new g c told =

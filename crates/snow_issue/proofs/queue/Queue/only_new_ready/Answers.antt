@@ -6,9 +6,9 @@ use Rattle.snow_lineup.specs.declared.marks.Mark.TheVariants.{New}
 use Rattle.snow_issue.specs.Model.Offering.{is_on}
 use Rattle.snow_issue.specs.Kept.Known.{Seen, NoneRipe}
 use Rattle.snow_lineup.specs.Kept.Marks.{IsOnlyAt}
-use Rattle.snow_issue.proofs.Lone.{none_hopeless, lone_first}
-use Rattle.snow_issue.proofs.queue.Queue.lone_ready.Goals as goal
-use Rattle.snow_issue.proofs.queue.Queue.lone_ready.Goals.{After-is_on}
+use Rattle.snow_issue.proofs.OnlyNew.{none_hopeless, only_new_first}
+use Rattle.snow_issue.proofs.queue.Queue.only_new_ready.Goals as goal
+use Rattle.snow_issue.proofs.queue.Queue.only_new_ready.Goals.{After-is_on}
 
 -- its parent is on the board
 on : (g : _) (c : After-is_on g) → c.is_on.result ≡ true → (d : Waiting × Mark) → is_on (g.B.Board.board c.args.board.now) (get_or c.args.self.now.seats c.in_ok-at.at d).0.header.parent ≡ true
@@ -29,7 +29,7 @@ returns-then-is_on-clause-none g c =
 pub returns-then-is_on-clause-first : goal.returns-then-is_on-clause-first
 returns-then-is_on-clause-first g c =
     let at = c.in_ok-at.at in
-    lone_first c.args.self.now (g.B.Board.board c.args.board.now) at c.requires
+    only_new_first c.args.self.now (g.B.Board.board c.args.board.now) at c.requires
     (subst (λ (s : Seen). at < length s.seats) c.self.view_is c.in_ok-at.ensures.there)
     (subst (λ (s : Seen). IsOnlyAt New s.seats at) c.self.view_is c.in_ok-at.ensures.new)
     (subst (λ (s : Seen). NoneRipe s.seats) c.self.view_is c.in_ok-at.ensures.ripe)

@@ -9,8 +9,8 @@ use Rattle.std.specs.Ordering.{nat_cmp}
 use Rattle.std.proofs.lemmas.Map.{keys-set_value}
 use Rattle.snow_issue.specs.declared.backlog.Kept.{Kept}
 use Rattle.snow_issue.specs.Kept.Arrivals.{Entries, at_arrival, IsFirst}
-use Rattle.snow_issue.proofs.Stocked.{stocked_rested, some_is, one_first, changed_there}
-use Rattle.snow_issue.proofs.backlog.Backlog.rest_first.Goals as goal
+use Rattle.snow_issue.proofs.Stocked.{stocked_quieted, some_is, one_first, changed_there}
+use Rattle.snow_issue.proofs.backlog.Backlog.mark_first_quiet.Goals as goal
 
 pub invariant_of-self-2 : goal.invariant_of-self-2
 invariant_of-self-2 c =
@@ -26,7 +26,7 @@ invariant_of-self-2 c =
     let is_top = rw x.1 at c.pop.ensures.top in
     let order = rw x.1 at c.pop.ensures.heap_order in
     let less = rw x.1 at c.pop.ensures.len in
-    stocked_rested es c.set.new.self (heap_items heap) (heap_items after) (heap_len heap) (heap_len after) (heap_capacity heap) (heap_capacity after) x.0 c.args.arrival old quiet
+    stocked_quieted es c.set.new.self (heap_items heap) (heap_items after) (heap_len heap) (heap_len after) (heap_capacity heap) (heap_capacity after) x.0 c.args.arrival old quiet
     c.in-Some.ensures.kept (order c.in-Some.ensures.kept.order).0 moved less c.pop.ensures.capacity
     (ap (λ n. x.0 + n) same ∙ ap (λ n. n + c.in-Some.field-0.0) is_top ∙ c.in-Some.ensures.top x.0)
     first.there refl refl c.set.ensures (λ q. ap (λ (l : Entries). at_arrival l q) c.set.ensures ∙ changed_there es c.args.arrival quiet (ap is_some first.there) q)
