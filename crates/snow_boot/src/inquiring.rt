@@ -110,7 +110,7 @@ impl<H: Kept> Parts<H> {
         ensures { Comes result log.old log.new self.new.survey self.new.fetching self.new.requests numbers.old numbers.new (C.held chain.old) (C.held chain.new)
             (with_targets C.rules (last_state (C.held chain.old)) (boot_of self.old.survey self.old.fetching.fetch self.old.requests) numbers.old (majority (total_weight self.old.survey.nodes) self.old.survey.candidates)) }
     {
-        let targets = self.survey.targets()?;
+        let targets = self.survey.majority()?;
         if targets.is_empty() {
             return self.restart(RestartWhy::Accepted, chain, numbers, log);
         }

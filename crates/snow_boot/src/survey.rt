@@ -176,7 +176,7 @@ impl Survey {
     }
 
     /// Returns the identifiers that more than half of the weight backs, in order.
-    pub(crate) fn targets(&self) -> Result<IndexSet<Id, IdHashing>, AllocError>
+    pub(crate) fn majority(&self) -> Result<IndexSet<Id, IdHashing>, AllocError>
         ensures { IfOk result (λ ids. ids.keys ≡ majority (total_weight self.now.nodes) self.now.candidates) }
     {
         electing::elect(self.alloc, &self.candidates, self.total)

@@ -2,7 +2,7 @@
 use Rattle.std.proofs.Common.{sym, ap, ◌∙◌}
 use Rattle.snow_base.specs.declared.vote.Vote.{Vote}
 use Rattle.snow_poll.proofs.Counting.{count_there, count_none}
-use Rattle.snow_poll.proofs.tally.count.Goals as goal
+use Rattle.snow_poll.proofs.tally.count_of.Goals as goal
 
 pub returns-in-Ok : goal.returns-in-Ok
 returns-in-Ok c =

@@ -3,7 +3,7 @@ use Rattle.std.proofs.Common.{rules}
 use Rattle.std.proofs.lemmas.Fn.{always_returns_same}
 use Rattle.snow_base.specs.Model.Identifier.{bit_cmp}
 use Rattle.snow_base.proofs.Adding.{searched}
-use Rattle.snow_poll.proofs.tally.place.Goals as goal
+use Rattle.snow_poll.proofs.tally.vote_place.Goals as goal
 
 pub returns : goal.returns
 returns c =

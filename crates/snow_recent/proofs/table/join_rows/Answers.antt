@@ -3,7 +3,7 @@ use Rattle.std.specs.List.{remove}
 use Rattle.std.proofs.lemmas.List.{get_or_default}
 use Rattle.std.proofs.lemmas.List.Edits.{length-remove, get_or-remove_below}
 use Rattle.snow_recent.proofs.Rows.{next_is, joined_by}
-use Rattle.snow_recent.proofs.table.join.Goals as goal
+use Rattle.snow_recent.proofs.table.join_rows.Goals as goal
 
 pub returns-clause-rows : goal.returns-clause-rows
 returns-clause-rows c =

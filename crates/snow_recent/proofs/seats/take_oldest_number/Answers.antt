@@ -2,7 +2,7 @@ use Rattle.std.proofs.Common.{ℕ, List, get_or, sym, ap, ◌∙◌}
 use Rattle.std.specs.List.{concat}
 use Rattle.snow_recent.specs.Kept.Index.{seat_of}
 use Rattle.snow_recent.proofs.Forgotten.{without_none}
-use Rattle.snow_recent.proofs.seats.forget_oldest.Goals as goal
+use Rattle.snow_recent.proofs.seats.take_oldest_number.Goals as goal
 
 pub returns-else-number-first-clause-numbers : goal.returns-else-number-first-clause-numbers
 returns-else-number-first-clause-numbers g c =

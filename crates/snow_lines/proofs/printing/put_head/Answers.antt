@@ -5,7 +5,7 @@ use Rattle.std.specs.Result.{OnOk}
 use Rattle.snow_lines.specs.declared.line.Line.{Line}
 use Rattle.snow_lines.specs.Kept.Gathered.{Gathers}
 use Rattle.snow_lines.specs.Model.Text.{fields, name}
-use Rattle.snow_lines.proofs.printing.put_front.Goals as goal
+use Rattle.snow_lines.proofs.printing.put_head.Goals as goal
 
 pub returns-in-DropQuery-clause-ok : goal.returns-in-DropQuery-clause-ok
 returns-in-DropQuery-clause-ok g c =

@@ -2,7 +2,7 @@
 use Rattle.std.proofs.Common.{ℕ, List, subst}
 use Rattle.snow_engine.specs.Clauses.Serving.{stand_of, GathersLines, all_worked}
 use Rattle.snow_engine.proofs.Flushed.{flushed, broken}
-use Rattle.snow_engine.proofs.session.Session.work.Goals as goal
+use Rattle.snow_engine.proofs.session.Session.work_all.Goals as goal
 
 pub returns-in-Ok-clause-lines : goal.returns-in-Ok-clause-lines
 returns-in-Ok-clause-lines g c =
