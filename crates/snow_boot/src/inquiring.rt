@@ -1,6 +1,6 @@
 ghost use Rattle.std.specs.Prelude.{◌≡◌, ◌≢◌, List, [], ◌∷◌, true, IfOk};
 ghost use Rattle.snow_chain.specs.Model.Chain.{Held};
-ghost use Rattle.snow_issue.specs.declared.work.Get.{Get};
+ghost use Rattle.snow_gets.specs.declared.gets.Get.{Get};
 ghost use Rattle.snow_boot.specs.Kept.Fetching.{Hunt};
 ghost use Rattle.snow_base.specs.Model.Numbers.{next_number};
 ghost use Rattle.snow_boot.specs.Model.Booting.{behind, ask_frontier, ask_accepted, with_collected, with_targets, or_all};
@@ -19,8 +19,8 @@ use crate::stage::Stage;
 use crate::survey::Survey;
 use snow_base::Numbers;
 use snow_chain::Chain;
+use snow_gets::Gets;
 use snow_interval::Kept;
-use snow_issue::Gets;
 use snow_lines::{Line, Lines, RestartWhy};
 use snow_store::BootStop;
 

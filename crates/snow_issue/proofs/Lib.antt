@@ -1,4 +1,3 @@
-pub mod Asking
 mod Bubbled
 mod GoneExamples
 pub mod Examples
@@ -6,7 +5,6 @@ mod Heights
 pub mod Idle
 mod OnlyNew
 mod Looked
-mod Named
 mod Preferred
 pub mod Remembered
 mod Stocked

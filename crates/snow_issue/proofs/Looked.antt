@@ -7,11 +7,12 @@ use Rattle.std.proofs.lemmas.List.Elements.{All-set, All-head, All-tail}
 use Rattle.std.proofs.lemmas.List.Sums.{position_or_len_is, fails_before_first, passes_at_first, prefix_len-le-length}
 use Rattle.snow_board.specs.Model.Board.{Board}
 use Rattle.snow_issue.specs.declared.work.Waiting.{Waiting}
-use Rattle.snow_issue.specs.declared.work.Get.{Get}
+use Rattle.snow_gets.specs.declared.gets.Get.{Get}
 use Rattle.snow_issue.specs.declared.work.Held.{Held}
 use Rattle.snow_lineup.specs.declared.marks.Mark.{Mark}
 use Rattle.snow_lineup.specs.declared.marks.Mark.TheVariants.{New, Quiet, Ripe}
-use Rattle.snow_issue.specs.Model.Lists.{waits_below, asked_in}
+use Rattle.snow_gets.specs.Model.Gets.{asked_in}
+use Rattle.snow_issue.specs.Model.Lists.{waits_below}
 use Rattle.snow_issue.specs.Model.Offering.{is_on}
 use Rattle.snow_issue.specs.Model.Settling.{is_hopeless_by, is_ready, is_free_by}
 use Rattle.snow_issue.specs.Kept.Known.{items_of, sight, Tells}

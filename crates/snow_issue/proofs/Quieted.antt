@@ -7,12 +7,13 @@ use Rattle.snow_base.specs.declared.header.Header.{Header}
 use Rattle.snow_board.specs.Model.Board.{Board}
 use Rattle.snow_board.proofs.Cases.{same_id}
 use Rattle.snow_issue.specs.declared.work.Waiting.{Waiting}
-use Rattle.snow_issue.specs.declared.work.Get.{Get}
+use Rattle.snow_gets.specs.declared.gets.Get.{Get}
 use Rattle.snow_issue.specs.declared.work.Held.{Held}
 use Rattle.snow_issue.specs.declared.work.Work.TheVariants as work
 use Rattle.snow_lineup.specs.declared.marks.Mark.{Mark}
 use Rattle.snow_lineup.specs.declared.marks.Mark.TheVariants.{Quiet, Ripe}
-use Rattle.snow_issue.specs.Model.Lists.{asked_in, waits_below}
+use Rattle.snow_gets.specs.Model.Gets.{asked_in}
+use Rattle.snow_issue.specs.Model.Lists.{waits_below}
 use Rattle.snow_issue.specs.Model.Offering.{is_on}
 use Rattle.snow_issue.specs.Model.Settling.{is_free, IsIdle}
 use Rattle.snow_issue.specs.Kept.Known.{Seen, items_of, Knows, NoneNew, NoneRipe, lists_of, sight}

@@ -18,7 +18,7 @@ use Rattle.snow_lineup.specs.Kept.Index.{woken}
 use Rattle.snow_issue.specs.Kept.Known.{items_of}
 use Rattle.snow_issue.specs.Kept.Arrivals.{Entries, at_arrival, mark_of, seat_of, loud, woken_among, IsFirst, AreQuiet, stays}
 use Rattle.snow_issue.proofs.Stocked.{none_before, behind_first, first_there, each}
-use Rattle.snow_lineup.proofs.Booleans.{or_false}
+use Rattle.snow_map.proofs.Booleans.{or_false}
 
 -- ---- the first one that isn't quiet
 

@@ -7,13 +7,14 @@ use Rattle.std.proofs.lemmas.List.{length-map, length_push, length-take, length-
 use Rattle.std.proofs.lemmas.List.Edits.{length-remove}
 use Rattle.snow_board.specs.Model.Board.{Board}
 use Rattle.snow_issue.specs.declared.work.Waiting.{Waiting}
-use Rattle.snow_issue.specs.declared.work.Get.{Get}
+use Rattle.snow_gets.specs.declared.gets.Get.{Get}
 use Rattle.snow_issue.specs.declared.work.Held.{Held}
 use Rattle.snow_issue.specs.declared.gone.Gone.{Gone}
 use Rattle.snow_lineup.specs.declared.marks.Mark.{Mark}
 use Rattle.snow_lineup.specs.declared.marks.Mark.TheVariants.{New}
 use Rattle.snow_issue.specs.Model.Gone.{with_gone}
-use Rattle.snow_issue.specs.Model.Lists.{Lists, with_get, is_get, without, asked_in, AreWithinLimits}
+use Rattle.snow_gets.specs.Model.Gets.{with_get, is_get, without, asked_in}
+use Rattle.snow_issue.specs.Model.Lists.{Lists, AreWithinLimits}
 use Rattle.snow_issue.specs.Kept.Known.{Seen, items_of, lists_of, Tells, Knows}
 use Rattle.snow_lineup.specs.Kept.Index.{woken, forgotten}
 use Rattle.snow_issue.specs.Kept.Keeping.{IsKept, StaysQuiet}

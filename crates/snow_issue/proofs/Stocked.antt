@@ -22,8 +22,8 @@ use Rattle.std.proofs.lemmas.Cmp.{eq_by_cmp_equiv, nat_cmp_total}
 use Rattle.snow_issue.specs.declared.backlog.Kept.{Kept}
 use Rattle.snow_issue.specs.declared.work.Held.{Held}
 use Rattle.snow_issue.specs.Kept.Arrivals.{Entries, at_arrival, loud, woken_among, stands_for, is_noted, weight, IsBacklog, IsFirst, AreQuiet}
-use Rattle.snow_issue.proofs.Asking.{number_is}
-use Rattle.snow_lineup.proofs.Booleans.{or_true}
+use Rattle.snow_gets.proofs.Asking.{number_is}
+use Rattle.snow_map.proofs.Booleans.{or_true}
 
 -- ---- numbers
 

@@ -8,20 +8,21 @@ use Rattle.std.proofs.lemmas.List.Elements.{All-map, All-weaker, All-push}
 use Rattle.std.proofs.lemmas.List.Folds.{list_any-append}
 use Rattle.snow_board.specs.Model.Board.{Board}
 use Rattle.snow_issue.specs.declared.work.Waiting.{Waiting}
-use Rattle.snow_issue.specs.declared.work.Get.{Get}
+use Rattle.snow_gets.specs.declared.gets.Get.{Get}
 use Rattle.snow_issue.specs.declared.work.Held.{Held}
 use Rattle.snow_lineup.specs.declared.marks.Mark.{Mark}
 use Rattle.snow_lineup.specs.declared.marks.Mark.TheVariants.{New, Quiet, Ripe}
-use Rattle.snow_issue.specs.Model.Lists.{waits_among, waits_below, asked_in, with_get, is_get, without}
+use Rattle.snow_gets.specs.Model.Gets.{asked_in, with_get, is_get, without}
+use Rattle.snow_issue.specs.Model.Lists.{waits_among, waits_below}
 use Rattle.snow_issue.specs.Model.Offering.{is_on}
 use Rattle.snow_issue.specs.Model.Settling.{is_free_by}
 use Rattle.snow_issue.specs.Kept.Known.{items_of, sight, Tells, ForgetsChildren, NoneRipe}
 use Rattle.snow_lineup.specs.Kept.Marks.{is_mark, has}
-use Rattle.snow_lineup.proofs.Noted.{same_id, id_turned}
+use Rattle.snow_map.proofs.Lists.{same_id, id_turned}
 use Rattle.snow_lineup.specs.Kept.Index.{woken, forgotten}
 use Rattle.snow_issue.specs.Kept.Keeping.{StaysQuiet}
 use Rattle.snow_lineup.proofs.Tagged.{All_remove, map_remove}
-use Rattle.snow_issue.proofs.Asking.{asked_with, first_at}
+use Rattle.snow_gets.proofs.Asking.{asked_with, first_at}
 
 -- ---- lists
 

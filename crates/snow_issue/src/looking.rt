@@ -8,13 +8,13 @@ ghost use Rattle.snow_issue.specs.Kept.Known.{items_of, sight, Tells, NoneNew, N
 ghost use Rattle.snow_lineup.specs.Kept.Marks.{has};
 ghost use Rattle.snow_issue.specs.Kept.Keeping.{StaysQuiet};
 
-use crate::gets::Gets;
 use crate::offering::is_on;
 use crate::replies::Replies;
 use crate::waiting::WaitingList;
 use crate::work::Held;
 use snow_base::{Header, Id};
 use snow_board::Board;
+use snow_gets::Gets;
 use snow_lineup::Mark;
 
 // What a look at a waiting block tells; nothing where it is hopeless.

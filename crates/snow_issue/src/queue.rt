@@ -1,24 +1,25 @@
 ghost use Rattle.std.specs.Prelude.{◌≡◌, ◌<◌, List, find, length, Some, None, IfOk, OnOk, OnErr, true, false};
 ghost use Rattle.std.specs.Option.{option_map};
 ghost use Rattle.snow_board.specs.Model.Board as model;
-ghost use Rattle.snow_issue.specs.declared.work.Get.{Get};
+ghost use Rattle.snow_gets.specs.declared.gets.Get.{Get};
 ghost use Rattle.snow_issue.specs.declared.work.Waiting.{Waiting};
 ghost use Rattle.snow_issue.specs.declared.gone.Gone.{Gone};
-ghost use Rattle.snow_issue.specs.Model.Lists.{begun, has_number, is_asked, is_get, holds_in, after_asked, after_closed, after_held, after_forgotten, after_gone, AreWithinLimits};
+ghost use Rattle.snow_gets.specs.Model.Gets.{has_number, is_get};
+ghost use Rattle.snow_issue.specs.Model.Lists.{begun, is_asked, holds_in, after_asked, after_closed, after_held, after_forgotten, after_gone, AreWithinLimits};
 ghost use Rattle.snow_issue.specs.Model.Offering.{is_on, offered, after_offer, refusal, is_next, wanted};
 ghost use Rattle.snow_issue.specs.Model.Settling.{work_of, after, is_free, IsIdle};
 ghost use Rattle.snow_issue.specs.declared.work.Work.TheVariants as work;
 ghost use Rattle.snow_issue.specs.Kept.Known.{lists_of, Knows, ForgetsChildren, NoneRipe, MarksAfter, TakesStep};
 
-use crate::gets::Gets;
 use crate::gone::{Gone, GoneList};
 use crate::replies::Replies;
 use crate::spare::SpareBytes;
 use crate::waiting::WaitingList;
-use crate::work::{Get, Held, Offered, Waiting, Work};
+use crate::work::{Held, Offered, Waiting, Work};
 use crate::{looking, offering};
 use snow_base::{Bytes, Header, Id, NodeId};
 use snow_board::Board;
+use snow_gets::{Get, Gets};
 use std::alloc::{AllocError, Global};
 use std::marker::Model;
 

@@ -1,7 +1,7 @@
 -- What a queue keeps: its limits, and that no held reply it calls quiet is free.
 use Rattle.std.specs.Prelude.{◌≡◌, ◌≤◌, false, List, [], All, length}
 use Rattle.snow_issue.specs.declared.work.Waiting.{Waiting}
-use Rattle.snow_issue.specs.declared.work.Get.{Get}
+use Rattle.snow_gets.specs.declared.gets.Get.{Get}
 use Rattle.snow_issue.specs.declared.work.Held.{Held}
 use Rattle.snow_issue.specs.declared.gone.Gone.{Gone}
 use Rattle.snow_lineup.specs.declared.marks.Mark.{Mark}

@@ -3,7 +3,7 @@ use Rattle.std.specs.Prelude.{◌≡◌, ℕ, true, false, ◌||◌, List, map, 
 use Rattle.snow_base.specs.declared.header.Header.{Header}
 use Rattle.snow_board.specs.Model.Board.{Board}
 use Rattle.snow_issue.specs.declared.work.Waiting.{Waiting}
-use Rattle.snow_issue.specs.declared.work.Get.{Get}
+use Rattle.snow_gets.specs.declared.gets.Get.{Get}
 use Rattle.snow_issue.specs.declared.work.Held.{Held}
 use Rattle.snow_issue.specs.declared.work.Work.{Work}
 use Rattle.snow_issue.specs.declared.work.Work.TheVariants as work
@@ -11,7 +11,8 @@ use Rattle.snow_issue.specs.declared.gone.Gone.{Gone}
 use Rattle.snow_lineup.specs.declared.marks.Mark.{Mark}
 use Rattle.snow_lineup.specs.declared.marks.Mark.TheVariants.{New, Quiet, Ripe}
 use Rattle.snow_lineup.specs.Kept.Marks.{has}
-use Rattle.snow_issue.specs.Model.Lists.{Lists, waits_below, asked_in, AreWithinLimits}
+use Rattle.snow_gets.specs.Model.Gets.{asked_in}
+use Rattle.snow_issue.specs.Model.Lists.{Lists, waits_below, AreWithinLimits}
 use Rattle.snow_issue.specs.Model.Offering.{is_on}
 use Rattle.snow_issue.specs.Model.Settling.{work_of, after}
 

@@ -2,9 +2,10 @@
 use Rattle.std.proofs.Common.{◌≡◌, true, ◌||◌, sym, ap, ◌∙◌}
 use Rattle.std.proofs.lemmas.Bool.{or_left}
 use Rattle.snow_lineup.specs.declared.marks.Mark.TheVariants.{Quiet}
-use Rattle.snow_issue.specs.Model.Lists.{asked_in, waits_below}
+use Rattle.snow_gets.specs.Model.Gets.{asked_in}
+use Rattle.snow_issue.specs.Model.Lists.{waits_below}
 use Rattle.snow_issue.specs.Kept.Known.{items_of, sight}
-use Rattle.snow_lineup.proofs.Booleans.{or_true}
+use Rattle.snow_map.proofs.Booleans.{or_true}
 use Rattle.snow_issue.proofs.Looked.{items_after_set, tells_after}
 use Rattle.snow_issue.proofs.Quieted.{sees_quiet}
 use Rattle.snow_issue.proofs.looking.mark_quiet_at.Goals as goal

@@ -4,7 +4,7 @@ use Rattle.std.specs.List.{remove}
 use Rattle.snow_issue.specs.declared.work.Held.{Held}
 use Rattle.snow_lineup.specs.declared.marks.Mark.{Mark}
 use Rattle.snow_lineup.proofs.Tagged.{All_remove}
-use Rattle.snow_issue.specs.Model.Lists.{without}
+use Rattle.snow_gets.specs.Model.Gets.{without}
 use Rattle.snow_issue.specs.Model.Settling.{is_free}
 use Rattle.snow_issue.specs.Kept.Known.{Seen, items_of, lists_of}
 use Rattle.snow_issue.specs.Kept.Keeping.{StaysQuiet}

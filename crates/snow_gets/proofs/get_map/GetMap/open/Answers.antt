@@ -2,12 +2,12 @@
 use Rattle.std.proofs.Common.{◌≡◌, List, map, false, sym, ap, ◌∙◌, subst}
 use Rattle.std.specs.HashSet.{contains}
 use Rattle.std.specs.Str.{bytes_eq}
-use Rattle.snow_issue.specs.declared.get_map.Asked.{Asked}
-use Rattle.snow_issue.specs.declared.work.Get.{Get}
-use Rattle.snow_issue.specs.Model.Lists.{asked_in, has_number, with_get}
-use Rattle.snow_issue.specs.Kept.Index.{HasAsked, get_of}
-use Rattle.snow_issue.proofs.Asking.{entered, asked_opened, asked_undone}
-use Rattle.snow_issue.proofs.get_map.GetMap.open.Goals as goal
+use Rattle.snow_gets.specs.declared.get_map.Asked.{Asked}
+use Rattle.snow_gets.specs.declared.gets.Get.{Get}
+use Rattle.snow_gets.specs.Model.Gets.{asked_in, has_number, with_get}
+use Rattle.snow_gets.specs.Kept.Index.{HasAsked, get_of}
+use Rattle.snow_gets.proofs.Asking.{entered, asked_opened, asked_undone}
+use Rattle.snow_gets.proofs.get_map.GetMap.open.Goals as goal
 
 pub invariant_of-self-in-Err : goal.invariant_of-self-in-Err
 invariant_of-self-in-Err c =

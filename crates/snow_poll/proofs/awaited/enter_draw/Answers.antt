@@ -4,7 +4,7 @@ use Rattle.std.proofs.lemmas.List.{get_or_read, map-append}
 use Rattle.snow_poll.specs.Kept.Awaited.{draw_of, class_of}
 use Rattle.snow_poll.specs.declared.awaited.Wait.{Wait}
 use Rattle.snow_poll.proofs.Waiting.{within_classes, waits_more}
-use Rattle.snow_poll.proofs.awaited.await_node.Goals as goal
+use Rattle.snow_poll.proofs.awaited.enter_draw.Goals as goal
 
 pub returns-clause-chained : goal.returns-clause-chained
 returns-clause-chained c =

@@ -1,8 +1,8 @@
 ghost use Rattle.std.specs.Prelude.{◌≡◌, ◌<◌, false, [], length, find, OnOk, OnErr};
 ghost use Rattle.std.specs.Option.{option_map};
-ghost use Rattle.snow_issue.specs.Model.Lists.{asked_in, has_number, is_get, with_get, without};
+ghost use Rattle.snow_gets.specs.Model.Gets.{asked_in, has_number, is_get, with_get, without};
 
-use crate::work::Get;
+use crate::gets::Get;
 use snow_base::{Id, NodeId};
 use snow_map::IdHashing;
 use std::alloc::{AllocError, Global};
@@ -26,8 +26,8 @@ pub(crate) struct GetMap {
 impl Model for GetMap {
     ghost use Rattle.std.specs.Prelude.{List, map, bytes_eq};
     ghost use Rattle.std.specs.HashSet.{contains};
-    ghost use Rattle.snow_issue.specs.declared.work.Get.{Get};
-    ghost use Rattle.snow_issue.specs.Kept.Index.{get_of, HasAsked};
+    ghost use Rattle.snow_gets.specs.declared.gets.Get.{Get};
+    ghost use Rattle.snow_gets.specs.Kept.Index.{get_of, HasAsked};
 
     ghost Value = { List Get };
 

@@ -8,13 +8,13 @@ use Rattle.std.specs.Option.{is_some, option_map}
 use Rattle.std.specs.Ordering.{nat_cmp, is_eq, match_ordering}
 use Rattle.std.specs.Str.{bytes_eq}
 use Rattle.std.proofs.lemmas.Bool.{or_parts, both_ways, eqb-true, lt-ltb, le-ltb, ne_eqb, eq-eqb, cases_order}
-use Rattle.snow_issue.specs.declared.get_map.Asked.{Asked}
-use Rattle.snow_issue.specs.declared.work.Get.{Get}
-use Rattle.snow_issue.specs.Model.Lists.{asked_in, has_number, is_get, with_get, without}
-use Rattle.snow_issue.specs.Kept.Index.{AreNamedApart, HasAsked, get_of}
-use Rattle.snow_lineup.proofs.Noted.{same_id, id_turned}
-use Rattle.snow_issue.proofs.Named.{named, named_removed, apart_removed, named_is_some}
-use Rattle.snow_lineup.proofs.Booleans.{or_false, or_turned, or_assoc, cond_or}
+use Rattle.snow_gets.specs.declared.get_map.Asked.{Asked}
+use Rattle.snow_gets.specs.declared.gets.Get.{Get}
+use Rattle.snow_gets.specs.Model.Gets.{asked_in, has_number, is_get, with_get, without}
+use Rattle.snow_gets.specs.Kept.Index.{AreNamedApart, HasAsked, get_of}
+use Rattle.snow_map.proofs.Lists.{same_id, id_turned}
+use Rattle.snow_gets.proofs.Named.{named, named_removed, apart_removed, named_is_some}
+use Rattle.snow_map.proofs.Booleans.{or_false, or_turned, or_assoc, cond_or}
 
 abbrev Entries : Type 0
 Entries = List (ℕ × Asked)

@@ -5,9 +5,9 @@ use Rattle.std.specs.Option.{is_some, option_map_or}
 use Rattle.std.specs.Str.{bytes_eq}
 use Rattle.std.proofs.lemmas.Bool.{or_parts, both_ways, false_from_ne_true}
 use Rattle.std.proofs.lemmas.List.Folds.{list_any-append}
-use Rattle.snow_issue.specs.Kept.Index.{AreNamedApart}
-use Rattle.snow_lineup.proofs.Noted.{same_id, id_turned}
-use Rattle.snow_lineup.proofs.Booleans.{or_false, or_true}
+use Rattle.snow_gets.specs.Kept.Index.{AreNamedApart}
+use Rattle.snow_map.proofs.Lists.{same_id, id_turned}
+use Rattle.snow_map.proofs.Booleans.{or_false, or_true}
 
 -- whether an item has the name
 abbrev pub is_named : {T : Type 0} → (T → List ℕ) → List T → List ℕ → Bool

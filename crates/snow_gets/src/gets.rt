@@ -1,13 +1,21 @@
 ghost use Rattle.std.specs.Prelude.{◌≡◌, ◌++◌, false, [], None, length, find, OnOk, OnErr};
 ghost use Rattle.std.specs.Option.{option_map, option_to_list};
-ghost use Rattle.snow_issue.specs.Kept.Index.{StandsAlone};
-ghost use Rattle.snow_issue.specs.Model.Lists.{asked_in, has_number, is_get, with_get, without};
+ghost use Rattle.snow_gets.specs.Kept.Index.{StandsAlone};
+ghost use Rattle.snow_gets.specs.Model.Gets.{asked_in, has_number, is_get, with_get, without};
 
 use crate::get_map::GetMap;
-use crate::work::Get;
 use snow_base::{Id, NodeId};
 use std::alloc::{AllocError, Global};
 use std::marker::Model;
+
+/// A block for which a node was asked under a number from 1 to 2^32-1, and that hasn't come yet.
+/// Rule: AvalancheGo, snow/engine/snowman.
+#[derive(Clone, Copy, Debug, PartialEq, Eq)]
+pub struct Get {
+    pub number: u32,
+    pub node: NodeId,
+    pub id: Id,
+}
 
 /// The open gets in order of their numbers.
 ///
@@ -23,8 +31,8 @@ pub struct Gets {
 impl Model for Gets {
     ghost use Rattle.std.specs.Prelude.{List, ◌++◌};
     ghost use Rattle.std.specs.Option.{option_to_list};
-    ghost use Rattle.snow_issue.specs.declared.work.Get.{Get};
-    ghost use Rattle.snow_issue.specs.Kept.Index.{StandsAlone};
+    ghost use Rattle.snow_gets.specs.declared.gets.Get.{Get};
+    ghost use Rattle.snow_gets.specs.Kept.Index.{StandsAlone};
 
     ghost Value = { List Get };
 

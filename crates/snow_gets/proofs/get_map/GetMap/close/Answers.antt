@@ -4,11 +4,11 @@ use Rattle.std.specs.HashSet.{contains}
 use Rattle.std.specs.Option.{option_map}
 use Rattle.std.specs.Str.{bytes_eq}
 use Rattle.std.proofs.lemmas.Bool.{not-true, not-false}
-use Rattle.snow_issue.specs.declared.work.Get.{Get}
-use Rattle.snow_issue.specs.Model.Lists.{is_get, without}
-use Rattle.snow_issue.specs.Kept.Index.{HasAsked, get_of}
-use Rattle.snow_issue.proofs.Asking.{id_of_get, closed_missing, found_number, left_number, none_without, asked_closed}
-use Rattle.snow_issue.proofs.get_map.GetMap.close.Goals as goal
+use Rattle.snow_gets.specs.declared.gets.Get.{Get}
+use Rattle.snow_gets.specs.Model.Gets.{is_get, without}
+use Rattle.snow_gets.specs.Kept.Index.{HasAsked, get_of}
+use Rattle.snow_gets.proofs.Asking.{id_of_get, closed_missing, found_number, left_number, none_without, asked_closed}
+use Rattle.snow_gets.proofs.get_map.GetMap.close.Goals as goal
 
 pub returns-in_default-clause-answer : goal.returns-in_default-clause-answer
 returns-in_default-clause-answer c =
