@@ -37,7 +37,7 @@ pub(crate) fn ask_frontier(
     let Some(number) = numbers.draw() else {
         return Err(BootStop::Requests);
     };
-    survey.ask_frontier(number)?;
+    survey.await_frontier(number)?;
     log.push(Line::Frontier { number })?;
     Ok(Stage::Going)
 }
@@ -75,7 +75,7 @@ impl<H: Kept> Parts<H> {
             return Err(BootStop::Requests);
         };
         let ids = self.survey.named()?;
-        self.survey.ask_accepted(number)?;
+        self.survey.await_accepted(number)?;
         log.push(Line::Accepted { number, ids })?;
         Ok(Stage::Going)
     }

@@ -6,7 +6,7 @@ use Rattle.snow_boot.specs.Model.Electing.{candidates_of}
 use Rattle.snow_boot.specs.Kept.Surveying.{Surveyed, surveyed, nodes_in, HasWeights}
 use Rattle.snow_boot.proofs.Surveyed.{survey_accepted}
 use Rattle.snow_boot.proofs.Weighed.{all_in}
-use Rattle.snow_boot.proofs.survey.Survey.ask_accepted.Goals as goal
+use Rattle.snow_boot.proofs.survey.Survey.await_accepted.Goals as goal
 
 pub invariant_of-self : goal.invariant_of-self
 invariant_of-self c =
