@@ -111,7 +111,7 @@ impl Decoder {
         }
     }
 
-    // Lets go of the bytes of the frames that were given, before so many more come: where they are
+    // Discards the bytes of the frames that were given, before so many more come: where they are
     // most of those that are held; and, where room is wanted, also where they are half of them.
     fn discard_given(&mut self, more: usize)
         ensures { self.new ≡ self.old }
