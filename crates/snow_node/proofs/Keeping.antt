@@ -20,7 +20,8 @@ use Rattle.snow_issue.specs.declared.work.Waiting.{Waiting}
 use Rattle.snow_issue.specs.declared.work.Offered.TheVariants as offer
 use Rattle.snow_issue.specs.declared.work.Work.{Work}
 use Rattle.snow_gets.specs.Model.Gets.{with_get}
-use Rattle.snow_issue.specs.Model.Lists.{Lists, begun as first_lists, after_gone, with_waiting, waits, waits_among, has_number as has_get}
+use Rattle.snow_gets.specs.Model.Gets.{has_number as has_get}
+use Rattle.snow_issue.specs.Model.Lists.{Lists, begun as first_lists, after_gone, with_waiting, waits, waits_among}
 use Rattle.snow_issue.specs.Model.Offering.{is_on, is_next, offered}
 use Rattle.snow_issue.specs.Model.Settling.{work_of, after as left_by}
 use Rattle.snow_issue.proofs.Idle.{next_unknown}
