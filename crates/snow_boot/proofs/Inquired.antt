@@ -3,7 +3,7 @@ use Rattle.std.proofs.Common.{◌≡◌, ℕ, true, List, [], ◌∷◌, ◌++�
 use Rattle.std.specs.Prelude.{Ok}
 use Rattle.snow_base.specs.Model.Numbers.{next_number, last_after}
 use Rattle.snow_chain.specs.Model.Chain.{Held}
-use Rattle.snow_issue.specs.declared.work.Get.{Get}
+use Rattle.snow_gets.specs.declared.gets.Get.{Get}
 use Rattle.snow_lines.specs.declared.line.Line.{Line}
 use Rattle.snow_lines.specs.declared.line.Line.TheVariants as line
 use Rattle.snow_boot.specs.declared.question.Question.TheVariants as question

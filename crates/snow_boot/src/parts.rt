@@ -1,7 +1,7 @@
 use crate::fetching::Fetching;
 use crate::survey::Survey;
+use snow_gets::Gets;
 use snow_interval::Kept;
-use snow_issue::Gets;
 
 /// What a node that bootstraps knows: what it asks of all nodes, what it fetches, and its open
 /// requests.

@@ -68,7 +68,7 @@ impl<C: Chain, B: Board> Engine<C, B> {
         };
         let stage = match task {
             Task::Decide => Stage::Deciding(Deciding::start(alloc, first, params)?),
-            Task::Run => begin(alloc, first, params, log)?,
+            Task::Run => begin_node(alloc, first, params, log)?,
         };
         Ok(Engine { stage, alloc })
     }
@@ -130,7 +130,7 @@ impl<C: Chain, B: Board> Engine<C, B> {
 
 /// Returns the node that begins to run, or to bootstrap, with a Start of these parameters. It
 /// checks the nodes first, and then whether the chain takes the state.
-fn begin<C: Chain, B: Board>(
+fn begin_node<C: Chain, B: Board>(
     alloc: Global,
     first: &Start,
     params: Params,

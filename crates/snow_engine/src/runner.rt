@@ -51,13 +51,13 @@ impl<C: Chain, B: Board> Runner<C, B> {
     {
         self.log.clear();
         match &mut self.engine {
-            None => self.begin(frame, payload),
+            None => self.work_first(frame, payload),
             Some(engine) => follow(engine, frame, payload, &mut self.log),
         }
     }
 
     /// Works the first frame.
-    fn begin(&mut self, frame: u64, payload: &[u8]) -> Result<Option<SkipKind>, End>
+    fn work_first(&mut self, frame: u64, payload: &[u8]) -> Result<Option<SkipKind>, End>
         requires engine { self.old.engine ≡ None }
         requires log { self.old.log ≡ [] }
         ensures stand { Stands result self.new.engine (model.opened C.rules self.old.task frame (model.read payload.now)).1 }

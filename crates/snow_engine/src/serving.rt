@@ -82,7 +82,7 @@ impl<C: Chain, B: Board> Session<C, B> {
             if taken == 0 {
                 return self.end_of_input();
             }
-            if let Err(end) = self.work(out) {
+            if let Err(end) = self.work_all(out) {
                 return end;
             }
             room -= taken as u64;

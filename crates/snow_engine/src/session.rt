@@ -119,7 +119,7 @@ impl<C: Chain, B: Board> Session<C, B> {
     /// written before, nor behind. Where the run ends it returns `Over`, and the runner's `end`
     /// tells how. At most 2^40 bytes came.
     /// Rule: this project's own.
-    pub fn work<O: Sink>(&mut self, out: &mut O) -> Result<(), End>
+    pub fn work_all<O: Sink>(&mut self, out: &mut O) -> Result<(), End>
         requires small { 4 * self.old.decoder.given + length self.old.decoder.rest ≤ 2 ^ 40 }
         requires empty { self.old.page ≡ [] }
         ensures goes { Goes result self.new.runner.engine self.new.decoder

@@ -31,11 +31,11 @@ pub(crate) fn bubble<B: Board>(gone: &GoneList, board: &B, id: &Id) -> Option<Id
     if board.is_pending(id) {
         return Some(*id);
     }
-    climb(gone, board, id)
+    replace_gone(gone, board, id)
 }
 
 // The vote of a block that isn't pending, step by step. The gone list can hold a circle, so the bound on the steps binds.
-fn climb<B: Board>(gone: &GoneList, board: &B, id: &Id) -> Option<Id>
+fn replace_gone<B: Board>(gone: &GoneList, board: &B, id: &Id) -> Option<Id>
     ensures { result ≡ bubbled_in 8192 gone.now (B.board board.now) id.now }
 {
     let mut at = *id;

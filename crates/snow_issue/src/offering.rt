@@ -4,12 +4,12 @@ ghost use Rattle.snow_issue.specs.Model.Offering.{is_on, is_unknown, wanted, is_
 ghost use Rattle.snow_issue.specs.Model.Lists.{waits};
 ghost use Rattle.snow_issue.specs.Kept.Keeping.{parts};
 
-use crate::gets::Gets;
 use crate::gone::{Gone, GoneList};
 use crate::waiting::WaitingList;
 use crate::work::Offered;
 use snow_base::{Header, Id};
 use snow_board::Board;
+use snow_gets::Gets;
 
 /// Returns whether a block is on the board: pending, or the last accepted one. The preference is
 /// told without looking it up.

@@ -21,12 +21,12 @@ mod closing;
 mod fetching;
 mod hearing;
 mod querying;
-mod remembering;
+mod queue_state;
 mod settling;
 mod supplying;
 
 use crate::reporting::write;
-use crate::running::remembering::Remembered;
+use crate::running::queue_state::QueueState;
 use crate::stop::Halt;
 use snow_base::{Id, NodeId, Nodes, Numbers, Nums};
 use snow_board::Board;
@@ -65,7 +65,7 @@ pub struct Running<C: Chain, B: Board> {
     /// Whether a poll was recorded since the event began.
     recorded: bool,
     /// How far the queue's marks can be trusted.
-    remembered: Remembered,
+    queue_state: QueueState,
     alloc: Global,
 }
 
@@ -74,7 +74,7 @@ impl<C: Chain, B: Board> Model for Running<C, B> {
     ghost use Rattle.snow_node.specs.Model.Running.{Running};
     ghost use Rattle.snow_node.specs.Kept.RunningCode.{coded_running};
     ghost use Rattle.snow_node.specs.Kept.Tied.{IsKept};
-    ghost use Rattle.snow_node.specs.Kept.Remembering.{Remembers};
+    ghost use Rattle.snow_node.specs.Kept.QueueState.{IsInState};
     ghost use Rattle.snow_node.specs.Model.Supplying.{Serves};
 
     ghost Value = { Running };
@@ -95,7 +95,7 @@ impl<C: Chain, B: Board> Model for Running<C, B> {
 
     ghost invariant = { λ r.
         IsKept r.params (B.board r.board) (C.held r.chain) (r.polls) (lists_of r.queue) r.numbers
-        × Remembers (B.board r.board) r.queue r.remembered
+        × IsInState (B.board r.board) r.queue r.queue_state
         × Serves (B.board r.board) r.served };
 }
 
@@ -133,7 +133,7 @@ impl<C: Chain, B: Board> Running<C, B> {
                 room: SpareBytes::none(alloc),
                 numbers,
                 recorded: false,
-                remembered: Remembered::Nothing,
+                queue_state: QueueState::Stale,
                 alloc,
             }),
             Err(error) => {

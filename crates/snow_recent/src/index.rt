@@ -137,7 +137,7 @@ pub(crate) fn likely_row(rows: &[Row], key: u32) -> usize
     requires { 0 < length rows.now }
     ensures { result < length rows.now }
 {
-    let at = rows.partition_point(|row| row.ends_below(key));
+    let at = rows.partition_point(|row| row.ends_below_key(key));
     at.min(rows.len() - 1)
 }
 

@@ -144,7 +144,7 @@ impl<T: Named, const MOST: usize> Recent<T, MOST> {
         ensures rest { self.new ≡ drop 1 self.old }
         ensures all { option_to_list result ++ self.new ≡ self.old }
     {
-        seats::forget_oldest(&mut self.table, &self.heads, &self.entries, self.first);
+        seats::take_oldest_number(&mut self.table, &self.heads, &self.entries, self.first);
         let oldest = self.entries.pop_front();
         self.first = self.first.wrapping_add(1);
         oldest

@@ -48,7 +48,7 @@ pub(crate) fn take_seat<T: Named>(
 
 /// Takes the number of the oldest entry out of the table. It isn't there where the entry still has
 /// its seat.
-pub(crate) fn forget_oldest<T: Named>(
+pub(crate) fn take_oldest_number<T: Named>(
     table: &mut Table,
     heads: &Heads,
     entries: &VecDeque<T>,

@@ -73,7 +73,7 @@ impl Decoder {
         ensures ok { OnOk result (self.new ≡ fed self.old piece.now) }
         ensures err { OnErr result (self.new ≡ self.old) }
     {
-        self.let_go(piece.len());
+        self.discard_given(piece.len());
         self.bytes.make_room(piece.len())?;
         self.bytes.append(piece);
         Ok(())
@@ -101,7 +101,7 @@ impl Decoder {
         } else {
             PIECE
         };
-        self.let_go(most);
+        self.discard_given(most);
         if self.bytes.make_room(most).is_err() {
             return Err(ReadFault::Memory);
         }
@@ -111,14 +111,14 @@ impl Decoder {
         }
     }
 
-    // Lets go of the bytes of the frames that were given, before so many more come: where they are
+    // Discards the bytes of the frames that were given, before so many more come: where they are
     // most of those that are held; and, where room is wanted, also where they are half of them.
-    fn let_go(&mut self, more: usize)
+    fn discard_given(&mut self, more: usize)
         ensures { self.new ≡ self.old }
     {
         let rest = self.bytes.len() - self.start;
         if rest <= self.start / TIMES || (self.bytes.room() < more && rest <= self.start) {
-            self.bytes.let_go(self.start);
+            self.bytes.discard_front(self.start);
             self.start = 0;
         }
     }

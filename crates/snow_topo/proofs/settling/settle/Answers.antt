@@ -15,7 +15,7 @@ use Rattle.snow_topo.proofs.settling.settle.Goals.{After-accept_next}
 
 -- where nothing is decided nothing is to come
 asked : (p : Parameters) (polls : ℕ) (root : Kept) (held : Held Kept) (first : Board) (start told : List Decision) (more : Bool) → AreGood p
-    → (more ≡ false → HasDecided (counters_in root.contest) None) → IsSettling first start true (view p polls root held) told → IsSettling first start more (view p polls root held) told
+    → (more ≡ false → HasDecided (counters_in root.conflict) None) → IsSettling first start true (view p polls root held) told → IsSettling first start more (view p polls root held) told
 asked p polls root held first start told false good decided before =
     let board = view p polls root held in
     settling_more first board board start told told false before (accepted_none p polls root held told (none_wins p polls root held good (decided refl)))
