@@ -84,7 +84,7 @@ impl Chain for CountingChain {
 }
 
 // What the bytes of a block say of it.
-#[tactic(auto, unfolding(crate::specs::Counting::header_of))]
+#[tactic(auto, unfolding(crate::specs::Model::Counting::header_of))]
 fn header_of(bytes: &[u8]) -> Option<Header>
     ensures { result ≡ header_of bytes.now }
 {
@@ -100,7 +100,7 @@ fn header_of(bytes: &[u8]) -> Option<Header>
 
 // The number of a block with these bytes on a parent, where the parent's state is held and the block is
 // valid.
-#[tactic(auto, unfolding(crate::specs::Counting::header_of))]
+#[tactic(auto, unfolding(crate::specs::Model::Counting::header_of))]
 fn counted(states: &States, parent: &Id, bytes: &[u8]) -> Option<u64>
     ensures { option_map (λ number. number ∷ []) result ≡ next_on counting_rules states.now parent.now bytes.now }
 {

@@ -78,7 +78,7 @@ impl Chain for PlainChain {
 }
 
 // What the bytes of a block say of it.
-#[tactic(auto, unfolding(crate::specs::Plain::header_of))]
+#[tactic(auto, unfolding(crate::specs::Model::Plain::header_of))]
 fn header_of(bytes: &[u8]) -> Option<Header>
     ensures { result ≡ header_of bytes.now }
 {
@@ -96,7 +96,7 @@ fn header_of(bytes: &[u8]) -> Option<Header>
 }
 
 // Whether a block is valid.
-#[tactic(auto, unfolding(crate::specs::Plain::header_of))]
+#[tactic(auto, unfolding(crate::specs::Model::Plain::header_of))]
 fn is_valid(bytes: &[u8]) -> bool
     ensures { result ≡ is_valid bytes.now }
 {

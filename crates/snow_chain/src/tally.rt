@@ -84,7 +84,7 @@ impl Chain for TallyChain {
 }
 
 // What the bytes of a block say of it.
-#[tactic(auto, unfolding(crate::specs::Tally::header_of))]
+#[tactic(auto, unfolding(crate::specs::Model::Tally::header_of))]
 fn header_of(bytes: &[u8]) -> Option<Header>
     ensures { result ≡ header_of bytes.now }
 {
@@ -99,7 +99,7 @@ fn header_of(bytes: &[u8]) -> Option<Header>
 }
 
 // The state of a block with these bytes on a parent, where the parent's is held and the block is valid.
-#[tactic(auto, unfolding(crate::specs::Tally::header_of))]
+#[tactic(auto, unfolding(crate::specs::Model::Tally::header_of))]
 fn next_on(states: &States, parent: &Id, bytes: &[u8]) -> Option<[u64; 2]>
     ensures { result ≡ next_on tally_rules states.now parent.now bytes.now }
 {

@@ -110,7 +110,7 @@ impl<'a> Asked<'a> {
     }
 
     /// Returns the words in order, where there is a task that takes its options and all are words.
-    #[tactic(auto, unfolding(crate::specs::Parsing::ordered))]
+    #[tactic(auto, unfolding(crate::specs::Kept::Parsing::ordered))]
     fn in_order(&self, alloc: Global) -> Result<Option<Vec<String>>, AllocError>
         ensures { IfOk result (λ list. option_map (λ l. texts l.items) list ≡ ordered self.now) }
     {
@@ -215,7 +215,7 @@ fn split_first<'a>(words: &'a [String]) -> Option<(&'a str, &'a [String])>
 }
 
 /// Takes plain words to their end.
-#[tactic(auto, unfolding(crate::specs::Request::with_items), using(crate::proofs::Walks::all_came))]
+#[tactic(auto, unfolding(crate::specs::Kept::Request::with_items), using(crate::proofs::Walks::all_came))]
 fn take_plain<'a>(asked: &mut Asked<'a>, words: &'a [String]) -> Option<&'a [String]>
     ensures items { Advances asked.old (map Plain (texts words.now)) asked.new result }
     ensures shorter { IfSome result (λ rest. length rest.now ≤ length words.now) }
@@ -232,7 +232,7 @@ fn take_plain<'a>(asked: &mut Asked<'a>, words: &'a [String]) -> Option<&'a [Str
 
 /// Takes an option whose value is the first of the words behind its name, and returns the words
 /// behind.
-#[tactic(auto, unfolding(crate::specs::Request::with_items))]
+#[tactic(auto, unfolding(crate::specs::Kept::Request::with_items))]
 fn take_value<'a>(asked: &mut Asked<'a>, name: &str, words: &'a [String]) -> Option<&'a [String]>
     ensures items { Advances asked.old (named_items name.now (texts words.now) (items (drop 1 (texts words.now)))) asked.new result }
     ensures shorter { IfSome result (λ rest. length rest.now ≤ length words.now) }
@@ -250,7 +250,7 @@ fn take_value<'a>(asked: &mut Asked<'a>, name: &str, words: &'a [String]) -> Opt
 }
 
 /// Takes a word, with those behind it that belong to it, and returns the words behind.
-#[tactic(auto, unfolding(crate::specs::Request::with_items))]
+#[tactic(auto, unfolding(crate::specs::Kept::Request::with_items))]
 fn take<'a>(asked: &mut Asked<'a>, word: &'a str, words: &'a [String]) -> Option<&'a [String]>
     ensures items { Advances asked.old (first_items (form_of word.now) word.now (texts words.now)
         (items (texts words.now)) (items (drop 1 (texts words.now)))) asked.new result }
@@ -266,7 +266,7 @@ fn take<'a>(asked: &mut Asked<'a>, word: &'a str, words: &'a [String]) -> Option
 }
 
 /// Returns what words ask for, where each is an item that may stand.
-#[tactic(auto, unfolding(crate::specs::Request::with_items), using(crate::proofs::Walks::items_first, crate::proofs::Walks::all_came))]
+#[tactic(auto, unfolding(crate::specs::Kept::Request::with_items), using(crate::proofs::Walks::items_first, crate::proofs::Walks::all_came))]
 fn ask<'a>(words: &'a [String]) -> Option<Asked<'a>>
     ensures { result ≡ with_items blank (items (texts words.now)) }
 {

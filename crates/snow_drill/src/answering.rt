@@ -55,7 +55,7 @@ impl<E: Driven> Player<E> {
     /// Answers the oldest query that isn't answered. Where there is none it does nothing. On want
     /// of memory it returns `AllocError`.
     /// Rule: this project's own.
-    #[tactic(auto, unfolding(crate::specs::Drill::with_answer))]
+    #[tactic(auto, unfolding(crate::specs::Model::Drill::with_answer))]
     pub fn answer(&mut self) -> Result<(), AllocError>
         ensures { OnOk result (Follows self.old self.new (λ d. model.with_answer E.step d)) }
     {
@@ -68,7 +68,7 @@ impl<E: Driven> Player<E> {
     /// Answers so many queries, one after another, as `answer` does. On want of memory it returns
     /// `AllocError`.
     /// Rule: this project's own.
-    #[tactic(auto, unfolding(crate::specs::Drill::with_answers))]
+    #[tactic(auto, unfolding(crate::specs::Model::Drill::with_answers))]
     pub fn answers(&mut self, times: u64) -> Result<(), AllocError>
         ensures { OnOk result (Follows self.old self.new (λ d. model.with_answers times E.step d)) }
     {

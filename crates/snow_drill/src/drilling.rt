@@ -152,7 +152,7 @@ fn first(alloc: Global) -> Result<Start, AllocError>
 }
 
 // So many nodes of weight 1.
-#[tactic(auto, unfolding(crate::specs::First::nodes))]
+#[tactic(auto, unfolding(crate::specs::Model::First::nodes))]
 fn nodes(alloc: Global, count: u8) -> Result<Nodes, AllocError>
     requires { count < 255 }
     ensures { IfOk result (λ list. list ≡ nodes count) }
@@ -166,7 +166,7 @@ fn nodes(alloc: Global, count: u8) -> Result<Nodes, AllocError>
 
 impl<E: Driven> Player<E> {
     // The round of a block: words, the block, and three answers.
-    #[tactic(auto, unfolding(crate::specs::Drill::with_round))]
+    #[tactic(auto, unfolding(crate::specs::Model::Drill::with_round))]
     fn round(&mut self, number: u64) -> Result<(), AllocError>
         ensures { OnOk result (Follows self.old self.new (λ d. model.with_round E.step d number)) }
     {
@@ -176,7 +176,7 @@ impl<E: Driven> Player<E> {
     }
 
     // The rounds of so many blocks.
-    #[tactic(auto, unfolding(crate::specs::Drill::with_rounds))]
+    #[tactic(auto, unfolding(crate::specs::Model::Drill::with_rounds))]
     fn rounds(&mut self, blocks: u32) -> Result<(), AllocError>
         ensures { OnOk result (Follows self.old self.new (λ d. model.with_rounds blocks E.step d)) }
     {

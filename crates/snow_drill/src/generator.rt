@@ -55,7 +55,7 @@ impl Generator {
     /// Makes the next values, so many, and returns each in eight bytes, the highest first. On want
     /// of memory it returns `AllocError`.
     /// Rule: this project's own.
-    #[tactic(auto, unfolding(crate::specs::Generator::values, crate::specs::Generator::last_of))]
+    #[tactic(auto, unfolding(crate::specs::Model::Generator::values, crate::specs::Model::Generator::last_of))]
     pub fn values(&mut self, alloc: Global, n: u32) -> Result<Vec<[u8; 8]>, AllocError>
         ensures values { IfOk result (λ list. map (big_number 8) list.items ≡ values n self.old) }
         ensures state { OnOk result (self.new ≡ last_of n self.old) }

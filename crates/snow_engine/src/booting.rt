@@ -105,7 +105,7 @@ impl<C: Chain> Booting<C> {
     /// Takes one event, which came in this frame, and returns the node that comes of it: it still
     /// bootstraps, or it runs. It returns the stop that comes; on want of memory, `Memory`.
     /// Rule: AvalancheGo, snow/engine/snowman/bootstrap.
-    #[tactic(auto, unfolding(crate::specs::Catching::boots_on), using(snow_node::proofs::Logs::logs_nothing))]
+    #[tactic(auto, unfolding(crate::specs::Model::Catching::boots_on), using(snow_node::proofs::Logs::logs_nothing))]
     pub fn step<B: Board>(
         self,
         frame: u64,

@@ -73,7 +73,7 @@ impl<C: Chain, B: Board> Deciding<C, B> {
     /// on want of memory. The log has all lines before the stop, after `Memory` a front of the
     /// event's lines.
     /// Rule: AvalancheGo, snow/consensus/snowman.
-    #[tactic(auto, unfolding(crate::specs::Deciding::decides_on), using(snow_node::proofs::Logs::logs_nothing))]
+    #[tactic(auto, unfolding(crate::specs::Model::Deciding::decides_on), using(snow_node::proofs::Logs::logs_nothing))]
     pub fn step(&mut self, frame: u64, event: View<'_>, log: &mut Lines) -> Result<(), Halt>
         ensures answer { Turns result self.new (model.decides_on C.rules B.answer self.old frame (as_event event.entry)).1 }
         ensures lines { Tells result log.old log.new (model.decides_on C.rules B.answer self.old frame (as_event event.entry)).0 }

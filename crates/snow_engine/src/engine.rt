@@ -52,7 +52,7 @@ impl<C: Chain, B: Board> Engine<C, B> {
     /// that is to bootstrap asks for frontiers at once. `Decide` looks neither at the nodes nor at
     /// boot.
     /// Rule: this project's own.
-    #[tactic(auto, unfolding(crate::specs::Node::started))]
+    #[tactic(auto, unfolding(crate::specs::Model::Node::started))]
     pub fn start(
         alloc: Global,
         task: Task,

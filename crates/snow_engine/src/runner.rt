@@ -43,7 +43,7 @@ impl<C: Chain, B: Board> Runner<C, B> {
     /// frame is passed over, and no line of that stands in the log. It returns the end of the run
     /// where the frame brings it.
     /// Rule: this project's own.
-    #[tactic(auto, unfolding(crate::specs::Run::after_frame))]
+    #[tactic(auto, unfolding(crate::specs::Model::Run::after_frame))]
     pub fn work(&mut self, frame: u64, payload: &[u8]) -> Result<Option<SkipKind>, End>
         ensures stand { Stands result self.new.engine (after_frame C.rules B.answer self.old.task (stand_of self.old.engine) frame payload.now).1 }
         ensures lines { LogsFrame result [] (told frame result self.new.log) (after_frame C.rules B.answer self.old.task (stand_of self.old.engine) frame payload.now).0 }
@@ -75,7 +75,7 @@ impl<C: Chain, B: Board> Runner<C, B> {
 }
 
 /// Returns the engine that begins with the first frame, which has to be a Start.
-#[tactic(auto, unfolding(crate::specs::Run::opened), using(snow_node::proofs::Logs::logs_nothing))]
+#[tactic(auto, unfolding(crate::specs::Model::Run::opened), using(snow_node::proofs::Logs::logs_nothing))]
 fn open<C: Chain, B: Board>(
     alloc: Global,
     task: Task,

@@ -10,7 +10,7 @@ use snow_chain::{id_at, number_at};
 /// Returns the transfer at a place of a block, counted from 0. It returns `None` exactly where the
 /// bytes are no block, or the block has no transfer there. It takes no memory.
 /// Rule: this project's own.
-#[tactic(auto, unfolding(crate::specs::Blocks::header_of))]
+#[tactic(auto, unfolding(crate::specs::Model::Blocks::header_of))]
 pub fn transfer(bytes: &[u8], place: usize) -> Option<Transfer>
     ensures { result ≡ transfer_in bytes.now place }
 {
@@ -24,7 +24,7 @@ pub fn transfer(bytes: &[u8], place: usize) -> Option<Transfer>
 }
 
 // What the bytes of a block say of it.
-#[tactic(auto, unfolding(crate::specs::Blocks::header_of))]
+#[tactic(auto, unfolding(crate::specs::Model::Blocks::header_of))]
 pub(crate) fn header_of(bytes: &[u8]) -> Option<Header>
     ensures { result ≡ header_of bytes.now }
 {

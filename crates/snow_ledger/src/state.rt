@@ -9,7 +9,7 @@ use std::alloc::{AllocError, Global};
 
 // Whether a list is a state: two numbers for each of one or more accounts, whose balances add up to at
 // most 2^64-1.
-#[tactic(auto, unfolding(crate::specs::Ledger::is_state))]
+#[tactic(auto, unfolding(crate::specs::Model::Ledger::is_state))]
 pub(crate) fn is_state(state: &[u64]) -> bool
     ensures { result ≡ is_state state.now }
 {
@@ -74,7 +74,7 @@ fn move_one(state: &mut [u64], t: Transfer) -> bool
 }
 
 // Whether a transfer is good in a state.
-#[tactic(auto, unfolding(crate::specs::Ledger::is_good, crate::specs::Ledger::balance, crate::specs::Ledger::sequence))]
+#[tactic(auto, unfolding(crate::specs::Model::Ledger::is_good, crate::specs::Model::Ledger::balance, crate::specs::Model::Ledger::sequence))]
 fn is_good(state: &[u64], t: Transfer) -> bool
     ensures { result ≡ is_good state.now [] t }
 {

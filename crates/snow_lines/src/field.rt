@@ -25,7 +25,7 @@ pub trait Field: Sized {
 impl Field for u64 {
     ghost read = { number_of (2 ^ 64) };
 
-    #[tactic(auto, unfolding(crate::specs::Reading::number_of))]
+    #[tactic(auto, unfolding(crate::specs::Model::Reading::number_of))]
     fn of(word: &[u8]) -> Option<u64> {
         let number = value(word)?;
         let mut buffer = itoa::Buffer::new();
@@ -40,7 +40,7 @@ impl Field for u64 {
 impl Field for u32 {
     ghost read = { number_of (2 ^ 32) };
 
-    #[tactic(auto, unfolding(crate::specs::Reading::number_of))]
+    #[tactic(auto, unfolding(crate::specs::Model::Reading::number_of))]
     fn of(word: &[u8]) -> Option<u32> {
         u32::try_from(u64::of(word)?).ok()
     }
@@ -62,7 +62,7 @@ fn value(word: &[u8]) -> Option<u64>
 impl Field for Id {
     ghost read = { bytes_of 32 };
 
-    #[tactic(auto, unfolding(crate::specs::Reading::bytes_of))]
+    #[tactic(auto, unfolding(crate::specs::Model::Reading::bytes_of))]
     fn of(word: &[u8]) -> Option<Id> {
         let mut bytes = [0; 32];
         let decoded = hex::decode_to_slice(word, &mut bytes);
@@ -78,7 +78,7 @@ impl Field for Id {
 impl Field for NodeId {
     ghost read = { bytes_of 20 };
 
-    #[tactic(auto, unfolding(crate::specs::Reading::bytes_of))]
+    #[tactic(auto, unfolding(crate::specs::Model::Reading::bytes_of))]
     fn of(word: &[u8]) -> Option<NodeId> {
         let mut bytes = [0; 20];
         let decoded = hex::decode_to_slice(word, &mut bytes);
@@ -94,7 +94,7 @@ impl Field for NodeId {
 /// Returns the draw whose word this is, with a count of at least 1, or `None` where it is no
 /// draw's.
 /// Rule: this project's own.
-#[tactic(auto, unfolding(crate::specs::Reading::draw_of))]
+#[tactic(auto, unfolding(crate::specs::Model::Reading::draw_of))]
 pub fn draw(word: &[u8]) -> Option<Draw>
     ensures draw { result ≡ draw_of word.now }
     ensures count { IfSome result (λ d. 1 ≤ d.count) }
@@ -141,7 +141,7 @@ fn drawn(draw: Draw, word: &[u8]) -> Option<Draw>
 /// Returns the block whose word this is, or `None` where it is no block's. On want of memory it
 /// returns `AllocError`.
 /// Rule: this project's own.
-#[tactic(auto, unfolding(crate::specs::Reading::block_of))]
+#[tactic(auto, unfolding(crate::specs::Model::Reading::block_of))]
 pub fn block(alloc: Global, word: &[u8]) -> Result<Option<Bytes>, AllocError>
     ensures { IfOk result (λ r. r ≡ block_of word.now) }
 {

@@ -48,7 +48,7 @@ pub fn print_all<K: Sink>(lines: &[Line], sink: &mut K) -> Result<(), Failed>
 /// returns `Failed` only where the sink's count of faults rose or stands at 2^64-1; a front of what
 /// waited and of the line was written then.
 /// Rule: this project's own.
-#[tactic(auto, unfolding(crate::specs::Text::text))]
+#[tactic(auto, unfolding(crate::specs::Model::Text::text))]
 #[inline(always)]
 pub fn put_line<G: Gather, K: Sink>(out: &mut G, line: &Line, sink: &mut K) -> Result<(), Failed>
     ensures ok { OnOk result (Gathers (K.written sink.old) (G.waiting out.old) (K.written sink.new) (G.waiting out.new) (text line.now)) }
@@ -69,7 +69,7 @@ pub fn put_line<G: Gather, K: Sink>(out: &mut G, line: &Line, sink: &mut K) -> R
 }
 
 /// Appends the line of a query that isn't sent.
-#[tactic(auto, unfolding(crate::specs::Text::text))]
+#[tactic(auto, unfolding(crate::specs::Model::Text::text))]
 #[inline(always)]
 fn put_dropped_query<G: Gather, K: Sink>(
     out: &mut G,

@@ -25,7 +25,7 @@ pub fn read(alloc: Global, bytes: &[u8]) -> Result<Option<Line>, AllocError>
 }
 
 // The line that is read from the bytes.
-#[tactic(auto, unfolding(crate::specs::Reading::line_of))]
+#[tactic(auto, unfolding(crate::specs::Model::Reading::line_of))]
 fn read_line(alloc: Global, bytes: &[u8]) -> Result<Option<Line>, AllocError>
     ensures { IfOk result (λ r. r ≡ line_of bytes.now) }
 {
@@ -36,7 +36,7 @@ fn read_line(alloc: Global, bytes: &[u8]) -> Result<Option<Line>, AllocError>
 }
 
 // The bytes before the newline at the end.
-#[tactic(auto, unfolding(crate::specs::Reading::before_newline))]
+#[tactic(auto, unfolding(crate::specs::Model::Reading::before_newline))]
 fn front_of(bytes: &[u8]) -> Option<&[u8]>
     ensures { option_map (λ b. b.now) result ≡ before_newline bytes.now }
 {
@@ -44,7 +44,7 @@ fn front_of(bytes: &[u8]) -> Option<&[u8]>
 }
 
 // The line with these words.
-#[tactic(auto, unfolding(crate::specs::Reading::words_of))]
+#[tactic(auto, unfolding(crate::specs::Model::Reading::words_of))]
 fn line(alloc: Global, words: &mut Words) -> Result<Option<Line>, AllocError>
     ensures { IfOk result (λ r. r ≡ words_of words.old) }
 {
@@ -58,7 +58,7 @@ fn line(alloc: Global, words: &mut Words) -> Result<Option<Line>, AllocError>
 }
 
 // The line of a kind with these words behind its first.
-#[tactic(auto, unfolding(crate::specs::Reading::fields_of))]
+#[tactic(auto, unfolding(crate::specs::Model::Reading::fields_of))]
 fn fields(alloc: Global, kind: Kind, words: &mut Words) -> Result<Option<Line>, AllocError>
     ensures { IfOk result (λ r. r ≡ fields_of kind words.old) }
 {
@@ -72,7 +72,7 @@ fn fields(alloc: Global, kind: Kind, words: &mut Words) -> Result<Option<Line>, 
     }
 }
 
-#[tactic(auto, unfolding(crate::specs::Reading::whole_at))]
+#[tactic(auto, unfolding(crate::specs::Model::Reading::whole_at))]
 fn whole(kind: Kind, words: &mut Words) -> Option<Line>
     ensures { result ≡ whole_at kind words.old }
 {
@@ -80,7 +80,7 @@ fn whole(kind: Kind, words: &mut Words) -> Option<Line>
     if words.is_at_end() { Some(line) } else { None }
 }
 
-#[tactic(auto, unfolding(crate::specs::Reading::asks))]
+#[tactic(auto, unfolding(crate::specs::Model::Reading::asks))]
 fn query(alloc: Global, words: &mut Words) -> Result<Option<Line>, AllocError>
     ensures { IfOk result (λ r. r ≡ asks words.old) }
 {
@@ -99,7 +99,7 @@ fn query(alloc: Global, words: &mut Words) -> Result<Option<Line>, AllocError>
     Ok(Some(Line::Query { number, id, draws }))
 }
 
-#[tactic(auto, unfolding(crate::specs::Reading::asks_accepted))]
+#[tactic(auto, unfolding(crate::specs::Model::Reading::asks_accepted))]
 fn accepted(alloc: Global, words: &mut Words) -> Result<Option<Line>, AllocError>
     ensures { IfOk result (λ r. r ≡ asks_accepted words.old) }
 {
@@ -115,7 +115,7 @@ fn accepted(alloc: Global, words: &mut Words) -> Result<Option<Line>, AllocError
     Ok(Some(Line::Accepted { number, ids }))
 }
 
-#[tactic(auto, unfolding(crate::specs::Reading::tells_accepted))]
+#[tactic(auto, unfolding(crate::specs::Model::Reading::tells_accepted))]
 fn to_accepted(alloc: Global, words: &mut Words) -> Result<Option<Line>, AllocError>
     ensures { IfOk result (λ r. r ≡ tells_accepted words.old) }
 {
@@ -128,7 +128,7 @@ fn to_accepted(alloc: Global, words: &mut Words) -> Result<Option<Line>, AllocEr
     }
 }
 
-#[tactic(auto, unfolding(crate::specs::Reading::tells_ancestors))]
+#[tactic(auto, unfolding(crate::specs::Model::Reading::tells_ancestors))]
 fn to_ancestors(alloc: Global, words: &mut Words) -> Result<Option<Line>, AllocError>
     ensures { IfOk result (λ r. r ≡ tells_ancestors words.old) }
 {
@@ -148,7 +148,7 @@ fn to_ancestors(alloc: Global, words: &mut Words) -> Result<Option<Line>, AllocE
     }))
 }
 
-#[tactic(auto, unfolding(crate::specs::Reading::tells_block, crate::specs::Reading::field))]
+#[tactic(auto, unfolding(crate::specs::Model::Reading::tells_block, crate::specs::Model::Reading::field))]
 fn to_block(alloc: Global, words: &mut Words) -> Result<Option<Line>, AllocError>
     ensures { IfOk result (λ r. r ≡ tells_block words.old) }
 {
@@ -172,7 +172,7 @@ fn to_block(alloc: Global, words: &mut Words) -> Result<Option<Line>, AllocError
 }
 
 // A line without a list, up to its last word.
-#[tactic(auto, unfolding(crate::specs::Reading::plain_at, crate::specs::Reading::only_at))]
+#[tactic(auto, unfolding(crate::specs::Model::Reading::plain_at, crate::specs::Model::Reading::only_at))]
 fn plain(kind: Kind, words: &mut Words) -> Option<Line>
     ensures { Reads result words.new (plain_at kind words.old) }
 {
@@ -196,7 +196,7 @@ fn plain(kind: Kind, words: &mut Words) -> Option<Line>
     }
 }
 
-#[tactic(auto, unfolding(crate::specs::Reading::asked_at))]
+#[tactic(auto, unfolding(crate::specs::Model::Reading::asked_at))]
 fn get(words: &mut Words) -> Option<Line>
     ensures { Reads result words.new (asked_at line.Get words.old) }
 {
@@ -206,7 +206,7 @@ fn get(words: &mut Words) -> Option<Line>
     Some(Line::Get { number, node, id })
 }
 
-#[tactic(auto, unfolding(crate::specs::Reading::asked_at))]
+#[tactic(auto, unfolding(crate::specs::Model::Reading::asked_at))]
 fn ancestors(words: &mut Words) -> Option<Line>
     ensures { Reads result words.new (asked_at line.Ancestors words.old) }
 {
@@ -216,7 +216,7 @@ fn ancestors(words: &mut Words) -> Option<Line>
     Some(Line::Ancestors { number, node, id })
 }
 
-#[tactic(auto, unfolding(crate::specs::Reading::both_at))]
+#[tactic(auto, unfolding(crate::specs::Model::Reading::both_at))]
 fn drop_block(words: &mut Words) -> Option<Line>
     ensures { Reads result words.new (both_at (bytes_of 32) why_of line.Drop words.old) }
 {
@@ -225,7 +225,7 @@ fn drop_block(words: &mut Words) -> Option<Line>
     Some(Line::Drop { id, why })
 }
 
-#[tactic(auto, unfolding(crate::specs::Reading::both_at))]
+#[tactic(auto, unfolding(crate::specs::Model::Reading::both_at))]
 fn skip(words: &mut Words) -> Option<Line>
     ensures { Reads result words.new (both_at (number_of (2 ^ 64)) kind_of line.Skip words.old) }
 {
@@ -234,7 +234,7 @@ fn skip(words: &mut Words) -> Option<Line>
     Some(Line::Skip { frame, kind })
 }
 
-#[tactic(auto, unfolding(crate::specs::Reading::both_at))]
+#[tactic(auto, unfolding(crate::specs::Model::Reading::both_at))]
 fn bootstrapped(words: &mut Words) -> Option<Line>
     ensures { Reads result words.new (both_at (bytes_of 32) (number_of (2 ^ 64)) line.Bootstrapped words.old) }
 {
@@ -243,7 +243,7 @@ fn bootstrapped(words: &mut Words) -> Option<Line>
     Some(Line::Bootstrapped { id, height })
 }
 
-#[tactic(auto, unfolding(crate::specs::Reading::chits_at))]
+#[tactic(auto, unfolding(crate::specs::Model::Reading::chits_at))]
 fn to_chits(words: &mut Words) -> Option<Line>
     ensures { Reads result words.new (chits_at words.old) }
 {
@@ -258,7 +258,7 @@ fn to_chits(words: &mut Words) -> Option<Line>
     })
 }
 
-#[tactic(auto, unfolding(crate::specs::Reading::frontier_at))]
+#[tactic(auto, unfolding(crate::specs::Model::Reading::frontier_at))]
 fn to_frontier(words: &mut Words) -> Option<Line>
     ensures { Reads result words.new (frontier_at words.old) }
 {

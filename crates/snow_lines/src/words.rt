@@ -66,7 +66,7 @@ impl<'a> Words<'a> {
     /// Takes the next word and returns what it stands for. It returns `None` where no word is left
     /// or it stands for no such thing.
     /// Rule: this project's own.
-    #[tactic(auto, unfolding(crate::specs::Reading::field))]
+    #[tactic(auto, unfolding(crate::specs::Model::Reading::field))]
     pub fn take<T: Field>(&mut self) -> Option<T>
         ensures { Reads result self.new (field T.read self.old) }
     {
@@ -76,7 +76,7 @@ impl<'a> Words<'a> {
     /// Takes two words and returns the node and the number for which they stand, or `None` where
     /// they stand for none.
     /// Rule: this project's own.
-    #[tactic(auto, unfolding(crate::specs::Reading::told_at))]
+    #[tactic(auto, unfolding(crate::specs::Model::Reading::told_at))]
     pub fn told(&mut self) -> Option<(NodeId, u32)>
         ensures { Reads result self.new (told_at self.old) }
     {

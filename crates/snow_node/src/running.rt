@@ -149,7 +149,7 @@ impl<C: Chain, B: Board> Running<C, B> {
     /// where a number is needed and all are used up, and `Memory` on want of memory. The log has
     /// all lines before the stop, after `Memory` a front of the event's lines.
     /// Rule: AvalancheGo, snow/engine/snowman.
-    #[tactic(auto, unfolding(crate::specs::Turning::runs_on), using(crate::proofs::Logs::logs_nothing))]
+    #[tactic(auto, unfolding(crate::specs::Model::Turning::runs_on), using(crate::proofs::Logs::logs_nothing))]
     pub fn step(&mut self, frame: u64, event: View<'_>, log: &mut Lines) -> Result<(), Halt>
         ensures answer { Turns result self.new (model.runs_on C.rules B.answer self.old frame (as_event event.entry)).1 }
         ensures lines { Tells result log.old log.new (model.runs_on C.rules B.answer self.old frame (as_event event.entry)).0 }

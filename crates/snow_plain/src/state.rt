@@ -172,7 +172,7 @@ impl State {
 
     /// Returns the block to which the answers lead from the last accepted one.
     /// Rule: AvalancheGo, snow/consensus/snowman.
-    #[tactic(auto, unfolding(snow_board::specs::Preference::path_from))]
+    #[tactic(auto, unfolding(snow_board::specs::Model::Preference::path_from))]
     pub fn preference<R: Rule>(&self) -> Id
         ensures { result ≡ preferred R.answer self.now }
     {
@@ -190,7 +190,7 @@ impl State {
     /// Returns whether a block is on the path from the last accepted block to the preference, both
     /// included.
     /// Rule: AvalancheGo, snow/consensus/snowman.
-    #[tactic(auto, unfolding(snow_board::specs::Preference::path_from))]
+    #[tactic(auto, unfolding(snow_board::specs::Model::Preference::path_from))]
     pub fn is_preferred<R: Rule>(&self, id: &Id) -> bool
         ensures { result ≡ is_preferred R.answer self.now id.now }
     {

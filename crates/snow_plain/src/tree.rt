@@ -91,7 +91,7 @@ fn link(alloc: Global, side: bool, below: Tree) -> Result<Tree, AllocError>
 
 /// Puts an instance in place of each counter, at the bit that the counter has as its flake.
 /// Rule: this project's own.
-#[tactic(auto, unfolding(crate::specs::Alone::filled))]
+#[tactic(auto, unfolding(crate::specs::Kept::Alone::filled))]
 pub fn fill(tree: &mut Tree, single: &Unary)
     ensures { counters_of tree.new ≡ filled single.now (counters_of tree.old) }
 {

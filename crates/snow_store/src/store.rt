@@ -156,7 +156,7 @@ impl<H: Kept> Store<H> {
     }
 
     /// Returns what becomes of a block that is taken: the first of the rules that applies.
-    #[tactic(auto, unfolding(crate::specs::Keeping::taken))]
+    #[tactic(auto, unfolding(crate::specs::Model::Keeping::taken))]
     fn judge(&self, header: &Header) -> Result<Verdict, BootStop>
         requires { self.now.whole ≡ true }
         ensures { result ≡ taken self.now.store header.now }

@@ -20,7 +20,7 @@ pub fn encode(alloc: Global, event: &Event) -> Result<Bytes, AllocError>
 }
 
 /// Appends the event's spelling.
-#[tactic(auto, unfolding(crate::specs::Spelling::spelling))]
+#[tactic(auto, unfolding(crate::specs::Model::Spelling::spelling))]
 fn write(out: &mut Bytes, event: &Event) -> Result<(), AllocError>
     requires { IsWithinLimits event.now }
     ensures { OnOk result (out.new ≡ out.old ++ spelling event.now) }

@@ -59,7 +59,7 @@ impl Field for Bytes {
     }
 }
 
-#[tactic(auto, unfolding(crate::specs::Spelling::number))]
+#[tactic(auto, unfolding(crate::specs::Model::Spelling::number))]
 fn write_u16(out: &mut Bytes, n: u16) -> Result<(), AllocError>
     ensures { OnOk result (out.new ≡ out.old ++ number 2 n) }
 {
@@ -68,7 +68,7 @@ fn write_u16(out: &mut Bytes, n: u16) -> Result<(), AllocError>
     out.append(&bytes)
 }
 
-#[tactic(auto, unfolding(crate::specs::Spelling::number))]
+#[tactic(auto, unfolding(crate::specs::Model::Spelling::number))]
 pub(crate) fn write_u32(out: &mut Bytes, n: u32) -> Result<(), AllocError>
     ensures { OnOk result (out.new ≡ out.old ++ number 4 n) }
 {
@@ -77,7 +77,7 @@ pub(crate) fn write_u32(out: &mut Bytes, n: u32) -> Result<(), AllocError>
     out.append(&bytes)
 }
 
-#[tactic(auto, unfolding(crate::specs::Spelling::number))]
+#[tactic(auto, unfolding(crate::specs::Model::Spelling::number))]
 pub(crate) fn write_u64(out: &mut Bytes, n: u64) -> Result<(), AllocError>
     ensures { OnOk result (out.new ≡ out.old ++ number 8 n) }
 {

@@ -31,7 +31,7 @@ pub struct TooLong {
 /// the length these are all bytes. It returns `None` exactly where the bytes begin with no whole
 /// frame, or with a length above 2,097,152.
 /// Rule: this project's own.
-#[tactic(auto, unfolding(crate::specs::Frame::first_of))]
+#[tactic(auto, unfolding(crate::specs::Model::Frame::first_of))]
 pub fn first_frame(bytes: &[u8]) -> Option<(&[u8], &[u8])>
     ensures first { option_map (λ first. (first.0.now, first.1.now)) result ≡ first_of bytes.now }
     ensures size { IfSome result (λ first. 4 + length first.0.now + length first.1.now ≡ length bytes.now) }

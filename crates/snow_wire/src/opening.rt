@@ -37,7 +37,7 @@ pub struct Opening<'a> {
 }
 
 impl<'a> Opening<'a> {
-    #[tactic(auto, unfolding(crate::specs::Reading::start_at))]
+    #[tactic(auto, unfolding(crate::specs::Model::Reading::start_at))]
     pub(crate) fn read(reader: &mut Reader<'a>) -> Result<Self, Fault>
         ensures { ReadsAs (λ o. event.Start (as_start o)) result reader.new (start_at reader.old) }
     {

@@ -30,7 +30,7 @@ impl<'a> Model for Packed<'a> {
 
 impl<'a> Packed<'a> {
     /// Returns a count that is at most the limit, and so many blocks.
-    #[tactic(auto, unfolding(crate::specs::Reading::counted_at))]
+    #[tactic(auto, unfolding(crate::specs::Model::Reading::counted_at))]
     pub(crate) fn read(reader: &mut Reader<'a>, limit: u16) -> Result<Self, Fault>
         ensures { ReadsAs (λ blocks. blocks) result reader.new (counted_at block_at limit reader.old) }
     {

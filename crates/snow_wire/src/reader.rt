@@ -52,7 +52,7 @@ impl<'a> Reader<'a> {
     }
 
     /// Takes so many bytes and returns them.
-    #[tactic(auto, unfolding(crate::specs::Reading::bytes_at))]
+    #[tactic(auto, unfolding(crate::specs::Model::Reading::bytes_at))]
     fn take(&mut self, n: usize) -> Result<&'a [u8], Fault>
         ensures read { ReadsAs (λ front. front.now) result self.new (bytes_at n self.old) }
         ensures size { IfOk result (λ front. length front.now ≡ n) }
@@ -65,7 +65,7 @@ impl<'a> Reader<'a> {
         Ok(front)
     }
 
-    #[tactic(auto, unfolding(crate::specs::Reading::number_at))]
+    #[tactic(auto, unfolding(crate::specs::Model::Reading::number_at))]
     pub(crate) fn u8(&mut self) -> Result<u8, Fault>
         ensures { Reads result self.new (number_at 1 self.old) }
     {
@@ -77,7 +77,7 @@ impl<'a> Reader<'a> {
         Ok(number)
     }
 
-    #[tactic(auto, unfolding(crate::specs::Reading::number_at))]
+    #[tactic(auto, unfolding(crate::specs::Model::Reading::number_at))]
     fn u16(&mut self) -> Result<u16, Fault>
         ensures { Reads result self.new (number_at 2 self.old) }
     {
@@ -89,7 +89,7 @@ impl<'a> Reader<'a> {
         Ok(number)
     }
 
-    #[tactic(auto, unfolding(crate::specs::Reading::number_at))]
+    #[tactic(auto, unfolding(crate::specs::Model::Reading::number_at))]
     pub(crate) fn u32(&mut self) -> Result<u32, Fault>
         ensures { Reads result self.new (number_at 4 self.old) }
     {
@@ -101,7 +101,7 @@ impl<'a> Reader<'a> {
         Ok(number)
     }
 
-    #[tactic(auto, unfolding(crate::specs::Reading::number_at))]
+    #[tactic(auto, unfolding(crate::specs::Model::Reading::number_at))]
     pub(crate) fn u64(&mut self) -> Result<u64, Fault>
         ensures { Reads result self.new (number_at 8 self.old) }
     {
@@ -114,7 +114,7 @@ impl<'a> Reader<'a> {
     }
 
     /// Returns a count that is at most the limit.
-    #[tactic(auto, unfolding(crate::specs::Reading::limited_at))]
+    #[tactic(auto, unfolding(crate::specs::Model::Reading::limited_at))]
     pub(crate) fn count(&mut self, limit: u16) -> Result<u16, Fault>
         ensures { Reads result self.new (limited_at 2 limit self.old) }
     {
@@ -126,7 +126,7 @@ impl<'a> Reader<'a> {
     }
 
     /// Returns a byte that is 0 or 1.
-    #[tactic(auto, unfolding(crate::specs::Reading::flag_at, crate::specs::Reading::limited_at))]
+    #[tactic(auto, unfolding(crate::specs::Model::Reading::flag_at, crate::specs::Model::Reading::limited_at))]
     pub(crate) fn flag(&mut self) -> Result<bool, Fault>
         ensures { Reads result self.new (flag_at self.old) }
     {
@@ -138,7 +138,7 @@ impl<'a> Reader<'a> {
     }
 
     /// Returns the bytes of an identifier, where they stand.
-    #[tactic(auto, unfolding(crate::specs::Reading::bytes_at))]
+    #[tactic(auto, unfolding(crate::specs::Model::Reading::bytes_at))]
     pub(crate) fn id(&mut self) -> Result<&'a [u8; 32], Fault>
         ensures { ReadsAs (λ id. id.now) result self.new (bytes_at 32 self.old) }
     {
@@ -152,7 +152,7 @@ impl<'a> Reader<'a> {
     }
 
     /// Returns a count that is at most the limit, and so many items of one width, where they stand.
-    #[tactic(auto, unfolding(crate::specs::Reading::counted_at))]
+    #[tactic(auto, unfolding(crate::specs::Model::Reading::counted_at))]
     pub(crate) fn list<const N: usize>(&mut self, limit: u16) -> Result<&'a [[u8; N]], Fault>
         requires some { 0 < N }
         requires few { N ≤ 32 }
@@ -181,7 +181,7 @@ impl<'a> Reader<'a> {
     }
 
     /// Returns the bytes of a node, where they stand.
-    #[tactic(auto, unfolding(crate::specs::Reading::bytes_at))]
+    #[tactic(auto, unfolding(crate::specs::Model::Reading::bytes_at))]
     pub(crate) fn node(&mut self) -> Result<&'a [u8; 20], Fault>
         ensures { ReadsAs (λ node. node.now) result self.new (bytes_at 20 self.old) }
     {
@@ -195,7 +195,7 @@ impl<'a> Reader<'a> {
     }
 
     /// Returns a length that is at most the limit, and so many bytes, where they stand.
-    #[tactic(auto, unfolding(crate::specs::Reading::sized_at, crate::specs::Reading::limited_at))]
+    #[tactic(auto, unfolding(crate::specs::Model::Reading::sized_at, crate::specs::Model::Reading::limited_at))]
     pub(crate) fn slice(&mut self, limit: u32) -> Result<&'a [u8], Fault>
         ensures { ReadsAs (λ bytes. bytes.now) result self.new (sized_at limit self.old) }
     {

@@ -66,7 +66,7 @@ pub struct Parcel<'a> {
 }
 
 impl<'a> Sender<'a> {
-    #[tactic(auto, unfolding(crate::specs::Reading::sender_at))]
+    #[tactic(auto, unfolding(crate::specs::Model::Reading::sender_at))]
     pub(crate) fn read(reader: &mut Reader<'a>) -> Result<Self, Fault>
         ensures { (made : List ℕ → ℕ → Event) → ReadsAs (λ s. made s.node.now s.request) result reader.new (sender_at made reader.old) }
     {
@@ -77,7 +77,7 @@ impl<'a> Sender<'a> {
 }
 
 impl<'a> Named<'a> {
-    #[tactic(auto, unfolding(crate::specs::Reading::message_at))]
+    #[tactic(auto, unfolding(crate::specs::Model::Reading::message_at))]
     pub(crate) fn read(reader: &mut Reader<'a>) -> Result<Self, Fault>
         ensures { (made : List ℕ → ℕ → List ℕ → Event) → ReadsAs (λ n. made n.node.now n.request n.id.now) result reader.new (message_at id_at made reader.old) }
     {
@@ -89,7 +89,7 @@ impl<'a> Named<'a> {
 }
 
 impl<'a> Listing<'a> {
-    #[tactic(auto, unfolding(crate::specs::Reading::message_at))]
+    #[tactic(auto, unfolding(crate::specs::Model::Reading::message_at))]
     pub(crate) fn read(reader: &mut Reader<'a>) -> Result<Self, Fault>
         ensures { (made : List ℕ → ℕ → List (List ℕ) → Event) → ReadsAs (λ l. made l.node.now l.request l.ids.now) result reader.new (message_at (counted_at id_at 4096) made reader.old) }
     {
@@ -101,7 +101,7 @@ impl<'a> Listing<'a> {
 }
 
 impl<'a> Brought<'a> {
-    #[tactic(auto, unfolding(crate::specs::Reading::message_at))]
+    #[tactic(auto, unfolding(crate::specs::Model::Reading::message_at))]
     pub(crate) fn read(reader: &mut Reader<'a>) -> Result<Self, Fault>
         ensures { (made : List ℕ → ℕ → List ℕ → Event) → ReadsAs (λ b. made b.node.now b.request b.bytes.now) result reader.new (message_at block_at made reader.old) }
     {
@@ -117,7 +117,7 @@ impl<'a> Brought<'a> {
 }
 
 impl<'a> Parcel<'a> {
-    #[tactic(auto, unfolding(crate::specs::Reading::message_at))]
+    #[tactic(auto, unfolding(crate::specs::Model::Reading::message_at))]
     pub(crate) fn read(reader: &mut Reader<'a>) -> Result<Self, Fault>
         ensures { (made : List ℕ → ℕ → List (List ℕ) → Event) → ReadsAs (λ p. made p.node.now p.request p.blocks) result reader.new (message_at (counted_at block_at 2048) made reader.old) }
     {

@@ -58,7 +58,7 @@ impl<'a> View<'a> {
     /// none is refused with the first thing that goes wrong, read from the front; a field's range
     /// is checked as soon as the field is read. It takes no memory.
     /// Rule: this project's own.
-    #[tactic(auto, unfolding(crate::specs::Reading::event_of))]
+    #[tactic(auto, unfolding(crate::specs::Model::Reading::event_of))]
     #[inline(always)]
     pub fn read(payload: &'a [u8]) -> Result<Self, Fault>
         ensures { seen result ≡ event_of payload.now }
@@ -108,7 +108,7 @@ impl<'a> View<'a> {
 }
 
 /// Returns the event with this tag whose fields stand in front.
-#[tactic(auto, unfolding(crate::specs::Reading::fields_at, crate::specs::Reading::single_at))]
+#[tactic(auto, unfolding(crate::specs::Model::Reading::fields_at, crate::specs::Model::Reading::single_at))]
 #[inline(always)]
 fn fields<'a>(tag: u8, reader: &mut Reader<'a>) -> Result<View<'a>, Fault>
     ensures { ReadsAs as_event result reader.new (fields_at tag reader.old) }
