@@ -7,12 +7,6 @@ use crate::fault::Fault;
 use byteorder::{BigEndian, ByteOrder};
 use std::marker::Model;
 
-/// The greatest length of a block.
-pub(crate) const MAX_BLOCK: u32 = 65_536;
-
-/// The greatest length of a line.
-pub(crate) const MAX_LINE: u32 = 1_100_000;
-
 /// Reads fields from the front of bytes. Contracts see the bytes that are left.
 #[derive(Drop)]
 pub(crate) struct Reader<'a> {
