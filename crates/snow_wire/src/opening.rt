@@ -4,9 +4,9 @@ ghost use Rattle.snow_wire.specs.Clauses.Viewed.{as_start};
 ghost use Rattle.snow_wire.specs.declared.event.Event.TheVariants as event;
 
 use crate::event::Start;
-use crate::fault::Fault;
 use crate::lists::{nodes_of, words_of};
 use crate::reader::Reader;
+use crate::skip::Fault;
 use snow_base::Id;
 use snow_base::limits::MOST_LISTED;
 use std::alloc::{AllocError, Global};

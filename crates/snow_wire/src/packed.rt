@@ -2,8 +2,8 @@ ghost use Rattle.std.specs.Prelude.{◌≡◌, IfOk};
 ghost use Rattle.std.specs.Iterator.{YieldsFirstRef};
 ghost use Rattle.snow_wire.specs.Model.Reading.{ReadsAs, block_at, counted_at, items_at, items_in};
 
-use crate::fault::Fault;
 use crate::reader::Reader;
+use crate::skip::Fault;
 use snow_base::limits::BLOCK_BYTES;
 use snow_base::{Blocks, Bytes};
 use std::alloc::{AllocError, Global};

@@ -3,7 +3,7 @@ ghost use Rattle.byteorder.specs.Endian.{big_number};
 ghost use Rattle.snow_wire.specs.Model.Reading.{IsEnd, Reads, ReadsAs, bytes_at, number_at, limited_at, flag_at, counted_at, sized_at, weighed_at};
 ghost use Rattle.snow_wire.specs.Clauses.Viewed.{weighed_in};
 
-use crate::fault::Fault;
+use crate::skip::Fault;
 use byteorder::{BigEndian, ByteOrder};
 use std::marker::Model;
 

@@ -3,9 +3,9 @@ ghost use Rattle.std.specs.Prelude.{◌≡◌, ℕ, List};
 ghost use Rattle.snow_wire.specs.Model.Reading.{ReadsAs, block_at, counted_at, id_at, message_at, sender_at};
 ghost use Rattle.snow_wire.specs.declared.event.Event.{Event};
 
-use crate::fault::Fault;
 use crate::packed::Packed;
 use crate::reader::Reader;
+use crate::skip::Fault;
 use snow_base::limits::{BLOCK_BYTES, MOST_ANCESTORS, MOST_LISTED};
 
 /// A peer, and the number of the request that its message belongs to.

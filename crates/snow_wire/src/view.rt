@@ -3,11 +3,11 @@ ghost use Rattle.snow_wire.specs.Model.Reading.{ReadsAs, event_of, fields_at};
 ghost use Rattle.snow_wire.specs.Clauses.Viewed.{as_event, seen};
 
 use crate::event::Event;
-use crate::fault::Fault;
 use crate::lists::{ids_of, nodes_of, words_of};
 use crate::opening::Opening;
 use crate::reader::Reader;
 use crate::shapes::{Brought, Listing, Named, Parcel, Sender};
+use crate::skip::Fault;
 use snow_base::Bytes;
 use snow_base::limits::{BLOCK_BYTES, LINE_BYTES, MOST_LISTED, MOST_VOTES};
 use std::alloc::{AllocError, Global};

@@ -4,8 +4,8 @@ use Rattle.snow_base.specs.declared.limits.TheConstants.{BLOCK_BYTES, LINE_BYTES
 use Rattle.byteorder.specs.Endian.{big_number}
 use Rattle.snow_wire.specs.declared.event.Event.{Event}
 use Rattle.snow_wire.specs.declared.event.Event.TheVariants as event
-use Rattle.snow_wire.specs.declared.fault.Fault.{Fault}
-use Rattle.snow_wire.specs.declared.fault.Fault.TheVariants.{Tag, Short, Extra, Count}
+use Rattle.snow_wire.specs.declared.skip.Fault.{Fault}
+use Rattle.snow_wire.specs.declared.skip.Fault.TheVariants.{Tag, Short, Extra, Count}
 use Rattle.snow_wire.specs.declared.skip.Skip.{Skip}
 use Rattle.snow_wire.specs.declared.skip.Skip.TheVariants as skip
 

@@ -1,7 +1,7 @@
 -- The request is closed; or the node's answer is awaited, or nobody waits for it.
 use Rattle.std.proofs.Common.{sym, ap, subst, ◌∙◌}
 use Rattle.std.specs.Prelude.{Ok, is_none}
-use Rattle.snow_boot.specs.declared.stage.Stage.TheVariants as stage
+use Rattle.snow_boot.specs.declared.boot.Stage.TheVariants as stage
 use Rattle.snow_store.specs.declared.due.Due.{Due}
 use Rattle.snow_boot.specs.Model.Booting as model
 use Rattle.snow_boot.specs.Model.Asking.{AreAskedBut}
