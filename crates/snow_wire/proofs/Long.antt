@@ -1,16 +1,15 @@
 -- How long the spelling of an event is.
-use Rattle.std.proofs.Common.{◌≡◌, ℕ, ◌+◌, ◌*◌, ◌<◌, ◌≤◌, List, [], ◌∷◌, ◌++◌, length, All, refl, arith}
+use Rattle.std.proofs.Common.{◌≡◌, ℕ, ◌+◌, ◌*◌, List, [], ◌∷◌, ◌++◌, length, All, refl, arith}
 use Rattle.std.specs.Prelude.{sum_by}
 use Rattle.std.specs.List.{flat_map}
 use Rattle.std.proofs.lemmas.List.{length-append}
 use Rattle.std.proofs.lemmas.List.Elements.{All-tail}
 use Rattle.std.proofs.lemmas.List.Sums.{sum_by-cons}
 use Rattle.byteorder.specs.Numbers.{length-bytes_high_first}
-use Rattle.snow_wire.specs.declared.event.Event.{Event}
 use Rattle.snow_wire.specs.declared.event.Event.TheVariants as event
 use Rattle.snow_wire.specs.declared.event.Start.{Start}
-use Rattle.snow_wire.specs.Model.Spelling.{number, sized, counted, weighed, sender, flag, parameters, start, spelling, IsId, IsWeighed, IsSender, IsInRange}
-use Rattle.snow_wire.specs.Laws.FrameLaw.{IsAnswered, FrameLaw}
+use Rattle.snow_wire.specs.Model.Spelling.{number, sized, counted, weighed, sender, flag, parameters, start, spelling, IsId, IsWeighed, IsSender}
+use Rattle.snow_wire.specs.Laws.FrameLaw.{FrameLaw}
 
 long_number : (n x : ℕ) → length (number n x) ≡ n
 unfolding number
