@@ -104,10 +104,11 @@ pub const MOST_KEPT: usize = 32_768;
 /// Rule: this project's own.
 pub const MOST_DRILLED: u64 = 10_000;
 
-/// What events and lines hold. `frame`: a frame holds the longest event of each kind, where an
-/// Ancestors event is what a node answers. `poll`: a Poll event holds the votes at the greatest k,
-/// and a Words event the words of such a query. `answer`: an answer has room for each block, and
-/// an Ancestors event for an answer. `line`: a Line event holds the longest line that a run writes.
+/// Events and lines have room for what they are to hold, by lengths that are added up from their
+/// parts. `frame`: a frame holds the longest event of each kind, where an Ancestors event is what a
+/// node answers. `poll`: a Poll event holds the votes at the greatest k, and a Words event the
+/// words of such a query. `answer`: an answer has room for each block, and an Ancestors event for
+/// an answer. `line`: a Line event holds the longest line of each kind.
 /// Rule: this project's own.
 pub fn events_hold_law()
     ensures frame { All (λ n. n ≤ FRAME_BYTES) events }
@@ -116,7 +117,7 @@ pub fn events_hold_law()
     ensures line { All (λ n. n ≤ LINE_BYTES) lines }
 {}
 
-/// What a node's lists hold. `gone`: all blocks that one event can decide or give up, which are
+/// A node's lists have room for what one event can bring to them. `gone`: all blocks that one event can decide or give up, which are
 /// pending or wait, are still in the gone list behind it. `served`: peers are served all blocks
 /// that one poll accepts. `gets`: each waiting block may ask for its parent. `held`: each draw of
 /// each poll. `words`: the words of 64 queries at the greatest k, if none is lost.
