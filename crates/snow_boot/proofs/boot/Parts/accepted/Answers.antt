@@ -6,7 +6,7 @@ use Rattle.snow_chain.specs.Kept.Alone.{last_state}
 use Rattle.snow_boot.specs.Kept.Coursing.{boot_of}
 use Rattle.snow_boot.proofs.Followed.{comes_as, comes_ignored}
 use Rattle.snow_boot.proofs.Heard.{accepted_ignored, accepted_heard}
-use Rattle.snow_boot.proofs.parts.Parts.accepted.Goals as goal
+use Rattle.snow_boot.proofs.boot.Parts.accepted.Goals as goal
 
 pub returns-in_default : goal.returns-in_default
 returns-in_default g c =

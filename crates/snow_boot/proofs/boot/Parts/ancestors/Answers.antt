@@ -1,6 +1,6 @@
 -- The reply is to an open request, or nobody waits for it.
 use Rattle.std.proofs.Common.{Some, sym, ◌∙◌}
-use Rattle.snow_store.specs.declared.due.Due.TheVariants as due
+use Rattle.snow_store.specs.declared.needs.Due.TheVariants as due
 use Rattle.snow_boot.specs.Model.Booting as model
 use Rattle.snow_chain.specs.Kept.Alone.{last_state}
 use Rattle.snow_boot.specs.Kept.Coursing.{boot_of}
@@ -8,7 +8,7 @@ use Rattle.snow_boot.proofs.Followed.{comes_as}
 use Rattle.snow_boot.proofs.Heard.{reply_ignored, reply_came, reply_stops, drawn_without}
 use Rattle.snow_boot.proofs.Owed.{covered, closed_due}
 use Rattle.snow_boot.proofs.Replied.{replied_same}
-use Rattle.snow_boot.proofs.parts.Parts.ancestors.Goals as goal
+use Rattle.snow_boot.proofs.boot.Parts.ancestors.Goals as goal
 
 pub returns-in_default : goal.returns-in_default
 returns-in_default g c =

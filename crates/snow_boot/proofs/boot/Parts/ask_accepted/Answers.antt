@@ -1,6 +1,6 @@
 -- The number is the next one, and all that were collected are named.
 use Rattle.snow_boot.proofs.Inquired.{accepted_asked}
-use Rattle.snow_boot.proofs.parts.Parts.ask_accepted.Goals as goal
+use Rattle.snow_boot.proofs.boot.Parts.ask_accepted.Goals as goal
 
 pub returns : goal.returns
 returns g c =

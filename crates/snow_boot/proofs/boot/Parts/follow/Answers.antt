@@ -6,7 +6,7 @@ use Rattle.snow_boot.specs.Model.Asking.{asked}
 use Rattle.snow_chain.specs.Kept.Alone.{last_state}
 use Rattle.snow_boot.specs.Clauses.Requesting.{Asks}
 use Rattle.snow_boot.proofs.Followed.{follows_question, follows_whole, follows_asked, follows_stopped}
-use Rattle.snow_boot.proofs.parts.Parts.follow.Goals as goal
+use Rattle.snow_boot.proofs.boot.Parts.follow.Goals as goal
 
 frontier_goes : question.Frontier ≡ question.Nothing → ⊥
 frontier_goes e = cc

@@ -5,7 +5,7 @@ use Rattle.snow_lines.specs.declared.line.Line.TheVariants as line
 use Rattle.snow_boot.specs.Model.Booting.{ask_frontier}
 use Rattle.snow_boot.specs.Kept.Coursing.{boot_of}
 use Rattle.snow_boot.proofs.Followed.{comes_behind, frontier_refuses}
-use Rattle.snow_boot.proofs.parts.Parts.restart.Goals as goal
+use Rattle.snow_boot.proofs.boot.Parts.restart.Goals as goal
 
 pub returns : goal.returns
 returns g c =

@@ -1,6 +1,6 @@
 -- The bytes are those of a block, or are passed over.
 use Rattle.std.proofs.Common.{sym, ap, ◌∙◌}
-use Rattle.snow_store.specs.declared.due.Due.TheVariants as due
+use Rattle.snow_store.specs.declared.needs.Due.TheVariants as due
 use Rattle.snow_boot.specs.Model.Booting as model
 use Rattle.snow_store.specs.Model.Paths.{Fetch}
 use Rattle.snow_chain.specs.Kept.Alone.{last_state}
@@ -9,7 +9,7 @@ use Rattle.snow_boot.proofs.Followed.{comes_as}
 use Rattle.snow_boot.proofs.Heard.{skipped, stored_kept, stored_stops}
 use Rattle.snow_boot.proofs.Owed.{none_due, covered}
 use Rattle.snow_boot.proofs.Replied.{aim_verdict}
-use Rattle.snow_boot.proofs.parts.Parts.stored.Goals as goal
+use Rattle.snow_boot.proofs.boot.Parts.stored.Goals as goal
 
 pub returns-in_default : goal.returns-in_default
 returns-in_default g c =

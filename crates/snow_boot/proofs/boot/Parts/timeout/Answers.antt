@@ -2,7 +2,7 @@
 use Rattle.std.proofs.Common.{sym, ap, subst, ◌∙◌}
 use Rattle.std.specs.Prelude.{Ok, is_none}
 use Rattle.snow_boot.specs.declared.boot.Stage.TheVariants as stage
-use Rattle.snow_store.specs.declared.due.Due.{Due}
+use Rattle.snow_store.specs.declared.needs.Due.{Due}
 use Rattle.snow_boot.specs.Model.Booting as model
 use Rattle.snow_boot.specs.Model.Asking.{AreAskedBut}
 use Rattle.snow_store.specs.Model.Paths.{Fetch}
@@ -11,7 +11,7 @@ use Rattle.snow_boot.specs.Kept.Coursing.{boot_of}
 use Rattle.snow_boot.proofs.Followed.{comes_as, comes_ignored}
 use Rattle.snow_boot.proofs.Heard.{drawn_without, timeout_closed, timeout_ignored, timeout_heard}
 use Rattle.snow_boot.proofs.Owed.{closed_due}
-use Rattle.snow_boot.proofs.parts.Parts.timeout.Goals as goal
+use Rattle.snow_boot.proofs.boot.Parts.timeout.Goals as goal
 
 pub follow-requires-clause-may : goal.follow-requires-clause-may
 follow-requires-clause-may g c = (
