@@ -7,7 +7,7 @@ use Rattle.snow_gets.specs.declared.gets.Get.{Get}
 use Rattle.snow_lines.specs.declared.line.Line.{Line}
 use Rattle.snow_lines.specs.declared.line.Line.TheVariants as line
 use Rattle.snow_boot.specs.declared.question.Question.TheVariants as question
-use Rattle.snow_boot.specs.declared.stage.Stage.TheVariants as stage
+use Rattle.snow_boot.specs.declared.boot.Stage.TheVariants as stage
 use Rattle.snow_boot.specs.Model.Booting.{Going, ask_frontier, ask_accepted}
 use Rattle.snow_boot.specs.Clauses.Calling.{AreDrawn}
 use Rattle.snow_boot.specs.Kept.Coursing.{boot_of, Comes}

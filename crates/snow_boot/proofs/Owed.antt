@@ -9,8 +9,8 @@ use Rattle.snow_gets.specs.declared.gets.Get.{Get}
 use Rattle.snow_gets.specs.Model.Gets.{asked_in, is_get, without}
 use Rattle.snow_gets.proofs.Asking.{none_without}
 use Rattle.snow_sample.specs.declared.roster.Node.{Node}
-use Rattle.snow_store.specs.declared.due.Due.{Due}
-use Rattle.snow_store.specs.declared.due.Due.TheVariants as due
+use Rattle.snow_store.specs.declared.needs.Due.{Due}
+use Rattle.snow_store.specs.declared.needs.Due.TheVariants as due
 use Rattle.snow_store.specs.Model.Needing.{names, is_missed, Covers}
 use Rattle.snow_store.specs.Model.Paths.{Fetch, missed}
 use Rattle.snow_store.proofs.Cases.{split_on, clash, same_id, id_same, same_some, none_not}

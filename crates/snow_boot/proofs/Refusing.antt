@@ -10,7 +10,7 @@ use Rattle.snow_gets.specs.Model.Gets.{asked_in}
 use Rattle.snow_lines.specs.declared.line.Line.{Line}
 use Rattle.snow_lines.specs.declared.line.Line.TheVariants as line
 use Rattle.snow_lines.specs.declared.why.SkipKind.TheVariants as skip
-use Rattle.snow_store.specs.declared.block.KeptBlock.{KeptBlock}
+use Rattle.snow_store.specs.declared.store.KeptBlock.{KeptBlock}
 use Rattle.snow_store.specs.declared.stop.BootStop.{BootStop}
 use Rattle.snow_store.specs.declared.stop.BootStop.TheVariants as stop
 use Rattle.snow_store.specs.Model.Keeping.{Store}

@@ -9,13 +9,12 @@ ghost use Rattle.snow_boot.specs.Clauses.Calling.{AreDrawn};
 ghost use Rattle.snow_boot.specs.Kept.Coursing.{boot_of, MayAsk, MayHear, Comes};
 ghost use Rattle.snow_boot.specs.Model.Electing.{majority};
 ghost use Rattle.snow_boot.specs.declared.question.Question.TheVariants as question;
-ghost use Rattle.snow_boot.specs.declared.stage.Stage.TheVariants as stage;
+ghost use Rattle.snow_boot.specs.declared.boot.Stage.TheVariants as stage;
 ghost use Rattle.snow_lines.specs.declared.line.Line.TheVariants as line;
 ghost use Rattle.snow_sample.specs.Model.Roster.{total_weight};
 
-use crate::parts::Parts;
+use crate::boot::{Parts, Stage};
 use crate::question::Question;
-use crate::stage::Stage;
 use crate::survey::Survey;
 use snow_base::Numbers;
 use snow_chain::Chain;

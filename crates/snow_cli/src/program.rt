@@ -10,9 +10,8 @@ ghost use Rattle.snow_cli.specs.Model.Words.{command_of};
 ghost use Rattle.snow_cli.specs.Clauses.Answer as model;
 
 use crate::command::{ChainName, Command, Job, RuleName};
-use crate::finish::Finish;
 use crate::report::report;
-use crate::status::Status;
+use crate::status::{Finish, Status};
 use crate::words::read_words;
 use snow_audit::{AuditEnd, audit};
 use snow_base::{Failed, Sink, Source, write_whole};

@@ -11,7 +11,6 @@ use crate::booting::Booting;
 use crate::deciding::Deciding;
 use crate::stage::{Node, Stage};
 use crate::stop::EngineStop;
-use crate::task::Task;
 use snow_base::Numbers;
 use snow_board::Board;
 use snow_chain::Chain;
@@ -23,6 +22,16 @@ use snow_wire::{Start, View};
 use std::alloc::Global;
 use std::marker::Model;
 use std::mem;
+
+/// What a node does with the events of its stream.
+/// Rule: this project's own.
+#[derive(Clone, Copy, Debug, PartialEq, Eq)]
+pub enum Task {
+    /// It takes blocks and whole polls, and asks nobody.
+    Decide,
+    /// It asks other nodes, and takes their replies, blocks and votes.
+    Run,
+}
 
 /// The engine of one node, over any chain and any board. Contracts see the node of the definitions.
 /// Each call appends its lines to a log. How blocks wait and are issued, and how polls are begun,

@@ -4,8 +4,7 @@ ghost use Rattle.snow_engine.specs.Model.Run.{after_frame};
 ghost use Rattle.snow_engine.specs.Clauses.Serving.{stand_of, told, Opens, Stands, LogsFrame};
 
 use crate::end::{BadKind, End};
-use crate::engine::Engine;
-use crate::task::Task;
+use crate::engine::{Engine, Task};
 use snow_board::Board;
 use snow_chain::Chain;
 use snow_lines::{Lines, SkipKind};

@@ -9,8 +9,8 @@ ghost use Rattle.snow_engine.specs.Model.Run.{end_behind};
 ghost use Rattle.snow_engine.specs.Clauses.Serving.{stand_of, told, has_sink_failed, Goes, GathersLines, WritesLines, SinkFails, one_worked, all_worked};
 
 use crate::end::{BadKind, End};
+use crate::engine::Task;
 use crate::runner::Runner;
-use crate::task::Task;
 use snow_base::{Failed, Sink};
 use snow_board::Board;
 use snow_chain::Chain;

@@ -7,6 +7,7 @@ ghost use Rattle.snow_issue.specs.Kept.Keeping.{parts};
 use crate::gone::{Gone, GoneList};
 use crate::waiting::WaitingList;
 use crate::work::Offered;
+use snow_base::limits::{MOST_GETS, MOST_WAITING};
 use snow_base::{Header, Id};
 use snow_board::Board;
 use snow_gets::Gets;
@@ -47,7 +48,7 @@ pub(crate) fn is_wanted<B: Board>(
 ) -> bool
     ensures { result ≡ wanted (parts waiting.now gets.now gone.now) (B.board board.now) id.now }
 {
-    is_unknown(waiting, gets, gone, board, id) && gets.len() < 4096
+    is_unknown(waiting, gets, gone, board, id) && gets.len() < MOST_GETS
 }
 
 // Whether a block is more than one above the last accepted height, a whole number.
@@ -120,7 +121,7 @@ pub(crate) fn refusal<B: Board>(
     if is_old(latest, board, block) {
         return Some(Offered::Old);
     }
-    if waiting.len() < 4096 {
+    if waiting.len() < MOST_WAITING {
         return None;
     }
     Some(Offered::Full)

@@ -1,5 +1,6 @@
 ghost use Rattle.std.specs.Prelude.{◌≡◌, ◌<◌, List, find, length, Some, None, IfOk, OnOk, OnErr, true, false};
 ghost use Rattle.std.specs.Option.{option_map};
+ghost use Rattle.snow_base.specs.declared.limits.TheConstants.{MOST_GETS};
 ghost use Rattle.snow_board.specs.Model.Board as model;
 ghost use Rattle.snow_gets.specs.declared.gets.Get.{Get};
 ghost use Rattle.snow_issue.specs.declared.work.Waiting.{Waiting};
@@ -189,7 +190,7 @@ impl Queue {
     /// and all stays as it was.
     /// Rule: AvalancheGo, snow/engine/snowman.
     pub fn asked(&mut self, number: u32, node: NodeId, id: Id) -> Result<(), AllocError>
-        requires room { length self.old.gets < 4096 }
+        requires room { length self.old.gets < MOST_GETS }
         requires number { has_number self.old.gets number ≡ false }
         requires id { is_asked (lists_of self.old) id ≡ false }
         ensures lists { let get : Get = record { number = number; node = node; id = id } in OnOk result (lists_of self.new ≡ after_asked (lists_of self.old) get) }

@@ -3,7 +3,7 @@ use Rattle.std.proofs.Common.{◌≡◌, ℕ, Bool, true, false, List, [], ◌++
 use Rattle.snow_base.specs.declared.header.Header.{Header}
 use Rattle.snow_flake.specs.Model.Parameters.{Parameters}
 use Rattle.snow_flake.specs.Model.Rule.{Answer}
-use Rattle.snow_board.specs.declared.decision.Decision.{Decision}
+use Rattle.snow_board.specs.declared.board.Decision.{Decision}
 use Rattle.snow_board.specs.Model.Board.{Board, issued}
 use Rattle.snow_board.specs.Model.Preference.{preferred}
 use Rattle.snow_chain.specs.Model.Chain.{Held, with_state}

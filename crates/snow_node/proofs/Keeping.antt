@@ -8,7 +8,7 @@ use Rattle.snow_base.specs.Model.Numbers.{next_number, last_after}
 use Rattle.snow_base.specs.declared.header.Header.{Header}
 use Rattle.snow_flake.specs.Model.Parameters.{Parameters, AreGood}
 use Rattle.snow_sample.specs.declared.draws.Draw.{Draw}
-use Rattle.snow_board.specs.declared.decision.Decision.{Decision}
+use Rattle.snow_board.specs.declared.board.Decision.{Decision}
 use Rattle.snow_board.specs.Model.Board.{Board, begin, height_of, issued}
 use Rattle.snow_board.proofs.Cases.{split_on, clash, differs_back}
 use Rattle.snow_chain.specs.Model.Chain.{Held, begun as first_states, with_state}

@@ -2,7 +2,7 @@
 use Rattle.std.proofs.Common.{◌≡◌, ℕ, Bool, true, false, List, [], ◌∷◌, Option, Some, None, bytes_eq, refl, sym, ap, ◌∙◌, subst}
 use Rattle.snow_base.specs.declared.header.Header.{Header}
 use Rattle.snow_base.specs.declared.vote.Vote.{Vote}
-use Rattle.snow_board.specs.declared.decision.Decision.{Decision}
+use Rattle.snow_board.specs.declared.board.Decision.{Decision}
 use Rattle.snow_board.specs.Model.Board.{Board, issued}
 use Rattle.snow_board.specs.Model.Poll.{poll}
 use Rattle.snow_board.proofs.Cases.{split_on, same_id}

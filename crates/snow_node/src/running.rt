@@ -28,6 +28,7 @@ mod supplying;
 use crate::reporting::write;
 use crate::running::queue_state::QueueState;
 use crate::stop::Halt;
+use snow_base::limits::MOST_WORDS;
 use snow_base::{Id, NodeId, Nodes, Numbers, Nums};
 use snow_board::Board;
 use snow_chain::Chain;
@@ -41,9 +42,6 @@ use snow_wire::{Brought, Named, Sender, View, nodes_of, words_of};
 use std::alloc::{AllocError, Global};
 use std::marker::Model;
 use std::mem;
-
-/// The most random words that wait.
-const MOST_WORDS: usize = 65_536;
 
 /// A node that runs, over any chain and any board. Contracts see the node of the definitions. It
 /// appends its lines to a log. After a stop its caller only drops it.

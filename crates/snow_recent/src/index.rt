@@ -8,7 +8,7 @@ ghost use Rattle.std.specs.Ordering.{is_lt};
 ghost use Rattle.snow_recent.specs.Kept.Index.{place_of, id_at, id_of, IsRising, IsPlaceOf, order_at, without_oldest, filed};
 ghost use Rattle.snow_recent.specs.Kept.Table.{ends_below, AreFilled, IsRowOf};
 
-use crate::named::Named;
+use crate::recent::Named;
 use crate::row::Row;
 use snow_base::Id;
 use std::cmp::Ordering;

@@ -7,13 +7,25 @@ ghost use Rattle.snow_recent.specs.Model.Recent.{with_latest, latest};
 ghost use Rattle.snow_recent.specs.Kept.Table.{IsFiled};
 
 use crate::heads::Heads;
-use crate::named::Named;
 use crate::table::Table;
 use crate::{index, seats};
 use snow_base::Id;
 use std::alloc::{AllocError, Global};
 use std::collections::VecDeque;
 use std::marker::Model;
+
+/// What has an identifier.
+/// Rule: this project's own.
+pub trait Named: Drop {
+    ghost use Rattle.std.specs.Prelude.{◌≡◌, ℕ, List};
+
+    ghost id: { Self → List ℕ };
+
+    /// Returns its identifier.
+    /// Rule: this project's own.
+    fn id(&self) -> Id
+        ensures { result ≡ id self.now };
+}
 
 /// The last `MOST` entries that came. Contracts see the list of them, the latest last.
 ///

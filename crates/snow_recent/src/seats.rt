@@ -5,7 +5,7 @@ ghost use Rattle.snow_recent.specs.Kept.Index.{id_of, IsRising, gives_way, seate
 
 use crate::heads::{Heads, seat_of};
 use crate::index;
-use crate::named::Named;
+use crate::recent::Named;
 use crate::table::Table;
 use snow_base::Id;
 use std::collections::VecDeque;

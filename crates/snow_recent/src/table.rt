@@ -7,7 +7,7 @@ ghost use Rattle.snow_recent.specs.Kept.Index.{id_of, IsRising, without_oldest, 
 ghost use Rattle.snow_recent.specs.Kept.Table.{Shelf, AreFilled, AreKept, IsWorn, HasNext, IsLatest, halved, joined};
 
 use crate::index;
-use crate::named::Named;
+use crate::recent::Named;
 use crate::row::{ROW, Row};
 use snow_base::Id;
 use std::alloc::{AllocError, Global};

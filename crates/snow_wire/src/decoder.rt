@@ -1,18 +1,17 @@
-ghost use Rattle.std.specs.Prelude.{◌≡◌, ◌-◌, ◌^◌, ◌<◌, ◌≤◌, length, Ok, Err, OnOk, OnErr, IfOk, IfNone};
+ghost use Rattle.std.specs.Prelude.{◌≡◌, ◌+◌, ◌-◌, ◌^◌, ◌<◌, ◌≤◌, length, Ok, Err, OnOk, OnErr, IfOk, IfNone};
 ghost use Rattle.std.specs.Borrow.{sem};
 ghost use Rattle.std.specs.Io.BufRead.{Rests};
 ghost use Rattle.std.specs.Io.KnownBytes.{IsAtEnd, Keeps};
+ghost use Rattle.snow_base.specs.declared.limits.TheConstants.{FRAME_BYTES};
 ghost use Rattle.snow_base.specs.Clauses.Outside.{Rose};
 ghost use Rattle.snow_wire.specs.declared.decoder.ReadFault.TheVariants as fault;
 
 use crate::buffer::Buffer;
 use crate::frame::{Frame, TooLong, first_frame, too_long};
 use snow_base::Source;
+use snow_base::limits::PIECE_BYTES;
 use std::alloc::{AllocError, Global};
 use std::marker::Model;
-
-/// The most bytes that one read takes.
-const PIECE: usize = 65_536;
 
 /// The bytes that are left move to the front once this many times as many bytes were worked.
 const TIMES: usize = 8;
@@ -96,10 +95,10 @@ impl Decoder {
         ensures later { S.faults source.old ≤ S.faults source.new }
         ensures cause { result ≡ Err fault.Source → Rose (S.faults source.old) (S.faults source.new) }
     {
-        let most = if most < PIECE as u64 {
+        let most = if most < PIECE_BYTES as u64 {
             most as usize
         } else {
-            PIECE
+            PIECE_BYTES
         };
         self.discard_given(most);
         if self.bytes.make_room(most).is_err() {
@@ -135,7 +134,7 @@ impl Decoder {
         // The first frame is taken off the rest; without one all stays as it was.
         ensures* rests { sem 𝓛 (Rests the_row self.entry (λ new. new ≡ taken self.old)) }
         // What is kept for later is less than a frame.
-        ensures held { IfOk result (λ frame. IfNone frame (length self.old.rest ≤ 2097155)) }
+        ensures held { IfOk result (λ frame. IfNone frame (length self.old.rest ≤ FRAME_BYTES + 3)) }
     {
         let rest = &self.bytes.as_slice()[self.start..];
         if let Some(length) = too_long(rest) {

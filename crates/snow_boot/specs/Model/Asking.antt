@@ -10,8 +10,8 @@ use Rattle.snow_lines.specs.declared.line.Line.{Line}
 use Rattle.snow_lines.specs.declared.line.Line.TheVariants as line
 use Rattle.snow_store.specs.declared.stop.BootStop.{BootStop}
 use Rattle.snow_store.specs.declared.stop.BootStop.TheVariants as stop
-use Rattle.snow_store.specs.declared.due.Due.{Due}
-use Rattle.snow_store.specs.declared.due.Due.TheVariants as due
+use Rattle.snow_store.specs.declared.needs.Due.{Due}
+use Rattle.snow_store.specs.declared.needs.Due.TheVariants as due
 use Rattle.snow_store.specs.Model.Needing.{is_missed, is_due}
 use Rattle.snow_store.specs.Model.Paths.{Fetch, missed}
 

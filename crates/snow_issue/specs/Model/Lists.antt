@@ -1,6 +1,7 @@
 -- The lists of a queue, and what they say of an identifier.
 use Rattle.std.specs.Prelude.{ℕ, ◌+◌, ◌≤◌, Bool, not, ◌&&◌, ◌==◌, List, [], ◌∷◌, ◌++◌, length, filter, bytes_eq, None}
 use Rattle.std.specs.List.{list_any}
+use Rattle.snow_base.specs.declared.limits.TheConstants.{MOST_WAITING, MOST_GETS, MOST_GONE}
 use Rattle.snow_base.specs.declared.header.Header.{Header}
 use Rattle.snow_issue.specs.declared.work.Waiting.{Waiting}
 use Rattle.snow_gets.specs.declared.gets.Get.{Get}
@@ -67,6 +68,6 @@ after_forgotten q number = record q { held = filter (λ h. not (h.number == numb
 
 -- the most that the lists hold
 pub record AreWithinLimits (q : Lists) : Type 0 where
-  pub few_waiting : length q.waiting ≤ 4096
-  pub few_gets : length q.gets ≤ 4096
-  pub few_gone : length q.gone ≤ 8192
+  pub few_waiting : length q.waiting ≤ MOST_WAITING
+  pub few_gets : length q.gets ≤ MOST_GETS
+  pub few_gone : length q.gone ≤ MOST_GONE

@@ -1,6 +1,6 @@
 use Rattle.std.proofs.Common.{◌≡◌, ℕ, ◌<◌, Bool, List, None, true, false, refl, subst, ◌∙◌, arith}
 use Rattle.snow_flake.specs.Model.Parameters.{Parameters, AreGood}
-use Rattle.snow_board.specs.declared.decision.Decision.{Decision}
+use Rattle.snow_board.specs.declared.board.Decision.{Decision}
 use Rattle.snow_board.specs.Model.Board.{Board}
 use Rattle.snow_board.proofs.Settled.{IsSettling, to_do, settling_none, settling_more, settling_less}
 use Rattle.snow_tree.specs.Kept.Held.{Held}
