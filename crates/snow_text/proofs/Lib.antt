@@ -11,3 +11,9 @@ pub mod Worded
 pub mod Shaped
 pub mod Told
 mod Pages
+pub mod Cutting
+pub mod Saying
+pub mod Named
+pub mod Listed
+pub mod Formed
+pub mod Columned

@@ -3,6 +3,7 @@
 
 mod form;
 mod laws;
+mod making;
 mod refusal;
 
 pub use form::BlockForm;

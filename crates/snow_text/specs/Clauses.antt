@@ -1,0 +1,7 @@
+-- What the functions owe.
+pub mod Making
+pub mod Cutting
+pub mod Numbers
+pub mod Listing
+pub mod Forms
+pub mod Columns
