@@ -15,5 +15,12 @@ pub mod Cutting
 pub mod Saying
 pub mod Named
 pub mod Listed
+pub mod Lists
+pub mod Chained
 pub mod Formed
+pub mod Sized
+pub mod Started
+pub mod Paid
+pub mod Lined
 pub mod Columned
+pub mod Spoken

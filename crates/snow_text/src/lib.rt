@@ -8,4 +8,5 @@ mod refusal;
 
 pub use form::BlockForm;
 pub use laws::{one_by_one, one_form, one_text, own_words};
+pub use making::{MakeStop, Maker};
 pub use refusal::{Reason, Refusal};

@@ -38,3 +38,8 @@ stopped (why.Not reason) left = stop.At reason left
 abbrev pub stopping : Result (Unit {0}) Why → ℕ → Result (Unit {0}) Stop
 stopping (Ok u) left = Ok u
 stopping (Err why) left = Err (stopped why left)
+
+-- the first part, and what stands behind it
+abbrev pub IsHalved : ℕ → List ℕ → Option (List ℕ × List ℕ) → Type 0
+IsHalved mark text None = parts mark text ≡ text ∷ []
+IsHalved mark text (Some both) = (length both.1 < length text) × (parts mark text ≡ both.0 ∷ parts mark both.1)

@@ -5,6 +5,8 @@ use Rattle.snow_text.specs.declared.making.form.Content.{Content}
 use Rattle.snow_text.specs.declared.making.form.Content.TheVariants as content
 use Rattle.snow_text.specs.declared.making.form.Form.{Form}
 use Rattle.snow_text.specs.declared.making.form.Form.TheVariants as form
+use Rattle.snow_text.specs.declared.making.items.Item.TheVariants as item
+use Rattle.snow_text.specs.Clauses.Listing.{items_of}
 use Rattle.snow_text.specs.Model.Words.{Word, Halt, Field, all}
 use Rattle.snow_text.specs.Model.Names.{Names}
 use Rattle.snow_text.specs.Model.Bytes.{bytes_of}
@@ -12,7 +14,7 @@ use Rattle.snow_text.specs.Model.Events.{blocks_of, id_field, ids_word, list_fie
 
 -- identifiers, a block, or blocks, which all words say
 unfoldable pub ids_field : Names → Field
-ids_field names = list_field (ids_word names)
+ids_field names = list_field (items_of names item.Id)
 
 unfoldable pub block_field : Names → Field
 block_field names = all (sized_block names)
@@ -25,7 +27,7 @@ unfoldable pub field_of : Names → Content → Field
 field_of names content.Nothing = none
 field_of names content.Id = id_field names
 field_of names content.Ids = ids_field names
-field_of names content.Numbers = list_field times_word
+field_of names content.Numbers = list_field (items_of names item.Number)
 field_of names content.Block = block_field names
 field_of names content.Blocks = blocks_field names
 field_of names content.Nodes = nodes_field names

@@ -11,7 +11,7 @@ use Rattle.snow_text.specs.Model.Bytes.{item_word, number_word}
 use Rattle.snow_text.specs.Model.Events.{ids_word, listed, pair, times_word, transfer_word, weighed_word}
 
 -- the items that a word says
-abbrev pub items_of : Names → Item → Word → Result (List (List ℕ)) Reason
+unfoldable pub items_of : Names → Item → Word → Result (List (List ℕ)) Reason
 items_of names item.Number word = times_word word
 items_of names item.Id word = ids_word names word
 items_of names item.Node word = weighed_word names word

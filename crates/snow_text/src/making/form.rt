@@ -78,7 +78,7 @@ fn or(form: Option<Form>, other: Option<Form>) -> Option<Form>
 }
 
 // The form among the first.
-#[tactic(auto, unfolding(crate::specs::Clauses::Forms::field_of, crate::specs::Clauses::Forms::ids_field, crate::specs::Clauses::Forms::block_field, crate::specs::Clauses::Forms::blocks_field))]
+#[tactic(auto, unfolding(crate::specs::Clauses::Listing::items_of, crate::specs::Clauses::Forms::field_of, crate::specs::Clauses::Forms::ids_field, crate::specs::Clauses::Forms::block_field, crate::specs::Clauses::Forms::blocks_field))]
 fn first(word: &[u8]) -> Option<Form>
     ensures { (names : Blocks) (words : List Word) (more : List Entry)
         → say (find (λ form. bytes_eq form.0 word.now) (first_forms names more)) words ≡ form_or names result words (say (find (λ form. bytes_eq form.0 word.now) more) words) }
@@ -101,7 +101,7 @@ fn first(word: &[u8]) -> Option<Form>
 }
 
 // The form among the second.
-#[tactic(auto, unfolding(crate::specs::Clauses::Forms::field_of, crate::specs::Clauses::Forms::ids_field, crate::specs::Clauses::Forms::block_field, crate::specs::Clauses::Forms::blocks_field))]
+#[tactic(auto, unfolding(crate::specs::Clauses::Listing::items_of, crate::specs::Clauses::Forms::field_of, crate::specs::Clauses::Forms::ids_field, crate::specs::Clauses::Forms::block_field, crate::specs::Clauses::Forms::blocks_field))]
 fn second(word: &[u8]) -> Option<Form>
     ensures { (names : Blocks) (words : List Word) (more : List Entry)
         → say (find (λ form. bytes_eq form.0 word.now) (second_forms names more)) words ≡ form_or names result words (say (find (λ form. bytes_eq form.0 word.now) more) words) }
@@ -124,7 +124,7 @@ fn second(word: &[u8]) -> Option<Form>
 }
 
 // The form among the third.
-#[tactic(auto, unfolding(crate::specs::Clauses::Forms::field_of, crate::specs::Clauses::Forms::ids_field, crate::specs::Clauses::Forms::block_field, crate::specs::Clauses::Forms::blocks_field))]
+#[tactic(auto, unfolding(crate::specs::Clauses::Listing::items_of, crate::specs::Clauses::Forms::field_of, crate::specs::Clauses::Forms::ids_field, crate::specs::Clauses::Forms::block_field, crate::specs::Clauses::Forms::blocks_field))]
 fn third(word: &[u8]) -> Option<Form>
     ensures { (names : Blocks) (words : List Word) (more : List Entry)
         → say (find (λ form. bytes_eq form.0 word.now) (third_forms names more)) words ≡ form_or names result words (say (find (λ form. bytes_eq form.0 word.now) more) words) }

@@ -33,7 +33,7 @@ pub enum Item {
 /// Appends the items that a word says, and counts them. It returns the model's reason exactly where
 /// the word says none.
 /// Rule: this project's own.
-#[tactic(auto, using(crate::proofs::Listed::tallying))]
+#[tactic(auto, using(crate::proofs::Listed::tallying), unfolding(crate::specs::Clauses::Listing::items_of))]
 pub fn item_more(
     item: Item,
     names: &Names,

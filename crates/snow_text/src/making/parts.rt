@@ -1,7 +1,7 @@
 ghost use Rattle.std.specs.Prelude.{◌≡◌, ℕ, ◌+◌, ◌==◌, List, [], drop, Option};
 ghost use Rattle.std.specs.Option.{option_map};
 ghost use Rattle.snow_text.specs.Model.Words.{parts};
-ghost use Rattle.snow_text.specs.Clauses.Cutting.{IsCut, first};
+ghost use Rattle.snow_text.specs.Clauses.Cutting.{IsCut, IsHalved, first};
 
 use std::marker::Model;
 
@@ -78,4 +78,16 @@ pub fn place(mark: u8, text: &[u8]) -> Option<usize>
         }
     }
     None
+}
+
+/// Returns the first part of a text and what stands behind the first byte `mark`, or `None` where
+/// there is no such byte.
+/// Rule: this project's own.
+pub fn halved(mark: u8, text: &[u8]) -> Option<(&[u8], &[u8])>
+    ensures { IsHalved mark text.now (option_map (λ h. (h.0.now, h.1.now)) result) }
+{
+    match place(mark, text) {
+        None => None,
+        Some(at) => Some((&text[..at], &text[at + 1..])),
+    }
 }
