@@ -11,3 +11,10 @@ pub mod Worded
 pub mod Shaped
 pub mod Told
 mod Pages
+pub mod Putting
+pub mod Shortened
+pub mod Listed
+pub mod Blocked
+pub mod Ledgered
+pub mod Evented
+pub mod Framing

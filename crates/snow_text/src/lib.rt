@@ -4,7 +4,9 @@
 mod form;
 mod laws;
 mod refusal;
+mod showing;
 
 pub use form::BlockForm;
 pub use laws::{one_by_one, one_form, one_text, own_words};
 pub use refusal::{Reason, Refusal};
+pub use showing::show_rest;
