@@ -1,22 +1,20 @@
 -- Which blocks are shown in the words of their chain: those whose bytes have the length of the chain's blocks.
-use Rattle.std.proofs.Common.{◌≡◌, ℕ, zero, suc, ◌+◌, ◌-◌, ◌*◌, ◌/◌, ◌<◌, ◌≤◌, ◌^◌, ◌==◌, ◌&&◌, nat_le, nat_lt, if◌then◌else◌, Bool, true, false, List, [], ◌∷◌, ◌++◌, length, take, drop, map, replicate, codes, decimal, Option, Some, None, Result, Ok, Err, refl, sym, ap, ◌∙◌, append_assoc, append-nil, subst, arith}
-use Rattle.std.specs.List.{flat_map}
-use Rattle.std.proofs.lemmas.Bool.{eqb-true, false_from_ne_true, lt-ltb}
+use Rattle.std.proofs.Common.{◌≡◌, ℕ, ◌+◌, ◌-◌, ◌*◌, ◌<◌, ◌≤◌, ◌^◌, ◌==◌, if◌then◌else◌, Bool, true, false, List, [], ◌∷◌, ◌++◌, length, take, drop, replicate, decimal, Result, Ok, Err, refl, sym, ap, ◌∙◌, subst, arith}
+use Rattle.std.proofs.lemmas.Bool.{eqb-true, false_from_ne_true}
 use Rattle.std.proofs.lemmas.List.{length-append, length-drop, length-take, take-append-drop, drop-drop}
 use Rattle.byteorder.specs.Endian.{big_number}
-use Rattle.byteorder.specs.Numbers.{big_from-lt, big_number-reads_back, length-bytes_high_first}
+use Rattle.byteorder.specs.Numbers.{big_from-lt, length-bytes_high_first}
 use Rattle.snow_wire.specs.Model.Reading.{IsBytes}
-use Rattle.snow_wire.specs.Model.Spelling.{counted, number}
+use Rattle.snow_wire.specs.Model.Spelling.{number}
 use Rattle.snow_wire.proofs.Numbers.{IsBytes-behind, IsBytes-take, IsWidth, front_spells, width1, width2, width8}
 use Rattle.snow_text.specs.declared.refusal.Reason.{Reason}
 use Rattle.snow_text.specs.declared.refusal.Reason.TheVariants as reason
 use Rattle.snow_text.specs.declared.form.BlockForm.TheVariants as form
-use Rattle.snow_text.specs.Model.Words.{Word, Field, Halt, ◌>>=◌, ◌&◌, all, all_of, at, each, ended, one, where_holds}
+use Rattle.snow_text.specs.Model.Words.{Word, Field, Halt, ◌>>=◌, ◌&◌, at, ended, one, where_holds}
 use Rattle.snow_text.specs.Model.Names.{called, is_call}
 use Rattle.snow_text.specs.Model.Bytes.{bytes_text, bytes_word, exactly, fixed_text, fixed_word, is_open, item_word, number_below, number_word}
-use Rattle.snow_text.specs.Model.Events.{behind, block_of, id_field, listed, list_field, number_field, pair, plain, tally, ledger, transfer_word}
-use Rattle.snow_text.specs.Model.Blocks.{behind_words, block_words, is_block, transfer_text, transfer_texts, words_if, words_in}
-use Rattle.snow_text.specs.Model.Shown.{line}
+use Rattle.snow_text.specs.Model.Events.{behind, block_of, id_field, number_field, plain, tally}
+use Rattle.snow_text.specs.Model.Blocks.{behind_words, block_words, is_block, words_if, words_in}
 use Rattle.snow_text.proofs.Pieces.{bytes_text_is, same_bytes, told_same}
 use Rattle.snow_text.proofs.Values.{item_says, number_says}
 use Rattle.snow_text.proofs.Fields.{Fills, all_fills, one_fits, then_fills}

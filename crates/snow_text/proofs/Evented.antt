@@ -1,13 +1,12 @@
 -- The lines of events, put one word behind another.
-use Rattle.std.proofs.Common.{◌≡◌, ℕ, ◌<◌, if◌then◌else◌, Bool, true, false, List, [], ◌∷◌, ◌++◌, length, map, codes, decimal, refl, sym, ap, ◌∙◌, append_assoc, append-nil, arith}
-use Rattle.std.specs.List.{join_with_byte}
+use Rattle.std.proofs.Common.{◌≡◌, ℕ, ◌<◌, Bool, true, false, List, [], ◌∷◌, ◌++◌, length, map, codes, decimal, refl, sym, ap, ◌∙◌, append_assoc, append-nil, arith}
 use Rattle.snow_wire.specs.declared.event.Start.{Start}
 use Rattle.snow_wire.specs.Model.Spelling.{flag}
 use Rattle.snow_wire.specs.Clauses.Viewed.{weighed_in}
 use Rattle.snow_text.specs.declared.form.BlockForm.{BlockForm}
 use Rattle.snow_text.specs.declared.form.BlockForm.TheVariants as form
 use Rattle.snow_text.specs.Model.Words.{Word}
-use Rattle.snow_text.specs.Model.Bytes.{bytes_text, fixed_text}
+use Rattle.snow_text.specs.Model.Bytes.{fixed_text}
 use Rattle.snow_text.specs.Model.Blocks.{block_line, block_words, words_if, words_in, is_block}
 use Rattle.snow_text.specs.Model.Events.{block_of}
 use Rattle.snow_text.specs.Model.Shown.{field, line, sent_words, some_field, some_word, start_words, times_texts, weighed_text}

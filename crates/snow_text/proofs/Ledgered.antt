@@ -1,8 +1,8 @@
 -- Which ledger blocks are shown in words: those that have just the transfers that they count.
-use Rattle.std.proofs.Common.{◌≡◌, ℕ, zero, suc, ◌+◌, ◌-◌, ◌*◌, ◌/◌, ◌<◌, ◌≤◌, ◌^◌, ◌==◌, ◌&&◌, nat_le, nat_lt, if◌then◌else◌, Bool, true, false, List, [], ◌∷◌, ◌++◌, length, take, drop, codes, decimal, Result, Ok, Err, refl, sym, ap, ◌∙◌, append_assoc, append-nil, subst, inr, arith}
+use Rattle.std.proofs.Common.{◌≡◌, ℕ, zero, suc, ◌+◌, ◌-◌, ◌*◌, ◌/◌, ◌<◌, ◌≤◌, ◌^◌, ◌==◌, nat_le, nat_lt, if◌then◌else◌, true, false, List, [], ◌∷◌, ◌++◌, length, take, drop, decimal, Result, Ok, Err, refl, sym, ap, ◌∙◌, append_assoc, subst, inr, arith}
 use Rattle.std.specs.List.{flat_map}
 use Rattle.std.proofs.lemmas.Bool.{and_from, and_parts, eq-eqb, eqb-true, false_from_ne_true, le-leb, leb-true, lt-ltb, ltb-true, both_ways}
-use Rattle.std.proofs.lemmas.List.{length-append, length-drop, length-take, take-append-drop, take_all, drop-drop}
+use Rattle.std.proofs.lemmas.List.{length-append, length-drop, length-take, take-append-drop, take_all}
 use Rattle.std.proofs.lemmas.List.Concat.{flat_map-append}
 use Rattle.std.proofs.Math.Seq.{drop-append_seam}
 use Rattle.byteorder.specs.Endian.{big_number}
@@ -13,14 +13,14 @@ use Rattle.snow_wire.proofs.Numbers.{IsBytes-take, front_spells, width2}
 use Rattle.snow_text.specs.declared.refusal.Reason.{Reason}
 use Rattle.snow_text.specs.declared.refusal.Reason.TheVariants as reason
 use Rattle.snow_text.specs.declared.form.BlockForm.TheVariants as form
-use Rattle.snow_text.specs.Model.Words.{Word, Field, Halt, ◌>>=◌, ◌&◌, all, all_of, at, ended, one, parts}
+use Rattle.snow_text.specs.Model.Words.{Word, Field, ◌>>=◌, ◌&◌, all, all_of, at, ended, one, parts}
 use Rattle.snow_text.specs.Model.Bytes.{bytes_text, fixed_text, item_word, number_word}
 use Rattle.snow_text.specs.Model.Events.{block_of, listed, list_field, pair, ledger, transfer_word}
 use Rattle.snow_text.specs.Model.Blocks.{block_words, is_block, transfer_text, transfer_texts, words_in}
 use Rattle.snow_text.specs.Kept.Listing.{is_ledger}
-use Rattle.snow_text.proofs.Marks.{IsMark, Lacks, colon, decimal_lacks, lacks_both, lacks_cons, parts_more, parts_one}
-use Rattle.snow_text.proofs.Fields.{Fills, all_fills}
-use Rattle.snow_text.proofs.Blocked.{Read, at_ok, bytes_drop, dropped, end_if, ended_fills, found_again, front_fills, id_read, item_long, long_drop, long_read, number_long, told_found, two_read, was_read, where_ok, words_else, words_then}
+use Rattle.snow_text.proofs.Marks.{IsMark, colon, decimal_lacks, lacks_both, lacks_cons, parts_more, parts_one}
+use Rattle.snow_text.proofs.Fields.{all_fills}
+use Rattle.snow_text.proofs.Blocked.{at_ok, bytes_drop, dropped, end_if, ended_fills, found_again, front_fills, id_read, item_long, long_drop, long_read, number_long, told_found, two_read, was_read, where_ok, words_else, words_then}
 
 greater : IsMark 62
 greater = record { table = refl; zero_too = refl; outside = inr (omega arith) }

@@ -1,15 +1,13 @@
 -- Words of lines, put one behind another.
-use Rattle.std.proofs.Common.{◌≡◌, ℕ, suc, ◌+◌, ◌-◌, ◌/◌, ◌<◌, ◌≤◌, ◌==◌, if◌then◌else◌, Bool, true, false, List, [], ◌∷◌, ◌++◌, length, map, take, drop, get_or, slice_index, decimal, codes, refl, sym, ap, ◌∙◌, append_assoc, append-nil, arith}
+use Rattle.std.proofs.Common.{◌≡◌, ℕ, suc, ◌+◌, ◌-◌, ◌/◌, ◌<◌, ◌≤◌, List, [], ◌∷◌, ◌++◌, length, map, take, drop, get_or, slice_index, decimal, codes, refl, sym, ap, ◌∙◌, append_assoc, append-nil, arith}
 use Rattle.std.specs.List.{join_with_byte}
 use Rattle.std.proofs.lemmas.List.{drop_more, drop_all, drop-map, get_or-drop, length-drop}
 use Rattle.byteorder.specs.Endian.{big_number}
-use Rattle.snow_wire.specs.Clauses.Viewed.{weighed_in}
-use Rattle.snow_text.specs.declared.form.BlockForm.{BlockForm}
 use Rattle.snow_text.specs.declared.form.BlockForm.TheVariants as form
 use Rattle.snow_text.specs.Model.Words.{Word}
 use Rattle.snow_text.specs.Model.Bytes.{bytes_text, fixed_text, runs_of}
 use Rattle.snow_text.specs.Model.Blocks.{behind_words, transfer_text, transfer_texts, words_in}
-use Rattle.snow_text.specs.Model.Shown.{field, line, listed_text, some_field, some_word, times_text, times_texts, weighed_text}
+use Rattle.snow_text.specs.Model.Shown.{line, listed_text, some_field, some_word, times_text, times_texts}
 use Rattle.snow_text.specs.Kept.Listing.{led, plain_fields, tally_fields}
 use Rattle.snow_text.proofs.Shortened.{mapped_first}
 use Rattle.snow_text.proofs.Blocked.{dropped}

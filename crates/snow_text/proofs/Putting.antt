@@ -1,5 +1,5 @@
 -- Pieces that are put behind a text one after another.
-use Rattle.std.proofs.Common.{◌≡◌, ℕ, List, [], ◌∷◌, ◌++◌, refl, sym, ap, ◌∙◌, append_assoc, append-nil, Result, Ok, Err}
+use Rattle.std.proofs.Common.{◌≡◌, ℕ, List, [], ◌++◌, refl, sym, ap, ◌∙◌, append_assoc, append-nil, Result, Ok, Err}
 use Rattle.snow_text.specs.Clauses.Putting.{Begins, Puts}
 
 -- a text begins with itself

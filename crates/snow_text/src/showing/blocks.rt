@@ -37,7 +37,7 @@ fn put_plain_fields(text: &mut Vec<u8>, bytes: &[u8]) -> Result<(), AllocError>
 }
 
 /// Puts the words of a plain block behind a text.
-pub fn put_plain(text: &mut Vec<u8>, bytes: &[u8]) -> Result<(), AllocError>
+fn put_plain(text: &mut Vec<u8>, bytes: &[u8]) -> Result<(), AllocError>
     requires { 73 ≤ length bytes.now }
     ensures { Puts result text.old.items text.new.items (line (words_in form.Plain bytes.now)) }
 {
@@ -61,7 +61,7 @@ fn put_tally_fields(text: &mut Vec<u8>, bytes: &[u8]) -> Result<(), AllocError>
 }
 
 /// Puts the words of a tally block behind a text.
-pub fn put_tally(text: &mut Vec<u8>, bytes: &[u8]) -> Result<(), AllocError>
+fn put_tally(text: &mut Vec<u8>, bytes: &[u8]) -> Result<(), AllocError>
     requires { 48 ≤ length bytes.now }
     ensures { Puts result text.old.items text.new.items (line (words_in form.Tally bytes.now)) }
 {
@@ -97,7 +97,7 @@ fn put_transfers(text: &mut Vec<u8>, bytes: &[u8]) -> Result<(), AllocError>
 }
 
 /// Puts the words of a ledger's block behind a text.
-pub fn put_ledger(text: &mut Vec<u8>, bytes: &[u8]) -> Result<(), AllocError>
+fn put_ledger(text: &mut Vec<u8>, bytes: &[u8]) -> Result<(), AllocError>
     requires { 42 ≤ length bytes.now }
     ensures { Puts result text.old.items text.new.items (line (words_in form.Ledger bytes.now)) }
 {
@@ -150,6 +150,8 @@ fn put_if_ledger(text: &mut Vec<u8>, bytes: &[u8]) -> Result<(), AllocError>
 }
 
 /// Puts a block behind a text, in its words with a space between two of them.
+/// On want of memory it returns `AllocError`, and the text begins with what it was.
+/// Rule: this project's own.
 pub fn put_block(text: &mut Vec<u8>, form: BlockForm, bytes: &[u8]) -> Result<(), AllocError>
     ensures { Puts result text.old.items text.new.items (block_line form bytes.now) }
 {

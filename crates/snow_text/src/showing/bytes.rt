@@ -13,9 +13,11 @@ use std::alloc::AllocError;
 const DIGITS: [u8; 16] = *b"0123456789abcdef";
 
 /// The most times that one piece tells.
+/// Rule: this project's own.
 pub const MOST_TIMES: usize = 4_194_304;
 
 /// What stands at the end of a short form.
+/// Rule: this project's own.
 #[derive(Clone, Copy, Debug, PartialEq, Eq)]
 pub enum Last {
     /// Nothing yet.
@@ -127,7 +129,7 @@ fn put_run(text: &mut Vec<u8>, last: Last, byte: u8, times: usize) -> Result<Las
 
 /// Puts the short form of bytes behind a text.
 #[tactic(auto, using(crate::proofs::Shortened::short_runs, crate::proofs::Putting::going_begins, crate::proofs::Putting::going_stops))]
-pub fn put_short(text: &mut Vec<u8>, bytes: &[u8]) -> Result<(), AllocError>
+fn put_short(text: &mut Vec<u8>, bytes: &[u8]) -> Result<(), AllocError>
     ensures { Puts result text.old.items text.new.items (short bytes.now) }
 {
     let mut last = Last::Nothing;
@@ -141,6 +143,8 @@ pub fn put_short(text: &mut Vec<u8>, bytes: &[u8]) -> Result<(), AllocError>
 }
 
 /// Puts the short form of any bytes behind a text.
+/// On want of memory it returns `AllocError`, and the text begins with what it was.
+/// Rule: this project's own.
 #[tactic(auto, unfolding(crate::specs::Model::Bytes::bytes_text))]
 pub fn put_bytes(text: &mut Vec<u8>, bytes: &[u8]) -> Result<(), AllocError>
     ensures { Puts result text.old.items text.new.items (bytes_text bytes.now) }
@@ -168,6 +172,8 @@ fn without_zeros(bytes: &[u8]) -> &[u8]
 }
 
 /// Puts the short form of bytes whose number is known behind a text.
+/// On want of memory it returns `AllocError`, and the text begins with what it was.
+/// Rule: this project's own.
 #[tactic(auto, unfolding(crate::specs::Model::Bytes::fixed_text))]
 pub fn put_fixed(text: &mut Vec<u8>, bytes: &[u8]) -> Result<(), AllocError>
     requires { 0 < length bytes.now }
@@ -182,6 +188,8 @@ pub fn put_fixed(text: &mut Vec<u8>, bytes: &[u8]) -> Result<(), AllocError>
 }
 
 /// Puts a space and the short form of bytes whose number is known behind a text.
+/// On want of memory it returns `AllocError`, and the text begins with what it was.
+/// Rule: this project's own.
 pub fn put_fixed_word(text: &mut Vec<u8>, bytes: &[u8]) -> Result<(), AllocError>
     requires { 0 < length bytes.now }
     ensures { Puts result text.old.items text.new.items (32 ∷ fixed_text bytes.now) }

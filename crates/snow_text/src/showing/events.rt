@@ -201,6 +201,8 @@ fn put_validators(text: &mut Vec<u8>, nodes: &[[u8; 28]]) -> Result<(), AllocErr
 }
 
 /// Puts an event that is no line of a program behind a text.
+/// On want of memory it returns `AllocError`, and the text begins with what it was.
+/// Rule: this project's own.
 #[tactic(auto, unfolding(crate::specs::Model::Shown::event_words))]
 pub fn put_event(text: &mut Vec<u8>, form: BlockForm, view: &View) -> Result<(), AllocError>
     requires { is_line (as_event view.now) ≡ false }

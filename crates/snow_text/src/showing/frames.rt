@@ -14,6 +14,8 @@ use snow_wire::View;
 use std::alloc::AllocError;
 
 /// Puts the line of a payload as it is behind a text.
+/// On want of memory it returns `AllocError`, and the text begins with what it was.
+/// Rule: this project's own.
 pub fn put_as_it_is(text: &mut Vec<u8>, payload: &[u8]) -> Result<(), AllocError>
     ensures { Puts result text.old.items text.new.items (line (frame_words payload.now) ++ 10 ∷ []) }
 {
@@ -23,6 +25,8 @@ pub fn put_as_it_is(text: &mut Vec<u8>, payload: &[u8]) -> Result<(), AllocError
 }
 
 /// Puts the line of an event, in the event's own words, behind a text.
+/// On want of memory it returns `AllocError`, and the text begins with what it was.
+/// Rule: this project's own.
 pub fn put_own_words(text: &mut Vec<u8>, form: BlockForm, view: &View) -> Result<(), AllocError>
     requires { is_line (as_event view.now) ≡ false }
     ensures { Puts result text.old.items text.new.items (line (event_words form (as_event view.now)) ++ 10 ∷ []) }

@@ -15,6 +15,8 @@ use byteorder::{BigEndian, ByteOrder};
 use std::alloc::AllocError;
 
 /// Puts identifiers behind a text, with a space before each.
+/// On want of memory it returns `AllocError`, and the text begins with what it was.
+/// Rule: this project's own.
 #[tactic(auto, using(crate::proofs::Putting::going_begins, crate::proofs::Putting::going_stops))]
 pub fn put_ids(text: &mut Vec<u8>, ids: &[[u8; 32]]) -> Result<(), AllocError>
     ensures { Puts result text.old.items text.new.items (led (32 ∷ []) (32 ∷ []) (map fixed_text ids.now)) }
@@ -44,6 +46,8 @@ fn put_marked_node(text: &mut Vec<u8>, mark: &[u8], node: &[u8; 28]) -> Result<(
 }
 
 /// Puts nodes behind a text, with a mark before the first, and a comma before each other.
+/// On want of memory it returns `AllocError`, and the text begins with what it was.
+/// Rule: this project's own.
 #[tactic(auto, using(crate::proofs::Putting::going_begins, crate::proofs::Putting::going_stops))]
 pub fn put_nodes(text: &mut Vec<u8>, mark: &[u8], nodes: &[[u8; 28]]) -> Result<(), AllocError>
     ensures { Puts result text.old.items text.new.items (led mark.now (44 ∷ []) (map (λ n. weighed_text (weighed_in n)) nodes.now)) }
@@ -109,6 +113,8 @@ fn put_marked_run(
 }
 
 /// Puts numbers behind a text, with a mark before the first word, and a gap before each other.
+/// On want of memory it returns `AllocError`, and the text begins with what it was.
+/// Rule: this project's own.
 #[tactic(auto, using(crate::proofs::Putting::going_begins, crate::proofs::Putting::going_stops))]
 pub fn put_numbers(
     text: &mut Vec<u8>,

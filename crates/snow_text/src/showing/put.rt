@@ -4,6 +4,8 @@ ghost use Rattle.snow_text.specs.Clauses.Putting.{Puts};
 use std::alloc::AllocError;
 
 /// Puts these bytes behind a text.
+/// On want of memory it returns `AllocError`, and the text begins with what it was.
+/// Rule: this project's own.
 pub fn put(text: &mut Vec<u8>, bytes: &[u8]) -> Result<(), AllocError>
     ensures { Puts result text.old.items text.new.items bytes.now }
 {
@@ -11,6 +13,8 @@ pub fn put(text: &mut Vec<u8>, bytes: &[u8]) -> Result<(), AllocError>
 }
 
 /// Puts a decimal number behind a text.
+/// On want of memory it returns `AllocError`, and the text begins with what it was.
+/// Rule: this project's own.
 pub fn put_decimal(text: &mut Vec<u8>, number: u64) -> Result<(), AllocError>
     ensures { Puts result text.old.items text.new.items (decimal number) }
 {
@@ -19,6 +23,8 @@ pub fn put_decimal(text: &mut Vec<u8>, number: u64) -> Result<(), AllocError>
 }
 
 /// Puts a mark and a decimal number behind a text.
+/// On want of memory it returns `AllocError`, and the text begins with what it was.
+/// Rule: this project's own.
 pub fn put_marked_number(text: &mut Vec<u8>, mark: &[u8], number: u64) -> Result<(), AllocError>
     ensures { Puts result text.old.items text.new.items (mark.now ++ decimal number) }
 {

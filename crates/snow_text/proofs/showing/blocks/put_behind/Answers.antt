@@ -1,4 +1,4 @@
-use Rattle.std.proofs.Common.{[], ◌∷◌, ◌++◌, ◌≤◌, ◌<◌, length, sym, ap, ◌∙◌, append-nil, arith}
+use Rattle.std.proofs.Common.{[], ◌∷◌, ◌≤◌, ◌<◌, length, sym, append-nil, arith}
 use Rattle.snow_text.specs.Model.Bytes.{bytes_text}
 use Rattle.snow_text.proofs.Putting.{puts_behind}
 use Rattle.snow_text.proofs.Listed.{behind_led, behind_none}

@@ -1,4 +1,4 @@
-use Rattle.std.proofs.Common.{ℕ, List, sym, ap, arith}
+use Rattle.std.proofs.Common.{sym, ap, arith}
 use Rattle.snow_text.specs.declared.form.BlockForm.TheVariants as form
 use Rattle.snow_text.specs.Model.Bytes.{bytes_text}
 use Rattle.snow_text.specs.Model.Blocks.{words_in}

@@ -1,4 +1,4 @@
-use Rattle.std.proofs.Common.{◌≡◌, [], ◌∷◌, ◌-◌, ◌/◌, codes, decimal, length, sym, arith}
+use Rattle.std.proofs.Common.{[], ◌∷◌, ◌/◌, codes, decimal, length}
 use Rattle.std.proofs.lemmas.List.{length-drop}
 use Rattle.snow_text.specs.Model.Bytes.{fixed_text}
 use Rattle.snow_text.specs.Model.Blocks.{transfer_texts}

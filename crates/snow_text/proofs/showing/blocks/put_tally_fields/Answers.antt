@@ -1,4 +1,4 @@
-use Rattle.std.proofs.Common.{[], ◌∷◌, decimal, drop, refl}
+use Rattle.std.proofs.Common.{[], ◌∷◌, decimal, refl}
 use Rattle.std.proofs.lemmas.List.{take_rest}
 use Rattle.snow_text.specs.Model.Blocks.{behind_words}
 use Rattle.snow_text.specs.Kept.Listing.{led}

@@ -1,7 +1,3 @@
-use Rattle.std.proofs.Common.{◌≡◌, [], ◌∷◌, ◌-◌, ◌/◌, suc, length, drop, sym, ap, ◌∙◌, arith}
-use Rattle.std.proofs.lemmas.List.{length-drop}
-use Rattle.snow_text.specs.Model.Blocks.{transfer_texts}
-use Rattle.snow_text.specs.Kept.Listing.{led}
 use Rattle.snow_text.proofs.Putting.{going_ends, going_on}
 use Rattle.snow_text.proofs.Listed.{transfers_end, transfers_step}
 use Rattle.snow_text.proofs.showing.blocks.put_transfers.Goals as goal

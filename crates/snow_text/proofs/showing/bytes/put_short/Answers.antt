@@ -1,4 +1,4 @@
-use Rattle.std.proofs.Common.{◌≡◌, ◌-◌, slice_index, drop, length, arith}
+use Rattle.std.proofs.Common.{slice_index, drop}
 use Rattle.std.proofs.lemmas.List.{take_rest}
 use Rattle.snow_text.proofs.Putting.{going_ends, going_on}
 use Rattle.snow_text.proofs.Shortened.{runs_next, runs_none}

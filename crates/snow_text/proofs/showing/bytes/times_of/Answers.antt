@@ -1,4 +1,4 @@
-use Rattle.std.proofs.Common.{◌≡◌, slice_index, refl, arith}
+use Rattle.std.proofs.Common.{slice_index, refl, arith}
 use Rattle.snow_text.proofs.Shortened.{front_more}
 use Rattle.snow_text.proofs.showing.bytes.times_of.Goals as goal
 

@@ -1,4 +1,4 @@
-use Rattle.std.proofs.Common.{◌≡◌, ℕ, ◌+◌, drop, slice_index}
+use Rattle.std.proofs.Common.{◌≡◌, ◌+◌, drop, slice_index}
 use Rattle.snow_text.specs.Kept.Shortening.{times_in_front}
 use Rattle.snow_text.proofs.showing.bytes.times_of.Given as goal
 

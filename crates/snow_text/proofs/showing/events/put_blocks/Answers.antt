@@ -1,6 +1,4 @@
-use Rattle.std.proofs.Common.{◌≡◌, ℕ, List, [], ◌∷◌, ◌++◌, map, sym, ap, ◌∙◌, append_assoc}
-use Rattle.snow_text.specs.Model.Blocks.{block_line}
-use Rattle.snow_text.specs.Kept.Listing.{led}
+use Rattle.std.proofs.Common.{◌≡◌, ◌∷◌}
 use Rattle.snow_text.proofs.Evented.{blocks_end, blocks_next}
 use Rattle.snow_text.proofs.Putting.{going_ends, going_on}
 use Rattle.snow_text.proofs.showing.events.put_blocks.Goals as goal

@@ -1,4 +1,4 @@
-use Rattle.std.proofs.Common.{map, length, refl, arith}
+use Rattle.std.proofs.Common.{map, refl}
 use Rattle.byteorder.specs.Endian.{big_number}
 use Rattle.std.proofs.lemmas.List.{length-map}
 use Rattle.snow_text.proofs.Shortened.{first_of_runs}

@@ -1,4 +1,4 @@
-use Rattle.std.proofs.Common.{[], ◌∷◌, arith}
+use Rattle.std.proofs.Common.{[], ◌∷◌}
 use Rattle.snow_text.specs.Model.Bytes.{fixed_text}
 use Rattle.snow_text.proofs.Putting.{going_ends, going_on}
 use Rattle.snow_text.proofs.Listed.{led_end, led_next}

@@ -1,4 +1,4 @@
-use Rattle.std.proofs.Common.{[], ◌∷◌, ◌++◌, decimal, refl}
+use Rattle.std.proofs.Common.{[], ◌∷◌, decimal, refl}
 use Rattle.snow_text.specs.Model.Bytes.{fixed_text}
 use Rattle.snow_text.proofs.Putting.{puts_three}
 use Rattle.snow_text.proofs.showing.lists.put_node.Goals as goal

@@ -1,4 +1,4 @@
-use Rattle.std.proofs.Common.{[], ◌∷◌, ℕ, List, arith}
+use Rattle.std.proofs.Common.{[], ◌∷◌, ℕ, List}
 use Rattle.snow_wire.specs.Clauses.Viewed.{weighed_in}
 use Rattle.snow_text.specs.Model.Shown.{weighed_text}
 use Rattle.snow_text.proofs.Putting.{going_ends, going_on}

@@ -1,4 +1,4 @@
-use Rattle.std.proofs.Common.{[], map, length, arith}
+use Rattle.std.proofs.Common.{map}
 use Rattle.byteorder.specs.Endian.{big_number}
 use Rattle.std.proofs.lemmas.List.{length-map}
 use Rattle.snow_text.proofs.Putting.{going_ends, going_on}

@@ -1,4 +1,4 @@
-use Rattle.std.proofs.Common.{◌≡◌, ℕ, List, [], map, slice_index, refl, sym, ◌∙◌, arith}
+use Rattle.std.proofs.Common.{[], map, slice_index, sym, ◌∙◌, arith}
 use Rattle.byteorder.specs.Endian.{big_number}
 use Rattle.snow_text.proofs.Shortened.{mapped_ends, mapped_first, mapped_more, mapped_none}
 use Rattle.snow_text.proofs.showing.lists.times_of.Goals as goal

@@ -1,4 +1,4 @@
-use Rattle.std.proofs.Common.{◌≡◌, ℕ, ◌+◌, drop, map, slice_index}
+use Rattle.std.proofs.Common.{◌≡◌, ◌+◌, drop, map, slice_index}
 use Rattle.byteorder.specs.Endian.{big_number}
 use Rattle.snow_text.specs.Kept.Shortening.{times_in_front}
 use Rattle.snow_text.proofs.showing.lists.times_of.Given as goal
