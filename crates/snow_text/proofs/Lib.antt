@@ -24,3 +24,10 @@ pub mod Paid
 pub mod Lined
 pub mod Columned
 pub mod Spoken
+pub mod Putting
+pub mod Shortened
+pub mod Itemed
+pub mod Blocked
+pub mod Ledgered
+pub mod Evented
+pub mod Framing

@@ -9,3 +9,4 @@ pub mod Payload
 pub mod Lined
 pub mod Columns
 pub mod Meaning
+pub mod Putting
