@@ -13,6 +13,7 @@ mod form;
 mod items;
 mod kind;
 mod line;
+mod lines;
 mod lists;
 mod maker;
 mod meaning;
@@ -24,6 +25,9 @@ mod payload;
 mod refusing;
 mod start;
 mod stop;
+mod text;
+mod whole;
 mod words;
 
 pub use maker::{MakeStop, Maker};
+pub use whole::{MakeEnd, make};
