@@ -31,3 +31,4 @@ pub mod Blocked
 pub mod Ledgered
 pub mod Evented
 pub mod Framing
+pub mod Brevity
