@@ -7,7 +7,6 @@ mod codec;
 mod ledgers;
 mod polls;
 mod queue;
-mod random;
 mod samples;
 mod tries;
 

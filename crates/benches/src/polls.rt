@@ -1,7 +1,7 @@
 ghost use Rattle.std.specs.Prelude.{◌≡◌, [], IfOk};
 ghost use Rattle.snow_sample.specs.Model.Sampling.{draw_count, AreOfDistinctNodes};
 
-use crate::random::after;
+use crate::samples::after;
 use snow_base::{Id, NodeId};
 use snow_flake::Params;
 use snow_poll::{Answered, PollFault, Polls};

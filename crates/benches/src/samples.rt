@@ -1,8 +1,15 @@
-use crate::random::after;
 use snow_base::NodeId;
 use snow_sample::{Draws, Node, Roster, Words};
 use std::alloc::{AllocError, Global};
 use std::time::Instant;
+
+/// The next number of a xorshift generator, which begins anywhere but at 0.
+pub fn after(number: u64) -> u64 {
+    let mut next = number;
+    next ^= next << 13;
+    next ^= next >> 7;
+    next ^ (next << 17)
+}
 
 /// How the words of a sample come.
 #[derive(Clone, Copy)]

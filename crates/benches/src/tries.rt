@@ -1,7 +1,7 @@
 ghost use Rattle.std.specs.Prelude.{◌≡◌, ◌<◌, ◌≤◌, All, Contains, IfOk};
 ghost use Rattle.snow_base.specs.Model.Votes.{total_count};
 
-use crate::random::after;
+use crate::samples::after;
 use snow_base::{Bag, Id, Steps};
 use snow_flake::{Params, Snowball};
 use snow_plain::Conflict;

@@ -1,6 +1,5 @@
 ghost use Rattle.std.specs.Prelude.{◌≡◌, ◌<◌};
 
-use crate::tools::{id, is};
 use snow_base::{
     Bag, Bytes, Id, Ids, MemSink, MemSource, Numbers, Nums, PureSink, PureSource, ReadSource, Sink,
     Source, Steps, WriteSink, write_whole,
@@ -10,6 +9,20 @@ use std::io::{self, ErrorKind, Read, Write};
 use std::marker::Brand;
 use std::sync::ledger::{Blank, Ledger};
 use std::test::Fail;
+
+/// The identifier with these first two bytes and zeros behind.
+pub(crate) fn id(first: u8, second: u8) -> Id {
+    let mut bytes = [0; 32];
+    bytes[0] = first;
+    bytes[1] = second;
+    Id::from_bytes(bytes)
+}
+
+/// Whether two texts are the same. All tests compare by this call: what the standard library says of a
+/// comparison is brought into each function that makes one.
+pub(crate) fn is(text: &[u8], other: &[u8]) -> bool {
+    text == other
+}
 
 // Adds votes for the identifier with this first byte, where there may be so many.
 fn add(bag: &mut Bag, first: u8, count: u32) -> Result<(), AllocError> {

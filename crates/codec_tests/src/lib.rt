@@ -20,6 +20,4 @@ mod sampling;
 #[cfg(test)]
 mod serving;
 #[cfg(test)]
-mod tools;
-#[cfg(test)]
 mod wire;

@@ -1,4 +1,4 @@
-use crate::tools::{id, is};
+use crate::base::{id, is};
 use snow_base::{MemSink, Nums, Sink};
 use snow_lines::{DropWhy, Line, SkipKind, Text, print, print_all, read};
 use std::alloc::{AllocError, Global};

@@ -1,5 +1,5 @@
+use crate::base::{id, is};
 use crate::lines::{behind, failing_at};
-use crate::tools::{id, is};
 use snow_base::{Ids, MemSink, Sink};
 use snow_lines::{Line, Page, QueryWhy, RestartWhy};
 use std::alloc::{AllocError, Global};

@@ -160,6 +160,6 @@ pub(crate) fn is_next<B: Board>(queue: &Queue, board: &B, block: Placed) -> Told
 }
 
 // Whether nothing is to be done once the parent of a block that waits is asked for.
-pub(crate) fn rest(queue: &mut Queue, block: Placed) -> Told {
-    told_flag(queue.rest(&header_of(block)))
+pub(crate) fn mark_quiet(queue: &mut Queue, block: Placed) -> Told {
+    told_flag(queue.mark_quiet(&header_of(block)))
 }

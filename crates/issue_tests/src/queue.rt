@@ -1,6 +1,6 @@
 use crate::calls::{
-    NOTHING, Tale, ask, bubble, close, count, go, hold, is_next, issue, named, offer, rest, step,
-    step_known, tale, told_flag,
+    NOTHING, Tale, ask, bubble, close, count, go, hold, is_next, issue, mark_quiet, named, offer,
+    step, step_known, tale, told_flag,
 };
 use snow_board::Board;
 use snow_flake::{Params, Snowball};
@@ -70,8 +70,8 @@ fn hopeless<B: Board>(alloc: Global, queue: &mut Queue, board: &B) -> Result<Tal
     let waits = step(queue, board);
     let closed = close(queue, 1);
     let steps = (step(queue, board), step(queue, board));
-    let rest = step_known(queue, board);
-    Ok([first, again, second, waits, closed, steps.0, steps.1, rest])
+    let after = step_known(queue, board);
+    Ok([first, again, second, waits, closed, steps.0, steps.1, after])
 }
 
 #[test]
@@ -176,18 +176,18 @@ fn a_child_of_the_board_is_next(rt: HostRuntime) -> Result<(), Fail> {
     Ok(())
 }
 
-// A block was asked for by its child, and rests with it once its own parent is asked for; not where a reply
+// A block was asked for by its child, and is quiet like it once its own parent is asked for; not where a reply
 // is held.
 fn resting<B: Board>(alloc: Global, queue: &mut Queue, board: &mut B) -> Result<Tale, AllocError> {
     let child = offer(alloc, queue, board, (6, 5, 3))?;
     ask(queue, 1, 5)?;
     let closed = close(queue, 1);
     let block = offer(alloc, queue, board, (5, 4, 2))?;
-    let before = rest(queue, (5, 4, 2));
+    let before = mark_quiet(queue, (5, 4, 2));
     ask(queue, 2, 4)?;
-    let both = rest(queue, (5, 4, 2));
+    let both = mark_quiet(queue, (5, 4, 2));
     hold(queue, 3, 9)?;
-    let held = rest(queue, (5, 4, 2));
+    let held = mark_quiet(queue, (5, 4, 2));
     Ok(tale(&[child, closed, block, before, both, held]))
 }
 

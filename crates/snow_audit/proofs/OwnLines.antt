@@ -12,7 +12,7 @@ use Rattle.snow_wire.specs.Model.Frame.{frames_of}
 use Rattle.snow_wire.proofs.Events.{event_again}
 use Rattle.snow_lines.specs.declared.line.Line.{Line}
 use Rattle.snow_lines.specs.Model.Text.{text, words}
-use Rattle.snow_engine.specs.declared.task.Task.TheVariants as task
+use Rattle.snow_engine.specs.declared.engine.Task.TheVariants as task
 use Rattle.snow_engine.specs.declared.end.End.{End}
 use Rattle.snow_engine.specs.declared.end.End.TheVariants as end
 use Rattle.snow_engine.specs.Model.Run.{Stand, Fresh, Going, Stopped, after_frame, after_frames, seen}

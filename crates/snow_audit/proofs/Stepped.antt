@@ -6,7 +6,7 @@ use Rattle.snow_chain.specs.Model.Chain.{Rules}
 use Rattle.snow_lines.specs.declared.line.Line.{Line}
 use Rattle.snow_lines.specs.declared.why.SkipKind.{SkipKind}
 use Rattle.snow_lines.specs.Model.Text.{text}
-use Rattle.snow_engine.specs.declared.task.Task.{Task}
+use Rattle.snow_engine.specs.declared.engine.Task.{Task}
 use Rattle.snow_engine.specs.declared.end.End.{End}
 use Rattle.snow_engine.specs.declared.end.End.TheVariants as end
 use Rattle.snow_engine.specs.Clauses.Ends.{is_stop}

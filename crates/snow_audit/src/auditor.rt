@@ -3,7 +3,7 @@ ghost use Rattle.std.specs.Io.KnownBytes.{IsAtEnd};
 ghost use Rattle.snow_wire.specs.Model.Frame.{first_of, is_too_long};
 ghost use Rattle.snow_wire.specs.Clauses.Stream.{fresh};
 ghost use Rattle.snow_engine.specs.Model.Run.{after_frame};
-ghost use Rattle.snow_engine.specs.declared.task.Task.TheVariants as task;
+ghost use Rattle.snow_engine.specs.declared.engine.Task.TheVariants as task;
 ghost use Rattle.snow_audit.specs.Model.Auditing.{audit_of, stream_end};
 ghost use Rattle.snow_audit.specs.Clauses.Answering.{HasFault, IsAnswer, IsRead, IsTold};
 ghost use Rattle.snow_audit.specs.Kept.Following.{IsKept, Took, at_end, between, owed_of};
@@ -11,9 +11,10 @@ ghost use Rattle.snow_audit.specs.Kept.Following.{IsKept, Took, at_end, between,
 use crate::auditing::AuditEnd;
 use crate::following::Follower;
 use snow_base::Source;
+use snow_base::limits::INPUT_BYTES;
 use snow_board::Board;
 use snow_chain::Chain;
-use snow_engine::{BadKind, End, LIMIT};
+use snow_engine::{BadKind, End};
 use snow_wire::{Decoder, ReadFault};
 use std::alloc::Global;
 
@@ -60,7 +61,7 @@ impl<C: Chain, B: Board> Auditor<C, B> {
         ensures fault { HasFault result (S.faults source.old) (S.faults source.new) }
         ensures source_later { S.faults source.old ≤ S.faults source.new }
     {
-        let mut room = LIMIT;
+        let mut room = INPUT_BYTES;
         while room > 0 {
             let taken = match self.decoder.read_from(source, room) {
                 Ok(taken) => taken,

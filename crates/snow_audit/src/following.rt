@@ -1,7 +1,7 @@
 ghost use Rattle.std.specs.Prelude.{◌≡◌, ◌+◌, ◌-◌, ◌^◌, ◌<◌, ◌≤◌, ◌∷◌, ◌++◌, [], None, Some, Ok, Err, OnOk, OnErr, true, false, length, if◌then◌else◌};
 ghost use Rattle.snow_lines.specs.declared.line.Line.TheVariants as line;
 ghost use Rattle.snow_engine.specs.Model.Run.{after_frame};
-ghost use Rattle.snow_engine.specs.declared.task.Task.TheVariants as task;
+ghost use Rattle.snow_engine.specs.declared.engine.Task.TheVariants as task;
 ghost use Rattle.snow_engine.specs.declared.end.End.TheVariants as end;
 ghost use Rattle.snow_audit.specs.declared.auditing.AuditEnd.TheVariants as audit;
 ghost use Rattle.snow_audit.specs.Model.Auditing.{at_frame, breaks_off, ends_as};

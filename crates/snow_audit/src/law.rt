@@ -4,7 +4,7 @@ ghost use Rattle.snow_flake.specs.Model.Rule.{Answer};
 ghost use Rattle.snow_chain.specs.Model.Chain.{Rules};
 ghost use Rattle.snow_wire.specs.Model.Frame.{frames_of};
 ghost use Rattle.snow_engine.specs.Model.Run.{Fresh, after_frame, after_frames, seen};
-ghost use Rattle.snow_engine.specs.declared.task.Task.TheVariants as task;
+ghost use Rattle.snow_engine.specs.declared.engine.Task.TheVariants as task;
 ghost use Rattle.snow_audit.specs.Model.Auditing.{audit_of};
 ghost use Rattle.snow_audit.specs.Laws.OwnLines.{fits, is_difference, is_event, recording};
 

@@ -1,3 +1,4 @@
 pub mod Model
+pub mod Laws
 pub mod Kept
 pub mod Clauses

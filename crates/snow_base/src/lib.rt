@@ -7,6 +7,7 @@ mod comparing;
 mod header;
 mod identifier;
 mod items;
+pub mod limits;
 mod memory;
 mod node;
 mod numbers;

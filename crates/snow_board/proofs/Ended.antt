@@ -11,7 +11,7 @@ use Rattle.snow_base.proofs.Bits.{length-bits}
 use Rattle.snow_flake.specs.Model.Counter.{admits}
 use Rattle.snow_flake.specs.Model.Rule.{Answer, answer_of}
 use Rattle.snow_board.specs.Model.Conflict.{Pending}
-use Rattle.snow_board.specs.declared.leading.Leading.{Leading}
+use Rattle.snow_board.specs.declared.board.Leading.{Leading}
 use Rattle.snow_board.specs.Model.Conflict.{Counters, Blank, At, with_child, chosen, leads_to}
 use Rattle.snow_board.specs.Model.Board.{Board, blocks_of, with_issued, new_pending, issued, height_of}
 use Rattle.snow_board.specs.Model.Preference.{path_from, end_of, preferred}

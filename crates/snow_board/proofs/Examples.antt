@@ -6,7 +6,7 @@ use Rattle.snow_base.specs.Model.Identifier.{bits}
 use Rattle.snow_flake.specs.Model.Parameters.{Parameters}
 use Rattle.snow_flake.specs.Model.Counter.{Undecided, Decided}
 use Rattle.snow_flake.specs.Model.Rule.{by_preference, by_flake}
-use Rattle.snow_board.specs.declared.decision.Decision.{Decision}
+use Rattle.snow_board.specs.declared.board.Decision.{Decision}
 use Rattle.snow_board.specs.Model.Conflict.{with_child, all_polled, chosen, decided_path}
 use Rattle.snow_board.specs.Model.Board.{Board, begin, issued, counter_on}
 use Rattle.snow_board.specs.Model.Poll.{counted, winner, decisions_for, promoted, settled, poll}

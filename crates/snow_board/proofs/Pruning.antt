@@ -12,7 +12,7 @@ use Rattle.snow_flake.specs.Model.Parameters.{Parameters}
 use Rattle.snow_flake.specs.Model.Counter.{Counter, Decided, Undecided, Standing, fresh, stepped, admits}
 use Rattle.snow_flake.specs.Kept.Instance.{Instance, counter_of, polled}
 use Rattle.snow_flake.specs.Model.Rule.{Answer}
-use Rattle.snow_board.specs.declared.decision.Decision.{Decision}
+use Rattle.snow_board.specs.declared.board.Decision.{Decision}
 use Rattle.snow_board.specs.Model.Conflict.{Pending}
 use Rattle.snow_board.specs.Model.Conflict.{Counters, Blank, At, with_child, all_polled, chosen, decided_path, decides}
 use Rattle.snow_board.specs.Model.Board.{Board, begin, blocks_of, with_counters, with_issued, new_pending, issued}

@@ -14,7 +14,7 @@ use Rattle.snow_board.specs.Model.Board.{Board, blocks_of, with_counters}
 use Rattle.snow_board.specs.Model.Poll.{with_votes, counted, settled, poll}
 use Rattle.snow_flake.specs.Laws.Alike.{votes_for, AreAlike}
 use Rattle.snow_board.specs.Laws.Alike.{GivesAll}
-use Rattle.snow_board.specs.declared.decision.Decision.{Decision}
+use Rattle.snow_board.specs.declared.board.Decision.{Decision}
 use Rattle.snow_board.proofs.Cases.{split_on, clash, same_id, id_itself}
 
 -- ---- the bit step reads counts by class

@@ -3,7 +3,6 @@ pub mod Reached
 pub mod Excluded
 pub mod PointwiseLaw
 pub mod Alike
-pub mod AlikeLaw
 pub mod FailingLaw
 pub mod LineLaw
 pub mod StandingLaw

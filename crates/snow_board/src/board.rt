@@ -5,16 +5,39 @@ ghost use Rattle.snow_base.specs.declared.header.Header.{Header};
 ghost use Rattle.snow_flake.specs.Model.Parameters.{AreGood};
 ghost use Rattle.snow_board.specs.Model.Board as model;
 
-use crate::decision::Decision;
-use snow_base::{Bag, Id};
+use snow_base::{Bag, Header, Id};
 use snow_flake::Params;
 use std::alloc::{AllocError, Global};
+
+/// Tells that a block was accepted, or rejected.
+/// Rule: AvalancheGo, snow/consensus/snowman.
+#[derive(Clone, Copy, Debug, PartialEq, Eq)]
+pub struct Decision {
+    pub accepted: bool,
+    pub id: Id,
+}
+
+/// The preference of a board, and whether it is known that no block stands above it.
+/// Rule: AvalancheGo, snow/consensus/snowman.
+#[derive(Clone, Copy)]
+pub struct Leading {
+    pub block: Id,
+    pub is_top: bool,
+}
+
+/// A pending block, with the counters of its children in whatever form a board keeps them.
+/// Rule: AvalancheGo, snow/consensus/snowman.
+#[derive(Drop)]
+pub struct Pending<T> {
+    pub block: Header,
+    pub counters: T,
+}
 
 /// A board of pending blocks above a last accepted one. It decides by polls, and meets the same
 /// definitions however it is kept. At most 4,096 blocks are pending.
 /// Rule: AvalancheGo, snow/consensus/snowman.
 pub trait Board: Sized + Drop {
-    ghost use Rattle.snow_board.specs.declared.decision.Decision.{Decision};
+    ghost use Rattle.snow_board.specs.declared.board.Decision.{Decision};
     ghost use Rattle.snow_board.specs.Model.Poll.{poll};
     ghost use Rattle.snow_board.specs.Laws.Alike.{GivesAll};
     ghost use Rattle.snow_board.specs.Model.Preference.{preferred, is_preferred};

@@ -1,6 +1,6 @@
 //! Laws of the board, each a function that does nothing and ensures the law.
 ghost use Rattle.snow_board.specs.Laws.PointwiseLaw.{MapLaw, ExcludedLaw, PollLaw, IssueLaw};
-ghost use Rattle.snow_board.specs.Laws.AlikeLaw.{AlikeLaw};
+ghost use Rattle.snow_board.specs.Laws.Alike.{AlikeLaw};
 ghost use Rattle.snow_board.specs.Laws.FailingLaw.{FewVotesLaw, FewVotesOnBoardLaw, FailingTwiceLaw, FailingAndAddingLaw};
 ghost use Rattle.snow_board.specs.Laws.LineLaw.{LineLaw};
 ghost use Rattle.snow_board.specs.Laws.StandingLaw.{StandingLaw, ChildrenStayLaw, NoneExcludedLaw};

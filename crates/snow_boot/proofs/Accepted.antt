@@ -5,7 +5,7 @@ use Rattle.snow_chain.specs.Model.Chain as states
 use Rattle.snow_chain.specs.Model.Chain.{Rules, Held, next_on, verified, accepted, MayAccept, begun}
 use Rattle.snow_lines.specs.declared.line.Line.{Line}
 use Rattle.snow_lines.specs.declared.line.Line.TheVariants as line
-use Rattle.snow_store.specs.declared.block.KeptBlock.{KeptBlock}
+use Rattle.snow_store.specs.declared.store.KeptBlock.{KeptBlock}
 use Rattle.snow_store.specs.declared.stop.BootStop.{BootStop}
 use Rattle.snow_store.specs.declared.stop.BootStop.TheVariants as stop
 use Rattle.snow_boot.specs.Clauses.Accepting.{behind_lines, ExecutesOne, ExecutesAt, Executes}

@@ -5,8 +5,8 @@ use Rattle.std.proofs.lemmas.Bool.{ne_eqb}
 use Rattle.std.proofs.lemmas.Bool.Decides.{nat_tests}
 use Rattle.std.proofs.Math.Nat.{min-eq_left}
 use Rattle.snow_base.specs.Model.Numbers.{next_number, last_after}
-use Rattle.snow_issue.specs.declared.work.Get.{Get}
-use Rattle.snow_issue.specs.Model.Lists.{has_number, with_get}
+use Rattle.snow_gets.specs.declared.gets.Get.{Get}
+use Rattle.snow_gets.specs.Model.Gets.{has_number, with_get}
 use Rattle.snow_sample.specs.declared.roster.Node.{Node}
 use Rattle.snow_lines.specs.declared.line.Line.{Line}
 use Rattle.snow_lines.specs.declared.line.Line.TheVariants as line

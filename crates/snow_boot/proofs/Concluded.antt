@@ -6,9 +6,9 @@ use Rattle.std.proofs.lemmas.Bool.{lt-ltb, le-ltb, cases_lt}
 use Rattle.snow_chain.specs.Model.Chain.{Rules, Held}
 use Rattle.snow_lines.specs.declared.line.Line.{Line}
 use Rattle.snow_lines.specs.declared.line.Line.TheVariants as line
-use Rattle.snow_store.specs.declared.block.KeptBlock.{KeptBlock}
-use Rattle.snow_boot.specs.declared.stage.Stage.{Stage}
-use Rattle.snow_boot.specs.declared.stage.Stage.TheVariants as stage
+use Rattle.snow_store.specs.declared.store.KeptBlock.{KeptBlock}
+use Rattle.snow_boot.specs.declared.boot.Stage.{Stage}
+use Rattle.snow_boot.specs.declared.boot.Stage.TheVariants as stage
 use Rattle.snow_store.specs.declared.stop.BootStop.{BootStop}
 use Rattle.snow_store.specs.declared.stop.BootStop.TheVariants as stop
 use Rattle.snow_boot.specs.Clauses.Accepting.{Executes, EndsAt, Concludes, higher_one, top_height}

@@ -3,7 +3,7 @@ use Rattle.std.proofs.Common.{ℕ, List, [], ◌∷◌, Option, Some, None, refl
 use Rattle.std.specs.Prelude.{Ok, Err}
 use Rattle.snow_chain.specs.Model.Chain.{Rules}
 use Rattle.snow_lines.specs.declared.line.Line.TheVariants as line
-use Rattle.snow_store.specs.declared.block.KeptBlock.{KeptBlock}
+use Rattle.snow_store.specs.declared.store.KeptBlock.{KeptBlock}
 use Rattle.snow_boot.specs.Model.Executing.{Executed, state_on, with_state, executed}
 use Rattle.snow_boot.specs.Laws.OutcomeLaw.{IsExecution}
 

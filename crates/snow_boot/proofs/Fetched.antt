@@ -2,10 +2,10 @@
 use Rattle.std.proofs.Common.{◌≡◌, ℕ, List, Option, sym, subst}
 use Rattle.std.specs.Prelude.{Result, Ok}
 use Rattle.std.specs.BTreeMap.{BTreeMap}
-use Rattle.snow_store.specs.declared.block.KeptBlock.{KeptBlock}
-use Rattle.snow_store.specs.declared.due.Due.{Due}
+use Rattle.snow_store.specs.declared.store.KeptBlock.{KeptBlock}
+use Rattle.snow_store.specs.declared.needs.Due.{Due}
 use Rattle.snow_store.specs.declared.stop.BootStop.{BootStop}
-use Rattle.snow_store.specs.declared.verdict.Verdict.{Verdict}
+use Rattle.snow_store.specs.declared.stop.Verdict.{Verdict}
 use Rattle.snow_store.specs.Clauses.Coming.{after_verdict}
 use Rattle.snow_store.specs.Model.Keeping.{Store, taken, after_taking}
 use Rattle.snow_store.specs.Laws.Linking.{IsLinked}

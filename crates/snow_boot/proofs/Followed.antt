@@ -2,12 +2,12 @@
 use Rattle.std.proofs.Common.{◌≡◌, ℕ, Bool, true, false, List, [], ◌++◌, Option, Some, None, if◌then◌else◌, refl, sym, ap, subst, ◌∙◌, append-nil, append_assoc}
 use Rattle.std.specs.Prelude.{Result, Ok, Err, IfOk}
 use Rattle.snow_chain.specs.Model.Chain.{Rules, Held}
-use Rattle.snow_issue.specs.declared.work.Get.{Get}
+use Rattle.snow_gets.specs.declared.gets.Get.{Get}
 use Rattle.snow_lines.specs.declared.line.Line.{Line}
 use Rattle.snow_boot.specs.declared.question.Question.{Question}
 use Rattle.snow_boot.specs.declared.question.Question.TheVariants as question
-use Rattle.snow_boot.specs.declared.stage.Stage.{Stage}
-use Rattle.snow_boot.specs.declared.stage.Stage.TheVariants as stage
+use Rattle.snow_boot.specs.declared.boot.Stage.{Stage}
+use Rattle.snow_boot.specs.declared.boot.Stage.TheVariants as stage
 use Rattle.snow_store.specs.declared.stop.BootStop.{BootStop}
 use Rattle.snow_store.specs.declared.stop.BootStop.TheVariants as stop
 use Rattle.snow_boot.specs.Clauses.Accepting.{Concludes}

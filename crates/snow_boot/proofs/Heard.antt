@@ -5,22 +5,22 @@ use Rattle.std.specs.List.{position_or_len, remove}
 use Rattle.std.specs.Option.{option_map}
 use Rattle.snow_base.specs.declared.header.Header.{Header}
 use Rattle.snow_chain.specs.Model.Chain.{Rules, Held}
-use Rattle.snow_issue.specs.declared.work.Get.{Get}
-use Rattle.snow_issue.specs.Model.Lists.{is_get, without}
-use Rattle.snow_issue.proofs.Asking.{none_without}
+use Rattle.snow_gets.specs.declared.gets.Get.{Get}
+use Rattle.snow_gets.specs.Model.Gets.{is_get, without}
+use Rattle.snow_gets.proofs.Asking.{none_without}
 use Rattle.snow_lines.specs.declared.line.Line.{Line}
 use Rattle.snow_lines.specs.declared.line.Line.TheVariants as line
 use Rattle.snow_lines.specs.declared.why.SkipKind.TheVariants as skip
 use Rattle.snow_sample.specs.declared.roster.Node.{Node}
-use Rattle.snow_store.specs.declared.block.KeptBlock.{KeptBlock}
+use Rattle.snow_store.specs.declared.store.KeptBlock.{KeptBlock}
 use Rattle.snow_boot.specs.declared.question.Candidate.{Candidate}
 use Rattle.snow_boot.specs.declared.question.Question.{Question}
 use Rattle.snow_boot.specs.declared.question.Question.TheVariants as question
-use Rattle.snow_boot.specs.declared.stage.Stage.TheVariants as stage
+use Rattle.snow_boot.specs.declared.boot.Stage.TheVariants as stage
 use Rattle.snow_store.specs.declared.stop.BootStop.{BootStop}
 use Rattle.snow_store.specs.declared.stop.BootStop.TheVariants as stop
-use Rattle.snow_store.specs.declared.verdict.Verdict.{Verdict}
-use Rattle.snow_store.specs.declared.verdict.Verdict.TheVariants as verdict
+use Rattle.snow_store.specs.declared.stop.Verdict.{Verdict}
+use Rattle.snow_store.specs.declared.stop.Verdict.TheVariants as verdict
 use Rattle.snow_boot.specs.Model.Booting.{Boot, Outcome, behind, followed, answered, or_all, if_awaited, awaited_by, request_of, with_came, if_requested, if_block, timeout_by, frontier_came, accepted_came, ancestors_came, timeout_came, stored_came}
 use Rattle.snow_boot.specs.Clauses.Calling.{AreDrawn}
 use Rattle.snow_boot.specs.Kept.Coursing.{boot_of, IsCourse, Comes}

@@ -3,11 +3,11 @@ use Rattle.std.proofs.Common.{◌≡◌, ℕ, Bool, true, false, ◌==◌, List,
 use Rattle.std.specs.Prelude.{Result, Ok, Err, ⊤}
 use Rattle.snow_base.specs.declared.header.Header.{Header}
 use Rattle.snow_chain.specs.Model.Chain.{Rules}
-use Rattle.snow_issue.specs.declared.work.Get.{Get}
-use Rattle.snow_store.specs.declared.block.KeptBlock.{KeptBlock}
+use Rattle.snow_gets.specs.declared.gets.Get.{Get}
+use Rattle.snow_store.specs.declared.store.KeptBlock.{KeptBlock}
 use Rattle.snow_store.specs.declared.stop.BootStop.{BootStop}
-use Rattle.snow_store.specs.declared.verdict.Verdict.{Verdict}
-use Rattle.snow_store.specs.declared.verdict.Verdict.TheVariants as verdict
+use Rattle.snow_store.specs.declared.stop.Verdict.{Verdict}
+use Rattle.snow_store.specs.declared.stop.Verdict.TheVariants as verdict
 use Rattle.snow_store.specs.Clauses.Coming.{after_verdict, if_taken}
 use Rattle.snow_store.specs.Model.Keeping.{held, taken}
 use Rattle.snow_store.specs.Laws.Linking.{IsLinked}

@@ -3,11 +3,11 @@ use Rattle.std.proofs.Common.{◌≡◌, ℕ, true, List, [], ◌∷◌, ◌++�
 use Rattle.std.specs.Prelude.{Ok}
 use Rattle.snow_base.specs.Model.Numbers.{next_number, last_after}
 use Rattle.snow_chain.specs.Model.Chain.{Held}
-use Rattle.snow_issue.specs.declared.work.Get.{Get}
+use Rattle.snow_gets.specs.declared.gets.Get.{Get}
 use Rattle.snow_lines.specs.declared.line.Line.{Line}
 use Rattle.snow_lines.specs.declared.line.Line.TheVariants as line
 use Rattle.snow_boot.specs.declared.question.Question.TheVariants as question
-use Rattle.snow_boot.specs.declared.stage.Stage.TheVariants as stage
+use Rattle.snow_boot.specs.declared.boot.Stage.TheVariants as stage
 use Rattle.snow_boot.specs.Model.Booting.{Going, ask_frontier, ask_accepted}
 use Rattle.snow_boot.specs.Clauses.Calling.{AreDrawn}
 use Rattle.snow_boot.specs.Kept.Coursing.{boot_of, Comes}

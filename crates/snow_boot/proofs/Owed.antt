@@ -5,12 +5,12 @@ use Rattle.std.specs.Option.{option_map}
 use Rattle.std.specs.Prelude.{Ok, Err}
 use Rattle.std.proofs.lemmas.Bool.{or_right}
 use Rattle.snow_base.specs.Model.Numbers.{next_number}
-use Rattle.snow_issue.specs.declared.work.Get.{Get}
-use Rattle.snow_issue.specs.Model.Lists.{asked_in, is_get, without}
-use Rattle.snow_issue.proofs.Asking.{none_without}
+use Rattle.snow_gets.specs.declared.gets.Get.{Get}
+use Rattle.snow_gets.specs.Model.Gets.{asked_in, is_get, without}
+use Rattle.snow_gets.proofs.Asking.{none_without}
 use Rattle.snow_sample.specs.declared.roster.Node.{Node}
-use Rattle.snow_store.specs.declared.due.Due.{Due}
-use Rattle.snow_store.specs.declared.due.Due.TheVariants as due
+use Rattle.snow_store.specs.declared.needs.Due.{Due}
+use Rattle.snow_store.specs.declared.needs.Due.TheVariants as due
 use Rattle.snow_store.specs.Model.Needing.{names, is_missed, Covers}
 use Rattle.snow_store.specs.Model.Paths.{Fetch, missed}
 use Rattle.snow_store.proofs.Cases.{split_on, clash, same_id, id_same, same_some, none_not}

@@ -3,9 +3,9 @@ use Rattle.std.proofs.Common.{◌≡◌, ℕ, Bool, true, false, ◌||◌, List,
 use Rattle.std.specs.Prelude.{Result, Ok, Err}
 use Rattle.snow_base.specs.Model.Numbers.{next_number}
 use Rattle.snow_sample.specs.declared.roster.Node.{Node}
-use Rattle.snow_issue.specs.declared.work.Get.{Get}
-use Rattle.snow_issue.specs.Model.Lists.{asked_in, with_get}
-use Rattle.snow_issue.proofs.Asking as gets
+use Rattle.snow_gets.specs.declared.gets.Get.{Get}
+use Rattle.snow_gets.specs.Model.Gets.{asked_in, with_get}
+use Rattle.snow_gets.proofs.Asking as gets
 use Rattle.snow_store.specs.declared.stop.BootStop.{BootStop}
 use Rattle.snow_store.specs.declared.stop.BootStop.TheVariants as stop
 use Rattle.snow_store.specs.Model.Paths.{Fetch, missed}

@@ -4,12 +4,12 @@ use Rattle.std.specs.Prelude.{Result, Err}
 use Rattle.snow_base.specs.Model.Numbers.{next_number}
 use Rattle.snow_chain.specs.Model.Chain as states
 use Rattle.snow_chain.specs.Model.Chain.{Held}
-use Rattle.snow_issue.specs.declared.work.Get.{Get}
+use Rattle.snow_gets.specs.declared.gets.Get.{Get}
 use Rattle.snow_lines.specs.declared.line.Line.{Line}
 use Rattle.snow_sample.specs.declared.roster.Node.{Node}
-use Rattle.snow_store.specs.declared.due.Due.TheVariants as due
+use Rattle.snow_store.specs.declared.needs.Due.TheVariants as due
 use Rattle.snow_boot.specs.declared.question.Question.TheVariants as question
-use Rattle.snow_boot.specs.declared.stage.Stage.{Stage}
+use Rattle.snow_boot.specs.declared.boot.Stage.{Stage}
 use Rattle.snow_store.specs.declared.stop.BootStop.{BootStop}
 use Rattle.snow_store.specs.declared.stop.BootStop.TheVariants as stop
 use Rattle.snow_boot.specs.Model.Booting.{Outcome, begun, ask_frontier, started}

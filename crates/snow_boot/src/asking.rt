@@ -1,5 +1,5 @@
 ghost use Rattle.std.specs.Prelude.{◌≡◌, ◌<◌, true, false, length};
-ghost use Rattle.snow_issue.specs.Model.Lists.{asked_in};
+ghost use Rattle.snow_gets.specs.Model.Gets.{asked_in};
 ghost use Rattle.snow_boot.specs.Clauses.Calling.{AreDrawn};
 ghost use Rattle.snow_boot.specs.Model.Asking.{asked_node, asked_one, asked_with, asked, AreAskedBut};
 ghost use Rattle.snow_base.specs.Model.Numbers.{next_number};
@@ -7,8 +7,8 @@ ghost use Rattle.snow_boot.specs.Clauses.Requesting.{Asks};
 
 use crate::fetching::Fetching;
 use snow_base::{Id, NodeId, Numbers};
+use snow_gets::{Get, Gets};
 use snow_interval::Kept;
-use snow_issue::{Get, Gets};
 use snow_lines::{Line, Lines};
 use snow_sample::Node;
 use snow_store::{BootStop, Due};

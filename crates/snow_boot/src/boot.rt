@@ -8,18 +8,35 @@ ghost use Rattle.snow_boot.specs.Clauses.Promising.{Promises};
 
 use crate::fetching::Fetching;
 use crate::inquiring;
-use crate::parts::Parts;
-use crate::stage::Stage;
 use crate::survey::Survey;
 use snow_base::{Blocks, Bytes, Id, Ids, NodeId, Numbers};
 use snow_chain::Chain;
+use snow_gets::Gets;
 use snow_interval::Kept;
-use snow_issue::Gets;
 use snow_lines::Lines;
 use snow_sample::Roster;
 use snow_store::BootStop;
 use std::alloc::Global;
 use std::marker::{Model, PhantomData};
+
+/// How far bootstrapping is.
+/// Rule: AvalancheGo, snow/engine/snowman/bootstrap.
+#[derive(Clone, Copy, PartialEq, Eq)]
+pub enum Stage {
+    /// It goes on: the targets aren't known yet, or one of them misses a block.
+    Going,
+    /// It is done, with this block accepted last.
+    Done { last: Id, height: u64 },
+}
+
+/// What a node that bootstraps knows: what it asks of all nodes, what it fetches, and its open
+/// requests.
+#[derive(Drop)]
+pub(crate) struct Parts<H: Kept> {
+    pub(crate) survey: Survey,
+    pub(crate) fetching: Fetching<H>,
+    pub(crate) requests: Gets,
+}
 
 /// A node that bootstraps, over any chain and any set of heights. It asks all nodes for their
 /// accepted frontier, and which of these identifiers they hold accepted. It fetches the blocks that

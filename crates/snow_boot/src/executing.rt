@@ -7,8 +7,8 @@ ghost use Rattle.snow_store.specs.Model.Keeping.{held};
 ghost use Rattle.snow_store.specs.Laws.Linking.{upward};
 ghost use Rattle.snow_store.specs.Model.Paths.{is_whole, highest_target};
 
+use crate::boot::Stage;
 use crate::fetching::Fetching;
-use crate::stage::Stage;
 use snow_base::Id;
 use snow_chain::Chain;
 use snow_interval::Kept;

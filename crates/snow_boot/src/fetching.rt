@@ -4,7 +4,7 @@ ghost use Rattle.snow_store.specs.Model.Keeping.{taken, Answers};
 ghost use Rattle.snow_boot.specs.Kept.Fetching.{Fetches, FetchesOne};
 ghost use Rattle.snow_store.specs.Model.Needing.{is_missed, Covers};
 ghost use Rattle.snow_store.specs.Model.Paths.{missed, is_whole};
-ghost use Rattle.snow_store.specs.declared.due.Due.TheVariants as due;
+ghost use Rattle.snow_store.specs.declared.needs.Due.TheVariants as due;
 ghost use Rattle.snow_store.specs.Clauses.Coming.{after_verdict};
 ghost use Rattle.snow_boot.specs.Model.Replying.{replied};
 

@@ -5,9 +5,8 @@ ghost use Rattle.snow_chain.specs.Kept.Alone.{IsAlone, last_state};
 ghost use Rattle.snow_boot.specs.Kept.Coursing.{boot_of, MayAsk, Comes};
 ghost use Rattle.snow_boot.specs.declared.question.Question.TheVariants as question;
 
-use crate::parts::Parts;
+use crate::boot::{Parts, Stage};
 use crate::question::Question;
-use crate::stage::Stage;
 use crate::{asking, executing};
 use snow_base::Numbers;
 use snow_chain::Chain;

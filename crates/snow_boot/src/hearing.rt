@@ -5,9 +5,8 @@ ghost use Rattle.snow_boot.specs.Model.Booting as model;
 ghost use Rattle.snow_chain.specs.Kept.Alone.{last_state};
 ghost use Rattle.snow_boot.specs.Kept.Coursing.{boot_of, MayHear, Comes};
 
-use crate::parts::Parts;
+use crate::boot::{Parts, Stage};
 use crate::question::Question;
-use crate::stage::Stage;
 use snow_base::{Blocks, Bytes, Id, Ids, NodeId, Numbers};
 use snow_chain::Chain;
 use snow_interval::Kept;

@@ -1,6 +1,6 @@
 ghost use Rattle.std.specs.Prelude.{◌≡◌, ◌≢◌, List, [], ◌∷◌, true, IfOk};
 ghost use Rattle.snow_chain.specs.Model.Chain.{Held};
-ghost use Rattle.snow_issue.specs.declared.work.Get.{Get};
+ghost use Rattle.snow_gets.specs.declared.gets.Get.{Get};
 ghost use Rattle.snow_boot.specs.Kept.Fetching.{Hunt};
 ghost use Rattle.snow_base.specs.Model.Numbers.{next_number};
 ghost use Rattle.snow_boot.specs.Model.Booting.{behind, ask_frontier, ask_accepted, with_collected, with_targets, or_all};
@@ -9,18 +9,17 @@ ghost use Rattle.snow_boot.specs.Clauses.Calling.{AreDrawn};
 ghost use Rattle.snow_boot.specs.Kept.Coursing.{boot_of, MayAsk, MayHear, Comes};
 ghost use Rattle.snow_boot.specs.Model.Electing.{majority};
 ghost use Rattle.snow_boot.specs.declared.question.Question.TheVariants as question;
-ghost use Rattle.snow_boot.specs.declared.stage.Stage.TheVariants as stage;
+ghost use Rattle.snow_boot.specs.declared.boot.Stage.TheVariants as stage;
 ghost use Rattle.snow_lines.specs.declared.line.Line.TheVariants as line;
 ghost use Rattle.snow_sample.specs.Model.Roster.{total_weight};
 
-use crate::parts::Parts;
+use crate::boot::{Parts, Stage};
 use crate::question::Question;
-use crate::stage::Stage;
 use crate::survey::Survey;
 use snow_base::Numbers;
 use snow_chain::Chain;
+use snow_gets::Gets;
 use snow_interval::Kept;
-use snow_issue::Gets;
 use snow_lines::{Line, Lines, RestartWhy};
 use snow_store::BootStop;
 
@@ -37,7 +36,7 @@ pub(crate) fn ask_frontier(
     let Some(number) = numbers.draw() else {
         return Err(BootStop::Requests);
     };
-    survey.ask_frontier(number)?;
+    survey.await_frontier(number)?;
     log.push(Line::Frontier { number })?;
     Ok(Stage::Going)
 }
@@ -75,7 +74,7 @@ impl<H: Kept> Parts<H> {
             return Err(BootStop::Requests);
         };
         let ids = self.survey.named()?;
-        self.survey.ask_accepted(number)?;
+        self.survey.await_accepted(number)?;
         log.push(Line::Accepted { number, ids })?;
         Ok(Stage::Going)
     }
@@ -110,7 +109,7 @@ impl<H: Kept> Parts<H> {
         ensures { Comes result log.old log.new self.new.survey self.new.fetching self.new.requests numbers.old numbers.new (C.held chain.old) (C.held chain.new)
             (with_targets C.rules (last_state (C.held chain.old)) (boot_of self.old.survey self.old.fetching.fetch self.old.requests) numbers.old (majority (total_weight self.old.survey.nodes) self.old.survey.candidates)) }
     {
-        let targets = self.survey.targets()?;
+        let targets = self.survey.majority()?;
         if targets.is_empty() {
             return self.restart(RestartWhy::Accepted, chain, numbers, log);
         }

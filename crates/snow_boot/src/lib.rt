@@ -10,12 +10,10 @@ mod following;
 mod hearing;
 mod inquiring;
 mod laws;
-mod parts;
 mod question;
-mod stage;
 mod survey;
 
-pub use boot::Boot;
+pub use boot::{Boot, Stage};
 pub use laws::{
     asked_law, asked_once_law, end_law, execution_law, finish_law, quiet_law, reached_linked_law,
     refused_law, reply_law, stopped_law,
@@ -24,4 +22,3 @@ pub use question::{Candidate, Question};
 pub use snow_store::{
     BootStop, Children, KeptBlock, Verdict, linked_law, path_law, progress_law, run_law,
 };
-pub use stage::Stage;

@@ -108,7 +108,7 @@ impl Survey {
     }
 
     /// Asks all nodes for their frontier, and forgets what it collected.
-    pub(crate) fn ask_frontier(&mut self, number: u32) -> Result<(), AllocError>
+    pub(crate) fn await_frontier(&mut self, number: u32) -> Result<(), AllocError>
         ensures { OnOk result (self.new ≡ record { nodes = self.old.nodes; question = question.Frontier; number = number; awaited = self.old.nodes; candidates = [] }) }
     {
         let awaited = weights_of(self.alloc, self.nodes.as_slice())?;
@@ -120,7 +120,7 @@ impl Survey {
     }
 
     /// Asks all nodes which of the collected identifiers they hold accepted.
-    pub(crate) fn ask_accepted(&mut self, number: u32) -> Result<(), AllocError>
+    pub(crate) fn await_accepted(&mut self, number: u32) -> Result<(), AllocError>
         requires { self.old.question ≡ question.Frontier }
         ensures { OnOk result (self.new ≡ record { nodes = self.old.nodes; question = question.Accepted; number = number; awaited = self.old.nodes; candidates = self.old.candidates }) }
     {
@@ -176,7 +176,7 @@ impl Survey {
     }
 
     /// Returns the identifiers that more than half of the weight backs, in order.
-    pub(crate) fn targets(&self) -> Result<IndexSet<Id, IdHashing>, AllocError>
+    pub(crate) fn majority(&self) -> Result<IndexSet<Id, IdHashing>, AllocError>
         ensures { IfOk result (λ ids. ids.keys ≡ majority (total_weight self.now.nodes) self.now.candidates) }
     {
         electing::elect(self.alloc, &self.candidates, self.total)

@@ -10,8 +10,8 @@ use Rattle.snow_engine.specs.Clauses.Serving as serving
 use Rattle.snow_audit.specs.declared.auditing.AuditEnd.{AuditEnd}
 use Rattle.snow_audit.specs.declared.auditing.AuditEnd.TheVariants as audit
 use Rattle.snow_audit.specs.Clauses.Answering as auditing
-use Rattle.snow_cli.specs.declared.finish.Finish.{Finish}
-use Rattle.snow_cli.specs.declared.finish.Finish.TheVariants as finish
+use Rattle.snow_cli.specs.declared.status.Finish.{Finish}
+use Rattle.snow_cli.specs.declared.status.Finish.TheVariants as finish
 use Rattle.snow_cli.specs.declared.status.Status.{Status}
 use Rattle.snow_cli.specs.declared.status.Status.TheVariants as status
 use Rattle.snow_cli.specs.Clauses.Answer.{end_status, status_of, told_by, IsAnswer, IsFinish, Wrote, HasFault, audit_finish, audit_text, Tells, Whole, Front, Told}

@@ -1,6 +1,6 @@
 -- Worked examples: what words ask for.
 use Rattle.std.proofs.Common.{◌≡◌, [], ◌∷◌, Option, Some, None, refl, codes}
-use Rattle.snow_engine.specs.declared.task.Task.TheVariants as task
+use Rattle.snow_engine.specs.declared.engine.Task.TheVariants as task
 use Rattle.snow_cli.specs.declared.command.ChainName.TheVariants as chain
 use Rattle.snow_cli.specs.declared.command.RuleName.TheVariants as rule
 use Rattle.snow_cli.specs.declared.command.Job.TheVariants as job

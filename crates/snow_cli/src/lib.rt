@@ -3,7 +3,6 @@
 
 mod command;
 mod figures;
-mod finish;
 mod ordering;
 mod parsing;
 mod program;

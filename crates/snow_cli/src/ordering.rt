@@ -69,7 +69,7 @@ impl<'a> Asked<'a> {
     fn set_task(&mut self, word: &'a str) -> bool
         ensures { Comes result self.new (with_item self.old (Plain word.entry.now)) }
     {
-        put(&mut self.task, word)
+        put_first(&mut self.task, word)
     }
 
     /// Takes the value of an option, and returns whether the option is known and this is its first
@@ -78,16 +78,16 @@ impl<'a> Asked<'a> {
         ensures { Comes result self.new (with_value self.old name.now value.entry.now) }
     {
         if is(name, "chain") {
-            return put(&mut self.chain, value);
+            return put_first(&mut self.chain, value);
         }
         if is(name, "rule") {
-            return put(&mut self.rule, value);
+            return put_first(&mut self.rule, value);
         }
         if is(name, "seed") {
-            return put(&mut self.seed, value);
+            return put_first(&mut self.seed, value);
         }
         if is(name, "blocks") {
-            return put(&mut self.blocks, value);
+            return put_first(&mut self.blocks, value);
         }
         false
     }
@@ -153,7 +153,7 @@ fn is(name: &str, other: &str) -> bool
 }
 
 /// Puts the first of some words into its place, and returns whether it is the first.
-fn put<'a>(place: &mut Option<&'a str>, word: &'a str) -> bool
+fn put_first<'a>(place: &mut Option<&'a str>, word: &'a str) -> bool
     ensures { Puts result place.old place.new word.entry }
 {
     if place.is_some() {

@@ -8,6 +8,7 @@ use crate::figures::number_in;
 use clap::builder::ValueParser;
 use clap::error::ErrorKind;
 use clap::{Arg, ArgMatches, Error};
+use snow_base::limits::MOST_DRILLED;
 use snow_engine::Task;
 use std::alloc::{AllocError, Global};
 
@@ -157,7 +158,7 @@ fn drill(rule: Option<&str>, seed: Option<&str>, blocks: Option<&str>) -> Option
     ensures { result ≡ drill_read (option_map (λ s. s.now) rule.entry) (option_map (λ s. s.now) seed.entry) (option_map (λ s. s.now) blocks.entry) }
 {
     let seed = number_in(seed?, 0, u64::MAX)?;
-    let blocks = number_in(blocks?, 1, 10_000)?;
+    let blocks = number_in(blocks?, 1, MOST_DRILLED)?;
     Some(Command::Drill {
         rule: rule_of(rule),
         seed,

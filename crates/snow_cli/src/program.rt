@@ -10,9 +10,8 @@ ghost use Rattle.snow_cli.specs.Model.Words.{command_of};
 ghost use Rattle.snow_cli.specs.Clauses.Answer as model;
 
 use crate::command::{ChainName, Command, Job, RuleName};
-use crate::finish::Finish;
 use crate::report::report;
-use crate::status::Status;
+use crate::status::{Finish, Status};
 use crate::words::read_words;
 use snow_audit::{AuditEnd, audit};
 use snow_base::{Failed, Sink, Source, write_whole};
@@ -169,9 +168,12 @@ fn tell<O: Sink>(found: AuditEnd, out: &mut O) -> Finish
 {
     match found {
         AuditEnd::Same { lines } => {
-            unless_failed(put(b"same", lines, out), Finish::Ended(End::Done))
+            unless_failed(put_number(b"same", lines, out), Finish::Ended(End::Done))
         }
-        AuditEnd::Differs { line } => unless_failed(put(b"differs", line, out), Finish::Differs),
+        AuditEnd::Differs { line } => unless_failed(
+            put_number(b"differs", line, out),
+            Finish::Differs,
+        ),
         AuditEnd::Stopped(end) => Finish::Ended(end),
     }
 }
@@ -187,7 +189,7 @@ fn unless_failed(written: Result<(), Failed>, finish: Finish) -> Finish
 }
 
 /// Writes a line of a word and a number.
-fn put<O: Sink>(word: &[u8], number: u64, out: &mut O) -> Result<(), Failed>
+fn put_number<O: Sink>(word: &[u8], number: u64, out: &mut O) -> Result<(), Failed>
     requires { length word.now ≤ 8 }
     ensures ok { OnOk result (Appends (O.written out.old) (O.written out.new) (model.number_line word.now number)) }
     ensures err { OnErr result (AppendsFront (O.written out.old) (O.written out.new) (model.number_line word.now number)) }

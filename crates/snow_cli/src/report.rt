@@ -1,7 +1,7 @@
 ghost use Rattle.std.specs.Prelude.{◌≡◌, ◌+◌, ◌≤◌, [], ◌++◌, length};
 ghost use Rattle.snow_cli.specs.Clauses.Answer.{TookLine, bad_line, boot_line, end_line, error_line, fault_word, kind_word, roster_word, stop_text};
 
-use crate::finish::Finish;
+use crate::status::Finish;
 use snow_base::{Sink, write_whole};
 use snow_boot::BootStop;
 use snow_engine::{BadKind, End};

@@ -1,8 +1,17 @@
 ghost use Rattle.std.specs.Prelude.{◌≡◌};
 ghost use Rattle.snow_cli.specs.Clauses.Answer.{end_status, exit_code, status_of};
 
-use crate::finish::Finish;
 use snow_engine::End;
+
+/// How a command ended.
+/// Rule: this project's own.
+#[derive(Clone, Copy, Debug, PartialEq, Eq)]
+pub enum Finish {
+    /// As a run over a stream does; an audit that finds no difference is done.
+    Ended(End),
+    /// A recorded line that was audited isn't the model's.
+    Differs,
+}
 
 /// How the program ended. `code` returns the exit status of each.
 /// Rule: this project's own.

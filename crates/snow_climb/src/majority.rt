@@ -16,7 +16,7 @@ fn some_bits(id: &Id) -> u32 {
 
 // A vote for what most of the first votes are for, if it is ahead: each vote for another takes one off.
 // Whoever asks counts all.
-fn guess_main(ids: &[Id]) -> Option<usize>
+fn likely_main(ids: &[Id]) -> Option<usize>
     requires { 0 < length ids.now }
     ensures { IfSome result (λ at. at < length ids.now) }
 {
@@ -64,7 +64,7 @@ pub(crate) fn main_vote(params: &Params, ids: &[Id]) -> Option<Vote>
     if ids.is_empty() {
         return None;
     }
-    let at = guess_main(ids)?;
+    let at = likely_main(ids)?;
     let main = ids[at];
     let count = count_for(ids, &main);
     if count < params.alpha_confidence() {

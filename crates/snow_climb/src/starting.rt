@@ -7,7 +7,7 @@ ghost use Rattle.snow_flake.specs.Model.Parameters.{Parameters};
 ghost use Rattle.snow_climb.specs.Kept.Climbing.{begun};
 ghost use Rattle.snow_climb.specs.Kept.Ladder.{KeepsRoom, IsReady};
 ghost use Rattle.snow_climb.specs.Kept.Majority.{StandFor};
-ghost use Rattle.snow_climb.specs.Kept.Starting.{share, votes_by, ids_by, HaveStarted, HaveGone, HaveBegun, IsLoaded, TakesMore};
+ghost use Rattle.snow_climb.specs.Kept.Starting.{share, votes_by, ids_by, HaveStarted, HaveAllStarted, HaveBegun, IsLoaded, TakesMore};
 
 use crate::climber::go_on;
 use crate::ladder::Ladder;
@@ -35,7 +35,7 @@ fn start<T: Drop>(tree: &Tree<T>, ladder: &mut Ladder, id: &Id, count: u32)
 }
 
 // Starts the votes that a seat gathered, if there are any.
-fn let_go<T: Drop>(tree: &Tree<T>, ladder: &mut Ladder, vote: &Vote)
+fn start_waiting<T: Drop>(tree: &Tree<T>, ladder: &mut Ladder, vote: &Vote)
     requires room { (ladder.old).put + vote.now.count ≤ (ladder.old).most }
     requires low { length (tree.now).pending < (ladder.old).low }
     ensures started { (others counted : (List ℕ → Bool) → ℕ) → HaveStarted (tree.now).pending (λ test. share test vote.now + others test) counted (ladder.old).climbers
@@ -50,7 +50,7 @@ fn let_go<T: Drop>(tree: &Tree<T>, ladder: &mut Ladder, vote: &Vote)
 }
 
 // All votes that waited begin.
-fn let_all_go<T: Drop>(tree: &Tree<T>, ladder: &mut Ladder, votes: &[Vote])
+fn start_all_waiting<T: Drop>(tree: &Tree<T>, ladder: &mut Ladder, votes: &[Vote])
     requires room { (ladder.old).put + total_count votes.now ≤ (ladder.old).most }
     requires low { length (tree.now).pending < (ladder.old).low }
     ensures started { (counted : (List ℕ → Bool) → ℕ) → HaveStarted (tree.now).pending (λ test. votes_by test votes.now) counted (ladder.old).climbers
@@ -60,7 +60,7 @@ fn let_all_go<T: Drop>(tree: &Tree<T>, ladder: &mut Ladder, votes: &[Vote])
     ensures room { KeepsRoom ladder.old ladder.new }
 {
     for vote in votes {
-        let_go(tree, ladder, vote);
+        start_waiting(tree, ladder, vote);
     }
 }
 
@@ -77,7 +77,7 @@ pub fn start_votes<T: Drop>(tree: &Tree<T>, ladder: &mut Ladder, votes: &[Vote])
 {
     let _last = tree.last();
     ladder.begin();
-    let_all_go(tree, ladder, votes);
+    start_all_waiting(tree, ladder, votes);
 }
 
 // One vote more for a block. It waits with those that wait for the same one; those for another begin, and
@@ -96,7 +96,7 @@ fn count_one<T: Drop>(tree: &Tree<T>, ladder: &mut Ladder, waiting: &mut Vote, i
     if waiting.id == *id {
         waiting.count += 1;
     } else {
-        let_go(tree, ladder, waiting);
+        start_waiting(tree, ladder, waiting);
         *waiting = Vote { id: *id, count: 1 };
     }
 }
@@ -138,16 +138,16 @@ fn seat_each<T: Drop>(tree: &Tree<T>, ladder: &mut Ladder, waiting: &mut [Vote],
     requires empty { (test : List ℕ → Bool) → votes_by test waiting.old ≡ 0 }
     requires nobody { total_count waiting.old ≡ 0 }
     requires more { TakesMore (length (tree.now).pending) (length ids.now) ladder.old }
-    ensures { HaveGone (tree.now).pending ids.now ladder.old ladder.new }
+    ensures { HaveAllStarted (tree.now).pending ids.now ladder.old ladder.new }
 {
     count_each(tree, ladder, waiting, ids);
-    let_all_go(tree, ladder, waiting);
+    start_all_waiting(tree, ladder, waiting);
 }
 
 // Starts votes so that most of those for one block go on as one.
-fn let_each_go<T: Drop>(tree: &Tree<T>, ladder: &mut Ladder, ids: &[Id])
+fn start_by_seats<T: Drop>(tree: &Tree<T>, ladder: &mut Ladder, ids: &[Id])
     requires { TakesMore (length (tree.now).pending) (length ids.now) ladder.old }
-    ensures { HaveGone (tree.now).pending ids.now ladder.old ladder.new }
+    ensures { HaveAllStarted (tree.now).pending ids.now ladder.old ladder.new }
 {
     let nobody = Vote {
         id: Id::from_bytes([0; 32]),
@@ -170,7 +170,7 @@ fn start_each<T: Drop>(tree: &Tree<T>, ladder: &mut Ladder, ids: &[Id])
     let _last = tree.last();
     all_named(ids);
     ladder.begin();
-    let_each_go(tree, ladder, ids);
+    start_by_seats(tree, ladder, ids);
 }
 
 /// Puts votes on an empty ladder that do what one vote for each of these identifiers does, at most

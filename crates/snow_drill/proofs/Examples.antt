@@ -9,7 +9,7 @@ use Rattle.snow_wire.specs.declared.event.Event.TheVariants as event
 use Rattle.snow_lines.specs.declared.line.Line.TheVariants as line
 use Rattle.snow_lines.specs.Model.Text.{text}
 use Rattle.snow_chain.specs.Model.Tally.{tally_rules}
-use Rattle.snow_engine.specs.declared.task.Task.TheVariants as task
+use Rattle.snow_engine.specs.declared.engine.Task.TheVariants as task
 use Rattle.snow_engine.specs.Model.Node.{started}
 use Rattle.snow_engine.specs.Kept.Staging.{Comes}
 use Rattle.snow_drill.specs.Model.Generator.{last_of, values}

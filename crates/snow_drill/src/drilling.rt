@@ -1,7 +1,7 @@
 ghost use Rattle.std.specs.Prelude.{◌≡◌, ◌<◌, [], fold, Ok, OnOk, IfOk};
 ghost use Rattle.snow_chain.specs.Model.Tally.{tally_rules};
 ghost use Rattle.snow_engine.specs.Model.Node.{started, step};
-ghost use Rattle.snow_engine.specs.declared.task.Task.TheVariants as task;
+ghost use Rattle.snow_engine.specs.declared.engine.Task.TheVariants as task;
 ghost use Rattle.snow_drill.specs.Model.Drill as model;
 ghost use Rattle.snow_drill.specs.Model.First.{first, nodes};
 ghost use Rattle.snow_drill.specs.Model.Summary.{drilled};

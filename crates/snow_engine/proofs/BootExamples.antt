@@ -13,7 +13,7 @@ use Rattle.snow_wire.specs.declared.event.Event.TheVariants as event
 use Rattle.snow_wire.specs.declared.event.Start.{Start}
 use Rattle.snow_lines.specs.declared.line.Line.TheVariants as line
 use Rattle.snow_lines.specs.declared.why.SkipKind.TheVariants as skip
-use Rattle.snow_engine.specs.declared.task.Task.TheVariants as task
+use Rattle.snow_engine.specs.declared.engine.Task.TheVariants as task
 use Rattle.snow_node.specs.Model.Outcome.{quietly, then_comes}
 use Rattle.snow_engine.specs.Kept.Staging.{Node, Comes}
 use Rattle.snow_engine.specs.Model.Catching.{boots_on}

@@ -12,7 +12,7 @@ use Rattle.snow_lines.specs.declared.line.Line.{Line}
 use Rattle.snow_lines.specs.Kept.Gathered.{Gathers}
 use Rattle.snow_lines.specs.Model.Text.{texts}
 use Rattle.snow_lines.proofs.Waiting.{gathers_none, gathers_then, gathers_then_front}
-use Rattle.snow_engine.specs.declared.task.Task.{Task}
+use Rattle.snow_engine.specs.declared.engine.Task.{Task}
 use Rattle.snow_engine.specs.declared.end.End.{End}
 use Rattle.snow_engine.specs.declared.end.End.TheVariants as end
 use Rattle.snow_engine.specs.Kept.Staging.{Node}

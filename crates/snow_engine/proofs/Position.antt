@@ -9,7 +9,7 @@ use Rattle.snow_wire.specs.Clauses.Stream.{fed}
 use Rattle.snow_wire.proofs.Streams.{frames_end, long_first}
 use Rattle.snow_wire.proofs.Pieces.{ahead, pieces, long_more}
 use Rattle.snow_lines.specs.declared.line.Line.{Line}
-use Rattle.snow_engine.specs.declared.task.Task.{Task}
+use Rattle.snow_engine.specs.declared.engine.Task.{Task}
 use Rattle.snow_engine.specs.declared.end.BadKind.TheVariants as kind
 use Rattle.snow_engine.specs.declared.end.End.{End}
 use Rattle.snow_engine.specs.declared.end.End.TheVariants as end

@@ -10,7 +10,7 @@ use Rattle.snow_wire.specs.Clauses.Stream.{Intake, fed, fresh}
 use Rattle.snow_wire.proofs.Streams.{frames_end, off_front}
 use Rattle.snow_lines.specs.declared.line.Line.{Line}
 use Rattle.snow_lines.specs.Model.Text.{texts}
-use Rattle.snow_engine.specs.declared.task.Task.{Task}
+use Rattle.snow_engine.specs.declared.engine.Task.{Task}
 use Rattle.snow_engine.specs.Kept.Staging.{Node}
 use Rattle.snow_engine.specs.Model.Run.{Stand, Fresh, after_frames, ran, lines_of}
 use Rattle.snow_engine.specs.Clauses.Serving.{stand_of, Worked, all_worked}

@@ -11,7 +11,7 @@ use Rattle.snow_wire.proofs.Streams.{long_first}
 use Rattle.snow_lines.specs.declared.line.Line.{Line}
 use Rattle.snow_lines.specs.Kept.Gathered.{Gathers}
 use Rattle.snow_lines.specs.Model.Text.{text, texts}
-use Rattle.snow_engine.specs.declared.task.Task.{Task}
+use Rattle.snow_engine.specs.declared.engine.Task.{Task}
 use Rattle.snow_engine.specs.declared.end.BadKind.TheVariants as kind
 use Rattle.snow_engine.specs.declared.end.End.{End}
 use Rattle.snow_engine.specs.declared.end.End.TheVariants as end

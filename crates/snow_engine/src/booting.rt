@@ -12,6 +12,7 @@ ghost use Rattle.snow_node.specs.Model.Turning.{members};
 
 use crate::stage::{Node, Stage};
 use crate::stop::EngineStop;
+use snow_base::limits::MOST_WORDS;
 use snow_base::{Numbers, Nums};
 use snow_board::Board;
 use snow_boot::{Boot, BootStop, Stage as BootStage};
@@ -24,9 +25,6 @@ use snow_sample::{Roster, Words};
 use snow_wire::{Event, Start};
 use std::alloc::Global;
 use std::marker::Model;
-
-/// The most random words that wait.
-const MOST_WORDS: usize = 65_536;
 
 /// A node that bootstraps, over any chain. Contracts see the node of the definitions. After a stop
 /// its caller only drops it.

@@ -11,7 +11,6 @@ use crate::booting::Booting;
 use crate::deciding::Deciding;
 use crate::stage::{Node, Stage};
 use crate::stop::EngineStop;
-use crate::task::Task;
 use snow_base::Numbers;
 use snow_board::Board;
 use snow_chain::Chain;
@@ -23,6 +22,16 @@ use snow_wire::{Start, View};
 use std::alloc::Global;
 use std::marker::Model;
 use std::mem;
+
+/// What a node does with the events of its stream.
+/// Rule: this project's own.
+#[derive(Clone, Copy, Debug, PartialEq, Eq)]
+pub enum Task {
+    /// It takes blocks and whole polls, and asks nobody.
+    Decide,
+    /// It asks other nodes, and takes their replies, blocks and votes.
+    Run,
+}
 
 /// The engine of one node, over any chain and any board. Contracts see the node of the definitions.
 /// Each call appends its lines to a log. How blocks wait and are issued, and how polls are begun,
@@ -68,7 +77,7 @@ impl<C: Chain, B: Board> Engine<C, B> {
         };
         let stage = match task {
             Task::Decide => Stage::Deciding(Deciding::start(alloc, first, params)?),
-            Task::Run => begin(alloc, first, params, log)?,
+            Task::Run => begin_node(alloc, first, params, log)?,
         };
         Ok(Engine { stage, alloc })
     }
@@ -130,7 +139,7 @@ impl<C: Chain, B: Board> Engine<C, B> {
 
 /// Returns the node that begins to run, or to bootstrap, with a Start of these parameters. It
 /// checks the nodes first, and then whether the chain takes the state.
-fn begin<C: Chain, B: Board>(
+fn begin_node<C: Chain, B: Board>(
     alloc: Global,
     first: &Start,
     params: Params,

@@ -10,11 +10,9 @@ mod serving;
 mod session;
 mod stage;
 mod stop;
-mod task;
 
 pub use end::{BadKind, End};
-pub use engine::Engine;
+pub use engine::{Engine, Task};
 pub use runner::Runner;
-pub use serving::{LIMIT, serve};
+pub use serving::serve;
 pub use stop::EngineStop;
-pub use task::Task;

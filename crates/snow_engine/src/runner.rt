@@ -4,8 +4,7 @@ ghost use Rattle.snow_engine.specs.Model.Run.{after_frame};
 ghost use Rattle.snow_engine.specs.Clauses.Serving.{stand_of, told, Opens, Stands, LogsFrame};
 
 use crate::end::{BadKind, End};
-use crate::engine::Engine;
-use crate::task::Task;
+use crate::engine::{Engine, Task};
 use snow_board::Board;
 use snow_chain::Chain;
 use snow_lines::{Lines, SkipKind};
@@ -51,13 +50,13 @@ impl<C: Chain, B: Board> Runner<C, B> {
     {
         self.log.clear();
         match &mut self.engine {
-            None => self.begin(frame, payload),
+            None => self.work_first(frame, payload),
             Some(engine) => follow(engine, frame, payload, &mut self.log),
         }
     }
 
     /// Works the first frame.
-    fn begin(&mut self, frame: u64, payload: &[u8]) -> Result<Option<SkipKind>, End>
+    fn work_first(&mut self, frame: u64, payload: &[u8]) -> Result<Option<SkipKind>, End>
         requires engine { self.old.engine ≡ None }
         requires log { self.old.log ≡ [] }
         ensures stand { Stands result self.new.engine (model.opened C.rules self.old.task frame (model.read payload.now)).1 }

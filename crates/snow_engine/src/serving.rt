@@ -7,17 +7,14 @@ ghost use Rattle.snow_engine.specs.Model.Run.{lines_of, seen, end_of};
 ghost use Rattle.snow_engine.specs.Clauses.Serving.{IsEnd, Wrote, HasFault, Broke};
 
 use crate::end::End;
+use crate::engine::Task;
 use crate::session::Session;
-use crate::task::Task;
+use snow_base::limits::INPUT_BYTES;
 use snow_base::{Sink, Source};
 use snow_board::Board;
 use snow_chain::Chain;
 use snow_wire::ReadFault;
 use std::alloc::Global;
-
-/// The most bytes of a stream that a run takes: 2^40.
-/// Rule: this project's own.
-pub const LIMIT: u64 = 1_099_511_627_776;
 
 /// Runs a task over a source. It works each whole frame as it comes, and writes its lines before it
 /// reads on. It returns `Done` where the source ended behind whole frames. `BadInput`,
@@ -72,7 +69,7 @@ impl<C: Chain, B: Board> Session<C, B> {
         ensures source_later { S.faults source.old ≤ S.faults source.new }
         ensures out_later { O.faults out.old ≤ O.faults out.new }
     {
-        let mut room = LIMIT;
+        let mut room = INPUT_BYTES;
         while room > 0 {
             let taken = match self.decoder.read_from(source, room) {
                 Ok(taken) => taken,
@@ -82,7 +79,7 @@ impl<C: Chain, B: Board> Session<C, B> {
             if taken == 0 {
                 return self.end_of_input();
             }
-            if let Err(end) = self.work(out) {
+            if let Err(end) = self.work_all(out) {
                 return end;
             }
             room -= taken as u64;

@@ -9,8 +9,8 @@ ghost use Rattle.snow_engine.specs.Model.Run.{end_behind};
 ghost use Rattle.snow_engine.specs.Clauses.Serving.{stand_of, told, has_sink_failed, Goes, GathersLines, WritesLines, SinkFails, one_worked, all_worked};
 
 use crate::end::{BadKind, End};
+use crate::engine::Task;
 use crate::runner::Runner;
-use crate::task::Task;
 use snow_base::{Failed, Sink};
 use snow_board::Board;
 use snow_chain::Chain;
@@ -119,7 +119,7 @@ impl<C: Chain, B: Board> Session<C, B> {
     /// written before, nor behind. Where the run ends it returns `Over`, and the runner's `end`
     /// tells how. At most 2^40 bytes came.
     /// Rule: this project's own.
-    pub fn work<O: Sink>(&mut self, out: &mut O) -> Result<(), End>
+    pub fn work_all<O: Sink>(&mut self, out: &mut O) -> Result<(), End>
         requires small { 4 * self.old.decoder.given + length self.old.decoder.rest ≤ 2 ^ 40 }
         requires empty { self.old.page ≡ [] }
         ensures goes { Goes result self.new.runner.engine self.new.decoder

@@ -1,5 +1,6 @@
 ghost use Rattle.std.specs.Prelude.{◌≡◌, ◌<◌, ◌≤◌, false, true, not, nat_lt, if◌then◌else◌};
 ghost use Rattle.std.specs.Bool.{beq};
+ghost use Rattle.snow_base.specs.declared.limits.TheConstants.{MOST_BETA};
 
 use crate::params::Params;
 use crate::rule::Rule;
@@ -21,6 +22,7 @@ pub struct Binary {
 
 impl Model for Binary {
     ghost use Rattle.std.specs.Prelude.{◌≡◌, ◌<◌, false};
+    ghost use Rattle.snow_base.specs.declared.limits.TheConstants.{MOST_BETA};
     ghost use Rattle.snow_flake.specs.Kept.Instance.{Instance};
 
     ghost Value = { Instance };
@@ -36,7 +38,7 @@ impl Model for Binary {
       final = a.decided;
     } };
 
-    ghost invariant = { λ a. a.decided ≡ false → a.confidence < 65535 };
+    ghost invariant = { λ a. a.decided ≡ false → a.confidence < MOST_BETA };
 
     ghost inverse = { λ i. record {
       preference = i.standing.preference;
@@ -56,7 +58,7 @@ impl Binary {
 
     /// Returns the instance where all choices so far had this bit.
     pub(crate) fn at_bit(bit: bool, strength: u64, confidence: u32, decided: bool) -> Self
-        requires { decided ≡ false → confidence < 65535 }
+        requires { decided ≡ false → confidence < MOST_BETA }
         ensures { let s : Single = record { strength = strength; confidence = confidence; final = decided } in
             result ≡ at_bit s bit }
     {

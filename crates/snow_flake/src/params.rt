@@ -1,5 +1,6 @@
 ghost use Rattle.std.specs.Prelude.{◌≡◌};
 
+use snow_base::limits::{MOST_BETA, MOST_K};
 use std::marker::Model;
 use thiserror::Error;
 
@@ -111,10 +112,10 @@ impl Params {
         if beta < repolls {
             return Err(ParamFault::RepollsHigh);
         }
-        if k > 1024 {
+        if k > MOST_K {
             return Err(ParamFault::KLarge);
         }
-        if beta > 65535 {
+        if beta > MOST_BETA {
             return Err(ParamFault::BetaLarge);
         }
         Ok(Params {

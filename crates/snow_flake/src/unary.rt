@@ -17,13 +17,14 @@ pub struct Unary {
 
 impl Model for Unary {
     ghost use Rattle.std.specs.Prelude.{◌≡◌, ◌<◌, false};
+    ghost use Rattle.snow_base.specs.declared.limits.TheConstants.{MOST_BETA};
     ghost use Rattle.snow_flake.specs.Kept.Instance.{Single};
 
     ghost Value = { Single };
 
     ghost view = { λ a. record { strength = a.strength; confidence = a.confidence; final = a.decided } };
 
-    ghost invariant = { λ a. a.decided ≡ false → a.confidence < 65535 };
+    ghost invariant = { λ a. a.decided ≡ false → a.confidence < MOST_BETA };
 
     ghost inverse = { λ s. record { strength = s.strength; confidence = s.confidence; decided = s.final } };
 }

@@ -9,17 +9,12 @@ ghost use Rattle.snow_getter.specs.Model.Answer.{answer, accepted_among, chain_t
 
 use crate::getter::Getter;
 use indexmap::IndexSet;
+use snow_base::limits::{ANSWER_BLOCKS, ANSWER_BYTES};
 use snow_base::{Blocks, Bytes, Id, Ids, NodeId};
 use snow_lines::{Line, Lines};
 use snow_map::IdHashing;
 use snow_wire::{Listing, Named, View};
 use std::alloc::AllocError;
-
-// How many blocks a chain has.
-const MOST_BLOCKS: usize = 64;
-
-// How many bytes the blocks of a chain have in total.
-const MOST_BYTES: usize = 524_288;
 
 impl Getter {
     /// Appends the lines that answer a question, where `preference` is preferred. `AskQuery` is
@@ -123,9 +118,9 @@ impl Getter {
         ensures { IfOk result (λ blocks. blocks ≡ map (λ b. b.bytes) (chain self.now id.now)) }
     {
         let mut blocks = Blocks::new(self.alloc);
-        let mut room = MOST_BYTES;
+        let mut room = ANSWER_BYTES;
         let mut next = *id;
-        for _count in 0..MOST_BLOCKS {
+        for _count in 0..ANSWER_BLOCKS {
             let Some(block) = self.held(&next) else {
                 return Ok(blocks);
             };

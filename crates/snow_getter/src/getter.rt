@@ -5,13 +5,11 @@ ghost use Rattle.snow_getter.specs.Model.Serving.{serving_from, is_pending, is_a
 
 use crate::pending::Pending;
 use crate::served::{Held, Served};
+use snow_base::limits::MOST_SERVED;
 use snow_base::{Bytes, Id};
 use snow_recent::Recent;
 use std::alloc::{AllocError, Global};
 use std::marker::Model;
-
-// How many accepted blocks are kept.
-const MOST_ACCEPTED: usize = 4_096;
 
 /// What a node serves to its peers. Contracts see the first identifier, whose block isn't served,
 /// the pending blocks in order of issue, and the last 4,096 accepted ones, the latest last.
@@ -23,7 +21,7 @@ pub struct Getter {
     pub(crate) alloc: Global,
     first: Id,
     pending: Pending,
-    accepted: Recent<Served, MOST_ACCEPTED>,
+    accepted: Recent<Served, MOST_SERVED>,
 }
 
 impl Model for Getter {

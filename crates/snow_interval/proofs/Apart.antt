@@ -6,7 +6,7 @@ use Rattle.std.specs.List.Sorted.{IsPartitionPoint, IsNonDecreasingBy}
 use Rattle.std.proofs.lemmas.Bool.{leb-true, le-leb}
 use Rattle.std.proofs.lemmas.Bool.Decides.{nat_tests, leb_tells}
 use Rattle.std.proofs.lemmas.List.Folds.{list_any-append}
-use Rattle.snow_interval.specs.declared.span.Span.{Span}
+use Rattle.snow_interval.specs.declared.intervals.Span.{Span}
 use Rattle.snow_interval.specs.Kept.Spans.{is_in, spanned, AreApart, behind}
 use Rattle.snow_interval.proofs.Parting.{parted}
 

@@ -1,6 +1,6 @@
 -- Spans with known heights, and the lowest height of a run.
 use Rattle.std.proofs.Common.{◌≡◌, true, false, List, [], ◌∷◌, refl}
-use Rattle.snow_interval.specs.declared.span.Span.{Span}
+use Rattle.snow_interval.specs.declared.intervals.Span.{Span}
 use Rattle.snow_interval.specs.Model.Heights.{lowest, begins_run}
 use Rattle.snow_interval.specs.Clauses.Listed.{listed}
 use Rattle.snow_interval.specs.Kept.Spans.{spanned}

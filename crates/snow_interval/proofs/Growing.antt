@@ -5,7 +5,7 @@ use Rattle.std.specs.List.{remove, insert}
 use Rattle.std.proofs.lemmas.List.{take-append-drop}
 use Rattle.std.proofs.lemmas.Bool.Decides.{nat_tests, leb_tells}
 use Rattle.std.proofs.lemmas.List.Folds.{list_any-append}
-use Rattle.snow_interval.specs.declared.span.Span.{Span}
+use Rattle.snow_interval.specs.declared.intervals.Span.{Span}
 use Rattle.snow_interval.specs.Kept.Spans.{is_in, spanned, AreApart, behind, front, IsFree, HasGrown}
 use Rattle.snow_interval.proofs.Apart.{parts, together, behind_more, BeginsAbove, IsPlace, before, held_before}
 use Rattle.snow_interval.proofs.Parting.{parted, set_parted, removed_set, removed_before, before_next}

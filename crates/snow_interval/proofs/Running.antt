@@ -3,7 +3,7 @@ use Rattle.std.proofs.Common.{◌≡◌, ℕ, zero, suc, ◌-◌, ◌<◌, ◌�
 use Rattle.std.proofs.lemmas.Bool.{leb-true, le-leb}
 use Rattle.std.proofs.lemmas.List.Folds.{list_any-append}
 use Rattle.std.proofs.lemmas.Bool.Decides.{leb_tells}
-use Rattle.snow_interval.specs.declared.span.Span.{Span}
+use Rattle.snow_interval.specs.declared.intervals.Span.{Span}
 use Rattle.snow_interval.specs.Model.Heights.{Heights, lowest}
 use Rattle.snow_interval.specs.Kept.Spans.{is_in, spanned, AreApart, behind}
 use Rattle.snow_interval.proofs.Apart.{IsPlace, parts, least, none_behind, none_above, begins_from, held_before, held_behind}

@@ -3,10 +3,19 @@ ghost use Rattle.snow_interval.specs.Model.Heights.{with_height, begins_run, low
 ghost use Rattle.snow_interval.specs.Kept.Spans.{spanned, AreApart};
 
 use crate::kept::Kept;
-use crate::span::Span;
 use crate::spanning;
 use std::alloc::{AllocError, Global};
 use std::marker::Model;
+
+/// Heights below 2^64, from a lowest to a highest one, both included.
+/// Rule: this project's own.
+#[derive(Clone, Copy, Debug, PartialEq, Eq)]
+pub struct Span {
+    /// The lowest height.
+    pub low: u64,
+    /// The highest height.
+    pub high: u64,
+}
 
 /// Heights as spans that rise and never touch. Adding and finding a height look at about the
 /// logarithm of the number of spans.

@@ -4,10 +4,8 @@
 mod intervals;
 mod kept;
 mod list;
-mod span;
 mod spanning;
 
-pub use intervals::Intervals;
+pub use intervals::{Intervals, Span};
 pub use kept::Kept;
 pub use list::KeptList;
-pub use span::Span;

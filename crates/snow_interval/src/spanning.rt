@@ -3,7 +3,7 @@ ghost use Rattle.std.specs.List.Sorted.{IsPartitionPoint};
 ghost use Rattle.snow_interval.specs.Model.Heights as heights;
 ghost use Rattle.snow_interval.specs.Kept.Spans.{spanned, AreApart, IsFree, behind, front, HasGrown};
 
-use crate::span::Span;
+use crate::intervals::Span;
 use std::alloc::AllocError;
 
 // How many spans begin at a height or below it.

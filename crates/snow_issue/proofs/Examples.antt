@@ -4,12 +4,13 @@ use Rattle.snow_base.specs.declared.header.Header.{Header}
 use Rattle.snow_flake.specs.Model.Parameters.{Parameters}
 use Rattle.snow_board.specs.Model.Board.{Board, begin, issued}
 use Rattle.snow_issue.specs.declared.work.Waiting.{Waiting}
-use Rattle.snow_issue.specs.declared.work.Get.{Get}
+use Rattle.snow_gets.specs.declared.gets.Get.{Get}
 use Rattle.snow_issue.specs.declared.work.Held.{Held}
 use Rattle.snow_issue.specs.declared.work.Offered.TheVariants as offer
 use Rattle.snow_issue.specs.declared.work.Work.TheVariants as work
 use Rattle.snow_issue.specs.declared.gone.Gone.{Gone}
-use Rattle.snow_issue.specs.Model.Lists.{Lists, begun, with_waiting, with_get, after_asked, after_closed, after_held, after_forgotten, after_gone}
+use Rattle.snow_gets.specs.Model.Gets.{with_get}
+use Rattle.snow_issue.specs.Model.Lists.{Lists, begun, with_waiting, after_asked, after_closed, after_held, after_forgotten, after_gone}
 use Rattle.snow_issue.specs.Model.Offering.{offered, wanted}
 use Rattle.snow_issue.specs.Model.Settling.{work_of, after}
 use Rattle.snow_issue.specs.Model.Bubbling.{bubbled, bubbled_in}

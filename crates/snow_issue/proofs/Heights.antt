@@ -7,7 +7,7 @@ use Rattle.snow_base.specs.declared.header.Header.{Header}
 use Rattle.snow_issue.specs.declared.work.Waiting.{Waiting}
 use Rattle.snow_issue.specs.Model.Lists.{waits_among, waits_below}
 use Rattle.snow_issue.specs.Kept.Index.{HasHeights}
-use Rattle.snow_issue.proofs.Named.{named, named_pushed, apart_pushed, named_removed, named_at, apart_removed, named_is_some, any_named}
+use Rattle.snow_gets.proofs.Named.{named, named_pushed, apart_pushed, named_removed, named_at, apart_removed, named_is_some, any_named}
 
 -- what finds a height by identifier
 abbrev Finder : Type 0

@@ -9,17 +9,18 @@ use Rattle.snow_base.specs.declared.vote.Vote.{Vote}
 use Rattle.snow_board.specs.Model.Board.{Board}
 use Rattle.snow_board.specs.Model.Poll.{poll}
 use Rattle.snow_board.proofs.Cases.{split_on}
-use Rattle.snow_issue.specs.declared.work.Get.{Get}
+use Rattle.snow_gets.specs.declared.gets.Get.{Get}
 use Rattle.snow_issue.specs.declared.work.Held.{Held}
 use Rattle.snow_issue.specs.declared.work.Offered.{Offered}
 use Rattle.snow_issue.specs.declared.work.Offered.TheVariants as offer
 use Rattle.snow_issue.specs.declared.work.Waiting.{Waiting}
 use Rattle.snow_issue.specs.declared.work.Work.TheVariants as work
 use Rattle.snow_issue.specs.Model.Bubbling.{bubbled, vote_at_once}
-use Rattle.snow_issue.specs.Model.Lists.{Lists, without, waits, waits_below, is_asked, after_asked, after_forgotten, after_held, with_waiting}
+use Rattle.snow_gets.specs.Model.Gets.{without}
+use Rattle.snow_issue.specs.Model.Lists.{Lists, waits, waits_below, is_asked, after_asked, after_forgotten, after_held, with_waiting}
 use Rattle.snow_issue.specs.Model.Offering.{is_on, is_high, is_next, wanted, asks, refusal, offered}
 use Rattle.snow_issue.specs.Model.Settling.{work_of, after, is_hopeless, is_ready, is_free, IsIdle}
-use Rattle.snow_issue.proofs.Asking.{asked_with}
+use Rattle.snow_gets.proofs.Asking.{asked_with}
 use Rattle.snow_issue.proofs.Remembered.{off_polled}
 use Rattle.snow_issue.proofs.Taken.{either_more, still_busy}
 

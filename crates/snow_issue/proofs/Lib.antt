@@ -1,12 +1,10 @@
-pub mod Asking
 mod Bubbled
 mod GoneExamples
 pub mod Examples
 mod Heights
 pub mod Idle
-mod Lone
+mod OnlyNew
 mod Looked
-mod Named
 mod Preferred
 pub mod Remembered
 mod Stocked
@@ -16,7 +14,7 @@ mod Departed
 mod Next
 mod Settled
 mod Taken
-mod Rested
+mod Quieted
 mod Resting
 mod Ranged
 mod Stepped

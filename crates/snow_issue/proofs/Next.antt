@@ -7,7 +7,7 @@ use Rattle.snow_issue.specs.declared.work.Held.{Held}
 use Rattle.snow_lineup.specs.declared.marks.Mark.{Mark}
 use Rattle.snow_lineup.specs.declared.marks.Mark.TheVariants.{New}
 use Rattle.snow_lineup.specs.Kept.Marks.{has}
-use Rattle.snow_issue.proofs.Asking.{first_at}
+use Rattle.snow_gets.proofs.Asking.{first_at}
 
 -- a reply is the first new one
 pub record IsNext (seats : List (Held × Mark)) (reply : Held) : Type 0 where

@@ -19,8 +19,8 @@ use Rattle.snow_issue.specs.Model.Lists.{holds_in, is_reply}
 use Rattle.snow_issue.specs.Kept.Known.{items_of}
 use Rattle.snow_issue.specs.Kept.Arrivals.{Entries, at_arrival, seat_of, reply_key, IsFiled}
 use Rattle.snow_issue.proofs.Stocked.{same_number, number_itself, number_apart, each}
-use Rattle.snow_lineup.proofs.Booleans.{or_true}
-use Rattle.snow_lineup.proofs.Noted.{same_id, id_itself}
+use Rattle.snow_map.proofs.Booleans.{or_true}
+use Rattle.snow_map.proofs.Lists.{same_id, id_itself}
 
 abbrev pub Numbers : Type 0
 Numbers = ℕ → List ℕ → Option ℕ

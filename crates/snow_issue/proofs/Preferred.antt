@@ -9,7 +9,7 @@ use Rattle.snow_board.specs.Model.Board.{Board, block_of, is_pending}
 use Rattle.snow_board.specs.Model.Preference.{path_from, end_of, preferred}
 use Rattle.snow_board.proofs.Cases.{split_on}
 use Rattle.snow_issue.specs.Model.Offering.{is_on}
-use Rattle.snow_issue.proofs.Named.{is_named, named_is_some}
+use Rattle.snow_gets.proofs.Named.{is_named, named_is_some}
 
 abbrev id_of : Pending → List ℕ
 id_of q = q.block.id

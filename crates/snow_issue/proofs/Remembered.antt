@@ -14,16 +14,17 @@ use Rattle.snow_board.specs.Model.Poll.{with_votes, counted, winner, promoted, p
 use Rattle.snow_board.proofs.Invariant.{settled_keeps}
 use Rattle.snow_board.proofs.Lookup.{found}
 use Rattle.snow_issue.specs.declared.work.Waiting.{Waiting}
-use Rattle.snow_issue.specs.declared.work.Get.{Get}
+use Rattle.snow_gets.specs.declared.gets.Get.{Get}
 use Rattle.snow_lineup.specs.declared.marks.Mark.{Mark}
 use Rattle.snow_lineup.specs.declared.marks.Mark.TheVariants.{New, Quiet, Ripe}
-use Rattle.snow_issue.specs.Model.Lists.{asked_in, waits_below}
+use Rattle.snow_gets.specs.Model.Gets.{asked_in}
+use Rattle.snow_issue.specs.Model.Lists.{waits_below}
 use Rattle.snow_issue.specs.Model.Offering.{is_on}
 use Rattle.snow_issue.specs.Kept.Known.{Seen, items_of, sight, Tells, Knows, ForgetsChildren, NoneRipe}
 use Rattle.snow_lineup.specs.Kept.Marks.{is_mark, has}
 use Rattle.snow_issue.proofs.Looked.{quiet_off}
-use Rattle.snow_lineup.proofs.Noted.{id_turned}
-use Rattle.snow_lineup.proofs.Booleans.{or_false, or_true, or_assoc}
+use Rattle.snow_map.proofs.Lists.{id_turned}
+use Rattle.snow_map.proofs.Booleans.{or_false, or_true, or_assoc}
 
 -- ---- what is on a board
 

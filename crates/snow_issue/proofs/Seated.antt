@@ -18,7 +18,7 @@ use Rattle.snow_lineup.specs.Kept.Index.{woken}
 use Rattle.snow_issue.specs.Kept.Known.{items_of}
 use Rattle.snow_issue.specs.Kept.Arrivals.{Entries, at_arrival, mark_of, seat_of, loud, woken_among, IsFirst, AreQuiet, stays}
 use Rattle.snow_issue.proofs.Stocked.{none_before, behind_first, first_there, each}
-use Rattle.snow_lineup.proofs.Booleans.{or_false}
+use Rattle.snow_map.proofs.Booleans.{or_false}
 
 -- ---- the first one that isn't quiet
 
@@ -101,10 +101,10 @@ seats_taken (e ∷ es) a reply sorted is =
           ∙ ap (remove (map seat_of (e ∷ es))) (sym (place_behind (seat_of e) (map seat_of es) (new_by e.1 true b.quiet e.1.reply)))
     ] refl
 
-pub seats_rested : (es : Entries) (a : ℕ) (reply : Held) → IsStrictlySortedBy nat_cmp (keys_of es) → IsFirst es a reply
+pub seats_quieted : (es : Entries) (a : ℕ) (reply : Held) → IsStrictlySortedBy nat_cmp (keys_of es) → IsFirst es a reply
     → map seat_of (set_value (is_at (nat_cmp a)) es (record { reply = reply; quiet = true })) ≡ set (map seat_of es) (place (map seat_of es)) (reply, Quiet)
-seats_rested [] a reply sorted is = let h = is.there in absurd cc
-seats_rested (e ∷ es) a reply sorted is =
+seats_quieted [] a reply sorted is = let h = is.there in absurd cc
+seats_quieted (e ∷ es) a reply sorted is =
     let w : Kept = record { reply = reply; quiet = true } in
     let now : Held × Mark = (reply, Quiet) in
     let Goal : Bool → Type 0 = λ t. is_at (nat_cmp a) e.0 ≡ t
@@ -115,7 +115,7 @@ seats_rested (e ∷ es) a reply sorted is =
           ap (λ n. set (map seat_of (e ∷ es)) n now) (sym (place_there (seat_of e) (map seat_of es) new))
       | false ↦ λ t.
           let b = behind e es a reply sorted is t in
-          ap (λ l. seat_of e ∷ l) (seats_rested es a reply (tail_sorted e es sorted) b.first)
+          ap (λ l. seat_of e ∷ l) (seats_quieted es a reply (tail_sorted e es sorted) b.first)
           ∙ ap (λ n. set (map seat_of (e ∷ es)) n now) (sym (place_behind (seat_of e) (map seat_of es) (new_by e.1 true b.quiet e.1.reply)))
     ] refl
 
@@ -241,7 +241,7 @@ items_filtered (s ∷ seats) number =
     ≡ cond b (s.0 ∷ filter (λ h. not (h.number == number)) (items_of seats)) (filter (λ h. not (h.number == number)) (items_of seats)) in
     elim (not (s.0.number == number)) as Goal [ true ↦ ap (λ l. s.0 ∷ l) rest | false ↦ rest ]
 
--- ---- one reply more, and one that rests
+-- ---- one reply more, and one that quiet
 
 pub seats_pushed : (es now : Entries) (n : ℕ) (reply : Held) → now ≡ es ++ (n, record { reply = reply; quiet = false }) ∷ [] → map seat_of now ≡ map seat_of es ++ (reply, New) ∷ []
 seats_pushed es now n reply end =
@@ -263,6 +263,6 @@ same_replies (e ∷ es) n k w a found same =
       | false ↦ λ h. two (is_at (nat_cmp a) e.0) e.1 (at_arrival (set_value (is_at (nat_cmp n)) es w) a) (at_arrival es a) (same_replies es n k w a h same)
     ] found
 
-pub replies_rested : (es : Entries) (n : ℕ) (reply : Held) (a : ℕ) → IsFirst es n reply
+pub replies_quieted : (es : Entries) (n : ℕ) (reply : Held) (a : ℕ) → IsFirst es n reply
     → option_map (λ k. k.reply) (at_arrival (set_value (is_at (nat_cmp n)) es (record { reply = reply; quiet = true })) a) ≡ option_map (λ k. k.reply) (at_arrival es a)
-replies_rested es n reply a is = same_replies es n (record { reply = reply; quiet = false }) (record { reply = reply; quiet = true }) a is.there refl
+replies_quieted es n reply a is = same_replies es n (record { reply = reply; quiet = false }) (record { reply = reply; quiet = true }) a is.there refl

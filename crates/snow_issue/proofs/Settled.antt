@@ -7,17 +7,18 @@ use Rattle.std.proofs.lemmas.List.{length-map, length_push, length-take, length-
 use Rattle.std.proofs.lemmas.List.Edits.{length-remove}
 use Rattle.snow_board.specs.Model.Board.{Board}
 use Rattle.snow_issue.specs.declared.work.Waiting.{Waiting}
-use Rattle.snow_issue.specs.declared.work.Get.{Get}
+use Rattle.snow_gets.specs.declared.gets.Get.{Get}
 use Rattle.snow_issue.specs.declared.work.Held.{Held}
 use Rattle.snow_issue.specs.declared.gone.Gone.{Gone}
 use Rattle.snow_lineup.specs.declared.marks.Mark.{Mark}
 use Rattle.snow_lineup.specs.declared.marks.Mark.TheVariants.{New}
 use Rattle.snow_issue.specs.Model.Gone.{with_gone}
-use Rattle.snow_issue.specs.Model.Lists.{Lists, with_get, is_get, without, asked_in, AreWithinLimits}
+use Rattle.snow_gets.specs.Model.Gets.{with_get, is_get, without, asked_in}
+use Rattle.snow_issue.specs.Model.Lists.{Lists, AreWithinLimits}
 use Rattle.snow_issue.specs.Kept.Known.{Seen, items_of, lists_of, Tells, Knows}
 use Rattle.snow_lineup.specs.Kept.Index.{woken, forgotten}
-use Rattle.snow_issue.specs.Kept.Keeping.{IsKept, Rests}
-use Rattle.snow_issue.proofs.Taken.{items_woken, items_forgotten, items_pushed, items_removed, item_is, rests_left, rests_stay, rests_closed, rests_asked, rests_pushed}
+use Rattle.snow_issue.specs.Kept.Keeping.{IsKept, StaysQuiet}
+use Rattle.snow_issue.proofs.Taken.{items_woken, items_forgotten, items_pushed, items_removed, item_is, quiet_left, quiet_stay, quiet_closed, quiet_asked, quiet_pushed}
 
 -- ---- lengths
 
@@ -64,7 +65,7 @@ kept_new last = record { quiet = λ k d h. absurd (omega (arith, h)); few_waitin
 pub kept_pushed : (seats : List (Waiting × Mark)) (gets : List Get) (replies : List (Held × Mark)) (gone : List Gone) (w : Waiting) → IsKept seats gets replies gone
     → length seats < 4096 → IsKept (seats ++ (w, New) ∷ []) gets replies gone
 kept_pushed seats gets replies gone w kept few = record {
-  quiet = subst (λ (l : List Waiting). All (Rests l gets) replies) (sym (items_pushed seats w New)) (rests_pushed (items_of seats) gets w replies kept.quiet);
+  quiet = subst (λ (l : List Waiting). All (StaysQuiet l gets) replies) (sym (items_pushed seats w New)) (quiet_pushed (items_of seats) gets w replies kept.quiet);
   few_waiting = let new : Waiting × Mark = (w, New) in omega (arith, length_push seats new, few);
   few_gets = kept.few_gets;
   few_gone = kept.few_gone;
@@ -73,7 +74,7 @@ kept_pushed seats gets replies gone w kept few = record {
 pub kept_asked : (seats : List (Waiting × Mark)) (gets : List Get) (replies : List (Held × Mark)) (gone : List Gone) (get : Get) → IsKept seats gets replies gone
     → length gets < 4096 → IsKept seats (with_get gets get) replies gone
 kept_asked seats gets replies gone get kept few = record {
-  quiet = rests_asked (items_of seats) gets get replies kept.quiet;
+  quiet = quiet_asked (items_of seats) gets get replies kept.quiet;
   few_waiting = kept.few_waiting;
   few_gets = omega (arith, length_with gets get, few);
   few_gone = kept.few_gone;
@@ -83,8 +84,8 @@ pub kept_closed : (seats : List (Waiting × Mark)) (gets : List Get) (replies : 
     → find (is_get number node) gets ≡ Some get → IsKept seats gets replies gone
     → IsKept (map (woken (λ w. w.header.parent) get.id) seats) (without (is_get number node) gets) (map (woken (λ h. h.id) get.id) replies) gone
 kept_closed seats gets replies gone number node get found kept = record {
-  quiet = subst (λ (l : List Waiting). All (Rests l (without (is_get number node) gets)) (map (woken (λ h. h.id) get.id) replies)) (sym (items_woken (λ w. w.header.parent) get.id seats))
-      (rests_closed (items_of seats) gets number node get replies found kept.quiet);
+  quiet = subst (λ (l : List Waiting). All (StaysQuiet l (without (is_get number node) gets)) (map (woken (λ h. h.id) get.id) replies)) (sym (items_woken (λ w. w.header.parent) get.id seats))
+      (quiet_closed (items_of seats) gets number node get replies found kept.quiet);
   few_waiting = omega (arith, length-map seats (woken (λ w. w.header.parent) get.id), kept.few_waiting);
   few_gets = omega (arith, length_without (is_get number node) gets, kept.few_gets);
   few_gone = kept.few_gone;
@@ -97,8 +98,8 @@ kept_left seats gets replies gone at w there is kept =
     let items = items_of seats in
     let same = items_woken (λ (w : Waiting). w.header.parent) w.header.id (remove seats at) ∙ items_removed seats at in
     record {
-      quiet = subst (λ (l : List Waiting). All (Rests l gets) (map (woken (λ h. h.id) w.header.id) replies)) (sym same)
-          (rests_left gets items at w replies (omega (arith, there, length-map seats (λ (s : Waiting × Mark). s.0))) (item_is seats at w there is) kept.quiet);
+      quiet = subst (λ (l : List Waiting). All (StaysQuiet l gets) (map (woken (λ h. h.id) w.header.id) replies)) (sym same)
+          (quiet_left gets items at w replies (omega (arith, there, length-map seats (λ (s : Waiting × Mark). s.0))) (item_is seats at w there is) kept.quiet);
       few_waiting = omega (arith, length-map (remove seats at) (woken (λ w. w.header.parent) w.header.id), length-remove seats at there, kept.few_waiting);
       few_gets = kept.few_gets;
       few_gone = kept.few_gone;
@@ -109,8 +110,8 @@ pub kept_stay : (seats : List (Waiting × Mark)) (gets : List Get) (replies : Li
     → ((d : Waiting × Mark) → w ≡ (get_or seats at d).0) → asked_in gets w.header.id ≡ true → IsKept seats gets replies gone
     → IsKept (remove seats at) gets replies gone
 kept_stay seats gets replies gone at w there is asked kept = record {
-  quiet = subst (λ (l : List Waiting). All (Rests l gets) replies) (sym (items_removed seats at))
-      (rests_stay gets (items_of seats) at w replies (omega (arith, there, length-map seats (λ (s : Waiting × Mark). s.0))) (item_is seats at w there is) asked kept.quiet);
+  quiet = subst (λ (l : List Waiting). All (StaysQuiet l gets) replies) (sym (items_removed seats at))
+      (quiet_stay gets (items_of seats) at w replies (omega (arith, there, length-map seats (λ (s : Waiting × Mark). s.0))) (item_is seats at w there is) asked kept.quiet);
   few_waiting = omega (arith, length-remove seats at there, kept.few_waiting);
   few_gets = kept.few_gets;
   few_gone = kept.few_gone;
@@ -128,7 +129,7 @@ kept_gone seats gets replies gone e kept = record {
 pub kept_forgotten : (seats : List (Waiting × Mark)) (gets : List Get) (replies : List (Held × Mark)) (gone : List Gone) → IsKept seats gets replies gone
     → IsKept (map forgotten seats) gets replies gone
 kept_forgotten seats gets replies gone kept = record {
-  quiet = subst (λ (l : List Waiting). All (Rests l gets) replies) (sym (items_forgotten seats)) kept.quiet;
+  quiet = subst (λ (l : List Waiting). All (StaysQuiet l gets) replies) (sym (items_forgotten seats)) kept.quiet;
   few_waiting = omega (arith, length-map seats forgotten, kept.few_waiting);
   few_gets = kept.few_gets;
   few_gone = kept.few_gone;
@@ -136,9 +137,9 @@ kept_forgotten seats gets replies gone kept = record {
 
 -- the same, with other replies
 pub kept_replies : (seats : List (Waiting × Mark)) (gets : List Get) (replies others : List (Held × Mark)) (gone : List Gone) → IsKept seats gets replies gone
-    → All (Rests (items_of seats) gets) others → IsKept seats gets others gone
-kept_replies seats gets replies others gone kept rests = record {
-  quiet = rests;
+    → All (StaysQuiet (items_of seats) gets) others → IsKept seats gets others gone
+kept_replies seats gets replies others gone kept quiet = record {
+  quiet = quiet;
   few_waiting = kept.few_waiting;
   few_gets = kept.few_gets;
   few_gone = kept.few_gone;
@@ -148,7 +149,7 @@ kept_replies seats gets replies others gone kept rests = record {
 pub kept_seats : (seats others : List (Waiting × Mark)) (gets : List Get) (replies : List (Held × Mark)) (gone : List Gone) → IsKept seats gets replies gone
     → items_of others ≡ items_of seats → IsKept others gets replies gone
 kept_seats seats others gets replies gone kept same = record {
-  quiet = subst (λ (l : List Waiting). All (Rests l gets) replies) (sym same) kept.quiet;
+  quiet = subst (λ (l : List Waiting). All (StaysQuiet l gets) replies) (sym same) kept.quiet;
   few_waiting = omega (arith, length-map seats (λ (s : Waiting × Mark). s.0), length-map others (λ (s : Waiting × Mark). s.0), ap (λ l. length l) same, kept.few_waiting);
   few_gets = kept.few_gets;
   few_gone = kept.few_gone;

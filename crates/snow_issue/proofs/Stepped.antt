@@ -7,7 +7,8 @@ use Rattle.snow_board.specs.Model.Board.{Board}
 use Rattle.snow_issue.specs.declared.work.Waiting.{Waiting}
 use Rattle.snow_issue.specs.declared.work.Work.TheVariants as work
 use Rattle.snow_lineup.specs.declared.marks.Mark.{Mark}
-use Rattle.snow_issue.specs.Model.Lists.{Lists, without, asked_in}
+use Rattle.snow_gets.specs.Model.Gets.{without, asked_in}
+use Rattle.snow_issue.specs.Model.Lists.{Lists}
 use Rattle.snow_issue.specs.Model.Settling.{work_of, after, is_hopeless, is_ready, is_free, gone_with}
 use Rattle.snow_issue.specs.Kept.Known.{Seen, Knows, items_of, lists_of}
 use Rattle.snow_lineup.specs.Kept.Index.{woken}

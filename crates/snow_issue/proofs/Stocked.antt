@@ -22,8 +22,8 @@ use Rattle.std.proofs.lemmas.Cmp.{eq_by_cmp_equiv, nat_cmp_total}
 use Rattle.snow_issue.specs.declared.backlog.Kept.{Kept}
 use Rattle.snow_issue.specs.declared.work.Held.{Held}
 use Rattle.snow_issue.specs.Kept.Arrivals.{Entries, at_arrival, loud, woken_among, stands_for, is_noted, weight, IsBacklog, IsFirst, AreQuiet}
-use Rattle.snow_issue.proofs.Asking.{number_is}
-use Rattle.snow_lineup.proofs.Booleans.{or_true}
+use Rattle.snow_gets.proofs.Asking.{number_is}
+use Rattle.snow_map.proofs.Booleans.{or_true}
 
 -- ---- numbers
 
@@ -302,11 +302,11 @@ stocked_popped es before after len now room wide x n is order moved less same su
 }
 
 -- the same where that reply becomes quiet
-pub stocked_rested : (es now : Entries) (before after : List ℕ) (len short room wide x n : ℕ) (k w : Kept) → IsBacklog es before len room → IsHeap nat_cmp after → IsPermutation before (x ∷ after)
+pub stocked_quieted : (es now : Entries) (before after : List ℕ) (len short room wide x n : ℕ) (k w : Kept) → IsBacklog es before len room → IsHeap nat_cmp after → IsPermutation before (x ∷ after)
     → short + 1 ≡ len → wide ≡ room → x + n ≡ 18446744073709551615 → at_arrival es n ≡ Some k → k.quiet ≡ false → w.quiet ≡ true
     → now ≡ set_value (is_at (nat_cmp n)) es w → ((q : ℕ) → at_arrival now q ≡ cond (is_at (nat_cmp n) q) (Some w) (at_arrival es q))
     → IsBacklog now after short wide
-stocked_rested es now before after len short room wide x n k w is order moved less same sum found new old set change = record {
+stocked_quieted es now before after len short room wide x n k w is order moved less same sum found new old set change = record {
   sorted = subst (IsStrictlySortedBy nat_cmp) (sym (ap keys_of set ∙ keys-set_value (is_at (nat_cmp n)) es w)) is.sorted;
   order = order;
   noted = λ a j there loud.

@@ -8,20 +8,21 @@ use Rattle.std.proofs.lemmas.List.Elements.{All-map, All-weaker, All-push}
 use Rattle.std.proofs.lemmas.List.Folds.{list_any-append}
 use Rattle.snow_board.specs.Model.Board.{Board}
 use Rattle.snow_issue.specs.declared.work.Waiting.{Waiting}
-use Rattle.snow_issue.specs.declared.work.Get.{Get}
+use Rattle.snow_gets.specs.declared.gets.Get.{Get}
 use Rattle.snow_issue.specs.declared.work.Held.{Held}
 use Rattle.snow_lineup.specs.declared.marks.Mark.{Mark}
 use Rattle.snow_lineup.specs.declared.marks.Mark.TheVariants.{New, Quiet, Ripe}
-use Rattle.snow_issue.specs.Model.Lists.{waits_among, waits_below, asked_in, with_get, is_get, without}
+use Rattle.snow_gets.specs.Model.Gets.{asked_in, with_get, is_get, without}
+use Rattle.snow_issue.specs.Model.Lists.{waits_among, waits_below}
 use Rattle.snow_issue.specs.Model.Offering.{is_on}
 use Rattle.snow_issue.specs.Model.Settling.{is_free_by}
 use Rattle.snow_issue.specs.Kept.Known.{items_of, sight, Tells, ForgetsChildren, NoneRipe}
 use Rattle.snow_lineup.specs.Kept.Marks.{is_mark, has}
-use Rattle.snow_lineup.proofs.Noted.{same_id, id_turned}
+use Rattle.snow_map.proofs.Lists.{same_id, id_turned}
 use Rattle.snow_lineup.specs.Kept.Index.{woken, forgotten}
-use Rattle.snow_issue.specs.Kept.Keeping.{Rests}
+use Rattle.snow_issue.specs.Kept.Keeping.{StaysQuiet}
 use Rattle.snow_lineup.proofs.Tagged.{All_remove, map_remove}
-use Rattle.snow_issue.proofs.Asking.{asked_with, first_at}
+use Rattle.snow_gets.proofs.Asking.{asked_with, first_at}
 
 -- ---- lists
 
@@ -228,31 +229,31 @@ unripe_woken id seats none =
 
 -- ---- held replies
 
-rests_same : (waiting other : List Waiting) (gets others : List Get) (h : Held) (mark : Mark) → is_free_by other others h ≡ is_free_by waiting gets h
-    → Rests waiting gets (h, mark) → Rests other others (h, mark)
-rests_same waiting other gets others h New same r = tt
-rests_same waiting other gets others h Quiet same r = same ∙ r
-rests_same waiting other gets others h Ripe same r = same ∙ r
+quiet_same : (waiting other : List Waiting) (gets others : List Get) (h : Held) (mark : Mark) → is_free_by other others h ≡ is_free_by waiting gets h
+    → StaysQuiet waiting gets (h, mark) → StaysQuiet other others (h, mark)
+quiet_same waiting other gets others h New same r = tt
+quiet_same waiting other gets others h Quiet same r = same ∙ r
+quiet_same waiting other gets others h Ripe same r = same ∙ r
 
 woken_rests : (waiting other : List Waiting) (gets others : List Get) (id : List ℕ) (s : Held × Mark)
     → (bytes_eq id s.0.id ≡ false → is_free_by other others s.0 ≡ is_free_by waiting gets s.0)
-    → Rests waiting gets s → Rests other others (woken (λ h. h.id) id s)
+    → StaysQuiet waiting gets s → StaysQuiet other others (woken (λ h. h.id) id s)
 woken_rests waiting other gets others id s same r =
-    let Goal : Bool → Type 0 = λ b. bytes_eq id s.0.id ≡ b → Rests other others (s.0, cond b New s.1) in
+    let Goal : Bool → Type 0 = λ b. bytes_eq id s.0.id ≡ b → StaysQuiet other others (s.0, cond b New s.1) in
     elim (bytes_eq id s.0.id) as Goal [
       | true ↦ λ e. tt
-      | false ↦ λ e. rests_same waiting other gets others s.0 s.1 (same e) r
+      | false ↦ λ e. quiet_same waiting other gets others s.0 s.1 (same e) r
     ] refl
 
 -- a block was taken out and the replies that name it woken
-pub rests_left : (gets : List Get) (waiting : List Waiting) (at : ℕ) (w : Waiting) (replies : List (Held × Mark)) → at < length waiting → w ≡ get_or waiting at w
-    → All (Rests waiting gets) replies → All (Rests (remove waiting at) gets) (map (woken (λ h. h.id) w.header.id) replies)
-rests_left gets waiting at w replies there is rests =
-    All-map (Rests (remove waiting at) gets) (woken (λ h. h.id) w.header.id) replies
-    (All-weaker (Rests waiting gets) (λ s. Rests (remove waiting at) gets (woken (λ h. h.id) w.header.id s))
+pub quiet_left : (gets : List Get) (waiting : List Waiting) (at : ℕ) (w : Waiting) (replies : List (Held × Mark)) → at < length waiting → w ≡ get_or waiting at w
+    → All (StaysQuiet waiting gets) replies → All (StaysQuiet (remove waiting at) gets) (map (woken (λ h. h.id) w.header.id) replies)
+quiet_left gets waiting at w replies there is quiet =
+    All-map (StaysQuiet (remove waiting at) gets) (woken (λ h. h.id) w.header.id) replies
+    (All-weaker (StaysQuiet waiting gets) (λ s. StaysQuiet (remove waiting at) gets (woken (λ h. h.id) w.header.id s))
     (λ s r. woken_rests waiting (remove waiting at) gets gets w.header.id s
     (λ e. ap (λ b. not (b || asked_in gets s.0.id)) (without_other (λ x. bytes_eq x.header.id s.0.id) waiting at w there is e)) r)
-    replies rests)
+    replies quiet)
 
 -- a block was taken out that is still asked for: no reply that names it is free
 free_asked : (b d a : Bool) → a ≡ true → not (b || a) ≡ not (d || a)
@@ -261,9 +262,9 @@ free_asked true false a e = rw e refl
 free_asked false true a e = rw e refl
 free_asked false false a e = refl
 
-pub rests_stay : (gets : List Get) (waiting : List Waiting) (at : ℕ) (w : Waiting) (replies : List (Held × Mark)) → at < length waiting → w ≡ get_or waiting at w
-    → asked_in gets w.header.id ≡ true → All (Rests waiting gets) replies → All (Rests (remove waiting at) gets) replies
-rests_stay gets waiting at w replies there is asked rests =
+pub quiet_stay : (gets : List Get) (waiting : List Waiting) (at : ℕ) (w : Waiting) (replies : List (Held × Mark)) → at < length waiting → w ≡ get_or waiting at w
+    → asked_in gets w.header.id ≡ true → All (StaysQuiet waiting gets) replies → All (StaysQuiet (remove waiting at) gets) replies
+quiet_stay gets waiting at w replies there is asked quiet =
     let id = w.header.id in
     let other = remove waiting at in
     let stays : (s : Held × Mark) → is_free_by other gets s.0 ≡ is_free_by waiting gets s.0 =
@@ -273,39 +274,39 @@ rests_stay gets waiting at w replies there is asked rests =
       | true ↦ λ e. free_asked (waits_among other s.0.id) (waits_among waiting s.0.id) (asked_in gets s.0.id) (asked_for_same gets id s.0.id asked e)
       | false ↦ λ e. ap (λ b. not (b || asked_in gets s.0.id)) (without_other (λ x. bytes_eq x.header.id s.0.id) waiting at w there is e)
     ] refl in
-    All-weaker (Rests waiting gets) (Rests other gets) (λ s r. rests_same waiting other gets gets s.0 s.1 (stays s) r) replies rests
+    All-weaker (StaysQuiet waiting gets) (StaysQuiet other gets) (λ s r. quiet_same waiting other gets gets s.0 s.1 (stays s) r) replies quiet
 
 -- a get was closed and the replies that name its block woken
-pub rests_closed : (waiting : List Waiting) (gets : List Get) (number : ℕ) (node : List ℕ) (get : Get) (replies : List (Held × Mark)) → find (is_get number node) gets ≡ Some get
-    → All (Rests waiting gets) replies → All (Rests waiting (without (is_get number node) gets)) (map (woken (λ h. h.id) get.id) replies)
-rests_closed waiting gets number node get replies found rests =
+pub quiet_closed : (waiting : List Waiting) (gets : List Get) (number : ℕ) (node : List ℕ) (get : Get) (replies : List (Held × Mark)) → find (is_get number node) gets ≡ Some get
+    → All (StaysQuiet waiting gets) replies → All (StaysQuiet waiting (without (is_get number node) gets)) (map (woken (λ h. h.id) get.id) replies)
+quiet_closed waiting gets number node get replies found quiet =
     let others = without (is_get number node) gets in
     let place = first_at (is_get number node) gets get found in
-    All-map (Rests waiting others) (woken (λ h. h.id) get.id) replies
-    (All-weaker (Rests waiting gets) (λ s. Rests waiting others (woken (λ h. h.id) get.id s))
+    All-map (StaysQuiet waiting others) (woken (λ h. h.id) get.id) replies
+    (All-weaker (StaysQuiet waiting gets) (λ s. StaysQuiet waiting others (woken (λ h. h.id) get.id s))
     (λ s r. woken_rests waiting waiting gets others get.id s
     (λ e. ap (λ b. not (waits_among waiting s.0.id || b)) (without_other (λ g. bytes_eq g.id s.0.id) gets (position_or_len (is_get number node) gets) get place.0 place.1 e)) r)
-    replies rests)
+    replies quiet)
 
 pub still_busy : (a b c d : Bool) → (a ≡ true → c ≡ true) → (b ≡ true → d ≡ true) → not (a || b) ≡ false → not (c || d) ≡ false
 still_busy a b c d ac bd h = ap not (either_more a b c d ac bd (not-false (a || b) h))
 
-rests_more : (waiting other : List Waiting) (gets others : List Get) (h : Held) (mark : Mark) → (waits_among waiting h.id ≡ true → waits_among other h.id ≡ true)
-    → (asked_in gets h.id ≡ true → asked_in others h.id ≡ true) → Rests waiting gets (h, mark) → Rests other others (h, mark)
-rests_more waiting other gets others h New w g r = tt
-rests_more waiting other gets others h Quiet w g r = still_busy (waits_among waiting h.id) (asked_in gets h.id) (waits_among other h.id) (asked_in others h.id) w g r
-rests_more waiting other gets others h Ripe w g r = still_busy (waits_among waiting h.id) (asked_in gets h.id) (waits_among other h.id) (asked_in others h.id) w g r
+quiet_more : (waiting other : List Waiting) (gets others : List Get) (h : Held) (mark : Mark) → (waits_among waiting h.id ≡ true → waits_among other h.id ≡ true)
+    → (asked_in gets h.id ≡ true → asked_in others h.id ≡ true) → StaysQuiet waiting gets (h, mark) → StaysQuiet other others (h, mark)
+quiet_more waiting other gets others h New w g r = tt
+quiet_more waiting other gets others h Quiet w g r = still_busy (waits_among waiting h.id) (asked_in gets h.id) (waits_among other h.id) (asked_in others h.id) w g r
+quiet_more waiting other gets others h Ripe w g r = still_busy (waits_among waiting h.id) (asked_in gets h.id) (waits_among other h.id) (asked_in others h.id) w g r
 
-pub rests_asked : (waiting : List Waiting) (gets : List Get) (get : Get) (replies : List (Held × Mark)) → All (Rests waiting gets) replies → All (Rests waiting (with_get gets get)) replies
-rests_asked waiting gets get replies rests =
-    All-weaker (Rests waiting gets) (Rests waiting (with_get gets get))
-    (λ s r. rests_more waiting waiting gets (with_get gets get) s.0 s.1 (λ e. e)
+pub quiet_asked : (waiting : List Waiting) (gets : List Get) (get : Get) (replies : List (Held × Mark)) → All (StaysQuiet waiting gets) replies → All (StaysQuiet waiting (with_get gets get)) replies
+quiet_asked waiting gets get replies quiet =
+    All-weaker (StaysQuiet waiting gets) (StaysQuiet waiting (with_get gets get))
+    (λ s r. quiet_more waiting waiting gets (with_get gets get) s.0 s.1 (λ e. e)
     (λ e. asked_with gets get s.0.id ∙ or_left (asked_in gets s.0.id) (bytes_eq get.id s.0.id) e) r)
-    replies rests
+    replies quiet
 
-pub rests_pushed : (waiting : List Waiting) (gets : List Get) (w : Waiting) (replies : List (Held × Mark)) → All (Rests waiting gets) replies → All (Rests (waiting ++ w ∷ []) gets) replies
-rests_pushed waiting gets w replies rests =
-    All-weaker (Rests waiting gets) (Rests (waiting ++ w ∷ []) gets)
-    (λ s r. rests_more waiting (waiting ++ w ∷ []) gets gets s.0 s.1
+pub quiet_pushed : (waiting : List Waiting) (gets : List Get) (w : Waiting) (replies : List (Held × Mark)) → All (StaysQuiet waiting gets) replies → All (StaysQuiet (waiting ++ w ∷ []) gets) replies
+quiet_pushed waiting gets w replies quiet =
+    All-weaker (StaysQuiet waiting gets) (StaysQuiet (waiting ++ w ∷ []) gets)
+    (λ s r. quiet_more waiting (waiting ++ w ∷ []) gets gets s.0 s.1
     (λ e. list_any-append (λ x. bytes_eq x.header.id s.0.id) waiting (w ∷ []) ∙ or_left (waits_among waiting s.0.id) (bytes_eq w.header.id s.0.id || false) e) (λ e. e) r)
-    replies rests
+    replies quiet

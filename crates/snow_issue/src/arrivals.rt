@@ -57,7 +57,7 @@ fn unfile_node(polls: &mut BTreeMap<u32, BTreeMap<NodeId, u64>>, number: u32, no
 
 /// Appends a reply to the others, and keeps its number under its block. On want of memory all
 /// stays as it was.
-pub(crate) fn keep(
+pub(crate) fn keep_reply(
     backlog: &mut Backlog,
     blocks: &mut BTreeMap<Id, BTreeSet<u64>>,
     alloc: Global,

@@ -116,7 +116,7 @@ impl Backlog {
     }
 
     /// The earliest reply that isn't quiet, which has this number, becomes so.
-    pub(crate) fn rest_first(&mut self, arrival: u64, reply: Held)
+    pub(crate) fn mark_first_quiet(&mut self, arrival: u64, reply: Held)
         requires { IsFirst self.old arrival reply }
         ensures rest { let kept : Kept = record { reply = reply; quiet = true } in self.new ≡ set_value (is_at (nat_cmp arrival)) self.old kept }
         ensures sorted { IsStrictlySortedBy nat_cmp (keys_of self.new) }

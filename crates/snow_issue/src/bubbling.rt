@@ -4,6 +4,7 @@ ghost use Rattle.snow_issue.specs.Model.Bubbling.{bubbled_in};
 
 use crate::gone::GoneList;
 use snow_base::Id;
+use snow_base::limits::MOST_GONE;
 use snow_board::Board;
 
 /// Returns whether a block is pending. Mostly it is the preference, which needs no look-up.
@@ -26,20 +27,20 @@ fn is_found<B: Board>(board: &B, id: &Id) -> bool
 
 /// Returns the vote that a reply gives. Mostly its block is pending, and so is itself the vote.
 pub(crate) fn bubble<B: Board>(gone: &GoneList, board: &B, id: &Id) -> Option<Id>
-    ensures { result ≡ bubbled_in 8192 gone.now (B.board board.now) id.now }
+    ensures { result ≡ bubbled_in MOST_GONE gone.now (B.board board.now) id.now }
 {
     if board.is_pending(id) {
         return Some(*id);
     }
-    climb(gone, board, id)
+    replace_gone(gone, board, id)
 }
 
 // The vote of a block that isn't pending, step by step. The gone list can hold a circle, so the bound on the steps binds.
-fn climb<B: Board>(gone: &GoneList, board: &B, id: &Id) -> Option<Id>
-    ensures { result ≡ bubbled_in 8192 gone.now (B.board board.now) id.now }
+fn replace_gone<B: Board>(gone: &GoneList, board: &B, id: &Id) -> Option<Id>
+    ensures { result ≡ bubbled_in MOST_GONE gone.now (B.board board.now) id.now }
 {
     let mut at = *id;
-    for _ in 0..8192u32 {
+    for _ in 0..MOST_GONE {
         if board.is_pending(&at) {
             return Some(at);
         }

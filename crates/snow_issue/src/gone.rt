@@ -3,12 +3,10 @@ ghost use Rattle.std.specs.Option.{option_copied};
 ghost use Rattle.snow_issue.specs.Model.Gone.{with_gone, latest, stands_for, holds};
 
 use snow_base::Id;
+use snow_base::limits::MOST_GONE;
 use snow_recent::{Named, Recent};
 use std::alloc::{AllocError, Global};
 use std::marker::Model;
-
-// How many entries the list keeps.
-const MOST_ENTRIES: usize = 8_192;
 
 /// A block that is gone: it was accepted, rejected or taken out. It may name a parent, which stands
 /// for it in votes.
@@ -35,7 +33,7 @@ impl Named for Gone {
 /// Rule: this project's own.
 #[derive(Drop)]
 pub struct GoneList {
-    entries: Recent<Gone, MOST_ENTRIES>,
+    entries: Recent<Gone, MOST_GONE>,
 }
 
 impl Model for GoneList {
@@ -96,7 +94,7 @@ impl GoneList {
 }
 
 // Appends an entry of these.
-fn push(entries: &mut Recent<Gone, MOST_ENTRIES>, id: Id, parent: Option<Id>)
+fn push(entries: &mut Recent<Gone, MOST_GONE>, id: Id, parent: Option<Id>)
     ensures { entries.new ≡ with_gone entries.old (record { id = id; parent = parent }) }
 {
     entries.push(Gone { id, parent });

@@ -5,8 +5,6 @@
 mod arrivals;
 mod backlog;
 mod bubbling;
-mod get_map;
-mod gets;
 mod gone;
 mod laws;
 mod looking;
@@ -20,9 +18,8 @@ mod voting;
 mod waiting;
 mod work;
 
-pub use gets::Gets;
 pub use gone::Gone;
 pub use laws::{bubbling_law, issue_stays_known_law, poll_stays_known_law};
 pub use queue::Queue;
 pub use spare::SpareBytes;
-pub use work::{Get, Held, Offered, Waiting, Work};
+pub use work::{Held, Offered, Waiting, Work};

@@ -6,15 +6,15 @@ ghost use Rattle.snow_issue.specs.Model.Settling.{is_hopeless_by, is_free_by};
 ghost use Rattle.snow_issue.specs.Model.Offering.{is_on};
 ghost use Rattle.snow_issue.specs.Kept.Known.{items_of, sight, Tells, NoneNew, NoneRipe};
 ghost use Rattle.snow_lineup.specs.Kept.Marks.{has};
-ghost use Rattle.snow_issue.specs.Kept.Keeping.{Rests};
+ghost use Rattle.snow_issue.specs.Kept.Keeping.{StaysQuiet};
 
-use crate::gets::Gets;
 use crate::offering::is_on;
 use crate::replies::Replies;
 use crate::waiting::WaitingList;
 use crate::work::Held;
 use snow_base::{Header, Id};
 use snow_board::Board;
+use snow_gets::Gets;
 use snow_lineup::Mark;
 
 // What a look at a waiting block tells; nothing where it is hopeless.
@@ -53,7 +53,7 @@ pub(crate) fn first_hopeless<B: Board>(waiting: &mut WaitingList, gets: &Gets, b
 
 // Marks the block at a place as quiet, where it is a child of `parent` and isn't hopeless. `parent`
 // isn't on the board.
-fn rest_at(waiting: &mut WaitingList, gets: &Gets, at: usize, parent: &Id)
+fn mark_quiet_at(waiting: &mut WaitingList, gets: &Gets, at: usize, parent: &Id)
     requires { at < length waiting.old }
     ensures same { items_of waiting.new ≡ items_of waiting.old }
     ensures tells { (b : model.Board) → is_on b parent.now ≡ false → All (Tells (items_of waiting.old) gets.now b) waiting.old → All (Tells (items_of waiting.new) gets.now b) waiting.new }
@@ -67,7 +67,7 @@ fn rest_at(waiting: &mut WaitingList, gets: &Gets, at: usize, parent: &Id)
 
 /// Marks the block that came last as quiet, and the one before it where that is its child. It
 /// returns whether each block is marked then, and none is ripe.
-pub(crate) fn rest_last(waiting: &mut WaitingList, gets: &Gets, block: &Header) -> bool
+pub(crate) fn mark_last_quiet(waiting: &mut WaitingList, gets: &Gets, block: &Header) -> bool
     ensures same { items_of waiting.new ≡ items_of waiting.old }
     ensures tells { (b : model.Board) → is_on b block.now.id ≡ false → is_on b block.now.parent ≡ false → All (Tells (items_of waiting.old) gets.now b) waiting.old → All (Tells (items_of waiting.new) gets.now b) waiting.new }
     ensures ripe { NoneRipe waiting.old → NoneRipe waiting.new }
@@ -78,10 +78,10 @@ pub(crate) fn rest_last(waiting: &mut WaitingList, gets: &Gets, block: &Header) 
     if len < 2 {
         return false;
     }
-    rest_at(waiting, gets, len - 1, &block.parent);
-    rest_at(waiting, gets, len - 2, &block.id);
+    mark_quiet_at(waiting, gets, len - 1, &block.parent);
+    mark_quiet_at(waiting, gets, len - 2, &block.id);
     let _ = waiting.first(Mark::New);
-    waiting.rests()
+    waiting.all_quiet()
 }
 
 // Whether the block of a reply neither waits nor is asked for.
@@ -94,11 +94,11 @@ fn is_free(waiting: &WaitingList, gets: &Gets, reply: &Held) -> bool
 /// The earliest free reply, which is then the first one that is to be looked at. Each reply before it of
 /// which nothing was remembered is looked at.
 pub(crate) fn first_free(replies: &mut Replies, waiting: &WaitingList, gets: &Gets) -> Option<Held>
-    requires { All (Rests (items_of waiting.now) gets.now) replies.old }
+    requires { All (StaysQuiet (items_of waiting.now) gets.now) replies.old }
     ensures found { result ≡ find (is_free_by (items_of waiting.now) gets.now) (items_of replies.old) }
     ensures first { IsSome result → position_or_len (has New) replies.new ≡ position_or_len (is_free_by (items_of waiting.now) gets.now) (items_of replies.old) }
     ensures same { items_of replies.new ≡ items_of replies.old }
-    ensures rests { All (Rests (items_of waiting.now) gets.now) replies.new }
+    ensures quiet { All (StaysQuiet (items_of waiting.now) gets.now) replies.new }
 {
     loop {
         let Some(reply) = replies.first_new() else {
@@ -107,6 +107,6 @@ pub(crate) fn first_free(replies: &mut Replies, waiting: &WaitingList, gets: &Ge
         if is_free(waiting, gets, &reply) {
             return Some(reply);
         }
-        replies.rest_first();
+        replies.mark_first_quiet();
     }
 }

@@ -4,12 +4,13 @@ ghost use Rattle.snow_issue.specs.Model.Offering.{is_on, is_unknown, wanted, is_
 ghost use Rattle.snow_issue.specs.Model.Lists.{waits};
 ghost use Rattle.snow_issue.specs.Kept.Keeping.{parts};
 
-use crate::gets::Gets;
 use crate::gone::{Gone, GoneList};
 use crate::waiting::WaitingList;
 use crate::work::Offered;
+use snow_base::limits::{MOST_GETS, MOST_WAITING};
 use snow_base::{Header, Id};
 use snow_board::Board;
+use snow_gets::Gets;
 
 /// Returns whether a block is on the board: pending, or the last accepted one. The preference is
 /// told without looking it up.
@@ -47,7 +48,7 @@ pub(crate) fn is_wanted<B: Board>(
 ) -> bool
     ensures { result ≡ wanted (parts waiting.now gets.now gone.now) (B.board board.now) id.now }
 {
-    is_unknown(waiting, gets, gone, board, id) && gets.len() < 4096
+    is_unknown(waiting, gets, gone, board, id) && gets.len() < MOST_GETS
 }
 
 // Whether a block is more than one above the last accepted height, a whole number.
@@ -120,7 +121,7 @@ pub(crate) fn refusal<B: Board>(
     if is_old(latest, board, block) {
         return Some(Offered::Old);
     }
-    if waiting.len() < 4096 {
+    if waiting.len() < MOST_WAITING {
         return None;
     }
     Some(Offered::Full)

@@ -1,24 +1,26 @@
 ghost use Rattle.std.specs.Prelude.{◌≡◌, ◌<◌, List, find, length, Some, None, IfOk, OnOk, OnErr, true, false};
 ghost use Rattle.std.specs.Option.{option_map};
+ghost use Rattle.snow_base.specs.declared.limits.TheConstants.{MOST_GETS};
 ghost use Rattle.snow_board.specs.Model.Board as model;
-ghost use Rattle.snow_issue.specs.declared.work.Get.{Get};
+ghost use Rattle.snow_gets.specs.declared.gets.Get.{Get};
 ghost use Rattle.snow_issue.specs.declared.work.Waiting.{Waiting};
 ghost use Rattle.snow_issue.specs.declared.gone.Gone.{Gone};
-ghost use Rattle.snow_issue.specs.Model.Lists.{begun, has_number, is_asked, is_get, holds_in, after_asked, after_closed, after_held, after_forgotten, after_gone, AreWithinLimits};
+ghost use Rattle.snow_gets.specs.Model.Gets.{has_number, is_get};
+ghost use Rattle.snow_issue.specs.Model.Lists.{begun, is_asked, holds_in, after_asked, after_closed, after_held, after_forgotten, after_gone, AreWithinLimits};
 ghost use Rattle.snow_issue.specs.Model.Offering.{is_on, offered, after_offer, refusal, is_next, wanted};
 ghost use Rattle.snow_issue.specs.Model.Settling.{work_of, after, is_free, IsIdle};
 ghost use Rattle.snow_issue.specs.declared.work.Work.TheVariants as work;
-ghost use Rattle.snow_issue.specs.Kept.Known.{lists_of, Knows, ForgetsChildren, NoneRipe, RestsAfter, TakesStep};
+ghost use Rattle.snow_issue.specs.Kept.Known.{lists_of, Knows, ForgetsChildren, NoneRipe, MarksAfter, TakesStep};
 
-use crate::gets::Gets;
 use crate::gone::{Gone, GoneList};
 use crate::replies::Replies;
 use crate::spare::SpareBytes;
 use crate::waiting::WaitingList;
-use crate::work::{Get, Held, Offered, Waiting, Work};
+use crate::work::{Held, Offered, Waiting, Work};
 use crate::{looking, offering};
 use snow_base::{Bytes, Header, Id, NodeId};
 use snow_board::Board;
+use snow_gets::{Get, Gets};
 use std::alloc::{AllocError, Global};
 use std::marker::Model;
 
@@ -188,7 +190,7 @@ impl Queue {
     /// and all stays as it was.
     /// Rule: AvalancheGo, snow/engine/snowman.
     pub fn asked(&mut self, number: u32, node: NodeId, id: Id) -> Result<(), AllocError>
-        requires room { length self.old.gets < 4096 }
+        requires room { length self.old.gets < MOST_GETS }
         requires number { has_number self.old.gets number ≡ false }
         requires id { is_asked (lists_of self.old) id ≡ false }
         ensures lists { let get : Get = record { number = number; node = node; id = id } in OnOk result (lists_of self.new ≡ after_asked (lists_of self.old) get) }
@@ -206,7 +208,7 @@ impl Queue {
     /// settling applies then, and may return `false` there too. The lists stay as they were. It
     /// looks neither at the board nor at any other block.
     /// Rule: this project's own.
-    pub fn rest(&mut self, block: &Header) -> bool
+    pub fn mark_quiet(&mut self, block: &Header) -> bool
         ensures lists { lists_of self.new ≡ lists_of self.old }
         ensures knows { (b : model.Board) → is_on b block.now.id ≡ false → is_on b block.now.parent ≡ false → Knows self.old b → Knows self.new b }
         ensures ripe { NoneRipe self.old.seats → NoneRipe self.new.seats }
@@ -214,8 +216,8 @@ impl Queue {
         ensures idle { (b : model.Board) → result ≡ true → Knows self.new b → IsIdle (lists_of self.new) b }
         ensures limits { AreWithinLimits (lists_of self.new) }
     {
-        let rests = looking::rest_last(&mut self.waiting, &self.gets, block);
-        rests && self.replies.len() == 0
+        let all_quiet = looking::mark_last_quiet(&mut self.waiting, &self.gets, block);
+        all_quiet && self.replies.len() == 0
     }
 
     /// Closes the get of this number and node, and returns the block for which it asked. It returns
@@ -303,7 +305,7 @@ impl Queue {
         ensures work { result ≡ work_of (lists_of self.old) (B.board board.now) }
         ensures lists { lists_of self.new ≡ after (lists_of self.old) (B.board board.now) result }
         ensures knows { Knows self.new (B.board board.now) }
-        ensures rests { RestsAfter result self.new.seats }
+        ensures marks { MarksAfter result self.new.seats }
         ensures limits { AreWithinLimits (lists_of self.new) }
     {
         self.waiting.forget_marks();
@@ -319,13 +321,13 @@ impl Queue {
         ensures work { result ≡ work_of (lists_of self.old) (B.board board.now) }
         ensures lists { lists_of self.new ≡ after (lists_of self.old) (B.board board.now) result }
         ensures knows { Knows self.new (B.board board.now) }
-        ensures rests { RestsAfter result self.new.seats }
+        ensures marks { MarksAfter result self.new.seats }
         ensures limits { AreWithinLimits (lists_of self.new) }
     {
-        if self.waiting.rests() {
+        if self.waiting.all_quiet() {
             return self.next_vote();
         }
-        if let Some(at) = self.lone_ready(board) {
+        if let Some(at) = self.only_new_ready(board) {
             return self.take_ready(at, board);
         }
         self.next_step(board)
@@ -352,7 +354,7 @@ impl Queue {
         ensures work { result ≡ option_map work.Vote (find (is_free (lists_of self.old)) self.old.held) }
         ensures lists { (b : model.Board) → lists_of self.new ≡ after (lists_of self.old) b result }
         ensures knows { (b : model.Board) → Knows self.old b → Knows self.new b }
-        ensures rests { NoneRipe self.old.seats → RestsAfter result self.new.seats }
+        ensures marks { NoneRipe self.old.seats → MarksAfter result self.new.seats }
         ensures limits { AreWithinLimits (lists_of self.new) }
     {
         if self.replies.len() == 0 {
@@ -366,7 +368,7 @@ impl Queue {
         ensures work { result ≡ option_map work.Vote (find (is_free (lists_of self.old)) self.old.held) }
         ensures lists { (b : model.Board) → lists_of self.new ≡ after (lists_of self.old) b result }
         ensures knows { (b : model.Board) → Knows self.old b → Knows self.new b }
-        ensures rests { NoneRipe self.old.seats → RestsAfter result self.new.seats }
+        ensures marks { NoneRipe self.old.seats → MarksAfter result self.new.seats }
         ensures limits { AreWithinLimits (lists_of self.new) }
     {
         match self.take_vote() {

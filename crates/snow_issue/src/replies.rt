@@ -93,7 +93,7 @@ impl Replies {
         }
         let arrival = self.next;
         arrivals::file(&mut self.polls, self.alloc, &reply, arrival)?;
-        if let Err(error) = arrivals::keep(
+        if let Err(error) = arrivals::keep_reply(
             &mut self.backlog,
             &mut self.blocks,
             self.alloc,
@@ -119,14 +119,14 @@ impl Replies {
     }
 
     /// Remembers of the first reply that is to be looked at that it waits on.
-    pub(crate) fn rest_first(&mut self)
+    pub(crate) fn mark_first_quiet(&mut self)
         requires { position_or_len (has New) self.old < length self.old }
         ensures { HoldsAt (λ s. self.new ≡ slice_set self.old (position_or_len (has New) self.old) (s.0, Quiet)) self.old (position_or_len (has New) self.old) }
     {
         let Some((arrival, reply)) = self.backlog.first() else {
             return;
         };
-        self.backlog.rest_first(arrival, reply);
+        self.backlog.mark_first_quiet(arrival, reply);
     }
 
     /// Takes the first reply that is to be looked at out. It takes no memory.

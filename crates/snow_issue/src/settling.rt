@@ -3,7 +3,8 @@ ghost use Rattle.std.specs.List.{position_or_len, remove};
 ghost use Rattle.snow_lineup.specs.declared.marks.Mark.TheVariants.{New};
 ghost use Rattle.snow_issue.specs.Model.Settling.{is_hopeless, is_ready, is_free, gone_with};
 ghost use Rattle.snow_board.specs.Model.Board as model;
-ghost use Rattle.snow_issue.specs.Model.Lists.{without, is_asked, AreWithinLimits};
+ghost use Rattle.snow_gets.specs.Model.Gets.{without};
+ghost use Rattle.snow_issue.specs.Model.Lists.{is_asked, AreWithinLimits};
 ghost use Rattle.snow_issue.specs.Kept.Known.{items_of, lists_of, Knows, NoneRipe, TakesStep};
 ghost use Rattle.snow_lineup.specs.Kept.Marks.{has};
 ghost use Rattle.snow_lineup.specs.Kept.Index.{woken};
@@ -50,13 +51,13 @@ impl Queue {
 
     /// Returns where the only block marked `New` stands, if it is ready: mostly the child of the
     /// block that was issued last. Then none is hopeless, and it is the earliest ready one.
-    pub(crate) fn lone_ready<B: Board>(&self, board: &B) -> Option<usize>
+    pub(crate) fn only_new_ready<B: Board>(&self, board: &B) -> Option<usize>
         requires { Knows self.now (B.board board.now) }
         ensures there { IfSome result (λ at. at < length self.now.seats) }
         ensures none { IfSome result (λ at. find (is_hopeless (lists_of self.now) (B.board board.now)) (lists_of self.now).waiting ≡ None) }
         ensures first { IfSome result (λ at. at ≡ position_or_len (is_ready (B.board board.now)) (lists_of self.now).waiting) }
     {
-        let at = self.waiting.lone()?;
+        let at = self.waiting.only_new()?;
         if is_on(board, &self.waiting.header(at).parent) {
             return Some(at);
         }

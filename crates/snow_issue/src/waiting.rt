@@ -126,21 +126,21 @@ impl WaitingList {
 
     /// Returns `true` only where each block is marked and none is ripe. It may return `false` there
     /// too.
-    pub(crate) fn rests(&self) -> bool
+    pub(crate) fn all_quiet(&self) -> bool
         ensures new { result ≡ true → NoneNew self.now }
         ensures ripe { result ≡ true → NoneRipe self.now }
     {
-        self.lineup.rests()
+        self.lineup.all_quiet()
     }
 
     /// Returns where the only block marked `New` stands, where no block is ripe. It may return
     /// `None` there too.
-    pub(crate) fn lone(&self) -> Option<usize>
+    pub(crate) fn only_new(&self) -> Option<usize>
         ensures there { IfSome result (λ at. at < length self.now) }
         ensures new { IfSome result (λ at. IsOnlyAt New self.now at) }
         ensures ripe { IfSome result (λ at. NoneRipe self.now) }
     {
-        self.lineup.lone()
+        self.lineup.only_new()
     }
 
     /// Returns where the first block with this mark stands, or how many blocks there are.

@@ -9,15 +9,6 @@ pub struct Waiting {
     pub bytes: Bytes,
 }
 
-/// A block for which a node was asked under a number from 1 to 2^32-1, and that hasn't come yet.
-/// Rule: AvalancheGo, snow/engine/snowman.
-#[derive(Clone, Copy, Debug, PartialEq, Eq)]
-pub struct Get {
-    pub number: u32,
-    pub node: NodeId,
-    pub id: Id,
-}
-
 /// A node's reply to the poll of this number, which names a block that waits or is asked for.
 /// Rule: AvalancheGo, snow/engine/snowman.
 #[derive(Clone, Copy, Debug, PartialEq, Eq)]

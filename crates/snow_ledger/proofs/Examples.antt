@@ -1,6 +1,6 @@
 -- Worked examples: the definitions compute.
 use Rattle.std.proofs.Common.{◌≡◌, ℕ, true, false, List, [], ◌∷◌, ◌++◌, replicate, Some, None, refl}
-use Rattle.snow_ledger.specs.declared.transfers.Transfer.{Transfer}
+use Rattle.snow_ledger.specs.declared.state.Transfer.{Transfer}
 use Rattle.snow_ledger.specs.Model.Blocks.{transfer_at, is_whole, header_of}
 use Rattle.snow_ledger.specs.Model.Ledger.{moved, is_state, is_good, balance, sequence, after, takes, next}
 

@@ -7,7 +7,7 @@ use Rattle.std.proofs.lemmas.List.{append-nil}
 use Rattle.std.proofs.lemmas.List.Elements.{All-nil, All-cons}
 use Rattle.std.proofs.lemmas.List.Kept.{AllPairs-cons}
 use Rattle.std.proofs.lemmas.List.Sums.{sum_by_push}
-use Rattle.snow_ledger.specs.declared.transfers.Transfer.{Transfer}
+use Rattle.snow_ledger.specs.declared.state.Transfer.{Transfer}
 use Rattle.snow_ledger.specs.Model.Ledger.{accounts, accounts_of, held, next_in, total, is_state, sent, received, sendings, balance, sequence, after, is_between_accounts, is_covered, is_in_turn, is_good, are_good}
 use Rattle.snow_ledger.specs.Laws.Law.{IsTwice}
 use Rattle.snow_ledger.proofs.Sums.{sum_same, sum_same_range, sum_plus}

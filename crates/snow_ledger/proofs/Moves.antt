@@ -3,7 +3,7 @@ use Rattle.std.proofs.Common.{◌≡◌, ◌≢◌, ℕ, ◌+◌, ◌-◌, ◌*�
 use Rattle.std.proofs.lemmas.Bool.{and_from, cases_eq, eq-eqb, ne_eqb}
 use Rattle.std.proofs.lemmas.Grind.{get_or-set_at}
 use Rattle.std.proofs.lemmas.List.{get_or-set_other}
-use Rattle.snow_ledger.specs.declared.transfers.Transfer.{Transfer}
+use Rattle.snow_ledger.specs.declared.state.Transfer.{Transfer}
 use Rattle.snow_ledger.specs.Model.Ledger.{accounts, held, next_in, total, is_state, sent, received, sendings, balance, sequence, after, is_good}
 use Rattle.snow_ledger.proofs.Sums.{sum_next, sum_front}
 use Rattle.snow_ledger.proofs.After.{same_states, accounts_after, length_after, held_after, next_after}

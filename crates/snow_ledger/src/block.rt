@@ -1,7 +1,7 @@
 ghost use Rattle.std.specs.Prelude.{◌≡◌, ◌+◌, ◌<◌, ◌≤◌, true, length};
 ghost use Rattle.snow_ledger.specs.Model.Blocks.{short_at, count_of, is_whole, header_of, transfer_at, transfer_in};
 
-use crate::transfers::Transfer;
+use crate::state::Transfer;
 use byteorder::{BigEndian, ByteOrder};
 use sha2::{Digest, Sha256};
 use snow_base::{Header, Id};

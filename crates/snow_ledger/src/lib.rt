@@ -7,9 +7,8 @@ mod laws;
 mod state;
 #[cfg(test)]
 mod tests;
-mod transfers;
 
 pub use block::transfer;
 pub use chain::LedgerChain;
 pub use laws::ledger_law;
-pub use transfers::Transfer;
+pub use state::Transfer;

@@ -3,9 +3,23 @@ ghost use Rattle.snow_ledger.specs.Model.Blocks.{is_whole, transfers_of};
 ghost use Rattle.snow_ledger.specs.Model.Ledger.{accounts, held, next_in, total, is_state, after, is_good, are_good, next};
 
 use crate::block::{count_of, is_whole, transfer_at};
-use crate::transfers::Transfer;
 use snow_base::Nums;
 use std::alloc::{AllocError, Global};
+
+/// A transfer of an amount below 2^64 from one account to another. Accounts are counted from 0,
+/// below 2^16, and the sequence numbers the transfers of the sender. In a block it takes 20 bytes.
+/// Rule: this project's own.
+#[derive(Clone, Copy, Debug, PartialEq, Eq)]
+pub struct Transfer {
+    /// The account that sends.
+    pub from: u16,
+    /// The account that receives.
+    pub to: u16,
+    /// How much is moved.
+    pub amount: u64,
+    /// Which of the sender's transfers it is, counted from the sequence that the first state has.
+    pub sequence: u64,
+}
 
 // Whether a list is a state: two numbers for each of one or more accounts, whose balances add up to at
 // most 2^64-1.

@@ -47,7 +47,7 @@ fn digits_of(bytes: u8x16) -> (u8x16, u8x16)
 
 /// Writes the lanes over a slice of just their length.
 #[inline(always)]
-fn put(lanes: u8x16, place: &mut [u8])
+fn put_lanes(lanes: u8x16, place: &mut [u8])
     requires { length place.old ≡ 16 }
     ensures { place.new ≡ lanes }
 {
@@ -65,8 +65,8 @@ pub fn write_sixteen(bytes: &[u8], digits: &mut [u8])
 {
     let (front, back) = digits_of(u8x16::from_slice(bytes));
     let (front_digits, back_digits) = digits.split_at_mut(16);
-    put(front, front_digits);
-    put(back, back_digits);
+    put_lanes(front, front_digits);
+    put_lanes(back, back_digits);
 }
 
 /// Writes the last eight lanes over a slice of just their length.

@@ -7,12 +7,10 @@ ghost use Rattle.snow_lines.specs.Model.Text.{text, texts};
 use crate::gathering::Gather;
 use crate::line::Line;
 use crate::printing::put_line;
+use snow_base::limits::PIECE_BYTES;
 use snow_base::{Failed, Sink, write_whole};
 use std::alloc::{AllocError, Global};
 use std::marker::Model;
-
-/// A page has at most so many bytes.
-const ROOM: usize = 65_536;
 
 /// Text of lines that waits to be written, at most 65,536 bytes. A new page takes the memory for
 /// all of them, and no later call takes any. Contracts see the bytes that wait.
@@ -25,12 +23,13 @@ pub struct Page {
 
 impl Model for Page {
     ghost use Rattle.std.specs.Prelude.{ℕ, List, ◌≡◌, ◌≤◌, take, vec_len};
+    ghost use Rattle.snow_base.specs.declared.limits.TheConstants.{PIECE_BYTES};
 
     ghost Value = { List ℕ };
 
     ghost view = { λ a. take a.len a.bytes.items };
 
-    ghost invariant = { λ a. (a.len ≤ 65536) × (vec_len a.bytes ≡ 65536) };
+    ghost invariant = { λ a. (a.len ≤ PIECE_BYTES) × (vec_len a.bytes ≡ PIECE_BYTES) };
 }
 
 impl Page {
@@ -39,7 +38,7 @@ impl Page {
     pub fn new(alloc: Global) -> Result<Self, AllocError>
         ensures { IfOk result (λ page. page ≡ []) }
     {
-        let bytes = filled(alloc, ROOM)?;
+        let bytes = filled(alloc, PIECE_BYTES)?;
         Ok(Page { bytes, len: 0 })
     }
 
@@ -111,7 +110,7 @@ impl Page {
     /// Appends a piece for which there is room.
     #[inline(always)]
     fn append(&mut self, piece: &[u8])
-        requires { length self.old + length piece.now ≤ 65536 }
+        requires { length self.old + length piece.now ≤ PIECE_BYTES }
         ensures { self.new ≡ self.old ++ piece.now }
     {
         let end = self.len + piece.len();
@@ -132,7 +131,7 @@ impl Page {
     #[tactic(auto, using(crate::proofs::Placed::shortened))]
     #[inline(always)]
     fn append_front(&mut self, piece: &[u8], len: usize)
-        requires room { length self.old + length piece.now ≤ 65536 }
+        requires room { length self.old + length piece.now ≤ PIECE_BYTES }
         requires len { len ≤ length piece.now }
         ensures { self.new ≡ self.old ++ take len piece.now }
     {
@@ -161,7 +160,7 @@ impl Gather for Page {
     #[tactic(auto, using(crate::proofs::Waiting::gathers_waiting, crate::proofs::Waiting::gathers_written, snow_base::proofs::Known::front_of_more))]
     #[inline(always)]
     fn put_front<K: Sink>(&mut self, piece: &[u8], len: usize, sink: &mut K) -> Result<(), Failed> {
-        if piece.len() > ROOM - self.len {
+        if piece.len() > PIECE_BYTES - self.len {
             self.flush(sink)?;
         }
         self.append_front(piece, len);

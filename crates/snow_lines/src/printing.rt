@@ -103,13 +103,13 @@ fn put_words<G: Gather, K: Sink>(out: &mut G, line: &Line, sink: &mut K) -> Resu
     ensures err { OnErr result (AppendsFront (K.written sink.old) (K.written sink.new) (G.waiting out.old ++ text line.now)) }
     ensures cause { HasCause (K.faults sink.old) (K.faults sink.new) result }
 {
-    put_front(out, line, sink)?;
+    put_head(out, line, sink)?;
     put_list(out, line, sink)?;
     out.put(b"\n", sink)
 }
 
 /// Appends a line without its list and its newline.
-fn put_front<G: Gather, K: Sink>(out: &mut G, line: &Line, sink: &mut K) -> Result<(), Failed>
+fn put_head<G: Gather, K: Sink>(out: &mut G, line: &Line, sink: &mut K) -> Result<(), Failed>
     ensures ok { OnOk result (Gathers (K.written sink.old) (G.waiting out.old) (K.written sink.new) (G.waiting out.new) (join_with_byte 32 (name line.now ∷ fields line.now))) }
     ensures err { OnErr result (AppendsFront (K.written sink.old) (K.written sink.new) (G.waiting out.old ++ join_with_byte 32 (name line.now ∷ fields line.now))) }
     ensures cause { HasCause (K.faults sink.old) (K.faults sink.new) result }

@@ -1,4 +1,3 @@
-pub mod Booleans
 pub mod Noted
 pub mod Tagged
 mod Placed

@@ -9,8 +9,8 @@ use Rattle.snow_lineup.specs.declared.lineup.Slot.{Slot}
 use Rattle.snow_lineup.specs.declared.marks.Mark.{Mark}
 use Rattle.snow_lineup.specs.declared.marks.Mark.TheVariants.{New}
 use Rattle.snow_lineup.specs.Kept.Index.{RowMap, IsIndexed, row_of, row_before, has_place, tag_of, seat_of, woken, reset}
-use Rattle.snow_lineup.proofs.Booleans.{or_false}
-use Rattle.snow_lineup.proofs.Noted.{same_id}
+use Rattle.snow_map.proofs.Booleans.{or_false}
+use Rattle.snow_map.proofs.Lists.{same_id}
 use Rattle.snow_lineup.proofs.Placed.{Rises, found_place, woken_one, row_wakes}
 use Rattle.snow_lineup.proofs.Tagged.{Tag, All_unmap, AllPairs_unmap, has_own_place, seats_set}
 

@@ -1,27 +1,11 @@
 -- Lemmas on rows: the places of each key.
 use Rattle.std.proofs.Common.{◌≡◌, ℕ, ◌==◌, Bool, true, false, not, ◌||◌, cond, List, [], ◌∷◌, ◌++◌, Option, Some, None, refl, sym, ap, ◌∙◌}
 use Rattle.std.specs.Option.{option_to_list}
-use Rattle.std.specs.Str.{bytes_eq}
-use Rattle.std.proofs.lemmas.Bool.{ne_eqb, eqb-true, false_from_ne_true}
+use Rattle.std.proofs.lemmas.Bool.{ne_eqb, eqb-true}
 use Rattle.std.proofs.lemmas.List.{append_assoc}
 use Rattle.std.proofs.lemmas.List.Folds.{list_any-append}
-use Rattle.std.proofs.lemmas.Slice.Eq.{bytes_eq-Decides}
 use Rattle.snow_lineup.specs.Kept.Index.{has_place, left_by}
-use Rattle.snow_lineup.proofs.Booleans.{or_false}
-
-pub same_id : (a b : List ℕ) → bytes_eq a b ≡ true → a ≡ b
-same_id a b = (bytes_eq-Decides a b).0
-
-pub id_itself : (a : List ℕ) → bytes_eq a a ≡ true
-id_itself a = (bytes_eq-Decides a a).1 refl
-
-pub id_turned : (a b : List ℕ) → bytes_eq a b ≡ bytes_eq b a
-id_turned a b =
-    let Goal : Bool → Type 0 = λ x. bytes_eq a b ≡ x → x ≡ bytes_eq b a in
-    elim (bytes_eq a b) as Goal [
-      | true ↦ λ e. sym ((bytes_eq-Decides b a).1 (sym (same_id a b e)))
-      | false ↦ λ e. sym (false_from_ne_true (bytes_eq b a) (λ t. let k = (bytes_eq-Decides a b).1 (sym (same_id b a t)) in let z : true ≡ false = sym k ∙ e in absurd cc))
-    ] refl
+use Rattle.snow_map.proofs.Booleans.{or_false}
 
 -- ---- what a row has
 

@@ -11,8 +11,9 @@ use Rattle.std.proofs.lemmas.List.Quantifiers.{all_pairs_push, all_pairs_remove}
 use Rattle.snow_lineup.specs.declared.lineup.Slot.{Slot}
 use Rattle.snow_lineup.specs.declared.marks.Mark.{Mark}
 use Rattle.snow_lineup.specs.Kept.Index.{RowMap, row_of, has_place, left_by, tag_of, seat_of, IsIndexed}
-use Rattle.snow_lineup.proofs.Noted.{id_itself, id_turned, has_pushed, has_left, none_left}
-use Rattle.snow_lineup.proofs.Booleans.{or_false, or_true}
+use Rattle.snow_lineup.proofs.Noted.{has_pushed, has_left, none_left}
+use Rattle.snow_map.proofs.Lists.{id_itself, id_turned}
+use Rattle.snow_map.proofs.Booleans.{or_false, or_true}
 
 abbrev pub Tag : Type 0
 Tag = ℕ × List ℕ

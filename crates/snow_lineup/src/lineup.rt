@@ -105,7 +105,7 @@ impl<T: Keyed> Lineup<T> {
     /// Returns `true` only where each item is marked and none is ripe. It may return `false` there
     /// too: it doesn't look at the items.
     /// Rule: this project's own.
-    pub fn rests(&self) -> bool
+    pub fn all_quiet(&self) -> bool
         ensures new { result ≡ true → All (λ s. has New s ≡ false) self.now }
         ensures ripe { result ≡ true → All (λ s. has Ripe s ≡ false) self.now }
     {
@@ -115,12 +115,12 @@ impl<T: Keyed> Lineup<T> {
     /// Returns the place of the only item marked `New`, where no item is ripe. It may return `None`
     /// there too: it doesn't look at the items.
     /// Rule: this project's own.
-    pub fn lone(&self) -> Option<usize>
+    pub fn only_new(&self) -> Option<usize>
         ensures there { IfSome result (λ at. at < length self.now) }
         ensures new { IfSome result (λ at. IsOnlyAt New self.now at) }
         ensures ripe { IfSome result (λ at. All (λ s. has Ripe s ≡ false) self.now) }
     {
-        self.windows.lone(self.slots.len())
+        self.windows.only_fresh(self.slots.len())
     }
 
     /// Returns where the first item with this mark stands, or how many items there are where none

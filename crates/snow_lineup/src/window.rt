@@ -138,7 +138,7 @@ impl Windows {
     }
 
     /// The one place of so many where a new item may stand, where no ripe one may.
-    pub(crate) fn lone(self, len: usize) -> Option<usize>
+    pub(crate) fn only_fresh(self, len: usize) -> Option<usize>
         ensures there { IfSome result (λ at. at < len) }
         ensures low { IfSome result (λ at. self.fresh.low ≡ at) }
         ensures high { IfSome result (λ at. self.fresh.high ≡ at + 1) }

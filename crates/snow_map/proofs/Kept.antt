@@ -10,7 +10,7 @@ use Rattle.std.proofs.lemmas.Bool.{eqb-true, eq-eqb, true≢false}
 use Rattle.std.proofs.lemmas.Option.{same_Some}
 use Rattle.snow_map.specs.Clauses.Entries.{value_of, HasAt}
 use Rattle.snow_map.specs.Kept.Placed.{place_of, gives, entries_of, is_own, is_far_by, IsPlaced, IsKept}
-use Rattle.snow_map.proofs.Lists.{split_on, clash, same_id, id_itself, same_cases, or_none, one_added, one_left}
+use Rattle.snow_map.proofs.Lists.{split_on, clash, same_id, id_itself, id_turned, or_none, one_added, one_left}
 use Rattle.snow_map.proofs.Seats.{Near, found, all_distinct}
 
 -- the parts of a map that is changed at an identifier
@@ -77,7 +77,7 @@ module _ {V : Type 0} (near : Near V) (far : List (List ℕ × V)) (id : List �
   -- so it gives nobody else anything
   nothing_else : (o : Option (List ℕ × V)) → IsOwn o → (q : List ℕ) → bytes_eq id q ≡ false → gives o q ≡ None
   nothing_else None own q f = refl
-  nothing_else (Some e) own q f = ap (λ b. cond b (Some e.1) None) (ap (bytes_eq q) (sym (same_id id e.0 own)) ∙ same_cases q id ∙ f)
+  nothing_else (Some e) own q f = ap (λ b. cond b (Some e.1) None) (ap (bytes_eq q) (sym (same_id id e.0 own)) ∙ id_turned q id ∙ f)
 
   own_gives : (o : Option (List ℕ × V)) → IsOwn o → gives o id ≡ option_map (λ e. e.1) o
   own_gives None own = refl

@@ -1,4 +1,5 @@
-mod Lists
+pub mod Lists
+pub mod Booleans
 mod Seats
 mod Grouped
 mod Kept

@@ -43,8 +43,8 @@ id_itself a = (bytes_eq-Decides a a).1 refl
 apart_ids : (a b : List ℕ) → (a ≡ b → ⊥) → bytes_eq a b ≡ false
 apart_ids a b h = split_on (bytes_eq a b) (λ t. absurd (h (same_id a b t))) (λ t. t)
 
-pub same_cases : (a b : List ℕ) → bytes_eq a b ≡ bytes_eq b a
-same_cases a b = split_on (bytes_eq a b)
+pub id_turned : (a b : List ℕ) → bytes_eq a b ≡ bytes_eq b a
+id_turned a b = split_on (bytes_eq a b)
     (λ t. t ∙ sym ((bytes_eq-Decides b a).1 (sym (same_id a b t))))
     (λ f. f ∙ sym (apart_ids b a (λ e. clash (bytes_eq a b) ((bytes_eq-Decides a b).1 (sym e)) f)))
 
@@ -52,7 +52,7 @@ same_cases a b = split_on (bytes_eq a b)
 ids_are_one : IsEquivalence bytes_eq
 ids_are_one = record {
   refl = id_itself;
-  symm = same_cases;
+  symm = id_turned;
   congr = λ a b z t. ap (λ x. bytes_eq x z) (same_id a b t);
 }
 
@@ -146,7 +146,7 @@ module _ {V : Type 0} where
       split_on (bytes_eq x.0 q)
       (λ u. ap (value_of xs) (sym (same_id x.0 q u)) ∙ none_of x.0 xs (IsDistinct-head bytes_eq x.0 (keys_of xs) s) ∙ sym (gives_rest ys x.0 q t ∙ ap (λ b. cond b None (value_of ys q)) u))
       (λ u.
-      sym (ap (λ b. cond b (Some x.1) (value_of xs q)) (same_cases q x.0 ∙ u)) ∙ same q
+      sym (ap (λ b. cond b (Some x.1) (value_of xs q)) (id_turned q x.0 ∙ u)) ∙ same q
       ∙ sym (gives_rest ys x.0 q t ∙ ap (λ b. cond b None (value_of ys q)) u)))))
       (front_taken ys x.0 x.1 here)
 
@@ -155,7 +155,7 @@ module _ {V : Type 0} where
       → IsPermutation ((id, v) ∷ before) now
   one_added before now id v once once' has none =
       same_entries ((id, v) ∷ before) now (one_more id v before none once) once'
-      (λ q. ap (λ b. cond b (Some v) (value_of before q)) (same_cases q id) ∙ sym (has q))
+      (λ q. ap (λ b. cond b (Some v) (value_of before q)) (id_turned q id) ∙ sym (has q))
 
   pub one_left : (before now : List (List ℕ × V)) (id : List ℕ) → IsDistinct bytes_eq (keys_of before) → IsDistinct bytes_eq (keys_of now) → HasAt before now id None
       → IsPermutation (remove_entry (bytes_eq id) before) now

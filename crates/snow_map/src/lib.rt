@@ -2,10 +2,8 @@
 #![tactic(auto)]
 
 mod far;
-mod hashing;
 mod id_map;
 mod near;
 
-pub use hashing::IdHashing;
-pub use id_map::IdMap;
+pub use id_map::{IdHashing, IdMap};
 pub use near::seat_of;

@@ -3,7 +3,7 @@ use Rattle.std.proofs.Common.{◌≡◌, ℕ, Bool, true, false, List, [], ◌++
 use Rattle.snow_base.specs.declared.header.Header.{Header}
 use Rattle.snow_flake.specs.Model.Parameters.{Parameters}
 use Rattle.snow_flake.specs.Model.Rule.{Answer}
-use Rattle.snow_board.specs.declared.decision.Decision.{Decision}
+use Rattle.snow_board.specs.declared.board.Decision.{Decision}
 use Rattle.snow_board.specs.Model.Board.{Board, issued}
 use Rattle.snow_board.specs.Model.Preference.{preferred}
 use Rattle.snow_chain.specs.Model.Chain.{Held, with_state}
@@ -15,15 +15,15 @@ use Rattle.snow_issue.specs.Model.Lists.{Lists}
 use Rattle.snow_node.specs.declared.stop.Halt.{Halt}
 use Rattle.snow_node.specs.Kept.Tied.{IsApart, IsKept}
 use Rattle.snow_node.specs.Clauses.Matching.{IsSteady, Admits}
-use Rattle.snow_node.specs.declared.running.remembering.Remembered.{Remembered}
-use Rattle.snow_node.specs.Kept.Remembering.{Remembers, when_issued}
+use Rattle.snow_node.specs.declared.running.queue_state.QueueState.{QueueState}
+use Rattle.snow_node.specs.Kept.QueueState.{IsInState, when_issued}
 use Rattle.snow_node.specs.Model.Running.{Running}
 use Rattle.snow_node.specs.Model.Settling.{issued_by, asked_on_the_way}
 use Rattle.snow_node.specs.Clauses.Stepping.{Tells, LogsFront}
 use Rattle.snow_node.specs.Model.Supplying.{with_issued, if_issued}
 use Rattle.snow_node.specs.Model.Telling.{decision_line, preference_line}
 use Rattle.snow_node.proofs.Keeping.{kept_issued}
-use Rattle.snow_node.proofs.Remembering.{kept_at_issue}
+use Rattle.snow_node.proofs.QueueState.{kept_at_issue}
 use Rattle.snow_node.proofs.Logs.{logs_front_of_more}
 use Rattle.snow_node.proofs.Sequel.{logs_behind}
 
@@ -51,9 +51,9 @@ module _ (p : Parameters) (board : Board) (held : Held) (table : Table) (queue :
       kept_issued p board held table queue last kept board_now held_now block has.state steady has.board_is has.held_is apart
 
 -- what is known of the queue's memory
-pub remembers_admitted : (board : Board) (held : Held) (seen : Seen) (k : Remembered) (valid : Bool) (board_now : Board) (held_now : Held) (decisions : List Decision) (block : Header)
-    (o : Option (List ℕ)) → valid ≡ true → Admits valid board held board_now held_now decisions block o → Remembers board seen k → Remembers board_now seen (when_issued k block.id)
-remembers_admitted board held seen k valid board_now held_now decisions block o v a r =
+pub in_state_admitted : (board : Board) (held : Held) (seen : Seen) (k : QueueState) (valid : Bool) (board_now : Board) (held_now : Held) (decisions : List Decision) (block : Header)
+    (o : Option (List ℕ)) → valid ≡ true → Admits valid board held board_now held_now decisions block o → IsInState board seen k → IsInState board_now seen (when_issued k block.id)
+in_state_admitted board held seen k valid board_now held_now decisions block o v a r =
     kept_at_issue board board_now seen k block (admitted valid board held board_now held_now decisions block o v a).board_is r
 
 -- the lines of an issue, and then those of a query

@@ -8,18 +8,20 @@ use Rattle.snow_base.specs.Model.Numbers.{next_number, last_after}
 use Rattle.snow_base.specs.declared.header.Header.{Header}
 use Rattle.snow_flake.specs.Model.Parameters.{Parameters, AreGood}
 use Rattle.snow_sample.specs.declared.draws.Draw.{Draw}
-use Rattle.snow_board.specs.declared.decision.Decision.{Decision}
+use Rattle.snow_board.specs.declared.board.Decision.{Decision}
 use Rattle.snow_board.specs.Model.Board.{Board, begin, height_of, issued}
 use Rattle.snow_board.proofs.Cases.{split_on, clash, differs_back}
 use Rattle.snow_chain.specs.Model.Chain.{Held, begun as first_states, with_state}
 use Rattle.snow_poll.specs.Model.Poll.{Poll}
 use Rattle.snow_poll.specs.Model.Table.{Table, no_polls, begun, voted, shortened, unfinished, answered, is_awaited_by, has_number as has_poll}
 use Rattle.snow_poll.specs.Model.Closing.{is_closed}
-use Rattle.snow_issue.specs.declared.work.Get.{Get}
+use Rattle.snow_gets.specs.declared.gets.Get.{Get}
 use Rattle.snow_issue.specs.declared.work.Waiting.{Waiting}
 use Rattle.snow_issue.specs.declared.work.Offered.TheVariants as offer
 use Rattle.snow_issue.specs.declared.work.Work.{Work}
-use Rattle.snow_issue.specs.Model.Lists.{Lists, begun as first_lists, after_gone, with_get, with_waiting, waits, waits_among, has_number as has_get}
+use Rattle.snow_gets.specs.Model.Gets.{with_get}
+use Rattle.snow_gets.specs.Model.Gets.{has_number as has_get}
+use Rattle.snow_issue.specs.Model.Lists.{Lists, begun as first_lists, after_gone, with_waiting, waits, waits_among}
 use Rattle.snow_issue.specs.Model.Offering.{is_on, is_next, offered}
 use Rattle.snow_issue.specs.Model.Settling.{work_of, after as left_by}
 use Rattle.snow_issue.proofs.Idle.{next_unknown}

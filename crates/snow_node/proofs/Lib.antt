@@ -17,7 +17,7 @@ pub mod RunExamples
 pub mod Preferred
 pub mod Supplying
 pub mod Undecided
-pub mod Remembering
+pub mod QueueState
 pub mod Counts
 pub mod Opening
 pub mod Calm

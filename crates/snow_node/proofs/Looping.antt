@@ -11,7 +11,7 @@ use Rattle.snow_sample.specs.declared.draws.Draw.{Draw}
 use Rattle.snow_sample.specs.declared.sampling.SampleFault.{SampleFault}
 use Rattle.snow_sample.specs.declared.sampling.SampleFault.TheVariants as fault
 use Rattle.snow_sample.specs.Model.Sampling.{sample_of}
-use Rattle.snow_board.specs.declared.decision.Decision.{Decision}
+use Rattle.snow_board.specs.declared.board.Decision.{Decision}
 use Rattle.snow_board.specs.Model.Board.{Board, height_of}
 use Rattle.snow_board.specs.Model.Preference.{is_preferred}
 use Rattle.snow_board.specs.Model.Poll.{poll}

@@ -6,7 +6,7 @@ use Rattle.snow_node.specs.Clauses.Matching.{IsSteady}
 use Rattle.snow_chain.specs.Model.Chain.{Held, MayReject, with_state, verified, rejected}
 use Rattle.snow_node.proofs.Following.{may_undo, undone, issued_steady}
 use Rattle.snow_board.specs.Model.Board.{Board, height_of, issued}
-use Rattle.snow_board.specs.declared.decision.Decision.{Decision}
+use Rattle.snow_board.specs.declared.board.Decision.{Decision}
 use Rattle.snow_board.specs.Model.Conflict.{Pending}
 use Rattle.snow_board.specs.Model.Poll.{poll, settled, counted, promoted, winner, accepted_then}
 use Rattle.snow_board.specs.Laws.Reached.{MayIssue}

@@ -1,7 +1,7 @@
 -- A chain that is told decisions, one after another.
 use Rattle.std.proofs.Common.{◌≡◌, ℕ, suc, ◌+◌, ◌<◌, List, ◌∷◌, length, get_or, take, drop, drop-cons, subst, sym, ap, ◌∙◌, arith}
 use Rattle.std.proofs.lemmas.List.Sums.{fold_more}
-use Rattle.snow_board.specs.declared.decision.Decision.{Decision}
+use Rattle.snow_board.specs.declared.board.Decision.{Decision}
 use Rattle.snow_chain.specs.Model.Chain.{Held}
 use Rattle.snow_node.specs.Model.Telling.{with_decision, with_decisions}
 use Rattle.snow_node.specs.Clauses.Matching.{MayTell, MayFollow}

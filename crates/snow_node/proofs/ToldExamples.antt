@@ -3,7 +3,7 @@ use Rattle.std.proofs.Common.{◌≡◌, ℕ, true, false, cond, List, [], ◌�
 use Rattle.std.specs.FinMap.{empty, get-empty}
 use Rattle.std.specs.Ordering.{nat_cmp}
 use Rattle.std.specs.Cmp.Lexicographic.{slice_cmp}
-use Rattle.snow_board.specs.declared.decision.Decision.{Decision}
+use Rattle.snow_board.specs.declared.board.Decision.{Decision}
 use Rattle.snow_chain.specs.Model.Chain.{Held, state_of, begun, with_state, accepted}
 use Rattle.snow_node.specs.Model.Telling.{with_decisions}
 use Rattle.snow_node.specs.Clauses.Matching.{MayFollow}

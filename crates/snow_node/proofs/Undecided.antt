@@ -4,7 +4,7 @@ use Rattle.std.specs.List.{list_any}
 use Rattle.snow_base.specs.Model.Ancestry.{descends}
 use Rattle.snow_base.specs.declared.header.Header.{Header}
 use Rattle.snow_base.specs.declared.vote.Vote.{Vote}
-use Rattle.snow_board.specs.declared.decision.Decision.{Decision}
+use Rattle.snow_board.specs.declared.board.Decision.{Decision}
 use Rattle.snow_board.specs.Model.Conflict.{Pending}
 use Rattle.snow_board.specs.Model.Board.{Board, blocks_of}
 use Rattle.snow_board.specs.Model.Poll.{counted, promoted, poll}

@@ -5,12 +5,13 @@ use Rattle.std.specs.List.{list_any}
 use Rattle.std.specs.Option.{option_map, option_or}
 use Rattle.snow_board.specs.Model.Board.{Board}
 use Rattle.snow_board.proofs.Cases.{split_on, differs_back}
-use Rattle.snow_issue.specs.declared.work.Get.{Get}
+use Rattle.snow_gets.specs.declared.gets.Get.{Get}
 use Rattle.snow_issue.specs.declared.work.Held.{Held}
 use Rattle.snow_issue.specs.declared.work.Waiting.{Waiting}
 use Rattle.snow_issue.specs.declared.work.Work.{Work}
 use Rattle.snow_issue.specs.declared.work.Work.TheVariants as work
-use Rattle.snow_issue.specs.Model.Lists.{Lists, without, waits_among, has_number, is_get, after_closed}
+use Rattle.snow_gets.specs.Model.Gets.{without, has_number, is_get}
+use Rattle.snow_issue.specs.Model.Lists.{Lists, waits_among, after_closed}
 use Rattle.snow_issue.specs.Model.Settling.{work_of, after, is_hopeless, is_ready, is_free}
 use Rattle.snow_issue.proofs.Idle.{without_cons}
 use Rattle.snow_node.specs.Kept.Tied.{AreAtMost, AreOff, IsApart, MayWork}

@@ -1,4 +1,4 @@
 -- What the code keeps beside the model, and what is always true of it.
 pub mod Tied
-pub mod Remembering
+pub mod QueueState
 pub mod RunningCode

@@ -12,14 +12,12 @@ ghost use Rattle.snow_node.specs.Model.Placing.{opposed};
 ghost use Rattle.snow_node.specs.Model.Telling.{with_decisions};
 
 use crate::telling;
+use snow_base::limits::MOST_PENDING;
 use snow_base::{Bag, Header, Id};
 use snow_board::Board;
 use snow_chain::Chain;
 use snow_lines::DropWhy;
 use std::alloc::AllocError;
-
-/// The most blocks that may be pending.
-const MOST_PENDING: usize = 4096;
 
 /// Returns why a block that isn't on the board can't be issued, whatever its chain says: `Parent`
 /// where its parent isn't on the board, `Full` where 4,096 blocks are pending, `Invalid` where its

@@ -21,13 +21,14 @@ mod closing;
 mod fetching;
 mod hearing;
 mod querying;
-mod remembering;
+mod queue_state;
 mod settling;
 mod supplying;
 
 use crate::reporting::write;
-use crate::running::remembering::Remembered;
+use crate::running::queue_state::QueueState;
 use crate::stop::Halt;
+use snow_base::limits::MOST_WORDS;
 use snow_base::{Id, NodeId, Nodes, Numbers, Nums};
 use snow_board::Board;
 use snow_chain::Chain;
@@ -41,9 +42,6 @@ use snow_wire::{Brought, Named, Sender, View, nodes_of, words_of};
 use std::alloc::{AllocError, Global};
 use std::marker::Model;
 use std::mem;
-
-/// The most random words that wait.
-const MOST_WORDS: usize = 65_536;
 
 /// A node that runs, over any chain and any board. Contracts see the node of the definitions. It
 /// appends its lines to a log. After a stop its caller only drops it.
@@ -65,7 +63,7 @@ pub struct Running<C: Chain, B: Board> {
     /// Whether a poll was recorded since the event began.
     recorded: bool,
     /// How far the queue's marks can be trusted.
-    remembered: Remembered,
+    queue_state: QueueState,
     alloc: Global,
 }
 
@@ -74,7 +72,7 @@ impl<C: Chain, B: Board> Model for Running<C, B> {
     ghost use Rattle.snow_node.specs.Model.Running.{Running};
     ghost use Rattle.snow_node.specs.Kept.RunningCode.{coded_running};
     ghost use Rattle.snow_node.specs.Kept.Tied.{IsKept};
-    ghost use Rattle.snow_node.specs.Kept.Remembering.{Remembers};
+    ghost use Rattle.snow_node.specs.Kept.QueueState.{IsInState};
     ghost use Rattle.snow_node.specs.Model.Supplying.{Serves};
 
     ghost Value = { Running };
@@ -95,7 +93,7 @@ impl<C: Chain, B: Board> Model for Running<C, B> {
 
     ghost invariant = { λ r.
         IsKept r.params (B.board r.board) (C.held r.chain) (r.polls) (lists_of r.queue) r.numbers
-        × Remembers (B.board r.board) r.queue r.remembered
+        × IsInState (B.board r.board) r.queue r.queue_state
         × Serves (B.board r.board) r.served };
 }
 
@@ -133,7 +131,7 @@ impl<C: Chain, B: Board> Running<C, B> {
                 room: SpareBytes::none(alloc),
                 numbers,
                 recorded: false,
-                remembered: Remembered::Nothing,
+                queue_state: QueueState::Stale,
                 alloc,
             }),
             Err(error) => {

@@ -13,7 +13,7 @@ use Rattle.snow_flake.specs.Model.Parameters.{Parameters}
 use Rattle.snow_flake.specs.Model.Counter.{Counter, fresh, stepped, admits}
 use Rattle.snow_flake.specs.Kept.Instance.{Single, at_bit, polled, on_side, counter_of}
 use Rattle.snow_flake.specs.Model.Rule.{Answer, answer_of}
-use Rattle.snow_plain.specs.declared.lone.Lone.{Lone}
+use Rattle.snow_plain.specs.declared.only_child.OnlyChild.{OnlyChild}
 use Rattle.snow_board.specs.Model.Conflict.{Counters, Blank, At, with_child, all_polled, votes_on, chosen, decided_path, leads_to, decides}
 use Rattle.snow_board.specs.Kept.Walk.{depth}
 use Rattle.snow_plain.specs.Kept.Alone.{linked, lined, filled, IsReserve, is_blank, along, AreFor}
@@ -166,8 +166,8 @@ filled_fresh s (true ∷ rest) = ap (At (counter_of (at_bit s true)) Blank) (fil
 filled_fresh s (false ∷ rest) = ap (λ below. At (counter_of (at_bit s false)) below Blank) (filled_fresh s rest)
 
 -- and the tree takes the counters over
-pub filled_reserve : (lone : Lone) (counters : Counters) → IsReserve (Some lone) counters → filled lone.counter counters ≡ lined lone.counter (bits lone.child)
-filled_reserve lone counters h = ap (filled lone.counter) h ∙ filled_fresh lone.counter (bits lone.child)
+pub filled_reserve : (only_child : OnlyChild) (counters : Counters) → IsReserve (Some only_child) counters → filled only_child.counter counters ≡ lined only_child.counter (bits only_child.child)
+filled_reserve only_child counters h = ap (filled only_child.counter) h ∙ filled_fresh only_child.counter (bits only_child.child)
 
 depth_lined : (s : Single) (path : List Bool) → depth (lined s path) ≤ length path
 unfolding lined

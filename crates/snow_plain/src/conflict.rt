@@ -1,6 +1,6 @@
 ghost use Rattle.std.specs.Prelude.{◌≡◌, ◌^◌, ◌<◌, OnOk, OnErr};
 
-use crate::lone::{Lone, poll_alone, spread};
+use crate::only_child::{OnlyChild, poll_alone, spread};
 use crate::tree::{self, Tree};
 use snow_base::{Id, Vote};
 use snow_flake::{Params, Rule};
@@ -16,7 +16,7 @@ use std::marker::Model;
 /// Rule: AvalancheGo, snow/consensus/snowball.
 #[derive(Drop)]
 pub struct Conflict {
-    lone: Option<Lone>,
+    only_child: Option<OnlyChild>,
     tree: Tree,
     alloc: Global,
 }
@@ -31,9 +31,9 @@ impl Model for Conflict {
 
     ghost coded = { coded_counters };
 
-    ghost view = { λ a. counters_seen a.lone (counters_of a.tree) };
+    ghost view = { λ a. counters_seen a.only_child (counters_of a.tree) };
 
-    ghost invariant = { λ a. IsKept a.lone (counters_of a.tree) };
+    ghost invariant = { λ a. IsKept a.only_child (counters_of a.tree) };
 }
 
 impl Conflict {
@@ -47,7 +47,7 @@ impl Conflict {
         ensures { result ≡ Blank }
     {
         Conflict {
-            lone: None,
+            only_child: None,
             tree: Tree::Leaf,
             alloc,
         }
@@ -60,12 +60,12 @@ impl Conflict {
         ensures ok { OnOk result (self.new ≡ with_child (bits child.now) self.old) }
         ensures err { OnErr result (self.new ≡ self.old) }
     {
-        spread(&mut self.tree, &mut self.lone);
+        spread(&mut self.tree, &mut self.only_child);
         if !self.tree.is_leaf() {
             return tree::add(&mut self.tree, self.alloc, child, 0);
         }
         tree::add(&mut self.tree, self.alloc, child, 0)?;
-        self.lone = Some(Lone::new(child));
+        self.only_child = Some(OnlyChild::new(child));
         Ok(())
     }
 
@@ -78,10 +78,10 @@ impl Conflict {
         requires total { total_count votes.now < 2 ^ 32 }
         ensures { self.new ≡ all_polled params.now (votes_on votes.now) self.old }
     {
-        if poll_alone(&mut self.lone, params, votes) {
+        if poll_alone(&mut self.only_child, params, votes) {
             return;
         }
-        spread(&mut self.tree, &mut self.lone);
+        spread(&mut self.tree, &mut self.only_child);
         tree::poll(&mut self.tree, params, votes, 0);
     }
 
@@ -90,8 +90,8 @@ impl Conflict {
     pub fn leads_to<R: Rule>(&self, id: &Id) -> bool
         ensures { result ≡ leads_to R.answer self.now id.now }
     {
-        match &self.lone {
-            Some(lone) => lone.is(id),
+        match &self.only_child {
+            Some(only_child) => only_child.is(id),
             None => tree::leads_to::<R>(&self.tree, id, 0),
         }
     }
@@ -101,8 +101,8 @@ impl Conflict {
     pub fn decides(&self, id: &Id) -> bool
         ensures { result ≡ decides self.now id.now }
     {
-        match &self.lone {
-            Some(lone) => lone.decides(id),
+        match &self.only_child {
+            Some(only_child) => only_child.decides(id),
             None => tree::decides(&self.tree, id, 0),
         }
     }

@@ -6,7 +6,7 @@ mod conflict;
 mod counting;
 mod issuing;
 mod leading;
-mod lone;
+mod only_child;
 mod places;
 mod plain;
 mod state;

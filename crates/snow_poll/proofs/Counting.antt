@@ -12,7 +12,7 @@ use Rattle.snow_base.specs.Model.Votes.{IsInBitOrder, IsPlaceOf, added, total_co
 use Rattle.snow_base.proofs.Adding.{total_added}
 use Rattle.snow_base.proofs.Bits.{bit_cmp-total}
 use Rattle.snow_sample.specs.declared.draws.Draw.{Draw}
-use Rattle.snow_poll.specs.declared.reply.Reply.{Reply}
+use Rattle.snow_poll.specs.declared.poll.Reply.{Reply}
 use Rattle.snow_poll.specs.Model.Poll.{Poll, times_drawn, given, votes_of, received}
 use Rattle.snow_poll.specs.Kept.Tallied.{count_of}
 

@@ -9,7 +9,7 @@ use Rattle.std.proofs.lemmas.Slice.Eq.{bytes_eq-Decides}
 use Rattle.snow_base.specs.Model.Votes.{Votes, most_count}
 use Rattle.snow_flake.specs.Model.Parameters.{Parameters, AreGood}
 use Rattle.snow_sample.specs.declared.draws.Draw.{Draw}
-use Rattle.snow_poll.specs.declared.reply.Reply.{Reply}
+use Rattle.snow_poll.specs.declared.poll.Reply.{Reply}
 use Rattle.snow_poll.specs.Model.Poll.{Poll, times_drawn, is_drawn, has_replied, awaits, with_reply, given, votes_of, received, unanswered, outstanding}
 use Rattle.snow_poll.specs.Model.Closing.{some_has, has_preference_alone, is_closed}
 use Rattle.snow_poll.specs.Kept.Tallied.{awaited_times, closes_by, IsKept}

@@ -98,7 +98,7 @@ impl Awaited {
     {
         let mut waits = mem::replace(&mut self.waits, Vec::new(alloc));
         let mut lasts = mem::replace(&mut self.lasts, Vec::new(alloc));
-        let longest = enter_all(&mut waits, &mut lasts, self.mask, draws);
+        let longest = enter_draws(&mut waits, &mut lasts, self.mask, draws);
         self.waits = waits;
         self.lasts = lasts;
         self.numbers = None;
@@ -186,7 +186,7 @@ fn number_all(alloc: Global, waits: &[Wait]) -> Result<BTreeMap<NodeId, u32>, Al
 }
 
 // Awaits the nodes of these draws, where none is awaited: the greatest rank of them.
-fn enter_all(waits: &mut Vec<Wait>, lasts: &mut Vec<u32>, mask: u64, draws: &[Draw]) -> u8
+fn enter_draws(waits: &mut Vec<Wait>, lasts: &mut Vec<u32>, mask: u64, draws: &[Draw]) -> u8
     requires chained { AreWaits mask waits.old.items lasts.old.items }
     requires counts { (node : List ℕ) → counts_at waits.old.items node ≡ None }
     requires none { waits.old.items ≡ [] }
@@ -199,13 +199,13 @@ fn enter_all(waits: &mut Vec<Wait>, lasts: &mut Vec<u32>, mask: u64, draws: &[Dr
 {
     let mut longest = 0;
     for draw in draws {
-        longest = enter(waits, lasts, mask, draw).max(longest);
+        longest = enter_draw(waits, lasts, mask, draw).max(longest);
     }
     longest
 }
 
 // Awaits the node of a draw, for which there is room, as often as it was drawn: its rank.
-fn enter(waits: &mut Vec<Wait>, lasts: &mut Vec<u32>, mask: u64, draw: &Draw) -> u8
+fn enter_draw(waits: &mut Vec<Wait>, lasts: &mut Vec<u32>, mask: u64, draw: &Draw) -> u8
     requires chained { AreWaits mask waits.old.items lasts.old.items }
     requires few { length waits.old.items + 1 < 2 ^ 32 }
     requires room { length waits.old.items < vec_capacity waits.old }

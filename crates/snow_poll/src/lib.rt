@@ -6,7 +6,6 @@ mod awaited;
 mod laws;
 mod poll;
 mod polls;
-mod reply;
 mod room;
 mod tally;
 mod turns;

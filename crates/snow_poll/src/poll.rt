@@ -3,7 +3,6 @@ ghost use Rattle.snow_flake.specs.Model.Parameters.{AreGood};
 ghost use Rattle.snow_sample.specs.Model.Sampling.{draw_count, AreOfDistinctNodes};
 ghost use Rattle.snow_poll.specs.Kept.Tallied.{closes_by};
 
-use crate::reply::Reply;
 use crate::room::Nodes;
 use crate::tally;
 use snow_base::{Bag, Id, NodeId};
@@ -11,6 +10,16 @@ use snow_flake::Params;
 use snow_sample::Draws;
 use std::alloc::{AllocError, Global};
 use std::marker::Model;
+
+/// A node's reply to a poll: the identifier for which it votes, or none.
+/// Rule: AvalancheGo, snow/consensus/snowman/poll.
+#[derive(Clone, Copy, Debug)]
+pub struct Reply {
+    /// The node.
+    pub node: NodeId,
+    /// What it votes for.
+    pub id: Option<Id>,
+}
 
 /// A poll under way. Contracts see its number, its draws, and the replies in order of arrival.
 ///

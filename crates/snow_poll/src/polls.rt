@@ -8,6 +8,7 @@ ghost use Rattle.snow_poll.specs.Kept.Tallied.{place, is_front, ArePlaced};
 use crate::poll::Poll;
 use crate::room::Nodes;
 use crate::turns::Turns;
+use snow_base::limits::MOST_POLLS;
 use snow_base::{Bag, Id, NodeId};
 use snow_flake::Params;
 use snow_sample::Draws;
@@ -16,9 +17,6 @@ use std::collections::VecDeque;
 use std::marker::Model;
 use std::mem;
 use thiserror::Error;
-
-// How many polls are in the table at most.
-const MOST_POLLS: usize = 1024;
 
 /// Why `Polls::begin` begins no poll: `Full` exactly at 1,024 polls, `Memory` on want of memory.
 /// The table stays as it was.
@@ -124,7 +122,7 @@ impl Polls {
         requires nodes { AreOfDistinctNodes draws.now }
         ensures ok { OnOk result (self.new ≡ begun self.old number draws.now) }
         ensures err { OnErr result (self.new ≡ self.old) }
-        ensures full { (result ≡ Err PollFault.Full) ↔ (length self.old.polls ≡ 1024) }
+        ensures full { (result ≡ Err PollFault.Full) ↔ (length self.old.polls ≡ MOST_POLLS) }
     {
         if self.polls.len() >= MOST_POLLS {
             return Err(PollFault::Full);
@@ -250,7 +248,7 @@ impl Polls {
     /// Rule: AvalancheGo, snow/consensus/snowman/poll.
     pub fn len(&self) -> usize
         ensures len { result ≡ length self.now.polls }
-        ensures few { result ≤ 1024 }
+        ensures few { result ≤ MOST_POLLS }
     {
         self.polls.len()
     }
@@ -259,7 +257,7 @@ impl Polls {
 // The place of the poll of a number, where there is one. Most replies are to the front poll, whose
 // turn needn't be kept.
 fn find_place(polls: &VecDeque<Poll>, turns: &Turns, number: u32) -> Option<usize>
-    ensures { length polls.now.items ≤ 1024 → ArePlaced turns.now.turns turns.now.gone polls.now.items → result ≡ place polls.now.items number }
+    ensures { length polls.now.items ≤ MOST_POLLS → ArePlaced turns.now.turns turns.now.gone polls.now.items → result ≡ place polls.now.items number }
 {
     if let Some(front) = polls.front() {
         if front.number() == number {

@@ -4,7 +4,7 @@ ghost use Rattle.snow_poll.specs.Kept.Awaited.{counts_at, draw_of};
 ghost use Rattle.snow_poll.specs.Kept.Tallied.{HasTimes};
 
 use crate::awaited::Awaited;
-use crate::reply::Reply;
+use crate::poll::Reply;
 use snow_sample::Draw;
 use std::alloc::{AllocError, Global};
 

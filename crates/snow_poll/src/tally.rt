@@ -28,22 +28,22 @@ pub(crate) fn give(votes: &mut Bag, most: u32, id: &Option<Id>, times: u32) -> u
     if votes.entries().len() <= FEW {
         return votes.most();
     }
-    most.max(count(votes.entries(), id))
+    most.max(count_of(votes.entries(), id))
 }
 
 // How many votes an identifier has.
-fn count(votes: &[Vote], id: &Id) -> u32
+fn count_of(votes: &[Vote], id: &Id) -> u32
     requires { IsInBitOrder votes.now }
     ensures { result ≡ count_of votes.now id.now }
 {
-    match place(votes, id) {
+    match vote_place(votes, id) {
         Ok(at) => votes[at].count,
         Err(_) => 0,
     }
 }
 
 // Where the votes for an identifier stand, or else where new ones belong.
-fn place(votes: &[Vote], id: &Id) -> Result<usize, usize>
+fn vote_place(votes: &[Vote], id: &Id) -> Result<usize, usize>
     requires { IsInBitOrder votes.now }
     ensures { IsPlaceOf votes.now id.now result }
 {

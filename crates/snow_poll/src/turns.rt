@@ -1,6 +1,7 @@
 ghost use Rattle.std.specs.Prelude.{◌≡◌, ℕ, ◌^◌, ◌<◌, ◌≤◌, List, length, Some, None, OnOk, OnErr, ◌==◌, ◌&&◌, false, nat_lt, if◌then◌else◌};
 ghost use Rattle.std.specs.BTreeMap.{get};
 ghost use Rattle.std.specs.Ordering.{nat_cmp};
+ghost use Rattle.snow_base.specs.declared.limits.TheConstants.{MOST_POLLS};
 ghost use Rattle.snow_poll.specs.Model.Poll.{Poll};
 ghost use Rattle.snow_poll.specs.Kept.Tallied.{place, turn, is_front, ArePlaced};
 
@@ -30,7 +31,7 @@ impl Turns {
 
     // The place of the poll of a number, where there is one. It isn't the front one.
     pub(crate) fn place(&self, number: u32) -> Option<usize>
-        ensures { (polls : List Poll) → length polls ≤ 1024 → ArePlaced self.now.turns self.now.gone polls → is_front polls number ≡ false → result ≡ place polls number }
+        ensures { (polls : List Poll) → length polls ≤ MOST_POLLS → ArePlaced self.now.turns self.now.gone polls → is_front polls number ≡ false → result ≡ place polls number }
     {
         let kept = self.turns.get(&number)?;
         Some(place_of(*kept, self.gone))

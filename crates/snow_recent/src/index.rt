@@ -8,7 +8,7 @@ ghost use Rattle.std.specs.Ordering.{is_lt};
 ghost use Rattle.snow_recent.specs.Kept.Index.{place_of, id_at, id_of, IsRising, IsPlaceOf, order_at, without_oldest, filed};
 ghost use Rattle.snow_recent.specs.Kept.Table.{ends_below, AreFilled, IsRowOf};
 
-use crate::named::Named;
+use crate::recent::Named;
 use crate::row::Row;
 use snow_base::Id;
 use std::cmp::Ordering;
@@ -137,7 +137,7 @@ pub(crate) fn likely_row(rows: &[Row], key: u32) -> usize
     requires { 0 < length rows.now }
     ensures { result < length rows.now }
 {
-    let at = rows.partition_point(|row| row.ends_below(key));
+    let at = rows.partition_point(|row| row.ends_below_key(key));
     at.min(rows.len() - 1)
 }
 

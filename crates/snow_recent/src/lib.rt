@@ -3,11 +3,9 @@
 
 mod heads;
 mod index;
-mod named;
 mod recent;
 mod row;
 mod seats;
 mod table;
 
-pub use named::Named;
-pub use recent::Recent;
+pub use recent::{Named, Recent};

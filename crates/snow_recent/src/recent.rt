@@ -7,13 +7,25 @@ ghost use Rattle.snow_recent.specs.Model.Recent.{with_latest, latest};
 ghost use Rattle.snow_recent.specs.Kept.Table.{IsFiled};
 
 use crate::heads::Heads;
-use crate::named::Named;
 use crate::table::Table;
 use crate::{index, seats};
 use snow_base::Id;
 use std::alloc::{AllocError, Global};
 use std::collections::VecDeque;
 use std::marker::Model;
+
+/// What has an identifier.
+/// Rule: this project's own.
+pub trait Named: Drop {
+    ghost use Rattle.std.specs.Prelude.{◌≡◌, ℕ, List};
+
+    ghost id: { Self → List ℕ };
+
+    /// Returns its identifier.
+    /// Rule: this project's own.
+    fn id(&self) -> Id
+        ensures { result ≡ id self.now };
+}
 
 /// The last `MOST` entries that came. Contracts see the list of them, the latest last.
 ///
@@ -144,7 +156,7 @@ impl<T: Named, const MOST: usize> Recent<T, MOST> {
         ensures rest { self.new ≡ drop 1 self.old }
         ensures all { option_to_list result ++ self.new ≡ self.old }
     {
-        seats::forget_oldest(&mut self.table, &self.heads, &self.entries, self.first);
+        seats::take_oldest_number(&mut self.table, &self.heads, &self.entries, self.first);
         let oldest = self.entries.pop_front();
         self.first = self.first.wrapping_add(1);
         oldest

@@ -59,7 +59,7 @@ impl Row {
 
     /// Returns whether the key of the last number is below this one, as it is where there is no
     /// number.
-    pub(crate) fn ends_below(&self, key: u32) -> bool {
+    pub(crate) fn ends_below_key(&self, key: u32) -> bool {
         match self.keys.last() {
             Some(last) => *last < key,
             None => true,

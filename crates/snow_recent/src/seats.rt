@@ -5,7 +5,7 @@ ghost use Rattle.snow_recent.specs.Kept.Index.{id_of, IsRising, gives_way, seate
 
 use crate::heads::{Heads, seat_of};
 use crate::index;
-use crate::named::Named;
+use crate::recent::Named;
 use crate::table::Table;
 use snow_base::Id;
 use std::collections::VecDeque;
@@ -48,7 +48,7 @@ pub(crate) fn take_seat<T: Named>(
 
 /// Takes the number of the oldest entry out of the table. It isn't there where the entry still has
 /// its seat.
-pub(crate) fn forget_oldest<T: Named>(
+pub(crate) fn take_oldest_number<T: Named>(
     table: &mut Table,
     heads: &Heads,
     entries: &VecDeque<T>,

@@ -7,7 +7,7 @@ ghost use Rattle.snow_recent.specs.Kept.Index.{id_of, IsRising, without_oldest, 
 ghost use Rattle.snow_recent.specs.Kept.Table.{Shelf, AreFilled, AreKept, IsWorn, HasNext, IsLatest, halved, joined};
 
 use crate::index;
-use crate::named::Named;
+use crate::recent::Named;
 use crate::row::{ROW, Row};
 use snow_base::Id;
 use std::alloc::{AllocError, Global};
@@ -148,7 +148,7 @@ fn split(rows: &mut Vec<Row>, spare: &mut Vec<Row>, at: usize)
 }
 
 // Joins a row and the next one.
-fn join(rows: &mut Vec<Row>, spare: &mut Vec<Row>, at: usize)
+fn join_rows(rows: &mut Vec<Row>, spare: &mut Vec<Row>, at: usize)
     requires there { at + 1 < length rows.old.items }
     requires few { length (get_or rows.old.items at []) + length (get_or rows.old.items (at + 1) []) ≤ 128 }
     requires room { length spare.old.items < vec_capacity spare.old }
@@ -183,7 +183,7 @@ fn join_next(rows: &mut Vec<Row>, spare: &mut Vec<Row>, at: usize)
     ensures count { length rows.new.items + length spare.new.items ≡ length rows.old.items + length spare.old.items }
 {
     if at + 1 < rows.len() && is_thin(rows, at) {
-        join(rows, spare, at);
+        join_rows(rows, spare, at);
     }
 }
 
@@ -203,6 +203,6 @@ fn join_last(rows: &mut Vec<Row>, spare: &mut Vec<Row>, at: usize)
         return;
     }
     if rows[at].len() == 0 || is_thin(rows, at - 1) {
-        join(rows, spare, at - 1);
+        join_rows(rows, spare, at - 1);
     }
 }

@@ -1,5 +1,6 @@
 ghost use Rattle.std.specs.Prelude.{◌≡◌, ◌+◌, ◌^◌, ◌<◌, ◌≤◌, [], ◌++◌, length, drop, vec_len, vec_capacity, OnOk, OnErr, IfSome, IfNone};
 ghost use Rattle.std.specs.Option.{option_map};
+ghost use Rattle.snow_base.specs.declared.limits.TheConstants.{MOST_WORDS};
 ghost use Rattle.snow_sample.specs.Model.Words.{choice, reduced, IsRest};
 
 use std::alloc::{AllocError, Global};
@@ -24,12 +25,13 @@ pub(crate) struct Line {
 
 impl Model for Line {
     ghost use Rattle.std.specs.Prelude.{ℕ, ◌-◌, ◌≤◌, List, drop, length};
+    ghost use Rattle.snow_base.specs.declared.limits.TheConstants.{MOST_WORDS};
 
     ghost Value = { List ℕ };
 
     ghost view = { λ a. drop a.taken a.words.items };
 
-    ghost invariant = { λ a. (a.taken ≤ length a.words.items) × (length a.words.items - a.taken ≤ 65536) };
+    ghost invariant = { λ a. (a.taken ≤ length a.words.items) × (length a.words.items - a.taken ≤ MOST_WORDS) };
 }
 
 impl Line {
@@ -46,7 +48,7 @@ impl Line {
     // Appends words, where at most 65,536 stand there afterwards. After want of memory those that
     // stood there are as before.
     pub(crate) fn push_all(&mut self, words: &[u64]) -> Result<(), AllocError>
-        requires { length self.old + length words.now ≤ 65536 }
+        requires { length self.old + length words.now ≤ MOST_WORDS }
         ensures ok { OnOk result (self.new ≡ self.old ++ words.now) }
         ensures err { OnErr result (self.new ≡ self.old) }
     {
@@ -68,7 +70,7 @@ impl Line {
     // How many words there are.
     pub(crate) fn len(&self) -> usize
         ensures len { result ≡ length self.now }
-        ensures small { result ≤ 65536 }
+        ensures small { result ≤ MOST_WORDS }
     {
         self.words.len() - self.taken
     }

@@ -164,7 +164,7 @@ fn draw_each(
         let Some(r) = words.choose(total - 1 - j) else {
             return Err(SampleFault::WordsOut);
         };
-        let unit = shuffle.draw(j, r)?;
+        let unit = shuffle.exchange(j, r)?;
         places.count(out, roster, unit)?;
     }
     Ok(())

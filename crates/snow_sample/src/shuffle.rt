@@ -66,7 +66,7 @@ impl Shuffle {
     // Exchanges position `at` with the one `r` behind it, and gives the unit that then stands there.
     // What stands at `at` isn't kept, since later draws look only behind it.
     #[inline(always)]
-    pub(crate) fn draw(&mut self, at: u64, r: u64) -> Result<u64, AllocError>
+    pub(crate) fn exchange(&mut self, at: u64, r: u64) -> Result<u64, AllocError>
         requires chained { AreMoves self.old.mask self.old.moved.items self.old.lasts.items }
         requires within { at + r < 2 ^ 64 }
         requires few { length self.old.moved.items + 1 < 2 ^ 32 }

@@ -4,11 +4,9 @@ ghost use Rattle.snow_sample.specs.Model.Roster.{total_weight, first_repeated, f
 
 use crate::roster::Node;
 use snow_base::NodeId;
+use snow_base::limits::MOST_WEIGHT;
 use std::alloc::{AllocError, Global};
 use std::collections::BTreeSet;
-
-// The greatest number of units that a roster may have.
-const GREATEST_TOTAL: u64 = 0x7fff_ffff_ffff_ffff;
 
 // The first node that stands earlier too.
 pub(crate) fn find_repeated(alloc: Global, nodes: &[Node]) -> Result<Option<NodeId>, AllocError>
@@ -40,7 +38,7 @@ pub(crate) fn total_of(nodes: &[Node]) -> Option<u64>
 {
     let mut total = 0;
     for node in nodes {
-        if node.weight > GREATEST_TOTAL - total {
+        if node.weight > MOST_WEIGHT - total {
             return None;
         }
         total += node.weight;

@@ -1,4 +1,5 @@
 ghost use Rattle.std.specs.Prelude.{◌≡◌, ◌+◌, ◌≤◌, [], ◌++◌, length, Ok, IfErr, OnOk, OnErr};
+ghost use Rattle.snow_base.specs.declared.limits.TheConstants.{MOST_WORDS};
 ghost use Rattle.snow_sample.specs.Model.Roster.{total_weight};
 ghost use Rattle.snow_sample.specs.Model.Sampling.{sample_of, IsFault, draw_count, AreOfDistinctNodes};
 
@@ -45,7 +46,7 @@ impl Words {
     /// `AllocError`, and the words that stood there stay as they were.
     /// Rule: this project's own.
     pub fn push_all(&mut self, words: &[u64]) -> Result<(), AllocError>
-        requires { length self.old + length words.now ≤ 65536 }
+        requires { length self.old + length words.now ≤ MOST_WORDS }
         ensures ok { OnOk result (self.new ≡ self.old ++ words.now) }
         ensures err { OnErr result (self.new ≡ self.old) }
     {
@@ -56,7 +57,7 @@ impl Words {
     /// Rule: this project's own.
     pub fn len(&self) -> usize
         ensures len { result ≡ length self.now }
-        ensures small { result ≤ 65536 }
+        ensures small { result ≤ MOST_WORDS }
     {
         self.line.len()
     }

@@ -1,6 +1,6 @@
 -- Kept blocks by height and by identifier.
 use Rattle.std.proofs.Common.{◌≡◌, ℕ, ◌<◌, Bool, true, false, ◌==◌, List, [], ◌∷◌, Option, Some, None, bytes_eq, nat_lt, if◌then◌else◌, ◌⊎◌, inl, inr, refl, sym, ap, subst, ◌∙◌, eq-eqb, eqb-true}
-use Rattle.snow_store.specs.declared.block.KeptBlock.{KeptBlock}
+use Rattle.snow_store.specs.declared.store.KeptBlock.{KeptBlock}
 use Rattle.snow_store.specs.Model.Keeping.{held, highest, higher}
 use Rattle.snow_store.specs.Laws.Linking.{AreApart, AreAbove}
 use Rattle.snow_store.proofs.Cases.{split_on, same_id, same_some, none_not, picked}

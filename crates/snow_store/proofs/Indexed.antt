@@ -8,7 +8,7 @@ use Rattle.std.specs.Ordering.{nat_cmp, is_eq}
 use Rattle.std.proofs.lemmas.Bool.{eq-eqb, ne_eqb, lt-ltb, le-ltb, cases_order}
 use Rattle.std.proofs.lemmas.List.{length-reverse, reverse-append}
 use Rattle.std.proofs.lemmas.Map.Text.{is_eq-slice_cmp}
-use Rattle.snow_store.specs.declared.block.KeptBlock.{KeptBlock}
+use Rattle.snow_store.specs.declared.store.KeptBlock.{KeptBlock}
 use Rattle.snow_store.specs.declared.index.Children.{Children}
 use Rattle.snow_store.specs.Model.Keeping.{held, highest, higher}
 use Rattle.snow_store.specs.Kept.Indexing.{place_of, top_of, higher_height, with_child, children_of, HasPlaces, HasTops, HasChildren}

@@ -4,12 +4,13 @@ use Rattle.std.specs.Prelude.{Result, Ok, Err}
 use Rattle.std.specs.Option.{option_or}
 use Rattle.std.proofs.lemmas.Bool.{leb-false}
 use Rattle.snow_base.specs.declared.header.Header.{Header}
-use Rattle.snow_store.specs.declared.block.KeptBlock.{KeptBlock}
+use Rattle.snow_base.specs.declared.limits.TheConstants.{MOST_KEPT}
+use Rattle.snow_store.specs.declared.store.KeptBlock.{KeptBlock}
 use Rattle.snow_store.specs.declared.stop.BootStop.{BootStop}
 use Rattle.snow_store.specs.declared.stop.BootStop.TheVariants as stop
-use Rattle.snow_store.specs.declared.verdict.Verdict.{Verdict}
-use Rattle.snow_store.specs.declared.verdict.Verdict.TheVariants as verdict
-use Rattle.snow_store.specs.Model.Keeping.{Store, held, stray, unless, child_stop, fork_stop, below_stop, above_stop, misplaced, placed, most_kept, taken, keeping}
+use Rattle.snow_store.specs.declared.stop.Verdict.{Verdict}
+use Rattle.snow_store.specs.declared.stop.Verdict.TheVariants as verdict
+use Rattle.snow_store.specs.Model.Keeping.{Store, held, stray, unless, child_stop, fork_stop, below_stop, above_stop, misplaced, placed, taken, keeping}
 use Rattle.snow_store.specs.Laws.Linking.{IsLinked}
 use Rattle.snow_store.proofs.Cases.{split_on, same_id, same_some, not_none, none_not, picked}
 
@@ -55,8 +56,8 @@ not_known true why e = cc
 not_known false why e = cc
 
 -- its height is free, and there is room
-is_free : (s : Store) (b : Header) (other : Option KeptBlock) → placed s b other ≡ Ok verdict.Keeps → (other ≡ None) × (nat_le most_kept (length s.kept) ≡ false) × (misplaced s b ≡ None)
-is_free s b None e = let room = has_room s b (nat_le most_kept (length s.kept)) e in (refl, room.0, room.1)
+is_free : (s : Store) (b : Header) (other : Option KeptBlock) → placed s b other ≡ Ok verdict.Keeps → (other ≡ None) × (nat_le MOST_KEPT (length s.kept) ≡ false) × (misplaced s b ≡ None)
+is_free s b None e = let room = has_room s b (nat_le MOST_KEPT (length s.kept)) e in (refl, room.0, room.1)
 is_free s b (Some other) e = not_known (bytes_eq other.header.id b.id) (stop.Conflict b.height other.header.id b.id) e
 
 -- a block that is kept fits

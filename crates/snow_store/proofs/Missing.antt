@@ -3,8 +3,8 @@ use Rattle.std.proofs.Common.{◌≡◌, ℕ, Bool, true, false, ◌&&◌, ◌||
 use Rattle.std.specs.List.{list_all}
 use Rattle.std.specs.Prelude.{is_none, Ok}
 use Rattle.std.proofs.lemmas.Bool.{or_right}
-use Rattle.snow_store.specs.declared.block.KeptBlock.{KeptBlock}
-use Rattle.snow_store.specs.declared.verdict.Verdict.TheVariants as verdict
+use Rattle.snow_store.specs.declared.store.KeptBlock.{KeptBlock}
+use Rattle.snow_store.specs.declared.stop.Verdict.TheVariants as verdict
 use Rattle.snow_store.specs.Model.Keeping.{taken, keeping}
 use Rattle.snow_store.specs.Laws.Linking.{IsLinked}
 use Rattle.snow_store.specs.Model.Needing.{need_at, names, is_missed}

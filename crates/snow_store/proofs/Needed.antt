@@ -6,12 +6,13 @@ use Rattle.std.proofs.lemmas.List.Folds.{list_any-append}
 use Rattle.std.specs.Option.{option_map}
 use Rattle.snow_interval.specs.Model.Heights.{Heights, lowest}
 use Rattle.snow_base.specs.declared.header.Header.{Header}
-use Rattle.snow_store.specs.declared.block.KeptBlock.{KeptBlock}
+use Rattle.snow_base.specs.declared.limits.TheConstants.{MOST_KEPT}
+use Rattle.snow_store.specs.declared.store.KeptBlock.{KeptBlock}
 use Rattle.snow_store.specs.declared.stop.BootStop.{BootStop}
 use Rattle.snow_store.specs.declared.stop.BootStop.TheVariants as stop
-use Rattle.snow_store.specs.declared.verdict.Verdict.{Verdict}
-use Rattle.snow_store.specs.declared.verdict.Verdict.TheVariants as verdict
-use Rattle.snow_store.specs.Model.Keeping.{Store, held, highest, higher, lower, strays, stray, unless, child_stop, misplaced, most_kept, placed, taken, keeping}
+use Rattle.snow_store.specs.declared.stop.Verdict.{Verdict}
+use Rattle.snow_store.specs.declared.stop.Verdict.TheVariants as verdict
+use Rattle.snow_store.specs.Model.Keeping.{Store, held, highest, higher, lower, strays, stray, unless, child_stop, misplaced, placed, taken, keeping}
 use Rattle.snow_store.specs.Laws.Linking.{IsLinked, held_heights}
 use Rattle.snow_store.specs.Model.Needing.{need_at, names}
 use Rattle.snow_store.specs.Model.Paths.{Fetch, wanted_below, has_id, missed_from, missed}
@@ -286,7 +287,7 @@ low_facts s b e =
     not_full false why e = not_fitting why e
 
     not_placed : (o : Option KeptBlock) {P : Type 0} → placed s b o ≡ Ok verdict.Low → P
-    not_placed None e = not_full (nat_le most_kept (length s.kept)) (misplaced s b) e
+    not_placed None e = not_full (nat_le MOST_KEPT (length s.kept)) (misplaced s b) e
     not_placed (Some other) e = not_there (bytes_eq other.header.id b.id) (stop.Conflict b.height other.header.id b.id) e
 
     is_low : (t : Bool) (o : Option KeptBlock) → (if t then Ok verdict.Low else placed s b o) ≡ Ok verdict.Low → t ≡ true

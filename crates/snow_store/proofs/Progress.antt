@@ -3,12 +3,13 @@ use Rattle.std.proofs.Common.{◌≡◌, ℕ, zero, suc, Bool, true, false, ◌=
 use Rattle.std.specs.Prelude.{is_some, Result, Ok, Err}
 use Rattle.snow_interval.specs.Model.Heights.{Heights, lowest}
 use Rattle.snow_base.specs.declared.header.Header.{Header}
-use Rattle.snow_store.specs.declared.block.KeptBlock.{KeptBlock}
+use Rattle.snow_base.specs.declared.limits.TheConstants.{MOST_KEPT}
+use Rattle.snow_store.specs.declared.store.KeptBlock.{KeptBlock}
 use Rattle.snow_store.specs.declared.stop.BootStop.{BootStop}
 use Rattle.snow_store.specs.declared.stop.BootStop.TheVariants as stop
-use Rattle.snow_store.specs.declared.verdict.Verdict.{Verdict}
-use Rattle.snow_store.specs.declared.verdict.Verdict.TheVariants as verdict
-use Rattle.snow_store.specs.Model.Keeping.{Store, held, highest, higher, stray, unless, child_stop, misplaced, most_kept, placed, taken}
+use Rattle.snow_store.specs.declared.stop.Verdict.{Verdict}
+use Rattle.snow_store.specs.declared.stop.Verdict.TheVariants as verdict
+use Rattle.snow_store.specs.Model.Keeping.{Store, held, highest, higher, stray, unless, child_stop, misplaced, placed, taken}
 use Rattle.snow_store.specs.Laws.Linking.{IsLinked, held_heights}
 use Rattle.snow_store.specs.Model.Needing.{need_at, names}
 use Rattle.snow_store.specs.Model.Paths.{Fetch, has_id, missed}
@@ -65,7 +66,7 @@ known_facts s b e =
     same_there false why e = cc
 
     by_place : (o : Option KeptBlock) → held s.kept b.height ≡ o → stray s.kept b.id b.height ≡ None → placed s b o ≡ Ok verdict.Known → IsThere s b
-    by_place None is child e = not_free (nat_le most_kept (length s.kept)) (misplaced s b) e
+    by_place None is child e = not_free (nat_le MOST_KEPT (length s.kept)) (misplaced s b) e
     by_place (Some other) is child e = record {
       other = other;
       child = child;

@@ -4,11 +4,11 @@ use Rattle.std.specs.BTreeMap.{BTreeMap}
 use Rattle.std.specs.List.{IsDistinct}
 use Rattle.std.specs.Prelude.{is_some, Result, Ok, Err, OnOk, IfOk}
 use Rattle.snow_base.specs.declared.header.Header.{Header}
-use Rattle.snow_store.specs.declared.block.KeptBlock.{KeptBlock}
-use Rattle.snow_store.specs.declared.due.Due.{Due}
-use Rattle.snow_store.specs.declared.due.Due.TheVariants as due
-use Rattle.snow_store.specs.declared.verdict.Verdict.{Verdict}
-use Rattle.snow_store.specs.declared.verdict.Verdict.TheVariants as verdict
+use Rattle.snow_store.specs.declared.store.KeptBlock.{KeptBlock}
+use Rattle.snow_store.specs.declared.needs.Due.{Due}
+use Rattle.snow_store.specs.declared.needs.Due.TheVariants as due
+use Rattle.snow_store.specs.declared.stop.Verdict.{Verdict}
+use Rattle.snow_store.specs.declared.stop.Verdict.TheVariants as verdict
 use Rattle.snow_store.specs.Clauses.Coming.{after_verdict}
 use Rattle.snow_store.specs.Model.Keeping.{Store, taken, keeping, after_taking}
 use Rattle.snow_store.specs.Laws.Linking.{IsLinked, held_heights}

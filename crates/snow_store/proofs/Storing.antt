@@ -4,9 +4,9 @@ use Rattle.std.specs.BTreeMap.{BTreeMap}
 use Rattle.std.specs.Option.{option_map}
 use Rattle.std.specs.Prelude.{is_some, Ok}
 use Rattle.snow_interval.specs.Model.Heights.{Heights, with_height, lowest}
-use Rattle.snow_store.specs.declared.block.KeptBlock.{KeptBlock}
+use Rattle.snow_store.specs.declared.store.KeptBlock.{KeptBlock}
 use Rattle.snow_store.specs.declared.index.Children.{Children}
-use Rattle.snow_store.specs.declared.verdict.Verdict.TheVariants as verdict
+use Rattle.snow_store.specs.declared.stop.Verdict.TheVariants as verdict
 use Rattle.snow_store.specs.Model.Keeping.{Store, held, highest, taken, keeping}
 use Rattle.snow_store.specs.Laws.Linking.{IsLinked, held_heights}
 use Rattle.snow_store.specs.Model.Paths.{Fetch, path, last_of, wanted_below, missed_from, missed}

@@ -3,7 +3,7 @@ use Rattle.std.proofs.Common.{◌≡◌, ℕ, zero, suc, ◌+◌, ◌-◌, ◌�
 use Rattle.std.specs.Prelude.{is_some}
 use Rattle.std.proofs.lemmas.List.{reverse-append}
 use Rattle.snow_interval.specs.Model.Heights.{Heights, lowest}
-use Rattle.snow_store.specs.declared.block.KeptBlock.{KeptBlock}
+use Rattle.snow_store.specs.declared.store.KeptBlock.{KeptBlock}
 use Rattle.snow_store.specs.Model.Keeping.{Store, held}
 use Rattle.snow_store.specs.Model.Paths.{path, last_of}
 use Rattle.snow_store.specs.Laws.Linking.{IsLinked, held_heights, listed, upward}

@@ -4,7 +4,7 @@ use Rattle.std.specs.Prelude.{is_some, is_none}
 use Rattle.std.specs.List.{list_all}
 use Rattle.std.proofs.lemmas.Bool.Decides.{nat_tests}
 use Rattle.snow_interval.specs.Model.Heights.{lowest}
-use Rattle.snow_store.specs.declared.block.KeptBlock.{KeptBlock}
+use Rattle.snow_store.specs.declared.store.KeptBlock.{KeptBlock}
 use Rattle.snow_store.specs.Model.Keeping.{held, highest, higher}
 use Rattle.snow_store.specs.Model.Paths.{Fetch, path, last_of, wanted_below, has_id, missed_from, missed, is_whole, higher_of, highest_target}
 use Rattle.snow_store.specs.Laws.Linking.{IsLinked, held_heights, upward, IsWholePath}

@@ -1,5 +1,5 @@
 ghost use Rattle.std.specs.Prelude.{◌≡◌, ◌^◌, ◌<◌, List, ◌∷◌, length, OnOk};
-ghost use Rattle.snow_store.specs.declared.block.KeptBlock.{KeptBlock};
+ghost use Rattle.snow_store.specs.declared.store.KeptBlock.{KeptBlock};
 ghost use Rattle.snow_store.specs.Kept.Indexing.{HasPlaces, HasTops, HasChildren, with_child, lower_height, higher_height, stray_height};
 
 use snow_base::Id;

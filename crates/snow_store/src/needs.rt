@@ -10,17 +10,28 @@ ghost use Rattle.snow_store.specs.Model.Needing.{need_at, names, has_need, HasNe
 ghost use Rattle.snow_store.specs.Model.Paths.{Fetch, has_id, missed, is_whole};
 ghost use Rattle.snow_store.specs.Kept.Renewing.{fetch_by, MayRenew, IsRenewed};
 ghost use Rattle.snow_store.specs.Clauses.Coming.{noted, after_verdict};
-ghost use Rattle.snow_store.specs.declared.verdict.Verdict.TheVariants.{Keeps, Low};
+ghost use Rattle.snow_store.specs.declared.stop.Verdict.TheVariants.{Keeps, Low};
 
-use crate::due::Due;
+use crate::stop::Verdict;
 use crate::store::Store;
-use crate::verdict::Verdict;
 use indexmap::IndexSet;
 use snow_base::{Header, Id};
 use snow_interval::Kept;
 use snow_map::IdHashing;
 use std::alloc::AllocError;
 use std::collections::BTreeMap;
+
+/// Which of the missed identifiers no open request may name yet.
+/// Rule: this project's own.
+#[derive(Clone, Copy)]
+pub enum Due {
+    /// None.
+    Nothing,
+    /// This one.
+    One(Id),
+    /// Any.
+    All,
+}
 
 /// Returns whether an identifier is among these.
 /// Rule: AvalancheGo, snow/engine/snowman/bootstrap.

@@ -2,6 +2,18 @@ use snow_base::Id;
 use std::alloc::AllocError;
 use thiserror::Error;
 
+/// What `Store::take` did with a block.
+/// Rule: AvalancheGo, snow/engine/snowman/bootstrap.
+#[derive(Clone, Copy)]
+pub enum Verdict {
+    /// It is kept.
+    Keeps,
+    /// Its height is at most that of the last accepted block, so it isn't kept.
+    Low,
+    /// It is kept already, at its height.
+    Known,
+}
+
 /// Why bootstrapping stops. `Conflict`, `Fork`, `Refused` and `Full` are what the blocks themselves
 /// show. `Requests` comes where all 2^32-1 numbers are drawn, and `Memory` on want of memory.
 /// Rule: AvalancheGo, snow/engine/snowman/bootstrap.

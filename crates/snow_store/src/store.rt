@@ -1,26 +1,32 @@
 ghost use Rattle.std.specs.Prelude.{◌≡◌, ℕ, ◌+◌, ◌-◌, ◌<◌, List, true, [], Some, None, Ok, IfOk, OnOk, if◌then◌else◌};
 ghost use Rattle.std.specs.List.{slice_get};
 ghost use Rattle.std.specs.Option.{option_copied};
-ghost use Rattle.snow_store.specs.declared.verdict.Verdict.TheVariants.{Keeps};
+ghost use Rattle.snow_store.specs.declared.stop.Verdict.TheVariants.{Keeps};
 ghost use Rattle.snow_store.specs.Model.Keeping.{held, highest, stray, child_stop, fork_stop, below_stop, above_stop, misplaced, placed_there, placed, taken, keeping, after_taking, Answers};
 ghost use Rattle.snow_store.specs.Model.Paths.{has_id, wanted_below, missed_from};
 ghost use Rattle.snow_store.specs.Kept.Indexing.{top_of};
 ghost use Rattle.snow_store.specs.Laws.Linking.{IsLinked, held_heights};
 ghost use Rattle.snow_store.specs.Model.Needing.{need_at};
 
-use crate::block::KeptBlock;
 use crate::index;
 use crate::index::Children;
-use crate::stop::BootStop;
-use crate::verdict::Verdict;
+use crate::stop::{BootStop, Verdict};
+use snow_base::limits::MOST_KEPT;
 use snow_base::{Bytes, Header, Id};
 use snow_interval::Kept;
 use std::alloc::{AllocError, Global};
 use std::collections::BTreeMap;
 use std::marker::Model;
 
-/// A store keeps at most so many blocks.
-const MOST_KEPT: usize = 32_768;
+/// A block that is kept until its path is whole.
+/// Rule: AvalancheGo, snow/engine/snowman/bootstrap.
+#[derive(Drop)]
+pub struct KeptBlock {
+    /// What the block says of itself.
+    pub header: Header,
+    /// Its bytes.
+    pub bytes: Bytes,
+}
 
 /// The last accepted block, and at most 32,768 blocks that are kept above it. It finds each by its
 /// height, by its identifier and by its parent. Contracts see the kept blocks, and whether the

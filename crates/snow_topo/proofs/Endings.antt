@@ -21,7 +21,7 @@ use Rattle.snow_tree.specs.Kept.Held.{Entry, Held, blocks_in, children_of, entry
 use Rattle.snow_tree.proofs.Descending.{last_off}
 use Rattle.snow_tree.proofs.Placed.{position_cons}
 use Rattle.snow_trie.specs.Kept.Whole.{Compressed, HasFewNodes}
-use Rattle.snow_topo.specs.Kept.Children.{Kept, contest_of, counters_in, ids_in, shown, IsFit}
+use Rattle.snow_topo.specs.Kept.Children.{Kept, conflict_of, counters_in, ids_in, shown, IsFit}
 use Rattle.snow_topo.specs.Kept.Standing.{AreKept}
 use Rattle.snow_topo.specs.Kept.View.{pending_of, all_pending, view, AreFit}
 use Rattle.snow_topo.specs.Kept.Walking.{kept_of}
@@ -178,7 +178,7 @@ kept_off root held id h =
 
 -- its counters are blank, and no other pending block has its identifier
 blank_there : (last : List ℕ) (p : Parameters) (polls : ℕ) (pending : List (Entry Kept)) (at : ℕ) (e : Entry Kept) → IsGrown last (reverse (blocks_in pending))
-    → slice_get pending at ≡ Some e → e.load.contest ≡ None → All (λ q. q.block.id ≡ e.block.id → q.counters ≡ Blank) (all_pending p polls pending)
+    → slice_get pending at ≡ Some e → e.load.conflict ≡ None → All (λ q. q.block.id ≡ e.block.id → q.counters ≡ Blank) (all_pending p polls pending)
 blank_there last p polls pending at e g there none =
     All-map (λ q. q.block.id ≡ e.block.id → q.counters ≡ Blank) (pending_of p polls) pending
     (λ k d l same.
@@ -187,7 +187,7 @@ blank_there last p polls pending at e g there none =
     split_on (k == at)
     (λ t.
     let is : x ≡ e = sym (get_or_from_slice_get pending k x d seen) ∙ get_or_from_slice_get pending k e d (ap (slice_get pending) (equal_number k at t) ∙ there) in
-    shown_none p polls x.load (ap (λ (y : Entry Kept). y.load.contest) is ∙ none))
+    shown_none p polls x.load (ap (λ (y : Entry Kept). y.load.conflict) is ∙ none))
     (λ t. clash (bytes_eq x.block.id e.block.id) (id_same x.block.id e.block.id same) (elsewhere last pending at k e x g there seen (unequal_number k at t))))
 
 -- each pending block is there
@@ -200,13 +200,13 @@ own_block (x ∷ pending) (suc k) d l =
 
 -- the same of any block of the board
 blank_at : (p : Parameters) (polls : ℕ) (root : Kept) (held : Held Kept) (id : List ℕ) (kept : Kept) → IsGrown held.last (reverse (blocks_in held.pending))
-    → kept_of root held id ≡ Some kept → kept.contest ≡ None
+    → kept_of root held id ≡ Some kept → kept.conflict ≡ None
     → (held.last ≡ id → shown p polls root ≡ Blank) × All (λ q. q.block.id ≡ id → q.counters ≡ Blank) (all_pending p polls held.pending)
 blank_at p polls root held id kept g h none = by (stands root held id kept h)
   where
     by : Stands root held id kept → (held.last ≡ id → shown p polls root ≡ Blank) × All (λ q. q.block.id ≡ id → q.counters ≡ Blank) (all_pending p polls held.pending)
     by (inl s) = (
-      λ _. shown_none p polls root (ap (λ (k : Kept). k.contest) s.1 ∙ none),
+      λ _. shown_none p polls root (ap (λ (k : Kept). k.conflict) s.1 ∙ none),
       All-map (λ q. q.block.id ≡ id → q.counters ≡ Blank) (pending_of p polls) held.pending
           (λ k d l same.
           let x = get_or held.pending k d in
@@ -217,7 +217,7 @@ blank_at p polls root held id kept g h none = by (stands root held id kept h)
         let e = s.1.1 in (
           λ same. clash (bytes_eq held.last id) (id_same held.last id same) s.0,
           subst (λ l. All (λ q. q.block.id ≡ l → q.counters ≡ Blank) (all_pending p polls held.pending)) s.1.3
-              (blank_there held.last p polls held.pending s.1.0 e g s.1.2 (ap (λ (k : Kept). k.contest) s.1.4 ∙ none)),
+              (blank_there held.last p polls held.pending s.1.0 e g s.1.2 (ap (λ (k : Kept). k.conflict) s.1.4 ∙ none)),
         )
 
 -- one step of the walk
@@ -294,7 +294,7 @@ preferred_pending answer p polls root held id g h =
 
 -- one without a tree is where it is the preference
 pub bare_preferred : (answer : Answer) (p : Parameters) (polls : ℕ) (root : Kept) (held : Held Kept) (id : List ℕ) (kept : Kept) → IsGrown held.last (reverse (blocks_in held.pending))
-    → bytes_eq held.last id ≡ false → kept_of root held id ≡ Some kept → kept.contest ≡ None
+    → bytes_eq held.last id ≡ false → kept_of root held id ≡ Some kept → kept.conflict ≡ None
     → is_preferred answer (view p polls root held) id ≡ bytes_eq (preferred answer (view p polls root held)) id
 bare_preferred answer p polls root held id kept g away h none =
     rw away (on_path answer held.last (shown p polls root) (all_pending p polls held.pending) id away (blank_at p polls root held id kept g h none).1)
@@ -317,7 +317,7 @@ parent_shown p polls (x ∷ pending) id h =
 
 -- a preference without a tree is the top
 pub bare_top : (answer : Answer) (p : Parameters) (polls : ℕ) (root : Kept) (held : Held Kept) (id : List ℕ) (kept : Kept) → IsGrown held.last (reverse (blocks_in held.pending))
-    → AreFit p polls root held → id ≡ preferred answer (view p polls root held) → kept_of root held id ≡ Some kept → kept.contest ≡ None → IsTop answer (view p polls root held)
+    → AreFit p polls root held → id ≡ preferred answer (view p polls root held) → kept_of root held id ≡ Some kept → kept.conflict ≡ None → IsTop answer (view p polls root held)
 bare_top answer p polls root held id kept g fit is h none =
     let blank = blank_at p polls root held id kept g h none in
     let children : children_of (blocks_in held.pending) id ≡ [] = sym (kept_fits p polls root held id kept fit h).ids ∙ ap ids_in none in
@@ -353,7 +353,7 @@ tree_none p polls root held id h =
 
 -- and one that is has a tree where it has a child
 pub tree_some : (p : Parameters) (polls : ℕ) (root : Kept) (held : Held Kept) (id : List ℕ) (kept : Kept) (o : Option Compressed) → AreFit p polls root held
-    → kept_of root held id ≡ Some kept → option_map contest_of o ≡ kept.contest → IfSome o HasFewNodes → is_some o ≡ is_parent p polls held id
+    → kept_of root held id ≡ Some kept → option_map conflict_of o ≡ kept.conflict → IfSome o HasFewNodes → is_some o ≡ is_parent p polls held id
 tree_some p polls root held id kept None fit h is few =
     let children : children_of (blocks_in held.pending) id ≡ [] = sym (kept_fits p polls root held id kept fit h).ids ∙ ap ids_in (sym is) in
     rw (childless_shown p polls held.pending id children) (sym (no_more (is_on held.last (blocks_of (all_pending p polls held.pending)) id)))
@@ -369,7 +369,7 @@ tree_some p polls root held id kept (Some t) fit h is few =
 
 -- whose counters are those of the board, or have failed there
 pub tree_kept : (p : Parameters) (polls : ℕ) (root : Kept) (held : Held Kept) (id : List ℕ) (kept : Kept) (o : Option Compressed)
-    → kept_of root held id ≡ Some kept → option_map contest_of o ≡ kept.contest → IfSome o (λ t. AreKept p (counters_on (view p polls root held) id) t.counters)
+    → kept_of root held id ≡ Some kept → option_map conflict_of o ≡ kept.conflict → IfSome o (λ t. AreKept p (counters_on (view p polls root held) id) t.counters)
 tree_kept p polls root held id kept None h is = tt
 tree_kept p polls root held id kept (Some t) h is =
     let shows = kept_shows p polls root held id kept h in

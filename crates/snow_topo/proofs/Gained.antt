@@ -22,7 +22,7 @@ use Rattle.snow_tree.proofs.Listed.{children_push, no_children}
 use Rattle.snow_board.proofs.Kept.{has_own}
 use Rattle.snow_tree.proofs.Descending.{last_off}
 use Rattle.snow_tree.proofs.Placed.{either_way}
-use Rattle.snow_topo.specs.Kept.Children.{Contest, Kept, bare, joined, gained, counters_in, ids_in, shown, IsFit}
+use Rattle.snow_topo.specs.Kept.Children.{Conflict, Kept, bare, joined, gained, counters_in, ids_in, shown, IsFit}
 use Rattle.snow_topo.specs.Kept.View.{pending_of, all_pending, view, AreFit}
 use Rattle.snow_topo.specs.Kept.Gaining.{gained_by, with_gain, all_gained}
 use Rattle.snow_climb.specs.Kept.Climbing.{above, reach}
@@ -138,17 +138,17 @@ blocks_gained p child (e ∷ pending) = ap (λ l. e.block ∷ l) (blocks_gained 
 -- ---- what is shown
 
 -- counters that are kept, with one child more
-counters_joined : (p : Parameters) (id : List ℕ) (o : Option Contest) → counters_in (Some (joined p id o)) ≡ with_child (bits id) (counters_in o)
+counters_joined : (p : Parameters) (id : List ℕ) (o : Option Conflict) → counters_in (Some (joined p id o)) ≡ with_child (bits id) (counters_in o)
 counters_joined p id None = refl
 counters_joined p id (Some c) = refl
 
 -- a child may be added before the counters fail, or after
 pub gained_shown : (p : Parameters) (polls : ℕ) (id : List ℕ) (kept : Kept) → AreGood p → shown p polls (gained p id kept) ≡ with_child (bits id) (shown p polls kept)
 gained_shown p polls id kept good =
-    ap (λ x. if kept.recorded == polls then x else failed p x) (counters_joined p id kept.contest)
+    ap (λ x. if kept.recorded == polls then x else failed p x) (counters_joined p id kept.conflict)
     ∙ split_on (kept.recorded == polls)
     (λ t. rw t refl)
-    (λ t. rw t (fails_or_adds p (bits id) (counters_in kept.contest) good))
+    (λ t. rw t (fails_or_adds p (bits id) (counters_in kept.conflict) good))
 
 -- the same of each block
 gained_by_shown : (p : Parameters) (polls : ℕ) (child : Header) (id : List ℕ) (kept : Kept) → AreGood p → shown p polls (gained_by p child id kept) ≡ with_issued child id (shown p polls kept)
@@ -206,16 +206,16 @@ fit_gained p polls bs child id kept fit =
     (split_on (bytes_eq id child.parent)
     (λ t. rw t (record {
       past = fit.past;
-      parameters = of_joined kept.contest fit.parameters;
-      ids = ids_joined kept.contest ∙ ap (λ l. l ++ child.id ∷ []) fit.ids;
+      parameters = of_joined kept.conflict fit.parameters;
+      ids = ids_joined kept.conflict ∙ ap (λ l. l ++ child.id ∷ []) fit.ids;
     }))
     (λ t. rw t (rw append-nil fit)))
   where
-    of_joined : (o : Option Contest) → IfSome o (λ c. c.parameters ≡ p) → (joined p child.id o).parameters ≡ p
+    of_joined : (o : Option Conflict) → IfSome o (λ c. c.parameters ≡ p) → (joined p child.id o).parameters ≡ p
     of_joined None h = refl
     of_joined (Some c) h = h
 
-    ids_joined : (o : Option Contest) → (joined p child.id o).ids ≡ ids_in o ++ child.id ∷ []
+    ids_joined : (o : Option Conflict) → (joined p child.id o).ids ≡ ids_in o ++ child.id ∷ []
     ids_joined None = refl
     ids_joined (Some c) = refl
 

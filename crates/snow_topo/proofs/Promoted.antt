@@ -13,7 +13,7 @@ use Rattle.snow_board.specs.Model.Conflict.{Pending}
 use Rattle.snow_board.specs.Model.Acceptance.{Accepts}
 use Rattle.snow_board.specs.Kept.Grown.{has_block, IsGrown}
 use Rattle.snow_board.specs.Model.Poll.{winner, rejects, promoted, decisions_for}
-use Rattle.snow_board.specs.declared.decision.Decision.{Decision}
+use Rattle.snow_board.specs.declared.board.Decision.{Decision}
 use Rattle.snow_board.proofs.Cases.{split_on, same_id}
 use Rattle.snow_board.proofs.Lookup.{won}
 use Rattle.snow_tree.specs.Kept.Held.{Entry, Held, blocks_in, children_of, entry_in, promoted as left_above}

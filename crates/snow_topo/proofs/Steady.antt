@@ -18,7 +18,7 @@ use Rattle.snow_topo.specs.Kept.Leading.{leads_in, all_leads}
 -- what is shown leads where what is kept leads
 pub chosen_shown : (answer : Answer) (p : Parameters) (polls : ℕ) (kept : Kept) → AreGood p → chosen answer (shown p polls kept) ≡ leads_in answer kept
 chosen_shown answer p polls kept good =
-    split_on (kept.recorded == polls) (λ t. rw t refl) (λ t. rw t (chosen_failed answer p (counters_in kept.contest) good))
+    split_on (kept.recorded == polls) (λ t. rw t refl) (λ t. rw t (chosen_failed answer p (counters_in kept.conflict) good))
 
 -- a load is written that leads where the one before led
 pub leads_set : (answer : Answer) (pending : List (Entry Kept)) (at : ℕ) (e : Entry Kept) (load : Kept) → slice_get pending at ≡ Some e → leads_in answer load ≡ leads_in answer e.load

@@ -22,7 +22,7 @@ use Rattle.snow_board.proofs.Kept.{has_own}
 use Rattle.snow_board.proofs.Standing.{any-reverse}
 use Rattle.snow_tree.specs.Kept.Held.{Entry, blocks_in, children_of}
 use Rattle.snow_tree.proofs.Left.{one_block}
-use Rattle.snow_topo.specs.Kept.Children.{Contest, Kept, counters_in, ids_in, shown, IsFit}
+use Rattle.snow_topo.specs.Kept.Children.{Conflict, Kept, counters_in, ids_in, shown, IsFit}
 use Rattle.snow_topo.specs.Kept.View.{pending_of, all_pending}
 use Rattle.snow_base.specs.Clauses.Gathered.{IsNamed}
 use Rattle.snow_topo.specs.Kept.Walking.{AreNamed}
@@ -197,8 +197,8 @@ child_parent last at pending j e g there has =
     ap (λ (x : Header). x.parent) (sym mine ∙ same ∙ found.3.2) ∙ found.2
 
 -- the walk goes to the child to which the answers lead
-pub walk_on : (answer : Answer) (p : Parameters) (polls : ℕ) (last at : List ℕ) (kept : Kept) (pending : List (Entry Kept)) (j : ℕ) (e : Entry Kept) (t : Contest) → AreGood p
-    → IsGrown last (reverse (blocks_in pending)) → AreNamed (blocks_in pending) → IsFit p polls (children_of (blocks_in pending) at) kept → kept.contest ≡ Some t
+pub walk_on : (answer : Answer) (p : Parameters) (polls : ℕ) (last at : List ℕ) (kept : Kept) (pending : List (Entry Kept)) (j : ℕ) (e : Entry Kept) (t : Conflict) → AreGood p
+    → IsGrown last (reverse (blocks_in pending)) → AreNamed (blocks_in pending) → IsFit p polls (children_of (blocks_in pending) at) kept → kept.conflict ≡ Some t
     → slice_get pending j ≡ Some e → Contains t.ids e.block.id → chosen answer t.counters ≡ bits e.block.id
     → path_from answer at (shown p polls kept) (all_pending p polls pending) ≡ e.block.id ∷ path_from answer e.block.id (shown p polls e.load) (all_pending p polls pending)
 walk_on answer p polls last at kept pending j e t good g named fit is there given leads =
@@ -208,10 +208,10 @@ walk_on answer p polls last at kept pending j e t good g named fit is there give
     (chosen_shown answer p polls kept good ∙ ap (λ o. chosen answer (counters_in o)) is ∙ leads)
 
 -- and ends where there is no tree
-pub walk_ends : (answer : Answer) (p : Parameters) (polls : ℕ) (at : List ℕ) (kept : Kept) (qs : List Pending) → kept.contest ≡ None → path_from answer at (shown p polls kept) qs ≡ []
+pub walk_ends : (answer : Answer) (p : Parameters) (polls : ℕ) (at : List ℕ) (kept : Kept) (qs : List Pending) → kept.conflict ≡ None → path_from answer at (shown p polls kept) qs ≡ []
 walk_ends answer p polls at kept qs none = ap (λ c. path_from answer at c qs) (shown_none p polls kept none) ∙ path_blank answer at qs
 
 -- the child to which the answers lead is there
-pub given_there : (p : Parameters) (polls : ℕ) (bs : List Header) (at : List ℕ) (kept : Kept) (t : Contest) (id : List ℕ) → IsFit p polls (children_of bs at) kept
-    → kept.contest ≡ Some t → Contains t.ids id → has_block bs id ≡ true
+pub given_there : (p : Parameters) (polls : ℕ) (bs : List Header) (at : List ℕ) (kept : Kept) (t : Conflict) (id : List ℕ) → IsFit p polls (children_of bs at) kept
+    → kept.conflict ≡ Some t → Contains t.ids id → has_block bs id ≡ true
 given_there p polls bs at kept t id fit is given = child_on bs at id (subst (λ l. Contains l id) (sym (ap ids_in is) ∙ fit.ids) given)

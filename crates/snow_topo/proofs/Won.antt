@@ -108,10 +108,10 @@ decided_failed p (At (Decided true) z o) good = ap (option_map (λ path. true �
 decided_failed p (At (Undecided s) z o) good = rw (fails p (Undecided s) good) refl
 
 -- so what is shown decides what is kept
-decides_shown : (p : Parameters) (polls : ℕ) (kept : Kept) (id : List ℕ) → AreGood p → decides (shown p polls kept) id ≡ decides (counters_in kept.contest) id
+decides_shown : (p : Parameters) (polls : ℕ) (kept : Kept) (id : List ℕ) → AreGood p → decides (shown p polls kept) id ≡ decides (counters_in kept.conflict) id
 decides_shown p polls kept id good =
     ap (λ o. option_map_or (λ path. pointwise beq path (bits id)) o false)
-    (split_on (kept.recorded == polls) (λ t. rw t refl) (λ t. rw t (decided_failed p (counters_in kept.contest) good)))
+    (split_on (kept.recorded == polls) (λ t. rw t refl) (λ t. rw t (decided_failed p (counters_in kept.conflict) good)))
 
 -- ---- the winner
 
@@ -129,7 +129,7 @@ none_found [] = refl
 none_found (id ∷ ids) = none_found ids
 
 -- none wins where decided counters lead nowhere
-pub none_wins : (p : Parameters) (polls : ℕ) (root : Kept) (held : Held Kept) → AreGood p → HasDecided (counters_in root.contest) None
+pub none_wins : (p : Parameters) (polls : ℕ) (root : Kept) (held : Held Kept) → AreGood p → HasDecided (counters_in root.conflict) None
     → option_map (λ q. q.block.id) (winner (view p polls root held)) ≡ None
 unfolding winner
 none_wins p polls root held good none =
@@ -139,7 +139,7 @@ none_wins p polls root held good none =
     ∙ none_found ids
 
 -- else the first child with the bits to which they lead
-pub child_wins : (p : Parameters) (polls : ℕ) (root : Kept) (held : Held Kept) (x : List ℕ) → AreGood p → HasDecided (counters_in root.contest) (Some x)
+pub child_wins : (p : Parameters) (polls : ℕ) (root : Kept) (held : Held Kept) (x : List ℕ) → AreGood p → HasDecided (counters_in root.conflict) (Some x)
     → option_map (λ q. q.block.id) (winner (view p polls root held)) ≡ find (λ id. pointwise beq (bits x) (bits id)) (children_of (blocks_in held.pending) held.last)
 unfolding winner
 child_wins p polls root held x good is =

@@ -45,7 +45,7 @@ fn record_root<R: Rule, L: Ledger>(
     requires fit { IsFit params.now polls (children_of (blocks_in (tree.now).pending) (tree.now).last) root.old }
     ensures taken { HasTaken params.now polls (votes_at (cursors_of (blocks_in (tree.now).pending) (ladder.now).came) (tree.now).last) root.old root.new }
     ensures steady { IsSteady R.answer result root.old root.new }
-    ensures steps { steps.new ≤ steps.old + 5 * (if nat_le params.now.alpha_preference (climber_total (ladder.now).came) then length (ids_in (root.old).contest) else 0) }
+    ensures steps { steps.new ≤ steps.old + 5 * (if nat_le params.now.alpha_preference (climber_total (ladder.now).came) then length (ids_in (root.old).conflict) else 0) }
     ensures places { children.old.room + length children.old.list ≤ children.new.room + length children.new.list }
 {
     let _k = params.k();

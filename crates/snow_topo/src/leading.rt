@@ -1,7 +1,7 @@
 ghost use Rattle.std.specs.Prelude.{◌≡◌, true, false, [], ◌∷◌, None, IfSome, bytes_eq};
 ghost use Rattle.std.specs.List.{list_any};
 ghost use Rattle.std.specs.Option.{option_copied};
-ghost use Rattle.snow_board.specs.declared.leading.Leading.{Leading};
+ghost use Rattle.snow_board.specs.declared.board.Leading.{Leading};
 ghost use Rattle.snow_board.specs.Kept.Ending.{IsTop, leading_after};
 ghost use Rattle.snow_board.specs.Kept.Grown.{is_on};
 ghost use Rattle.snow_board.specs.Model.Preference.{path_from, preferred_path, preferred, is_preferred};

@@ -19,26 +19,26 @@ use std::sync::ledger::Ledger;
 /// Rule: this project's own.
 #[derive(Debug, Drop)]
 pub struct Load<R: Rule> {
-    trie: Contest<R>,
+    trie: BoxedTrie<R>,
     recorded: u64,
 }
 
 /// The tree of a block's children, in a box of its own, so that the blocks, of which many have
 /// none, are small.
-pub(crate) type Contest<R> = Option<Box<Trie<R>>>;
+pub(crate) type BoxedTrie<R> = Option<Box<Trie<R>>>;
 
 impl<R: Rule> Model for Load<R> {
     ghost use Rattle.std.specs.Prelude.{IfSome};
     ghost use Rattle.std.specs.Option.{option_map};
     ghost use Rattle.snow_trie.specs.Kept.Whole.{HasFewNodes};
-    ghost use Rattle.snow_topo.specs.Kept.Children.{Kept, contest_of};
+    ghost use Rattle.snow_topo.specs.Kept.Children.{Kept, conflict_of};
     ghost use Rattle.snow_topo.specs.Kept.ChildrenCode.{coded_kept};
 
     ghost Value = { Kept };
 
     ghost coded = { coded_kept };
 
-    ghost view = { λ a. record { contest = option_map (λ t. contest_of t.value) a.trie; recorded = a.recorded } };
+    ghost view = { λ a. record { conflict = option_map (λ t. conflict_of t.value) a.trie; recorded = a.recorded } };
 
     ghost invariant = { λ a. IfSome a.trie (λ t. HasFewNodes t.value) };
 }
@@ -71,11 +71,11 @@ fn catch_up<R: Rule, L: Ledger>(
 }
 
 // The tree of one child, in the place of another where there is one.
-fn begin<R: Rule>(
+fn first_tree<R: Rule>(
     alloc: Global,
     params: &Params,
     id: &Id,
-    spare: Contest<R>,
+    spare: BoxedTrie<R>,
 ) -> Result<Box<Trie<R>>, AllocError>
     ensures { IfOk result (λ tree. tree.value ≡ begun params.now id.now) }
 {
@@ -106,7 +106,7 @@ impl<R: Rule> Load<R> {
     ghost use Rattle.std.specs.Prelude.{ℕ, ◌^◌, ◌*◌, ◌-◌, ◌<◌, List, length, IfSome, OnOk, OnErr};
     ghost use Rattle.std.specs.Option.{option_map, option_copied};
     ghost use Rattle.snow_flake.specs.Model.Parameters.{Parameters};
-    ghost use Rattle.snow_topo.specs.Kept.Children.{bare, gained, contest_of, counters_in, ids_in, shown, IsFit};
+    ghost use Rattle.snow_topo.specs.Kept.Children.{bare, gained, conflict_of, counters_in, ids_in, shown, IsFit};
     ghost use Rattle.snow_topo.specs.Kept.Leading.{leads_in};
     ghost use Rattle.snow_topo.specs.Kept.Renewed.{renewed};
 
@@ -122,7 +122,7 @@ impl<R: Rule> Load<R> {
 
     /// Returns the tree of the children, or `None` where there is none.
     pub(crate) fn trie(&self) -> Option<&Trie<R>>
-        ensures contest { option_map contest_of (option_copied result) ≡ (self.now).contest }
+        ensures conflict { option_map conflict_of (option_copied result) ≡ (self.now).conflict }
         ensures few { IfSome (option_copied result) HasFewNodes }
     {
         match &self.trie {
@@ -146,7 +146,7 @@ impl<R: Rule> Load<R> {
         match &mut self.trie {
             Some(trie) => trie.add(*id),
             None => {
-                let trie = begin(alloc, params, id, spare.take())?;
+                let trie = first_tree(alloc, params, id, spare.take())?;
                 self.trie = Some(trie);
                 Ok(())
             }
@@ -154,13 +154,13 @@ impl<R: Rule> Load<R> {
     }
 
     /// Takes the tree out, as the block needs it no more.
-    pub(crate) fn take_tree(&mut self) -> Contest<R> {
+    pub(crate) fn take_tree(&mut self) -> BoxedTrie<R> {
         self.trie.take()
     }
 
     /// Returns whether decided counters alone lead anywhere.
     pub(crate) fn is_decided(&self) -> bool
-        ensures { result ≡ false → HasDecided (counters_in (self.now).contest) None }
+        ensures { result ≡ false → HasDecided (counters_in (self.now).conflict) None }
     {
         match &self.trie {
             Some(trie) => trie.is_final(),
@@ -170,7 +170,7 @@ impl<R: Rule> Load<R> {
 
     /// Returns the child to which decided counters alone lead, or `None`.
     pub(crate) fn decided(&self) -> Option<Id>
-        ensures { HasDecided (counters_in (self.now).contest) result }
+        ensures { HasDecided (counters_in (self.now).conflict) result }
     {
         match &self.trie {
             Some(trie) => decided_in(trie),
@@ -188,11 +188,11 @@ impl<R: Rule> Load<R> {
     ) -> bool
         requires room { polls + 1 < 2 ^ 64 }
         requires order { IsInBitOrder votes.now }
-        requires most { IfSome (self.old).contest (λ c. total_count votes.now ≤ c.parameters.k) }
-        requires given { All (λ v. Contains (ids_in (self.old).contest) v.id) votes.now }
+        requires most { IfSome (self.old).conflict (λ c. total_count votes.now ≤ c.parameters.k) }
+        requires given { All (λ v. Contains (ids_in (self.old).conflict) v.id) votes.now }
         ensures counters { (p : Parameters) (children : List (List ℕ)) → IsFit p polls children self.old → shown p (polls + 1) self.new ≡ all_polled p (votes_on votes.now) (shown p polls self.old) }
         ensures fit { (p : Parameters) (children : List (List ℕ)) → IsFit p polls children self.old → IsFit p (polls + 1) children self.new }
-        ensures steps { steps.new ≤ steps.old + 5 * length (ids_in (self.old).contest) }
+        ensures steps { steps.new ≤ steps.old + 5 * length (ids_in (self.old).conflict) }
         ensures steady { result ≡ false → leads_in R.answer self.new ≡ leads_in R.answer self.old }
     {
         let is_behind = self.recorded != polls;

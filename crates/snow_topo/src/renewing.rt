@@ -29,7 +29,11 @@ fn renew_all<R: Rule>(tree: &mut Tree<Load<R>>, polls: u64)
 
 /// Returns the number of polls, so that one more can be recorded. Where 64 bits hold no more, it
 /// numbers all polls anew, and the board stays as it was. It takes no memory.
-pub(crate) fn renew<R: Rule>(polls: u64, root: &mut Load<R>, tree: &mut Tree<Load<R>>) -> u64
+pub(crate) fn renew_if_full<R: Rule>(
+    polls: u64,
+    root: &mut Load<R>,
+    tree: &mut Tree<Load<R>>,
+) -> u64
     ensures room { result + 1 < 2 ^ 64 }
     ensures board { (p : Parameters) → AreFit p polls root.old tree.old → view p result root.new tree.new ≡ view p polls root.old tree.old }
     ensures fit { (p : Parameters) → AreFit p polls root.old tree.old → AreFit p result root.new tree.new }

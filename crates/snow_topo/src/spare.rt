@@ -1,4 +1,4 @@
-use crate::load::Contest;
+use crate::load::BoxedTrie;
 use snow_flake::Rule;
 use snow_trie::Trie;
 use std::alloc::{AllocError, Global};
@@ -27,13 +27,13 @@ impl<R: Rule> SpareTrees<R> {
     }
 
     /// Takes a kept tree out and returns it, or `None` where none is kept.
-    pub(crate) fn take(&mut self) -> Contest<R> {
+    pub(crate) fn take(&mut self) -> BoxedTrie<R> {
         self.trees.pop()
     }
 
     /// Keeps a tree of one child, if there is one and room for it. It drops a tree of several
     /// children, with the room of its lists.
-    pub(crate) fn keep(&mut self, tree: Contest<R>) {
+    pub(crate) fn keep(&mut self, tree: BoxedTrie<R>) {
         if let Some(tree) = tree {
             if tree.choices() == 1 && self.trees.len() < self.trees.capacity() {
                 self.trees.push_reserved(tree);

@@ -15,7 +15,7 @@ use crate::ballot::{Ballot, start};
 use crate::issuing::issue;
 use crate::leading::{follow_child, follow_poll, is_preferred, is_top, kept_of, place_on};
 use crate::load::Load;
-use crate::renewing::renew;
+use crate::renewing::renew_if_full;
 use crate::spare::SpareTrees;
 use snow_base::{Bag, Header, Id, Steps};
 use snow_board::{Board, Decision};
@@ -77,7 +77,7 @@ fn record_alone<R: Rule, L: Ledger>(board: &mut Topo<R>, ballot: Ballot, blank: 
     ensures decided { (board.new).decided ≡ (poll (board.old).board (votes_of ballot.entry)).1 }
 {
     let mut steps = Steps::<L>::new(blank);
-    board.record(ballot, &mut steps);
+    board.record_ballot(ballot, &mut steps);
 }
 
 impl<R: Rule> Topo<R> {
@@ -91,7 +91,7 @@ impl<R: Rule> Topo<R> {
         ensures decided { (self.new).decided ≡ (poll (self.old).board votes.now.list).1 }
         ensures steps { steps.new ≤ steps.old + most_steps (self.old).board votes.now.list }
     {
-        self.record(Ballot::Counted(votes), steps);
+        self.record_ballot(Ballot::Counted(votes), steps);
     }
 
     /// Does what `apply_votes` does with at most K identifiers, and counts its steps, which
@@ -103,19 +103,19 @@ impl<R: Rule> Topo<R> {
         ensures decided { (self.new).decided ≡ (poll (self.old).board (one_each ids.now)).1 }
         ensures steps { steps.new ≤ steps.old + most_steps (self.old).board (one_each ids.now) }
     {
-        self.record(Ballot::Each(ids), steps);
+        self.record_ballot(Ballot::Each(ids), steps);
     }
 
     // Records a poll: every counter makes the bit step with its own votes, then the board accepts and
     // rejects blocks, and the preference follows.
-    fn record<L: Ledger>(&mut self, ballot: Ballot, steps: &mut Steps<L>)
+    fn record_ballot<L: Ledger>(&mut self, ballot: Ballot, steps: &mut Steps<L>)
         requires { total_count (votes_of ballot) ≤ (self.old).board.parameters.k }
         ensures board { (self.new).board ≡ (poll (self.old).board (votes_of ballot.entry)).0 }
         ensures decided { (self.new).decided ≡ (poll (self.old).board (votes_of ballot.entry)).1 }
         ensures steps { steps.new ≤ steps.old + most_steps (self.old).board (votes_of ballot.entry) }
     {
         start(&self.params, &self.tree, &mut self.ladder, ballot);
-        let before = renew(self.polls, &mut self.root, &mut self.tree);
+        let before = renew_if_full(self.polls, &mut self.root, &mut self.tree);
         let moved = apply(
             &self.params,
             before,

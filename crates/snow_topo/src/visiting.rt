@@ -29,10 +29,10 @@ fn record_at<R: Rule, L: Ledger>(
 ) -> bool
     requires room { polls + 1 < 2 ^ 64 }
     requires order { IsInBitOrder votes.now }
-    requires most { IfSome (slice_get (tree.old).pending at) (λ e. IfSome e.load.contest (λ c. total_count votes.now ≤ c.parameters.k)) }
-    requires given { IfSome (slice_get (tree.old).pending at) (λ e. All (λ v. Contains (ids_in e.load.contest) v.id) votes.now) }
+    requires most { IfSome (slice_get (tree.old).pending at) (λ e. IfSome e.load.conflict (λ c. total_count votes.now ≤ c.parameters.k)) }
+    requires given { IfSome (slice_get (tree.old).pending at) (λ e. All (λ v. Contains (ids_in e.load.conflict) v.id) votes.now) }
     ensures taken { IfSome (slice_get (tree.old).pending at) (λ e. (load : Kept) × (tree.new ≡ with_load tree.old at load) × IsRecorded polls votes.now e.load load × IsSteady R.answer result e.load load) }
-    ensures steps { IfSome (slice_get (tree.old).pending at) (λ e. steps.new ≤ steps.old + 5 * length (ids_in e.load.contest)) }
+    ensures steps { IfSome (slice_get (tree.old).pending at) (λ e. steps.new ≤ steps.old + 5 * length (ids_in e.load.conflict)) }
 {
     match tree.load_mut(at) {
         Some(load) => load.record(polls, votes, steps),
@@ -70,7 +70,7 @@ fn record_came<R: Rule, L: Ledger>(
     requires came { IfSome (slice_get (tree.old).pending at) (λ e. All (HasCome (blocks_in (tree.old).pending) e.block.id) (cursors_of (blocks_in (tree.old).pending) (ladder.now).came)) }
     requires fit { IfSome (slice_get (tree.old).pending at) (λ e. IsFit params.now polls (children_of (blocks_in (tree.old).pending) e.block.id) e.load) }
     ensures taken { IfSome (slice_get (tree.old).pending at) (λ e. (load : Kept) × (tree.new ≡ with_load tree.old at load) × HasTaken params.now polls (votes_at (cursors_of (blocks_in (tree.old).pending) (ladder.now).came) e.block.id) e.load load × IsSteady R.answer result e.load load) }
-    ensures steps { IfSome (slice_get (tree.old).pending at) (λ e. steps.new ≤ steps.old + 5 * (if nat_le params.now.alpha_preference (climber_total (ladder.now).came) then length (ids_in e.load.contest) else 0)) }
+    ensures steps { IfSome (slice_get (tree.old).pending at) (λ e. steps.new ≤ steps.old + 5 * (if nat_le params.now.alpha_preference (climber_total (ladder.now).came) then length (ids_in e.load.conflict) else 0)) }
     ensures places { children.old.room + length children.old.list ≤ children.new.room + length children.new.list }
 {
     let _k = params.k();
@@ -103,7 +103,7 @@ pub(crate) fn visit<R: Rule, L: Ledger>(
     requires placed { ArePlaced (blocks_in (tree.old).pending) (ladder.old).climbers }
     requires fit { IfSome (slice_get (tree.old).pending at) (λ e. IsFit params.now polls (children_of (blocks_in (tree.old).pending) e.block.id) e.load) }
     ensures taken { IfSome (slice_get (tree.old).pending at) (λ e. (load : Kept) × (tree.new ≡ with_load tree.old at load) × HasTaken params.now polls (votes_at (cursors_of (blocks_in (tree.old).pending) (ladder.old).climbers) e.block.id) e.load load × IsSteady R.answer result e.load load) }
-    ensures steps { IfSome (slice_get (tree.old).pending at) (λ e. steps.new ≤ steps.old + 5 * (if nat_le params.now.alpha_preference (votes_at (cursors_of (blocks_in (tree.old).pending) (ladder.old).climbers) e.block.id []) then length (ids_in e.load.contest) else 0)) }
+    ensures steps { IfSome (slice_get (tree.old).pending at) (λ e. steps.new ≤ steps.old + 5 * (if nat_le params.now.alpha_preference (votes_at (cursors_of (blocks_in (tree.old).pending) (ladder.old).climbers) e.block.id []) then length (ids_in e.load.conflict) else 0)) }
     ensures merged { IfSome (slice_get (tree.old).pending at) (λ e. IsPermutation (merged e.block (cursors_of (blocks_in (tree.old).pending) (ladder.old).climbers)) (cursors_of (blocks_in (tree.old).pending) (ladder.new).climbers)) }
     ensures placed { ArePlaced (blocks_in (tree.old).pending) (ladder.new).climbers }
     ensures places { children.old.room + length children.old.list ≤ children.new.room + length children.new.list }

@@ -3,11 +3,11 @@
 
 mod children;
 mod hints;
+mod id_index;
 mod leaving;
 mod linking;
 mod looking;
 mod node;
-mod numbers;
 mod placing;
 mod row;
 mod sweeping;

@@ -80,7 +80,7 @@ pub(crate) fn unlink<T>(first: &mut Children, nodes: &mut Row<T>, last: &Id, par
 
 /// Makes room for one more block, and puts the block among the children of its parent, which stands
 /// at this place. On want of memory all stays as it was.
-pub(crate) fn make_room<T>(
+pub(crate) fn make_room_and_link<T>(
     first: &mut Children,
     nodes: &mut Row<T>,
     rejected: &mut Vec<Id>,

@@ -6,8 +6,8 @@ ghost use Rattle.std.specs.Map.{keys_of};
 ghost use Rattle.snow_tree.specs.declared.node.Node.{Node};
 ghost use Rattle.snow_tree.specs.Kept.Row.{AreInOrder, IsNumbered, IsToldPlace, edges_of};
 
+use crate::id_index::IdIndex;
 use crate::node::Entries;
-use crate::numbers::Numbers;
 use snow_base::Id;
 
 /// Returns the number of the node at a place.
@@ -50,9 +50,9 @@ pub(crate) fn place_of_number<T>(entries: &Entries<T>, len: usize, number: usize
     requires most { len ≤ length entries.now.items }
     ensures { result ≡ position (λ e. nat_eq e.number number) (edges_of (take len entries.now.items)) }
 {
-    let guess = number.wrapping_sub(number_of(entries, 0));
-    if guess < len && number_of(entries, guess) == number {
-        return Some(guess);
+    let expected = number.wrapping_sub(number_of(entries, 0));
+    if expected < len && number_of(entries, expected) == number {
+        return Some(expected);
     }
     let place = count_lower(entries, len, number);
     if place < len && number_of(entries, place) == number {
@@ -62,7 +62,7 @@ pub(crate) fn place_of_number<T>(entries: &Entries<T>, len: usize, number: usize
 }
 
 /// Returns the place of an identifier, where its slot tells its number. It doesn't ask the map.
-pub(crate) fn place_told<T>(entries: &Entries<T>, numbers: &Numbers, id: &Id) -> Option<usize>
+pub(crate) fn place_told<T>(entries: &Entries<T>, numbers: &IdIndex, id: &Id) -> Option<usize>
     requires { (next : ℕ) × IsNumbered (edges_of entries.now.items) (get bytes_eq numbers.now.map) numbers.now.hints next }
     ensures { IsToldPlace (edges_of entries.now.items) numbers.now.hints id.now result }
 {
@@ -75,7 +75,7 @@ pub(crate) fn place_told<T>(entries: &Entries<T>, numbers: &Numbers, id: &Id) ->
 }
 
 /// Returns the place of an identifier.
-pub(crate) fn place_of_id<T>(entries: &Entries<T>, numbers: &Numbers, id: &Id) -> Option<usize>
+pub(crate) fn place_of_id<T>(entries: &Entries<T>, numbers: &IdIndex, id: &Id) -> Option<usize>
     requires { (next : ℕ) × IsNumbered (edges_of entries.now.items) (get bytes_eq numbers.now.map) numbers.now.hints next }
     ensures { result ≡ position (λ e. bytes_eq e.id id.now) (edges_of entries.now.items) }
 {

@@ -6,8 +6,8 @@ ghost use Rattle.snow_tree.specs.declared.node.Node.{Node};
 ghost use Rattle.snow_tree.specs.Kept.Row.{AreInOrder, IsOwn, edges_of, number_at, staying, leaving};
 
 use crate::children::Children;
+use crate::id_index::IdIndex;
 use crate::node::{Entries, Node};
-use crate::numbers::Numbers;
 use crate::placing::{number_of, place_of_id, place_of_number};
 use crate::sweeping::sweep;
 use snow_base::Id;
@@ -20,7 +20,7 @@ use std::marker::Model;
 #[derive(Debug, Drop)]
 pub(crate) struct Row<T> {
     entries: Entries<T>,
-    numbers: Numbers,
+    numbers: IdIndex,
     next: usize,
 }
 
@@ -52,7 +52,7 @@ impl<T> Row<T> {
     {
         Row {
             entries: VecDeque::new(alloc),
-            numbers: Numbers::new(alloc),
+            numbers: IdIndex::new(alloc),
             next: 1,
         }
     }

@@ -5,8 +5,8 @@ ghost use Rattle.snow_tree.specs.declared.node.Node.{Node};
 ghost use Rattle.snow_tree.specs.Kept.Hints.{hint_of};
 ghost use Rattle.snow_tree.specs.Kept.Row.{AreInOrder, IsNumbered, edges_of, untold, is_above, staying, leaving};
 
+use crate::id_index::IdIndex;
 use crate::node::{Entries, Node};
-use crate::numbers::Numbers;
 use crate::placing::place_of_number;
 use snow_base::Id;
 
@@ -26,7 +26,7 @@ fn is_above<T>(entries: &Entries<T>, kept: usize, number: usize, place: usize) -
 }
 
 // A node leaves.
-fn tell<T>(entry: &(Id, Node<T>), numbers: &mut Numbers, rejected: &mut Vec<Id>)
+fn tell<T>(entry: &(Id, Node<T>), numbers: &mut IdIndex, rejected: &mut Vec<Id>)
     requires number { get bytes_eq numbers.old.map (entry.now).0 ≡ untold (hint_of numbers.old.hints (entry.now).0) (Some (entry.now).1.number) }
     requires room { vec_len rejected.old < vec_capacity rejected.old }
     ensures map { (q : List ℕ) → get bytes_eq numbers.new.map q ≡ cond (bytes_eq (entry.now).0 q) None (get bytes_eq numbers.old.map q) }
@@ -42,7 +42,7 @@ fn tell<T>(entry: &(Id, Node<T>), numbers: &mut Numbers, rejected: &mut Vec<Id>)
 /// those to `rejected` in order of issue.
 pub(crate) fn sweep<T: Drop>(
     entries: &mut Entries<T>,
-    numbers: &mut Numbers,
+    numbers: &mut IdIndex,
     number: usize,
     rejected: &mut Vec<Id>,
 )

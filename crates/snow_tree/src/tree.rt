@@ -5,7 +5,7 @@ ghost use Rattle.snow_tree.specs.Kept.Held.{blocks_in, begun, inserted, taken_ba
 
 use crate::children::Children;
 use crate::leaving::take_accepted;
-use crate::linking::{make_room, unlink};
+use crate::linking::{make_room_and_link, unlink};
 use crate::looking::{ancestor, block_at, place_of};
 use crate::node::Node;
 use crate::row::Row;
@@ -99,7 +99,7 @@ impl<T: Drop> Tree<T> {
         ensures load { IfErr result (λ full. full.load ≡ load) }
     {
         let block = Header { id, parent, height };
-        let room = make_room(
+        let room = make_room_and_link(
             &mut self.children,
             &mut self.nodes,
             &mut self.rejected,

@@ -5,7 +5,7 @@ use Rattle.std.proofs.lemmas.Bool.{eqb-true}
 use Rattle.std.proofs.lemmas.List.{nil_from_length}
 use Rattle.snow_wire.specs.declared.event.Event.{Event}
 use Rattle.snow_wire.specs.declared.event.Event.TheVariants as event
-use Rattle.snow_wire.specs.declared.fault.Fault.TheVariants.{Extra}
+use Rattle.snow_wire.specs.declared.skip.Fault.TheVariants.{Extra}
 use Rattle.snow_wire.specs.declared.skip.Skip.{Skip}
 use Rattle.snow_wire.specs.Model.Spelling.{number, spelling, start, sized, counted, weighed, IsId, IsWeighed, IsBlock, IsInRange}
 use Rattle.snow_wire.specs.Model.Reading.{Gives, IsBytes, Read, number_at, id_at, block_at, sized_at, counted_at, weighed_at, single_at, sender_at, message_at, unknown_at, tags, fields_at, event_of}

@@ -3,7 +3,7 @@ use Rattle.std.proofs.Common.{◌≡◌, ℕ, false, List, [], ◌∷◌, ◌++�
 use Rattle.snow_wire.specs.declared.event.Event.{Event}
 use Rattle.snow_wire.specs.declared.event.Event.TheVariants as event
 use Rattle.snow_wire.specs.Model.Spelling.{number, spelling}
-use Rattle.snow_wire.specs.declared.fault.Fault.TheVariants.{Tag, Short, Extra, Count}
+use Rattle.snow_wire.specs.declared.skip.Fault.TheVariants.{Tag, Short, Extra, Count}
 use Rattle.snow_wire.specs.Model.Reading.{bytes_at, number_at, limited_at, flag_at, sized_at, items_at, counted_at, start_at, single_at, message_at, fields_at, event_of}
 use Rattle.snow_wire.specs.Model.Frame.{first_of, frames_in, frames_of}
 

@@ -7,8 +7,8 @@ use Rattle.std.proofs.lemmas.List.Concat.{flat_map-cons}
 use Rattle.std.proofs.lemmas.List.Elements.{All-from_recursion, recursion_from_All}
 use Rattle.byteorder.specs.Endian.{big_number}
 use Rattle.byteorder.specs.Numbers.{big_number-reads_back, big_from-lt, length-bytes_high_first}
-use Rattle.snow_wire.specs.declared.fault.Fault.{Fault}
-use Rattle.snow_wire.specs.declared.fault.Fault.TheVariants.{Short, Count}
+use Rattle.snow_wire.specs.declared.skip.Fault.{Fault}
+use Rattle.snow_wire.specs.declared.skip.Fault.TheVariants.{Short, Count}
 use Rattle.snow_wire.specs.Model.Spelling.{number, sized, counted, weighed, flag, IsWeighed}
 use Rattle.snow_wire.specs.Model.Reading.{IsBytes, Read, ◌>>=◌, bytes_at, number_at, limited_at, flag_at, sized_at, items_at, counted_at, weighed_at}
 use Rattle.snow_wire.proofs.Numbers.{IsBytes-behind, IsWidth, width1, width2, width4, width8, front_spells}

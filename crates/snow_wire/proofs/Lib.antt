@@ -9,3 +9,4 @@ pub mod Starting
 pub mod Streams
 pub mod Tagged
 pub mod Together
+pub mod Long

@@ -1,7 +1,7 @@
 -- Items one after another: passing over them, as a loop does, and taking the first one off.
 use Rattle.std.proofs.Common.{◌≡◌, ℕ, suc, ◌-◌, ◌+◌, ◌≤◌, ◌<◌, true, false, List, [], ◌∷◌, Result, Ok, Err, refl, sym, ap, subst, ◌∙◌, arith}
 use Rattle.std.specs.Result.{IsOk}
-use Rattle.snow_wire.specs.declared.fault.Fault.{Fault}
+use Rattle.snow_wire.specs.declared.skip.Fault.{Fault}
 use Rattle.snow_wire.specs.Model.Reading.{Read, ◌>>=◌, items_at, items_in}
 use Rattle.snow_wire.proofs.Fields.{ok_is}
 

@@ -6,8 +6,8 @@ use Rattle.std.proofs.lemmas.Bool.Decides.{nat_tests}
 use Rattle.std.proofs.lemmas.List.{map_more, take-append-le, drop-append-le, take-append-drop, take-take, drop-take, drop-drop, length-append, length-drop}
 use Rattle.byteorder.specs.Endian.{big_number}
 use Rattle.byteorder.specs.Numbers.{big_from-take}
-use Rattle.snow_wire.specs.declared.fault.Fault.{Fault}
-use Rattle.snow_wire.specs.declared.fault.Fault.TheVariants.{Short}
+use Rattle.snow_wire.specs.declared.skip.Fault.{Fault}
+use Rattle.snow_wire.specs.declared.skip.Fault.TheVariants.{Short}
 use Rattle.snow_wire.specs.Model.Reading.{Read, ReadsAs, ◌>>=◌, bytes_at, number_at, weighed_at, limited_at, items_at, counted_at}
 use Rattle.snow_wire.specs.Clauses.Viewed.{weighed_in}
 use Rattle.snow_wire.proofs.Fields.{unless}

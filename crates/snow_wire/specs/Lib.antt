@@ -1,2 +1,3 @@
 pub mod Model
+pub mod Laws
 pub mod Clauses

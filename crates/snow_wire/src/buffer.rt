@@ -60,7 +60,7 @@ impl Buffer {
 
     /// Takes so many bytes off the front.
     #[tactic(auto, using(crate::proofs::Behind::moved))]
-    pub(crate) fn let_go(&mut self, n: usize)
+    pub(crate) fn discard_front(&mut self, n: usize)
         requires { n ≤ length self.old.bytes }
         ensures { self.new.bytes ≡ drop n self.old.bytes }
     {

@@ -1,18 +1,17 @@
-ghost use Rattle.std.specs.Prelude.{◌≡◌, ◌-◌, ◌^◌, ◌<◌, ◌≤◌, length, Ok, Err, OnOk, OnErr, IfOk, IfNone};
+ghost use Rattle.std.specs.Prelude.{◌≡◌, ◌+◌, ◌-◌, ◌^◌, ◌<◌, ◌≤◌, length, Ok, Err, OnOk, OnErr, IfOk, IfNone};
 ghost use Rattle.std.specs.Borrow.{sem};
 ghost use Rattle.std.specs.Io.BufRead.{Rests};
 ghost use Rattle.std.specs.Io.KnownBytes.{IsAtEnd, Keeps};
+ghost use Rattle.snow_base.specs.declared.limits.TheConstants.{FRAME_BYTES};
 ghost use Rattle.snow_base.specs.Clauses.Outside.{Rose};
 ghost use Rattle.snow_wire.specs.declared.decoder.ReadFault.TheVariants as fault;
 
 use crate::buffer::Buffer;
 use crate::frame::{Frame, TooLong, first_frame, too_long};
 use snow_base::Source;
+use snow_base::limits::PIECE_BYTES;
 use std::alloc::{AllocError, Global};
 use std::marker::Model;
-
-/// The most bytes that one read takes.
-const PIECE: usize = 65_536;
 
 /// The bytes that are left move to the front once this many times as many bytes were worked.
 const TIMES: usize = 8;
@@ -73,7 +72,7 @@ impl Decoder {
         ensures ok { OnOk result (self.new ≡ fed self.old piece.now) }
         ensures err { OnErr result (self.new ≡ self.old) }
     {
-        self.let_go(piece.len());
+        self.discard_given(piece.len());
         self.bytes.make_room(piece.len())?;
         self.bytes.append(piece);
         Ok(())
@@ -96,12 +95,12 @@ impl Decoder {
         ensures later { S.faults source.old ≤ S.faults source.new }
         ensures cause { result ≡ Err fault.Source → Rose (S.faults source.old) (S.faults source.new) }
     {
-        let most = if most < PIECE as u64 {
+        let most = if most < PIECE_BYTES as u64 {
             most as usize
         } else {
-            PIECE
+            PIECE_BYTES
         };
-        self.let_go(most);
+        self.discard_given(most);
         if self.bytes.make_room(most).is_err() {
             return Err(ReadFault::Memory);
         }
@@ -111,14 +110,14 @@ impl Decoder {
         }
     }
 
-    // Lets go of the bytes of the frames that were given, before so many more come: where they are
+    // Discards the bytes of the frames that were given, before so many more come: where they are
     // most of those that are held; and, where room is wanted, also where they are half of them.
-    fn let_go(&mut self, more: usize)
+    fn discard_given(&mut self, more: usize)
         ensures { self.new ≡ self.old }
     {
         let rest = self.bytes.len() - self.start;
         if rest <= self.start / TIMES || (self.bytes.room() < more && rest <= self.start) {
-            self.bytes.let_go(self.start);
+            self.bytes.discard_front(self.start);
             self.start = 0;
         }
     }
@@ -135,7 +134,7 @@ impl Decoder {
         // The first frame is taken off the rest; without one all stays as it was.
         ensures* rests { sem 𝓛 (Rests the_row self.entry (λ new. new ≡ taken self.old)) }
         // What is kept for later is less than a frame.
-        ensures held { IfOk result (λ frame. IfNone frame (length self.old.rest ≤ 2097155)) }
+        ensures held { IfOk result (λ frame. IfNone frame (length self.old.rest ≤ FRAME_BYTES + 3)) }
     {
         let rest = &self.bytes.as_slice()[self.start..];
         if let Some(length) = too_long(rest) {

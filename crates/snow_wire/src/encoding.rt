@@ -15,13 +15,13 @@ pub fn encode(alloc: Global, event: &Event) -> Result<Bytes, AllocError>
     ensures { IfOk result (λ bytes. bytes ≡ spelling event.now) }
 {
     let mut out = Bytes::new(alloc);
-    write(&mut out, event)?;
+    write_event(&mut out, event)?;
     Ok(out)
 }
 
 /// Appends the event's spelling.
 #[tactic(auto, unfolding(crate::specs::Model::Spelling::spelling))]
-fn write(out: &mut Bytes, event: &Event) -> Result<(), AllocError>
+fn write_event(out: &mut Bytes, event: &Event) -> Result<(), AllocError>
     requires { IsWithinLimits event.now }
     ensures { OnOk result (out.new ≡ out.old ++ spelling event.now) }
 {
@@ -32,8 +32,8 @@ fn write(out: &mut Bytes, event: &Event) -> Result<(), AllocError>
             request,
             bytes,
         } => with_bytes(out, 2, node, *request, bytes),
-        Event::Poll { ids } => list(out, 3, ids),
-        Event::Words { words } => list(out, 4, words),
+        Event::Poll { ids } => write_list(out, 3, ids),
+        Event::Words { words } => write_list(out, 4, words),
         Event::Chits { node, request, id } => with_id(out, 5, node, *request, id),
         Event::Timeout { node, request } => sent(out, 6, node, *request),
         Event::Frontier { node, request, id } => with_id(out, 7, node, *request, id),
@@ -44,7 +44,7 @@ fn write(out: &mut Bytes, event: &Event) -> Result<(), AllocError>
             blocks,
         } => with_list(out, 9, node, *request, blocks),
         Event::Stored { bytes } => text(out, 10, bytes),
-        Event::Validators { nodes } => list(out, 11, nodes),
+        Event::Validators { nodes } => write_list(out, 11, nodes),
         Event::AskQuery { node, request } => sent(out, 12, node, *request),
         Event::AskFrontier { node, request } => sent(out, 13, node, *request),
         Event::AskAccepted { node, request, ids } => with_list(out, 14, node, *request, ids),
@@ -55,7 +55,7 @@ fn write(out: &mut Bytes, event: &Event) -> Result<(), AllocError>
 }
 
 /// Appends a tag and a counted list.
-fn list<T: Field>(out: &mut Bytes, tag: u8, items: &Items<T>) -> Result<(), AllocError>
+fn write_list<T: Field>(out: &mut Bytes, tag: u8, items: &Items<T>) -> Result<(), AllocError>
     requires count { length items.now < 2 ^ 16 }
     requires fits { All (λ x. T.fits x) items.now }
     ensures { OnOk result (out.new ≡ out.old ++ tag ∷ counted T.spelled items.now) }

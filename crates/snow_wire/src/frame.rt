@@ -3,9 +3,7 @@ ghost use Rattle.std.specs.Option.{option_map};
 ghost use Rattle.snow_wire.specs.Model.Frame.{first_of, is_too_long, length_word};
 
 use byteorder::{BigEndian, ByteOrder};
-
-/// The greatest length of a frame's payload.
-const MAX_LENGTH: u32 = 2_097_152;
+use snow_base::limits::FRAME_BYTES;
 
 /// A frame of a stream: its place, counted from 1, and its payload of at most 2,097,152 bytes.
 /// Rule: this project's own.
@@ -41,7 +39,7 @@ pub fn first_frame(bytes: &[u8]) -> Option<(&[u8], &[u8])>
     }
     let length = BigEndian::read_u32(bytes);
     let behind = &bytes[4..];
-    if length > MAX_LENGTH || behind.len() < length as usize {
+    if length > FRAME_BYTES || behind.len() < length as usize {
         return None;
     }
     Some(behind.split_at(length as usize))
@@ -55,7 +53,7 @@ pub(crate) fn too_long(bytes: &[u8]) -> Option<u32>
         return None;
     }
     let length = BigEndian::read_u32(bytes);
-    if length <= MAX_LENGTH {
+    if length <= FRAME_BYTES {
         return None;
     }
     Some(length)

@@ -3,6 +3,7 @@ ghost use Rattle.snow_wire.specs.declared.event.Event.{Event};
 ghost use Rattle.snow_wire.specs.Model.Spelling.{IsInRange, spelling};
 ghost use Rattle.snow_wire.specs.Model.Reading.{IsBytes, event_of};
 ghost use Rattle.snow_wire.specs.Model.Frame.{AreFrames, IsPayload, frame, frames_of};
+ghost use Rattle.snow_wire.specs.Laws.FrameLaw.{FrameLaw};
 
 /// Each event in range is read back from its spelling, and no other payload is read as it. No
 /// payload is read as an event that is out of range.
@@ -24,4 +25,12 @@ pub fn one_reading()
     ensures pieces { (bytes more : List ℕ) → frames_of (bytes ++ more) ≡
         ((frames_of bytes).0 ++ (frames_of ((frames_of bytes).1 ++ more)).0, (frames_of ((frames_of bytes).1 ++ more)).1) }
     ensures apart { (a b more : List ℕ) → IsPayload a → IsPayload b → frame a ++ more ≡ frame b → a ≡ b }
+{}
+
+/// A frame holds each event in range, where Ancestors bring no more blocks and bytes than a node
+/// answers.
+/// Rule: this project's own.
+#[tactic(auto, using(crate::proofs::Long::frame_holds))]
+pub fn frame_holds_law()
+    ensures { FrameLaw }
 {}

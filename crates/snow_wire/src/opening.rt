@@ -4,10 +4,11 @@ ghost use Rattle.snow_wire.specs.Clauses.Viewed.{as_start};
 ghost use Rattle.snow_wire.specs.declared.event.Event.TheVariants as event;
 
 use crate::event::Start;
-use crate::fault::Fault;
 use crate::lists::{nodes_of, words_of};
 use crate::reader::Reader;
+use crate::skip::Fault;
 use snow_base::Id;
+use snow_base::limits::MOST_LISTED;
 use std::alloc::{AllocError, Global};
 
 /// How a run begins: a `Start` whose lists still stand in the payload of its frame.
@@ -49,8 +50,8 @@ impl<'a> Opening<'a> {
         let boot = reader.flag()?;
         let last = reader.id()?;
         let height = reader.u64()?;
-        let state = reader.words(4096)?;
-        let nodes = reader.nodes(4096)?;
+        let state = reader.words(MOST_LISTED)?;
+        let nodes = reader.nodes(MOST_LISTED)?;
         Ok(Opening {
             k,
             alpha_preference,

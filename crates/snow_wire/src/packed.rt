@@ -2,8 +2,9 @@ ghost use Rattle.std.specs.Prelude.{◌≡◌, IfOk};
 ghost use Rattle.std.specs.Iterator.{YieldsFirstRef};
 ghost use Rattle.snow_wire.specs.Model.Reading.{ReadsAs, block_at, counted_at, items_at, items_in};
 
-use crate::fault::Fault;
-use crate::reader::{MAX_BLOCK, Reader};
+use crate::reader::Reader;
+use crate::skip::Fault;
+use snow_base::limits::BLOCK_BYTES;
 use snow_base::{Blocks, Bytes};
 use std::alloc::{AllocError, Global};
 use std::marker::Model;
@@ -71,7 +72,7 @@ impl<'a> Packed<'a> {
             return None;
         }
         let mut reader = Reader::new(self.bytes);
-        let Ok(block) = reader.slice(MAX_BLOCK) else {
+        let Ok(block) = reader.slice(BLOCK_BYTES) else {
             return None;
         };
         self.count -= 1;
@@ -99,7 +100,7 @@ fn pass(reader: &mut Reader, count: u16) -> Result<(), Fault>
     ensures { ReadsAs (λ _. items_in (items_at block_at count reader.old)) result reader.new (items_at block_at count reader.old) }
 {
     for _ in 0..count {
-        reader.slice(MAX_BLOCK)?;
+        reader.slice(BLOCK_BYTES)?;
     }
     Ok(())
 }

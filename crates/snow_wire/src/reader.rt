@@ -3,15 +3,9 @@ ghost use Rattle.byteorder.specs.Endian.{big_number};
 ghost use Rattle.snow_wire.specs.Model.Reading.{IsEnd, Reads, ReadsAs, bytes_at, number_at, limited_at, flag_at, counted_at, sized_at, weighed_at};
 ghost use Rattle.snow_wire.specs.Clauses.Viewed.{weighed_in};
 
-use crate::fault::Fault;
+use crate::skip::Fault;
 use byteorder::{BigEndian, ByteOrder};
 use std::marker::Model;
-
-/// The greatest length of a block.
-pub(crate) const MAX_BLOCK: u32 = 65_536;
-
-/// The greatest length of a line.
-pub(crate) const MAX_LINE: u32 = 1_100_000;
 
 /// Reads fields from the front of bytes. Contracts see the bytes that are left.
 #[derive(Drop)]

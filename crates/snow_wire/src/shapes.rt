@@ -3,9 +3,10 @@ ghost use Rattle.std.specs.Prelude.{◌≡◌, ℕ, List};
 ghost use Rattle.snow_wire.specs.Model.Reading.{ReadsAs, block_at, counted_at, id_at, message_at, sender_at};
 ghost use Rattle.snow_wire.specs.declared.event.Event.{Event};
 
-use crate::fault::Fault;
 use crate::packed::Packed;
-use crate::reader::{MAX_BLOCK, Reader};
+use crate::reader::Reader;
+use crate::skip::Fault;
+use snow_base::limits::{BLOCK_BYTES, MOST_ANCESTORS, MOST_LISTED};
 
 /// A peer, and the number of the request that its message belongs to.
 /// Rule: this project's own.
@@ -91,11 +92,11 @@ impl<'a> Named<'a> {
 impl<'a> Listing<'a> {
     #[tactic(auto, unfolding(crate::specs::Model::Reading::message_at))]
     pub(crate) fn read(reader: &mut Reader<'a>) -> Result<Self, Fault>
-        ensures { (made : List ℕ → ℕ → List (List ℕ) → Event) → ReadsAs (λ l. made l.node.now l.request l.ids.now) result reader.new (message_at (counted_at id_at 4096) made reader.old) }
+        ensures { (made : List ℕ → ℕ → List (List ℕ) → Event) → ReadsAs (λ l. made l.node.now l.request l.ids.now) result reader.new (message_at (counted_at id_at MOST_LISTED) made reader.old) }
     {
         let node = reader.node()?;
         let request = reader.u32()?;
-        let ids = reader.list::<32>(4096)?;
+        let ids = reader.list::<32>(MOST_LISTED)?;
         Ok(Listing { node, request, ids })
     }
 }
@@ -107,7 +108,7 @@ impl<'a> Brought<'a> {
     {
         let node = reader.node()?;
         let request = reader.u32()?;
-        let bytes = reader.slice(MAX_BLOCK)?;
+        let bytes = reader.slice(BLOCK_BYTES)?;
         Ok(Brought {
             node,
             request,
@@ -119,11 +120,11 @@ impl<'a> Brought<'a> {
 impl<'a> Parcel<'a> {
     #[tactic(auto, unfolding(crate::specs::Model::Reading::message_at))]
     pub(crate) fn read(reader: &mut Reader<'a>) -> Result<Self, Fault>
-        ensures { (made : List ℕ → ℕ → List (List ℕ) → Event) → ReadsAs (λ p. made p.node.now p.request p.blocks) result reader.new (message_at (counted_at block_at 2048) made reader.old) }
+        ensures { (made : List ℕ → ℕ → List (List ℕ) → Event) → ReadsAs (λ p. made p.node.now p.request p.blocks) result reader.new (message_at (counted_at block_at MOST_ANCESTORS) made reader.old) }
     {
         let node = reader.node()?;
         let request = reader.u32()?;
-        let blocks = Packed::read(reader, 2048)?;
+        let blocks = Packed::read(reader, MOST_ANCESTORS)?;
         Ok(Parcel {
             node,
             request,

@@ -3,12 +3,13 @@ ghost use Rattle.snow_wire.specs.Model.Reading.{ReadsAs, event_of, fields_at};
 ghost use Rattle.snow_wire.specs.Clauses.Viewed.{as_event, seen};
 
 use crate::event::Event;
-use crate::fault::Fault;
 use crate::lists::{ids_of, nodes_of, words_of};
 use crate::opening::Opening;
-use crate::reader::{MAX_BLOCK, MAX_LINE, Reader};
+use crate::reader::Reader;
 use crate::shapes::{Brought, Listing, Named, Parcel, Sender};
+use crate::skip::Fault;
 use snow_base::Bytes;
+use snow_base::limits::{BLOCK_BYTES, LINE_BYTES, MOST_LISTED, MOST_VOTES};
 use std::alloc::{AllocError, Global};
 
 /// An event whose bytes still stand in the payload of its frame. The variants are those of `Event`,
@@ -116,21 +117,21 @@ fn fields<'a>(tag: u8, reader: &mut Reader<'a>) -> Result<View<'a>, Fault>
     match tag {
         1 => Ok(View::Start(Opening::read(reader)?)),
         2 => Ok(View::Block(Brought::read(reader)?)),
-        3 => Ok(View::Poll(reader.list::<32>(1024)?)),
-        4 => Ok(View::Words(reader.words(4096)?)),
+        3 => Ok(View::Poll(reader.list::<32>(MOST_VOTES)?)),
+        4 => Ok(View::Words(reader.words(MOST_LISTED)?)),
         5 => Ok(View::Chits(Named::read(reader)?)),
         6 => Ok(View::Timeout(Sender::read(reader)?)),
         7 => Ok(View::Frontier(Named::read(reader)?)),
         8 => Ok(View::Accepted(Listing::read(reader)?)),
         9 => Ok(View::Ancestors(Parcel::read(reader)?)),
-        10 => Ok(View::Stored(reader.slice(MAX_BLOCK)?)),
-        11 => Ok(View::Validators(reader.nodes(4096)?)),
+        10 => Ok(View::Stored(reader.slice(BLOCK_BYTES)?)),
+        11 => Ok(View::Validators(reader.nodes(MOST_LISTED)?)),
         12 => Ok(View::AskQuery(Sender::read(reader)?)),
         13 => Ok(View::AskFrontier(Sender::read(reader)?)),
         14 => Ok(View::AskAccepted(Listing::read(reader)?)),
         15 => Ok(View::AskAncestors(Named::read(reader)?)),
         16 => Ok(View::AskBlock(Named::read(reader)?)),
-        17 => Ok(View::Line(reader.slice(MAX_LINE)?)),
+        17 => Ok(View::Line(reader.slice(LINE_BYTES)?)),
         _ => Err(Fault::Tag),
     }
 }

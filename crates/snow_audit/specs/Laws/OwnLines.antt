@@ -1,6 +1,7 @@
 -- A run that is recorded with its own lines.
 use Rattle.std.specs.Prelude.{ℕ, ◌+◌, Bool, true, false, List, [], ◌∷◌, ◌++◌, map, length, is_none, nat_le}
 use Rattle.std.specs.List.{join_with_byte}
+use Rattle.snow_base.specs.declared.limits.TheConstants.{LINE_BYTES}
 use Rattle.snow_wire.specs.declared.event.Event.TheVariants as event
 use Rattle.snow_wire.specs.Model.Spelling.{spelling}
 use Rattle.snow_lines.specs.declared.line.Line.{Line}
@@ -21,7 +22,7 @@ recorded l = spelling (event.Line (join_with_byte 32 (words l)))
 
 -- a text, with its newline, that a payload can record
 abbrev pub fits : Line → Bool
-fits l = nat_le (length (text l)) 1100001
+fits l = nat_le (length (text l)) (LINE_BYTES + 1)
 
 -- the events of a run that stands so, each with the lines that the run writes for it behind
 unfoldable pub recording : Steps → Stand → ℕ → List (List ℕ) → List (List ℕ)

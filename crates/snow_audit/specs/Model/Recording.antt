@@ -3,7 +3,7 @@ use Rattle.std.specs.Prelude.{ℕ, ◌+◌, List, [], ◌∷◌, ◌++◌, map, 
 use Rattle.std.specs.Option.{some_prefix}
 use Rattle.snow_wire.specs.declared.event.Event.{Event}
 use Rattle.snow_wire.specs.declared.event.Event.TheVariants as event
-use Rattle.snow_wire.specs.declared.fault.Fault.{Fault}
+use Rattle.snow_wire.specs.declared.skip.Fault.{Fault}
 use Rattle.snow_wire.specs.Model.Reading.{event_of}
 
 -- the text of a recorded line, with its newline; other events have none

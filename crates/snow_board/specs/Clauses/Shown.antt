@@ -1,7 +1,7 @@
 -- A board with the decisions of its last poll, and the room that it keeps for the next.
 use Rattle.std.specs.Prelude.{ℕ, Bool, List, ◌≤◌, length, refl}
 use Rattle.std.specs.Coded.{Coded, coded_ℕ, coded_bool, coded_list, coded×, code_by}
-use Rattle.snow_board.specs.declared.decision.Decision.{Decision}
+use Rattle.snow_board.specs.declared.board.Decision.{Decision}
 use Rattle.snow_board.specs.Model.Board.{Board}
 use Rattle.snow_board.specs.Kept.BoardCode.{coded_board}
 

@@ -5,7 +5,7 @@ use Rattle.snow_base.specs.declared.header.Header.{Header}
 use Rattle.snow_flake.specs.Model.Rule.{Answer}
 use Rattle.snow_board.specs.Model.Conflict.{Counters, Blank, leads_to}
 use Rattle.snow_board.specs.Model.Conflict.{Pending}
-use Rattle.snow_board.specs.declared.leading.Leading.{Leading}
+use Rattle.snow_board.specs.declared.board.Leading.{Leading}
 use Rattle.snow_board.specs.Model.Board.{Board}
 use Rattle.snow_board.specs.Model.Preference.{preferred}
 

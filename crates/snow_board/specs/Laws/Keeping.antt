@@ -6,7 +6,7 @@ use Rattle.snow_base.specs.Model.Identifier.{bits}
 use Rattle.snow_base.specs.Model.Ancestry.{votes_below}
 use Rattle.snow_flake.specs.Model.Parameters.{Parameters}
 use Rattle.snow_flake.specs.Kept.Instance.{Instance, counter_of, polled}
-use Rattle.snow_board.specs.declared.decision.Decision.{Decision}
+use Rattle.snow_board.specs.declared.board.Decision.{Decision}
 use Rattle.snow_board.specs.Model.Conflict.{Pending}
 use Rattle.snow_board.specs.Model.Conflict.{Counters, Blank, At, decides}
 use Rattle.snow_board.specs.Model.Board.{Board}

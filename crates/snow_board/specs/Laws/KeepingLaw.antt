@@ -4,7 +4,7 @@ use Rattle.snow_base.specs.declared.header.Header.{Header}
 use Rattle.snow_base.specs.declared.vote.Vote.{Vote}
 use Rattle.snow_flake.specs.Model.Parameters.{Parameters}
 use Rattle.snow_flake.specs.Model.Rule.{Answer}
-use Rattle.snow_board.specs.declared.decision.Decision.{Decision}
+use Rattle.snow_board.specs.declared.board.Decision.{Decision}
 use Rattle.snow_board.specs.Model.Board.{Board, begin, issued}
 use Rattle.snow_board.specs.Model.Poll.{poll, and_then}
 use Rattle.snow_board.specs.Model.Preference.{preferred, preferred_path}

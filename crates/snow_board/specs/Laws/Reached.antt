@@ -1,5 +1,6 @@
 -- The boards that a good beginning, issues and polls make.
 use Rattle.std.specs.Prelude.{◌≡◌, ℕ, ◌+◌, ◌<◌, ◌≤◌, List, length, Some, None}
+use Rattle.snow_base.specs.declared.limits.TheConstants.{MOST_PENDING}
 use Rattle.snow_base.specs.declared.header.Header.{Header}
 use Rattle.snow_base.specs.declared.vote.Vote.{Vote}
 use Rattle.snow_base.specs.Model.Votes.{total_count}
@@ -11,7 +12,7 @@ use Rattle.snow_board.specs.Model.Poll.{poll}
 pub record MayIssue (board : Board) (child : Header) : Type 0 where
   pub unknown : height_of board child.id ≡ None
   pub follows : (below : ℕ) × (height_of board child.parent ≡ Some below) × (child.height ≡ below + 1)
-  pub room : length board.pending < 4096
+  pub room : length board.pending < MOST_PENDING
 
 -- a board that can be reached
 pub data Reached : Board → Type 0 where

@@ -9,7 +9,7 @@ use Rattle.snow_base.specs.Model.Identifier.{bits}
 use Rattle.snow_flake.specs.Model.Parameters.{Parameters}
 use Rattle.snow_flake.specs.Model.Counter.{Counter, Decided, Undecided, fresh, stepped, admits}
 use Rattle.snow_flake.specs.Model.Rule.{Answer, answer_of}
-use Rattle.snow_board.specs.declared.pending.Pending.{Pending as Entry}
+use Rattle.snow_board.specs.declared.board.Pending.{Pending as Entry}
 
 -- a map from bit lists to counters: the counter at the empty list, and the maps under 0 and under 1
 pub data Counters : Type 0 where

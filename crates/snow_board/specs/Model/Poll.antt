@@ -4,7 +4,7 @@ use Rattle.snow_base.specs.declared.header.Header.{Header}
 use Rattle.snow_base.specs.declared.vote.Vote.{Vote}
 use Rattle.snow_flake.specs.Model.Parameters.{Parameters}
 use Rattle.snow_base.specs.Model.Ancestry.{descends, votes_below}
-use Rattle.snow_board.specs.declared.decision.Decision.{Decision}
+use Rattle.snow_board.specs.declared.board.Decision.{Decision}
 use Rattle.snow_board.specs.Model.Conflict.{Counters, all_polled, decides}
 use Rattle.snow_board.specs.Model.Conflict.{Pending}
 use Rattle.snow_board.specs.Model.Board.{Board, blocks_of, with_counters}

@@ -2,8 +2,8 @@
 use Rattle.std.specs.Prelude.{◌≡◌, ℕ, zero, suc, Bool, List, refl}
 use Rattle.std.specs.Coded.{Coded, coded_ℕ, coded_bool, coded_list, coded×, code_by}
 use Rattle.snow_sample.specs.declared.roster.Node.{Node}
-use Rattle.snow_issue.specs.declared.work.Get.{Get}
-use Rattle.snow_store.specs.declared.due.Due.{Due}
+use Rattle.snow_gets.specs.declared.gets.Get.{Get}
+use Rattle.snow_store.specs.declared.needs.Due.{Due}
 use Rattle.snow_store.specs.Model.Keeping.{Store}
 use Rattle.snow_store.specs.Model.Paths.{Fetch}
 use Rattle.snow_store.specs.Kept.StoreCode.{Bytes, coded_bytes, coded_store, coded_fetch, coded_due}

@@ -1,7 +1,7 @@
 -- What is known while blocks are fetched.
 use Rattle.std.specs.Prelude.{◌≡◌, ℕ, Bool, true, List, ◌∷◌, Option, Some, None, Result, Ok, Err, ⊤}
 use Rattle.snow_base.specs.declared.header.Header.{Header}
-use Rattle.snow_store.specs.declared.due.Due.{Due}
+use Rattle.snow_store.specs.declared.needs.Due.{Due}
 use Rattle.snow_store.specs.declared.stop.BootStop.{BootStop}
 use Rattle.snow_store.specs.declared.stop.BootStop.TheVariants as stop
 use Rattle.snow_store.specs.Model.Paths.{Fetch}

@@ -1,7 +1,7 @@
 -- What a reply brings whose first block is a missed one.
 use Rattle.std.specs.Prelude.{◌≡◌, ℕ, true, List, ◌∷◌, Some, None, Ok, Err, ⊤, ◌⊎◌}
 use Rattle.snow_chain.specs.Model.Chain.{Rules}
-use Rattle.snow_store.specs.declared.block.KeptBlock.{KeptBlock}
+use Rattle.snow_store.specs.declared.store.KeptBlock.{KeptBlock}
 use Rattle.snow_store.specs.Model.Keeping.{held}
 use Rattle.snow_store.specs.Model.Paths.{Fetch, has_id, missed}
 use Rattle.snow_boot.specs.Model.Booting.{Boot, Going, Done, Outcome, fetch_of, request_of, ancestors_came}

@@ -4,14 +4,14 @@ use Rattle.std.specs.List.{slice_get}
 use Rattle.std.specs.Option.{option_map, unwrap_or}
 use Rattle.snow_base.specs.Model.Numbers.{next_number}
 use Rattle.snow_sample.specs.declared.roster.Node.{Node}
-use Rattle.snow_issue.specs.declared.work.Get.{Get}
-use Rattle.snow_issue.specs.Model.Lists.{asked_in, with_get}
+use Rattle.snow_gets.specs.declared.gets.Get.{Get}
+use Rattle.snow_gets.specs.Model.Gets.{asked_in, with_get}
 use Rattle.snow_lines.specs.declared.line.Line.{Line}
 use Rattle.snow_lines.specs.declared.line.Line.TheVariants as line
 use Rattle.snow_store.specs.declared.stop.BootStop.{BootStop}
 use Rattle.snow_store.specs.declared.stop.BootStop.TheVariants as stop
-use Rattle.snow_store.specs.declared.due.Due.{Due}
-use Rattle.snow_store.specs.declared.due.Due.TheVariants as due
+use Rattle.snow_store.specs.declared.needs.Due.{Due}
+use Rattle.snow_store.specs.declared.needs.Due.TheVariants as due
 use Rattle.snow_store.specs.Model.Needing.{is_missed, is_due}
 use Rattle.snow_store.specs.Model.Paths.{Fetch, missed}
 

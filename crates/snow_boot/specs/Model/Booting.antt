@@ -6,13 +6,13 @@ use Rattle.snow_base.specs.Model.Numbers.{next_number}
 use Rattle.snow_chain.specs.Model.Chain.{Rules}
 use Rattle.snow_sample.specs.declared.roster.Node.{Node}
 use Rattle.snow_sample.specs.Model.Roster.{total_weight}
-use Rattle.snow_issue.specs.declared.work.Get.{Get}
-use Rattle.snow_issue.specs.Model.Lists.{is_get, without}
+use Rattle.snow_gets.specs.declared.gets.Get.{Get}
+use Rattle.snow_gets.specs.Model.Gets.{is_get, without}
 use Rattle.snow_lines.specs.declared.line.Line.{Line}
 use Rattle.snow_lines.specs.declared.line.Line.TheVariants as line
 use Rattle.snow_lines.specs.declared.why.RestartWhy.TheVariants as restart
 use Rattle.snow_lines.specs.declared.why.SkipKind.TheVariants as skip
-use Rattle.snow_store.specs.declared.block.KeptBlock.{KeptBlock}
+use Rattle.snow_store.specs.declared.store.KeptBlock.{KeptBlock}
 use Rattle.snow_boot.specs.declared.question.Candidate.{Candidate}
 use Rattle.snow_boot.specs.declared.question.Question.{Question}
 use Rattle.snow_boot.specs.declared.question.Question.TheVariants as question

@@ -16,7 +16,7 @@ use Rattle.snow_chain.specs.Model.Plain.{plain_rules}
 use Rattle.snow_chain.specs.Model.Tally.{tally_rules}
 use Rattle.snow_ledger.specs.Model.Ledger.{ledger_rules}
 use Rattle.snow_lines.specs.Model.Text.{texts}
-use Rattle.snow_engine.specs.declared.task.Task.TheVariants as task
+use Rattle.snow_engine.specs.declared.engine.Task.TheVariants as task
 use Rattle.snow_engine.specs.Model.Node.{started, step}
 use Rattle.snow_drill.specs.Model.First.{first}
 use Rattle.snow_drill.specs.Model.Summary.{drilled}
@@ -37,8 +37,8 @@ use Rattle.snow_cli.specs.declared.command.Job.{Job}
 use Rattle.snow_cli.specs.declared.command.Job.TheVariants as job
 use Rattle.snow_cli.specs.declared.command.Command.{Command}
 use Rattle.snow_cli.specs.declared.command.Command.TheVariants as command
-use Rattle.snow_cli.specs.declared.finish.Finish.{Finish}
-use Rattle.snow_cli.specs.declared.finish.Finish.TheVariants as finish
+use Rattle.snow_cli.specs.declared.status.Finish.{Finish}
+use Rattle.snow_cli.specs.declared.status.Finish.TheVariants as finish
 use Rattle.snow_cli.specs.declared.status.Status.{Status}
 use Rattle.snow_cli.specs.declared.status.Status.TheVariants as status
 

@@ -2,7 +2,8 @@
 use Rattle.std.specs.Prelude.{ℕ, ◌+◌, ◌-◌, ◌*◌, ◌^◌, Bool, true, false, ◌&&◌, ◌==◌, List, [], ◌∷◌, map, drop, fold, length, Option, Some, None, codes, if◌then◌else◌, bytes_eq, nat_le}
 use Rattle.std.specs.Option.{option_and_then}
 use Rattle.std.specs.List.{list_all, list_any, filter_map, before_first, after_first}
-use Rattle.snow_engine.specs.declared.task.Task.TheVariants as task
+use Rattle.snow_base.specs.declared.limits.TheConstants.{MOST_DRILLED}
+use Rattle.snow_engine.specs.declared.engine.Task.TheVariants as task
 use Rattle.snow_cli.specs.declared.command.Job.{Job}
 use Rattle.snow_cli.specs.declared.command.Job.TheVariants as job
 use Rattle.snow_cli.specs.declared.command.ChainName.{ChainName}
@@ -129,7 +130,7 @@ abbrev pub seed_named : List ℕ → Option ℕ
 seed_named = number_in 0 (2 ^ 64 - 1)
 
 abbrev pub blocks_named : List ℕ → Option ℕ
-blocks_named = number_in 1 10000
+blocks_named = number_in 1 MOST_DRILLED
 
 -- ---- the command
 

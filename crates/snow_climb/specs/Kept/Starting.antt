@@ -34,7 +34,7 @@ pub record TakesMore (pending votes : ℕ) (ladder : Rungs) : Type 0 where
   pub low : pending < ladder.low
 
 -- a vote for each of these identifiers stands past its own block too, and nobody waits
-pub record HaveGone {T : Type 0} (pending : List (Entry T)) (ids : List (List ℕ)) (old new : Rungs) : Type 0 where
+pub record HaveAllStarted {T : Type 0} (pending : List (Entry T)) (ids : List (List ℕ)) (old new : Rungs) : Type 0 where
   pub started : (counted : (List ℕ → Bool) → ℕ) → HaveStarted pending (λ test. 0) counted old.climbers
       → HaveStarted pending (λ test. 0) (λ test. ids_by test ids + counted test) new.climbers
   pub put : new.put ≤ old.put + length ids

@@ -1,5 +1,6 @@
 -- The step of a node that bootstraps, event by event, until it runs.
 use Rattle.std.specs.Prelude.{ℕ, ◌+◌, List, [], ◌++◌, length, Result, Ok, Err, nat_lt, if◌then◌else◌}
+use Rattle.snow_base.specs.declared.limits.TheConstants.{MOST_WORDS}
 use Rattle.snow_flake.specs.Model.Parameters.{Parameters}
 use Rattle.snow_chain.specs.Model.Chain.{Rules}
 use Rattle.snow_wire.specs.declared.event.Event.{Event}
@@ -52,7 +53,7 @@ passed_over node frame word = with_line (line.Skip frame word) (stage.Booting no
 -- words came
 abbrev pub words_kept : Booting → ℕ → List ℕ → Comes Node
 words_kept node frame words =
-    if nat_lt 65536 (length node.words + length words) then passed_over node frame kind.Full
+    if nat_lt MOST_WORDS (length node.words + length words) then passed_over node frame kind.Full
     else quietly (stage.Booting (record node { words = node.words ++ words }))
 
 -- what an event brings to bootstrapping: an answer, its absence, or a block that was stored earlier; any other brings nothing

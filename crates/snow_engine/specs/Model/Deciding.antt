@@ -4,7 +4,7 @@ use Rattle.snow_base.specs.declared.header.Header.{Header}
 use Rattle.snow_base.specs.declared.vote.Vote.{Vote}
 use Rattle.snow_base.specs.Model.Votes.{added}
 use Rattle.snow_flake.specs.Model.Rule.{Answer}
-use Rattle.snow_board.specs.declared.decision.Decision.{Decision}
+use Rattle.snow_board.specs.declared.board.Decision.{Decision}
 use Rattle.snow_board.specs.Model.Board.{Board, height_of, issued}
 use Rattle.snow_board.specs.Model.Poll.{poll}
 use Rattle.snow_chain.specs.Model.Chain.{Rules, Held, next_on, with_state}

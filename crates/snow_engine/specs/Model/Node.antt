@@ -10,8 +10,8 @@ use Rattle.snow_chain.specs.Model.Chain.{Rules, begun}
 use Rattle.snow_wire.specs.declared.event.Event.{Event}
 use Rattle.snow_wire.specs.declared.event.Start.{Start}
 use Rattle.snow_engine.specs.declared.stage.Stage.TheVariants as stage
-use Rattle.snow_engine.specs.declared.task.Task.{Task}
-use Rattle.snow_engine.specs.declared.task.Task.TheVariants as task
+use Rattle.snow_engine.specs.declared.engine.Task.{Task}
+use Rattle.snow_engine.specs.declared.engine.Task.TheVariants as task
 use Rattle.snow_engine.specs.declared.stop.EngineStop.{EngineStop}
 use Rattle.snow_engine.specs.declared.stop.EngineStop.TheVariants as stop
 use Rattle.snow_node.specs.Model.Outcome.{quietly, stops}

@@ -4,15 +4,15 @@ use Rattle.snow_flake.specs.Model.Rule.{Answer}
 use Rattle.snow_chain.specs.Model.Chain.{Rules}
 use Rattle.snow_wire.specs.declared.event.Event.{Event}
 use Rattle.snow_wire.specs.declared.event.Event.TheVariants as event
-use Rattle.snow_wire.specs.declared.fault.Fault.{Fault}
-use Rattle.snow_wire.specs.declared.fault.Fault.TheVariants.{Tag, Short, Extra, Count}
+use Rattle.snow_wire.specs.declared.skip.Fault.{Fault}
+use Rattle.snow_wire.specs.declared.skip.Fault.TheVariants.{Tag, Short, Extra, Count}
 use Rattle.snow_wire.specs.Model.Reading.{event_of}
 use Rattle.snow_wire.specs.Model.Frame.{frames_of, is_too_long}
 use Rattle.snow_lines.specs.declared.line.Line.{Line}
 use Rattle.snow_lines.specs.declared.line.Line.TheVariants as line
 use Rattle.snow_lines.specs.declared.why.SkipKind.{SkipKind}
 use Rattle.snow_lines.specs.declared.why.SkipKind.TheVariants as skip
-use Rattle.snow_engine.specs.declared.task.Task.{Task}
+use Rattle.snow_engine.specs.declared.engine.Task.{Task}
 use Rattle.snow_engine.specs.declared.stop.EngineStop.{EngineStop}
 use Rattle.snow_engine.specs.declared.stop.EngineStop.TheVariants as stop
 use Rattle.snow_engine.specs.declared.end.BadKind.TheVariants as kind

@@ -1,5 +1,6 @@
 -- The parameters of the polls, and which are good.
 use Rattle.std.specs.Prelude.{ℕ, ◌*◌, ◌<◌, ◌≤◌, Option, Some, None, Result, Ok, Err, nat_lt, nat_le, ◌==◌, if◌then◌else◌}
+use Rattle.snow_base.specs.declared.limits.TheConstants.{MOST_K, MOST_BETA}
 use Rattle.snow_flake.specs.declared.params.ParamFault.{ParamFault}
 use Rattle.snow_flake.specs.declared.params.ParamFault.TheVariants.{AlphaLow, AlphaOrder, AlphaHigh, BetaZero, RepollsZero, RepollsHigh, KLarge, BetaLarge}
 
@@ -20,8 +21,8 @@ first_fault p =
     else (if p.beta == 0 then Some BetaZero
     else (if p.repolls == 0 then Some RepollsZero
     else (if nat_lt p.beta p.repolls then Some RepollsHigh
-    else (if nat_lt 1024 p.k then Some KLarge
-    else (if nat_lt 65535 p.beta then Some BetaLarge
+    else (if nat_lt MOST_K p.k then Some KLarge
+    else (if nat_lt MOST_BETA p.beta then Some BetaLarge
     else None)))))))
 
 abbrev pub or_fault : Parameters → Option ParamFault → Result Parameters ParamFault
@@ -40,5 +41,5 @@ pub record AreGood (p : Parameters) : Type 0 where
   pub decides_late : 0 < p.beta
   pub repolls_some : 0 < p.repolls
   pub repolls_few : p.repolls ≤ p.beta
-  pub k_small : p.k ≤ 1024
-  pub beta_small : p.beta ≤ 65535
+  pub k_small : p.k ≤ MOST_K
+  pub beta_small : p.beta ≤ MOST_BETA

@@ -1,5 +1,6 @@
 -- A chain is the longest walk by parents among what is held that keeps to the limits.
 use Rattle.std.specs.Prelude.{◌≡◌, ℕ, ◌≤◌, List, [], ◌∷◌, length, sum_by, Some}
+use Rattle.snow_base.specs.declared.limits.TheConstants.{ANSWER_BLOCKS, ANSWER_BYTES}
 use Rattle.snow_getter.specs.declared.served.Served.{Served}
 use Rattle.snow_getter.specs.Model.Serving.{Serving, held}
 use Rattle.snow_getter.specs.Model.Chain.{chain}
@@ -25,4 +26,4 @@ pub record IsLongest (s : Serving) (id : List ℕ) (count room : ℕ) (blocks : 
 
 -- 64 blocks, and 524,288 bytes
 abbrev pub ChainIsLongest : Type 0
-ChainIsLongest = (s : Serving) (id : List ℕ) → IsLongest s id 64 524288 (chain s id)
+ChainIsLongest = (s : Serving) (id : List ℕ) → IsLongest s id ANSWER_BLOCKS ANSWER_BYTES (chain s id)

@@ -1,6 +1,7 @@
 -- A block and its ancestors, as far as they are served.
 use Rattle.std.specs.Prelude.{ℕ, ◌-◌, zero, suc, List, [], ◌∷◌, length, nat_le, if◌then◌else◌}
 use Rattle.std.specs.Option.{option_map_or}
+use Rattle.snow_base.specs.declared.limits.TheConstants.{ANSWER_BLOCKS, ANSWER_BYTES}
 use Rattle.snow_getter.specs.declared.served.Served.{Served}
 use Rattle.snow_getter.specs.Model.Serving.{Serving, held}
 
@@ -12,4 +13,4 @@ chain_within (suc count) room s id =
 
 -- at most 64 blocks, with at most 524,288 bytes
 abbrev pub chain : Serving → List ℕ → List Served
-chain s id = chain_within 64 524288 s id
+chain s id = chain_within ANSWER_BLOCKS ANSWER_BYTES s id

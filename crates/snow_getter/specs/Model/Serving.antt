@@ -2,6 +2,7 @@
 use Rattle.std.specs.Prelude.{ℕ, Bool, not, ◌||◌, List, [], ◌∷◌, ◌++◌, Option, None, is_some, find, filter, bytes_eq}
 use Rattle.std.specs.List.{last_or}
 use Rattle.std.specs.Option.{option_map_or, option_or}
+use Rattle.snow_base.specs.declared.limits.TheConstants.{MOST_SERVED}
 use Rattle.snow_recent.specs.Model.Recent.{latest, with_latest}
 use Rattle.snow_getter.specs.declared.served.Served.{Served}
 
@@ -62,5 +63,5 @@ abbrev pub after_accepted : Serving → List ℕ → Serving
 after_accepted s id = record {
   first = s.first;
   pending = without id s.pending;
-  accepted = option_map_or (with_latest 4096 s.accepted) (pending_block s id) s.accepted;
+  accepted = option_map_or (with_latest MOST_SERVED s.accepted) (pending_block s id) s.accepted;
 }

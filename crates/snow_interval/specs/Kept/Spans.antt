@@ -1,7 +1,7 @@
 -- A set of heights as spans that rise and never touch.
 use Rattle.std.specs.Prelude.{◌≡◌, ℕ, ◌+◌, ◌≤◌, Bool, ◌&&◌, List, [], ◌∷◌, nat_le, ⊤}
 use Rattle.std.specs.List.{list_any}
-use Rattle.snow_interval.specs.declared.span.Span.{Span}
+use Rattle.snow_interval.specs.declared.intervals.Span.{Span}
 use Rattle.snow_interval.specs.Model.Heights.{Heights, with_height}
 
 -- the height above which heights are held, and the spans of those that are

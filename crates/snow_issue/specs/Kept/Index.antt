@@ -1,36 +1,14 @@
--- The indexes of a queue: heights by identifier, gets by number and by identifier.
-use Rattle.std.specs.Prelude.{◌≡◌, ℕ, Bool, false, List, [], ◌∷◌, find, Option, Some, None, bytes_eq}
-use Rattle.std.specs.List.{list_any}
+-- The index of waiting blocks: heights by identifier.
+use Rattle.std.specs.Prelude.{◌≡◌, ℕ, List, find, Option, bytes_eq}
 use Rattle.std.specs.Option.{option_map}
-use Rattle.snow_issue.specs.declared.get_map.Asked.{Asked}
 use Rattle.snow_issue.specs.declared.work.Waiting.{Waiting}
-use Rattle.snow_issue.specs.declared.work.Get.{Get}
-use Rattle.snow_issue.specs.Model.Lists.{asked_in}
+use Rattle.snow_gets.specs.Kept.Index.{AreNamedApart}
 
 -- the height of the waiting block of an identifier
 abbrev pub height_among : List Waiting → List ℕ → Option ℕ
 height_among waiting id = option_map (λ w. w.header.height) (find (λ w. bytes_eq w.header.id id) waiting)
 
--- no identifier is that of two items
-abbrev pub AreNamedApart : {T : Type 0} → (T → List ℕ) → List T → Type 0
-AreNamedApart name [] = Unit {0}
-AreNamedApart name (x ∷ items) = (list_any (λ y. bytes_eq (name y) (name x)) items ≡ false) × AreNamedApart name items
-
 -- each waiting block's height is found by its identifier, and no block waits twice
 pub record HasHeights (height : List ℕ → Option ℕ) (waiting : List Waiting) : Type 0 where
   pub known : (id : List ℕ) → height id ≡ height_among waiting id
   pub apart : AreNamedApart (λ w. w.header.id) waiting
-
--- the gets of a map by number
-abbrev pub get_of : ℕ × Asked → Get
-get_of e = record { number = e.0; node = e.1.node; id = e.1.id }
-
--- a set has the identifier of each get, and no block is asked for twice
-pub record HasAsked (has : List ℕ → Bool) (gets : List Get) : Type 0 where
-  pub known : (id : List ℕ) → has id ≡ asked_in gets id
-  pub apart : AreNamedApart (λ g. g.id) gets
-
--- where a get stands apart there is no other
-abbrev pub StandsAlone : Option Get → List Get → Type 0
-StandsAlone None others = Unit {0}
-StandsAlone (Some get) others = others ≡ []

@@ -1,7 +1,8 @@
 -- What a queue keeps: its limits, and that no held reply it calls quiet is free.
 use Rattle.std.specs.Prelude.{◌≡◌, ◌≤◌, false, List, [], All, length}
+use Rattle.snow_base.specs.declared.limits.TheConstants.{MOST_WAITING, MOST_GETS, MOST_GONE}
 use Rattle.snow_issue.specs.declared.work.Waiting.{Waiting}
-use Rattle.snow_issue.specs.declared.work.Get.{Get}
+use Rattle.snow_gets.specs.declared.gets.Get.{Get}
 use Rattle.snow_issue.specs.declared.work.Held.{Held}
 use Rattle.snow_issue.specs.declared.gone.Gone.{Gone}
 use Rattle.snow_lineup.specs.declared.marks.Mark.{Mark}
@@ -15,13 +16,13 @@ abbrev pub parts : List (Waiting × Mark) → List Get → List Gone → Lists
 parts seats gets gone = record { waiting = items_of seats; gets = gets; held = []; gone = gone }
 
 -- a reply that is quiet isn't free
-abbrev pub Rests : List Waiting → List Get → Held × Mark → Type 0
-Rests waiting gets (h, New) = Unit {0}
-Rests waiting gets (h, Quiet) = is_free_by waiting gets h ≡ false
-Rests waiting gets (h, Ripe) = is_free_by waiting gets h ≡ false
+abbrev pub StaysQuiet : List Waiting → List Get → Held × Mark → Type 0
+StaysQuiet waiting gets (h, New) = Unit {0}
+StaysQuiet waiting gets (h, Quiet) = is_free_by waiting gets h ≡ false
+StaysQuiet waiting gets (h, Ripe) = is_free_by waiting gets h ≡ false
 
 pub record IsKept (seats : List (Waiting × Mark)) (gets : List Get) (replies : List (Held × Mark)) (gone : List Gone) : Type 0 where
-  pub quiet : All (Rests (items_of seats) gets) replies
-  pub few_waiting : length seats ≤ 4096
-  pub few_gets : length gets ≤ 4096
-  pub few_gone : length gone ≤ 8192
+  pub quiet : All (StaysQuiet (items_of seats) gets) replies
+  pub few_waiting : length seats ≤ MOST_WAITING
+  pub few_gets : length gets ≤ MOST_GETS
+  pub few_gone : length gone ≤ MOST_GONE

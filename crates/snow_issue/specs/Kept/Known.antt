@@ -3,7 +3,7 @@ use Rattle.std.specs.Prelude.{◌≡◌, ℕ, true, false, ◌||◌, List, map, 
 use Rattle.snow_base.specs.declared.header.Header.{Header}
 use Rattle.snow_board.specs.Model.Board.{Board}
 use Rattle.snow_issue.specs.declared.work.Waiting.{Waiting}
-use Rattle.snow_issue.specs.declared.work.Get.{Get}
+use Rattle.snow_gets.specs.declared.gets.Get.{Get}
 use Rattle.snow_issue.specs.declared.work.Held.{Held}
 use Rattle.snow_issue.specs.declared.work.Work.{Work}
 use Rattle.snow_issue.specs.declared.work.Work.TheVariants as work
@@ -11,7 +11,8 @@ use Rattle.snow_issue.specs.declared.gone.Gone.{Gone}
 use Rattle.snow_lineup.specs.declared.marks.Mark.{Mark}
 use Rattle.snow_lineup.specs.declared.marks.Mark.TheVariants.{New, Quiet, Ripe}
 use Rattle.snow_lineup.specs.Kept.Marks.{has}
-use Rattle.snow_issue.specs.Model.Lists.{Lists, waits_below, asked_in, AreWithinLimits}
+use Rattle.snow_gets.specs.Model.Gets.{asked_in}
+use Rattle.snow_issue.specs.Model.Lists.{Lists, waits_below, AreWithinLimits}
 use Rattle.snow_issue.specs.Model.Offering.{is_on}
 use Rattle.snow_issue.specs.Model.Settling.{work_of, after}
 
@@ -58,16 +59,16 @@ abbrev pub NoneRipe : List (Waiting × Mark) → Type 0
 NoneRipe seats = All (λ s. has Ripe s ≡ false) seats
 
 -- what a step leaves: a ready block may be issued, and where no block was ready a poll may be recorded
-abbrev pub RestsAfter : Option Work → List (Waiting × Mark) → Type 0
-RestsAfter None seats = NoneRipe seats
-RestsAfter (Some (work.Hopeless w)) seats = Unit {0}
-RestsAfter (Some (work.Ready w)) seats = ForgetsChildren w.header.id seats
-RestsAfter (Some (work.Vote h)) seats = NoneRipe seats
+abbrev pub MarksAfter : Option Work → List (Waiting × Mark) → Type 0
+MarksAfter None seats = NoneRipe seats
+MarksAfter (Some (work.Hopeless w)) seats = Unit {0}
+MarksAfter (Some (work.Ready w)) seats = ForgetsChildren w.header.id seats
+MarksAfter (Some (work.Vote h)) seats = NoneRipe seats
 
 -- the step that applies is taken: its block or reply goes, and what is remembered stays true
 pub record TakesStep (before now : Seen) (board : Board) (taken : Option Work) : Type 0 where
   pub work : taken ≡ work_of (lists_of before) board
   pub lists : lists_of now ≡ after (lists_of before) board taken
   pub knows : Knows now board
-  pub rests : RestsAfter taken now.seats
+  pub marks : MarksAfter taken now.seats
   pub limits : AreWithinLimits (lists_of now)

@@ -1,6 +1,7 @@
 -- The vote that a held reply gives: gone blocks are replaced by their parents.
 use Rattle.std.specs.Prelude.{ℕ, zero, suc, Bool, not, ◌&&◌, ◌||◌, List, bytes_eq, Option, Some, None, if◌then◌else◌}
 use Rattle.std.specs.Option.{option_and_then}
+use Rattle.snow_base.specs.declared.limits.TheConstants.{MOST_GONE}
 use Rattle.snow_board.specs.Model.Board.{Board, is_pending}
 use Rattle.snow_issue.specs.declared.gone.Gone.{Gone}
 use Rattle.snow_issue.specs.Model.Gone.{stands_for}
@@ -15,7 +16,7 @@ bubbled_in (suc n) gone board id =
     else (if bytes_eq board.last id then None else option_and_then (bubbled_in n gone board) (stands_for gone id))
 
 abbrev pub bubbled : Lists → Board → List ℕ → Option (List ℕ)
-bubbled q board id = bubbled_in 8192 q.gone board id
+bubbled q board id = bubbled_in MOST_GONE q.gone board id
 
 -- the vote that a reply gives as it comes; none where its block waits, is asked for, or is to be asked for
 abbrev pub vote_at_once : Lists → Board → List ℕ → Option (Option (List ℕ))

@@ -1,6 +1,7 @@
 -- The gone list: blocks that were accepted, rejected or taken out, the latest last.
 use Rattle.std.specs.Prelude.{ℕ, Bool, List, Option}
 use Rattle.std.specs.Option.{option_and_then, is_some}
+use Rattle.snow_base.specs.declared.limits.TheConstants.{MOST_GONE}
 use Rattle.snow_recent.specs.Model.Recent as recent
 use Rattle.snow_issue.specs.declared.gone.Gone.{Gone}
 
@@ -18,4 +19,4 @@ stands_for gone id = option_and_then (λ e. e.parent) (latest gone id)
 
 -- the list with one more entry: the oldest one is forgotten where 8,192 are there
 abbrev pub with_gone : List Gone → Gone → List Gone
-with_gone gone e = recent.with_latest 8192 gone e
+with_gone gone e = recent.with_latest MOST_GONE gone e

@@ -1,9 +1,11 @@
 -- The lists of a queue, and what they say of an identifier.
-use Rattle.std.specs.Prelude.{ℕ, ◌+◌, ◌≤◌, Bool, not, ◌&&◌, ◌==◌, List, [], ◌∷◌, ◌++◌, length, filter, bytes_eq, None, nat_lt, if◌then◌else◌}
-use Rattle.std.specs.List.{list_any, remove, position_or_len}
+use Rattle.std.specs.Prelude.{ℕ, ◌+◌, ◌≤◌, Bool, not, ◌&&◌, ◌==◌, List, [], ◌∷◌, ◌++◌, length, filter, bytes_eq, None}
+use Rattle.std.specs.List.{list_any}
+use Rattle.snow_base.specs.declared.limits.TheConstants.{MOST_WAITING, MOST_GETS, MOST_GONE}
 use Rattle.snow_base.specs.declared.header.Header.{Header}
 use Rattle.snow_issue.specs.declared.work.Waiting.{Waiting}
-use Rattle.snow_issue.specs.declared.work.Get.{Get}
+use Rattle.snow_gets.specs.declared.gets.Get.{Get}
+use Rattle.snow_gets.specs.Model.Gets.{asked_in, is_get, with_get, without}
 use Rattle.snow_issue.specs.declared.work.Held.{Held}
 use Rattle.snow_issue.specs.declared.gone.Gone.{Gone}
 use Rattle.snow_issue.specs.Model.Gone.{with_gone}
@@ -19,10 +21,6 @@ pub record Lists : Type 0 where
 abbrev pub begun : List ℕ → Lists
 begun last = record { waiting = []; gets = []; held = []; gone = record { id = last; parent = None } ∷ [] }
 
--- the list without the first item that passes
-abbrev pub without : {T : Type 0} → (T → Bool) → List T → List T
-without test items = remove items (position_or_len test items)
-
 -- whether a block waits
 abbrev pub waits_among : List Waiting → List ℕ → Bool
 waits_among waiting id = list_any (λ w. bytes_eq w.header.id id) waiting
@@ -34,25 +32,8 @@ waits q id = waits_among q.waiting id
 abbrev pub waits_below : List Waiting → Header → Bool
 waits_below waiting child = list_any (λ w. bytes_eq w.header.id child.parent && (w.header.height + 1 == child.height)) waiting
 
--- whether a block is asked for
-abbrev pub asked_in : List Get → List ℕ → Bool
-asked_in gets id = list_any (λ g. bytes_eq g.id id) gets
-
 abbrev pub is_asked : Lists → List ℕ → Bool
 is_asked q id = asked_in q.gets id
-
--- whether a get with this number is open
-abbrev pub has_number : List Get → ℕ → Bool
-has_number gets number = list_any (λ g. g.number == number) gets
-
--- whether this is the get of that number and node
-abbrev pub is_get : ℕ → List ℕ → Get → Bool
-is_get number node g = (g.number == number) && bytes_eq g.node node
-
--- the open gets with one more, in order of number
-abbrev pub with_get : List Get → Get → List Get
-with_get [] get = get ∷ []
-with_get (g ∷ gets) get = if nat_lt get.number g.number then get ∷ g ∷ gets else g ∷ with_get gets get
 
 -- whether this is the reply of that node to that poll
 abbrev pub is_reply : ℕ → List ℕ → Held → Bool
@@ -87,6 +68,6 @@ after_forgotten q number = record q { held = filter (λ h. not (h.number == numb
 
 -- the most that the lists hold
 pub record AreWithinLimits (q : Lists) : Type 0 where
-  pub few_waiting : length q.waiting ≤ 4096
-  pub few_gets : length q.gets ≤ 4096
-  pub few_gone : length q.gone ≤ 8192
+  pub few_waiting : length q.waiting ≤ MOST_WAITING
+  pub few_gets : length q.gets ≤ MOST_GETS
+  pub few_gone : length q.gone ≤ MOST_GONE

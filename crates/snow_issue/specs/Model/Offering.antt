@@ -1,6 +1,7 @@
 -- A block is offered to the queue: whether it waits, and whether its parent is to be asked for.
 use Rattle.std.specs.Prelude.{ℕ, ◌+◌, Bool, not, ◌&&◌, ◌||◌, List, length, Option, Some, None, is_some, is_none, nat_lt, nat_le, if◌then◌else◌}
 use Rattle.std.specs.Option.{unwrap_or}
+use Rattle.snow_base.specs.declared.limits.TheConstants.{MOST_WAITING, MOST_GETS}
 use Rattle.snow_base.specs.declared.header.Header.{Header}
 use Rattle.snow_board.specs.Model.Board.{Board, height_of}
 use Rattle.snow_issue.specs.declared.work.Waiting.{Waiting}
@@ -23,7 +24,7 @@ is_unknown q board id = not (is_on board id || (waits q id || (is_asked q id || 
 
 -- whether a block that a reply names is to be asked for
 abbrev pub wanted : Lists → Board → List ℕ → Bool
-wanted q board id = is_unknown q board id && nat_lt (length q.gets) 4096
+wanted q board id = is_unknown q board id && nat_lt (length q.gets) MOST_GETS
 
 -- whether a block is so high that its parent isn't the last accepted one's sibling or below it
 abbrev pub is_high : Board → Header → Bool
@@ -39,7 +40,7 @@ refusal q board block =
     if is_on board block.id || waits q block.id then Some offer.Known
     else (if is_some (stands_for q.gone block.id) then Some offer.Invalid
     else (if is_gone q block.id || nat_le block.height board.height then Some offer.Old
-    else (if nat_lt (length q.waiting) 4096 then None else Some offer.Full)))
+    else (if nat_lt (length q.waiting) MOST_WAITING then None else Some offer.Full)))
 
 -- whether an offered block is ready as it comes: its parent is on the board, and nothing stands against it
 abbrev pub is_next : Lists → Board → Header → Bool

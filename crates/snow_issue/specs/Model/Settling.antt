@@ -4,13 +4,14 @@ use Rattle.std.specs.Option.{option_map, option_or}
 use Rattle.snow_base.specs.declared.header.Header.{Header}
 use Rattle.snow_board.specs.Model.Board.{Board}
 use Rattle.snow_issue.specs.declared.work.Waiting.{Waiting}
-use Rattle.snow_issue.specs.declared.work.Get.{Get}
+use Rattle.snow_gets.specs.declared.gets.Get.{Get}
 use Rattle.snow_issue.specs.declared.work.Held.{Held}
 use Rattle.snow_issue.specs.declared.work.Work.{Work}
 use Rattle.snow_issue.specs.declared.work.Work.TheVariants as work
 use Rattle.snow_issue.specs.declared.gone.Gone.{Gone}
 use Rattle.snow_issue.specs.Model.Gone.{with_gone, stands_for}
-use Rattle.snow_issue.specs.Model.Lists.{Lists, without, waits_among, waits_below, asked_in}
+use Rattle.snow_gets.specs.Model.Gets.{without, asked_in}
+use Rattle.snow_issue.specs.Model.Lists.{Lists, waits_among, waits_below}
 use Rattle.snow_issue.specs.Model.Offering.{is_on}
 
 -- whether a waiting block is hopeless: its parent isn't on the board, isn't asked for, and doesn't wait right below it

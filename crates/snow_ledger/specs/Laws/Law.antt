@@ -3,7 +3,7 @@
 use Rattle.std.specs.Prelude.{◌≡◌, ℕ, ◌+◌, ◌≤◌, true, List, [], ◌∷◌, ◌++◌, Option, Some, flat_map}
 use Rattle.std.specs.Option.{option_and_then}
 use Rattle.std.specs.List.{AllPairs}
-use Rattle.snow_ledger.specs.declared.transfers.Transfer.{Transfer}
+use Rattle.snow_ledger.specs.declared.state.Transfer.{Transfer}
 use Rattle.snow_ledger.specs.Model.Blocks.{transfers_of}
 use Rattle.snow_ledger.specs.Model.Ledger.{held, total, sent, received, after, is_good, next, takes}
 

@@ -6,7 +6,7 @@ use Rattle.byteorder.specs.Endian.{big_number}
 use Rattle.sha2.specs.Sha256.{sha256}
 use Rattle.snow_base.specs.declared.header.Header.{Header}
 use Rattle.snow_chain.specs.Model.Fields.{id_at, number_at}
-use Rattle.snow_ledger.specs.declared.transfers.Transfer.{Transfer}
+use Rattle.snow_ledger.specs.declared.state.Transfer.{Transfer}
 
 -- the number in the 2 bytes from a place on, the higher first
 abbrev pub short_at : List ℕ → ℕ → ℕ

@@ -1,6 +1,6 @@
 -- A board and a chain that belong together, and decisions of which a chain can be told.
 use Rattle.std.specs.Prelude.{◌≡◌, ℕ, Bool, true, false, List, [], ◌∷◌, Option, Some, None, is_some, ⊤}
-use Rattle.snow_board.specs.declared.decision.Decision.{Decision}
+use Rattle.snow_board.specs.declared.board.Decision.{Decision}
 use Rattle.snow_base.specs.declared.header.Header.{Header}
 use Rattle.snow_board.specs.Model.Board.{Board, height_of, issued}
 use Rattle.snow_board.specs.Laws.Reached.{Reached}

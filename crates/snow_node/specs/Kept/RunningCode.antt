@@ -8,11 +8,11 @@ use Rattle.snow_board.specs.Model.Board.{Board}
 use Rattle.snow_board.specs.Kept.BoardCode.{coded_board}
 use Rattle.snow_chain.specs.Model.Chain.{Held as States}
 use Rattle.snow_chain.specs.Kept.Coded.{coded_held}
-use Rattle.snow_poll.specs.declared.reply.Reply.{Reply}
+use Rattle.snow_poll.specs.declared.poll.Reply.{Reply}
 use Rattle.snow_poll.specs.Model.Poll.{Poll}
 use Rattle.snow_poll.specs.Model.Table.{Table}
 use Rattle.snow_issue.specs.declared.gone.Gone.{Gone}
-use Rattle.snow_issue.specs.declared.work.Get.{Get}
+use Rattle.snow_gets.specs.declared.gets.Get.{Get}
 use Rattle.snow_issue.specs.declared.work.Held.{Held}
 use Rattle.snow_issue.specs.declared.work.Waiting.{Waiting}
 use Rattle.snow_issue.specs.Model.Lists.{Lists}

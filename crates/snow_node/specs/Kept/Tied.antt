@@ -1,5 +1,6 @@
 -- What ties the board, the chain, the polls and the queue of a node that runs.
 use Rattle.std.specs.Prelude.{◌≡◌, ℕ, ◌-◌, ◌^◌, ◌<◌, ◌≤◌, length, false, List, [], ◌∷◌, None}
+use Rattle.snow_base.specs.declared.limits.TheConstants.{MOST_GETS}
 use Rattle.snow_base.specs.declared.header.Header.{Header}
 use Rattle.snow_flake.specs.Model.Parameters.{Parameters}
 use Rattle.snow_board.specs.Model.Board.{Board, height_of}
@@ -35,7 +36,7 @@ MayWork board queue (work.Vote reply) = Unit {0}
 
 -- a block may be asked for: there is room for one get more, and it isn't asked for yet
 pub record MayFetch (queue : Lists) (id : List ℕ) : Type 0 where
-  pub room : length queue.gets < 4096
+  pub room : length queue.gets < MOST_GETS
   pub new : is_asked queue id ≡ false
 
 -- no number of these items is greater

@@ -2,7 +2,7 @@
 use Rattle.std.specs.Prelude.{ℕ, Bool, true, false, List, fold, length, Option, Some, None, Ok}
 use Rattle.snow_base.specs.declared.vote.Vote.{Vote}
 use Rattle.snow_flake.specs.Model.Rule.{Answer}
-use Rattle.snow_board.specs.declared.decision.Decision.{Decision}
+use Rattle.snow_board.specs.declared.board.Decision.{Decision}
 use Rattle.snow_board.specs.Model.Board.{Board}
 use Rattle.snow_board.specs.Model.Poll.{poll}
 use Rattle.snow_poll.specs.Model.Table.{finished, shortened, voted}

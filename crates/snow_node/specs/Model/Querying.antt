@@ -1,5 +1,6 @@
 -- Queries for the preference: when one is sent, to whom, and when others follow.
 use Rattle.std.specs.Prelude.{ℕ, ◌-◌, Bool, true, false, ◌&&◌, List, [], length, Result, Ok, Err, nat_le, nat_lt, if◌then◌else◌}
+use Rattle.snow_base.specs.declared.limits.TheConstants.{MOST_POLLS}
 use Rattle.snow_flake.specs.Model.Rule.{Answer}
 use Rattle.snow_sample.specs.declared.draws.Draw.{Draw}
 use Rattle.snow_sample.specs.declared.sampling.SampleFault.{SampleFault}
@@ -34,7 +35,7 @@ sampled answer node (Ok (draws, left)) = numbered (record node { words = left })
 -- a query for the preference, and whether it was sent
 abbrev pub queried : Answer → Running → Comes (Running × Bool)
 queried answer node =
-    if nat_le 1024 (length node.polls.polls) then not_sent node why.Full
+    if nat_le MOST_POLLS (length node.polls.polls) then not_sent node why.Full
     else sampled answer node (sample_of node.roster node.board.parameters.k node.words)
 
 -- whether a block is pending and fewer polls run than may

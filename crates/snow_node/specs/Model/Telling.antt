@@ -1,7 +1,7 @@
 -- What boards and chains that decide are told: the lines of decisions, and what a chain holds after them.
 use Rattle.std.specs.Prelude.{ℕ, List, [], ◌∷◌, ◌++◌, map, fold, bytes_eq, if◌then◌else◌}
 use Rattle.snow_flake.specs.Model.Rule.{Answer}
-use Rattle.snow_board.specs.declared.decision.Decision.{Decision}
+use Rattle.snow_board.specs.declared.board.Decision.{Decision}
 use Rattle.snow_board.specs.Model.Board.{Board}
 use Rattle.snow_board.specs.Model.Preference.{preferred}
 use Rattle.snow_chain.specs.Model.Chain.{Held, accepted, rejected}

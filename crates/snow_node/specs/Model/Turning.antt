@@ -1,5 +1,6 @@
 -- The step of a node that runs, event by event.
 use Rattle.std.specs.Prelude.{ℕ, ◌+◌, false, List, ◌++◌, map, length, Option, Some, None, Ok, nat_lt, ◌==◌, if◌then◌else◌}
+use Rattle.snow_base.specs.declared.limits.TheConstants.{MOST_WORDS}
 use Rattle.snow_flake.specs.Model.Rule.{Answer}
 use Rattle.snow_sample.specs.declared.roster.Node.{Node as Member}
 use Rattle.snow_sample.specs.declared.roster.RosterFault.{RosterFault}
@@ -22,7 +23,7 @@ use Rattle.snow_node.specs.Model.Hearing.{block_came, vote_came, timed_out}
 -- words came; they may bring queries where no poll runs
 abbrev pub words_came : Answer → Running → ℕ → List ℕ → Comes Running
 words_came answer node frame words =
-    if nat_lt 65536 (length node.words + length words) then with_line (line.Skip frame kind.Full) node
+    if nat_lt MOST_WORDS (length node.words + length words) then with_line (line.Skip frame kind.Full) node
     else if length node.polls.polls == 0 then repolled answer (record node { words = node.words ++ words })
     else quietly (record node { words = node.words ++ words })
 

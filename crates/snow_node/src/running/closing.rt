@@ -81,7 +81,7 @@ impl<C: Chain, B: Board> Running<C, B> {
         mark_gone(&mut self.queue, self.board.decisions());
         serve_decisions(&mut self.served, &mut self.room, self.board.decisions());
         self.recorded = true;
-        self.remembered = self.remembered.polled();
+        self.queue_state = self.queue_state.polled();
         tell(&self.board, &before, log)?;
         Ok(true)
     }

@@ -1,7 +1,7 @@
 //! How a node that runs asks for blocks.
 
 ghost use Rattle.std.specs.Prelude.{◌≡◌, None, IfSome, OnOk};
-ghost use Rattle.snow_issue.specs.Model.Lists.{has_number};
+ghost use Rattle.snow_gets.specs.Model.Gets.{has_number};
 ghost use Rattle.snow_node.specs.Kept.Tied.{MayFetch, AreBothOff};
 ghost use Rattle.snow_node.specs.Model.Running.{numbered};
 ghost use Rattle.snow_node.specs.Model.Hearing as model;
@@ -33,17 +33,17 @@ impl<C: Chain, B: Board> Running<C, B> {
             return Ok(());
         };
         self.fetch(peer, id, log)?;
-        self.rest(block);
+        self.mark_quiet(block);
         Ok(())
     }
 
     /// Marks a block that came last as quiet, and the one before it where that is its child.
-    fn rest(&mut self, block: &Header)
+    fn mark_quiet(&mut self, block: &Header)
         requires { AreBothOff self.old.board block.now }
         ensures { self.new ≡ self.old }
     {
-        let rests = self.queue.rest(block);
-        self.remembered = self.remembered.looked(rests);
+        let idle = self.queue.mark_quiet(block);
+        self.queue_state = self.queue_state.looked(idle);
     }
 
     /// Asks a peer for a block, by a number of its own.
@@ -110,7 +110,7 @@ impl<C: Chain, B: Board> Running<C, B> {
         ensures node { self.new ≡ model.without_get self.old number peer.now }
         ensures none { result ≡ None → self.new ≡ self.old }
     {
-        self.remembered = self.remembered.woken();
+        self.queue_state = self.queue_state.woken();
         self.queue.close_get(number, peer)
     }
 }

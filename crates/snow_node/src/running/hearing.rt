@@ -11,7 +11,7 @@ ghost use Rattle.snow_node.specs.Clauses.Stepping.{Tells, Turns};
 
 use crate::reporting::{drop_block, write};
 use crate::running::Running;
-use crate::running::remembering::Remembered;
+use crate::running::queue_state::QueueState;
 use crate::stop::Halt;
 use snow_base::{Bytes, Header, Id, NodeId};
 use snow_board::Board;
@@ -102,8 +102,8 @@ impl<C: Chain, B: Board> Running<C, B> {
     fn is_next(&self, block: &Header) -> bool
         ensures { result ≡ true → model.IsNext self.now block.now }
     {
-        match self.remembered {
-            Remembered::Idle => self.queue.is_next(block, &self.board),
+        match self.queue_state {
+            QueueState::Settled => self.queue.is_next(block, &self.board),
             _ => false,
         }
     }
@@ -133,7 +133,7 @@ impl<C: Chain, B: Board> Running<C, B> {
     fn forget_children(&mut self, id: &Id)
         ensures { self.new ≡ self.old }
     {
-        self.remembered = self.remembered.next(id);
+        self.queue_state = self.queue_state.next(id);
         self.queue.forget_children(id);
     }
 
@@ -151,7 +151,7 @@ impl<C: Chain, B: Board> Running<C, B> {
         ensures lines { let block : Block = record { node = peer.now; header = header.now; bytes = bytes.now } in
             Tells result log.old log.new (model.brought self.old block).0 }
     {
-        self.remembered = self.remembered.woken();
+        self.queue_state = self.queue_state.woken();
         match self
             .queue
             .bring(&mut self.room, *peer, header, bytes, &self.board)?
@@ -197,8 +197,8 @@ impl<C: Chain, B: Board> Running<C, B> {
     fn is_own_vote(&self, id: &Id) -> bool
         ensures { result ≡ true → model.IsFirst self.now id.now (Some id.now) }
     {
-        match self.remembered {
-            Remembered::Idle => self.queue.is_own_vote(id, &self.board),
+        match self.queue_state {
+            QueueState::Settled => self.queue.is_own_vote(id, &self.board),
             _ => false,
         }
     }
@@ -208,8 +208,8 @@ impl<C: Chain, B: Board> Running<C, B> {
     fn vote_at_once(&self, id: &Id) -> Option<Option<Id>>
         ensures { IfSome result (λ vote. model.IsFirst self.now id.now vote) }
     {
-        match self.remembered {
-            Remembered::Idle => self.queue.vote_at_once(id, &self.board),
+        match self.queue_state {
+            QueueState::Settled => self.queue.vote_at_once(id, &self.board),
             _ => None,
         }
     }
@@ -270,7 +270,7 @@ impl<C: Chain, B: Board> Running<C, B> {
         ensures answer { Turns result self.new (model.vote_held self.old number peer.now id).1 }
         ensures lines { Tells result log.old log.new (model.vote_held self.old number peer.now id).0 }
     {
-        self.remembered = self.remembered.woken();
+        self.queue_state = self.queue_state.woken();
         self.queue.hold(Held {
             number,
             node: *peer,

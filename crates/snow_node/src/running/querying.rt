@@ -6,14 +6,12 @@ ghost use Rattle.snow_node.specs.Clauses.Stepping.{Answers, Tells, Turns};
 
 use crate::running::Running;
 use crate::stop::Halt;
+use snow_base::limits::MOST_POLLS;
 use snow_board::Board;
 use snow_chain::Chain;
 use snow_flake::Params;
 use snow_lines::{Line, Lines, QueryWhy};
 use snow_sample::{Draws, Roster, SampleFault, Words};
-
-/// The most polls that run at a time.
-const MOST_POLLS: usize = 1024;
 
 impl<C: Chain, B: Board> Running<C, B> {
     /// Makes a query for the preference, and returns whether it sent it.
@@ -33,7 +31,7 @@ impl<C: Chain, B: Board> Running<C, B> {
 
     /// Draws nodes and asks them for the preference, and returns whether it did.
     fn draw_and_send(&mut self, log: &mut Lines) -> Result<bool, Halt>
-        requires { length self.old.polls.polls < 1024 }
+        requires { length self.old.polls.polls < MOST_POLLS }
         ensures answer { Answers result self.new (model.queried B.answer self.old).1 }
         ensures lines { Tells result log.old log.new (model.queried B.answer self.old).0 }
     {
@@ -52,7 +50,7 @@ impl<C: Chain, B: Board> Running<C, B> {
     /// Sends the query to those drawn.
     #[tactic(auto, using(crate::proofs::Logs::logs_nothing))]
     fn send(&mut self, draws: Draws, log: &mut Lines) -> Result<bool, Halt>
-        requires room { length self.old.polls.polls < 1024 }
+        requires room { length self.old.polls.polls < MOST_POLLS }
         requires count { draw_count draws ≡ self.old.board.parameters.k }
         requires nodes { AreOfDistinctNodes draws }
         ensures answer { Answers result self.new (numbered self.old (model.sent B.answer draws)).1 }

@@ -3,9 +3,9 @@ ghost use Rattle.snow_board.specs.Model.Board.{height_of};
 ghost use Rattle.snow_board.specs.Model.Preference.{is_preferred};
 ghost use Rattle.snow_board.specs.Laws.Reached.{MayIssue};
 ghost use Rattle.snow_chain.specs.Model.Chain.{next_on};
-ghost use Rattle.snow_issue.specs.Kept.Known.{Knows, RestsAfter, lists_of};
+ghost use Rattle.snow_issue.specs.Kept.Known.{Knows, MarksAfter, lists_of};
 ghost use Rattle.snow_issue.specs.Model.Settling.{after, work_of, IsIdle};
-ghost use Rattle.snow_node.specs.Kept.Remembering.{Remembers};
+ghost use Rattle.snow_node.specs.Kept.QueueState.{IsInState};
 ghost use Rattle.snow_node.specs.Kept.Tied.{IsApart, MayWork};
 ghost use Rattle.snow_node.specs.Model.Outcome.{then_comes};
 ghost use Rattle.snow_node.specs.Model.Placing.{opposed};
@@ -15,7 +15,7 @@ ghost use Rattle.snow_node.specs.Clauses.Stepping.{Answers, Tells, Turns};
 use crate::admitting::opposition;
 use crate::reporting::{drop_block, tell};
 use crate::running::Running;
-use crate::running::remembering::Remembered;
+use crate::running::queue_state::QueueState;
 use crate::running::supplying::verify_and_issue;
 use crate::stop::Halt;
 use snow_base::{Bytes, Header, Id};
@@ -49,8 +49,8 @@ impl<C: Chain, B: Board> Running<C, B> {
     fn is_idle(&self) -> bool
         ensures { result ≡ true → IsIdle self.now.queue self.now.board }
     {
-        match self.remembered {
-            Remembered::Idle => true,
+        match self.queue_state {
+            QueueState::Settled => true,
             _ => false,
         }
     }
@@ -72,8 +72,8 @@ impl<C: Chain, B: Board> Running<C, B> {
         ensures node { self.new ≡ model.without_work self.old result }
         ensures may { IfSome result (λ work. MayWork self.new.board self.new.queue work) }
     {
-        let work = take_next(&mut self.queue, &self.board, &self.remembered);
-        self.remembered = Remembered::taken(&work);
+        let work = take_next(&mut self.queue, &self.board, &self.queue_state);
+        self.queue_state = QueueState::taken(&work);
         work
     }
 
@@ -153,7 +153,7 @@ impl<C: Chain, B: Board> Running<C, B> {
         )? {
             return self.refuse(block, log);
         }
-        self.remembered = self.remembered.issued(&block.id);
+        self.queue_state = self.queue_state.issued(&block.id);
         tell(&self.board, &before, log)?;
         self.ask_on_the_way(&block.id, log)
     }
@@ -198,18 +198,18 @@ impl<C: Chain, B: Board> Running<C, B> {
 }
 
 /// Takes the first thing that is to do out of a queue that can be trusted so far.
-fn take_next<B: Board>(queue: &mut Queue, board: &B, remembered: &Remembered) -> Option<Work>
-    requires { Remembers (B.board board.now) queue.old remembered.now }
+fn take_next<B: Board>(queue: &mut Queue, board: &B, queue_state: &QueueState) -> Option<Work>
+    requires { IsInState (B.board board.now) queue.old queue_state.now }
     ensures work { result ≡ work_of (lists_of queue.old) (B.board board.now) }
     ensures lists { lists_of queue.new ≡ after (lists_of queue.old) (B.board board.now) result }
     ensures knows { Knows queue.new (B.board board.now) }
-    ensures rests { RestsAfter result queue.new.seats }
+    ensures marks { MarksAfter result queue.new.seats }
 {
-    match remembered {
-        Remembered::Nothing => queue.next_work(board),
-        Remembered::True => queue.next_known(board),
-        Remembered::Calm => queue.next_known(board),
-        Remembered::Idle => None,
-        Remembered::Ready(_) => queue.next_known(board),
+    match queue_state {
+        QueueState::Stale => queue.next_work(board),
+        QueueState::Accurate => queue.next_known(board),
+        QueueState::NoneReady => queue.next_known(board),
+        QueueState::Settled => None,
+        QueueState::Issuing(_) => queue.next_known(board),
     }
 }

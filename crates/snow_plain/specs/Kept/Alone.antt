@@ -7,7 +7,7 @@ use Rattle.snow_base.specs.Model.Identifier.{bits}
 use Rattle.snow_flake.specs.Model.Counter.{Counter}
 use Rattle.snow_flake.specs.Kept.Instance.{Single, at_bit, counter_of}
 use Rattle.snow_flake.specs.Model.Rule.{answer_of, by_flake}
-use Rattle.snow_plain.specs.declared.lone.Lone.{Lone}
+use Rattle.snow_plain.specs.declared.only_child.OnlyChild.{OnlyChild}
 use Rattle.snow_board.specs.Model.Conflict.{Counters, Blank, At, with_child, votes_on}
 use Rattle.snow_board.specs.Kept.Walk.{depth}
 
@@ -27,14 +27,14 @@ filled s Blank = Blank
 filled s (At c z o) = At (counter_of (at_bit s (answer_of by_flake c))) (filled s z) (filled s o)
 
 -- the counters of a conflict: those of its only child, or else those of the tree
-abbrev pub counters_seen : Option Lone → Counters → Counters
+abbrev pub counters_seen : Option OnlyChild → Counters → Counters
 counters_seen None counters = counters
-counters_seen (Some lone) counters = lined lone.counter (bits lone.child)
+counters_seen (Some only_child) counters = lined only_child.counter (bits only_child.child)
 
 -- beside an only child the tree is as its issue left it
-abbrev pub IsReserve : Option Lone → Counters → Type 0
+abbrev pub IsReserve : Option OnlyChild → Counters → Type 0
 IsReserve None counters = Unit {0}
-IsReserve (Some lone) counters = counters ≡ with_child (bits lone.child) Blank
+IsReserve (Some only_child) counters = counters ≡ with_child (bits only_child.child) Blank
 
 -- whether no counter stands
 abbrev pub is_blank : Counters → Bool
@@ -42,9 +42,9 @@ is_blank Blank = true
 is_blank (At c z o) = false
 
 -- what is known of a conflict's tree
-pub record IsKept (lone : Option Lone) (counters : Counters) : Type 0 where
+pub record IsKept (only_child : Option OnlyChild) (counters : Counters) : Type 0 where
   pub shallow : depth counters ≤ 256
-  pub reserve : IsReserve lone counters
+  pub reserve : IsReserve only_child counters
 
 -- so many votes for one child are for each front of its bits
 abbrev pub along : List Bool → ℕ → List Bool → ℕ

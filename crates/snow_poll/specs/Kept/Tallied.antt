@@ -3,6 +3,7 @@ use Rattle.std.specs.Prelude.{◌≡◌, ℕ, ◌+◌, ◌%◌, ◌^◌, ◌<◌
 use Rattle.std.specs.BTreeMap.{BTreeMap, get}
 use Rattle.std.specs.Option.{option_map}
 use Rattle.std.specs.Ordering.{nat_cmp, match_ordering}
+use Rattle.snow_base.specs.declared.limits.TheConstants.{MOST_POLLS}
 use Rattle.snow_base.specs.Model.Identifier.{bit_cmp}
 use Rattle.snow_base.specs.declared.vote.Vote.{Vote}
 use Rattle.snow_base.specs.Model.Votes.{Votes, most_count}
@@ -70,7 +71,7 @@ HaveOwnNumbers (q ∷ polls) = (has_number polls q.number ≡ false) × HaveOwnN
 
 -- what is kept of the table: polls that are whole, no two of one number, and the turn of each
 pub record IsTable (p : Parameters) (polls : List Poll) (turns : BTreeMap ℕ ℕ) (gone : ℕ) : Type 0 where
-  pub few : length polls ≤ 1024
+  pub few : length polls ≤ MOST_POLLS
   pub whole : All (λ q. draw_count q.draws ≡ p.k) polls
   pub distinct : HaveOwnNumbers polls
   pub placed : ArePlaced turns gone polls

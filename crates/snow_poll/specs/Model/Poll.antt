@@ -6,7 +6,7 @@ use Rattle.snow_base.specs.declared.vote.Vote.{Vote}
 use Rattle.snow_base.specs.Model.Votes.{added}
 use Rattle.snow_sample.specs.declared.draws.Draw.{Draw}
 use Rattle.snow_sample.specs.Model.Sampling.{draw_count}
-use Rattle.snow_poll.specs.declared.reply.Reply.{Reply}
+use Rattle.snow_poll.specs.declared.poll.Reply.{Reply}
 
 -- the number of a poll, the draws that it was begun over, and the replies in order of arrival; each node replies once
 pub record Poll : Type 0 where

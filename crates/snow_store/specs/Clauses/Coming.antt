@@ -1,9 +1,9 @@
 -- What is kept and found after a block came.
 use Rattle.std.specs.Prelude.{ℕ, ◌&&◌, not, List, [], ◌∷◌, ◌++◌, Result, Ok, Err, if◌then◌else◌}
-use Rattle.snow_store.specs.declared.block.KeptBlock.{KeptBlock}
+use Rattle.snow_store.specs.declared.store.KeptBlock.{KeptBlock}
 use Rattle.snow_store.specs.declared.stop.BootStop.{BootStop}
-use Rattle.snow_store.specs.declared.verdict.Verdict.{Verdict}
-use Rattle.snow_store.specs.declared.verdict.Verdict.TheVariants as verdict
+use Rattle.snow_store.specs.declared.stop.Verdict.{Verdict}
+use Rattle.snow_store.specs.declared.stop.Verdict.TheVariants as verdict
 use Rattle.snow_store.specs.Model.Keeping.{taken, after_taking}
 use Rattle.snow_store.specs.Model.Paths.{Fetch, has_id}
 

@@ -4,8 +4,9 @@ use Rattle.std.specs.BTreeMap.{BTreeMap, get}
 use Rattle.std.specs.Cmp.Lexicographic.{slice_cmp}
 use Rattle.std.specs.Option.{option_map}
 use Rattle.std.specs.Ordering.{nat_cmp}
+use Rattle.snow_base.specs.declared.limits.TheConstants.{MOST_KEPT}
 use Rattle.snow_interval.specs.Model.Heights.{Heights}
-use Rattle.snow_store.specs.declared.block.KeptBlock.{KeptBlock}
+use Rattle.snow_store.specs.declared.store.KeptBlock.{KeptBlock}
 use Rattle.snow_store.specs.declared.index.Children.{Children}
 use Rattle.snow_store.specs.Model.Keeping.{Store, highest}
 use Rattle.snow_store.specs.Laws.Linking.{IsLinked, held_heights}
@@ -61,7 +62,7 @@ HasChildren children kept = (id : List ℕ) → get (slice_cmp nat_cmp) children
 -- the kept blocks are linked, at most so many, and each index is theirs
 pub record IsStored (s : Store) (by_height : BTreeMap ℕ ℕ) (by_id : BTreeMap (List ℕ) ℕ) (by_parent : BTreeMap (List ℕ) Children) (above : ℕ) (heights : Heights) : Type 0 where
   pub linked : IsLinked s
-  pub few : length s.kept ≤ 32768
+  pub few : length s.kept ≤ MOST_KEPT
   pub places : HasPlaces by_height s.kept
   pub tops : HasTops by_id s.kept
   pub children : HasChildren by_parent s.kept

@@ -2,8 +2,8 @@
 use Rattle.std.specs.Prelude.{◌≡◌, ℕ, true, List, Option, Ok}
 use Rattle.std.specs.BTreeMap.{BTreeMap}
 use Rattle.snow_base.specs.declared.header.Header.{Header}
-use Rattle.snow_store.specs.declared.due.Due.{Due}
-use Rattle.snow_store.specs.declared.verdict.Verdict.{Verdict}
+use Rattle.snow_store.specs.declared.needs.Due.{Due}
+use Rattle.snow_store.specs.declared.stop.Verdict.{Verdict}
 use Rattle.snow_store.specs.Kept.Indexing.{Shelf}
 use Rattle.snow_store.specs.Model.Keeping.{Store, taken}
 use Rattle.snow_store.specs.Laws.Linking.{IsLinked}

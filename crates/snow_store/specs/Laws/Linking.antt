@@ -1,7 +1,7 @@
 -- Kept blocks that fit one another, and the law of their paths.
 use Rattle.std.specs.Prelude.{◌≡◌, ℕ, zero, suc, ◌+◌, ◌-◌, ◌<◌, ◌≤◌, true, List, [], ◌∷◌, ◌++◌, Option, Some, None, is_some, Ok, ⊤}
-use Rattle.snow_store.specs.declared.block.KeptBlock.{KeptBlock}
-use Rattle.snow_store.specs.declared.verdict.Verdict.TheVariants as verdict
+use Rattle.snow_store.specs.declared.store.KeptBlock.{KeptBlock}
+use Rattle.snow_store.specs.declared.stop.Verdict.TheVariants as verdict
 use Rattle.snow_interval.specs.Model.Heights.{Heights, lowest}
 use Rattle.snow_store.specs.Model.Keeping.{Store, held, highest, taken, keeping}
 use Rattle.snow_store.specs.Model.Paths.{Fetch, path, last_of, has_id, is_whole, highest_target, path_up}

@@ -1,7 +1,7 @@
 -- What a block that is missed brings.
 use Rattle.std.specs.Prelude.{◌≡◌, ℕ, true, List, Some, None, Ok, ◌⊎◌}
-use Rattle.snow_store.specs.declared.block.KeptBlock.{KeptBlock}
-use Rattle.snow_store.specs.declared.verdict.Verdict.TheVariants as verdict
+use Rattle.snow_store.specs.declared.store.KeptBlock.{KeptBlock}
+use Rattle.snow_store.specs.declared.stop.Verdict.TheVariants as verdict
 use Rattle.snow_store.specs.Laws.Linking.{IsLinked}
 use Rattle.snow_store.specs.Model.Needing.{need_at}
 use Rattle.snow_store.specs.Model.Paths.{Fetch, has_id, missed}

@@ -1,12 +1,13 @@
 -- The blocks that are kept above the last accepted one, and what becomes of a block that is taken.
 use Rattle.std.specs.Prelude.{◌≡◌, ℕ, ◌+◌, ◌-◌, Bool, ◌==◌, List, [], ◌∷◌, length, Option, Some, None, Result, Ok, Err, nat_le, nat_lt, not, ◌&&◌, bytes_eq, if◌then◌else◌, ⊤}
 use Rattle.std.specs.Option.{option_or}
+use Rattle.snow_base.specs.declared.limits.TheConstants.{MOST_KEPT}
 use Rattle.snow_base.specs.declared.header.Header.{Header}
-use Rattle.snow_store.specs.declared.block.KeptBlock.{KeptBlock}
+use Rattle.snow_store.specs.declared.store.KeptBlock.{KeptBlock}
 use Rattle.snow_store.specs.declared.stop.BootStop.{BootStop}
 use Rattle.snow_store.specs.declared.stop.BootStop.TheVariants as stop
-use Rattle.snow_store.specs.declared.verdict.Verdict.{Verdict}
-use Rattle.snow_store.specs.declared.verdict.Verdict.TheVariants as verdict
+use Rattle.snow_store.specs.declared.stop.Verdict.{Verdict}
+use Rattle.snow_store.specs.declared.stop.Verdict.TheVariants as verdict
 
 -- the last accepted block with its height, and the kept blocks, the latest first
 pub record Store : Type 0 where
@@ -74,17 +75,13 @@ misplaced s b =
     (option_or (below_stop b (held s.kept (b.height - 1)))
     (above_stop b (held s.kept (b.height + 1))))
 
--- how many blocks are kept at most
-abbrev pub most_kept : ℕ
-most_kept = 32768
-
 -- a block at a height that a block holds
 abbrev pub placed_there : Header → KeptBlock → Result Verdict BootStop
 placed_there b other = if bytes_eq other.header.id b.id then Ok verdict.Known else Err (stop.Conflict b.height other.header.id b.id)
 
 -- a block at a height that is free, or that a block holds
 abbrev pub placed : Store → Header → Option KeptBlock → Result Verdict BootStop
-placed s b None = if nat_le most_kept (length s.kept) then Err stop.Full else unless (misplaced s b) (Ok verdict.Keeps)
+placed s b None = if nat_le MOST_KEPT (length s.kept) then Err stop.Full else unless (misplaced s b) (Ok verdict.Keeps)
 placed s b (Some other) = placed_there b other
 
 -- what becomes of a block that is taken

@@ -5,8 +5,8 @@ use Rattle.std.specs.Cmp.Lexicographic.{slice_cmp}
 use Rattle.std.specs.List.{list_any}
 use Rattle.std.specs.Ordering.{nat_cmp}
 use Rattle.snow_interval.specs.Model.Heights.{lowest}
-use Rattle.snow_store.specs.declared.due.Due.{Due}
-use Rattle.snow_store.specs.declared.due.Due.TheVariants as due
+use Rattle.snow_store.specs.declared.needs.Due.{Due}
+use Rattle.snow_store.specs.declared.needs.Due.TheVariants as due
 use Rattle.snow_store.specs.Model.Keeping.{Store, held}
 use Rattle.snow_store.specs.Laws.Linking.{held_heights}
 use Rattle.snow_store.specs.Model.Paths.{Fetch, wanted_below, missed}

@@ -1,7 +1,7 @@
 -- Paths by parents through the kept blocks, and what targets miss.
 use Rattle.std.specs.Prelude.{ℕ, zero, suc, ◌+◌, Bool, ◌==◌, ◌||◌, List, [], ◌∷◌, reverse, Option, Some, None, is_none, bytes_eq, if◌then◌else◌}
 use Rattle.std.specs.List.{list_any, list_all}
-use Rattle.snow_store.specs.declared.block.KeptBlock.{KeptBlock}
+use Rattle.snow_store.specs.declared.store.KeptBlock.{KeptBlock}
 use Rattle.snow_store.specs.Model.Keeping.{Store, held, highest, higher}
 
 -- a block, where it has an identifier

@@ -2,6 +2,7 @@
 use Rattle.std.specs.Prelude.{ℕ, ◌+◌, ◌-◌, ◌==◌, not, nat_le, if◌then◌else◌, List, [], ◌∷◌, ◌++◌, length, drop, codes, Option, Some, None, is_some, Result, Ok, Err}
 use Rattle.std.specs.List.{find}
 use Rattle.std.specs.Str.{bytes_eq}
+use Rattle.snow_base.specs.declared.limits.TheConstants.{FRAME_BYTES}
 use Rattle.snow_wire.specs.Model.Frame.{frame}
 use Rattle.snow_text.specs.declared.refusal.Reason.TheVariants as reason
 use Rattle.snow_text.specs.declared.refusal.Refusal.{Refusal}
@@ -19,7 +20,7 @@ pub data Said : Type 0 where
 
 -- a frame, where the payload isn't too long
 abbrev pub framed : List Word → List ℕ → Result Said Halt
-framed words payload = if nat_le (length payload) 2097152 then Ok (Frame payload) else at words (Err reason.Long)
+framed words payload = if nat_le (length payload) FRAME_BYTES then Ok (Frame payload) else at words (Err reason.Long)
 
 -- a block in the words of a chain, by a name
 abbrev pub named_as : Word → Option Chain → List Word → Result Said Halt

@@ -1,6 +1,6 @@
 -- The decisions that an acceptance makes.
 use Rattle.std.specs.Prelude.{ℕ, true, false, List, ◌∷◌, map}
-use Rattle.snow_board.specs.declared.decision.Decision.{Decision}
+use Rattle.snow_board.specs.declared.board.Decision.{Decision}
 
 abbrev pub rejection : List ℕ → Decision
 rejection id = record { accepted = false; id = id }

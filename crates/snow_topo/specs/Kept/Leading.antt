@@ -11,7 +11,7 @@ use Rattle.snow_topo.specs.Kept.Children.{Kept, counters_in}
 
 -- the bits to which what is kept of a block's children leads
 abbrev pub leads_in : Answer → Kept → List Bool
-leads_in answer kept = chosen answer (counters_in kept.contest)
+leads_in answer kept = chosen answer (counters_in kept.conflict)
 
 -- those of pending blocks
 abbrev pub all_leads : Answer → List (Entry Kept) → List (Header × List Bool)

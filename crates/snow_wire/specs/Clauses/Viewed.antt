@@ -4,7 +4,7 @@ use Rattle.byteorder.specs.Endian.{big_number}
 use Rattle.snow_wire.specs.declared.event.Event.{Event}
 use Rattle.snow_wire.specs.declared.event.Event.TheVariants as event
 use Rattle.snow_wire.specs.declared.event.Start.{Start}
-use Rattle.snow_wire.specs.declared.fault.Fault.{Fault}
+use Rattle.snow_wire.specs.declared.skip.Fault.{Fault}
 use Rattle.snow_wire.specs.declared.opening.Opening.{Opening}
 use Rattle.snow_wire.specs.declared.view.View.{View}
 use Rattle.snow_wire.specs.declared.view.View.TheVariants as view

@@ -1,12 +1,13 @@
 -- A stream as frames: four bytes of length, at most 2,097,152, and so many bytes of payload.
 use Rattle.std.specs.Prelude.{◌≡◌, ℕ, zero, suc, ◌+◌, ◌<◌, ◌≤◌, ◌⊎◌, Bool, ◌&&◌, List, [], ◌∷◌, ◌++◌, length, take, drop, All, Option, Some, None, nat_le, nat_lt, if◌then◌else◌}
 use Rattle.std.specs.List.{flat_map}
+use Rattle.snow_base.specs.declared.limits.TheConstants.{FRAME_BYTES}
 use Rattle.byteorder.specs.Endian.{big_number}
 use Rattle.snow_wire.specs.Model.Spelling.{number}
 
 -- what may stand in a frame
 abbrev pub IsPayload : List ℕ → Type 0
-IsPayload payload = length payload ≤ 2097152
+IsPayload payload = length payload ≤ FRAME_BYTES
 
 -- the bytes of a frame
 abbrev pub frame : List ℕ → List ℕ
@@ -18,11 +19,11 @@ length_word bytes = big_number 4 bytes
 
 -- a length word stands in front, and is above the limit
 abbrev pub is_too_long : List ℕ → Bool
-is_too_long bytes = nat_le 4 (length bytes) && nat_lt 2097152 (length_word bytes)
+is_too_long bytes = nat_le 4 (length bytes) && nat_lt FRAME_BYTES (length_word bytes)
 
 -- less than a length word, or a length above the limit, or the beginning of a frame that isn't whole
 abbrev pub IsRest : List ℕ → Type 0
-IsRest rest = (length rest < 4) ⊎ (2097152 < length_word rest) ⊎ (length rest < 4 + length_word rest)
+IsRest rest = (length rest < 4) ⊎ (FRAME_BYTES < length_word rest) ⊎ (length rest < 4 + length_word rest)
 
 -- the bytes are these whole frames, and then this rest
 pub record AreFrames (bytes : List ℕ) (payloads : List (List ℕ)) (rest : List ℕ) : Type 0 where
@@ -34,7 +35,7 @@ pub record AreFrames (bytes : List ℕ) (payloads : List (List ℕ)) (rest : Lis
 
 -- a whole frame stands in front
 abbrev pub is_whole : List ℕ → Bool
-is_whole bytes = nat_le 4 (length bytes) && nat_le (length_word bytes) 2097152 && nat_le (4 + length_word bytes) (length bytes)
+is_whole bytes = nat_le 4 (length bytes) && nat_le (length_word bytes) FRAME_BYTES && nat_le (4 + length_word bytes) (length bytes)
 
 -- the first frame's payload, and what is behind the frame
 unfoldable pub first_of : List ℕ → Option (List ℕ × List ℕ)

@@ -1,10 +1,11 @@
 -- Events read from the front of bytes, with the first fault that is met.
 use Rattle.std.specs.Prelude.{◌≡◌, ℕ, zero, suc, ◌<◌, Bool, true, false, List, [], ◌∷◌, length, take, drop, get_or, slice_index, Result, Ok, Err, nat_le, nat_lt, ◌==◌, if◌then◌else◌}
+use Rattle.snow_base.specs.declared.limits.TheConstants.{BLOCK_BYTES, LINE_BYTES, MOST_VOTES, MOST_LISTED, MOST_ANCESTORS}
 use Rattle.byteorder.specs.Endian.{big_number}
 use Rattle.snow_wire.specs.declared.event.Event.{Event}
 use Rattle.snow_wire.specs.declared.event.Event.TheVariants as event
-use Rattle.snow_wire.specs.declared.fault.Fault.{Fault}
-use Rattle.snow_wire.specs.declared.fault.Fault.TheVariants.{Tag, Short, Extra, Count}
+use Rattle.snow_wire.specs.declared.skip.Fault.{Fault}
+use Rattle.snow_wire.specs.declared.skip.Fault.TheVariants.{Tag, Short, Extra, Count}
 use Rattle.snow_wire.specs.declared.skip.Skip.{Skip}
 use Rattle.snow_wire.specs.declared.skip.Skip.TheVariants as skip
 
@@ -107,7 +108,7 @@ weighed_at bytes = do
 
 -- a block's bytes
 abbrev pub block_at : List ℕ → Read (List ℕ)
-block_at = sized_at 65536
+block_at = sized_at BLOCK_BYTES
 
 -- ---- the fields of an event, behind its tag
 
@@ -122,8 +123,8 @@ start_at bytes = do
   boot ← flag_at repolls.1
   last ← id_at boot.1
   height ← number_at 8 last.1
-  state ← counted_at (number_at 8) 4096 height.1
-  nodes ← counted_at weighed_at 4096 state.1
+  state ← counted_at (number_at 8) MOST_LISTED height.1
+  nodes ← counted_at weighed_at MOST_LISTED state.1
   Ok (
     event.Start (record {
       k = k.0;
@@ -171,21 +172,21 @@ tags =
     unknown_at
     ∷ start_at
     ∷ message_at block_at event.Block
-    ∷ single_at (counted_at id_at 1024) event.Poll
-    ∷ single_at (counted_at (number_at 8) 4096) event.Words
+    ∷ single_at (counted_at id_at MOST_VOTES) event.Poll
+    ∷ single_at (counted_at (number_at 8) MOST_LISTED) event.Words
     ∷ message_at id_at event.Chits
     ∷ sender_at event.Timeout
     ∷ message_at id_at event.Frontier
-    ∷ message_at (counted_at id_at 4096) event.Accepted
-    ∷ message_at (counted_at block_at 2048) event.Ancestors
+    ∷ message_at (counted_at id_at MOST_LISTED) event.Accepted
+    ∷ message_at (counted_at block_at MOST_ANCESTORS) event.Ancestors
     ∷ single_at block_at event.Stored
-    ∷ single_at (counted_at weighed_at 4096) event.Validators
+    ∷ single_at (counted_at weighed_at MOST_LISTED) event.Validators
     ∷ sender_at event.AskQuery
     ∷ sender_at event.AskFrontier
-    ∷ message_at (counted_at id_at 4096) event.AskAccepted
+    ∷ message_at (counted_at id_at MOST_LISTED) event.AskAccepted
     ∷ message_at id_at event.AskAncestors
     ∷ message_at id_at event.AskBlock
-    ∷ single_at (sized_at 1100000) event.Line
+    ∷ single_at (sized_at LINE_BYTES) event.Line
     ∷ []
 
 -- the fields of the event with this tag

@@ -1,6 +1,7 @@
 -- Events as bytes: a tag, and the fields in order. All numbers are unsigned, the highest byte first.
 use Rattle.std.specs.Prelude.{◌≡◌, ℕ, ◌<◌, ◌≤◌, ◌^◌, Bool, true, false, List, ◌∷◌, ◌++◌, length, All}
 use Rattle.std.specs.List.{flat_map}
+use Rattle.snow_base.specs.declared.limits.TheConstants.{BLOCK_BYTES, LINE_BYTES, MOST_VOTES, MOST_LISTED, MOST_ANCESTORS}
 use Rattle.byteorder.specs.Endian.{big_bytes}
 use Rattle.snow_wire.specs.declared.event.Event.{Event}
 use Rattle.snow_wire.specs.declared.event.Event.TheVariants as event
@@ -106,27 +107,27 @@ IsSized (event.Line text) = Unit {0}
 
 -- a block has at most 65,536 bytes
 abbrev pub IsBlock : List ℕ → Type 0
-IsBlock bytes = length bytes ≤ 65536
+IsBlock bytes = length bytes ≤ BLOCK_BYTES
 
 -- counts and lengths are in their ranges
 abbrev pub IsWithinLimits : Event → Type 0
-IsWithinLimits (event.Start s) = (length s.state ≤ 4096) × (length s.nodes ≤ 4096)
+IsWithinLimits (event.Start s) = (length s.state ≤ MOST_LISTED) × (length s.nodes ≤ MOST_LISTED)
 IsWithinLimits (event.Block node request bytes) = IsBlock bytes
-IsWithinLimits (event.Poll ids) = length ids ≤ 1024
-IsWithinLimits (event.Words words) = length words ≤ 4096
+IsWithinLimits (event.Poll ids) = length ids ≤ MOST_VOTES
+IsWithinLimits (event.Words words) = length words ≤ MOST_LISTED
 IsWithinLimits (event.Chits node request id) = Unit {0}
 IsWithinLimits (event.Timeout node request) = Unit {0}
 IsWithinLimits (event.Frontier node request id) = Unit {0}
-IsWithinLimits (event.Accepted node request ids) = length ids ≤ 4096
-IsWithinLimits (event.Ancestors node request blocks) = (length blocks ≤ 2048) × All IsBlock blocks
+IsWithinLimits (event.Accepted node request ids) = length ids ≤ MOST_LISTED
+IsWithinLimits (event.Ancestors node request blocks) = (length blocks ≤ MOST_ANCESTORS) × All IsBlock blocks
 IsWithinLimits (event.Stored bytes) = IsBlock bytes
-IsWithinLimits (event.Validators nodes) = length nodes ≤ 4096
+IsWithinLimits (event.Validators nodes) = length nodes ≤ MOST_LISTED
 IsWithinLimits (event.AskQuery node request) = Unit {0}
 IsWithinLimits (event.AskFrontier node request) = Unit {0}
-IsWithinLimits (event.AskAccepted node request ids) = length ids ≤ 4096
+IsWithinLimits (event.AskAccepted node request ids) = length ids ≤ MOST_LISTED
 IsWithinLimits (event.AskAncestors node request id) = Unit {0}
 IsWithinLimits (event.AskBlock node request id) = Unit {0}
-IsWithinLimits (event.Line text) = length text ≤ 1100000
+IsWithinLimits (event.Line text) = length text ≤ LINE_BYTES
 
 -- an event that has a spelling
 abbrev pub IsInRange : Event → Type 0

@@ -1,8 +1,8 @@
 -- Nothing is due, or one identifier, or any.
 use Rattle.std.proofs.Common.{refl, sym, ap, subst, ◌∙◌, append-nil}
 use Rattle.std.specs.Prelude.{Ok}
-use Rattle.snow_store.specs.declared.due.Due.{Due}
-use Rattle.snow_store.specs.declared.due.Due.TheVariants as due
+use Rattle.snow_store.specs.declared.needs.Due.{Due}
+use Rattle.snow_store.specs.declared.needs.Due.TheVariants as due
 use Rattle.snow_boot.specs.Model.Asking.{Asked, asked_one}
 use Rattle.snow_boot.specs.Model.Asking.{AreAskedBut}
 use Rattle.snow_boot.specs.Clauses.Requesting.{Asks}

@@ -6,15 +6,15 @@ use Rattle.snow_climb.proofs.starting.seat_each.Goals as goal
 pub returns : goal.returns
 returns g c = record {
   started = λ counted h.
-      c.let_all_go.ensures.started (λ test. ids_by test c.args.ids.now + counted test)
+      c.start_all_waiting.ensures.started (λ test. ids_by test c.args.ids.now + counted test)
       (c.count_each.ensures.started counted
       (same_started c.args.tree.now.pending (λ test. 0) (λ test. votes_by test c.args.waiting.now) counted counted c.args.ladder.now.climbers
       (λ test. sym (c.requires.empty test)) (λ test. refl) h));
-  put = omega (arith, c.let_all_go.ensures.put, c.count_each.ensures.put, c.requires.nobody);
-  low = c.let_all_go.ensures.low ∙ c.count_each.ensures.low;
+  put = omega (arith, c.start_all_waiting.ensures.put, c.count_each.ensures.put, c.requires.nobody);
+  low = c.start_all_waiting.ensures.low ∙ c.count_each.ensures.low;
   room = record {
-    most = c.let_all_go.ensures.room.most ∙ c.count_each.ensures.room.most;
-    votes = c.let_all_go.ensures.room.votes ∙ c.count_each.ensures.room.votes;
-    rungs = c.let_all_go.ensures.room.rungs ∙ c.count_each.ensures.room.rungs;
+    most = c.start_all_waiting.ensures.room.most ∙ c.count_each.ensures.room.most;
+    votes = c.start_all_waiting.ensures.room.votes ∙ c.count_each.ensures.room.votes;
+    rungs = c.start_all_waiting.ensures.room.rungs ∙ c.count_each.ensures.room.rungs;
   };
 }

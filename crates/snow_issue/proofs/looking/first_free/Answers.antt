@@ -7,7 +7,7 @@ use Rattle.snow_lineup.specs.declared.marks.Mark.{Mark}
 use Rattle.snow_lineup.specs.declared.marks.Mark.TheVariants.{Quiet}
 use Rattle.snow_issue.specs.Model.Settling.{is_free_by}
 use Rattle.snow_issue.specs.Kept.Known.{items_of}
-use Rattle.snow_issue.proofs.Looked.{known_not_free, none_passing, first_passing_at, found_first, found_none, smaller_after, items_after_set, rests_after}
+use Rattle.snow_issue.proofs.Looked.{known_not_free, none_passing, first_passing_at, found_first, found_none, smaller_after, items_after_set, quiet_after}
 use Rattle.snow_issue.proofs.Next.{IsNext, next_is, no_next}
 use Rattle.snow_issue.proofs.Seated.{place}
 use Rattle.snow_issue.proofs.Taken.{item_is}
@@ -20,7 +20,7 @@ returns-in_default-clause-found c =
     let test = is_free_by waiting c.args.gets.now in
     let seats = c.loop-reply.replies in
     let long = no_next seats c.in_default.ensures.first in
-    let none = none_passing test seats (place seats) (known_not_free waiting c.args.gets.now seats c.loop-reply.invariant.rests) refl long in
+    let none = none_passing test seats (place seats) (known_not_free waiting c.args.gets.now seats c.loop-reply.invariant.quiet) refl long in
     found_none test (items_of seats) (let n = length-map seats (λ (s : Held × Mark). s.0) in omega (arith, n, none, long))
     ∙ ap (find test) c.loop-reply.invariant.same
 
@@ -34,7 +34,7 @@ first c free =
     let test = is_free_by waiting c.args.gets.now in
     let seats = c.loop-reply.replies in
     let n = next c in
-    first_passing_at test seats (place seats) (known_not_free waiting c.args.gets.now seats c.loop-reply.invariant.rests) refl n.there
+    first_passing_at test seats (place seats) (known_not_free waiting c.args.gets.now seats c.loop-reply.invariant.quiet) refl n.there
     (λ d. ap test (sym (n.is d)) ∙ sym c.is_free.ensures ∙ free)
 
 pub returns-then-is_free-clause-found : goal.returns-then-is_free-clause-found
@@ -55,20 +55,20 @@ returns-then-is_free-clause-first c some =
     ∙ first (goal.at.returns-then-is_free-clause-first c).After-is_free c.if-is_free.true
     ∙ ap (position_or_len test) c.loop-reply.invariant.same
 
-rested : (c : After-is_free) → (after : List (Held × Mark))
+quieted : (c : After-is_free) → (after : List (Held × Mark))
     → ((d : Held × Mark) → after ≡ set c.first_new.new.self (place c.first_new.new.self) ((get_or c.first_new.new.self (place c.first_new.new.self) d).0, Quiet))
     → (d : Held × Mark) → after ≡ set c.loop-reply.replies (place c.loop-reply.replies) ((get_or c.loop-reply.replies (place c.loop-reply.replies) d).0, Quiet)
-rested c after is = subst (λ (l : List (Held × Mark)). (d : Held × Mark) → after ≡ set l (place l) ((get_or l (place l) d).0, Quiet)) c.in-Some.ensures.same is
+quieted c after is = subst (λ (l : List (Held × Mark)). (d : Held × Mark) → after ≡ set l (place l) ((get_or l (place l) d).0, Quiet)) c.in-Some.ensures.same is
 
-pub rest_first-requires : goal.rest_first-requires
-rest_first-requires c =
-    subst (λ (l : List (Held × Mark)). place l < length l) (sym c.in-Some.ensures.same) (next (goal.at.rest_first-requires c).After-is_free).there
+pub mark_first_quiet-requires : goal.mark_first_quiet-requires
+mark_first_quiet-requires c =
+    subst (λ (l : List (Held × Mark)). place l < length l) (sym c.in-Some.ensures.same) (next (goal.at.mark_first_quiet-requires c).After-is_free).there
 
 pub loop-reply-smaller : goal.loop-reply-smaller
 loop-reply-smaller c =
     let seats = c.loop-reply.replies in
     let after = (goal.at.loop-reply-smaller c).After-is_free in
-    smaller_after seats c.rest_first.new.self (place seats) Quiet refl refl (next after).there (rested after c.rest_first.new.self c.rest_first.ensures)
+    smaller_after seats c.mark_first_quiet.new.self (place seats) Quiet refl refl (next after).there (quieted after c.mark_first_quiet.new.self c.mark_first_quiet.ensures)
 
 pub loop-reply-preserved : goal.loop-reply-preserved
 loop-reply-preserved c =
@@ -77,10 +77,10 @@ loop-reply-preserved c =
     let seats = c.loop-reply.replies in
     let before = (goal.at.loop-reply-preserved c).After-is_free in
     let n = next before in
-    let after = rested before c.rest_first.new.self c.rest_first.ensures in
+    let after = quieted before c.mark_first_quiet.new.self c.mark_first_quiet.ensures in
     record {
-      same = items_after_set seats c.rest_first.new.self (place seats) Quiet n.there after ∙ c.loop-reply.invariant.same;
-      rests = rests_after waiting c.args.gets.now seats c.rest_first.new.self (place seats) n.there after
+      same = items_after_set seats c.mark_first_quiet.new.self (place seats) Quiet n.there after ∙ c.loop-reply.invariant.same;
+      quiet = quiet_after waiting c.args.gets.now seats c.mark_first_quiet.new.self (place seats) n.there after
           (λ d. ap test (sym (n.is d)) ∙ sym c.is_free.ensures ∙ c.if-is_free.false)
-          c.loop-reply.invariant.rests;
+          c.loop-reply.invariant.quiet;
     }

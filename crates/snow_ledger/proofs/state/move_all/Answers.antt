@@ -3,7 +3,7 @@ use Rattle.std.proofs.Common.{◌≡◌, ℕ, zero, suc, ◌+◌, ◌≤◌, tru
 use Rattle.std.proofs.lemmas.Bool.{and_left, cases_lt}
 use Rattle.std.proofs.lemmas.List.{append-nil}
 use Rattle.std.proofs.lemmas.List.FromFn.{map-range_with_len_more}
-use Rattle.snow_ledger.specs.declared.transfers.Transfer.{Transfer}
+use Rattle.snow_ledger.specs.declared.state.Transfer.{Transfer}
 use Rattle.snow_ledger.specs.Model.Blocks.{count_of, transfer_at, first_transfers}
 use Rattle.snow_ledger.specs.Model.Ledger.{is_state, after, is_good, are_good}
 use Rattle.snow_ledger.proofs.After.{after_after, after_none}

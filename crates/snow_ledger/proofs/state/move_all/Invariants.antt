@@ -1,5 +1,5 @@
 use Rattle.std.proofs.Common.{◌≡◌, ℕ, true, List, []}
-use Rattle.snow_ledger.specs.declared.transfers.Transfer.{Transfer}
+use Rattle.snow_ledger.specs.declared.state.Transfer.{Transfer}
 use Rattle.snow_ledger.specs.Model.Blocks.{first_transfers}
 use Rattle.snow_ledger.specs.Model.Ledger.{after, are_good}
 use Rattle.snow_ledger.proofs.state.move_all.Given as goal

@@ -17,8 +17,8 @@ returns-in_default-clause-fault c = (
   c.in_default.ensures.out,
 )
 
-pub draw-requires-clause-room : goal.draw-requires-clause-room
-draw-requires-clause-room c =
+pub exchange-requires-clause-room : goal.exchange-requires-clause-room
+exchange-requires-clause-room c =
     let room = c.requires.room (c.loop-j.j + 1) (omega (arith, c.in-Some.ensures.fewer, c.loop-j.invariant.3)) (omega arith) in
     omega (arith, room, c.loop-j.invariant.2, c.loop-j.invariant.4)
 
@@ -36,7 +36,7 @@ pub loop-j-preserved : goal.loop-j-preserved
 loop-j-preserved c = (
   rw (c.in_ok-count.ensures.counted, c.in_ok-unit.ensures.unit)
       (drawing_more c.args.roster.now c.args.k c.loop-j.j c.in-Some.r c.args.words.now c.loop-j.words c.choose.new.self
-      (unit_at c.loop-j.shuffle.moved.items c.loop-j.shuffle.later) (unit_at c.draw.new.self.moved.items c.draw.new.self.later) c.loop-j.out c.loop-j.invariant.0 (omega arith) c.requires.enough
+      (unit_at c.loop-j.shuffle.moved.items c.loop-j.shuffle.later) (unit_at c.exchange.new.self.moved.items c.exchange.new.self.later) c.loop-j.out c.loop-j.invariant.0 (omega arith) c.requires.enough
       (rw c.total-total.ensures.total at c.in-Some.ensures.chosen) (rw c.total-total.ensures.total at c.in-Some.ensures.within)
       c.choose.ensures.rest c.in_ok-unit.ensures.behind),
   c.in_ok-count.ensures.slots,

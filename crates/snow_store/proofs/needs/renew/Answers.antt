@@ -1,8 +1,8 @@
 -- It is kept, too low, or known.
 use Rattle.std.proofs.Common.{◌≡◌, refl, sym, subst}
-use Rattle.snow_store.specs.declared.block.KeptBlock.{KeptBlock}
-use Rattle.snow_store.specs.declared.due.Due.{Due}
-use Rattle.snow_store.specs.declared.verdict.Verdict.{Verdict}
+use Rattle.snow_store.specs.declared.store.KeptBlock.{KeptBlock}
+use Rattle.snow_store.specs.declared.needs.Due.{Due}
+use Rattle.snow_store.specs.declared.stop.Verdict.{Verdict}
 use Rattle.snow_store.specs.Model.Keeping.{after_taking}
 use Rattle.snow_store.specs.Model.Needing.{missing}
 use Rattle.snow_store.specs.Kept.Renewing.{fetch_by, MayRenew, IsRenewed}

@@ -142,8 +142,8 @@ loop-top-preserved g c =
           let fit = one_of (λ e. IsFit p polls (children_of (blocks_in first) e.block.id) e.load) first at e c.requires.fit found.1 in
           let own : c.visit-one.new.steps ≤ c.loop-top.steps + 5 * recording_at p (blocks_in first) votes e.block.id =
           subst (λ (l : List (List ℕ)). c.visit-one.new.steps ≤ c.loop-top.steps + 5 * (if nat_le p.alpha_preference (votes_below (blocks_in first) votes e.block.id []) then length l else 0)) fit.ids
-          (subst (λ (f : List Bool → ℕ). c.visit-one.new.steps ≤ c.loop-top.steps + 5 * (if nat_le p.alpha_preference (f []) then length (ids_in e.load.contest) else 0)) came
-          (subst (λ bs. c.visit-one.new.steps ≤ c.loop-top.steps + 5 * (if nat_le p.alpha_preference (votes_at (cursors_of bs climbers) e.block.id []) then length (ids_in e.load.contest) else 0)) inv.blocks
+          (subst (λ (f : List Bool → ℕ). c.visit-one.new.steps ≤ c.loop-top.steps + 5 * (if nat_le p.alpha_preference (f []) then length (ids_in e.load.conflict) else 0)) came
+          (subst (λ bs. c.visit-one.new.steps ≤ c.loop-top.steps + 5 * (if nat_le p.alpha_preference (votes_at (cursors_of bs climbers) e.block.id []) then length (ids_in e.load.conflict) else 0)) inv.blocks
           (some_of (slice_get now at) _ e seen c.visit-one.ensures.steps)))
           in
           let before : c.loop-top.steps ≤ c.args.steps.now + 5 * recording_in p (blocks_in first) votes (drop (at + 1) (blocks_in first)) =

@@ -142,7 +142,7 @@ returns-clause-steps g c =
     in
     let own : c.record_root-first.new.steps ≤ c.climb-moved.new.steps + 5 * recording_at p bs votes held.last =
     subst (λ (l : List (List ℕ)). c.record_root-first.new.steps ≤ c.climb-moved.new.steps + 5 * (if nat_le p.alpha_preference (votes_below bs votes held.last []) then length l else 0)) c.requires.fit.root.ids
-    (subst (λ n. c.record_root-first.new.steps ≤ c.climb-moved.new.steps + 5 * (if nat_le p.alpha_preference n then length (ids_in c.args.root.now.contest) else 0)) total c.record_root-first.ensures.steps)
+    (subst (λ n. c.record_root-first.new.steps ≤ c.climb-moved.new.steps + 5 * (if nat_le p.alpha_preference n then length (ids_in c.args.root.now.conflict) else 0)) total c.record_root-first.ensures.steps)
     in
     omega (arith, own, c.climb-moved.ensures.steps votes begun)
 

@@ -14,4 +14,4 @@ returns-in-None g c =
     let id = c.args.id.now in
     let away : bytes_eq tree.last id ≡ false = ap (λ l. bytes_eq l id) (sym c.last.ensures.last) ∙ sym c.eq.ensures ∙ c.if-eq.false in
     c.eq-in-None.ensures ∙ ap (λ l. bytes_eq l id) c.requires.preference
-    ∙ sym (bare_preferred g.R.Rule.answer c.args.params.now c.args.polls c.args.root.now tree id c.in-Some.load.now c.last.ensures.grown away (sym c.in-Some.ensures) (sym c.in-None.ensures.contest))
+    ∙ sym (bare_preferred g.R.Rule.answer c.args.params.now c.args.polls c.args.root.now tree id c.in-Some.load.now c.last.ensures.grown away (sym c.in-Some.ensures) (sym c.in-None.ensures.conflict))

@@ -15,7 +15,7 @@ returns-in-None-clause-top g c =
     λ _.
     let id = c.args.id.now in
     bare_top g.R.Rule.answer c.args.params.now c.args.polls c.args.root.now c.args.tree.now id c.in-Some.load.now c.last-last.ensures.grown c.requires.fit
-    (sym (same c.args.preference.now id c.ne.result c.ne.ensures c.if-ne.false) ∙ c.requires.preference) (sym c.in-Some.ensures) (sym c.in-None.ensures.contest)
+    (sym (same c.args.preference.now id c.ne.result c.ne.ensures c.if-ne.false) ∙ c.requires.preference) (sym c.in-Some.ensures) (sym c.in-None.ensures.conflict)
 
 pub returns-in-None-clause-same : goal.returns-in-None-clause-same
 returns-in-None-clause-same g c = λ _. same c.args.preference.now c.args.id.now c.ne.result c.ne.ensures c.if-ne.false

@@ -1,6 +1,6 @@
 use Rattle.std.proofs.Common.{◌≡◌, ℕ, ◌<◌, Bool, List, None, true, false, refl, subst, ◌∙◌, arith}
 use Rattle.snow_flake.specs.Model.Parameters.{Parameters, AreGood}
-use Rattle.snow_board.specs.declared.decision.Decision.{Decision}
+use Rattle.snow_board.specs.declared.board.Decision.{Decision}
 use Rattle.snow_board.specs.Model.Board.{Board}
 use Rattle.snow_board.proofs.Settled.{IsSettling, to_do, settling_none, settling_more, settling_less}
 use Rattle.snow_tree.specs.Kept.Held.{Held}
@@ -15,7 +15,7 @@ use Rattle.snow_topo.proofs.settling.settle.Goals.{After-accept_next}
 
 -- where nothing is decided nothing is to come
 asked : (p : Parameters) (polls : ℕ) (root : Kept) (held : Held Kept) (first : Board) (start told : List Decision) (more : Bool) → AreGood p
-    → (more ≡ false → HasDecided (counters_in root.contest) None) → IsSettling first start true (view p polls root held) told → IsSettling first start more (view p polls root held) told
+    → (more ≡ false → HasDecided (counters_in root.conflict) None) → IsSettling first start true (view p polls root held) told → IsSettling first start more (view p polls root held) told
 asked p polls root held first start told false good decided before =
     let board = view p polls root held in
     settling_more first board board start told told false before (accepted_none p polls root held told (none_wins p polls root held good (decided refl)))

@@ -10,8 +10,8 @@ use Rattle.snow_topo.proofs.visiting.record_at.Goals as goal
 pub record-requires-clause-given : goal.record-requires-clause-given
 record-requires-clause-given g c =
     let read = entry_read _ c.in-Some.load.now (sym c.load_mut.ensures.value ∙ ap option_copied_mut c.in-Some.is) in
-    subst (λ (k : Kept). All (λ v. Contains (ids_in k.contest) v.id) c.args.votes.now) read.2
-    (subst (λ o. IfSome o (λ e. All (λ v. Contains (ids_in e.load.contest) v.id) c.args.votes.now)) read.1 c.requires.given)
+    subst (λ (k : Kept). All (λ v. Contains (ids_in k.conflict) v.id) c.args.votes.now) read.2
+    (subst (λ o. IfSome o (λ e. All (λ v. Contains (ids_in e.load.conflict) v.id) c.args.votes.now)) read.1 c.requires.given)
 
 pub returns-in-Some-clause-taken : goal.returns-in-Some-clause-taken
 returns-in-Some-clause-taken g c =
@@ -29,5 +29,5 @@ returns-in-Some-clause-taken g c =
 pub returns-in-Some-clause-steps : goal.returns-in-Some-clause-steps
 returns-in-Some-clause-steps g c =
     let read = entry_read _ c.in-Some.load.now (sym c.load_mut.ensures.value ∙ ap option_copied_mut c.in-Some.is) in
-    subst (λ o. IfSome o (λ e. c.record.new.steps ≤ c.args.steps.now + 5 * length (ids_in e.load.contest))) (sym read.1)
-    (subst (λ (k : Kept). c.record.new.steps ≤ c.args.steps.now + 5 * length (ids_in k.contest)) (sym read.2) c.record.ensures.steps)
+    subst (λ o. IfSome o (λ e. c.record.new.steps ≤ c.args.steps.now + 5 * length (ids_in e.load.conflict))) (sym read.1)
+    (subst (λ (k : Kept). c.record.new.steps ≤ c.args.steps.now + 5 * length (ids_in k.conflict)) (sym read.2) c.record.ensures.steps)

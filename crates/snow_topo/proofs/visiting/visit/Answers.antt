@@ -141,7 +141,7 @@ returns-clause-steps g c =
     sym (same_total bs came) ∙ sym (all_came bs e.block.id (cursors_of bs came) come)
     ∙ sym (ap (λ f. f []) (votes_of_group bs e.block (c.args.at + 1) cs came c.take-count.ensures.came others))
     in
-    subst (λ n. c.record_came-moved.new.steps ≤ c.args.steps.now + 5 * (if nat_le c.args.params.now.alpha_preference n then length (ids_in e.load.contest) else 0)) total given.1)
+    subst (λ n. c.record_came-moved.new.steps ≤ c.args.steps.now + 5 * (if nat_le c.args.params.now.alpha_preference n then length (ids_in e.load.conflict) else 0)) total given.1)
     c.record_came-moved.ensures.steps
 
 pub returns-clause-merged : goal.returns-clause-merged

@@ -7,8 +7,8 @@ use Rattle.snow_tree.proofs.placing.place_of_number.Goals.{else-place-len-via-th
 pub returns-then-number_of-number : goal.returns-then-number_of-number
 returns-then-number_of-number g c =
     let place : ℕ = (c.args.number + (2 ^ 64 - c.number_of.result)) % 2 ^ 64 in
-    sym (placed_at c.args.entries.now.items c.args.len c.args.number place c.requires.order c.requires.most (omega (arith, c.if-guess-len.true))
-    (λ e at. omega (arith, c.if-number_of-number.true, c.number_of-then-guess-len.ensures.some e at)))
+    sym (placed_at c.args.entries.now.items c.args.len c.args.number place c.requires.order c.requires.most (omega (arith, c.if-expected-len.true))
+    (λ e at. omega (arith, c.if-number_of-number.true, c.number_of-then-expected-len.ensures.some e at)))
 
 pub returns-then-number_of-number-2 : goal.returns-then-number_of-number-2
 returns-then-number_of-number-2 g c =

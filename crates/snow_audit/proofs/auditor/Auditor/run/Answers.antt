@@ -3,7 +3,7 @@ use Rattle.std.proofs.Common.{◌≡◌, ◌+◌, ◌-◌, refl, ap, sym, ◌∙
 use Rattle.std.proofs.lemmas.List.{length-append}
 use Rattle.std.specs.Io.KnownBytes.{IsAtEnd}
 use Rattle.snow_engine.specs.Model.Run.{after_frame}
-use Rattle.snow_engine.specs.declared.task.Task.TheVariants as task
+use Rattle.snow_engine.specs.declared.engine.Task.TheVariants as task
 use Rattle.snow_engine.proofs.Served.{fed_as, kept_as, taken_few, less_room, nothing_taken}
 use Rattle.snow_audit.specs.declared.auditing.AuditEnd.{AuditEnd}
 use Rattle.snow_audit.specs.Clauses.Answering.{HasFault, IsRead, IsTold}

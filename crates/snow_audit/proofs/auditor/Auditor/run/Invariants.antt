@@ -2,7 +2,7 @@
 use Rattle.std.proofs.Common.{◌≡◌, ◌+◌, ◌*◌, ◌^◌, ◌≤◌, false, None, length}
 use Rattle.snow_wire.specs.Model.Frame.{first_of, is_too_long}
 use Rattle.snow_engine.specs.Model.Run.{after_frame}
-use Rattle.snow_engine.specs.declared.task.Task.TheVariants as task
+use Rattle.snow_engine.specs.declared.engine.Task.TheVariants as task
 use Rattle.snow_audit.specs.Kept.Following.{IsKept, between}
 use Rattle.snow_audit.proofs.Framed.{Audited}
 use Rattle.snow_audit.proofs.auditor.Auditor.run.Given as goal

@@ -2,7 +2,7 @@
 use Rattle.std.proofs.Common.{◌≡◌, Ok, refl, sym, ap, ◌∙◌, le_trans}
 use Rattle.std.proofs.lemmas.Result.{err_from_is_err_and}
 use Rattle.snow_engine.specs.Model.Run.{after_frame}
-use Rattle.snow_engine.specs.declared.task.Task.TheVariants as task
+use Rattle.snow_engine.specs.declared.engine.Task.TheVariants as task
 use Rattle.snow_audit.specs.Kept.Following.{between}
 use Rattle.snow_audit.proofs.Taken.{then_answers}
 use Rattle.snow_audit.proofs.auditor.Auditor.take_frames.Goals as goal

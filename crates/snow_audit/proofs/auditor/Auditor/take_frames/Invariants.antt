@@ -1,7 +1,7 @@
 -- What is left to do is the same from here.
 use Rattle.std.proofs.Common.{◌≡◌, ℕ, ◌+◌, ◌*◌, ◌≤◌, Bool, List, length}
 use Rattle.snow_engine.specs.Model.Run.{after_frame}
-use Rattle.snow_engine.specs.declared.task.Task.TheVariants as task
+use Rattle.snow_engine.specs.declared.engine.Task.TheVariants as task
 use Rattle.snow_audit.specs.Kept.Following.{IsKept, between, finish}
 use Rattle.snow_audit.proofs.auditor.Auditor.take_frames.Given as goal
 

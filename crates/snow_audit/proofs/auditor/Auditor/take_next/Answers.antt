@@ -3,7 +3,7 @@ use Rattle.std.proofs.Common.{◌≡◌, ap}
 use Rattle.std.proofs.lemmas.Result.{err_from_is_err_and}
 use Rattle.snow_wire.specs.declared.frame.TooLong.{TooLong}
 use Rattle.snow_engine.specs.Model.Run.{after_frame}
-use Rattle.snow_engine.specs.declared.task.Task.TheVariants as task
+use Rattle.snow_engine.specs.declared.engine.Task.TheVariants as task
 use Rattle.snow_audit.specs.Kept.Following.{between}
 use Rattle.snow_audit.proofs.Taken.{frame_goes, frame_answers, frame_fewer, frame_smaller, kept_stand, long_answers}
 use Rattle.snow_audit.proofs.auditor.Auditor.take_next.Goals as goal

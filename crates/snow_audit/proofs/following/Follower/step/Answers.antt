@@ -4,7 +4,7 @@ use Rattle.snow_lines.specs.declared.line.Line.{Line}
 use Rattle.snow_lines.specs.declared.why.SkipKind.{SkipKind}
 use Rattle.snow_engine.specs.Model.Run.{Stand, after_frame}
 use Rattle.snow_engine.specs.Clauses.Serving.{stand_of, Stands, LogsFrame}
-use Rattle.snow_engine.specs.declared.task.Task.TheVariants as task
+use Rattle.snow_engine.specs.declared.engine.Task.TheVariants as task
 use Rattle.snow_audit.specs.Kept.Following.{between, stands}
 use Rattle.snow_audit.proofs.Stepped.{same_frame, run_stopped, stop_kept}
 use Rattle.snow_audit.proofs.following.Follower.step.Goals as goal

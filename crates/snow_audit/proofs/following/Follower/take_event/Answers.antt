@@ -1,7 +1,7 @@
 -- A line is owed.
 use Rattle.std.proofs.Common.{◌≡◌, Err, refl, sym, subst}
 use Rattle.snow_engine.specs.Model.Run.{after_frame}
-use Rattle.snow_engine.specs.declared.task.Task.TheVariants as task
+use Rattle.snow_engine.specs.declared.engine.Task.TheVariants as task
 use Rattle.snow_audit.specs.declared.auditing.AuditEnd.{AuditEnd}
 use Rattle.snow_audit.specs.Kept.Following.{Moves, between, event_comes, owed_of, stepped}
 use Rattle.snow_audit.proofs.Owing.{owing_event}

@@ -1,7 +1,7 @@
 -- All nodes are asked for their frontier, and nothing is kept yet.
 use Rattle.std.specs.Prelude.{[], Ok, Err, refl}
 use Rattle.snow_chain.specs.Model.Chain.{begun}
-use Rattle.snow_boot.specs.declared.stage.Stage.TheVariants as stage
+use Rattle.snow_boot.specs.declared.boot.Stage.TheVariants as stage
 use Rattle.snow_boot.specs.Model.Booting as model
 use Rattle.snow_boot.proofs.Started.{first_hunt, starts, stops_first, logs_first}
 use Rattle.snow_boot.proofs.boot.Boot.start.Goals as goal

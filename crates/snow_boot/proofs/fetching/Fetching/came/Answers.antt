@@ -1,6 +1,6 @@
 -- What is missed is known again once the block was taken.
 use Rattle.std.proofs.Common.{refl, sym, ap, subst, ◌∙◌}
-use Rattle.snow_store.specs.declared.block.KeptBlock.{KeptBlock}
+use Rattle.snow_store.specs.declared.store.KeptBlock.{KeptBlock}
 use Rattle.snow_boot.specs.Kept.Fetching.{Hunt}
 use Rattle.snow_store.specs.Kept.Indexing.{Shelf}
 use Rattle.snow_store.specs.Laws.Linking.{held_heights}

@@ -1,7 +1,7 @@
 -- The identifier is due at first.
 use Rattle.std.proofs.Common.{subst, ◌∙◌}
 use Rattle.std.specs.Prelude.{OnOk}
-use Rattle.snow_store.specs.declared.due.Due.{Due}
+use Rattle.snow_store.specs.declared.needs.Due.{Due}
 use Rattle.snow_boot.specs.Kept.Fetching.{Fetches}
 use Rattle.snow_store.specs.Model.Needing.{is_missed, Covers}
 use Rattle.snow_store.specs.Model.Paths.{Fetch}

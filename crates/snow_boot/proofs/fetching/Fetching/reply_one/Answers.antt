@@ -2,7 +2,7 @@
 use Rattle.std.proofs.Common.{◌≡◌, bytes_eq, true, false, sym, ap, ◌∙◌}
 use Rattle.std.specs.Prelude.{Ok}
 use Rattle.std.proofs.lemmas.Bool.{not-true, not-false}
-use Rattle.snow_store.specs.declared.verdict.Verdict.TheVariants as verdict
+use Rattle.snow_store.specs.declared.stop.Verdict.TheVariants as verdict
 use Rattle.snow_store.specs.Model.Paths.{Fetch}
 use Rattle.snow_boot.specs.Model.Replying.{replied}
 use Rattle.snow_boot.proofs.Replied.{ends_unparsed, ends_unwanted, stops_at, takes_on}

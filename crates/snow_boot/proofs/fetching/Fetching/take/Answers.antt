@@ -1,7 +1,7 @@
 -- Nothing is due at first.
 use Rattle.std.proofs.Common.{◌≡◌, true, subst, ◌∙◌}
 use Rattle.std.specs.Prelude.{OnOk, IfOk}
-use Rattle.snow_store.specs.declared.due.Due.{Due}
+use Rattle.snow_store.specs.declared.needs.Due.{Due}
 use Rattle.snow_store.specs.Model.Keeping.{taken, Answers}
 use Rattle.snow_store.specs.Model.Needing.{is_missed, Covers}
 use Rattle.snow_store.specs.Model.Paths.{Fetch}

@@ -1,6 +1,6 @@
 -- Bootstrapping may go on, with a number that is still small; or the node runs, and the lines are those of the event.
 use Rattle.std.proofs.Common.{◌++◌, Ok, ap, ◌∙◌, subst}
-use Rattle.snow_boot.specs.declared.stage.Stage.{Stage}
+use Rattle.snow_boot.specs.declared.boot.Stage.{Stage}
 use Rattle.snow_chain.specs.Kept.Alone.{last_state}
 use Rattle.snow_boot.specs.Clauses.Calling.{Brings, MayGoOn, OnGoing}
 use Rattle.snow_engine.specs.Model.Booting.{Booting}

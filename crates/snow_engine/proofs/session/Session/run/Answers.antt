@@ -51,8 +51,8 @@ returns-then-taken-eq0-clause-output g c =
     (nothing_taken (g.S.Source.left c.loop-room.source) (g.S.Source.left c.read_from.new.source) c.in-Ok.taken took.piece none took.long took.consumed)
     (c.read_from.ensures.none (c.in-Ok.is ∙ ap Ok none)) told).1
 
-pub work-requires-clause-small : goal.work-requires-clause-small
-work-requires-clause-small g c =
+pub work_all-requires-clause-small : goal.work_all-requires-clause-small
+work_all-requires-clause-small g c =
     let took = c.in-Ok.ensures.took in
     let small = has_room g.C.Chain.rules g.B.Board.answer c.args.self.now.runner.task (g.S.Source.left c.args.source.now) (g.S.Source.left c.loop-room.source) (g.O.Sink.written c.args.out.now) (g.O.Sink.written c.loop-room.out)
     c.loop-room.self.runner.engine c.loop-room.self.decoder c.loop-room.room c.loop-room.invariant.served
@@ -65,8 +65,8 @@ returns-in-Err-clause-end g c =
     let took = c.in-Ok.ensures.took in
     let fed = fed_as c.loop-room.self.decoder c.read_from.new.self took.piece c.read_from.ensures.given took.behind in
     let goes = rw (c.loop-room.invariant.task, fed) at c.in-Err.ensures.goes in
-    stopped_is g.C.Chain.rules g.B.Board.answer c.args.self.now.runner.task (g.S.Source.left c.args.source.now) (g.S.Source.left c.loop-room.source) (g.S.Source.left c.read_from.new.source) (g.O.Sink.written c.args.out.now) (g.O.Sink.written c.loop-room.out) (g.O.Sink.written c.work.new.out)
-    c.loop-room.self.runner.engine c.work.new.self.runner.engine c.loop-room.self.decoder c.work.new.self.decoder c.loop-room.room c.loop-room.invariant.served
+    stopped_is g.C.Chain.rules g.B.Board.answer c.args.self.now.runner.task (g.S.Source.left c.args.source.now) (g.S.Source.left c.loop-room.source) (g.S.Source.left c.read_from.new.source) (g.O.Sink.written c.args.out.now) (g.O.Sink.written c.loop-room.out) (g.O.Sink.written c.work_all.new.out)
+    c.loop-room.self.runner.engine c.work_all.new.self.runner.engine c.loop-room.self.decoder c.work_all.new.self.decoder c.loop-room.room c.loop-room.invariant.served
     took.piece took.consumed (taken_few c.in-Ok.taken c.loop-room.room took.piece took.long c.in-Ok.ensures.few) c.in-Err.end goes
 
 pub returns-in-Err-clause-output : goal.returns-in-Err-clause-output
@@ -75,8 +75,8 @@ returns-in-Err-clause-output g c =
     let fed = fed_as c.loop-room.self.decoder c.read_from.new.self took.piece c.read_from.ensures.given took.behind in
     let goes = rw (c.loop-room.invariant.task, fed) at c.in-Err.ensures.goes in
     let lines = rw (c.loop-room.invariant.task, fed) at c.in-Err.ensures.lines in
-    stopped_wrote g.C.Chain.rules g.B.Board.answer c.args.self.now.runner.task (g.S.Source.left c.args.source.now) (g.S.Source.left c.loop-room.source) (g.S.Source.left c.read_from.new.source) (g.O.Sink.written c.args.out.now) (g.O.Sink.written c.loop-room.out) (g.O.Sink.written c.work.new.out)
-    c.loop-room.self.runner.engine c.work.new.self.runner.engine c.loop-room.self.decoder c.work.new.self.decoder c.loop-room.room c.loop-room.invariant.served
+    stopped_wrote g.C.Chain.rules g.B.Board.answer c.args.self.now.runner.task (g.S.Source.left c.args.source.now) (g.S.Source.left c.loop-room.source) (g.S.Source.left c.read_from.new.source) (g.O.Sink.written c.args.out.now) (g.O.Sink.written c.loop-room.out) (g.O.Sink.written c.work_all.new.out)
+    c.loop-room.self.runner.engine c.work_all.new.self.runner.engine c.loop-room.self.decoder c.work_all.new.self.decoder c.loop-room.room c.loop-room.invariant.served
     took.piece took.consumed (taken_few c.in-Ok.taken c.loop-room.room took.piece took.long c.in-Ok.ensures.few) c.in-Err.end goes lines
 
 pub loop-room-preserved : goal.loop-room-preserved
@@ -88,11 +88,11 @@ loop-room-preserved g c =
     record {
       served = goes_on g.C.Chain.rules g.B.Board.answer c.args.self.now.runner.task (g.S.Source.left c.args.source.now) (g.S.Source.left c.loop-room.source) (g.O.Sink.written c.args.out.now) (g.O.Sink.written c.loop-room.out)
           c.loop-room.self.runner.engine c.loop-room.self.decoder c.loop-room.room c.loop-room.invariant.served
-          took.piece (g.S.Source.left c.read_from.new.source) (g.O.Sink.written c.work.new.out) c.work.new.self.runner.engine c.work.new.self.decoder (c.loop-room.room - c.in-Ok.taken)
+          took.piece (g.S.Source.left c.read_from.new.source) (g.O.Sink.written c.work_all.new.out) c.work_all.new.self.runner.engine c.work_all.new.self.decoder (c.loop-room.room - c.in-Ok.taken)
           took.consumed (less_room c.in-Ok.taken c.loop-room.room took.piece took.long c.in-Ok.ensures.few)
           goes.0 goes.1 lines c.in_default.ensures.fine;
       page = c.in_default.ensures.empty;
-      task = c.work.ensures.task ∙ c.loop-room.invariant.task;
+      task = c.work_all.ensures.task ∙ c.loop-room.invariant.task;
       source_later = search rules;
       out_later = search rules;
     }

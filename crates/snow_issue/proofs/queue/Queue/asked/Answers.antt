@@ -1,5 +1,5 @@
 use Rattle.std.proofs.Common.{◌<◌, List, length, All, sym, ap, subst}
-use Rattle.snow_issue.specs.declared.work.Get.{Get}
+use Rattle.snow_gets.specs.declared.gets.Get.{Get}
 use Rattle.snow_issue.specs.Kept.Known.{Seen, items_of, Tells}
 use Rattle.snow_issue.specs.Kept.Keeping.{IsKept}
 use Rattle.snow_issue.proofs.Settled.{limits, kept_asked, knows_by}

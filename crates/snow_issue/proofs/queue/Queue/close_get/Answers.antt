@@ -1,13 +1,14 @@
 use Rattle.std.proofs.Common.{List, All, find, map, sym, ap, subst, ◌∙◌}
 use Rattle.snow_issue.specs.declared.work.Waiting.{Waiting}
-use Rattle.snow_issue.specs.declared.work.Get.{Get}
+use Rattle.snow_gets.specs.declared.gets.Get.{Get}
 use Rattle.snow_issue.specs.declared.work.Held.{Held}
 use Rattle.snow_lineup.specs.declared.marks.Mark.{Mark}
-use Rattle.snow_issue.specs.Model.Lists.{Lists, is_get, without, after_closed}
+use Rattle.snow_gets.specs.Model.Gets.{is_get, without}
+use Rattle.snow_issue.specs.Model.Lists.{Lists, after_closed}
 use Rattle.snow_issue.specs.Kept.Known.{Seen, items_of, lists_of, Tells, NoneRipe}
 use Rattle.snow_lineup.specs.Kept.Index.{woken}
 use Rattle.snow_issue.specs.Kept.Keeping.{IsKept}
-use Rattle.snow_issue.proofs.Asking.{none_without}
+use Rattle.snow_gets.proofs.Asking.{none_without}
 use Rattle.snow_issue.proofs.Settled.{kept_closed, knows_by, closed_get, no_get}
 use Rattle.snow_issue.proofs.Taken.{tells_closed, items_woken, unripe_woken}
 use Rattle.snow_issue.proofs.queue.Queue.close_get.Goals as goal

@@ -4,7 +4,7 @@ use Rattle.snow_issue.specs.declared.work.Held.{Held}
 use Rattle.snow_lineup.specs.declared.marks.Mark.{Mark}
 use Rattle.snow_issue.specs.Model.Lists.{Lists, after_forgotten}
 use Rattle.snow_issue.specs.Kept.Known.{Seen, items_of, lists_of}
-use Rattle.snow_issue.specs.Kept.Keeping.{Rests}
+use Rattle.snow_issue.specs.Kept.Keeping.{StaysQuiet}
 use Rattle.snow_issue.proofs.Seated.{items_filtered}
 use Rattle.snow_issue.proofs.Settled.{kept_replies}
 use Rattle.snow_issue.proofs.queue.Queue.forget.Goals as goal
@@ -13,8 +13,8 @@ pub invariant_of-self : goal.invariant_of-self
 invariant_of-self c =
     let inside = c.self.inside in
     kept_replies inside.waiting inside.gets inside.replies c.forget.new.self inside.gone c.self.invariant
-    (subst (λ (l : List (Held × Mark)). All (Rests (items_of inside.waiting) inside.gets) l) (sym c.forget.ensures)
-    (All-filter (λ (s : Held × Mark). not (s.0.number == c.args.number)) (Rests (items_of inside.waiting) inside.gets) inside.replies c.self.invariant.quiet))
+    (subst (λ (l : List (Held × Mark)). All (StaysQuiet (items_of inside.waiting) inside.gets) l) (sym c.forget.ensures)
+    (All-filter (λ (s : Held × Mark). not (s.0.number == c.args.number)) (StaysQuiet (items_of inside.waiting) inside.gets) inside.replies c.self.invariant.quiet))
 
 pub returns-clause-lists : goal.returns-clause-lists
 returns-clause-lists c =

@@ -7,7 +7,8 @@ use Rattle.snow_lineup.specs.declared.marks.Mark.{Mark}
 use Rattle.snow_lineup.specs.declared.marks.Mark.TheVariants.{New}
 use Rattle.snow_issue.specs.declared.work.Waiting.{Waiting}
 use Rattle.snow_issue.specs.Kept.Keeping.{IsKept}
-use Rattle.snow_issue.specs.Model.Lists.{asked_in, is_asked}
+use Rattle.snow_gets.specs.Model.Gets.{asked_in}
+use Rattle.snow_issue.specs.Model.Lists.{is_asked}
 use Rattle.snow_issue.specs.Kept.Known.{Seen, items_of, lists_of}
 use Rattle.snow_issue.proofs.Settled.{kept_stay, seen}
 use Rattle.snow_issue.proofs.Stepped.{left_knows, left_items, stay_knows}

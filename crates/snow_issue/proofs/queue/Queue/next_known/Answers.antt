@@ -4,11 +4,11 @@ use Rattle.snow_issue.specs.Kept.Known.{Seen, NoneNew, NoneRipe}
 use Rattle.snow_issue.proofs.Resting.{resting}
 use Rattle.snow_issue.proofs.queue.Queue.next_known.Goals as goal
 
-pub returns-then-rests-clause-work : goal.returns-then-rests-clause-work
-returns-then-rests-clause-work g c =
-    let new = subst (λ (s : Seen). NoneNew s.seats) c.self.view_is (c.rests.ensures.new c.if-rests.true) in
-    let ripe = subst (λ (s : Seen). NoneRipe s.seats) c.self.view_is (c.rests.ensures.ripe c.if-rests.true) in
+pub returns-then-all_quiet-clause-work : goal.returns-then-all_quiet-clause-work
+returns-then-all_quiet-clause-work g c =
+    let new = subst (λ (s : Seen). NoneNew s.seats) c.self.view_is (c.all_quiet.ensures.new c.if-all_quiet.true) in
+    let ripe = subst (λ (s : Seen). NoneRipe s.seats) c.self.view_is (c.all_quiet.ensures.ripe c.if-all_quiet.true) in
     c.next_vote.ensures.work ∙ resting c.args.self.now (g.B.Board.board c.args.board.now) c.requires new ripe
 
-pub returns-then-rests-clause-knows : goal.returns-then-rests-clause-knows
-returns-then-rests-clause-knows g c = c.next_vote.ensures.knows (g.B.Board.board c.args.board.now) c.requires
+pub returns-then-all_quiet-clause-knows : goal.returns-then-all_quiet-clause-knows
+returns-then-all_quiet-clause-knows g c = c.next_vote.ensures.knows (g.B.Board.board c.args.board.now) c.requires

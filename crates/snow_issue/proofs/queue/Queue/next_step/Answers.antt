@@ -17,7 +17,7 @@ returns-then-lost-blocks g c =
       work = c.take_hopeless.ensures.work ∙ ap (λ (q : Lists). work_of q board) same;
       lists = c.take_hopeless.ensures.lists ∙ ap (λ (q : Lists). after q board c.take_hopeless.result) same;
       knows = c.take_hopeless.ensures.knows;
-      rests = c.take_hopeless.ensures.rests;
+      marks = c.take_hopeless.ensures.marks;
       limits = c.take_hopeless.ensures.limits;
     }
 
@@ -61,7 +61,7 @@ returns-then-ready-blocks g c =
       work = c.take_ready.ensures.work ∙ ap (λ (q : Lists). work_of q board) unchanged;
       lists = c.take_ready.ensures.lists ∙ ap (λ (q : Lists). after q board c.take_ready.result) unchanged;
       knows = c.take_ready.ensures.knows;
-      rests = c.take_ready.ensures.rests;
+      marks = c.take_ready.ensures.marks;
       limits = c.take_ready.ensures.limits;
     }
 
@@ -79,6 +79,6 @@ returns g c =
           ∙ ap (λ (q : Lists). work_of q board) (same g at);
       lists = c.next_vote.ensures.lists board ∙ ap (λ (q : Lists). after q board c.next_vote.result) (same g at);
       knows = c.next_vote.ensures.knows board (knows g at);
-      rests = c.next_vote.ensures.rests (c.first_ready-ready.ensures.none past);
+      marks = c.next_vote.ensures.marks (c.first_ready-ready.ensures.none past);
       limits = c.next_vote.ensures.limits;
     }

@@ -29,6 +29,6 @@ returns g c =
       lists = after_hopeless board before now c.args.at block out c.requires.first
           (c.follow.ensures.gone ∙ ap (λ l. gone_with l block.header) c.give_up-block.ensures.gone);
       knows = knows_from now board c.give_up-block.new.self.seats c.give_up-block.new.self.gets c.follow.ensures.seats c.follow.ensures.gets (c.give_up-block.ensures.knows board c.requires.knows);
-      rests = tt;
+      marks = tt;
       limits = c.follow.ensures.limits;
     }

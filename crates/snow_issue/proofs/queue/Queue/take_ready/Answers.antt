@@ -28,6 +28,6 @@ returns g c =
       work = ready_step (lists_of before) board block (sym c.requires.none) (first_taken (is_ready board) before now c.args.at block out c.requires.first);
       lists = after_ready board before now c.args.at block out c.requires.first c.take_block.ensures.gone;
       knows = left_knows board before now c.args.at block c.requires.there c.take_block.ensures.taken c.take_block.ensures.left c.take_block.ensures.gets c.requires.knows;
-      rests = woken_forgets block.header.id (remove before.seats c.args.at) now.seats c.take_block.ensures.left;
+      marks = woken_forgets block.header.id (remove before.seats c.args.at) now.seats c.take_block.ensures.left;
       limits = c.take_block.ensures.limits;
     }

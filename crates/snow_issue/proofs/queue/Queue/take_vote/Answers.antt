@@ -4,10 +4,10 @@ use Rattle.std.specs.List.{remove}
 use Rattle.snow_issue.specs.declared.work.Held.{Held}
 use Rattle.snow_lineup.specs.declared.marks.Mark.{Mark}
 use Rattle.snow_lineup.proofs.Tagged.{All_remove}
-use Rattle.snow_issue.specs.Model.Lists.{without}
+use Rattle.snow_gets.specs.Model.Gets.{without}
 use Rattle.snow_issue.specs.Model.Settling.{is_free}
 use Rattle.snow_issue.specs.Kept.Known.{Seen, items_of, lists_of}
-use Rattle.snow_issue.specs.Kept.Keeping.{Rests}
+use Rattle.snow_issue.specs.Kept.Keeping.{StaysQuiet}
 use Rattle.snow_issue.proofs.Seated.{place}
 use Rattle.snow_issue.proofs.Settled.{kept_replies}
 use Rattle.snow_issue.proofs.Taken.{items_removed}
@@ -19,10 +19,10 @@ returns-in_default-clause-found c = c.in_default.ensures.found ∙ ap (λ (s : S
 pub invariant_of-self-2 : goal.invariant_of-self-2
 invariant_of-self-2 c =
     let inside = c.self.inside in
-    let Quiet = Rests (items_of inside.waiting) inside.gets in
+    let Quiet = StaysQuiet (items_of inside.waiting) inside.gets in
     let mid = c.first_free-free.new.replies in
     kept_replies inside.waiting inside.gets inside.replies c.take_first.new.self inside.gone c.self.invariant
-    (subst (λ (l : List (Held × Mark)). All Quiet l) (sym c.take_first.ensures) (All_remove Quiet mid (place mid) c.in-Some.ensures.rests))
+    (subst (λ (l : List (Held × Mark)). All Quiet l) (sym c.take_first.ensures) (All_remove Quiet mid (place mid) c.in-Some.ensures.quiet))
 
 pub returns-clause-found : goal.returns-clause-found
 returns-clause-found c = c.in-Some.ensures.found ∙ ap (λ (s : Seen). find (is_free (lists_of s)) s.held) c.self.view_is

@@ -9,7 +9,7 @@ use Rattle.snow_lineup.specs.declared.marks.Mark.{Mark}
 use Rattle.snow_lineup.specs.declared.marks.Mark.TheVariants.{New}
 use Rattle.snow_lineup.specs.Kept.Marks.{has}
 use Rattle.snow_issue.specs.Kept.Arrivals.{Entries, at_arrival, filed, names, seat_of}
-use Rattle.snow_issue.proofs.Asking.{none_without}
+use Rattle.snow_gets.proofs.Asking.{none_without}
 use Rattle.snow_issue.proofs.Numbered.{filed_taken}
 use Rattle.snow_issue.proofs.Seated.{place, seats_taken, none_found}
 use Rattle.snow_issue.proofs.replies.Replies.take_first.Goals as goal

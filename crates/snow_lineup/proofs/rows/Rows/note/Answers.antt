@@ -2,7 +2,8 @@ use Rattle.std.proofs.Common.{sym, ap, ◌∙◌}
 use Rattle.std.specs.Str.{bytes_eq}
 use Rattle.snow_map.specs.Clauses.Entries.{value_of}
 use Rattle.snow_lineup.specs.Kept.Index.{row_of, row_before}
-use Rattle.snow_lineup.proofs.Noted.{row_extended, same_id}
+use Rattle.snow_lineup.proofs.Noted.{row_extended}
+use Rattle.snow_map.proofs.Lists.{same_id}
 use Rattle.snow_lineup.proofs.rows.Rows.note.Goals as goal
 
 pub returns-in_ok-extend-in-Some-clause-ok : goal.returns-in_ok-extend-in-Some-clause-ok

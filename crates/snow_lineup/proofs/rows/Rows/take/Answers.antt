@@ -2,7 +2,8 @@ use Rattle.std.proofs.Common.{sym, ap, ◌∙◌}
 use Rattle.std.specs.Str.{bytes_eq}
 use Rattle.snow_map.specs.Clauses.Entries.{value_of}
 use Rattle.snow_lineup.specs.Kept.Index.{row_of, row_before, has_place}
-use Rattle.snow_lineup.proofs.Noted.{row_taken, same_id}
+use Rattle.snow_lineup.proofs.Noted.{row_taken}
+use Rattle.snow_map.proofs.Lists.{same_id}
 use Rattle.snow_lineup.proofs.rows.Rows.take.Goals as goal
 
 pub returns-then-are_single : goal.returns-then-are_single

@@ -2,10 +2,10 @@
 use Rattle.std.proofs.Common.{◌∙◌, sym, subst}
 use Rattle.snow_issue.specs.Model.Lists.{after_closed}
 use Rattle.snow_issue.specs.Kept.Known.{lists_of}
-use Rattle.snow_node.specs.declared.running.remembering.Remembered.{Remembered}
-use Rattle.snow_node.specs.Kept.Remembering.{Remembers}
+use Rattle.snow_node.specs.declared.running.queue_state.QueueState.{QueueState}
+use Rattle.snow_node.specs.Kept.QueueState.{IsInState}
 use Rattle.snow_node.proofs.Keeping.{kept_queue_as, same_lists}
-use Rattle.snow_node.proofs.Remembering.{kept_woken}
+use Rattle.snow_node.proofs.QueueState.{kept_woken}
 use Rattle.snow_node.proofs.Working.{none_closed, closed_gets}
 use Rattle.snow_node.proofs.running.Running.close_numbered.Goals as goal
 
@@ -14,8 +14,8 @@ invariant_of-self g c = (
   kept_queue_as c.self.inside.params (g.B.Board.board c.self.inside.board) (g.C.Chain.held c.self.inside.chain) c.self.inside.polls (lists_of c.self.inside.queue) c.self.inside.numbers c.self.invariant.0 (after_closed (lists_of c.self.inside.queue) c.args.number c.args.peer.now) (lists_of c.close_get.new.self)
       c.close_get.ensures.lists c.self.invariant.0.waiting
       (closed_gets c.self.inside.numbers c.args.number c.args.peer.now c.self.inside.queue.gets c.self.invariant.0.gets),
-  subst (λ (k : Remembered). Remembers (g.B.Board.board c.self.inside.board) c.close_get.new.self k) (sym c.woken-self-inside.ensures)
-      (kept_woken (g.B.Board.board c.self.inside.board) c.self.inside.queue c.close_get.new.self c.self.inside.remembered c.close_get.ensures.knows c.close_get.ensures.ripe c.self.invariant.1),
+  subst (λ (k : QueueState). IsInState (g.B.Board.board c.self.inside.board) c.close_get.new.self k) (sym c.woken-self-inside.ensures)
+      (kept_woken (g.B.Board.board c.self.inside.board) c.self.inside.queue c.close_get.new.self c.self.inside.queue_state c.close_get.ensures.knows c.close_get.ensures.ripe c.self.invariant.1),
   c.self.invariant.2,
 )
 

@@ -4,12 +4,12 @@ use Rattle.std.proofs.lemmas.Result.{err_from_is_err_and}
 use Rattle.snow_chain.specs.Model.Chain.{next_on}
 use Rattle.snow_issue.specs.Kept.Known.{lists_of}
 use Rattle.snow_node.specs.Kept.Tied.{IsApart}
-use Rattle.snow_node.specs.declared.running.remembering.Remembered.{Remembered}
-use Rattle.snow_node.specs.Kept.Remembering.{Remembers}
+use Rattle.snow_node.specs.declared.running.queue_state.QueueState.{QueueState}
+use Rattle.snow_node.specs.Kept.QueueState.{IsInState}
 use Rattle.snow_node.specs.Model.Running.{Running}
 use Rattle.snow_node.specs.Model.Settling.{issued_by}
 use Rattle.snow_node.specs.Clauses.Stepping.{Tells, LogsFront}
-use Rattle.snow_node.proofs.Issuing.{kept_admitted, remembers_admitted, issue_front, issue_lines}
+use Rattle.snow_node.proofs.Issuing.{kept_admitted, in_state_admitted, issue_front, issue_lines}
 use Rattle.snow_node.proofs.running.Running.issue.Goals as goal
 
 pub invariant_of-self-in_err-tell : goal.invariant_of-self-in_err-tell
@@ -18,8 +18,8 @@ invariant_of-self-in_err-tell g c = (
       (next_on g.C.Chain.rules (g.C.Chain.held c.self.inside.chain) c.args.block.now.parent c.args.bytes)
       c.if-not-branch.false c.in_ok-verify_and_issue.ensures.admits c.verify_and_issue.ensures.steady
       (subst (λ (n : Running). IsApart n.board n.queue.waiting c.args.block.now.id) (sym c.self.view_is) c.requires.apart),
-  subst (λ (k : Remembered). Remembers (g.B.Board.board c.verify_and_issue.new.board) c.self.inside.queue k) (sym c.issued-self-inside.ensures)
-      (remembers_admitted (g.B.Board.board c.self.inside.board) (g.C.Chain.held c.self.inside.chain) c.self.inside.queue c.self.inside.remembered c.in_ok-verify_and_issue.field-0 (g.B.Board.board c.verify_and_issue.new.board) (g.C.Chain.held c.verify_and_issue.new.chain) (g.B.Board.decided c.verify_and_issue.new.board) c.args.block.now
+  subst (λ (k : QueueState). IsInState (g.B.Board.board c.verify_and_issue.new.board) c.self.inside.queue k) (sym c.issued-self-inside.ensures)
+      (in_state_admitted (g.B.Board.board c.self.inside.board) (g.C.Chain.held c.self.inside.chain) c.self.inside.queue c.self.inside.queue_state c.in_ok-verify_and_issue.field-0 (g.B.Board.board c.verify_and_issue.new.board) (g.C.Chain.held c.verify_and_issue.new.chain) (g.B.Board.decided c.verify_and_issue.new.board) c.args.block.now
       (next_on g.C.Chain.rules (g.C.Chain.held c.self.inside.chain) c.args.block.now.parent c.args.bytes) c.if-not-branch.false c.in_ok-verify_and_issue.ensures.admits c.self.invariant.1),
   c.verify_and_issue.ensures.serves,
 )
@@ -30,8 +30,8 @@ invariant_of-self-2 g c = (
       (next_on g.C.Chain.rules (g.C.Chain.held c.self.inside.chain) c.args.block.now.parent c.args.bytes)
       c.if-not-branch.false c.in_ok-verify_and_issue.ensures.admits c.verify_and_issue.ensures.steady
       (subst (λ (n : Running). IsApart n.board n.queue.waiting c.args.block.now.id) (sym c.self.view_is) c.requires.apart),
-  subst (λ (k : Remembered). Remembers (g.B.Board.board c.verify_and_issue.new.board) c.self.inside.queue k) (sym c.issued-self-inside.ensures)
-      (remembers_admitted (g.B.Board.board c.self.inside.board) (g.C.Chain.held c.self.inside.chain) c.self.inside.queue c.self.inside.remembered c.in_ok-verify_and_issue.field-0 (g.B.Board.board c.verify_and_issue.new.board) (g.C.Chain.held c.verify_and_issue.new.chain) (g.B.Board.decided c.verify_and_issue.new.board) c.args.block.now
+  subst (λ (k : QueueState). IsInState (g.B.Board.board c.verify_and_issue.new.board) c.self.inside.queue k) (sym c.issued-self-inside.ensures)
+      (in_state_admitted (g.B.Board.board c.self.inside.board) (g.C.Chain.held c.self.inside.chain) c.self.inside.queue c.self.inside.queue_state c.in_ok-verify_and_issue.field-0 (g.B.Board.board c.verify_and_issue.new.board) (g.C.Chain.held c.verify_and_issue.new.chain) (g.B.Board.decided c.verify_and_issue.new.board) c.args.block.now
       (next_on g.C.Chain.rules (g.C.Chain.held c.self.inside.chain) c.args.block.now.parent c.args.bytes) c.if-not-branch.false c.in_ok-verify_and_issue.ensures.admits c.self.invariant.1),
   c.verify_and_issue.ensures.serves,
 )

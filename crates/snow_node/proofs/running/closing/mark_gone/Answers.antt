@@ -1,7 +1,7 @@
 -- This decision is gone behind those before it.
 use Rattle.std.proofs.Common.{◌∙◌, sym, ap, take, None}
 use Rattle.std.proofs.lemmas.List.Sums.{fold_more}
-use Rattle.snow_board.specs.declared.decision.Decision.{Decision}
+use Rattle.snow_board.specs.declared.board.Decision.{Decision}
 use Rattle.snow_issue.specs.Kept.Known.{lists_of}
 use Rattle.snow_issue.specs.Model.Lists.{Lists, after_gone}
 use Rattle.snow_node.specs.Model.Closing.{all_gone}

@@ -4,7 +4,7 @@ use Rattle.std.proofs.lemmas.Bool.{cond-true, cond-false}
 use Rattle.snow_base.specs.Model.Votes.{Votes, total_count}
 use Rattle.snow_sample.specs.declared.draws.Draw.{Draw}
 use Rattle.snow_poll.specs.declared.awaited.Wait.{Wait}
-use Rattle.snow_poll.specs.declared.reply.Reply.{Reply}
+use Rattle.snow_poll.specs.declared.poll.Reply.{Reply}
 use Rattle.snow_poll.specs.declared.room.Nodes.{Nodes}
 use Rattle.snow_poll.specs.Kept.Awaited.{counts_at, draw_of}
 use Rattle.snow_poll.specs.Model.Poll.{Poll, awaits, replied, with_reply, given}

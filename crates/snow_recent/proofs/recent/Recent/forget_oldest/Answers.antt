@@ -7,13 +7,13 @@ use Rattle.snow_recent.proofs.Appended.{rising_before}
 use Rattle.snow_recent.proofs.Forgotten.{forgotten, no_oldest}
 use Rattle.snow_recent.proofs.recent.Recent.forget_oldest.Goals as goal
 
-pub forget_oldest-requires-clause-order : goal.forget_oldest-requires-clause-order
-forget_oldest-requires-clause-order g c =
+pub take_oldest_number-requires-clause-order : goal.take_oldest_number-requires-clause-order
+take_oldest_number-requires-clause-order g c =
     let inside = c.self.inside in
     rising_before g.T.Named.id inside.entries.items inside.first (head_of inside.first inside.heads) (concat inside.table.rows) c.self.invariant.index
 
-pub forget_oldest-requires-clause-seat : goal.forget_oldest-requires-clause-seat
-forget_oldest-requires-clause-seat g c =
+pub take_oldest_number-requires-clause-seat : goal.take_oldest_number-requires-clause-seat
+take_oldest_number-requires-clause-seat g c =
     let inside = c.self.inside in
     no_oldest g.T.Named.id inside.entries.items inside.first inside.heads (concat inside.table.rows) (omega arith) c.self.invariant.index
 
@@ -28,8 +28,8 @@ invariant_of-self g c =
       fits = c.self.invariant.fits;
       few = omega (arith, ap length c.pop_front-oldest.ensures.rest, length-drop 1 entries, c.self.invariant.few);
       room = omega (arith, c.pop_front-oldest.ensures.capacity, c.self.invariant.room);
-      places = omega (arith, c.forget_oldest.ensures.most, c.self.invariant.places);
-      small = rw c.forget_oldest.ensures.numbers (All-filter (λ n. not (n == first)) (λ n. n < 2 ^ 32) numbers c.self.invariant.small);
-      index = rw (c.pop_front-oldest.ensures.rest, c.forget_oldest.ensures.numbers)
+      places = omega (arith, c.take_oldest_number.ensures.most, c.self.invariant.places);
+      small = rw c.take_oldest_number.ensures.numbers (All-filter (λ n. not (n == first)) (λ n. n < 2 ^ 32) numbers c.self.invariant.small);
+      index = rw (c.pop_front-oldest.ensures.rest, c.take_oldest_number.ensures.numbers)
           (forgotten g.T.Named.id entries first c.self.inside.heads numbers some (omega arith) c.self.invariant.small c.self.invariant.index);
     }

@@ -1,0 +1,2 @@
+-- What the code keeps beside the model, and what is always true of it.
+pub mod Index
