@@ -91,7 +91,7 @@ rest_line bytes fits =
           ∙ rest_says (bytes_text bytes) bytes is.again;
     }
 
-frame_told : (payload : List ℕ) (r : Result Said Halt) → is_frame payload r ≡ true → r ≡ Ok (Frame payload)
+pub frame_told : (payload : List ℕ) (r : Result Said Halt) → is_frame payload r ≡ true → r ≡ Ok (Frame payload)
 frame_told payload (Ok Nothing) h = absurd cc
 frame_told payload (Ok (Name block)) h = absurd cc
 frame_told payload (Ok (Frame found)) h = ap (λ (p : List ℕ). Ok (Frame p)) (told_same found payload h)

@@ -11,3 +11,23 @@ pub mod Worded
 pub mod Shaped
 pub mod Told
 mod Pages
+pub mod Cutting
+pub mod Saying
+pub mod Named
+pub mod Listed
+pub mod Lists
+pub mod Chained
+pub mod Formed
+pub mod Sized
+pub mod Started
+pub mod Paid
+pub mod Lined
+pub mod Columned
+pub mod Spoken
+pub mod Putting
+pub mod Shortened
+pub mod Itemed
+pub mod Blocked
+pub mod Ledgered
+pub mod Evented
+pub mod Framing

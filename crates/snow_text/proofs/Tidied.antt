@@ -73,7 +73,7 @@ words_small false true names words more found e = no_naming names more found e
 words_small false false names words more found e = say_small words (payload_of names words) found e
 
 -- a frame that words say isn't too long
-said_small : (names : Names) (words : List Word) (found : List ℕ) → say_words names words ≡ Ok (Frame found) → IsPayload found
+pub said_small : (names : Names) (words : List Word) (found : List ℕ) → say_words names words ≡ Ok (Frame found) → IsPayload found
 unfolding say_words
 said_small names [] found e = absurd cc
 said_small names (word ∷ more) found e = words_small (bytes_eq (codes "rest") word) (bytes_eq (codes "name") word) names (word ∷ more) more found e

@@ -3,8 +3,12 @@
 
 mod form;
 mod laws;
+mod making;
 mod refusal;
+mod showing;
 
 pub use form::BlockForm;
 pub use laws::{one_by_one, one_form, one_text, own_words};
+pub use making::{MakeStop, Maker};
 pub use refusal::{Reason, Refusal};
+pub use showing::show_rest;

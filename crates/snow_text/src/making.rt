@@ -1,0 +1,29 @@
+//! A stream made from its text, line by line.
+//!
+//! A cursor goes over the words of a line (`words`, `parts`). Words append what they tell to an
+//! `Output`: numbers, bytes, blocks by their names, items and lists. Fields, blocks of chains, lines
+//! of a program and payloads are put together from these. A `Stop` says why a word isn't taken, and
+//! `refusing` at which column. A `Maker` takes one line after the other.
+
+mod block;
+mod bytes;
+mod chain;
+mod fields;
+mod form;
+mod items;
+mod kind;
+mod line;
+mod lists;
+mod maker;
+mod meaning;
+mod names;
+mod number;
+mod output;
+mod parts;
+mod payload;
+mod refusing;
+mod start;
+mod stop;
+mod words;
+
+pub use maker::{MakeStop, Maker};
