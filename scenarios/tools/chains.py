@@ -70,3 +70,12 @@ def block(words: list[str], names: Names) -> Block:
 def block_bytes(words: list[str], names: Names) -> bytes:
     """The bytes of a block: in the words of a chain, by name, or as they are."""
     return block(words, names).data if words and words[0] in CHAINS else data(words, names)
+
+
+def name_block(words: list[str], names: Names) -> None:
+    """`name NAME BLOCK`: gives a block a name that none has."""
+    if len(words) < 3 or not re.fullmatch(r"[a-z][a-z0-9-]*", words[1]):
+        raise BadText("a name is a small letter and then small letters, digits and '-', with a block behind it")
+    if words[1] in names:
+        raise BadText(f"the name '{words[1]}' is given twice")
+    names[words[1]] = block(words[2:], names)

@@ -1,13 +1,12 @@
 """A page: its head, its events, and the lines that stand under each."""
 from __future__ import annotations
 
-import re
 import shlex
 from dataclasses import dataclass, field
 from pathlib import Path
 from typing import Iterator, Optional
 
-from .chains import block
+from .chains import name_block
 from .events import event_frame, line_frame
 from .head import Head, read_head
 from .lines import error_text, line_text
@@ -90,20 +89,12 @@ class Page:
             under = self.events[-1].lines if self.events else self.first
             under.append(Line(spot, line_text(words[1:], self.names)))
         elif words[0] == "name":
-            self.name_block(words)
+            name_block(words, self.names)
         elif words[0] == "rest":
             self.rest = data(words[1:], self.names)
         else:
             self.events.append(Event(spot, event_frame(words, self.names)))
         self.last = spot
-
-    def name_block(self, words: list[str]) -> None:
-        """Gives a block a name that it hasn't had."""
-        if len(words) < 3 or not re.fullmatch(r"[a-z][a-z0-9-]*", words[1]):
-            raise BadText("a name is a small letter and then small letters, digits and '-', with a block behind it")
-        if words[1] in self.names:
-            raise BadText(f"the name '{words[1]}' is given twice")
-        self.names[words[1]] = block(words[2:], self.names)
 
 
 def without_comment(text: str) -> str:

@@ -9,7 +9,7 @@ AGAIN = re.compile(r"([0-9a-f]{2})\*([0-9]+)")
 DIGITS = re.compile(r"([0-9a-f]{2})+")
 ID = 32
 NODE = 20
-MOST = 1 << 22  # bytes of one value: a guard against a slip of the pen
+MOST = 1 << 22  # times of one piece: a guard against a slip of the pen
 
 
 class BadText(Exception):
@@ -83,8 +83,8 @@ def numbers(words: list[str], size: int) -> list[bytes]:
     """Numbers of `size` bytes each; `0*560` is one again and again."""
     found: list[bytes] = []
     for word in words:
-        value, _, times = word.partition("*")
-        if times and not re.fullmatch(r"[0-9]{1,5}", times):
+        value, again, times = word.partition("*")
+        if again and (not re.fullmatch(r"[0-9]+", times) or int(times) > MOST):
             raise BadText(f"'{word}' doesn't say how often")
         found += [number(value, size)] * int(times or 1)
     return found

@@ -34,3 +34,4 @@ pub mod Framing
 pub mod Gathered
 pub mod Spliced
 pub mod Taken
+pub mod Brevity

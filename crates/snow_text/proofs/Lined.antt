@@ -182,7 +182,7 @@ unfolding drawn_as
 drawn_not old (Ok d) times why h = cc h
 drawn_not old (Err e) times why h = ap Err (unerr e why h)
 
-reverse_twice : (xs : List Word) → reverse (reverse xs) ≡ xs
+pub reverse_twice : (xs : List Word) → reverse (reverse xs) ≡ xs
 reverse_twice [] = refl
 reverse_twice (x ∷ xs) = ap reverse (reverse-append (x ∷ []) xs) ∙ reverse-append (reverse xs) (x ∷ []) ∙ ap (λ l. x ∷ l) (reverse_twice xs)
 

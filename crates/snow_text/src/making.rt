@@ -29,5 +29,13 @@ mod text;
 mod whole;
 mod words;
 
+pub use kind::Kind;
+pub use line::last_place;
 pub use maker::{MakeStop, Maker};
+pub use meaning::{Meaning, say_words};
+pub use names::Names;
+pub use output::Output;
+pub use parts::{Parts, halved};
+pub use stop::{Stop, Why};
 pub use whole::{MakeEnd, make};
+pub use words::Words;

@@ -42,15 +42,19 @@ fn count_lower<T>(entries: &Entries<T>, len: usize, number: usize) -> usize
     low
 }
 
-/// Returns the place of a number among the first so many nodes, or `None`. Where none left from
-/// between, the place is the number less the first node's; else a search finds it in logarithmic
-/// time.
+/// Returns the place of a number among the first so many nodes, or `None`. A number below the first
+/// node's, as 0 for the last accepted block, has none. Where no node left from between, the place
+/// is the number less the first node's; else a search finds it in logarithmic time.
 pub(crate) fn place_of_number<T>(entries: &Entries<T>, len: usize, number: usize) -> Option<usize>
     requires order { AreInOrder (edges_of (take len entries.now.items)) }
     requires most { len ≤ length entries.now.items }
     ensures { result ≡ position (λ e. nat_eq e.number number) (edges_of (take len entries.now.items)) }
 {
-    let expected = number.wrapping_sub(number_of(entries, 0));
+    let first = number_of(entries, 0);
+    if number < first {
+        return None;
+    }
+    let expected = number.wrapping_sub(first);
     if expected < len && number_of(entries, expected) == number {
         return Some(expected);
     }

@@ -1,0 +1,2 @@
+-- Words of the clauses.
+pub mod Answering
