@@ -67,7 +67,8 @@ impl<'a> Parts<'a> {
     }
 }
 
-/// Returns the place of the first byte `mark`.
+/// Returns the place of the first byte `mark`, or `None` where there is no such byte.
+/// Rule: this project's own.
 #[tactic(auto, using(crate::proofs::Cutting::no_mark_next))]
 pub fn place(mark: u8, text: &[u8]) -> Option<usize>
     ensures { IsCut mark text.now result }
