@@ -42,7 +42,6 @@ impl<V: Drop> Far<V> {
     }
 
     /// Returns the value at an identifier, or `None`. Mostly there is no entry.
-    #[inline(always)]
     pub(crate) fn value(&self, id: &Id) -> Option<&V>
         ensures { option_copied result ≡ value_of self.now id.now }
     {
@@ -53,7 +52,6 @@ impl<V: Drop> Far<V> {
     }
 
     // The same where there are entries.
-    #[inline(never)]
     fn find(&self, id: &Id) -> Option<&V>
         ensures { option_copied result ≡ value_of self.now id.now }
     {
@@ -65,7 +63,6 @@ impl<V: Drop> Far<V> {
 
     /// Puts a value at an identifier, and returns the one that was there. On want of memory all
     /// stays as it was.
-    #[inline(never)]
     pub(crate) fn put(&mut self, id: Id, value: V) -> Result<Option<V>, AllocError>
         ensures before { IfOk result (λ before. before ≡ value_of self.old id) }
         ensures updates { OnOk result (HasAt self.old self.new id (Some value)) }
@@ -88,7 +85,6 @@ impl<V: Drop> Far<V> {
     }
 
     /// Takes the value at an identifier out and returns it.
-    #[inline(never)]
     pub(crate) fn take(&mut self, id: &Id) -> Option<V>
         ensures value { result ≡ value_of self.old id.now }
         ensures updates { HasAt self.old self.new id.now None }

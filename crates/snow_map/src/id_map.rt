@@ -61,7 +61,6 @@ impl<V: Drop> IdMap<V> {
     /// Returns the value at an identifier, or `None` exactly where there is none. No identifier
     /// stands twice.
     /// Rule: this project's own.
-    #[inline(always)]
     pub fn get(&self, id: &Id) -> Option<&V>
         ensures value { option_copied result ≡ value_of self.now id.now }
         ensures unique { IsDistinct bytes_eq (keys_of self.now) }
@@ -74,7 +73,6 @@ impl<V: Drop> IdMap<V> {
 
     /// Returns whether there is a value at an identifier.
     /// Rule: this project's own.
-    #[inline(always)]
     pub fn contains_key(&self, id: &Id) -> bool
         ensures { result ≡ is_some (value_of self.now id.now) }
     {
@@ -85,7 +83,6 @@ impl<V: Drop> IdMap<V> {
     /// none. All other entries stay. Where there was a value the call takes no memory and can't
     /// fail. On want of memory it returns `AllocError`, and the map stays as it was.
     /// Rule: this project's own.
-    #[inline(always)]
     pub fn insert(&mut self, id: Id, value: V) -> Result<Option<V>, AllocError>
         ensures before { IfOk result (λ before. before ≡ value_of self.old id) }
         ensures updates { OnOk result (HasAt self.old self.new id (Some value)) }
@@ -103,7 +100,6 @@ impl<V: Drop> IdMap<V> {
     /// Takes the value at an identifier out and returns it, or `None` exactly where there is none.
     /// All other entries stay. It takes no memory.
     /// Rule: this project's own.
-    #[inline(always)]
     pub fn remove(&mut self, id: &Id) -> Option<V>
         ensures value { result ≡ value_of self.old id.now }
         ensures updates { HasAt self.old self.new id.now None }
@@ -118,7 +114,6 @@ impl<V: Drop> IdMap<V> {
 }
 
 // Whether an identifier's entry belongs in the order: another has its seat, or it stands there.
-#[inline(always)]
 fn is_far<V: Drop>(near: &HashMap<u32, (Id, V)>, far: &Far<V>, id: &Id) -> bool
     ensures { result ≡ is_far near.now.entries far.now id.now }
 {

@@ -14,7 +14,6 @@ use std::collections::HashMap;
 /// the lowest first, plus the last four, read with the highest first, without the carry. So
 /// identifiers that hold small numbers at either end don't share one.
 /// Rule: this project's own.
-#[inline(always)]
 pub fn seat_of(id: &Id) -> usize
     ensures seat { result ≡ seat_of id.now }
     ensures small { result < 4294967296 }
@@ -27,7 +26,6 @@ pub fn seat_of(id: &Id) -> usize
 
 /// Returns an identifier's seat among 65,536. As few as these, chosen ones can't share much in the
 /// kit's map either.
-#[inline(always)]
 pub(crate) fn place_of(id: &Id) -> u32
     ensures { result ≡ place_of id.now }
 {
@@ -35,7 +33,6 @@ pub(crate) fn place_of(id: &Id) -> u32
 }
 
 /// The value under an identifier's seat, where it is that identifier's.
-#[inline(always)]
 pub(crate) fn value<'a, V: Drop>(near: &'a HashMap<u32, (Id, V)>, id: &Id) -> Option<&'a V>
     ensures { option_copied result ≡ gives (get nat_eq near.now (place_of id.now)) id.now }
 {
@@ -46,7 +43,6 @@ pub(crate) fn value<'a, V: Drop>(near: &'a HashMap<u32, (Id, V)>, id: &Id) -> Op
 }
 
 /// Whether the entry under an identifier's seat is its own, and nothing where there is no entry.
-#[inline(always)]
 pub(crate) fn is_mine<V: Drop>(near: &HashMap<u32, (Id, V)>, id: &Id) -> Option<bool>
     ensures { result ≡ option_map (λ e. bytes_eq id.now e.0) (get nat_eq near.now (place_of id.now)) }
 {
@@ -57,7 +53,6 @@ pub(crate) fn is_mine<V: Drop>(near: &HashMap<u32, (Id, V)>, id: &Id) -> Option<
 }
 
 /// Whether there is an entry under an identifier's seat that is its own.
-#[inline(always)]
 pub(crate) fn has<V: Drop>(near: &HashMap<u32, (Id, V)>, id: &Id) -> bool
     ensures { result ≡ is_own (get nat_eq near.now (place_of id.now)) id.now }
 {
@@ -68,7 +63,6 @@ pub(crate) fn has<V: Drop>(near: &HashMap<u32, (Id, V)>, id: &Id) -> bool
 }
 
 /// Puts an entry under its identifier's seat, and returns the value that was there.
-#[inline(always)]
 pub(crate) fn put<V: Drop>(
     near: &mut HashMap<u32, (Id, V)>,
     id: Id,
@@ -87,7 +81,6 @@ pub(crate) fn put<V: Drop>(
 }
 
 /// Takes the entry under an identifier's seat out.
-#[inline(always)]
 pub(crate) fn take<V: Drop>(near: &mut HashMap<u32, (Id, V)>, id: &Id) -> Option<V>
     ensures value { result ≡ option_map (λ e. e.1) (get nat_eq near.old (place_of id.now)) }
     ensures updates { Updates nat_eq near.old near.new (place_of id.now) None }

@@ -61,7 +61,6 @@ impl Draws {
 
     // Appends the first draw of a node. Its bytes are read only once there is room, so that they go
     // straight to their place. After want of memory the draws are as before.
-    #[inline(always)]
     pub(crate) fn push_first(&mut self, node: &NodeId) -> Result<(), AllocError>
         ensures ok { OnOk result (self.new ≡ self.old ++ record { node = node.now; count = 1 } ∷ []) }
         ensures err { OnErr result (self.new ≡ self.old) }

@@ -85,7 +85,6 @@ impl Line {
     // A number from 0 to `n` by the words at the front, which are taken out. There is none where a
     // word past the last is asked for; no word is left then. Where `n + 1` is a power of two no word
     // is passed over, and the remainder is the bits that `n` has.
-    #[inline(always)]
     pub(crate) fn choose(&mut self, n: u64) -> Option<u64>
         requires { n + 1 < 2 ^ 63 }
         ensures chosen { choice n self.old ≡ option_map (λ r. (r, self.new)) result }
@@ -100,7 +99,6 @@ impl Line {
 
 // The low 63 bits of the first word from a place on that isn't passed over, modulo `n + 1`. The
 // place is then behind that word, or behind all.
-#[inline(always)]
 fn reduce(words: &[u64], at: &mut usize, n: u64) -> Option<u64>
     requires few { n + 1 < 2 ^ 63 }
     requires begins { at.old ≤ length words.now }

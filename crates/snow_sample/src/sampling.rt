@@ -69,7 +69,6 @@ impl Roster {
 
 // Draws one unit, and counts the draw of its node. It is the first, so that nothing was moved, and
 // the last, so that nothing need be.
-#[inline(always)]
 pub(crate) fn draw_one(
     roster: &Roster,
     words: &mut Line,
@@ -92,7 +91,6 @@ pub(crate) fn draw_one(
 
 // Draws `k` units, at most all, and counts the draws of their nodes. Each draw takes a word, so that
 // none is made where they can't suffice.
-#[inline(always)]
 pub(crate) fn draw_all(
     roster: &Roster,
     k: u32,
@@ -115,7 +113,6 @@ pub(crate) fn draw_all(
 }
 
 // Draws where the words may suffice.
-#[inline(never)]
 fn draw_more(
     roster: &Roster,
     k: u32,
@@ -138,7 +135,6 @@ fn draw_more(
 }
 
 // Draws `k` units, where nothing was moved and no node was drawn. There is room for a move a word.
-#[inline(always)]
 fn draw_each(
     roster: &Roster,
     k: u32,

@@ -65,7 +65,6 @@ impl Shuffle {
 
     // Exchanges position `at` with the one `r` behind it, and gives the unit that then stands there.
     // What stands at `at` isn't kept, since later draws look only behind it.
-    #[inline(always)]
     pub(crate) fn exchange(&mut self, at: u64, r: u64) -> Result<u64, AllocError>
         requires chained { AreMoves self.old.mask self.old.moved.items self.old.lasts.items }
         requires within { at + r < 2 ^ 64 }
@@ -87,7 +86,6 @@ impl Shuffle {
     }
 
     // Draws where the map has moves. It is a function apart, since few samples need it.
-    #[inline(never)]
     fn draw_later(&mut self, at: u64, r: u64) -> Result<u64, AllocError>
         requires chained { AreMoves self.old.mask self.old.moved.items self.old.lasts.items }
         requires within { at + r < 2 ^ 64 }
@@ -120,7 +118,6 @@ impl Shuffle {
     }
 
     // The unit at a position by the moves that are in classes.
-    #[inline(always)]
     fn walk(&self, place: u64) -> u64
         requires { AreMoves self.now.mask self.now.moved.items self.now.lasts.items }
         ensures { result ≡ moved_to place place self.now.moved.items }
@@ -137,7 +134,6 @@ impl Shuffle {
     }
 
     // Moves a unit to a position.
-    #[inline(always)]
     fn keep(&mut self, place: u64, unit: u64) -> Result<(), AllocError>
         requires chained { AreMoves self.old.mask self.old.moved.items self.old.lasts.items }
         requires few { length self.old.moved.items + 1 < 2 ^ 32 }
@@ -165,7 +161,6 @@ impl Shuffle {
     }
 
     // How many moves stand in a class up to the one of a number.
-    #[inline(always)]
     fn rank_after(&self, number: u32) -> u32 {
         if number == 0 {
             return 0;

@@ -63,7 +63,6 @@ impl Words {
     }
 
     // Draws `k` units, at most all, and counts the draws of their nodes. One draw needs no room.
-    #[inline(always)]
     pub(crate) fn draw(
         &mut self,
         roster: &Roster,

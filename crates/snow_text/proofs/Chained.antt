@@ -1,7 +1,6 @@
 -- Fields one behind the other, and blocks in the words of their chains.
-use Rattle.std.proofs.Common.{◌≡◌, ℕ, ◌+◌, ◌<◌, ◌==◌, ◌&&◌, Bool, true, false, List, [], ◌∷◌, ◌++◌, length, drop, codes, option_map, subst, Option, Some, None, Result, Ok, Err, IsErr, refl, sym, ap, ◌∙◌, append_assoc, append-nil, add-one, if◌then◌else◌, arith}
+use Rattle.std.proofs.Common.{◌≡◌, ℕ, ◌+◌, ◌<◌, ◌==◌, true, false, List, [], ◌∷◌, ◌++◌, length, drop, subst, Some, None, Result, Ok, Err, IsErr, refl, sym, ap, ◌∙◌, append_assoc, append-nil, add-one, if◌then◌else◌, arith}
 use Rattle.std.proofs.lemmas.Bool.Decides.{nat_tests}
-use Rattle.std.specs.Str.{bytes_eq}
 use Rattle.snow_text.specs.declared.refusal.Reason.{Reason}
 use Rattle.snow_text.specs.declared.refusal.Reason.TheVariants as reason
 use Rattle.snow_text.specs.declared.making.stop.Why.{Why}
@@ -11,7 +10,7 @@ use Rattle.snow_text.specs.declared.making.stop.Stop.TheVariants as stop
 use Rattle.snow_text.specs.Model.Words.{Word, Halt, Field, ◌>>=◌, ◌&◌, all, all_of, at, ended}
 use Rattle.snow_text.specs.Model.Names.{Names}
 use Rattle.snow_text.specs.Model.Bytes.{bytes_of, part_word}
-use Rattle.snow_text.specs.Model.Events.{Chain, behind, block_of, blocks_of, chain_of, first_word, sized_block}
+use Rattle.snow_text.specs.Model.Events.{behind, block_of, blocks_of, chain_of, first_word, sized_block}
 use Rattle.snow_text.specs.Clauses.Cutting.{first, stopping}
 use Rattle.snow_text.specs.Clauses.Making.{Reads, Tells, ahead, onto}
 use Rattle.snow_text.specs.declared.making.chain.Chain.{Chain as Kind}

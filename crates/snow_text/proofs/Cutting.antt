@@ -1,5 +1,5 @@
 -- Texts cut at their first mark, and words taken one by one.
-use Rattle.std.proofs.Common.{◌≡◌, ℕ, ◌+◌, ◌<◌, ◌≤◌, ◌^◌, ◌==◌, Bool, true, false, List, [], ◌∷◌, ◌++◌, All, cond, if◌then◌else◌, eq-eqb, length, take, drop, get_or, Option, Some, None, subst, refl, sym, ap, ◌∙◌, add-one, drop-cons, take-append-drop, arith}
+use Rattle.std.proofs.Common.{◌≡◌, ℕ, ◌+◌, ◌<◌, ◌≤◌, ◌^◌, ◌==◌, Bool, true, false, List, [], ◌∷◌, ◌++◌, All, cond, if◌then◌else◌, eq-eqb, length, take, drop, get_or, Some, None, subst, refl, sym, ap, ◌∙◌, add-one, drop-cons, take-append-drop, arith}
 use Rattle.std.specs.List.{filter, onto_first}
 use Rattle.std.proofs.lemmas.List.{take_more, take_all}
 use Rattle.std.proofs.lemmas.List.Elements.{All-nil, All-cons, All-append}

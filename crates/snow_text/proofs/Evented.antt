@@ -35,7 +35,7 @@ sent_some name node request ws = ap (λ (l : List ℕ). sender_text name node re
 
 -- ---- blocks
 
-led_some : (ws : List Word) → 0 < length ws → led (32 ∷ []) (32 ∷ []) ws ≡ 32 ∷ line ws
+pub led_some : (ws : List Word) → 0 < length ws → led (32 ∷ []) (32 ∷ []) ws ≡ 32 ∷ line ws
 unfolding led
 led_some [] h = absurd (omega (arith, h))
 led_some (w ∷ ws) h = ap (λ (l : List ℕ). 32 ∷ l) (sym (joined_led 32 w ws))

@@ -1,5 +1,5 @@
 -- The forms of lines, found in three parts.
-use Rattle.std.proofs.Common.{◌≡◌, List, [], ◌∷◌, Option, Some, find, refl, sym, ap, ◌∙◌}
+use Rattle.std.proofs.Common.{◌≡◌, List, [], ◌∷◌, Option, Some, find, sym, ap, ◌∙◌}
 use Rattle.std.specs.Str.{bytes_eq}
 use Rattle.snow_text.specs.declared.making.form.Form.{Form}
 use Rattle.snow_text.specs.Model.Words.{Word}

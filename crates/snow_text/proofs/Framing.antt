@@ -3,12 +3,14 @@ use Rattle.std.proofs.Common.{◌≡◌, ℕ, ◌<◌, ◌≤◌, ◌==◌, ◌&
 use Rattle.std.specs.List.{list_all}
 use Rattle.std.proofs.lemmas.Bool.{and_parts, false_from_ne_true}
 use Rattle.snow_wire.specs.declared.event.Event.{Event}
+use Rattle.snow_wire.specs.declared.event.Event.TheVariants as event
 use Rattle.snow_wire.specs.declared.skip.Fault.{Fault}
 use Rattle.snow_wire.specs.Model.Reading.{event_of}
 use Rattle.snow_text.specs.declared.form.BlockForm.{BlockForm}
 use Rattle.snow_text.specs.Model.Words.{Word, words_of}
 use Rattle.snow_text.specs.Model.Made.{say_words}
 use Rattle.snow_text.specs.Model.Shown.{event_words, frame_words, is_frame, line, say, shown_frame, words_as}
+use Rattle.snow_text.specs.Clauses.Lined.{written_words}
 use Rattle.snow_text.proofs.Framed.{frame_told}
 use Rattle.snow_text.proofs.Tidied.{said_small}
 
@@ -34,3 +36,8 @@ shown_long f payload long = ap (λ (ws : List Word). line ws ++ 10 ∷ []) (long
 pub shown_fault : (f : BlockForm) (payload : List ℕ) (fault : Fault) → event_of payload ≡ Err fault → shown_frame f payload ≡ line (frame_words payload) ++ 10 ∷ []
 unfolding shown_frame
 shown_fault f payload fault e = ap (λ (r : Result Event Fault). line (words_as f payload r) ++ 10 ∷ []) e
+
+-- one that holds a line is shown in words where these say it
+pub shown_line : (f : BlockForm) (payload said : List ℕ) → event_of payload ≡ Ok (event.Line said) → shown_frame f payload ≡ line (written_words said payload) ++ 10 ∷ []
+unfolding shown_frame event_words
+shown_line f payload said e = ap (λ (r : Result Event Fault). line (words_as f payload r) ++ 10 ∷ []) e

@@ -31,3 +31,7 @@ pub mod Blocked
 pub mod Ledgered
 pub mod Evented
 pub mod Framing
+pub mod Gathered
+pub mod Spliced
+pub mod Taken
+pub mod Brevity

@@ -1,17 +1,15 @@
 -- The text of a line, word by word.
-use Rattle.std.proofs.Common.{◌≡◌, ℕ, ◌+◌, ◌-◌, ◌<◌, ◌≤◌, ◌==◌, Bool, true, false, List, [], ◌∷◌, ◌++◌, All, length, take, drop, get_or, map, find, reverse, codes, Option, Some, None, Result, Ok, Err, refl, sym, ap, ◌∙◌, subst, eq-eqb, append_assoc, append-nil, add-one, take-append-drop, drop-cons, arith}
+use Rattle.std.proofs.Common.{◌≡◌, ℕ, ◌+◌, ◌<◌, ◌≤◌, ◌==◌, Bool, true, false, List, [], ◌∷◌, ◌++◌, All, length, take, drop, get_or, map, find, reverse, Option, Some, None, Result, Ok, Err, refl, sym, ap, ◌∙◌, subst, eq-eqb, append_assoc, append-nil, add-one, take-append-drop, drop-cons, arith}
 use Rattle.std.specs.List.{join_with_byte, onto_first}
 use Rattle.std.specs.Str.{bytes_eq}
-use Rattle.std.proofs.lemmas.List.{reverse-append, length-append}
+use Rattle.std.proofs.lemmas.List.{reverse-append}
 use Rattle.std.proofs.lemmas.List.Elements.{All-nil, All-cons}
 use Rattle.std.proofs.lemmas.List.Splits.{slice_split_none, slice_split-cons_yes, slice_split-cons_no, join_with_byte-slice_split}
 use Rattle.std.proofs.Math.ListN.{drop_of_length-le}
 use Rattle.hex.specs.Hex.{encode_lower}
 use Rattle.snow_wire.specs.Model.Spelling.{sized}
 use Rattle.snow_text.specs.declared.refusal.Reason.{Reason}
-use Rattle.snow_text.specs.declared.refusal.Reason.TheVariants as reason
 use Rattle.snow_text.specs.declared.making.kind.Kind.{Kind as WordKind}
-use Rattle.snow_text.specs.declared.making.kind.Kind.TheVariants as kind
 use Rattle.snow_text.specs.declared.making.stop.Why.{Why}
 use Rattle.snow_text.specs.declared.making.stop.Why.TheVariants as fault
 use Rattle.snow_text.specs.declared.making.stop.Stop.{Stop}
@@ -20,7 +18,7 @@ use Rattle.snow_text.specs.Model.Words.{Word, Halt, ◌>>=◌, at, parts}
 use Rattle.snow_text.specs.Model.Names.{Names}
 use Rattle.snow_text.specs.Model.Bytes.{item_word}
 use Rattle.snow_text.specs.Model.Events.{text_of}
-use Rattle.snow_text.specs.Model.Lines.{Kind, Draw, digits, drawn, kinds_of, kinds_in, later_kinds, line_kinds, line_of, long_as, long_words, next_kind}
+use Rattle.snow_text.specs.Model.Lines.{Kind, Draw, digits, kinds_of, kinds_in, later_kinds, line_of, long_as, long_words, next_kind}
 use Rattle.snow_text.specs.Clauses.Cutting.{first, stopping}
 use Rattle.snow_text.specs.Clauses.Making.{Reads, Tells, onto}
 use Rattle.snow_text.specs.Clauses.Payload.{trailed}
@@ -184,7 +182,7 @@ unfolding drawn_as
 drawn_not old (Ok d) times why h = cc h
 drawn_not old (Err e) times why h = ap Err (unerr e why h)
 
-reverse_twice : (xs : List Word) → reverse (reverse xs) ≡ xs
+pub reverse_twice : (xs : List Word) → reverse (reverse xs) ≡ xs
 reverse_twice [] = refl
 reverse_twice (x ∷ xs) = ap reverse (reverse-append (x ∷ []) xs) ∙ reverse-append (reverse xs) (x ∷ []) ∙ ap (λ l. x ∷ l) (reverse_twice xs)
 

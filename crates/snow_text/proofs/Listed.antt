@@ -1,15 +1,14 @@
 -- Items of lists that words say, appended to others.
-use Rattle.std.proofs.Common.{◌≡◌, ℕ, zero, suc, ◌+◌, ◌-◌, ◌^◌, ◌<◌, ◌≤◌, Bool, true, false, List, [], ◌∷◌, ◌++◌, length, take, drop, replicate, flat_map, Option, Some, None, Result, Ok, Err, refl, sym, ap, ◌∙◌, append_assoc, append-nil, add-one, arith}
-use Rattle.std.proofs.lemmas.List.{length-append}
+use Rattle.std.proofs.Common.{◌≡◌, ℕ, zero, suc, ◌+◌, ◌^◌, ◌<◌, List, [], ◌∷◌, ◌++◌, length, replicate, flat_map, Result, Ok, Err, refl, sym, ap, ◌∙◌, append_assoc, append-nil, add-one, arith}
 use Rattle.snow_wire.specs.Model.Spelling.{number}
 use Rattle.snow_text.specs.declared.refusal.Reason.{Reason}
 use Rattle.snow_text.specs.declared.refusal.Reason.TheVariants as reason
-use Rattle.snow_text.specs.Model.Words.{Word, Halt, ◌>>=◌, at, parts}
+use Rattle.snow_text.specs.Model.Words.{Word, ◌>>=◌, parts}
 use Rattle.snow_text.specs.Model.Names.{Names}
 use Rattle.snow_text.specs.Model.Bytes.{item_word, number_below, number_word}
 use Rattle.snow_text.specs.Model.Events.{item, pair, times_of, times_word, transfer_word, weighed_word}
 use Rattle.snow_text.specs.Clauses.Making.{onto, tallied}
-use Rattle.snow_text.specs.Clauses.Listing.{both_told, halves, numbers_told, transfer_bytes, transfer_last, transfer_numbers, transfer_to, weighed_bytes}
+use Rattle.snow_text.specs.Clauses.Listing.{both_told, numbers_told, transfer_bytes, transfer_last, transfer_numbers, transfer_to, weighed_bytes}
 use Rattle.snow_text.proofs.Saying.{some_parts}
 
 -- ---- bytes behind others

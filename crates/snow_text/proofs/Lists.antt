@@ -1,5 +1,5 @@
 -- Lists and fields that words say, appended to others.
-use Rattle.std.proofs.Common.{◌≡◌, ℕ, suc, ◌+◌, ◌-◌, ◌^◌, ◌<◌, ◌≤◌, Bool, true, false, nat_lt, List, [], ◌∷◌, ◌++◌, length, take, drop, replicate, flat_map, subst, Option, Some, None, Result, Ok, Err, refl, sym, ap, ◌∙◌, append_assoc, append-nil, add-one, add-zero, zero-add, drop-drop, arith}
+use Rattle.std.proofs.Common.{◌≡◌, ℕ, ◌+◌, ◌<◌, ◌≤◌, false, nat_lt, List, [], ◌∷◌, ◌++◌, length, take, drop, flat_map, subst, Some, None, Result, Ok, Err, refl, sym, ap, ◌∙◌, append_assoc, append-nil, add-one, add-zero, zero-add, arith}
 use Rattle.std.proofs.lemmas.Bool.{lt-ltb}
 use Rattle.std.proofs.lemmas.Bool.Decides.{nat_tests}
 use Rattle.std.proofs.lemmas.Grind.{common_steps}
@@ -12,11 +12,11 @@ use Rattle.snow_text.specs.declared.making.stop.Why.{Why}
 use Rattle.snow_text.specs.declared.making.stop.Why.TheVariants as fault
 use Rattle.snow_text.specs.declared.making.stop.Stop.{Stop}
 use Rattle.snow_text.specs.declared.making.stop.Stop.TheVariants as stop
-use Rattle.snow_text.specs.Model.Words.{Word, Halt, Field, ◌>>=◌, ◌&◌, all, all_of, at, each, one, parts}
+use Rattle.snow_text.specs.Model.Words.{Word, Halt, ◌>>=◌, all, all_of, at, each, one}
 use Rattle.snow_text.specs.Model.Names.{Names}
 use Rattle.snow_text.specs.Model.Events.{list_field, listed}
 use Rattle.snow_text.specs.declared.making.items.Item.{Item}
-use Rattle.snow_text.specs.Clauses.Cutting.{first, stopped, stopping}
+use Rattle.snow_text.specs.Clauses.Cutting.{first, stopping}
 use Rattle.snow_text.specs.Clauses.Making.{Reads, Tells, ahead, onto, tallied}
 use Rattle.snow_text.specs.Clauses.Listing.{items_of, list_read, list_told}
 use Rattle.snow_text.proofs.Cutting.{taken_shorter}

@@ -1,30 +1,24 @@
 -- What the words of a line say.
-use Rattle.std.proofs.Common.{◌≡◌, ℕ, ◌+◌, ◌-◌, ◌<◌, ◌≤◌, ◌==◌, ◌&&◌, Bool, true, false, nat_le, not, List, [], ◌∷◌, ◌++◌, length, drop, take, find, is_some, codes, subst, Option, Some, None, Result, Ok, Err, if◌then◌else◌, refl, sym, ap, ◌∙◌, add-one, arith}
+use Rattle.std.proofs.Common.{◌≡◌, ℕ, ◌+◌, ◌<◌, ◌≤◌, Bool, true, false, nat_le, List, [], ◌∷◌, length, drop, take, find, is_some, codes, subst, Option, Some, None, Result, Ok, Err, refl, sym, ap, add-one, arith}
 use Rattle.std.specs.Str.{bytes_eq}
-use Rattle.std.specs.List.{onto_first}
-use Rattle.std.proofs.lemmas.List.Splits.{slice_split-cons_yes, slice_split-cons_no}
-use Rattle.std.proofs.lemmas.Bool.{false≢true, le-leb}
+use Rattle.std.proofs.lemmas.Bool.{le-leb}
 use Rattle.std.proofs.lemmas.Bool.Decides.{nat_tests}
 use Rattle.std.proofs.lemmas.List.{take_all}
-use Rattle.snow_text.specs.declared.refusal.Reason.{Reason}
 use Rattle.snow_text.specs.declared.refusal.Reason.TheVariants as reason
 use Rattle.snow_text.specs.declared.making.meaning.Meaning.{Meaning}
 use Rattle.snow_text.specs.declared.making.meaning.Meaning.TheVariants as meaning
 use Rattle.snow_text.specs.declared.making.maker.MakeStop.{MakeStop}
 use Rattle.snow_text.specs.declared.making.maker.MakeStop.TheVariants as make
-use Rattle.snow_text.specs.Model.Words.{Word, Halt, ◌>>=◌, at, ended, words_of}
-use Rattle.snow_text.specs.Model.Names.{Named, Names, is_name}
+use Rattle.snow_text.specs.Model.Words.{Word, Halt, ◌>>=◌, ended, words_of}
+use Rattle.snow_text.specs.Model.Names.{Names, is_name}
 use Rattle.snow_text.specs.Model.Bytes.{bytes_of}
 use Rattle.snow_text.specs.Model.Events.{Chain, chain_of, first_word, payload_of}
-use Rattle.snow_text.specs.Model.Made.{Said, Nothing, Name, Frame, Rest, framed, in_line, named_as, naming, refusal, say_line, say_words}
+use Rattle.snow_text.specs.Model.Made.{Said, Nothing, Name, Frame, Rest, in_line, named_as, naming, refusal, say_line, say_words}
 use Rattle.snow_text.specs.Clauses.Cutting.{first}
 use Rattle.snow_text.specs.declared.making.chain.Chain.{Chain as Kind}
 use Rattle.snow_text.specs.Clauses.Blocks.{chain_in, fields_in}
 use Rattle.snow_text.specs.Clauses.Making.{onto}
 use Rattle.snow_text.specs.Clauses.Meaning.{LineMade, LineTaken, Says, said_in, block_named, framed_as, named_block, rest_as}
-use Rattle.snow_text.proofs.Cutting.{taken_shorter}
-use Rattle.snow_text.proofs.Pieces.{word_if}
-use Rattle.snow_text.proofs.Saying.{some_parts}
 
 -- ---- the first word
 

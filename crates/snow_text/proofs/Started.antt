@@ -1,11 +1,10 @@
 -- The fields of a Start.
-use Rattle.std.proofs.Common.{◌≡◌, ℕ, ◌<◌, Bool, true, false, List, [], ◌∷◌, ◌++◌, length, Option, Some, None, Result, Ok, Err, refl, sym, ap, ◌∙◌}
+use Rattle.std.proofs.Common.{◌≡◌, ℕ, true, false, List, [], ◌∷◌, Some, None, Result, Ok, Err, refl, ap}
 use Rattle.std.specs.Str.{bytes_eq}
-use Rattle.snow_wire.specs.Model.Spelling.{number}
 use Rattle.snow_text.specs.declared.refusal.Reason.{Reason}
 use Rattle.snow_text.specs.declared.refusal.Reason.TheVariants as reason
 use Rattle.snow_text.specs.declared.making.items.Item.{Item}
-use Rattle.snow_text.specs.Model.Words.{Word, ◌>>=◌, one, parts}
+use Rattle.snow_text.specs.Model.Words.{Word, one, parts}
 use Rattle.snow_text.specs.Model.Names.{Names}
 use Rattle.snow_text.specs.Model.Events.{if_some, is_named, pair, value_word}
 use Rattle.snow_text.specs.Clauses.Cutting.{first}

@@ -10,3 +10,5 @@ pub mod Lined
 pub mod Columns
 pub mod Meaning
 pub mod Putting
+pub mod Texts
+pub mod Whole

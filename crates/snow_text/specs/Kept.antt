@@ -1,3 +1,4 @@
 -- What the code keeps while it works.
 pub mod Listing
 pub mod Shortening
+pub mod Pieces

@@ -9,6 +9,6 @@ mod showing;
 
 pub use form::BlockForm;
 pub use laws::{one_by_one, one_form, one_text, own_words};
-pub use making::{MakeStop, Maker};
+pub use making::{MakeEnd, MakeStop, Maker, make};
 pub use refusal::{Reason, Refusal};
-pub use showing::show_rest;
+pub use showing::{show_frame, show_rest};

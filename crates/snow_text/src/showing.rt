@@ -8,11 +8,13 @@ mod blocks;
 mod bytes;
 mod events;
 mod frames;
+mod lines;
 mod lists;
 mod put;
 
 use crate::showing::bytes::put_bytes;
 use crate::showing::put::put;
+pub use frames::show_frame;
 use std::alloc::AllocError;
 
 /// Appends the line of what stands behind the last whole frame of a stream: nothing where nothing

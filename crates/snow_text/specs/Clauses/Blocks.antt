@@ -1,5 +1,5 @@
 -- Blocks in the words of their chains.
-use Rattle.std.specs.Prelude.{ℕ, Bool, false, ◌&&◌, ◌==◌, List, [], ◌∷◌, length, codes, Option, Result, Ok, Err}
+use Rattle.std.specs.Prelude.{Bool, false, ◌&&◌, ◌==◌, List, [], ◌∷◌, length, codes}
 use Rattle.std.specs.Str.{bytes_eq}
 use Rattle.snow_text.specs.declared.making.chain.Chain.{Chain as Kind}
 use Rattle.snow_text.specs.declared.making.chain.Chain.TheVariants as chain

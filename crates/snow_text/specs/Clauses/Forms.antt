@@ -1,6 +1,5 @@
 -- The lines that say a frame, by their first words.
-use Rattle.std.specs.Prelude.{ℕ, List, [], ◌∷◌, drop, codes, Option, Some, None, Result, Ok, Err}
-use Rattle.snow_text.specs.declared.refusal.Reason.{Reason}
+use Rattle.std.specs.Prelude.{ℕ, List, ◌∷◌, drop, codes, Option, Some, None, Result}
 use Rattle.snow_text.specs.declared.making.form.Content.{Content}
 use Rattle.snow_text.specs.declared.making.form.Content.TheVariants as content
 use Rattle.snow_text.specs.declared.making.form.Form.{Form}

@@ -1,12 +1,16 @@
 -- The text of a line that a program wrote.
-use Rattle.std.specs.Prelude.{◌≡◌, ℕ, ◌+◌, ◌<◌, List, [], ◌∷◌, ◌++◌, length, take, drop, map, reverse, codes, Option, Some, None, Result, Ok, Err}
+use Rattle.std.specs.Prelude.{◌≡◌, ℕ, ◌+◌, ◌<◌, ◌==◌, ◌&&◌, if◌then◌else◌, Bool, not, List, [], ◌∷◌, ◌++◌, length, take, drop, map, reverse, codes, Option, Some, None, Result, Ok, Err}
+use Rattle.std.specs.List.{list_all}
 use Rattle.snow_text.specs.declared.refusal.Reason.{Reason}
 use Rattle.snow_text.specs.declared.making.kind.Kind.{Kind as WordKind}
 use Rattle.snow_text.specs.declared.making.kind.Kind.TheVariants as kind
-use Rattle.snow_text.specs.Model.Words.{Word, Halt, ◌>>=◌, parts}
+use Rattle.snow_text.specs.Model.Words.{Word, Halt, ◌>>=◌, parts, words_of}
 use Rattle.snow_wire.specs.Model.Spelling.{sized}
 use Rattle.snow_text.specs.Model.Names.{Names}
-use Rattle.snow_text.specs.Model.Lines.{Kind, Fixed, Block, Draw, Other, id, line_of, node}
+use Rattle.snow_text.specs.Model.Bytes.{digits_word, fixed_text}
+use Rattle.snow_text.specs.Model.Lines.{Kind, Fixed, Block, Draw, Other, id, line_of, line_words, node, shorter}
+use Rattle.snow_text.specs.Model.Made.{say_words}
+use Rattle.snow_text.specs.Model.Shown.{frame_words, is_frame, say}
 use Rattle.snow_text.specs.Clauses.Payload.{trailed}
 
 -- a kind of the model
@@ -72,3 +76,21 @@ answering_kinds more =
 -- the text of a line behind its length
 abbrev pub sized_line : Names → List Word → Result (List ℕ) Halt
 sized_line names words = line_of names words >>= (λ text. Ok (sized text))
+
+-- ---- shown
+
+-- the text of the bytes that digits tell, or else the word
+abbrev pub shorter_by : (List ℕ → Word) → Word → Word → Word
+shorter_by text word digits = shorter word (digits_word digits >>= (λ bytes. Ok (text bytes)))
+
+-- the short form of a node, and how often it was drawn
+abbrev pub drawn_text : Word → List ℕ → Word
+drawn_text times node = fixed_text node ++ 42 ∷ times
+
+-- a text is one line, and says just this payload
+abbrev pub tells : List ℕ → List ℕ → Bool
+tells text payload = list_all (λ c. not (c == 10)) text && is_frame payload (say_words [] (words_of text))
+
+-- the words of a payload that holds this line
+abbrev pub written_words : List ℕ → List ℕ → List Word
+written_words text payload = if say (codes ">" ∷ line_words text) payload then codes ">" ∷ line_words text else frame_words payload

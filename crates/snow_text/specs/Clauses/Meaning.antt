@@ -1,7 +1,6 @@
 -- What making the bytes of a line owes.
-use Rattle.std.specs.Prelude.{◌≡◌, ℕ, ◌+◌, ◌-◌, ◌≤◌, Bool, true, false, List, [], ◌∷◌, ◌++◌, length, Result, Ok, Err, ⊤}
+use Rattle.std.specs.Prelude.{◌≡◌, ℕ, ◌≤◌, Bool, true, false, List, [], ◌++◌, length, Result, Ok, Err, ⊤}
 use Rattle.snow_wire.specs.Model.Frame.{frame}
-use Rattle.snow_text.specs.declared.refusal.Reason.{Reason}
 use Rattle.snow_text.specs.declared.refusal.Refusal.{Refusal}
 use Rattle.snow_text.specs.declared.making.meaning.Meaning.{Meaning}
 use Rattle.snow_text.specs.declared.making.meaning.Meaning.TheVariants as meaning

@@ -1,5 +1,5 @@
 -- Payloads of frames, as words say them.
-use Rattle.std.specs.Prelude.{◌≡◌, ℕ, ◌-◌, ◌≤◌, List, [], ◌∷◌, ◌++◌, length, drop, codes, Result, Ok, Err}
+use Rattle.std.specs.Prelude.{◌≡◌, ℕ, ◌-◌, ◌≤◌, List, ◌∷◌, length, drop, codes, Result, Ok, Err}
 use Rattle.std.specs.List.{flat_map}
 use Rattle.snow_text.specs.declared.refusal.Reason.{Reason}
 use Rattle.snow_text.specs.Model.Words.{Word, Halt, Field, ◌&◌, all_of, parts, spaced}

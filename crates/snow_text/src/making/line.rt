@@ -177,9 +177,10 @@ fn drawn(
     Ok(())
 }
 
-// The place of the last byte `mark`.
+/// Returns the place of the last byte `mark`.
+/// Rule: this project's own.
 #[tactic(auto, using(crate::proofs::Lined::last_end, crate::proofs::Lined::last_at, crate::proofs::Lined::no_mark_behind, crate::proofs::Lined::none_behind))]
-fn last_place(mark: u8, text: &[u8]) -> Option<usize>
+pub fn last_place(mark: u8, text: &[u8]) -> Option<usize>
     ensures { IsLastCut mark text.now result }
 {
     let mut at = text.len();

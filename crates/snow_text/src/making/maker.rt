@@ -24,6 +24,17 @@ pub enum MakeStop {
     Refused(Refusal),
 }
 
+impl From<AllocError> for MakeStop {
+    ghost use Rattle.std.specs.Prelude.{◌≡◌};
+    ghost use Rattle.snow_text.specs.declared.making.maker.MakeStop.TheVariants.{Memory};
+
+    ghost from_gives = { λ _ stop. stop ≡ Memory };
+
+    fn from(_error: AllocError) -> MakeStop {
+        MakeStop::Memory
+    }
+}
+
 /// Makes the bytes of a stream from the lines of its text. Contracts see the blocks that have a
 /// name, and the bytes so far.
 /// Rule: this project's own.

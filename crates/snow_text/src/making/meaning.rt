@@ -16,10 +16,11 @@ use crate::making::words::{Words, is};
 use crate::refusal::Reason;
 use sha2::{Digest, Sha256};
 use snow_base::Bytes;
+use snow_base::limits::FRAME_BYTES;
 use std::alloc::AllocError;
 
 /// The greatest length of a payload.
-const MAX_PAYLOAD: usize = 2_097_152;
+const MAX_PAYLOAD: usize = FRAME_BYTES as usize;
 
 /// What a line says.
 /// Rule: this project's own.

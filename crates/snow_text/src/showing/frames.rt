@@ -1,6 +1,6 @@
 //! The lines of frames.
 
-ghost use Rattle.std.specs.Prelude.{◌≡◌, ◌<◌, false, [], ◌∷◌, ◌++◌, length, Err};
+ghost use Rattle.std.specs.Prelude.{◌≡◌, ◌<◌, false, [], ◌∷◌, ◌++◌, length, OnErr, OnOk};
 ghost use Rattle.snow_wire.specs.Clauses.Viewed.{as_event};
 ghost use Rattle.snow_wire.specs.Model.Reading.{event_of};
 ghost use Rattle.snow_text.specs.Model.Shown.{event_words, frame_words, is_line, line, shown_frame};
@@ -9,7 +9,9 @@ ghost use Rattle.snow_text.specs.Clauses.Putting.{Puts};
 use crate::form::BlockForm;
 use crate::showing::bytes::put_bytes;
 use crate::showing::events::put_event;
+use crate::showing::lines::put_written;
 use crate::showing::put::put;
+use snow_base::limits::FRAME_BYTES;
 use snow_wire::View;
 use std::alloc::AllocError;
 
@@ -25,12 +27,42 @@ pub fn put_as_it_is(text: &mut Vec<u8>, payload: &[u8]) -> Result<(), AllocError
 }
 
 /// Puts the line of an event, in the event's own words, behind a text.
-/// On want of memory it returns `AllocError`, and the text begins with what it was.
-/// Rule: this project's own.
-pub fn put_own_words(text: &mut Vec<u8>, form: BlockForm, view: &View) -> Result<(), AllocError>
+fn put_own_words(text: &mut Vec<u8>, form: BlockForm, view: &View) -> Result<(), AllocError>
     requires { is_line (as_event view.now) ≡ false }
     ensures { Puts result text.old.items text.new.items (line (event_words form (as_event view.now)) ++ 10 ∷ []) }
 {
     put_event(text, form, view)?;
     put(text, b"\n")
+}
+
+/// Puts the line of a frame's payload behind a text.
+fn put_frame(text: &mut Vec<u8>, form: BlockForm, payload: &[u8]) -> Result<(), AllocError>
+    ensures { Puts result text.old.items text.new.items (shown_frame form payload.now) }
+{
+    if payload.len() > FRAME_BYTES as usize {
+        return put_as_it_is(text, payload);
+    }
+    match View::read(payload) {
+        Ok(View::Line(said)) => put_written(text, payload, said),
+        Ok(view) => put_own_words(text, form, &view),
+        Err(_) => put_as_it_is(text, payload),
+    }
+}
+
+/// Appends the line of a frame with this payload: the words of the event that it holds, with blocks
+/// in this form, or the payload as it is where it holds none. On want of memory it returns
+/// `AllocError`, and the text stays as it was.
+/// Rule: this project's own.
+pub fn show_frame(form: BlockForm, payload: &[u8], text: &mut Vec<u8>) -> Result<(), AllocError>
+    ensures ok { OnOk result (text.new.items ≡ text.old.items ++ shown_frame form payload.now) }
+    ensures err { OnErr result (text.new.items ≡ text.old.items) }
+{
+    let before = text.len();
+    match put_frame(text, form, payload) {
+        Ok(()) => Ok(()),
+        Err(error) => {
+            text.truncate(before);
+            Err(error)
+        }
+    }
 }

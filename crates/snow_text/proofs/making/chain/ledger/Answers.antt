@@ -1,5 +1,5 @@
-use Rattle.std.proofs.Common.{rules, ◌≡◌, Ok, codes}
-use Rattle.snow_text.specs.Model.Words.{Field, ◌&◌, all, one}
+use Rattle.std.proofs.Common.{rules, ◌≡◌, Ok}
+use Rattle.snow_text.specs.Model.Words.{Field, ◌&◌, one}
 use Rattle.snow_text.specs.Model.Bytes.{item_word, number_word}
 use Rattle.snow_text.specs.Clauses.Blocks.{fields_in}
 use Rattle.snow_text.specs.Model.Events.{list_field}

@@ -1,4 +1,4 @@
-use Rattle.std.proofs.Common.{◌≡◌, ◌-◌, ◌++◌, ◌≤◌, length, drop, ap, ◌∙◌, arith}
+use Rattle.std.proofs.Common.{◌≡◌, ◌-◌, ◌++◌, length, drop, ap, ◌∙◌, arith}
 use borrow.Rule.Slice.PartMut.{mid_of, put_mid}
 use Rattle.snow_wire.specs.Model.Spelling.{number}
 use Rattle.snow_text.proofs.Saying.{number_is, written_at}

@@ -1,8 +1,8 @@
 use Rattle.std.proofs.Common.{rules, ◌≡◌, Ok, codes}
-use Rattle.snow_text.specs.Model.Words.{Field, ◌&◌, all, one}
+use Rattle.snow_text.specs.Model.Words.{Field, ◌&◌}
 use Rattle.snow_text.specs.Model.Bytes.{item_word, number_word}
-use Rattle.snow_text.specs.Model.Events.{named, start_field}
-use Rattle.snow_text.specs.Clauses.Payload.{lists_field, starts_field}
+use Rattle.snow_text.specs.Model.Events.{named}
+use Rattle.snow_text.specs.Clauses.Payload.{lists_field}
 use Rattle.snow_text.specs.Clauses.Making.{ahead}
 use Rattle.snow_text.proofs.Chained.{reads_then, reads_stop}
 use Rattle.snow_text.proofs.making.start.start_more.Goals as goal

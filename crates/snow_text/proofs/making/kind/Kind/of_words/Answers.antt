@@ -1,4 +1,4 @@
-use Rattle.std.proofs.Common.{rules, ◌≡◌, Some, None, List}
+use Rattle.std.proofs.Common.{rules}
 use Rattle.std.specs.Option.{option_map}
 use Rattle.snow_text.proofs.Lined.{found_first, found_second, found_third, found_none}
 use Rattle.snow_text.proofs.making.kind.Kind.of_words.Goals as goal
