@@ -58,6 +58,7 @@ pub fn top<S: Source, O: Sink, E: Sink>(
 }
 
 /// Does what was asked for.
+#[tactic(auto, using(crate::proofs::Ended::show_ended, crate::proofs::Ended::show_wrote, crate::proofs::Ended::show_failed, crate::proofs::Ended::show_done, crate::proofs::Ended::show_asked, crate::proofs::Ended::make_ended, crate::proofs::Ended::make_wrote, crate::proofs::Ended::make_failed, crate::proofs::Ended::make_done, crate::proofs::Ended::make_asked))]
 fn perform<S: Source, O: Sink>(
     alloc: Global,
     request: Request,
