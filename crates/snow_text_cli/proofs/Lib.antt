@@ -1,1 +1,2 @@
 mod WordExamples
+pub mod Ended

@@ -1,2 +1,3 @@
 -- Words of the clauses.
 pub mod Answering
+pub mod Ends

@@ -1,3 +1,3 @@
--- What a program over streams as text is asked for, and what it answers.
+-- What the program does for its words and its input.
 pub mod Words
 pub mod Answer

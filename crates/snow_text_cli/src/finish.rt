@@ -1,8 +1,9 @@
 ghost use Rattle.std.specs.Prelude.{◌≡◌};
 ghost use Rattle.snow_text_cli.specs.Model.Answer.{status_of};
+ghost use Rattle.snow_text_cli.specs.Clauses.Ends.{finish_of_make, finish_of_show};
 
 use crate::status::Status;
-use snow_text::Refusal;
+use snow_text::{MakeEnd, Refusal, ShowEnd};
 
 /// How the program ended.
 /// Rule: this project's own.
@@ -38,6 +39,33 @@ impl Finish {
             Finish::SinkFault => Status::SinkFault,
             Finish::Memory => Status::Memory,
             Finish::Limit => Status::Limit,
+        }
+    }
+
+    /// Returns how the program ended, where it showed a stream.
+    pub(crate) fn of_show(end: ShowEnd) -> Finish
+        ensures { result ≡ finish_of_show end }
+    {
+        match end {
+            ShowEnd::Done => Finish::Done,
+            ShowEnd::InputLimit => Finish::Limit,
+            ShowEnd::SourceFault => Finish::SourceFault,
+            ShowEnd::SinkFault => Finish::SinkFault,
+            ShowEnd::Memory => Finish::Memory,
+        }
+    }
+
+    /// Returns how the program ended, where it made a stream.
+    pub(crate) fn of_make(end: MakeEnd) -> Finish
+        ensures { result ≡ finish_of_make end }
+    {
+        match end {
+            MakeEnd::Done => Finish::Done,
+            MakeEnd::Refused(refusal) => Finish::Refused(refusal),
+            MakeEnd::InputLimit => Finish::Limit,
+            MakeEnd::SourceFault => Finish::SourceFault,
+            MakeEnd::SinkFault => Finish::SinkFault,
+            MakeEnd::Memory => Finish::Memory,
         }
     }
 }

@@ -1,12 +1,38 @@
--- What the program answers: its status, and what it says on standard error.
-use Rattle.std.specs.Prelude.{ℕ, List, [], ◌++◌, codes, decimal}
+-- What the program answers: the bytes that it writes, its status, and what it says on standard error.
+use Rattle.std.specs.Prelude.{ℕ, List, [], ◌++◌, Option, Some, None, Result, Ok, Err, codes, decimal}
 use Rattle.snow_text.specs.declared.refusal.Reason.{Reason}
 use Rattle.snow_text.specs.declared.refusal.Reason.TheVariants as reason
 use Rattle.snow_text.specs.declared.refusal.Refusal.{Refusal}
+use Rattle.snow_text.specs.Model.Shown.{shown}
+use Rattle.snow_text.specs.Model.Made.{made}
+use Rattle.snow_text_cli.specs.declared.request.Request.{Request}
+use Rattle.snow_text_cli.specs.declared.request.Request.TheVariants as request
 use Rattle.snow_text_cli.specs.declared.finish.Finish.{Finish}
 use Rattle.snow_text_cli.specs.declared.finish.Finish.TheVariants as finish
 use Rattle.snow_text_cli.specs.declared.status.Status.{Status}
 use Rattle.snow_text_cli.specs.declared.status.Status.TheVariants as status
+
+-- the bytes of a stream that was made; none where the text isn't taken
+abbrev pub made_bytes : Result (List ℕ) Refusal → List ℕ
+made_bytes (Ok bytes) = bytes
+made_bytes (Err refusal) = []
+
+-- how the making of a stream ends
+abbrev pub made_finish : Result (List ℕ) Refusal → Finish
+made_finish (Ok bytes) = finish.Done
+made_finish (Err refusal) = finish.Refused refusal
+
+-- what is written for a request and an input; nothing where none is asked for
+abbrev pub output_for : Option Request → List ℕ → List ℕ
+output_for None input = []
+output_for (Some (request.Show form)) stream = shown form stream
+output_for (Some request.Make) text = made_bytes (made text)
+
+-- how that ends
+abbrev pub finish_for : Option Request → List ℕ → Finish
+finish_for None input = finish.Usage
+finish_for (Some (request.Show form)) stream = finish.Done
+finish_for (Some request.Make) text = made_finish (made text)
 
 -- the status for how the program ended
 abbrev pub status_of : Finish → Status
