@@ -32,3 +32,4 @@ pub mod Ledgered
 pub mod Evented
 pub mod Framing
 pub mod Brevity
+pub mod Streamed

@@ -10,3 +10,4 @@ pub mod Lined
 pub mod Columns
 pub mod Meaning
 pub mod Putting
+pub mod Streaming
