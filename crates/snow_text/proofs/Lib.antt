@@ -35,3 +35,4 @@ pub mod Gathered
 pub mod Spliced
 pub mod Taken
 pub mod Brevity
+pub mod Streamed

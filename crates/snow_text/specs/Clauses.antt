@@ -12,3 +12,4 @@ pub mod Meaning
 pub mod Putting
 pub mod Texts
 pub mod Whole
+pub mod Streaming

@@ -11,4 +11,4 @@ pub use form::BlockForm;
 pub use laws::{one_by_one, one_form, one_text, own_words};
 pub use making::{MakeEnd, MakeStop, Maker, make};
 pub use refusal::{Reason, Refusal};
-pub use showing::{show_frame, show_rest};
+pub use showing::{ShowEnd, show, show_frame, show_rest};

@@ -11,11 +11,13 @@ mod frames;
 mod lines;
 mod lists;
 mod put;
+mod streaming;
 
 use crate::showing::bytes::put_bytes;
 use crate::showing::put::put;
 pub use frames::show_frame;
 use std::alloc::AllocError;
+pub use streaming::{ShowEnd, show};
 
 /// Appends the line of what stands behind the last whole frame of a stream: nothing where nothing
 /// does. On want of memory it returns `AllocError`, and the text stays as it was.

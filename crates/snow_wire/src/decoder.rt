@@ -154,6 +154,14 @@ impl Decoder {
         }))
     }
 
+    /// Returns the bytes that came behind the frames that were given.
+    /// Rule: this project's own.
+    pub fn rest(&self) -> &[u8]
+        ensures { result.now ≡ self.now.rest }
+    {
+        &self.bytes.as_slice()[self.start..]
+    }
+
     /// Returns how many bytes came behind the frames that were given.
     /// Rule: this project's own.
     pub fn rest_len(&self) -> usize
