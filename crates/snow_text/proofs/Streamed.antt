@@ -1,6 +1,5 @@
 -- A stream that is shown while its pieces come.
-use Rattle.std.proofs.Common.{◌≡◌, ℕ, ◌+◌, ◌-◌, ◌*◌, ◌^◌, ◌<◌, ◌≤◌, true, false, Bool, List, [], ◌∷◌, ◌++◌, length, Option, Some, None, IfSome, Result, Ok, Err, inl, inr, refl, sym, ap, ◌∙◌, subst, append_assoc, append-nil, arith}
-use Rattle.std.specs.List.{flat_map}
+use Rattle.std.proofs.Common.{◌≡◌, ℕ, ◌+◌, ◌-◌, ◌*◌, ◌^◌, ◌<◌, ◌≤◌, true, List, [], ◌∷◌, ◌++◌, length, Option, Some, None, IfSome, inl, inr, refl, sym, ap, ◌∙◌, subst, append_assoc, append-nil, arith}
 use Rattle.std.proofs.lemmas.List.{length-append, length-drop}
 use Rattle.std.proofs.lemmas.List.Concat.{flat_map-append}
 use Rattle.std.specs.Io.KnownBytes.{Appends, Consumes, IsAtEnd, Keeps}
@@ -9,12 +8,12 @@ use Rattle.snow_base.proofs.Known.{appends_none, appends_then, appends_then_fron
 use Rattle.snow_wire.specs.Model.Frame.{first_of, frames_of, is_too_long}
 use Rattle.snow_wire.specs.Clauses.Stream.{Intake, taken}
 use Rattle.snow_wire.proofs.Pieces.{ahead, gave_all, goes_on, pieces, taken_none, taken_one}
-use Rattle.snow_wire.proofs.Streams.{behind_shorter, frames_end, frames_front, long_first, off_front}
+use Rattle.snow_wire.proofs.Streams.{behind_shorter, frames_front, long_first, off_front}
 use Rattle.snow_text.specs.declared.form.BlockForm.{BlockForm}
 use Rattle.snow_text.specs.declared.showing.streaming.ShowEnd.{ShowEnd}
 use Rattle.snow_text.specs.declared.showing.streaming.ShowEnd.TheVariants as end
 use Rattle.snow_text.specs.Model.Shown.{shown, shown_frame, shown_rest}
-use Rattle.snow_text.specs.Clauses.Streaming.{Breaks, Broke, EndFails, Filled, FindsNone, HasFault, Passes, ShowsAll, TakesFirst, WritesText, lines_of}
+use Rattle.snow_text.specs.Clauses.Streaming.{Breaks, Broke, EndFails, Filled, FindsNone, HasFault, Passes, TakesFirst, WritesText, lines_of}
 
 -- lines of frames, and of frames behind them
 lines_both : (f : BlockForm) (a b : List (List ℕ)) → lines_of f a ++ lines_of f b ≡ lines_of f (a ++ b)

@@ -1,5 +1,5 @@
 -- The first piece, one piece more, and each end of a stream.
-use Rattle.std.proofs.Common.{◌≡◌, ℕ, ◌+◌, ◌-◌, List, length, IfSome, Ok, ap, ◌∙◌, refl, le_trans, subst, rules, arith}
+use Rattle.std.proofs.Common.{◌≡◌, ◌+◌, ◌-◌, length, IfSome, Ok, ap, ◌∙◌, refl, le_trans, subst, rules, arith}
 use Rattle.std.proofs.lemmas.List.{length-append}
 use Rattle.snow_base.specs.Clauses.Outside.{AppendsFront}
 use Rattle.snow_wire.specs.Clauses.Stream.{Intake}
