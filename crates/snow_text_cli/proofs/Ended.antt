@@ -55,6 +55,13 @@ show_done shown.SourceFault is = absurd (cc)
 show_done shown.SinkFault is = absurd (cc)
 show_done shown.Memory is = absurd (cc)
 
+pub show_broken : (e : ShowEnd) → status_of (finish_of_show e) ≡ status.SourceFault → e ≡ shown.SourceFault
+show_broken shown.Done is = absurd (cc)
+show_broken shown.InputLimit is = absurd (cc)
+show_broken shown.SourceFault is = refl
+show_broken shown.SinkFault is = absurd (cc)
+show_broken shown.Memory is = absurd (cc)
+
 pub show_asked : (e : ShowEnd) → status_of (finish_of_show e) ≡ status.Usage → ⊥
 show_asked shown.Done is = cc
 show_asked shown.InputLimit is = cc
@@ -107,6 +114,14 @@ make_done made.InputLimit is = absurd (cc)
 make_done made.SourceFault is = absurd (cc)
 make_done made.SinkFault is = absurd (cc)
 make_done made.Memory is = absurd (cc)
+
+pub make_broken : (e : MakeEnd) (before after : Option (List ℕ)) → making.IsQuiet e before after → status_of (finish_of_make e) ≡ status.SourceFault → after ≡ before
+make_broken made.Done before after q is = absurd (cc)
+make_broken (made.Refused refusal) before after q is = absurd (cc)
+make_broken made.InputLimit before after q is = absurd (cc)
+make_broken made.SourceFault before after q is = q
+make_broken made.SinkFault before after q is = absurd (cc)
+make_broken made.Memory before after q is = absurd (cc)
 
 pub make_asked : (e : MakeEnd) → status_of (finish_of_make e) ≡ status.Usage → ⊥
 make_asked made.Done is = cc

@@ -40,6 +40,9 @@ pub fn top<S: Source, O: Sink, E: Sink>(
     // The bytes written are the model's: the text of the stream, or the stream of the text.
     ensures output { IfSome (S.left source.old) (λ input. answering.Wrote result (O.written out.old) (O.written out.new)
         (model.output_for (asked (map string_bytes words.now.items)) input)) }
+    // Where the source failed, exactly the lines of the whole frames that came were written, or no byte of a stream.
+    ensures broken { result ≡ Status.SourceFault → answering.BrokeFor (asked (map string_bytes words.now.items))
+        (S.left source.old) (S.left source.new) (O.written out.old) (O.written out.new) }
     // At `Done` the input was read to its end.
     ensures read { result ≡ Status.Done → IsAtEnd (S.left source.new) }
     ensures fault { answering.HasFault result (S.faults source.old) (S.faults source.new) (O.faults out.old) (O.faults out.new) }
@@ -58,7 +61,7 @@ pub fn top<S: Source, O: Sink, E: Sink>(
 }
 
 /// Does what was asked for.
-#[tactic(auto, using(crate::proofs::Ended::show_ended, crate::proofs::Ended::show_wrote, crate::proofs::Ended::show_failed, crate::proofs::Ended::show_done, crate::proofs::Ended::show_asked, crate::proofs::Ended::make_ended, crate::proofs::Ended::make_wrote, crate::proofs::Ended::make_failed, crate::proofs::Ended::make_done, crate::proofs::Ended::make_asked))]
+#[tactic(auto, using(crate::proofs::Ended::show_ended, crate::proofs::Ended::show_wrote, crate::proofs::Ended::show_failed, crate::proofs::Ended::show_done, crate::proofs::Ended::show_broken, crate::proofs::Ended::show_asked, crate::proofs::Ended::make_ended, crate::proofs::Ended::make_wrote, crate::proofs::Ended::make_failed, crate::proofs::Ended::make_done, crate::proofs::Ended::make_broken, crate::proofs::Ended::make_asked))]
 fn perform<S: Source, O: Sink>(
     alloc: Global,
     request: Request,
@@ -68,6 +71,8 @@ fn perform<S: Source, O: Sink>(
     ensures end { IfSome (S.left source.old) (λ input. answering.IsEnd result (model.finish_for (Some request) input)) }
     ensures output { IfSome (S.left source.old) (λ input.
         answering.Wrote (model.status_of result) (O.written out.old) (O.written out.new) (model.output_for (Some request) input)) }
+    ensures broken { model.status_of result ≡ Status.SourceFault
+        → answering.BrokeFor (Some request) (S.left source.old) (S.left source.new) (O.written out.old) (O.written out.new) }
     ensures read { model.status_of result ≡ Status.Done → IsAtEnd (S.left source.new) }
     ensures fault { answering.HasFault (model.status_of result) (S.faults source.old) (S.faults source.new) (O.faults out.old) (O.faults out.new) }
     ensures asked { model.status_of result ≡ Status.Usage → ⊥ }

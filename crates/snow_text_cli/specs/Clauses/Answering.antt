@@ -1,7 +1,10 @@
 -- What the top call owes beside the model: the exceptions, and what they leave.
-use Rattle.std.specs.Prelude.{◌≡◌, ℕ, List, Option, ◌⊎◌, ⊤}
+use Rattle.std.specs.Prelude.{◌≡◌, ℕ, List, Option, Some, None, ◌⊎◌, ⊤}
 use Rattle.std.specs.Io.KnownBytes.{Appends}
 use Rattle.snow_base.specs.Clauses.Outside.{AppendsFront, Rose}
+use Rattle.snow_text.specs.Clauses.Streaming as showing
+use Rattle.snow_text_cli.specs.declared.request.Request.{Request}
+use Rattle.snow_text_cli.specs.declared.request.Request.TheVariants as request
 use Rattle.snow_text_cli.specs.declared.finish.Finish.{Finish}
 use Rattle.snow_text_cli.specs.declared.finish.Finish.TheVariants as finish
 use Rattle.snow_text_cli.specs.declared.status.Status.{Status}
@@ -43,6 +46,12 @@ abbrev pub HasFault : Status → ℕ → ℕ → ℕ → ℕ → Type 0
 HasFault status.SourceFault source_before source_after sink_before sink_after = Rose source_before source_after
 HasFault status.SinkFault source_before source_after sink_before sink_after = Rose sink_before sink_after
 HasFault given source_before source_after sink_before sink_after = ⊤
+
+-- the source failed: of a stream exactly the lines of the whole frames that came were written, and of a text nothing
+abbrev pub BrokeFor : Option Request → Option (List ℕ) → Option (List ℕ) → Option (List ℕ) → Option (List ℕ) → Type 0
+BrokeFor None left_before left_after out_before out_after = ⊥
+BrokeFor (Some (request.Show form)) left_before left_after out_before out_after = showing.Broke form left_before left_after out_before out_after
+BrokeFor (Some request.Make) left_before left_after out_before out_after = out_after ≡ out_before
 
 -- a line was taken whole, or a front of it where the count of faults rose or stands at its last value
 abbrev pub TookLine : Option (List ℕ) → Option (List ℕ) → ℕ → ℕ → List ℕ → Type 0
