@@ -1,5 +1,5 @@
 -- How the program ended, and its status.
-use Rattle.std.proofs.Common.{◌≡◌, ℕ, List, [], ◌++◌, Option, Some, None, refl, sym, ap, subst, ◌∙◌, append-nil}
+use Rattle.std.proofs.Common.{◌≡◌, ℕ, ◌^◌, ◌≤◌, length, List, [], ◌++◌, Option, Some, None, IfSome, refl, sym, ap, subst, ◌∙◌, append-nil}
 use Rattle.std.specs.Io.KnownBytes.{Appends}
 use Rattle.snow_base.specs.Clauses.Outside.{AppendsFront}
 use Rattle.snow_text.specs.declared.making.whole.MakeEnd.{MakeEnd}
@@ -62,6 +62,13 @@ show_broken shown.SourceFault is = refl
 show_broken shown.SinkFault is = absurd (cc)
 show_broken shown.Memory is = absurd (cc)
 
+pub show_filled : (e : ShowEnd) → status_of (finish_of_show e) ≡ status.Limit → e ≡ shown.InputLimit
+show_filled shown.Done is = absurd (cc)
+show_filled shown.InputLimit is = refl
+show_filled shown.SourceFault is = absurd (cc)
+show_filled shown.SinkFault is = absurd (cc)
+show_filled shown.Memory is = absurd (cc)
+
 pub show_asked : (e : ShowEnd) → status_of (finish_of_show e) ≡ status.Usage → ⊥
 show_asked shown.Done is = cc
 show_asked shown.InputLimit is = cc
@@ -122,6 +129,19 @@ make_broken made.InputLimit before after q is = absurd (cc)
 make_broken made.SourceFault before after q is = q
 make_broken made.SinkFault before after q is = absurd (cc)
 make_broken made.Memory before after q is = absurd (cc)
+
+as_many : (left before after : Option (List ℕ)) → IfSome left (λ text. making.Makes made.InputLimit text before after) → IfSome left (λ text. 2 ^ 40 ≤ length text)
+as_many None before after m = tt
+as_many (Some text) before after m = m
+
+pub make_filled : (e : MakeEnd) (left before after : Option (List ℕ)) → IfSome left (λ text. making.Makes e text before after) → making.IsQuiet e before after
+    → status_of (finish_of_make e) ≡ status.Limit → IfSome left (λ text. 2 ^ 40 ≤ length text) × (after ≡ before)
+make_filled made.Done left before after m q is = absurd (cc)
+make_filled (made.Refused refusal) left before after m q is = absurd (cc)
+make_filled made.InputLimit left before after m q is = (as_many left before after m, q)
+make_filled made.SourceFault left before after m q is = absurd (cc)
+make_filled made.SinkFault left before after m q is = absurd (cc)
+make_filled made.Memory left before after m q is = absurd (cc)
 
 pub make_asked : (e : MakeEnd) → status_of (finish_of_make e) ≡ status.Usage → ⊥
 make_asked made.Done is = cc

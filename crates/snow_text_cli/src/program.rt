@@ -43,6 +43,9 @@ pub fn top<S: Source, O: Sink, E: Sink>(
     // Where the source failed, exactly the lines of the whole frames that came were written, or no byte of a stream.
     ensures broken { result ≡ Status.SourceFault → answering.BrokeFor (asked (map string_bytes words.now.items))
         (S.left source.old) (S.left source.new) (O.written out.old) (O.written out.new) }
+    // At the limit 2^40 bytes came.
+    ensures limit { result ≡ Status.Limit → answering.FilledFor (asked (map string_bytes words.now.items))
+        (S.left source.old) (S.left source.new) (O.written out.old) (O.written out.new) }
     // At `Done` the input was read to its end.
     ensures read { result ≡ Status.Done → IsAtEnd (S.left source.new) }
     ensures fault { answering.HasFault result (S.faults source.old) (S.faults source.new) (O.faults out.old) (O.faults out.new) }
@@ -61,7 +64,7 @@ pub fn top<S: Source, O: Sink, E: Sink>(
 }
 
 /// Does what was asked for.
-#[tactic(auto, using(crate::proofs::Ended::show_ended, crate::proofs::Ended::show_wrote, crate::proofs::Ended::show_failed, crate::proofs::Ended::show_done, crate::proofs::Ended::show_broken, crate::proofs::Ended::show_asked, crate::proofs::Ended::make_ended, crate::proofs::Ended::make_wrote, crate::proofs::Ended::make_failed, crate::proofs::Ended::make_done, crate::proofs::Ended::make_broken, crate::proofs::Ended::make_asked))]
+#[tactic(auto, using(crate::proofs::Ended::show_ended, crate::proofs::Ended::show_wrote, crate::proofs::Ended::show_failed, crate::proofs::Ended::show_done, crate::proofs::Ended::show_broken, crate::proofs::Ended::show_filled, crate::proofs::Ended::show_asked, crate::proofs::Ended::make_ended, crate::proofs::Ended::make_wrote, crate::proofs::Ended::make_failed, crate::proofs::Ended::make_done, crate::proofs::Ended::make_broken, crate::proofs::Ended::make_filled, crate::proofs::Ended::make_asked))]
 fn perform<S: Source, O: Sink>(
     alloc: Global,
     request: Request,
@@ -73,6 +76,8 @@ fn perform<S: Source, O: Sink>(
         answering.Wrote (model.status_of result) (O.written out.old) (O.written out.new) (model.output_for (Some request) input)) }
     ensures broken { model.status_of result ≡ Status.SourceFault
         → answering.BrokeFor (Some request) (S.left source.old) (S.left source.new) (O.written out.old) (O.written out.new) }
+    ensures limit { model.status_of result ≡ Status.Limit
+        → answering.FilledFor (Some request) (S.left source.old) (S.left source.new) (O.written out.old) (O.written out.new) }
     ensures read { model.status_of result ≡ Status.Done → IsAtEnd (S.left source.new) }
     ensures fault { answering.HasFault (model.status_of result) (S.faults source.old) (S.faults source.new) (O.faults out.old) (O.faults out.new) }
     ensures asked { model.status_of result ≡ Status.Usage → ⊥ }

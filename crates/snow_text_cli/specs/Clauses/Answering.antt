@@ -1,5 +1,5 @@
 -- What the top call owes beside the model: the exceptions, and what they leave.
-use Rattle.std.specs.Prelude.{◌≡◌, ℕ, List, Option, Some, None, ◌⊎◌, ⊤}
+use Rattle.std.specs.Prelude.{◌≡◌, ℕ, ◌^◌, ◌≤◌, List, length, Option, Some, None, IfSome, ◌⊎◌, ⊤}
 use Rattle.std.specs.Io.KnownBytes.{Appends}
 use Rattle.snow_base.specs.Clauses.Outside.{AppendsFront, Rose}
 use Rattle.snow_text.specs.Clauses.Streaming as showing
@@ -52,6 +52,12 @@ abbrev pub BrokeFor : Option Request → Option (List ℕ) → Option (List ℕ)
 BrokeFor None left_before left_after out_before out_after = ⊥
 BrokeFor (Some (request.Show form)) left_before left_after out_before out_after = showing.Broke form left_before left_after out_before out_after
 BrokeFor (Some request.Make) left_before left_after out_before out_after = out_after ≡ out_before
+
+-- 2^40 bytes came: of a stream exactly the lines of their whole frames were written; a text has as many bytes, and nothing was written
+abbrev pub FilledFor : Option Request → Option (List ℕ) → Option (List ℕ) → Option (List ℕ) → Option (List ℕ) → Type 0
+FilledFor None left_before left_after out_before out_after = ⊥
+FilledFor (Some (request.Show form)) left_before left_after out_before out_after = showing.Filled form left_before left_after out_before out_after
+FilledFor (Some request.Make) left_before left_after out_before out_after = IfSome left_before (λ text. 2 ^ 40 ≤ length text) × (out_after ≡ out_before)
 
 -- a line was taken whole, or a front of it where the count of faults rose or stands at its last value
 abbrev pub TookLine : Option (List ℕ) → Option (List ℕ) → ℕ → ℕ → List ℕ → Type 0
