@@ -13,4 +13,5 @@ pub mod Left
 pub mod Climbed
 pub mod Seen
 pub mod Swept
+pub mod Fronted
 pub mod Passed

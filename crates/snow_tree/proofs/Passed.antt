@@ -1,10 +1,11 @@
 -- Lemmas on the pass over nodes in which those that stay move up to those that stay before them.
-use Rattle.std.proofs.Common.{◌≡◌, ℕ, zero, suc, ◌+◌, ◌<◌, ◌≤◌, true, false, cond, List, [], ◌∷◌, ◌++◌, length, take, drop, map, bytes_eq, Option, Some, None, slice_get, slice_set, slice_index_or, refl, sym, ap, subst, ◌∙◌, arith, append_assoc, append-nil, length-append, drop_of_length-le}
+use Rattle.std.proofs.Common.{◌≡◌, ℕ, zero, suc, ◌+◌, ◌<◌, ◌≤◌, true, false, cond, List, [], ◌∷◌, ◌++◌, length, take, drop, bytes_eq, Option, Some, None, slice_get, slice_set, slice_index_or, refl, sym, ap, subst, ◌∙◌, arith, append_assoc, append-nil, length-append, drop_of_length-le, take-append-drop}
 use Rattle.std.specs.List.{swap}
-use Rattle.std.proofs.lemmas.List.{map-append, length-drop}
+use Rattle.std.proofs.lemmas.List.{map-append, length-drop, length-take-le}
 use Rattle.std.proofs.lemmas.Option.{none-some, same_Some}
+use Rattle.snow_board.proofs.Cases.{split_on}
 use Rattle.snow_tree.specs.declared.node.Node.{Node}
-use Rattle.snow_tree.specs.Kept.Row.{AreInOrder, edge_of, edges_of, IsNumbered, is_above, staying, leaving, untold}
+use Rattle.snow_tree.specs.Kept.Row.{AreInOrder, edge_of, edges_of, IsFront, IsNumbered, is_above, staying, leaving, untold}
 use Rattle.snow_tree.specs.Kept.Hints.{hint_of}
 use Rattle.snow_tree.proofs.Ordered.{order_left}
 use Rattle.snow_tree.proofs.Searched.{there}
@@ -92,8 +93,35 @@ module _ {T : Type 0} where
     pub told : said ++ leaving number stay (drop place all) ≡ before ++ leaving number [] all
     pub numbered : (next : ℕ) → IsNumbered (edges_of all) map_before slots next → IsNumbered (edges_of (stay ++ drop place all)) map_now slots next
 
-  pub none_passed : (all : List (List ℕ × Node T)) (number : ℕ) (before : List (List ℕ)) (map : List ℕ → Option ℕ) (slots : List ℕ) → HasPassed all all number 0 0 before before map map slots
-  none_passed all number before map slots = record { stay = []; gone = []; shape = refl; kept = refl; passed = refl; left = refl; told = refl; numbered = λ next h. h }
+  -- where none of the first nodes leaves, all of them stay as they are
+  none_left : (number : ℕ) (stay xs ys : List (List ℕ × Node T)) → leaving number stay xs ≡ []
+      → (staying number stay (xs ++ ys) ≡ staying number (stay ++ xs) ys) × (leaving number stay (xs ++ ys) ≡ leaving number (stay ++ xs) ys)
+  none_left number stay [] ys none = (ap (λ l. staying number l ys) (sym (append-nil stay)), ap (λ l. leaving number l ys) (sym (append-nil stay)))
+  none_left number stay (e ∷ xs) ys none =
+      split_on (is_above number stay e)
+      (λ t.
+      let more = none_left number (stay ++ e ∷ []) xs ys (rw t at none) in
+      let shape = append_assoc stay (e ∷ []) xs in
+      (rw t (more.0 ∙ ap (λ l. staying number l ys) shape), rw t (more.1 ∙ ap (λ l. leaving number l ys) shape)))
+      (λ t. absurd (let some = rw t at none in cc))
+
+  pub none_passed : (all : List (List ℕ × Node T)) (number from : ℕ) (before : List (List ℕ)) (notes : List ℕ → Option ℕ) (slots : List ℕ) → IsFront number from all
+      → HasPassed all all number from from before before notes notes slots
+  none_passed all number from before notes slots front =
+      let first = take from all in
+      let whole : first ++ drop from all ≡ all = take-append-drop from all in
+      let stay = none_left number [] first (drop from all) front.none in
+      let long : length first ≡ from = length-take-le from all front.most in
+      record {
+        stay = first;
+        gone = [];
+        shape = sym (ap (λ l. l ++ drop from all) (append-nil first) ∙ whole);
+        kept = long;
+        passed = ap length (append-nil first) ∙ long;
+        left = sym stay.0 ∙ ap (staying number []) whole;
+        told = ap (λ l. before ++ l) (sym stay.1 ∙ ap (leaving number []) whole);
+        numbered = λ next h. subst (λ l. IsNumbered (edges_of l) notes slots next) (sym whole) h;
+      }
 
   -- the node at the place
   pub next_one : (all now : List (List ℕ × Node T)) (number kept place : ℕ) (before told : List (List ℕ)) (map_before map_now : List ℕ → Option ℕ) (slots : List ℕ)

@@ -6,7 +6,7 @@ ghost use Rattle.snow_board.specs.Kept.Grown.{IsGrown};
 ghost use Rattle.snow_tree.specs.declared.node.Node.{Node};
 ghost use Rattle.snow_tree.specs.Kept.Held.{children_of};
 ghost use Rattle.snow_tree.specs.Kept.Nodes.{IsTakenOver, blocks_of, left, outsiders};
-ghost use Rattle.snow_tree.specs.Kept.Row.{staying, leaving};
+ghost use Rattle.snow_tree.specs.Kept.Row.{IsFront, staying, leaving};
 
 use crate::children::Children;
 use crate::node::Node;
@@ -33,15 +33,33 @@ fn take_first<T: Drop>(nodes: &mut Row<T>, children: &mut Children, load: &mut T
     }
 }
 
-// The child at a place leaves, and then all that don't stand above it.
+// How many nodes in front are sure to stay once the child at a place is out. Where it was issued first, all
+// before its first brother descend from it. Else a brother stands in front.
+fn before_brothers<T>(nodes: &Row<T>, place: usize, children: &Children) -> usize
+    requires { (last : List ℕ) × IsGrown last (reverse (blocks_of nodes.now.entries)) × (children.now ≡ children_of (blocks_of nodes.now.entries) last) }
+    ensures { (e : List ℕ × Node T) → slice_get nodes.now.entries place ≡ Some e → IsFront e.1.number result (remove nodes.now.entries place) }
+{
+    let _len = nodes.len();
+    if place != 0 {
+        return 0;
+    }
+    match children.list().get(1) {
+        Some(brother) => nodes.get_index_of(brother).unwrap_or(0).saturating_sub(1),
+        None => 0,
+    }
+}
+
+// The child at a place leaves, and then all that don't stand above it. The first `from` of the others stay.
 fn take_at<T: Drop>(
     nodes: &mut Row<T>,
     place: usize,
+    from: usize,
     rejected: &mut Vec<Id>,
     children: &mut Children,
     load: &mut T,
 ) -> u64
-    requires { vec_len rejected.old + length nodes.old.entries ≤ vec_capacity rejected.old }
+    requires front { (e : List ℕ × Node T) → slice_get nodes.old.entries place ≡ Some e → IsFront e.1.number from (remove nodes.old.entries place) }
+    requires room { vec_len rejected.old + length nodes.old.entries ≤ vec_capacity rejected.old }
     ensures node { (e : List ℕ × Node T) → slice_get nodes.old.entries place ≡ Some e → IsTakenOver e.1 children.new load.new result }
     ensures left { (e : List ℕ × Node T) → slice_get nodes.old.entries place ≡ Some e → nodes.new.entries ≡ staying e.1.number [] (remove nodes.old.entries place) }
     ensures told { (e : List ℕ × Node T) → slice_get nodes.old.entries place ≡ Some e → rejected.new.items ≡ rejected.old.items ++ leaving e.1.number [] (remove nodes.old.entries place) }
@@ -49,7 +67,7 @@ fn take_at<T: Drop>(
 {
     match nodes.remove(place) {
         Some((_, node)) => {
-            nodes.sweep(node.number, rejected);
+            nodes.sweep(node.number, from, rejected);
             unpack(node, children, load)
         }
         None => 0,
@@ -67,6 +85,7 @@ fn take_among<T: Drop>(
 ) -> u64
     requires grown { IsGrown last.now (reverse (blocks_of nodes.old.entries)) }
     requires child { option_map (λ n. n.parent) (lookup (bytes_eq child.now) nodes.old.entries) ≡ Some last.now }
+    requires children { children.old ≡ children_of (blocks_of nodes.old.entries) last.now }
     requires room { vec_len rejected.old + length nodes.old.entries ≤ vec_capacity rejected.old }
     ensures node { IfSome (lookup (bytes_eq child.now) nodes.old.entries) (λ n. IsTakenOver n children.new load.new result) }
     ensures left { nodes.new.entries ≡ left nodes.old.entries child.now }
@@ -76,7 +95,10 @@ fn take_among<T: Drop>(
     let _len = nodes.len();
     let _last = last;
     match nodes.get_index_of(child) {
-        Some(place) => take_at(nodes, place, rejected, children, load),
+        Some(place) => {
+            let from = before_brothers(nodes, place, children);
+            take_at(nodes, place, from, rejected, children, load)
+        }
         None => 0,
     }
 }

@@ -3,7 +3,7 @@ ghost use Rattle.std.specs.List.{AllByRecursion, IsDistinct, position, remove};
 ghost use Rattle.std.specs.Map.{keys_of, values_of, lookup};
 ghost use Rattle.std.specs.Option.{option_map, option_copied, option_copied_mut};
 ghost use Rattle.snow_tree.specs.declared.node.Node.{Node};
-ghost use Rattle.snow_tree.specs.Kept.Row.{AreInOrder, IsOwn, edges_of, number_at, staying, leaving};
+ghost use Rattle.snow_tree.specs.Kept.Row.{AreInOrder, IsFront, IsOwn, edges_of, number_at, staying, leaving};
 
 use crate::children::Children;
 use crate::id_index::IdIndex;
@@ -201,16 +201,17 @@ impl<T> Row<T> {
     }
 
     /// Keeps the nodes that descend from the block of this number, and takes all others out. It
-    /// appends those to `rejected` in order of issue. It is one pass, which looks nothing up for
-    /// those that stay. It takes no memory.
-    pub(crate) fn sweep(&mut self, number: usize, rejected: &mut Vec<Id>)
+    /// appends those to `rejected` in order of issue. The first `from` nodes stay. It is one pass
+    /// over the others, which looks nothing up for those that stay. It takes no memory.
+    pub(crate) fn sweep(&mut self, number: usize, from: usize, rejected: &mut Vec<Id>)
     where
         T: Drop,
-        requires { vec_len rejected.old + length self.old.entries ≤ vec_capacity rejected.old }
+        requires front { IsFront number from self.old.entries }
+        requires room { vec_len rejected.old + length self.old.entries ≤ vec_capacity rejected.old }
         ensures entries { self.new.entries ≡ staying number [] self.old.entries }
         ensures told { rejected.new.items ≡ rejected.old.items ++ leaving number [] self.old.entries }
         ensures room { vec_capacity rejected.new ≡ vec_capacity rejected.old }
     {
-        sweep(&mut self.entries, &mut self.numbers, number, rejected);
+        sweep(&mut self.entries, &mut self.numbers, number, from, rejected);
     }
 }

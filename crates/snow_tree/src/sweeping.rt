@@ -3,7 +3,7 @@ ghost use Rattle.std.specs.Prelude.{◌≡◌, ℕ, List, ◌+◌, ◌<◌, ◌�
 ghost use Rattle.std.specs.HashMap.{get};
 ghost use Rattle.snow_tree.specs.declared.node.Node.{Node};
 ghost use Rattle.snow_tree.specs.Kept.Hints.{hint_of};
-ghost use Rattle.snow_tree.specs.Kept.Row.{AreInOrder, IsNumbered, edges_of, untold, is_above, staying, leaving};
+ghost use Rattle.snow_tree.specs.Kept.Row.{AreInOrder, IsFront, IsNumbered, edges_of, untold, is_above, staying, leaving};
 
 use crate::id_index::IdIndex;
 use crate::node::{Entries, Node};
@@ -39,13 +39,16 @@ fn tell<T>(entry: &(Id, Node<T>), numbers: &mut IdIndex, rejected: &mut Vec<Id>)
 }
 
 /// Keeps the nodes that descend from the block of this number, and takes all others out. It appends
-/// those to `rejected` in order of issue.
+/// those to `rejected` in order of issue. The first `from` nodes stay, so the pass begins behind
+/// them.
 pub(crate) fn sweep<T: Drop>(
     entries: &mut Entries<T>,
     numbers: &mut IdIndex,
     number: usize,
+    from: usize,
     rejected: &mut Vec<Id>,
 )
+    requires front { IsFront number from entries.old.items }
     requires numbered { (next : ℕ) × IsNumbered (edges_of entries.old.items) (get bytes_eq numbers.old.map) numbers.old.hints next }
     requires room { vec_len rejected.old + length entries.old.items ≤ vec_capacity rejected.old }
     ensures entries { entries.new.items ≡ staying number [] entries.old.items }
@@ -54,8 +57,8 @@ pub(crate) fn sweep<T: Drop>(
     ensures numbered { (next : ℕ) → IsNumbered (edges_of entries.old.items) (get bytes_eq numbers.old.map) numbers.old.hints next
         → IsNumbered (edges_of entries.new.items) (get bytes_eq numbers.new.map) numbers.new.hints next }
 {
-    let mut kept = 0;
-    for place in 0..entries.len() {
+    let mut kept = from;
+    for place in from..entries.len() {
         if is_above(entries, kept, number, place) {
             entries.swap(kept, place);
             kept += 1;

@@ -1,5 +1,5 @@
 -- Nodes in order of issue. A node has a number, which is higher than those of all that were issued before and never changes, and the number of its parent.
-use Rattle.std.specs.Prelude.{⊤, ◌≡◌, ℕ, zero, suc, ◌<◌, Bool, false, ◌==◌, ◌&&◌, ◌||◌, nat_eq, if◌then◌else◌, List, [], ◌∷◌, ◌++◌, length, map, find, Option, None, Some, bytes_eq, slice_get}
+use Rattle.std.specs.Prelude.{⊤, ◌≡◌, ℕ, zero, suc, ◌<◌, ◌≤◌, Bool, false, ◌==◌, ◌&&◌, ◌||◌, nat_eq, if◌then◌else◌, List, [], ◌∷◌, ◌++◌, length, take, map, find, Option, None, Some, bytes_eq, slice_get}
 use Rattle.std.specs.List.{AllByRecursion, list_any, position}
 use Rattle.std.specs.Option.{option_map, option_map_or}
 use Rattle.snow_tree.specs.Kept.Hints.{hint_of, slot_of}
@@ -106,3 +106,8 @@ module _ {T : Type 0} where
   abbrev pub leaving : ℕ → List (List ℕ × Node T) → List (List ℕ × Node T) → List (List ℕ)
   leaving number kept [] = []
   leaving number kept (e ∷ later) = if is_above number kept e then leaving number (kept ++ e ∷ []) later else e.0 ∷ leaving number kept later
+
+  -- none of the first so many leaves
+  pub record IsFront (number from : ℕ) (nodes : List (List ℕ × Node T)) : Type 0 where
+    pub most : from ≤ length nodes
+    pub none : leaving number [] (take from nodes) ≡ []

@@ -10,7 +10,7 @@ use Rattle.snow_tree.proofs.sweeping.sweep.Goals.{then-is_above, else-is_above}
 
 pub loop-place-init : goal.loop-place-init
 loop-place-init g c = record {
-  passed = none_passed c.args.entries.now.items c.args.number c.args.rejected.now.items (λ k. get bytes_eq c.args.numbers.now.map k) c.args.numbers.now.hints;
+  passed = none_passed c.args.entries.now.items c.args.number c.args.from c.args.rejected.now.items (λ k. get bytes_eq c.args.numbers.now.map k) c.args.numbers.now.hints c.requires.front;
   hints = refl;
   few = omega arith;
   room = omega (arith, c.requires.room);
