@@ -190,7 +190,7 @@ impl<C: Chain, B: Board> Follower<C, B> {
         match self.runner.work(self.events, payload) {
             Ok(None) => Ok(()),
             Ok(Some(kind)) => self.pass_over(kind),
-            Err(how) => self.stops(frame, how.end()),
+            Err(how) => self.stops(frame, End::from(how)),
         }
     }
 

@@ -2,64 +2,86 @@
 
 use crate::end::End;
 use crate::stop::EngineStop;
+use snow_node::Halt;
 use std::alloc::Global;
 use std::marker::Model;
 
-/// The stop of an engine. Where there is no memory for its box, it is `Memory`.
-/// Rule: this project's own.
+/// The stop of an engine, in a box where it may be large.
 #[derive(Drop)]
 pub(crate) struct BoxedStop {
-    stop: Option<Box<EngineStop>>,
+    kept: KeptStop,
+}
+
+#[derive(Drop)]
+enum KeptStop {
+    Halted(Halt),
+    Boxed(Box<EngineStop>),
 }
 
 impl Model for BoxedStop {
-    ghost use Rattle.std.specs.Option.{option_map_or};
     ghost use Rattle.snow_engine.specs.declared.stop.EngineStop.{EngineStop};
-    ghost use Rattle.snow_engine.specs.declared.stop.EngineStop.TheVariants as stop;
+    ghost use Rattle.snow_engine.specs.Kept.Boxed.{stop_in};
 
     ghost Value = { EngineStop };
 
-    ghost view = { λ b. option_map_or (λ s. s.value) b.stop stop.Memory };
+    ghost view = { λ b. stop_in b.kept };
 }
 
 impl BoxedStop {
     ghost use Rattle.std.specs.Prelude.{◌≡◌};
-    ghost use Rattle.snow_engine.specs.Clauses.Boxing.{IsStopped};
+    ghost use Rattle.snow_engine.specs.Clauses.Boxing.{IsBoxed};
 
-    /// Puts a stop in a box.
+    /// Puts a stop in a box. Where there is no memory for it, the stop is `Memory`.
     pub(crate) fn new(alloc: Global, stop: EngineStop) -> Self
-        ensures { IsStopped stop result }
+        ensures { IsBoxed EngineStop.Memory stop result }
     {
         match Box::new(alloc, stop) {
-            Ok(stop) => BoxedStop { stop: Some(stop) },
-            Err(_) => BoxedStop { stop: None },
-        }
-    }
-
-    /// Returns the stop.
-    pub(crate) fn stop(&self) -> EngineStop
-        ensures { result ≡ self.now }
-    {
-        match &self.stop {
-            Some(stop) => **stop,
-            None => EngineStop::Memory,
+            Ok(stop) => BoxedStop {
+                kept: KeptStop::Boxed(stop),
+            },
+            Err(_) => BoxedStop::from(Halt::Memory),
         }
     }
 }
 
-/// How a run ended. Where there is no memory for its box, it is `Memory`; that the sink failed takes
-/// none.
+impl From<Halt> for BoxedStop {
+    ghost use Rattle.std.specs.Prelude.{◌≡◌};
+    ghost use Rattle.snow_engine.specs.Kept.Staging.{stop_for};
+
+    ghost from_gives = { λ halt stop. stop ≡ stop_for halt };
+
+    fn from(halt: Halt) -> BoxedStop {
+        BoxedStop {
+            kept: KeptStop::Halted(halt),
+        }
+    }
+}
+
+impl From<BoxedStop> for EngineStop {
+    ghost use Rattle.std.specs.Prelude.{◌≡◌};
+
+    ghost from_gives = { λ boxed stop. stop ≡ boxed };
+
+    fn from(boxed: BoxedStop) -> EngineStop {
+        match &boxed.kept {
+            KeptStop::Halted(halt) => EngineStop::from(*halt),
+            KeptStop::Boxed(stop) => **stop,
+        }
+    }
+}
+
+/// How a run ended, in a box where it may be large.
 /// Rule: this project's own.
 #[derive(Drop)]
 pub struct BoxedEnd {
-    kept: Kept,
+    kept: KeptEnd,
 }
 
 #[derive(Drop)]
-enum Kept {
+enum KeptEnd {
     Memory,
     SinkFault,
-    Other(Box<End>),
+    Boxed(Box<End>),
 }
 
 impl Model for BoxedEnd {
@@ -73,35 +95,42 @@ impl Model for BoxedEnd {
 
 impl BoxedEnd {
     ghost use Rattle.std.specs.Prelude.{◌≡◌};
-    ghost use Rattle.snow_engine.specs.Clauses.Boxing.{IsEnded};
-    ghost use Rattle.snow_engine.specs.declared.end.End.TheVariants as end;
+    ghost use Rattle.snow_engine.specs.Clauses.Boxing.{IsBoxed};
 
-    /// Puts an end in a box.
+    /// Puts an end in a box. Where there is no memory for it, the end is `Memory`.
     pub(crate) fn new(alloc: Global, end: End) -> Self
-        ensures { IsEnded end result }
+        ensures { IsBoxed End.Memory end result }
     {
         match Box::new(alloc, end) {
-            Ok(end) => BoxedEnd { kept: Kept::Other(end) },
-            Err(_) => BoxedEnd { kept: Kept::Memory },
+            Ok(end) => BoxedEnd {
+                kept: KeptEnd::Boxed(end),
+            },
+            Err(_) => BoxedEnd {
+                kept: KeptEnd::Memory,
+            },
         }
     }
 
-    /// Returns the end of a run whose sink failed.
+    /// Returns the end of a run whose sink failed. It takes no memory.
     pub(crate) fn sink_fault() -> Self
-        ensures { result ≡ end.SinkFault }
+        ensures { result ≡ End.SinkFault }
     {
-        BoxedEnd { kept: Kept::SinkFault }
+        BoxedEnd {
+            kept: KeptEnd::SinkFault,
+        }
     }
+}
 
-    /// Returns the end.
-    /// Rule: this project's own.
-    pub fn end(&self) -> End
-        ensures { result ≡ self.now }
-    {
-        match &self.kept {
-            Kept::Memory => End::Memory,
-            Kept::SinkFault => End::SinkFault,
-            Kept::Other(end) => **end,
+impl From<BoxedEnd> for End {
+    ghost use Rattle.std.specs.Prelude.{◌≡◌};
+
+    ghost from_gives = { λ boxed end. end ≡ boxed };
+
+    fn from(boxed: BoxedEnd) -> End {
+        match &boxed.kept {
+            KeptEnd::Memory => End::Memory,
+            KeptEnd::SinkFault => End::SinkFault,
+            KeptEnd::Boxed(end) => **end,
         }
     }
 }

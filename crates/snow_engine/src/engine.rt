@@ -94,20 +94,25 @@ impl<C: Chain, B: Board> Engine<C, B> {
     {
         match self.advance(frame, event, log) {
             Ok(()) => Ok(()),
-            Err(stop) => Err(stop.stop()),
+            Err(stop) => Err(EngineStop::from(stop)),
         }
     }
 
     /// Takes one event, as `step` does, and returns a stop in a box.
     #[tactic(auto, using(crate::proofs::Staged::turned, crate::proofs::Staged::halted, crate::proofs::Staged::logged))]
-    pub(crate) fn advance(&mut self, frame: u64, event: View<'_>, log: &mut Lines) -> Result<(), BoxedStop>
+    pub(crate) fn advance(
+        &mut self,
+        frame: u64,
+        event: View<'_>,
+        log: &mut Lines,
+    ) -> Result<(), BoxedStop>
         ensures answer { Steps result self.new (model.step C.rules B.answer self.old frame (as_event event.entry)).1 }
         ensures lines { Logs result log.old log.new (model.step C.rules B.answer self.old frame (as_event event.entry)).0 }
     {
         match &mut self.stage {
             Stage::Deciding(node) => match node.step(frame, event, log) {
                 Ok(()) => Ok(()),
-                Err(halt) => Err(BoxedStop::new(self.alloc, EngineStop::from(halt))),
+                Err(halt) => Err(BoxedStop::from(halt)),
             },
             Stage::Booting(_) => match self.catch_up(frame, event, log) {
                 Ok(()) => Ok(()),
@@ -115,7 +120,7 @@ impl<C: Chain, B: Board> Engine<C, B> {
             },
             Stage::Running(node) => match node.step(frame, event, log) {
                 Ok(()) => Ok(()),
-                Err(halt) => Err(BoxedStop::new(self.alloc, EngineStop::from(halt))),
+                Err(halt) => Err(BoxedStop::from(halt)),
             },
             Stage::Ended => Ok(()),
         }

@@ -6,6 +6,7 @@ ghost use Rattle.snow_engine.specs.Clauses.Serving.{stand_of, told, Opens, Stand
 use crate::boxed::BoxedEnd;
 use crate::end::{BadKind, End};
 use crate::engine::{Engine, Task};
+use crate::stop::EngineStop;
 use snow_board::Board;
 use snow_chain::Chain;
 use snow_lines::{Lines, SkipKind};
@@ -117,7 +118,7 @@ fn follow<C: Chain, B: Board>(
     match View::read(payload) {
         Ok(event) => match engine.advance(frame, event, log) {
             Ok(()) => Ok(None),
-            Err(stop) => Err(BoxedEnd::new(alloc, End::at(frame, stop.stop()))),
+            Err(stop) => Err(BoxedEnd::new(alloc, End::at(frame, EngineStop::from(stop)))),
         },
         Err(fault) => Ok(Some(kind_of(fault))),
     }

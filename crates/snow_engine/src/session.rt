@@ -104,7 +104,7 @@ impl<C: Chain, B: Board> Session<C, B> {
     }
 
     /// Works all whole frames that the decoder holds, and gathers their lines.
-    fn work_frames<O: Sink>(&mut self, out: &mut O) -> Result<(), BoxedEnd>
+    fn work_frames<O: Sink>(&mut self, out: &mut O) -> Result<(), End>
         requires { 4 * self.old.decoder.given + length self.old.decoder.rest ≤ 2 ^ 40 }
         ensures goes { Goes result self.new.runner.engine self.new.decoder
             (all_worked C.rules B.answer self.old.runner.task (stand_of self.old.runner.engine) self.old.decoder) }
@@ -136,7 +136,7 @@ impl<C: Chain, B: Board> Session<C, B> {
         ensures later { O.faults out.old ≤ O.faults out.new }
         ensures task { self.new.runner.task ≡ self.old.runner.task }
     {
-        let worked = self.work_frames(out).map_err(|end| end.end());
+        let worked = self.work_frames(out);
         if has_sink_failed(&worked) {
             return worked;
         }
