@@ -11,7 +11,7 @@ use crate::auditing::AuditEnd;
 use crate::sheet::Sheet;
 use snow_board::Board;
 use snow_chain::Chain;
-use snow_engine::{End, Runner, Task};
+use snow_engine::{BoxedEnd, End, Runner, Task};
 use snow_lines::{Line, SkipKind};
 use snow_wire::View;
 use std::alloc::Global;
@@ -217,7 +217,7 @@ impl<C: Chain, B: Board> Follower<C, B> {
 
     /// Notes that the run stopped in a frame. The stop names the frame among all, where the run
     /// counts events alone.
-    fn stops(&mut self, frame: u64, how: End) -> Result<(), AuditEnd>
+    fn stops(&mut self, frame: u64, how: BoxedEnd) -> Result<(), AuditEnd>
         ensures stop { OnOk result (self.new.stop ≡ Some (at_frame how frame)) }
         ensures memory { OnErr result ((result ≡ Err (audit.Stopped end.Memory)) × (how ≡ end.Memory)) }
         ensures other { OnOk result (how ≡ end.Memory → ⊥) }
@@ -228,7 +228,7 @@ impl<C: Chain, B: Board> Follower<C, B> {
         ensures lines { self.new.lines ≡ self.old.lines }
         ensures at { self.new.at ≡ self.old.at }
     {
-        let end = match how {
+        let end = match End::from(how) {
             End::Memory => return Err(AuditEnd::Stopped(End::Memory)),
             End::BadInput { kind, .. } => End::BadInput { frame, kind },
             end => end,

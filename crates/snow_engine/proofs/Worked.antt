@@ -1,5 +1,5 @@
 -- One frame was worked: its lines, and where the run stands.
-use Rattle.std.proofs.Common.{◌≡◌, ℕ, ◌+◌, true, false, List, [], ◌∷◌, ◌++◌, append_assoc, append-nil, Option, Some, None, Result, Ok, Err, refl, sym, ap, ◌∙◌, subst, inr}
+use Rattle.std.proofs.Common.{◌≡◌, ℕ, ◌+◌, Bool, true, false, List, [], ◌∷◌, ◌++◌, append_assoc, append-nil, Option, Some, None, Result, Ok, Err, refl, sym, ap, ◌∙◌, subst, inl, inr}
 use Rattle.std.proofs.lemmas.List.Concat.{flat_map-append}
 use Rattle.snow_base.specs.Clauses.Outside.{AppendsFront}
 use Rattle.snow_base.proofs.Known.{front_of_more}
@@ -11,6 +11,7 @@ use Rattle.snow_wire.proofs.Streams.{long_first}
 use Rattle.snow_lines.specs.declared.line.Line.{Line}
 use Rattle.snow_lines.specs.Kept.Gathered.{Gathers}
 use Rattle.snow_lines.specs.Model.Text.{text, texts}
+use Rattle.snow_lines.proofs.Waiting.{gathers_none}
 use Rattle.snow_engine.specs.declared.engine.Task.{Task}
 use Rattle.snow_engine.specs.declared.end.BadKind.TheVariants as kind
 use Rattle.snow_engine.specs.declared.end.End.{End}
@@ -18,7 +19,8 @@ use Rattle.snow_engine.specs.declared.end.End.TheVariants as end
 use Rattle.snow_engine.specs.Kept.Staging.{Node}
 use Rattle.snow_engine.specs.Model.Run.{Stand, after_frame, is_stopped}
 use Rattle.snow_node.specs.Clauses.Stepping.{LogsFront}
-use Rattle.snow_engine.specs.Clauses.Serving.{stand_of, Stands, LogsFrame, GathersLines, GathersFront, SinkFails, Halts, front_worked, one_worked}
+use Rattle.snow_engine.specs.Clauses.Boxing.{IsBoxed}
+use Rattle.snow_engine.specs.Clauses.Serving.{stand_of, Stands, LogsFrame, Goes, GathersLines, GathersFront, SinkFails, Halts, front_worked, one_worked}
 
 -- what isn't a stop is none
 pub no_stop : {A : Type 0} → false ≡ true → A
@@ -102,3 +104,17 @@ pub long_halts : (rules : Rules) (answer : Answer) (task : Task) (o : Option Nod
     → Halts (one_worked rules answer task (stand_of o) intake) (end.BadInput (intake.given + 1) kind.Length)
 long_halts rules answer task o intake long =
     rw (none_worked rules answer task (stand_of o) intake (long_first intake.rest long)) (inr (never_stopped o, long, refl))
+
+-- and so does that end in a box
+pub long_goes : (rules : Rules) (answer : Answer) (task : Task) (o p : Option Node) (intake rest : Intake) (b : End) → is_too_long intake.rest ≡ true
+    → IsBoxed end.Memory (end.BadInput (intake.given + 1) kind.Length) b → Goes {T = Bool} (Err b) p rest (one_worked rules answer task (stand_of o) intake)
+long_goes rules answer task o p intake rest b long (inl same) = rw same (refl, long_halts rules answer task o intake long)
+long_goes rules answer task o p intake rest b long (inr none) = rw none tt
+
+-- no line comes of it
+pub long_gathers : (rules : Rules) (answer : Answer) (task : Task) (stand : Stand) (intake : Intake) (b : End) (before : Option (List ℕ)) (held : List ℕ) → is_too_long intake.rest ≡ true
+    → IsBoxed end.Memory (end.BadInput (intake.given + 1) kind.Length) b → GathersLines {T = Bool} (Err b) before held before held (one_worked rules answer task stand intake).lines
+long_gathers rules answer task stand intake b before held long (inl same) =
+    rw (same, none_worked rules answer task stand intake (long_first intake.rest long)) (gathers_none before held)
+long_gathers rules answer task stand intake b before held long (inr none) =
+    rw (none, none_worked rules answer task stand intake (long_first intake.rest long)) (record { front = []; rest = []; whole = refl; gathered = gathers_none before held })

@@ -8,6 +8,7 @@ ghost use Rattle.snow_engine.specs.Clauses.Stopping.{Logs, Starts, Steps};
 ghost use Rattle.snow_node.specs.Model.Turning.{members};
 
 use crate::booting::Booting;
+use crate::boxed::BoxedStop;
 use crate::deciding::Deciding;
 use crate::stage::{Node, Stage};
 use crate::stop::EngineStop;
@@ -87,20 +88,39 @@ impl<C: Chain, B: Board> Engine<C, B> {
     /// and `Memory` on want of memory. After a stop the caller only drops the engine. The log has
     /// all lines before the stop, after `Memory` a front of the event's lines.
     /// Rule: AvalancheGo, snow/engine/snowman.
-    #[tactic(auto, using(crate::proofs::Staged::turned, crate::proofs::Staged::halted, crate::proofs::Staged::logged))]
     pub fn step(&mut self, frame: u64, event: View<'_>, log: &mut Lines) -> Result<(), EngineStop>
+        ensures answer { Steps result self.new (model.step C.rules B.answer self.old frame (as_event event.entry)).1 }
+        ensures lines { Logs result log.old log.new (model.step C.rules B.answer self.old frame (as_event event.entry)).0 }
+    {
+        match self.advance(frame, event, log) {
+            Ok(()) => Ok(()),
+            Err(stop) => Err(EngineStop::from(stop)),
+        }
+    }
+
+    /// Takes one event, as `step` does, and returns a stop in a box.
+    #[tactic(auto, using(crate::proofs::Staged::turned, crate::proofs::Staged::halted, crate::proofs::Staged::logged))]
+    pub(crate) fn advance(
+        &mut self,
+        frame: u64,
+        event: View<'_>,
+        log: &mut Lines,
+    ) -> Result<(), BoxedStop>
         ensures answer { Steps result self.new (model.step C.rules B.answer self.old frame (as_event event.entry)).1 }
         ensures lines { Logs result log.old log.new (model.step C.rules B.answer self.old frame (as_event event.entry)).0 }
     {
         match &mut self.stage {
             Stage::Deciding(node) => match node.step(frame, event, log) {
                 Ok(()) => Ok(()),
-                Err(halt) => Err(EngineStop::from(halt)),
+                Err(halt) => Err(BoxedStop::from(halt)),
             },
-            Stage::Booting(_) => self.catch_up(frame, event, log),
+            Stage::Booting(_) => match self.catch_up(frame, event, log) {
+                Ok(()) => Ok(()),
+                Err(stop) => Err(BoxedStop::new(self.alloc, stop)),
+            },
             Stage::Running(node) => match node.step(frame, event, log) {
                 Ok(()) => Ok(()),
-                Err(halt) => Err(EngineStop::from(halt)),
+                Err(halt) => Err(BoxedStop::from(halt)),
             },
             Stage::Ended => Ok(()),
         }

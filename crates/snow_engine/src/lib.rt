@@ -2,6 +2,7 @@
 #![tactic(auto)]
 
 mod booting;
+mod boxed;
 mod deciding;
 mod end;
 mod engine;
@@ -11,6 +12,7 @@ mod session;
 mod stage;
 mod stop;
 
+pub use boxed::BoxedEnd;
 pub use end::{BadKind, End};
 pub use engine::{Engine, Task};
 pub use runner::Runner;

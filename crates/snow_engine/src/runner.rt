@@ -3,8 +3,10 @@ ghost use Rattle.snow_engine.specs.Model.Run as model;
 ghost use Rattle.snow_engine.specs.Model.Run.{after_frame};
 ghost use Rattle.snow_engine.specs.Clauses.Serving.{stand_of, told, Opens, Stands, LogsFrame};
 
+use crate::boxed::BoxedEnd;
 use crate::end::{BadKind, End};
 use crate::engine::{Engine, Task};
+use crate::stop::EngineStop;
 use snow_board::Board;
 use snow_chain::Chain;
 use snow_lines::{Lines, SkipKind};
@@ -43,7 +45,7 @@ impl<C: Chain, B: Board> Runner<C, B> {
     /// where the frame brings it.
     /// Rule: this project's own.
     #[tactic(auto, unfolding(crate::specs::Model::Run::after_frame))]
-    pub fn work(&mut self, frame: u64, payload: &[u8]) -> Result<Option<SkipKind>, End>
+    pub fn work(&mut self, frame: u64, payload: &[u8]) -> Result<Option<SkipKind>, BoxedEnd>
         ensures stand { Stands result self.new.engine (after_frame C.rules B.answer self.old.task (stand_of self.old.engine) frame payload.now).1 }
         ensures lines { LogsFrame result [] (told frame result self.new.log) (after_frame C.rules B.answer self.old.task (stand_of self.old.engine) frame payload.now).0 }
         ensures task { self.new.task ≡ self.old.task }
@@ -51,12 +53,12 @@ impl<C: Chain, B: Board> Runner<C, B> {
         self.log.clear();
         match &mut self.engine {
             None => self.work_first(frame, payload),
-            Some(engine) => follow(engine, frame, payload, &mut self.log),
+            Some(engine) => follow(self.alloc, engine, frame, payload, &mut self.log),
         }
     }
 
     /// Works the first frame.
-    fn work_first(&mut self, frame: u64, payload: &[u8]) -> Result<Option<SkipKind>, End>
+    fn work_first(&mut self, frame: u64, payload: &[u8]) -> Result<Option<SkipKind>, BoxedEnd>
         requires engine { self.old.engine ≡ None }
         requires log { self.old.log ≡ [] }
         ensures stand { Stands result self.new.engine (model.opened C.rules self.old.task frame (model.read payload.now)).1 }
@@ -68,7 +70,7 @@ impl<C: Chain, B: Board> Runner<C, B> {
                 drop(self.engine.replace(engine));
                 Ok(None)
             }
-            Err(end) => Err(end),
+            Err(end) => Err(BoxedEnd::new(self.alloc, end)),
         }
     }
 }
@@ -103,19 +105,20 @@ fn open<C: Chain, B: Board>(
 /// Makes a step of the engine, and passes over a payload that is no event.
 #[tactic(auto, using(crate::proofs::Stopped::stands_in, crate::proofs::Stopped::logs_in))]
 fn follow<C: Chain, B: Board>(
+    alloc: Global,
     engine: &mut Engine<C, B>,
     frame: u64,
     payload: &[u8],
     log: &mut Lines,
-) -> Result<Option<SkipKind>, End>
+) -> Result<Option<SkipKind>, BoxedEnd>
     requires { log.old ≡ [] }
     ensures stand { Stands result (Some engine.new) (model.followed C.rules B.answer engine.old frame (model.read payload.now)).1 }
     ensures lines { LogsFrame result [] (told frame result log.new) (model.followed C.rules B.answer engine.old frame (model.read payload.now)).0 }
 {
     match View::read(payload) {
-        Ok(event) => match engine.step(frame, event, log) {
+        Ok(event) => match engine.advance(frame, event, log) {
             Ok(()) => Ok(None),
-            Err(stop) => Err(End::at(frame, stop)),
+            Err(stop) => Err(BoxedEnd::new(alloc, End::at(frame, EngineStop::from(stop)))),
         },
         Err(fault) => Ok(Some(kind_of(fault))),
     }

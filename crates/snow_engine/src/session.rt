@@ -8,6 +8,7 @@ ghost use Rattle.snow_wire.specs.Clauses.Stream.{fresh};
 ghost use Rattle.snow_engine.specs.Model.Run.{end_behind};
 ghost use Rattle.snow_engine.specs.Clauses.Serving.{stand_of, told, has_sink_failed, Goes, GathersLines, WritesLines, SinkFails, one_worked, all_worked};
 
+use crate::boxed::BoxedEnd;
 use crate::end::{BadKind, End};
 use crate::engine::Task;
 use crate::runner::Runner;
@@ -70,7 +71,7 @@ impl<C: Chain, B: Board> Session<C, B> {
 
     /// Works the first frame that the decoder holds, and gathers its lines. It returns `false`
     /// where the decoder holds no whole frame.
-    fn work_next<O: Sink>(&mut self, out: &mut O) -> Result<bool, End>
+    fn work_next<O: Sink>(&mut self, out: &mut O) -> Result<bool, BoxedEnd>
         requires { self.old.decoder.given < 2 ^ 64 - 1 }
         ensures goes { Goes result self.new.runner.engine self.new.decoder
             (one_worked C.rules B.answer self.old.runner.task (stand_of self.old.runner.engine) self.old.decoder) }
@@ -83,17 +84,20 @@ impl<C: Chain, B: Board> Session<C, B> {
         ensures task { self.new.runner.task ≡ self.old.runner.task }
     {
         match self.decoder.next() {
-            Err(long) => Err(End::BadInput {
-                frame: long.number,
-                kind: BadKind::Length,
-            }),
+            Err(long) => Err(BoxedEnd::new(
+                self.runner.alloc,
+                End::BadInput {
+                    frame: long.number,
+                    kind: BadKind::Length,
+                },
+            )),
             Ok(None) => Ok(false),
             Ok(Some(frame)) => {
                 let number = frame.number;
                 let worked = self.runner.work(number, frame.payload);
                 match gather(&mut self.page, number, &worked, self.runner.log.list(), out) {
                     Ok(()) => worked.map(|_| true),
-                    Err(_) => Err(End::SinkFault),
+                    Err(_) => Err(BoxedEnd::sink_fault()),
                 }
             }
         }
@@ -158,7 +162,7 @@ fn has_sink_failed(worked: &Result<(), End>) -> bool
 fn gather<O: Sink>(
     page: &mut Page,
     frame: u64,
-    worked: &Result<Option<SkipKind>, End>,
+    worked: &Result<Option<SkipKind>, BoxedEnd>,
     log: &[Line],
     out: &mut O,
 ) -> Result<(), Failed>
