@@ -3,7 +3,7 @@ use Rattle.std.proofs.Common.{◌≡◌, ℕ, zero, suc, true, false, List, [], 
 use Rattle.std.specs.Prelude.{Result, Ok, Err, is_none}
 use Rattle.std.specs.List.{position_or_len, remove}
 use Rattle.std.specs.Option.{option_map}
-use Rattle.snow_base.specs.declared.header.Header.{Header}
+use Rattle.snow_base.specs.declared.block.Header.{Header}
 use Rattle.snow_chain.specs.Model.Chain.{Rules, Held}
 use Rattle.snow_gets.specs.declared.gets.Get.{Get}
 use Rattle.snow_gets.specs.Model.Gets.{is_get, without}
