@@ -6,7 +6,7 @@ ghost use Rattle.snow_wire.specs.Model.Reading.{event_of};
 ghost use Rattle.snow_text.specs.Model.Shown.{event_words, frame_words, is_line, line, shown_frame};
 ghost use Rattle.snow_text.specs.Clauses.Putting.{Puts};
 
-use crate::form::BlockForm;
+use crate::showing::BlockForm;
 use crate::showing::bytes::put_bytes;
 use crate::showing::events::put_event;
 use crate::showing::lines::put_written;

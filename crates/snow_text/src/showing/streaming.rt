@@ -7,8 +7,7 @@ ghost use Rattle.snow_wire.specs.Clauses.Stream.{fresh};
 ghost use Rattle.snow_text.specs.Model.Shown.{shown, shown_frame, shown_rest};
 ghost use Rattle.snow_text.specs.Clauses.Streaming.{Broke, Filled, HasFault, ShowsAll, ShowsOne, SinkFails, WritesText};
 
-use crate::form::BlockForm;
-use crate::showing::{show_frame, show_rest};
+use crate::showing::{BlockForm, show_frame, show_rest};
 use snow_base::{Sink, Source, write_whole};
 use snow_wire::{Decoder, ReadFault};
 use std::alloc::Global;
