@@ -1,4 +1,4 @@
-ghost use Rattle.std.specs.Prelude.{◌≡◌, ◌+◌, ◌<◌, ◌≤◌, true, false, length, take, drop};
+ghost use Rattle.std.specs.Prelude.{◌+◌, ◌<◌, ◌≤◌, true, false, length, take, drop};
 ghost use Rattle.snow_base.specs.Kept.Split.{AgreeBelow, HaveBit};
 ghost use Rattle.snow_base.specs.Model.Votes.{IsInBitOrder};
 

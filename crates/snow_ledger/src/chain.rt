@@ -1,5 +1,4 @@
 ghost use Rattle.std.specs.Prelude.{◌≡◌, IfOk};
-ghost use Rattle.std.specs.Option.{option_map};
 ghost use Rattle.snow_chain.specs.Model.Chain.{next_on};
 ghost use Rattle.snow_ledger.specs.Model.Ledger.{ledger_rules, HoldsStates};
 ghost use Rattle.snow_ledger.specs.Laws.Law.{LedgerLaw};

@@ -12,7 +12,6 @@ use Rattle.snow_sample.specs.declared.sampling.SampleFault.TheVariants as fault
 use Rattle.snow_sample.specs.Model.Sampling.{sample_of}
 use Rattle.snow_board.specs.Model.Board.{height_of}
 use Rattle.snow_board.specs.Model.Preference.{is_preferred}
-use Rattle.snow_board.specs.Model.Poll.{poll}
 use Rattle.snow_board.proofs.Cases.{split_on}
 use Rattle.snow_board.proofs.Polled.{poll_parameters}
 use Rattle.snow_chain.specs.Model.Chain.{Rules, next_on}
