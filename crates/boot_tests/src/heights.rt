@@ -1,4 +1,4 @@
-ghost use Rattle.std.specs.Prelude.{◌≡◌, ℕ, ◌<◌, true, false, OnOk};
+ghost use Rattle.std.specs.Prelude.{◌≡◌, ◌<◌};
 
 use snow_interval::{Intervals, Kept, KeptList, Span};
 use std::alloc::AllocError;

@@ -1,14 +1,12 @@
 -- The answer of an audit, on all bytes of its source.
-use Rattle.std.proofs.Common.{◌≡◌, ℕ, ◌+◌, ◌*◌, ◌-◌, ◌^◌, ◌<◌, ◌≤◌, ◌==◌, Bool, true, false, cond, List, [], ◌∷◌, ◌++◌, length, Option, Some, None, Result, Ok, Err, refl, sym, ap, ◌∙◌, subst, arith}
+use Rattle.std.proofs.Common.{◌≡◌, ℕ, ◌+◌, ◌==◌, Bool, true, false, cond, List, [], ◌∷◌, length, Option, Some, None, Result, Ok, Err, refl, sym, ◌∙◌}
 use Rattle.std.specs.Prelude.{IfSome}
-use Rattle.std.proofs.lemmas.List.{length-append}
 use Rattle.snow_flake.specs.Model.Rule.{Answer}
 use Rattle.snow_chain.specs.Model.Chain.{Rules}
-use Rattle.snow_wire.specs.Model.Frame.{first_of, is_too_long}
-use Rattle.snow_wire.specs.Clauses.Stream.{Intake, fed, fresh}
+use Rattle.snow_wire.specs.Model.Frame.{is_too_long}
+use Rattle.snow_wire.specs.Clauses.Stream.{Intake}
 use Rattle.snow_wire.specs.declared.event.Event.{Event}
 use Rattle.snow_wire.specs.declared.event.Event.TheVariants as event
-use Rattle.snow_lines.specs.declared.line.Line.{Line}
 use Rattle.snow_lines.specs.declared.why.SkipKind.{SkipKind}
 use Rattle.snow_engine.specs.declared.engine.Task.{Task}
 use Rattle.snow_engine.specs.declared.end.End.{End}
@@ -18,14 +16,13 @@ use Rattle.snow_engine.specs.declared.stop.EngineStop.{EngineStop}
 use Rattle.snow_engine.specs.Kept.Staging.{Comes}
 use Rattle.snow_engine.specs.Model.Node.{started, step}
 use Rattle.snow_engine.specs.declared.end.BadKind.TheVariants as kind
-use Rattle.snow_engine.specs.Model.Run.{Stand, Fresh, Going, Stopped, standing, came, after_frame, opened, followed, end_behind, read}
+use Rattle.snow_engine.specs.Model.Run.{Fresh, Going, Stopped, standing, came, after_frame, opened, followed, end_behind, read}
 use Rattle.snow_audit.specs.declared.auditing.AuditEnd.{AuditEnd}
 use Rattle.snow_audit.specs.declared.auditing.AuditEnd.TheVariants as audit
-use Rattle.snow_audit.specs.Model.Auditing.{Steps, audited, breaks_off, behind_frames, ends_as, stream_end}
+use Rattle.snow_audit.specs.Model.Auditing.{Steps, audited, breaks_off, ends_as, stream_end}
 use Rattle.snow_audit.specs.Clauses.Answering.{HasFault, IsAnswer, IsRead, IsTold}
-use Rattle.snow_audit.specs.Kept.Following.{Between, IsKept, Took, at_end, between, beginning, finish, is_found, is_fresh, stop_of}
+use Rattle.snow_audit.specs.Kept.Following.{Between, IsKept, Took, at_end, finish, is_found, is_fresh, stop_of}
 use Rattle.snow_audit.proofs.Followed.{Begins}
-use Rattle.snow_audit.proofs.Framed.{Audited, answered, nothing_came}
 
 -- ---- a run never stands before its first frame behind one
 

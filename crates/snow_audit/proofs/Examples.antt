@@ -13,7 +13,6 @@ use Rattle.snow_lines.specs.declared.why.QueryWhy.TheVariants as query
 use Rattle.snow_lines.specs.declared.why.SkipKind.TheVariants as skip
 use Rattle.snow_lines.specs.Model.Text.{text}
 use Rattle.snow_engine.specs.declared.end.BadKind.TheVariants as kind
-use Rattle.snow_engine.specs.declared.end.End.{End}
 use Rattle.snow_engine.specs.declared.end.End.TheVariants as end
 use Rattle.snow_engine.specs.declared.stage.Stage.TheVariants as stage
 use Rattle.snow_engine.specs.Model.Node.{started}

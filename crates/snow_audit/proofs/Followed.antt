@@ -7,13 +7,12 @@ use Rattle.std.proofs.lemmas.Bool.Decides.{nat_tests}
 use Rattle.snow_lines.specs.declared.line.Line.{Line}
 use Rattle.snow_lines.specs.Model.Text.{text}
 use Rattle.snow_engine.specs.declared.end.End.{End}
-use Rattle.snow_engine.specs.declared.end.End.TheVariants as end
 use Rattle.snow_engine.specs.Model.Run.{Stand, Fresh, Going, Stopped}
 use Rattle.snow_audit.specs.declared.auditing.AuditEnd.{AuditEnd}
 use Rattle.snow_audit.specs.declared.auditing.AuditEnd.TheVariants as audit
-use Rattle.snow_audit.specs.Model.Recording.{Entry, line_in, lines_before_event, entries_from, entries_of, with_entry}
-use Rattle.snow_audit.specs.Model.Auditing.{Steps, Compared, at_frame, told_at, are_over, unless_stopped, compared_from, breaks_off, ends_as, through, opened_first, answer_of, audited_frames}
-use Rattle.snow_audit.specs.Kept.Following.{Between, beginning, is_fresh, frame_comes, first_then, later_comes, stepped, stepped_to, standing_at, stop_of, goes_on, follows}
+use Rattle.snow_audit.specs.Model.Recording.{Entry, line_in, lines_before_event, entries_from, with_entry}
+use Rattle.snow_audit.specs.Model.Auditing.{Steps, Compared, told_at, are_over, unless_stopped, compared_from, breaks_off, ends_as, through, opened_first, audited_frames}
+use Rattle.snow_audit.specs.Kept.Following.{Between, beginning, is_fresh, first_then, later_comes, stepped, stepped_to, standing_at, stop_of, goes_on, follows}
 
 -- ---- tests
 

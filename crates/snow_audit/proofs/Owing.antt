@@ -1,10 +1,9 @@
 -- Lines of the last event that aren't recorded yet.
-use Rattle.std.proofs.Common.{◌≡◌, ℕ, zero, suc, ◌+◌, ◌<◌, List, [], ◌∷◌, map, drop, length, Option, Some, None, Result, Err, refl, arith}
+use Rattle.std.proofs.Common.{◌≡◌, ℕ, zero, suc, ◌+◌, ◌<◌, List, [], ◌∷◌, map, length, Option, Some, None, Err, refl, arith}
 use Rattle.snow_lines.specs.declared.line.Line.{Line}
 use Rattle.snow_lines.specs.Model.Text.{text}
 use Rattle.snow_engine.specs.declared.end.End.{End}
 use Rattle.snow_engine.specs.Kept.Staging.{Node}
-use Rattle.snow_engine.specs.Clauses.Serving.{stand_of}
 use Rattle.snow_audit.specs.declared.auditing.AuditEnd.{AuditEnd}
 use Rattle.snow_audit.specs.declared.auditing.AuditEnd.TheVariants as audit
 use Rattle.snow_audit.specs.Kept.Following.{Between, at_end, event_comes, owed_of, stands, stop_of}

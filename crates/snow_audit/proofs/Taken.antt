@@ -1,5 +1,5 @@
 -- Frames were taken: what is left to do is the same from there, or the audit has its answer.
-use Rattle.std.proofs.Common.{◌≡◌, ℕ, ◌+◌, ◌*◌, ◌<◌, ◌≤◌, Bool, true, false, List, [], ◌∷◌, length, Option, Some, None, Result, Ok, Err, refl, sym, ap, ◌∙◌, subst}
+use Rattle.std.proofs.Common.{◌≡◌, ℕ, ◌+◌, ◌*◌, ◌<◌, ◌≤◌, Bool, true, List, [], ◌∷◌, length, Option, Some, None, Result, Ok, Err, refl, sym, ap, ◌∙◌, subst}
 use Rattle.snow_wire.specs.Model.Frame.{first_of, is_too_long}
 use Rattle.snow_wire.specs.Clauses.Stream.{Intake, taken}
 use Rattle.snow_wire.proofs.Streams.{behind_shorter}

@@ -1,4 +1,4 @@
-ghost use Rattle.std.specs.Prelude.{◌≡◌, ◌≤◌, IfSome};
+ghost use Rattle.std.specs.Prelude.{◌≤◌, IfSome};
 ghost use Rattle.std.specs.Io.KnownBytes.{IsAtEnd};
 ghost use Rattle.snow_audit.specs.Model.Auditing.{audit_of};
 ghost use Rattle.snow_audit.specs.Clauses.Answering.{HasFault, IsAnswer, IsRead, IsTold};

@@ -11,7 +11,7 @@ use Rattle.std.proofs.lemmas.List.{take_more}
 use Rattle.std.proofs.lemmas.Slice.Eq.{bytes_eq-Decides}
 use Rattle.std.proofs.lemmas.List.Recursion.{max_push}
 use Rattle.std.proofs.lemmas.List.Sums.{sum_by-cons}
-use Rattle.snow_base.specs.declared.vote.Vote.{Vote}
+use Rattle.snow_base.specs.declared.block.Vote.{Vote}
 use Rattle.snow_base.specs.Model.Identifier.{bit_cmp}
 use Rattle.snow_base.specs.Model.Votes.{IsInBitOrder, IsTally, HasVotesFor, IsPlaceOf, added, total_count, most_count}
 use Rattle.snow_base.proofs.Bits.{bit_cmp-total}

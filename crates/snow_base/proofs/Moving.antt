@@ -1,7 +1,7 @@
 -- Lemmas on votes that move up by one, so that new ones fit between.
 use Rattle.std.proofs.Common.{◌≡◌, ℕ, zero, suc, ◌+◌, ◌<◌, ◌≤◌, List, [], ◌∷◌, length, get_or, set, take, insert, refl, sym, ap, ◌∙◌, arith}
 use Rattle.std.proofs.lemmas.List.Edits.{get_or-insert_at, get_or-insert_below}
-use Rattle.snow_base.specs.declared.vote.Vote.{Vote}
+use Rattle.snow_base.specs.declared.block.Vote.{Vote}
 
 -- the last one stands behind the others
 pub last_apart : (row : List Vote) (at : ℕ) (d : Vote) → at + 1 ≡ length row → row ≡ insert (take at row) at (get_or row at d)

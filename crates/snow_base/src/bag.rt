@@ -1,10 +1,10 @@
-ghost use Rattle.std.specs.Prelude.{◌≡◌, ℕ, ◌+◌, ◌^◌, ◌<◌, ◌≤◌, [], length, All, take, ◌-◌, IsOk, IfOk, OnOk, OnErr, vec_len, vec_capacity};
+ghost use Rattle.std.specs.Prelude.{◌≡◌, ◌+◌, ◌^◌, ◌<◌, ◌≤◌, [], length, All, take, ◌-◌, IsOk, IfOk, OnOk, OnErr, vec_len, vec_capacity};
 ghost use Rattle.std.specs.List.{insert};
 ghost use Rattle.snow_base.specs.Model.Votes.{total_count, most_count, IsInBitOrder, HasVotesFor, added, IsPlaceOf};
 ghost use Rattle.snow_base.specs.Clauses.Gathered.{one_each};
 
+use crate::block::Vote;
 use crate::identifier::Id;
-use crate::vote::Vote;
 use std::alloc::{AllocError, Global};
 use std::cmp::Ordering;
 use std::marker::Model;

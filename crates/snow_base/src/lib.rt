@@ -3,8 +3,8 @@
 
 mod adapter;
 mod bag;
+mod block;
 mod comparing;
-mod header;
 mod identifier;
 mod items;
 pub mod limits;
@@ -15,11 +15,10 @@ mod outside;
 mod pure;
 mod sides;
 mod steps;
-mod vote;
 
 pub use adapter::{ReadSource, WriteSink};
 pub use bag::Bag;
-pub use header::Header;
+pub use block::{Header, Vote};
 pub use identifier::Id;
 pub use items::{Blocks, Bytes, Ids, Items, Nodes, Nums};
 pub use memory::{MemSink, MemSource};
@@ -29,4 +28,3 @@ pub use outside::{Failed, Sink, Source, write_whole};
 pub use pure::{PureSink, PureSource};
 pub use sides::split;
 pub use steps::Steps;
-pub use vote::Vote;

@@ -1,8 +1,8 @@
-ghost use Rattle.std.specs.Prelude.{◌≡◌, ◌+◌, ◌<◌, ◌≤◌, true, false, length, take, drop};
+ghost use Rattle.std.specs.Prelude.{◌+◌, ◌<◌, ◌≤◌, true, false, length, take, drop};
 ghost use Rattle.snow_base.specs.Kept.Split.{AgreeBelow, HaveBit};
 ghost use Rattle.snow_base.specs.Model.Votes.{IsInBitOrder};
 
-use crate::vote::Vote;
+use crate::block::Vote;
 
 /// Returns how many votes have a 0 at `bit`, which is below 256; they stand in front of those with
 /// a 1 there. The votes stand in bit order and agree on all bits before `bit`. Each of the two

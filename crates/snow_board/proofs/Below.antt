@@ -4,8 +4,8 @@ use Rattle.std.specs.Bool.{beq}
 use Rattle.std.specs.List.{starts_with}
 use Rattle.std.proofs.lemmas.List.Sums.{sum_by-cons, sum_by-le-sum_by}
 use Rattle.std.proofs.lemmas.Option.{none-some}
-use Rattle.snow_base.specs.declared.header.Header.{Header}
-use Rattle.snow_base.specs.declared.vote.Vote.{Vote}
+use Rattle.snow_base.specs.declared.block.Header.{Header}
+use Rattle.snow_base.specs.declared.block.Vote.{Vote}
 use Rattle.snow_base.specs.Model.Votes.{total_count}
 use Rattle.snow_base.specs.Model.Identifier.{bits}
 use Rattle.snow_base.specs.Model.Ancestry.{line_in, begins_with, is_below, votes_below}

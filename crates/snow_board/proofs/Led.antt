@@ -5,7 +5,7 @@ use Rattle.std.specs.Cmp.{booleans_Decides}
 use Rattle.std.specs.Cmp.Lexicographic.{pointwise}
 use Rattle.std.specs.List.{list_any, starts_with}
 use Rattle.std.proofs.lemmas.Bool.{or_parts, or_from, or_left, or_right, and_parts, ltb-false}
-use Rattle.snow_base.specs.declared.header.Header.{Header}
+use Rattle.snow_base.specs.declared.block.Header.{Header}
 use Rattle.snow_base.specs.Model.Identifier.{bits}
 use Rattle.snow_base.proofs.Bits.{length-bits}
 use Rattle.snow_flake.specs.Model.Counter.{Counter, Decided, Undecided, admits}

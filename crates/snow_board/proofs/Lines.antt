@@ -4,7 +4,7 @@ use Rattle.std.specs.Bool.{beq}
 use Rattle.std.specs.List.{list_any, starts_with}
 use Rattle.std.proofs.lemmas.Option.{none-some}
 use Rattle.std.proofs.lemmas.Bool.{or_left, or_right}
-use Rattle.snow_base.specs.declared.header.Header.{Header}
+use Rattle.snow_base.specs.declared.block.Header.{Header}
 use Rattle.snow_base.specs.Model.Identifier.{bits}
 use Rattle.snow_base.specs.Model.Ancestry.{line_in, begins_with}
 use Rattle.snow_base.specs.Model.Ancestry.{is_below}

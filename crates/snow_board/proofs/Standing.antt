@@ -6,8 +6,8 @@ use Rattle.std.specs.List.{list_any, starts_with}
 use Rattle.std.proofs.lemmas.List.Elements.{All-head, All-tail}
 use Rattle.std.proofs.lemmas.List.Folds.{list_any-append}
 use Rattle.std.proofs.lemmas.Bool.{or_parts, or_left, or_right, and_parts, and_left, and_right}
-use Rattle.snow_base.specs.declared.header.Header.{Header}
-use Rattle.snow_base.specs.declared.vote.Vote.{Vote}
+use Rattle.snow_base.specs.declared.block.Header.{Header}
+use Rattle.snow_base.specs.declared.block.Vote.{Vote}
 use Rattle.snow_base.specs.Model.Identifier.{bits}
 use Rattle.snow_base.specs.Model.Ancestry.{line_in, votes_below}
 use Rattle.snow_base.proofs.Bits.{length-bits}

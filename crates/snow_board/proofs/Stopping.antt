@@ -1,6 +1,6 @@
 -- Lemmas on the end of a poll's acceptances: no winner is left, and no greater number of steps would leave another board.
 use Rattle.std.proofs.Common.{◌≡◌, ℕ, zero, suc, ◌≤◌, List, length, Option, Some, None, refl, ap, ◌∙◌, arith}
-use Rattle.snow_base.specs.declared.vote.Vote.{Vote}
+use Rattle.snow_base.specs.declared.block.Vote.{Vote}
 use Rattle.snow_board.specs.Model.Conflict.{Pending}
 use Rattle.snow_board.specs.Model.Board.{Board}
 use Rattle.snow_board.specs.Model.Poll.{counted, winner, promoted, settled, poll}

@@ -1,8 +1,7 @@
-ghost use Rattle.std.specs.Prelude.{◌≡◌, ℕ, ◌≤◌, Bool, List, [], length, IfOk, OnOk, OnErr, is_some};
+ghost use Rattle.std.specs.Prelude.{◌≡◌, ◌≤◌, Bool, List, [], length, IfOk, OnOk, OnErr};
 ghost use Rattle.snow_base.specs.Clauses.Gathered.{one_each};
 ghost use Rattle.snow_base.specs.Model.Votes.{total_count};
-ghost use Rattle.snow_base.specs.declared.header.Header.{Header};
-ghost use Rattle.snow_flake.specs.Model.Parameters.{AreGood};
+ghost use Rattle.snow_base.specs.declared.block.Header.{Header};
 ghost use Rattle.snow_board.specs.Model.Board as model;
 
 use snow_base::{Bag, Header, Id};

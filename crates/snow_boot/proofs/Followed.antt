@@ -197,6 +197,14 @@ comes_ignored rules state s hunt requests drawn held log course are last =
     (sym (ignored rules state s hunt requests drawn course))
     (sym (append-nil log), refl, refl, course, are, last)
 
+-- so where an event comes to nothing more, all stays
+pub stays : (rules : Rules) (state : List ℕ) (s : Surveyed) (hunt : Hunt) (requests : List Get) (drawn : ℕ) (held : Held) (log : List Line) (o : Outcome)
+    → followed rules state (boot_of s hunt.fetch requests) drawn ≡ o → IsCourse s hunt requests → AreDrawn requests drawn → held.last ≡ hunt.fetch.store.last
+    → Comes (Ok stage.Going) log log s hunt requests drawn drawn held held o
+stays rules state s hunt requests drawn held log o is course are last =
+    comes_as (Ok stage.Going) log log s hunt requests drawn drawn held held (followed rules state (boot_of s hunt.fetch requests) drawn) o is
+    (comes_ignored rules state s hunt requests drawn held log course are last)
+
 -- no block is refused where asking goes on, or where all nodes are asked for their frontier
 pub going_on : (boot : Boot) (drawn : ℕ) (id : List ℕ) → (let r : Result Next BootStop = Ok (Going boot drawn) in r) ≡ Err (stop.Refused id) → ⊥
 going_on boot drawn id e = cc

@@ -3,7 +3,7 @@ use Rattle.std.proofs.Common.{◌≡◌, ℕ, zero, suc, true, false, List, [], 
 use Rattle.std.specs.Prelude.{Result, Ok, Err, is_none}
 use Rattle.std.specs.List.{position_or_len, remove}
 use Rattle.std.specs.Option.{option_map}
-use Rattle.snow_base.specs.declared.header.Header.{Header}
+use Rattle.snow_base.specs.declared.block.Header.{Header}
 use Rattle.snow_chain.specs.Model.Chain.{Rules, Held}
 use Rattle.snow_gets.specs.declared.gets.Get.{Get}
 use Rattle.snow_gets.specs.Model.Gets.{is_get, without}
@@ -31,7 +31,7 @@ use Rattle.snow_store.specs.Model.Paths.{Fetch}
 use Rattle.snow_store.specs.Clauses.Coming.{after_verdict, if_taken}
 use Rattle.snow_boot.specs.Model.Replying.{replied}
 use Rattle.snow_boot.specs.Kept.Surveying.{Surveyed}
-use Rattle.snow_boot.proofs.Followed.{comes_as, ignored, comes_ignored, going_on, comes_behind}
+use Rattle.snow_boot.proofs.Followed.{comes_as, ignored, comes_ignored, stays, going_on, comes_behind}
 use Rattle.snow_boot.proofs.Replied.{replied_same}
 use Rattle.snow_store.proofs.Cases.{clash, none_not, same_some}
 
@@ -148,10 +148,8 @@ unfolding ancestors_came
 reply_ignored rules state s hunt requests more drawn held log node number blocks course are last none left =
     let same : requests ≡ more = none_without (is_get number node) requests (none_open (find (is_get number node) requests) none) ∙ sym left in
     subst (λ l. Comes (Ok stage.Going) log log s hunt l drawn drawn held held (ancestors_came rules state (boot_of s hunt.fetch requests) drawn node number blocks)) same
-    (comes_as (Ok stage.Going) log log s hunt requests drawn drawn held held (followed rules state (boot_of s hunt.fetch requests) drawn)
-    (ancestors_came rules state (boot_of s hunt.fetch requests) drawn node number blocks)
-    (ap (if_requested rules state (boot_of s hunt.fetch requests) drawn node number blocks) none)
-    (comes_ignored rules state s hunt requests drawn held log course are last))
+    (stays rules state s hunt requests drawn held log (ancestors_came rules state (boot_of s hunt.fetch requests) drawn node number blocks)
+    (ap (if_requested rules state (boot_of s hunt.fetch requests) drawn node number blocks) none) course are last)
 
 -- the blocks came, and all that follows
 reply_is : (rules : Rules) (state : List ℕ) (s : Surveyed) (f : Fetch) (requests more : List Get) (drawn : ℕ) (node : List ℕ) (number : ℕ) (id : List ℕ) (blocks : List (List ℕ)) (r : Result Fetch BootStop)

@@ -1,7 +1,7 @@
 -- A reply that begins with a missed block never comes in vain.
 use Rattle.std.proofs.Common.{◌≡◌, ℕ, Bool, true, false, ◌==◌, List, [], ◌∷◌, length, Option, Some, None, if◌then◌else◌, inl, inr, refl, sym, ap, subst, ◌∙◌, arith, eqb-true}
 use Rattle.std.specs.Prelude.{Result, Ok, Err, ⊤}
-use Rattle.snow_base.specs.declared.header.Header.{Header}
+use Rattle.snow_base.specs.declared.block.Header.{Header}
 use Rattle.snow_chain.specs.Model.Chain.{Rules}
 use Rattle.snow_gets.specs.declared.gets.Get.{Get}
 use Rattle.snow_store.specs.declared.store.KeptBlock.{KeptBlock}

@@ -1,9 +1,8 @@
 -- How a command ends, by how a run ended and by what an audit found.
-use Rattle.std.proofs.Common.{◌≡◌, ℕ, List, [], ◌++◌, Option, Some, None, refl, sym, ap, subst, ◌∙◌, append-nil}
+use Rattle.std.proofs.Common.{◌≡◌, ℕ, List, [], Option, Some, None, refl, sym, ap, subst, ◌∙◌, append-nil}
 use Rattle.std.specs.Prelude.{IfSome}
 use Rattle.std.specs.Io.KnownBytes.{Appends}
 use Rattle.std.proofs.lemmas.Option.{IfSome_then}
-use Rattle.snow_base.specs.Clauses.Outside.{AppendsFront}
 use Rattle.snow_engine.specs.declared.end.End.{End}
 use Rattle.snow_engine.specs.declared.end.End.TheVariants as end
 use Rattle.snow_engine.specs.Clauses.Serving as serving
@@ -12,7 +11,6 @@ use Rattle.snow_audit.specs.declared.auditing.AuditEnd.TheVariants as audit
 use Rattle.snow_audit.specs.Clauses.Answering as auditing
 use Rattle.snow_cli.specs.declared.status.Finish.{Finish}
 use Rattle.snow_cli.specs.declared.status.Finish.TheVariants as finish
-use Rattle.snow_cli.specs.declared.status.Status.{Status}
 use Rattle.snow_cli.specs.declared.status.Status.TheVariants as status
 use Rattle.snow_cli.specs.Clauses.Answer.{end_status, status_of, told_by, IsAnswer, IsFinish, Wrote, HasFault, audit_finish, audit_text, Tells, Whole, Front, Told}
 use Rattle.snow_cli.proofs.Drilled.{nothing_front}

@@ -2,7 +2,7 @@ ghost use Rattle.std.specs.Prelude.{◌≡◌, ℕ, ◌+◌, ◌^◌, ◌<◌, �
 ghost use Rattle.std.specs.Option.{option_to_list};
 ghost use Rattle.snow_base.specs.Clauses.Gathered.{one_each};
 ghost use Rattle.snow_base.specs.Model.Votes.{total_count};
-ghost use Rattle.snow_base.specs.declared.vote.Vote.{Vote};
+ghost use Rattle.snow_base.specs.declared.block.Vote.{Vote};
 ghost use Rattle.snow_flake.specs.Model.Parameters.{Parameters};
 ghost use Rattle.snow_climb.specs.Kept.Climbing.{begun};
 ghost use Rattle.snow_climb.specs.Kept.Ladder.{KeepsRoom, IsReady};

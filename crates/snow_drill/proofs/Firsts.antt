@@ -2,7 +2,7 @@
 use Rattle.std.proofs.Common.{◌≡◌, ℕ, Bool, true, false, List, [], ◌∷◌, ◌++◌, bytes_eq, find, Option, Some, None, if◌then◌else◌, refl, sym, ap, ◌∙◌}
 use Rattle.std.specs.Option.{option_or}
 use Rattle.std.proofs.lemmas.List.Folds.{find-append}
-use Rattle.snow_base.specs.declared.header.Header.{Header}
+use Rattle.snow_base.specs.declared.block.Header.{Header}
 use Rattle.snow_drill.specs.Model.Made.{HasFirsts}
 
 -- one more block is the first of its identifier where none of it was there

@@ -1,4 +1,4 @@
-ghost use Rattle.std.specs.Prelude.{◌≡◌, ◌==◌, [], fold, if◌then◌else◌, OnOk};
+ghost use Rattle.std.specs.Prelude.{◌≡◌, ◌==◌, fold, if◌then◌else◌, OnOk};
 ghost use Rattle.snow_drill.specs.Model.Drill as model;
 ghost use Rattle.snow_drill.specs.Model.Made.{newest};
 ghost use Rattle.snow_drill.specs.Kept.Following.{Follows};

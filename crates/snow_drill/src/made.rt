@@ -19,7 +19,7 @@ pub struct Made {
 
 impl Model for Made {
     ghost use Rattle.std.specs.Prelude.{List, bytes_eq};
-    ghost use Rattle.snow_base.specs.declared.header.Header.{Header};
+    ghost use Rattle.snow_base.specs.declared.block.Header.{Header};
     ghost use Rattle.std.specs.HashMap.{get};
     ghost use Rattle.snow_drill.specs.Model.Made.{HasFirsts};
 

@@ -1,6 +1,6 @@
 //! A node that bootstraps before it runs.
 
-ghost use Rattle.std.specs.Prelude.{◌≡◌, length, nat_lt};
+ghost use Rattle.std.specs.Prelude.{◌≡◌};
 ghost use Rattle.snow_flake.specs.Model.Parameters.{AreGood};
 ghost use Rattle.snow_chain.specs.Model.Chain.{begun};
 ghost use Rattle.snow_chain.specs.Kept.Alone.{last_state};

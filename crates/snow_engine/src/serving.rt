@@ -1,6 +1,5 @@
-ghost use Rattle.std.specs.Prelude.{◌≡◌, ◌≤◌, ◌<◌, [], length, take, None, Ok, IfOk, OnErr, IfSome};
-ghost use Rattle.std.specs.Io.KnownBytes.{IsAtEnd, Consumes, Keeps};
-ghost use Rattle.snow_base.specs.Clauses.Outside.{HasCause};
+ghost use Rattle.std.specs.Prelude.{◌≡◌, ◌≤◌, [], None, IfSome};
+ghost use Rattle.std.specs.Io.KnownBytes.{IsAtEnd};
 ghost use Rattle.snow_lines.specs.Model.Text.{texts};
 ghost use Rattle.snow_wire.specs.Clauses.Stream.{fresh};
 ghost use Rattle.snow_engine.specs.Model.Run.{lines_of, seen, end_of};

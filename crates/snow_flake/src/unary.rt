@@ -30,8 +30,7 @@ impl Model for Unary {
 }
 
 impl Unary {
-    ghost use Rattle.snow_flake.specs.Model.Parameters.{Parameters, AreGood};
-    ghost use Rattle.snow_flake.specs.Model.Counter.{fresh, stepped};
+    ghost use Rattle.snow_flake.specs.Model.Counter.{fresh};
     ghost use Rattle.snow_flake.specs.Kept.Instance.{at_bit, polled, failed, on_side, counter_of};
 
     /// Returns an instance that no poll has moved: strength and confidence are 0, and it isn't

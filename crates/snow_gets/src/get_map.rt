@@ -1,4 +1,4 @@
-ghost use Rattle.std.specs.Prelude.{◌≡◌, ◌<◌, false, [], length, find, OnOk, OnErr};
+ghost use Rattle.std.specs.Prelude.{◌≡◌, false, [], length, find, OnOk, OnErr};
 ghost use Rattle.std.specs.Option.{option_map};
 ghost use Rattle.snow_gets.specs.Model.Gets.{asked_in, has_number, is_get, with_get, without};
 

@@ -6,6 +6,7 @@ ghost use Rattle.snow_wire.specs.Clauses.Viewed.{as_event};
 ghost use Rattle.snow_getter.specs.Model.Serving.{held};
 ghost use Rattle.snow_getter.specs.Model.Chain.{chain};
 ghost use Rattle.snow_getter.specs.Model.Answer.{answer, accepted_among, chain_told};
+ghost use Rattle.snow_getter.specs.Laws.ChainLaw.{ChainIsLongest};
 
 use crate::getter::Getter;
 use indexmap::IndexSet;
@@ -135,3 +136,10 @@ impl Getter {
         Ok(blocks)
     }
 }
+
+/// A chain is a walk by parents among the blocks that are held, of at most 64 blocks and 524,288
+/// bytes, and no longer walk keeps to these limits.
+/// Rule: this project's own.
+pub fn longest_chain_law()
+    ensures { ChainIsLongest }
+{}

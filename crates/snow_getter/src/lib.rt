@@ -3,10 +3,9 @@
 
 mod answering;
 mod getter;
-mod laws;
 mod pending;
 mod served;
 
+pub use answering::longest_chain_law;
 pub use getter::Getter;
-pub use laws::longest_chain_law;
 pub use served::Served;

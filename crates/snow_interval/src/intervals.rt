@@ -1,5 +1,4 @@
-ghost use Rattle.std.specs.Prelude.{◌≡◌, ℕ, ◌+◌, ◌<◌, true, false, IfOk, OnOk, OnErr};
-ghost use Rattle.snow_interval.specs.Model.Heights.{with_height, begins_run, lowest};
+ghost use Rattle.std.specs.Prelude.{◌≡◌, ◌+◌};
 ghost use Rattle.snow_interval.specs.Kept.Spans.{spanned, AreApart};
 
 use crate::kept::Kept;

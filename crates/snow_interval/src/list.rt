@@ -1,5 +1,3 @@
-ghost use Rattle.std.specs.Prelude.{◌≡◌, ℕ, ◌<◌, true, false, IfOk, OnOk, OnErr};
-ghost use Rattle.snow_interval.specs.Model.Heights.{with_height, begins_run, lowest};
 ghost use Rattle.snow_interval.specs.Clauses.Listed.{listed};
 
 use crate::kept::Kept;

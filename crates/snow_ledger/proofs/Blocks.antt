@@ -1,6 +1,6 @@
 -- Lemmas on the state of a block.
 use Rattle.std.proofs.Common.{◌≡◌, ℕ, Bool, true, false, cond, ◌&&◌, List, [], Option, Some, None, is_some, refl, ap, ◌∙◌}
-use Rattle.snow_base.specs.declared.header.Header.{Header}
+use Rattle.snow_base.specs.declared.block.Header.{Header}
 use Rattle.snow_ledger.specs.Model.Blocks.{is_whole, header_of, transfers_of}
 use Rattle.snow_ledger.specs.Model.Ledger.{is_state, are_good, after, moved, next}
 

@@ -1,7 +1,7 @@
 ghost use Rattle.std.specs.Prelude.{◌≡◌, IfOk};
-ghost use Rattle.std.specs.Option.{option_map};
 ghost use Rattle.snow_chain.specs.Model.Chain.{next_on};
 ghost use Rattle.snow_ledger.specs.Model.Ledger.{ledger_rules, HoldsStates};
+ghost use Rattle.snow_ledger.specs.Laws.Law.{LedgerLaw};
 
 use crate::block::header_of;
 use crate::state::{is_state, next};
@@ -146,3 +146,14 @@ fn next_on(states: &States, parent: &Id, bytes: &[u8]) -> Result<Option<Nums>, A
         None => Ok(None),
     }
 }
+
+/// From a state with which a run may begin, along every path of valid blocks nothing is made,
+/// nothing is lost, nothing is spent twice, and nobody is ever below 0. Take all transfers of the
+/// path in order as one list. The last state is balance and sequence after that list, and a run may
+/// begin with it too. The accounts hold together what they held at first. Each transfer was good
+/// after those before it. No two transfers have the same sender and the same sequence. At each
+/// point of the list no account had sent more than it had held and received.
+/// Rule: this project's own.
+pub fn ledger_law()
+    ensures { LedgerLaw }
+{}

@@ -3,12 +3,10 @@
 
 mod block;
 mod chain;
-mod laws;
 mod state;
 #[cfg(test)]
 mod tests;
 
 pub use block::transfer;
-pub use chain::LedgerChain;
-pub use laws::ledger_law;
+pub use chain::{LedgerChain, ledger_law};
 pub use state::Transfer;

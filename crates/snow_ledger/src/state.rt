@@ -1,4 +1,4 @@
-ghost use Rattle.std.specs.Prelude.{◌≡◌, ◌+◌, ◌-◌, ◌*◌, ◌^◌, ◌<◌, ◌≤◌, true, [], ◌∷◌, IfOk, length, slice_set, if◌then◌else◌};
+ghost use Rattle.std.specs.Prelude.{◌≡◌, ◌+◌, ◌-◌, ◌*◌, ◌^◌, ◌<◌, ◌≤◌, true, [], ◌∷◌, IfOk, slice_set, if◌then◌else◌};
 ghost use Rattle.snow_ledger.specs.Model.Blocks.{is_whole, transfers_of};
 ghost use Rattle.snow_ledger.specs.Model.Ledger.{accounts, held, next_in, total, is_state, after, is_good, are_good, next};
 

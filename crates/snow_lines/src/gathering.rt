@@ -1,4 +1,4 @@
-ghost use Rattle.std.specs.Prelude.{◌≡◌, ◌≤◌, ℕ, List, [], ◌++◌, length, take, OnOk, OnErr};
+ghost use Rattle.std.specs.Prelude.{◌≤◌, ℕ, List, [], ◌++◌, length, take, OnOk, OnErr};
 ghost use Rattle.snow_base.specs.Clauses.Outside.{AppendsFront, HasCause};
 ghost use Rattle.snow_lines.specs.Kept.Gathered.{Gathers};
 

@@ -1,8 +1,7 @@
-ghost use Rattle.std.specs.Prelude.{◌≡◌, ℕ, ◌+◌, ◌-◌, ◌<◌, ◌^◌, ◌≤◌, ◌==◌, true, false, IfSome, All, bytes_eq, [], ◌∷◌, ◌++◌, List, map, take, length, nat_lt, slice_set, HoldsAt, OnOk, OnErr, vec_len, vec_capacity, if◌then◌else◌};
-ghost use Rattle.std.specs.List.{AllPairs, position_or_len, remove};
-ghost use Rattle.std.specs.Option.{option_to_list};
+ghost use Rattle.std.specs.Prelude.{◌≡◌, ℕ, ◌-◌, ◌<◌, true, false, IfSome, All, bytes_eq, [], ◌∷◌, ◌++◌, List, map, take, length, slice_set, HoldsAt, OnOk, OnErr, vec_len, vec_capacity, if◌then◌else◌};
+ghost use Rattle.std.specs.List.{position_or_len, remove};
 ghost use Rattle.snow_lineup.specs.Kept.Marks.{has, IsOnlyAt};
-ghost use Rattle.snow_lineup.specs.Kept.Index.{seat_of, row_of, woken, woken_at, forgotten, reset};
+ghost use Rattle.snow_lineup.specs.Kept.Index.{seat_of, row_of, forgotten, reset};
 ghost use Rattle.snow_lineup.specs.Kept.Windows.{IsWithin, AreWithin};
 ghost use Rattle.snow_lineup.specs.declared.lineup.Slot.{Slot};
 ghost use Rattle.snow_lineup.specs.declared.marks.Mark.TheVariants.{New, Ripe};

@@ -1,6 +1,6 @@
 //! Entries that stand under their identifier's seat.
-ghost use Rattle.std.specs.Prelude.{◌≡◌, ◌<◌, true, IsSome, IsOk, IfOk, OnOk, OnErr, Some, None, bytes_eq, is_some};
-ghost use Rattle.std.specs.HashMap.{get, Updates, UpdatesBy, IsUnique, IsUnchanged};
+ghost use Rattle.std.specs.Prelude.{◌≡◌, ◌<◌, IfOk, OnOk, OnErr, Some, None, bytes_eq};
+ghost use Rattle.std.specs.HashMap.{get, Updates, IsUnique, IsUnchanged};
 ghost use Rattle.std.specs.Option.{option_copied, option_map};
 ghost use Rattle.std.specs.Prelude.{nat_eq};
 ghost use Rattle.snow_map.specs.Kept.Placed.{place_of, gives, is_own};

@@ -1,17 +1,15 @@
 -- Lemmas on a node that runs between two events: nothing is to be done, and no closed poll stands in front.
 use Rattle.std.proofs.Common.{◌≡◌, ℕ, ◌+◌, ◌==◌, Bool, true, false, nat_lt, List, ◌++◌, length, Option, Some, None, if◌then◌else◌, refl, sym, ap, ◌∙◌, subst}
 use Rattle.snow_base.specs.Model.Numbers.{next_number}
-use Rattle.snow_base.specs.declared.header.Header.{Header}
+use Rattle.snow_base.specs.declared.block.Header.{Header}
 use Rattle.snow_flake.specs.Model.Parameters.{AreGood}
 use Rattle.snow_flake.specs.Model.Rule.{Answer}
 use Rattle.snow_sample.specs.declared.roster.Node.{Node as Member}
 use Rattle.snow_sample.specs.declared.roster.RosterFault.{RosterFault}
 use Rattle.snow_sample.specs.Model.Roster.{first_fault}
 use Rattle.snow_board.specs.Model.Board.{Board}
-use Rattle.snow_board.specs.Model.Poll.{poll}
 use Rattle.snow_board.proofs.Cases.{split_on}
 use Rattle.snow_chain.specs.Model.Chain.{Rules}
-use Rattle.snow_lines.specs.declared.line.Line.{Line}
 use Rattle.snow_wire.specs.declared.event.Event.{Event}
 use Rattle.snow_wire.specs.declared.event.Event.TheVariants as event
 use Rattle.snow_poll.specs.Model.Table.{Table, finished}
@@ -24,7 +22,6 @@ use Rattle.snow_issue.specs.Model.Settling.{work_of}
 use Rattle.snow_node.specs.Model.Outcome.{Comes, quietly, then_comes}
 use Rattle.snow_node.specs.Model.Running.{Running}
 use Rattle.snow_node.specs.Model.Querying.{repolled}
-use Rattle.snow_node.specs.Model.Settling.{done}
 use Rattle.snow_node.specs.Model.Hearing.{fetched_if, taken_in, brought, is_other, read_as, asked_by, without_get, block_read, block_answers, block_came, waits_for, vote_held, vote_came, given_up_on, timed_out}
 use Rattle.snow_node.specs.Model.Turning.{members, words_came, roster_came, rounded, runs_on}
 use Rattle.snow_node.specs.Laws.RestLaw.{Runs, Began, Went, IsAtRest}

@@ -1,7 +1,7 @@
 -- Lemmas on a block that is offered.
 use Rattle.std.proofs.Common.{◌≡◌, ℕ, zero, suc, refl, ◌+◌, ◌<◌, true, List, length, Option, Some, None, is_some, sym, ◌∙◌, ap, subst}
-use Rattle.snow_base.specs.declared.header.Header.{Header}
-use Rattle.snow_base.specs.declared.vote.Vote.{Vote}
+use Rattle.snow_base.specs.declared.block.Header.{Header}
+use Rattle.snow_base.specs.declared.block.Vote.{Vote}
 use Rattle.snow_node.specs.Clauses.Matching.{IsSteady}
 use Rattle.snow_chain.specs.Model.Chain.{Held, MayReject, with_state, verified, rejected}
 use Rattle.snow_node.proofs.Following.{may_undo, undone, issued_steady}

@@ -1,6 +1,6 @@
 //! A node that runs: it asks other nodes, and decides by what they answer.
 
-ghost use Rattle.std.specs.Prelude.{◌≡◌, ◌+◌, ◌-◌, ◌^◌, ◌≤◌, [], ◌∷◌, ◌++◌, length, Err, IfOk, OnOk, OnErr};
+ghost use Rattle.std.specs.Prelude.{◌≡◌, ◌-◌, ◌^◌, ◌≤◌, [], ◌∷◌, Err, IfOk, OnErr};
 ghost use Rattle.snow_flake.specs.Model.Parameters.{AreGood};
 ghost use Rattle.snow_sample.specs.Model.Roster.{first_fault, IsRosterOf};
 ghost use Rattle.snow_getter.specs.Model.Answer.{answer};

@@ -6,7 +6,7 @@ use Rattle.std.specs.Option.{option_map, option_map_or}
 use Rattle.std.specs.Ordering.{bool_cmp, is_eq}
 use Rattle.std.specs.Cmp.Lexicographic.{pointwise, lists_ties}
 use Rattle.std.proofs.lemmas.List.Sums.{sum_by-cons}
-use Rattle.snow_base.specs.declared.vote.Vote.{Vote}
+use Rattle.snow_base.specs.declared.block.Vote.{Vote}
 use Rattle.snow_base.specs.Model.Identifier.{bit, bits, bit_cmp}
 use Rattle.snow_base.proofs.Bits.{length-bits, drop-bits}
 use Rattle.snow_flake.specs.Model.Parameters.{Parameters}

@@ -27,7 +27,7 @@ pub struct PlainBoard<R: Rule> {
 }
 
 impl<R: Rule> Model for PlainBoard<R> {
-    ghost use Rattle.std.specs.Prelude.{◌≡◌, ◌+◌, length, vec_capacity};
+    ghost use Rattle.std.specs.Prelude.{◌+◌, length, vec_capacity};
     ghost use Rattle.snow_board.specs.Kept.Ending.{IsLeading};
     ghost use Rattle.snow_board.specs.Clauses.Shown.{Shown, HasRoom, coded_shown};
 

@@ -6,7 +6,7 @@ use Rattle.std.proofs.Math.Nat.{max_comm}
 use Rattle.std.proofs.lemmas.Bool.{lt-leb}
 use Rattle.std.proofs.lemmas.Cmp.{tied_itself, alike_right}
 use Rattle.std.proofs.lemmas.List.Sums.{sum_by-cons}
-use Rattle.snow_base.specs.declared.vote.Vote.{Vote}
+use Rattle.snow_base.specs.declared.block.Vote.{Vote}
 use Rattle.snow_base.specs.Model.Identifier.{bit_cmp}
 use Rattle.snow_base.specs.Model.Votes.{IsInBitOrder, IsPlaceOf, added, total_count, most_count}
 use Rattle.snow_base.proofs.Adding.{total_added}

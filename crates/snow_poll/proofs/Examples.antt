@@ -1,6 +1,6 @@
 -- Worked examples, computed on the definitions.
 use Rattle.std.proofs.Common.{◌≡◌, ℕ, true, false, Bool, List, [], ◌∷◌, map, replicate, refl, None, Some}
-use Rattle.snow_base.specs.declared.vote.Vote.{Vote}
+use Rattle.snow_base.specs.declared.block.Vote.{Vote}
 use Rattle.snow_base.specs.Model.Identifier.{bits}
 use Rattle.snow_base.specs.Model.Votes.{added}
 use Rattle.snow_flake.specs.Laws.Alike.{votes_for}

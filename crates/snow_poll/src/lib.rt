@@ -3,12 +3,11 @@
 #![tactic(auto)]
 
 mod awaited;
-mod laws;
 mod poll;
 mod polls;
 mod room;
 mod tally;
 mod turns;
 
-pub use laws::early_closing_law;
+pub use poll::early_closing_law;
 pub use polls::{Answered, Closed, PollFault, Polls};

@@ -2,6 +2,7 @@ ghost use Rattle.std.specs.Prelude.{◌≡◌, ◌+◌, ◌≤◌, IfOk};
 ghost use Rattle.snow_flake.specs.Model.Parameters.{AreGood};
 ghost use Rattle.snow_sample.specs.Model.Sampling.{draw_count, AreOfDistinctNodes};
 ghost use Rattle.snow_poll.specs.Kept.Tallied.{closes_by};
+ghost use Rattle.snow_poll.specs.Laws.Completion.{EarlyClosingLaw};
 
 use crate::room::Nodes;
 use crate::tally;
@@ -143,3 +144,10 @@ fn closes(params: &Params, reach: u32, outstanding: u32, most: u32) -> bool
         || (preference <= most && reach < confidence)
         || confidence <= most
 }
+
+/// Early closing is exact: the votes of a poll that is closed in any of the four cases are alike to
+/// those of each completion, whatever the nodes without a reply would still have given.
+/// Rule: this project's own.
+pub fn early_closing_law()
+    ensures { EarlyClosingLaw }
+{}

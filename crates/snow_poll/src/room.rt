@@ -1,4 +1,4 @@
-ghost use Rattle.std.specs.Prelude.{◌≡◌, ℕ, ◌^◌, ◌<◌, ◌≤◌, List, [], None, length, map, vec_capacity, OnOk, IfOk};
+ghost use Rattle.std.specs.Prelude.{◌≡◌, ◌^◌, ◌<◌, ◌≤◌, [], length, map, vec_capacity, OnOk, IfOk};
 ghost use Rattle.snow_sample.specs.Model.Sampling.{AreOfDistinctNodes};
 ghost use Rattle.snow_poll.specs.Kept.Awaited.{counts_at, draw_of};
 ghost use Rattle.snow_poll.specs.Kept.Tallied.{HasTimes};

@@ -5,7 +5,7 @@ ghost use Rattle.std.specs.Prelude.{◌≡◌, ◌==◌, ◌+◌, ◌-◌, ◌<�
 ghost use Rattle.std.specs.List.{slice_get, concat};
 ghost use Rattle.std.specs.Option.{option_copied};
 ghost use Rattle.std.specs.Ordering.{is_lt};
-ghost use Rattle.snow_recent.specs.Kept.Index.{place_of, id_at, id_of, IsRising, IsPlaceOf, order_at, without_oldest, filed};
+ghost use Rattle.snow_recent.specs.Kept.Index.{place_of, id_of, IsRising, IsPlaceOf, order_at, without_oldest, filed};
 ghost use Rattle.snow_recent.specs.Kept.Table.{ends_below, AreFilled, IsRowOf};
 
 use crate::recent::Named;

@@ -1,7 +1,7 @@
 ghost use Rattle.std.specs.Prelude.{◌≡◌, ◌<◌, ◌≤◌, ◌^◌, ◌∷◌, ◌++◌, [], None, IfOk, length, drop, nat_lt, if◌then◌else◌};
 ghost use Rattle.std.specs.List.{concat, last_or};
 ghost use Rattle.std.specs.Option.{option_copied, option_to_list, is_some};
-ghost use Rattle.std.specs.VecDeque.{deque_len, deque_capacity};
+ghost use Rattle.std.specs.VecDeque.{deque_capacity};
 ghost use Rattle.snow_recent.specs.Kept.Index.{id_of, IsRising};
 ghost use Rattle.snow_recent.specs.Model.Recent.{with_latest, latest};
 ghost use Rattle.snow_recent.specs.Kept.Table.{IsFiled};

@@ -1,7 +1,7 @@
 //! Numbers of entries, in the order of the entries' identifiers, cut into rows. A number that comes
 //! or leaves moves only the others of its row. Rows next to one another have at least 64 numbers
 //! together. So there are only so many rows, and the table makes all when it is made.
-ghost use Rattle.std.specs.Prelude.{◌≡◌, ℕ, ◌+◌, ◌-◌, ◌<◌, ◌≤◌, ◌^◌, [], ◌∷◌, ◌++◌, All, length, take, get_or, nat_lt, replicate, IfOk, vec_capacity};
+ghost use Rattle.std.specs.Prelude.{◌≡◌, ◌+◌, ◌-◌, ◌<◌, ◌≤◌, ◌^◌, [], ◌∷◌, ◌++◌, All, length, take, get_or, nat_lt, replicate, IfOk, vec_capacity};
 ghost use Rattle.std.specs.List.{concat};
 ghost use Rattle.snow_recent.specs.Kept.Index.{id_of, IsRising, without_oldest, filed};
 ghost use Rattle.snow_recent.specs.Kept.Table.{Shelf, AreFilled, AreKept, IsWorn, HasNext, IsLatest, halved, joined};

@@ -4,7 +4,6 @@
 mod draws;
 mod fresh;
 mod guide;
-mod laws;
 mod line;
 mod places;
 mod room;
@@ -16,7 +15,6 @@ mod words;
 
 pub use draws::{Draw, Draws};
 pub use fresh::zeros;
-pub use laws::{distinct_units_law, whole_list_law};
 pub use roster::{Node, Roster, RosterFault};
-pub use sampling::SampleFault;
+pub use sampling::{SampleFault, distinct_units_law, whole_list_law};
 pub use words::Words;

@@ -2,6 +2,7 @@ ghost use Rattle.std.specs.Prelude.{◌≡◌, ℕ, ◌<◌, ◌≤◌, [], leng
 ghost use Rattle.snow_sample.specs.Kept.Drawn.{unit_at, AreMoves, HasSlots};
 ghost use Rattle.snow_sample.specs.Model.Roster.{total_weight};
 ghost use Rattle.snow_sample.specs.Model.Sampling.{sample_of, IsFault, draw_count, AreOfDistinctNodes};
+ghost use Rattle.snow_sample.specs.Laws.Law.{DrawsAsTheList, DrawsDistinctUnits};
 
 use crate::draws::Draws;
 use crate::line::Line;
@@ -165,3 +166,18 @@ fn draw_each(
     }
     Ok(())
 }
+
+/// A sample draws the units that come from exchanging the elements of the whole list 0, 1, 2, .. of
+/// all units, though it keeps only the positions that were moved.
+/// Rule: this project's own.
+#[tactic(auto, using(crate::proofs::Listing::as_listed))]
+pub fn whole_list_law()
+    ensures { DrawsAsTheList }
+{}
+
+/// A sample draws without replacement: no unit is drawn twice.
+/// Rule: this project's own.
+#[tactic(auto, using(crate::proofs::Distinct::taken_distinct))]
+pub fn distinct_units_law()
+    ensures { DrawsDistinctUnits }
+{}

@@ -1,4 +1,4 @@
-ghost use Rattle.std.specs.Prelude.{◌≡◌, ℕ, ◌==◌, ◌+◌, ◌^◌, ◌<◌, ◌≤◌, true, length, vec_capacity, if◌then◌else◌, IfOk, OnOk};
+ghost use Rattle.std.specs.Prelude.{◌≡◌, ℕ, ◌==◌, ◌+◌, ◌^◌, ◌<◌, ◌≤◌, length, vec_capacity, if◌then◌else◌, IfOk, OnOk};
 ghost use Rattle.snow_sample.specs.Kept.Drawn.{AreMoves, moved_to, unit_at};
 ghost use Rattle.snow_sample.specs.Model.Sampling.{swapped};
 

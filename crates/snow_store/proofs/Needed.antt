@@ -5,7 +5,7 @@ use Rattle.std.proofs.lemmas.Bool.{ne_eqb, lt-ltb, leb-true}
 use Rattle.std.proofs.lemmas.List.Folds.{list_any-append}
 use Rattle.std.specs.Option.{option_map}
 use Rattle.snow_interval.specs.Model.Heights.{Heights, lowest}
-use Rattle.snow_base.specs.declared.header.Header.{Header}
+use Rattle.snow_base.specs.declared.block.Header.{Header}
 use Rattle.snow_base.specs.declared.limits.TheConstants.{MOST_KEPT}
 use Rattle.snow_store.specs.declared.store.KeptBlock.{KeptBlock}
 use Rattle.snow_store.specs.declared.stop.BootStop.{BootStop}

@@ -10,7 +10,7 @@ ghost use Rattle.snow_store.specs.Model.Needing.{need_at, names, has_need, HasNe
 ghost use Rattle.snow_store.specs.Model.Paths.{Fetch, has_id, missed, is_whole};
 ghost use Rattle.snow_store.specs.Kept.Renewing.{fetch_by, MayRenew, IsRenewed};
 ghost use Rattle.snow_store.specs.Clauses.Coming.{noted, after_verdict};
-ghost use Rattle.snow_store.specs.declared.stop.Verdict.TheVariants.{Keeps, Low};
+ghost use Rattle.snow_store.specs.declared.stop.Verdict.TheVariants.{Keeps};
 
 use crate::stop::Verdict;
 use crate::store::Store;

@@ -9,7 +9,7 @@ use Rattle.snow_wire.specs.Model.Spelling.{number}
 use Rattle.snow_wire.proofs.Numbers.{IsBytes-behind, IsBytes-take, IsWidth, front_spells, width1, width2, width8}
 use Rattle.snow_text.specs.declared.refusal.Reason.{Reason}
 use Rattle.snow_text.specs.declared.refusal.Reason.TheVariants as reason
-use Rattle.snow_text.specs.declared.form.BlockForm.TheVariants as form
+use Rattle.snow_text.specs.declared.showing.blocks.BlockForm.TheVariants as form
 use Rattle.snow_text.specs.Model.Words.{Word, Field, Halt, ◌>>=◌, ◌&◌, at, ended, one, where_holds}
 use Rattle.snow_text.specs.Model.Names.{called, is_call}
 use Rattle.snow_text.specs.Model.Bytes.{bytes_text, bytes_word, exactly, fixed_text, fixed_word, is_open, item_word, number_below, number_word}

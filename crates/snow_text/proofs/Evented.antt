@@ -3,8 +3,8 @@ use Rattle.std.proofs.Common.{◌≡◌, ℕ, ◌<◌, Bool, true, false, List, 
 use Rattle.snow_wire.specs.declared.event.Start.{Start}
 use Rattle.snow_wire.specs.Model.Spelling.{flag}
 use Rattle.snow_wire.specs.Clauses.Viewed.{weighed_in}
-use Rattle.snow_text.specs.declared.form.BlockForm.{BlockForm}
-use Rattle.snow_text.specs.declared.form.BlockForm.TheVariants as form
+use Rattle.snow_text.specs.declared.showing.blocks.BlockForm.{BlockForm}
+use Rattle.snow_text.specs.declared.showing.blocks.BlockForm.TheVariants as form
 use Rattle.snow_text.specs.Model.Words.{Word}
 use Rattle.snow_text.specs.Model.Bytes.{fixed_text}
 use Rattle.snow_text.specs.Model.Blocks.{block_line, block_words, words_if, words_in, is_block}

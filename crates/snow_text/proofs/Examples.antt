@@ -6,7 +6,7 @@ use Rattle.snow_wire.specs.Model.Spelling.{number}
 use Rattle.snow_wire.specs.Model.Frame.{frames_of, frames_in, first_of}
 use Rattle.snow_wire.specs.Model.Reading.{event_of, fields_at, start_at, sender_at, single_at, message_at, number_at, limited_at, flag_at, bytes_at, sized_at, counted_at, items_at, weighed_at}
 use Rattle.snow_text.specs.declared.refusal.Reason.TheVariants as reason
-use Rattle.snow_text.specs.declared.form.BlockForm.TheVariants as form
+use Rattle.snow_text.specs.declared.showing.blocks.BlockForm.TheVariants as form
 use Rattle.snow_text.specs.Model.Words.{words_of, said, spaced, column_of, each, all_of, one, all, ◌&◌, ended}
 use Rattle.snow_text.specs.Model.Names.{called}
 use Rattle.snow_text.specs.Model.Bytes.{number_below, number_word, digits_word, piece_of, bytes_word, fixed_word, part_word, item_word, bytes_of, runs_of, pieces_of, short, bytes_text, trimmed, fixed_text}

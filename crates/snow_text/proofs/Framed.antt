@@ -9,7 +9,7 @@ use Rattle.snow_wire.specs.Model.Reading.{IsBytes, event_of}
 use Rattle.snow_wire.specs.Model.Spelling.{number}
 use Rattle.snow_wire.proofs.Numbers.{IsBytes-behind}
 use Rattle.snow_wire.proofs.Streams.{are_frames}
-use Rattle.snow_text.specs.declared.form.BlockForm.{BlockForm}
+use Rattle.snow_text.specs.declared.showing.blocks.BlockForm.{BlockForm}
 use Rattle.snow_text.specs.Model.Words.{Word, Halt, is_word, parts, said, spaced, words_of}
 use Rattle.snow_text.specs.Model.Bytes.{bytes_of, bytes_text}
 use Rattle.snow_text.specs.Model.Events.{payload_of}

@@ -6,7 +6,7 @@ use Rattle.snow_wire.specs.declared.event.Event.{Event}
 use Rattle.snow_wire.specs.declared.event.Event.TheVariants as event
 use Rattle.snow_wire.specs.declared.skip.Fault.{Fault}
 use Rattle.snow_wire.specs.Model.Reading.{event_of}
-use Rattle.snow_text.specs.declared.form.BlockForm.{BlockForm}
+use Rattle.snow_text.specs.declared.showing.blocks.BlockForm.{BlockForm}
 use Rattle.snow_text.specs.Model.Words.{Word, words_of}
 use Rattle.snow_text.specs.Model.Made.{say_words}
 use Rattle.snow_text.specs.Model.Shown.{event_words, frame_words, is_frame, line, say, shown_frame, words_as}

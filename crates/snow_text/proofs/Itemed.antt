@@ -3,7 +3,7 @@ use Rattle.std.proofs.Common.{◌≡◌, ℕ, suc, ◌+◌, ◌-◌, ◌/◌, �
 use Rattle.std.specs.List.{join_with_byte}
 use Rattle.std.proofs.lemmas.List.{drop_more, drop_all, drop-map, get_or-drop, length-drop}
 use Rattle.byteorder.specs.Endian.{big_number}
-use Rattle.snow_text.specs.declared.form.BlockForm.TheVariants as form
+use Rattle.snow_text.specs.declared.showing.blocks.BlockForm.TheVariants as form
 use Rattle.snow_text.specs.Model.Words.{Word}
 use Rattle.snow_text.specs.Model.Bytes.{bytes_text, fixed_text, runs_of}
 use Rattle.snow_text.specs.Model.Blocks.{behind_words, transfer_text, transfer_texts, words_in}

@@ -12,7 +12,7 @@ use Rattle.snow_wire.specs.Model.Spelling.{counted, number}
 use Rattle.snow_wire.proofs.Numbers.{IsBytes-take, front_spells, width2}
 use Rattle.snow_text.specs.declared.refusal.Reason.{Reason}
 use Rattle.snow_text.specs.declared.refusal.Reason.TheVariants as reason
-use Rattle.snow_text.specs.declared.form.BlockForm.TheVariants as form
+use Rattle.snow_text.specs.declared.showing.blocks.BlockForm.TheVariants as form
 use Rattle.snow_text.specs.Model.Words.{Word, Field, ◌>>=◌, ◌&◌, all, all_of, at, ended, one, parts}
 use Rattle.snow_text.specs.Model.Bytes.{bytes_text, fixed_text, item_word, number_word}
 use Rattle.snow_text.specs.Model.Events.{block_of, listed, list_field, pair, ledger, transfer_word}

@@ -11,8 +11,8 @@ use Rattle.snow_wire.specs.Model.Frame.{IsPayload}
 use Rattle.snow_wire.specs.Model.Reading.{IsBytes}
 use Rattle.snow_wire.specs.Model.Spelling.{IsSender, counted, number, sender, sized}
 use Rattle.snow_wire.proofs.Numbers.{IsBytes-behind, IsBytes-take}
-use Rattle.snow_text.specs.declared.form.BlockForm.{BlockForm}
-use Rattle.snow_text.specs.declared.form.BlockForm.TheVariants as form
+use Rattle.snow_text.specs.declared.showing.blocks.BlockForm.{BlockForm}
+use Rattle.snow_text.specs.declared.showing.blocks.BlockForm.TheVariants as form
 use Rattle.snow_text.specs.Model.Words.{Word, Halt, all, parts, spaced, all_of}
 use Rattle.snow_text.specs.Model.Bytes.{bytes_text, fixed_text, short, some_of, trimmed}
 use Rattle.snow_text.specs.Model.Events.{block_of, blocks_of, listed_block, payload_of, sized_block}

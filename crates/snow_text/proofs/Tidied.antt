@@ -6,7 +6,7 @@ use Rattle.std.proofs.lemmas.Bool.{leb-true, eqb-true}
 use Rattle.snow_wire.specs.Model.Frame.{IsPayload, first_of, frame, frames_in, frames_of}
 use Rattle.snow_wire.specs.Model.Reading.{IsBytes}
 use Rattle.snow_wire.proofs.Streams.{frame_first, frames_end, frames_front}
-use Rattle.snow_text.specs.declared.form.BlockForm.{BlockForm}
+use Rattle.snow_text.specs.declared.showing.blocks.BlockForm.{BlockForm}
 use Rattle.snow_text.specs.declared.refusal.Reason.TheVariants as reason
 use Rattle.snow_text.specs.declared.refusal.Refusal.{Refusal}
 use Rattle.snow_text.specs.Model.Words.{Word, Halt, ◌>>=◌, at, ended, parts, words_of}

@@ -10,7 +10,7 @@ use Rattle.snow_wire.specs.Model.Spelling.{IsInRange, IsSender, IsSizedStart, co
 use Rattle.snow_wire.proofs.Numbers.{IsBytes-behind}
 use Rattle.snow_wire.proofs.Events.{event_taken}
 use Rattle.snow_text.specs.declared.refusal.Reason.{Reason}
-use Rattle.snow_text.specs.declared.form.BlockForm.{BlockForm}
+use Rattle.snow_text.specs.declared.showing.blocks.BlockForm.{BlockForm}
 use Rattle.snow_text.specs.Model.Words.{Word, Field, ◌&◌}
 use Rattle.snow_text.specs.Model.Bytes.{fixed_text, item_word, number_word}
 use Rattle.snow_text.specs.Model.Events.{if_some, named, none, payload_of, sent, start_field, tagged, times_word, weighed_word}

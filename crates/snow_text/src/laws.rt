@@ -2,7 +2,7 @@ ghost use Rattle.std.specs.Prelude.{◌≡◌, ◌==◌, ℕ, false, List, [], �
 ghost use Rattle.snow_wire.specs.declared.event.Event.{Event};
 ghost use Rattle.snow_wire.specs.Model.Frame.{IsPayload, first_of, frame};
 ghost use Rattle.snow_wire.specs.Model.Reading.{IsBytes, event_of};
-ghost use Rattle.snow_text.specs.declared.form.BlockForm.{BlockForm};
+ghost use Rattle.snow_text.specs.declared.showing.blocks.BlockForm.{BlockForm};
 ghost use Rattle.snow_text.specs.Model.Words.{parts};
 ghost use Rattle.snow_text.specs.Model.Names.{Names};
 ghost use Rattle.snow_text.specs.Model.Made.{made, made_from};

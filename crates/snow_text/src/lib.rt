@@ -1,14 +1,12 @@
 //! Streams as text: a line a frame, and back.
 #![tactic(auto)]
 
-mod form;
 mod laws;
 mod making;
 mod refusal;
 mod showing;
 
-pub use form::BlockForm;
 pub use laws::{one_by_one, one_form, one_text, own_words};
 pub use making::{MakeEnd, MakeStop, Maker, make};
 pub use refusal::{Reason, Refusal};
-pub use showing::{ShowEnd, show, show_frame, show_rest};
+pub use showing::{BlockForm, ShowEnd, show, show_frame, show_rest};

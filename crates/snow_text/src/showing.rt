@@ -15,6 +15,7 @@ mod streaming;
 
 use crate::showing::bytes::put_bytes;
 use crate::showing::put::put;
+pub use blocks::BlockForm;
 pub use frames::show_frame;
 use std::alloc::AllocError;
 pub use streaming::{ShowEnd, show};

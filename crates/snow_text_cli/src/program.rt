@@ -1,4 +1,4 @@
-ghost use Rattle.std.specs.Prelude.{◌≡◌, ◌≤◌, ℕ, None, Some, map, IfSome, string_bytes};
+ghost use Rattle.std.specs.Prelude.{◌≡◌, None, Some, map, IfSome, string_bytes};
 ghost use Rattle.std.specs.Io.KnownBytes.{IsAtEnd};
 ghost use Rattle.snow_text_cli.specs.Model.Words.{asked};
 ghost use Rattle.snow_text_cli.specs.Model.Answer as model;

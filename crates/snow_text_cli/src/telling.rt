@@ -1,4 +1,4 @@
-ghost use Rattle.std.specs.Prelude.{◌≡◌, ◌+◌, ◌≤◌, [], ◌++◌, length};
+ghost use Rattle.std.specs.Prelude.{◌≡◌, ◌≤◌, [], length};
 ghost use Rattle.snow_text_cli.specs.Model.Answer.{error_line, reason_text, refusal_line};
 ghost use Rattle.snow_text_cli.specs.Clauses.Answering.{TookLine};
 

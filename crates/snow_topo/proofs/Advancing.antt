@@ -7,7 +7,7 @@ use Rattle.std.proofs.lemmas.Bool.{and_parts, or_parts, or_right}
 use Rattle.std.proofs.lemmas.List.{get_or-map, length-map}
 use Rattle.std.proofs.lemmas.List.Elements.{All-head, All-tail}
 use Rattle.std.proofs.lemmas.Option.{none-some, same_Some}
-use Rattle.snow_base.specs.declared.header.Header.{Header}
+use Rattle.snow_base.specs.declared.block.Header.{Header}
 use Rattle.snow_base.specs.Model.Identifier.{bits}
 use Rattle.snow_base.specs.Model.Ancestry.{line_in, descends}
 use Rattle.snow_flake.specs.Model.Rule.{Answer}

@@ -1,7 +1,7 @@
 -- Lemmas on the votes of a poll that came to the last accepted block, and on the board then.
 use Rattle.std.proofs.Common.{◌≡◌, ℕ, ◌+◌, false, List, [], ◌∷◌, get_or, map, reverse, bytes_eq, refl, sym, ap, ◌∙◌, arith, if◌then◌else◌}
-use Rattle.snow_base.specs.declared.header.Header.{Header}
-use Rattle.snow_base.specs.declared.vote.Vote.{Vote}
+use Rattle.snow_base.specs.declared.block.Header.{Header}
+use Rattle.snow_base.specs.declared.block.Vote.{Vote}
 use Rattle.snow_base.specs.Model.Ancestry.{votes_below}
 use Rattle.snow_flake.specs.Model.Parameters.{Parameters}
 use Rattle.snow_board.specs.declared.cursor.Cursor.{Cursor}

@@ -6,7 +6,7 @@ use Rattle.std.specs.Option.{option_map, option_map_or, option_copied}
 use Rattle.std.proofs.lemmas.Bool.{or_parts, or_left, or_right, or_from}
 use Rattle.std.proofs.lemmas.List.Elements.{All-head, All-tail, All-map}
 use Rattle.std.proofs.lemmas.Option.{none-some, same_Some, slice_get_within, slice_get-get_or, get_or_from_slice_get}
-use Rattle.snow_base.specs.declared.header.Header.{Header}
+use Rattle.snow_base.specs.declared.block.Header.{Header}
 use Rattle.snow_flake.specs.Model.Parameters.{Parameters}
 use Rattle.snow_flake.specs.Model.Rule.{Answer}
 use Rattle.snow_board.specs.Model.Conflict.{Pending}

@@ -1,7 +1,7 @@
 -- Lemmas on a whole poll: the bit step, and then acceptance.
 use Rattle.std.proofs.Common.{◌≡◌, List, length, ap, ◌∙◌}
 use Rattle.std.proofs.lemmas.List.{length-map}
-use Rattle.snow_base.specs.declared.vote.Vote.{Vote}
+use Rattle.snow_base.specs.declared.block.Vote.{Vote}
 use Rattle.snow_board.specs.Model.Board.{Board, blocks_of, with_counters}
 use Rattle.snow_board.specs.Model.Poll.{with_votes, counted, settled, poll}
 

@@ -4,8 +4,8 @@ use Rattle.std.proofs.lemmas.Grind.{common_steps}
 use Rattle.std.proofs.lemmas.List.{length-map}
 use Rattle.std.proofs.lemmas.List.Elements.{All-filter, All-nil, All-push}
 use Rattle.std.proofs.lemmas.List.Sums.{sum_by-cons}
-use Rattle.snow_base.specs.declared.header.Header.{Header}
-use Rattle.snow_base.specs.declared.vote.Vote.{Vote}
+use Rattle.snow_base.specs.declared.block.Header.{Header}
+use Rattle.snow_base.specs.declared.block.Vote.{Vote}
 use Rattle.snow_base.specs.Model.Ancestry.{descends, is_below, votes_below}
 use Rattle.snow_flake.specs.Model.Parameters.{Parameters}
 use Rattle.snow_board.specs.Model.Conflict.{Pending}

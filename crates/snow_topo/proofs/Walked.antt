@@ -7,7 +7,7 @@ use Rattle.std.proofs.lemmas.Bool.{or_parts, and_parts}
 use Rattle.std.proofs.lemmas.List.{get_or_default, length-map, map-append, reverse-append}
 use Rattle.std.proofs.lemmas.List.Elements.{All-head, All-tail, All-map, All-filter, All-nil, All-cons, filter_passes, All-contains, All-contains_itself}
 use Rattle.std.proofs.lemmas.Option.{none-some, slice_get_within, same_Some}
-use Rattle.snow_base.specs.declared.header.Header.{Header}
+use Rattle.snow_base.specs.declared.block.Header.{Header}
 use Rattle.snow_base.specs.Model.Identifier.{bits}
 use Rattle.snow_base.proofs.Bits.{get_or-bits, bit_cmp-same, same_from_bit_cmp}
 use Rattle.snow_flake.specs.Model.Parameters.{Parameters, AreGood}

@@ -1,5 +1,5 @@
 ghost use Rattle.std.specs.Prelude.{◌≡◌, ◌+◌, ◌*◌, ◌^◌, ◌<◌, ◌≤◌, false, List, length, vec_capacity};
-ghost use Rattle.snow_base.specs.declared.vote.Vote.{Vote};
+ghost use Rattle.snow_base.specs.declared.block.Vote.{Vote};
 ghost use Rattle.snow_board.specs.Model.Poll.{poll};
 ghost use Rattle.snow_board.specs.Model.Preference.{preferred};
 ghost use Rattle.snow_tree.specs.Kept.Held.{blocks_in};

@@ -1,6 +1,6 @@
 ghost use Rattle.std.specs.Prelude.{◌≤◌, List, length};
 ghost use Rattle.snow_base.specs.Model.Votes.{total_count};
-ghost use Rattle.snow_base.specs.declared.vote.Vote.{Vote};
+ghost use Rattle.snow_base.specs.declared.block.Vote.{Vote};
 ghost use Rattle.snow_climb.specs.Kept.Ladder.{KeepsRoom, IsReady};
 ghost use Rattle.snow_climb.specs.Kept.Majority.{StandFor};
 ghost use Rattle.snow_climb.specs.Kept.Starting.{HaveBegun, IsLoaded};

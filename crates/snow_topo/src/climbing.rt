@@ -1,5 +1,5 @@
 ghost use Rattle.std.specs.Prelude.{◌≡◌, ℕ, ◌+◌, ◌*◌, ◌^◌, ◌<◌, ◌≤◌, ◌||◌, false, List, length};
-ghost use Rattle.snow_base.specs.declared.vote.Vote.{Vote};
+ghost use Rattle.snow_base.specs.declared.block.Vote.{Vote};
 ghost use Rattle.snow_tree.specs.Kept.Held.{blocks_in};
 ghost use Rattle.snow_climb.specs.Kept.Starting.{HaveBegun, IsLoaded};
 ghost use Rattle.snow_topo.specs.Kept.Climbed.{HasClimbed};

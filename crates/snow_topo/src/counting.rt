@@ -1,5 +1,5 @@
 ghost use Rattle.std.specs.Prelude.{◌≡◌, ◌+◌, ◌*◌, ◌^◌, ◌<◌, ◌≤◌, nat_le, false, List, All, length, if◌then◌else◌};
-ghost use Rattle.snow_base.specs.declared.vote.Vote.{Vote};
+ghost use Rattle.snow_base.specs.declared.block.Vote.{Vote};
 ghost use Rattle.snow_board.specs.Kept.Cursors.{votes_at};
 ghost use Rattle.snow_board.specs.Model.Poll.{counted};
 ghost use Rattle.snow_board.specs.Model.Preference.{preferred};

@@ -103,7 +103,7 @@ fn decided_in<R: Rule>(trie: &Trie<R>) -> Option<Id>
 }
 
 impl<R: Rule> Load<R> {
-    ghost use Rattle.std.specs.Prelude.{ℕ, ◌^◌, ◌*◌, ◌-◌, ◌<◌, List, length, IfSome, OnOk, OnErr};
+    ghost use Rattle.std.specs.Prelude.{ℕ, ◌^◌, ◌*◌, ◌<◌, List, length, IfSome, OnOk, OnErr};
     ghost use Rattle.std.specs.Option.{option_map, option_copied};
     ghost use Rattle.snow_flake.specs.Model.Parameters.{Parameters};
     ghost use Rattle.snow_topo.specs.Kept.Children.{bare, gained, conflict_of, counters_in, ids_in, shown, IsFit};

@@ -1,4 +1,4 @@
-ghost use Rattle.std.specs.Prelude.{◌≡◌, ◌+◌, ◌^◌, ◌<◌, ◌≤◌, IfSome, slice_get};
+ghost use Rattle.std.specs.Prelude.{◌≡◌, ◌+◌, ◌^◌, ◌<◌, IfSome, slice_get};
 ghost use Rattle.snow_flake.specs.Model.Parameters.{Parameters};
 ghost use Rattle.snow_tree.specs.Kept.Held.{with_load};
 ghost use Rattle.snow_topo.specs.Kept.Renewed.{renewed, all_renewed};

@@ -1,6 +1,6 @@
 ghost use Rattle.std.specs.Prelude.{◌≡◌, ◌+◌, ◌*◌, ◌^◌, ◌<◌, ◌≤◌, nat_le, [], List, All, Contains, IfSome, IsPermutation, length, slice_get, if◌then◌else◌};
 ghost use Rattle.snow_base.specs.Model.Votes.{IsInBitOrder, total_count};
-ghost use Rattle.snow_base.specs.declared.vote.Vote.{Vote};
+ghost use Rattle.snow_base.specs.declared.block.Vote.{Vote};
 ghost use Rattle.snow_flake.specs.Model.Parameters.{AreGood};
 ghost use Rattle.snow_board.specs.Kept.Cursors.{votes_at};
 ghost use Rattle.snow_tree.specs.Kept.Held.{blocks_in, children_of, with_load};

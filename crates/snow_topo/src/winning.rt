@@ -1,4 +1,4 @@
-ghost use Rattle.std.specs.Prelude.{◌≡◌, ℕ, Bool, find, slice_get};
+ghost use Rattle.std.specs.Prelude.{◌≡◌, ℕ, find, slice_get};
 ghost use Rattle.std.specs.Bool.{beq};
 ghost use Rattle.std.specs.Cmp.Lexicographic.{pointwise};
 ghost use Rattle.std.specs.List.{position};

@@ -9,7 +9,7 @@ use Rattle.std.proofs.lemmas.Map.Entries.{place_from_lookup}
 use Rattle.std.proofs.lemmas.List.Elements.{All-head, All-tail, All-filter, filter_passes}
 use Rattle.std.proofs.lemmas.Bool.{or_parts, or_left, or_right, and_parts}
 use Rattle.std.proofs.lemmas.Option.{none-some, slice_get_within, get_or_from_slice_get}
-use Rattle.snow_base.specs.declared.header.Header.{Header}
+use Rattle.snow_base.specs.declared.block.Header.{Header}
 use Rattle.snow_base.specs.Model.Ancestry.{line_in, descends}
 use Rattle.snow_board.specs.Kept.Grown.{has_block, IsGrown}
 use Rattle.snow_board.proofs.Cases.{split_on, clash, same_id, id_same, differs_back}

@@ -9,7 +9,7 @@ use Rattle.std.proofs.lemmas.List.Elements.{All-append, All-map, All-cons, All-n
 use Rattle.std.proofs.lemmas.Bool.{or_parts}
 use Rattle.std.proofs.lemmas.Option.{none-some, same_Some, slice_get-map}
 use Rattle.snow_tree.specs.Kept.Row.{set_children_at}
-use Rattle.snow_base.specs.declared.header.Header.{Header}
+use Rattle.snow_base.specs.declared.block.Header.{Header}
 use Rattle.snow_board.specs.Kept.Grown.{has_block, is_on, IsGrown, Grew}
 use Rattle.snow_board.proofs.Cases.{split_on, clash, same_id, differs_back}
 use Rattle.snow_board.proofs.Grown.{grown_rest, has_block-reverse}

@@ -9,7 +9,7 @@ use Rattle.std.proofs.lemmas.Map.Entries.{place_from_lookup}
 use Rattle.std.proofs.lemmas.Option.{none-some, slice_get-map, slice_get_within, get_or_from_slice_get}
 use Rattle.std.proofs.lemmas.List.Elements.{All-cons, All-head, All-tail}
 use Rattle.snow_tree.specs.Kept.Row.{set_load_at}
-use Rattle.snow_base.specs.declared.header.Header.{Header}
+use Rattle.snow_base.specs.declared.block.Header.{Header}
 use Rattle.snow_base.specs.Model.Ancestry.{line_in, child_on}
 use Rattle.snow_board.specs.Kept.Grown.{has_block, is_on, IsGrown}
 use Rattle.snow_board.proofs.Cases.{split_on, same_id, id_same, differs_back}

@@ -1,4 +1,4 @@
-ghost use Rattle.std.specs.Prelude.{◌≡◌, ◌<◌, reverse, slice_get, bytes_eq};
+ghost use Rattle.std.specs.Prelude.{◌≡◌, reverse, slice_get, bytes_eq};
 ghost use Rattle.std.specs.List.{position};
 ghost use Rattle.std.specs.Option.{option_map};
 ghost use Rattle.snow_base.specs.Model.Ancestry.{child_on};

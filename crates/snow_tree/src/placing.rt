@@ -1,8 +1,7 @@
 //! Where a node stands, by its number and by its identifier.
-ghost use Rattle.std.specs.Prelude.{◌≡◌, ◌+◌, ◌<◌, ◌≤◌, ℕ, List, None, Some, bytes_eq, length, nat_eq, slice_get, take};
+ghost use Rattle.std.specs.Prelude.{◌≡◌, ◌<◌, ◌≤◌, ℕ, List, None, Some, bytes_eq, length, nat_eq, slice_get, take};
 ghost use Rattle.std.specs.HashMap.{get};
 ghost use Rattle.std.specs.List.{position};
-ghost use Rattle.std.specs.Map.{keys_of};
 ghost use Rattle.snow_tree.specs.declared.node.Node.{Node};
 ghost use Rattle.snow_tree.specs.Kept.Row.{AreInOrder, IsNumbered, IsToldPlace, edges_of};
 

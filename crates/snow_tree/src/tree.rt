@@ -57,7 +57,7 @@ impl<T: Drop> Tree<T> {
     ghost use Rattle.std.specs.Prelude.{reverse};
     ghost use Rattle.std.specs.Borrow.{sem};
     ghost use Rattle.std.specs.Option.{option_copied_mut};
-    ghost use Rattle.snow_base.specs.declared.header.Header.{Header};
+    ghost use Rattle.snow_base.specs.declared.block.Header.{Header};
     ghost use Rattle.snow_board.specs.Kept.Grown.{IsGrown};
     ghost use Rattle.snow_tree.specs.Clauses.Lending.{lends_load};
 

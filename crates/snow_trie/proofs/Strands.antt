@@ -1,6 +1,6 @@
 -- Lemmas on the bits of identifiers, and on counters for each of them, one below the other.
 use Rattle.std.proofs.Common.{◌≡◌, ℕ, zero, suc, ◌+◌, ◌-◌, ◌<◌, ◌≤◌, Bool, true, false, not, List, [], ◌∷◌, ◌++◌, drop, All, if◌then◌else◌, refl, sym, ap, ◌∙◌, add-zero, zero-add, arith}
-use Rattle.snow_base.specs.declared.vote.Vote.{Vote}
+use Rattle.snow_base.specs.declared.block.Vote.{Vote}
 use Rattle.snow_base.specs.Model.Identifier.{bit, bits, AgreeFrom}
 use Rattle.snow_base.specs.Kept.Split.{HaveBit}
 use Rattle.snow_base.specs.Model.Votes.{total_count}

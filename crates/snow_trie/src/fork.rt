@@ -1,4 +1,4 @@
-ghost use Rattle.std.specs.Prelude.{◌≡◌, ℕ, ◌+◌, ◌^◌, ◌<◌, false, true};
+ghost use Rattle.std.specs.Prelude.{◌≡◌, ℕ, ◌+◌, ◌^◌, ◌<◌, false};
 ghost use Rattle.snow_flake.specs.Model.Counter.{stepped};
 ghost use Rattle.snow_flake.specs.Model.Rule.{answer_of};
 ghost use Rattle.snow_flake.specs.Kept.Instance.{counter_of};

@@ -1,5 +1,4 @@
-ghost use Rattle.std.specs.Prelude.{◌≡◌, ◌+◌, ◌-◌, ◌^◌, ◌<◌, ◌≤◌, Option};
-ghost use Rattle.snow_flake.specs.Model.Rule.{answer_of};
+ghost use Rattle.std.specs.Prelude.{◌≡◌, ◌^◌, ◌<◌};
 ghost use Rattle.snow_trie.specs.Kept.Tree.{tree_of};
 ghost use Rattle.snow_trie.specs.Kept.Outline.{size};
 ghost use Rattle.snow_trie.specs.Kept.Shape.{IsPlaced};

@@ -1,4 +1,4 @@
-ghost use Rattle.std.specs.Prelude.{◌≡◌, ℕ, ◌+◌, ◌<◌, false};
+ghost use Rattle.std.specs.Prelude.{◌≡◌, ℕ, false};
 ghost use Rattle.snow_trie.specs.Kept.Tree.{Tip, Line, tree_of};
 ghost use Rattle.snow_trie.specs.Kept.Shape.{IsPlaced};
 ghost use Rattle.snow_trie.specs.Kept.Peeling.{peeled};

@@ -1,5 +1,5 @@
 //! The shapes of the events that peers send, and how each is read behind its tag.
-ghost use Rattle.std.specs.Prelude.{◌≡◌, ℕ, List};
+ghost use Rattle.std.specs.Prelude.{ℕ, List};
 ghost use Rattle.snow_wire.specs.Model.Reading.{ReadsAs, block_at, counted_at, id_at, message_at, sender_at};
 ghost use Rattle.snow_wire.specs.declared.event.Event.{Event};
 

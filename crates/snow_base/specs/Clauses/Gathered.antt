@@ -1,6 +1,6 @@
 -- Votes that are gathered from a list of identifiers.
 use Rattle.std.specs.Prelude.{◌≡◌, ℕ, ◌^◌, ◌<◌, List, [], length, fold, slice_index}
-use Rattle.snow_base.specs.declared.vote.Vote.{Vote}
+use Rattle.snow_base.specs.declared.block.Vote.{Vote}
 use Rattle.snow_base.specs.Model.Votes.{added}
 
 -- an identifier is 32 bytes

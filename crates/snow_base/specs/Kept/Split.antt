@@ -2,7 +2,7 @@
 use Rattle.std.specs.Prelude.{◌≡◌, ℕ, ◌<◌, Bool, List, All}
 use Rattle.std.specs.List.{AllPairs}
 use Rattle.snow_base.specs.Model.Identifier.{bit}
-use Rattle.snow_base.specs.declared.vote.Vote.{Vote}
+use Rattle.snow_base.specs.declared.block.Vote.{Vote}
 
 -- any two votes agree on the first n bits
 abbrev pub AgreeBelow : ℕ → List Vote → Type 0

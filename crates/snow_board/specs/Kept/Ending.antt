@@ -1,7 +1,7 @@
 -- The preference that is kept beside a board, and when an issue moves it without a walk.
 use Rattle.std.specs.Prelude.{◌≡◌, ℕ, Bool, true, false, ◌&&◌, List, [], ◌∷◌, bytes_eq, if◌then◌else◌}
 use Rattle.std.specs.List.{list_any}
-use Rattle.snow_base.specs.declared.header.Header.{Header}
+use Rattle.snow_base.specs.declared.block.Header.{Header}
 use Rattle.snow_flake.specs.Model.Rule.{Answer}
 use Rattle.snow_board.specs.Model.Conflict.{Counters, Blank, leads_to}
 use Rattle.snow_board.specs.Model.Conflict.{Pending}

@@ -1,7 +1,7 @@
 -- Lists of blocks to which each came after its parent.
 use Rattle.std.specs.Prelude.{◌≡◌, ℕ, Bool, true, false, ◌||◌, List, [], ◌∷◌, bytes_eq}
 use Rattle.std.specs.List.{list_any}
-use Rattle.snow_base.specs.declared.header.Header.{Header}
+use Rattle.snow_base.specs.declared.block.Header.{Header}
 
 -- whether some block has this identifier
 abbrev pub has_block : List Header → List ℕ → Bool

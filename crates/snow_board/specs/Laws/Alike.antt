@@ -1,6 +1,6 @@
 -- What votes leave that are alike: the same board and the same decisions.
 use Rattle.std.specs.Prelude.{◌≡◌, ◌≤◌, List}
-use Rattle.snow_base.specs.declared.vote.Vote.{Vote}
+use Rattle.snow_base.specs.declared.block.Vote.{Vote}
 use Rattle.snow_base.specs.Model.Votes.{total_count}
 use Rattle.snow_flake.specs.Laws.Alike.{AreAlike}
 use Rattle.snow_board.specs.declared.board.Decision.{Decision}

@@ -1,7 +1,7 @@
 -- At each height at most one block has a quorum for preference.
 use Rattle.std.specs.Prelude.{◌≡◌, ℕ, ◌≤◌, List, Some, sum_by, if◌then◌else◌}
-use Rattle.snow_base.specs.declared.header.Header.{Header}
-use Rattle.snow_base.specs.declared.vote.Vote.{Vote}
+use Rattle.snow_base.specs.declared.block.Header.{Header}
+use Rattle.snow_base.specs.declared.block.Vote.{Vote}
 use Rattle.snow_base.specs.Model.Votes.{total_count}
 use Rattle.snow_base.specs.Model.Ancestry.{descends}
 use Rattle.snow_board.specs.Model.Board.{Board, blocks_of, height_of}

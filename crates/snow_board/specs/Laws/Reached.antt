@@ -1,8 +1,8 @@
 -- The boards that a good beginning, issues and polls make.
 use Rattle.std.specs.Prelude.{◌≡◌, ℕ, ◌+◌, ◌<◌, ◌≤◌, List, length, Some, None}
 use Rattle.snow_base.specs.declared.limits.TheConstants.{MOST_PENDING}
-use Rattle.snow_base.specs.declared.header.Header.{Header}
-use Rattle.snow_base.specs.declared.vote.Vote.{Vote}
+use Rattle.snow_base.specs.declared.block.Header.{Header}
+use Rattle.snow_base.specs.declared.block.Vote.{Vote}
 use Rattle.snow_base.specs.Model.Votes.{total_count}
 use Rattle.snow_flake.specs.Model.Parameters.{Parameters, AreGood}
 use Rattle.snow_board.specs.Model.Board.{Board, begin, height_of, issued}

@@ -1,6 +1,6 @@
 -- What a poll leaves: no winner, and not because steps of acceptance ran out.
 use Rattle.std.specs.Prelude.{◌≡◌, ℕ, ◌≤◌, List, length, None}
-use Rattle.snow_base.specs.declared.vote.Vote.{Vote}
+use Rattle.snow_base.specs.declared.block.Vote.{Vote}
 use Rattle.snow_board.specs.Model.Board.{Board}
 use Rattle.snow_board.specs.Model.Poll.{counted, winner, settled, poll}
 

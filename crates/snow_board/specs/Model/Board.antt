@@ -1,7 +1,7 @@
 -- The board: the last accepted block, the pending blocks in order of issue, and their counters.
 use Rattle.std.specs.Prelude.{ℕ, Bool, List, [], ◌∷◌, ◌++◌, map, Option, Some, find, bytes_eq, if◌then◌else◌, is_some}
 use Rattle.std.specs.Option.{option_map, option_map_or}
-use Rattle.snow_base.specs.declared.header.Header.{Header}
+use Rattle.snow_base.specs.declared.block.Header.{Header}
 use Rattle.snow_base.specs.Model.Identifier.{bits}
 use Rattle.snow_flake.specs.Model.Parameters.{Parameters}
 use Rattle.snow_flake.specs.Model.Counter.{Counter}

@@ -1,7 +1,7 @@
 -- What a poll makes of a board: the counters, and then acceptance.
 use Rattle.std.specs.Prelude.{ℕ, zero, suc, Bool, not, ◌&&◌, List, [], ◌∷◌, ◌++◌, map, length, Option, Some, None, filter, find, bytes_eq, true, false}
-use Rattle.snow_base.specs.declared.header.Header.{Header}
-use Rattle.snow_base.specs.declared.vote.Vote.{Vote}
+use Rattle.snow_base.specs.declared.block.Header.{Header}
+use Rattle.snow_base.specs.declared.block.Vote.{Vote}
 use Rattle.snow_flake.specs.Model.Parameters.{Parameters}
 use Rattle.snow_base.specs.Model.Ancestry.{descends, votes_below}
 use Rattle.snow_board.specs.declared.board.Decision.{Decision}

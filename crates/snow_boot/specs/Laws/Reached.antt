@@ -1,6 +1,6 @@
 -- The events of a node that bootstraps, and the nodes that a beginning and events make.
 use Rattle.std.specs.Prelude.{◌≡◌, ℕ, List, Option, Some, None, Result, Ok}
-use Rattle.snow_base.specs.declared.header.Header.{Header}
+use Rattle.snow_base.specs.declared.block.Header.{Header}
 use Rattle.snow_chain.specs.Model.Chain.{Rules}
 use Rattle.snow_sample.specs.declared.roster.Node.{Node}
 use Rattle.snow_store.specs.declared.stop.BootStop.{BootStop}

@@ -1,7 +1,7 @@
 -- Bootstrapping: its state, and what each event makes of it.
 use Rattle.std.specs.Prelude.{ℕ, Bool, true, false, ◌==◌, ◌&&◌, List, [], ◌∷◌, ◌++◌, map, Option, Some, None, Result, Ok, Err, find, if◌then◌else◌}
 use Rattle.std.specs.Option.{option_map}
-use Rattle.snow_base.specs.declared.header.Header.{Header}
+use Rattle.snow_base.specs.declared.block.Header.{Header}
 use Rattle.snow_base.specs.Model.Numbers.{next_number}
 use Rattle.snow_chain.specs.Model.Chain.{Rules}
 use Rattle.snow_sample.specs.declared.roster.Node.{Node}
@@ -56,17 +56,7 @@ behind lines outcome = (lines ++ outcome.0, outcome.1)
 
 -- the same blocks, targets and requests, another question
 abbrev pub asking : Boot → Question → ℕ → List Candidate → Boot
-asking boot asks number candidates = record {
-  store = boot.store;
-  nodes = boot.nodes;
-  question = asks;
-  number = number;
-  awaited = boot.nodes;
-  candidates = candidates;
-  targets = boot.targets;
-  found = boot.found;
-  requests = boot.requests;
-}
+asking boot asks number candidates = record boot { question = asks; number = number; awaited = boot.nodes; candidates = candidates }
 
 -- all nodes are asked for their frontier
 abbrev pub ask_frontier : Boot → Option ℕ → Outcome
@@ -103,17 +93,7 @@ fetch_of boot = record { store = boot.store; targets = boot.targets; found = boo
 
 -- other blocks and found targets, and other requests
 abbrev pub with_fetch : Boot → Fetch → List Get → Boot
-with_fetch boot f requests = record {
-  store = f.store;
-  nodes = boot.nodes;
-  question = boot.question;
-  number = boot.number;
-  awaited = boot.awaited;
-  candidates = boot.candidates;
-  targets = boot.targets;
-  found = f.found;
-  requests = requests;
-}
+with_fetch boot f requests = record boot { store = f.store; found = f.found; requests = requests }
 
 -- the requests are made
 abbrev pub with_requests : Boot → List Line × Result (List Get × ℕ) BootStop → Outcome
@@ -148,17 +128,7 @@ followed rules state boot drawn = followed_by rules state boot drawn boot.questi
 
 -- the targets are known
 abbrev pub fetching : Boot → List (List ℕ) → Boot
-fetching boot targets = record {
-  store = boot.store;
-  nodes = boot.nodes;
-  question = question.Nothing;
-  number = boot.number;
-  awaited = [];
-  candidates = boot.candidates;
-  targets = targets;
-  found = [];
-  requests = [];
-}
+fetching boot targets = record boot { question = question.Nothing; awaited = []; targets = targets; found = []; requests = [] }
 
 -- the targets, where there is one; else the frontier is asked for again
 abbrev pub with_targets : Rules → List ℕ → Boot → ℕ → List (List ℕ) → Outcome
@@ -178,17 +148,7 @@ all_answered rules state boot drawn question.Nothing = followed rules state boot
 
 -- one node less is awaited, and the candidates are these
 abbrev pub answered : Boot → List ℕ → List Candidate → Boot
-answered boot node candidates = record {
-  store = boot.store;
-  nodes = boot.nodes;
-  question = boot.question;
-  number = boot.number;
-  awaited = still_awaited boot.awaited node;
-  candidates = candidates;
-  targets = boot.targets;
-  found = boot.found;
-  requests = boot.requests;
-}
+answered boot node candidates = record boot { awaited = still_awaited boot.awaited node; candidates = candidates }
 
 -- whether any node's answer is awaited
 abbrev pub or_all : Rules → List ℕ → Boot → ℕ → List Node → Outcome

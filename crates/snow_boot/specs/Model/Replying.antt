@@ -1,6 +1,6 @@
 -- Blocks that come as a reply.
 use Rattle.std.specs.Prelude.{ℕ, List, [], ◌∷◌, Option, Some, None, Result, Ok, Err, bytes_eq, if◌then◌else◌}
-use Rattle.snow_base.specs.declared.header.Header.{Header}
+use Rattle.snow_base.specs.declared.block.Header.{Header}
 use Rattle.snow_store.specs.declared.store.KeptBlock.{KeptBlock}
 use Rattle.snow_store.specs.declared.stop.BootStop.{BootStop}
 use Rattle.snow_store.specs.declared.stop.Verdict.{Verdict}

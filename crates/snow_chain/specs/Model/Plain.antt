@@ -1,7 +1,7 @@
 -- The plain chain: a block is its identifier, its parent, its height, a flag, and any bytes behind. Each state is the empty list.
 use Rattle.std.specs.Prelude.{ℕ, Bool, true, false, ◌&&◌, List, [], ◌∷◌, length, Option, Some, None, is_some, slice_index, nat_le, ◌==◌, if◌then◌else◌}
 use mathlib.Core.Path.{ap}
-use Rattle.snow_base.specs.declared.header.Header.{Header}
+use Rattle.snow_base.specs.declared.block.Header.{Header}
 use Rattle.snow_chain.specs.Model.Chain.{Rules, NeedsHeader}
 use Rattle.snow_chain.specs.Model.Fields.{id_at, number_at}
 

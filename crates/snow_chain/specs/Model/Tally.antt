@@ -3,7 +3,7 @@
 use Rattle.std.specs.Prelude.{ℕ, ◌+◌, Bool, false, List, [], ◌∷◌, length, Option, Some, None, is_some, nat_le, if◌then◌else◌}
 use mathlib.Core.Path.{ap}
 use Rattle.sha2.specs.Sha256.{sha256}
-use Rattle.snow_base.specs.declared.header.Header.{Header}
+use Rattle.snow_base.specs.declared.block.Header.{Header}
 use Rattle.snow_chain.specs.Model.Chain.{Rules, NeedsHeader}
 use Rattle.snow_chain.specs.Model.Fields.{id_at, number_at}
 

@@ -3,8 +3,8 @@ use Rattle.std.specs.Prelude.{◌≡◌, ℕ, ◌+◌, ◌<◌, ◌≤◌, Bool,
 use Rattle.std.specs.Bool.{beq}
 use Rattle.std.specs.List.{position, starts_with}
 use Rattle.std.specs.Option.{option_map}
-use Rattle.snow_base.specs.declared.header.Header.{Header}
-use Rattle.snow_base.specs.declared.vote.Vote.{Vote}
+use Rattle.snow_base.specs.declared.block.Header.{Header}
+use Rattle.snow_base.specs.declared.block.Vote.{Vote}
 use Rattle.snow_base.specs.Model.Identifier.{bits}
 use Rattle.snow_base.specs.Model.Ancestry.{is_below}
 use Rattle.snow_board.specs.declared.cursor.Cursor.{Cursor}

@@ -1,6 +1,6 @@
 -- Votes of a poll, so many of them for one identifier that they stand for all.
 use Rattle.std.specs.Prelude.{◌≡◌, ℕ, ◌+◌, ◌<◌, ◌≤◌, Bool, List, length, bytes_eq}
-use Rattle.snow_base.specs.declared.vote.Vote.{Vote}
+use Rattle.snow_base.specs.declared.block.Vote.{Vote}
 use Rattle.snow_flake.specs.Model.Parameters.{Parameters}
 use Rattle.snow_flake.specs.Laws.Alike.{AreAlike}
 use Rattle.snow_climb.specs.Kept.Starting.{votes_by, ids_by}

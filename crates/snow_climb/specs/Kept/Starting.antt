@@ -1,6 +1,6 @@
 -- The votes of a poll before they climb: some stand past their own blocks already, others wait.
 use Rattle.std.specs.Prelude.{◌≡◌, ℕ, ◌+◌, ◌^◌, ◌<◌, ◌≤◌, Bool, List, length, sum_by, filter_map, All, IsPermutation, if◌then◌else◌}
-use Rattle.snow_base.specs.declared.vote.Vote.{Vote}
+use Rattle.snow_base.specs.declared.block.Vote.{Vote}
 use Rattle.snow_flake.specs.Model.Parameters.{Parameters}
 use Rattle.snow_tree.specs.Kept.Held.{Entry, blocks_in}
 use Rattle.snow_climb.specs.declared.climber.Climber.{Climber}

@@ -1,7 +1,7 @@
 -- A node that decides: what one event makes of it.
 use Rattle.std.specs.Prelude.{ℕ, List, [], length, fold, Option, Some, None, Ok, nat_lt, if◌then◌else◌}
-use Rattle.snow_base.specs.declared.header.Header.{Header}
-use Rattle.snow_base.specs.declared.vote.Vote.{Vote}
+use Rattle.snow_base.specs.declared.block.Header.{Header}
+use Rattle.snow_base.specs.declared.block.Vote.{Vote}
 use Rattle.snow_base.specs.Model.Votes.{added}
 use Rattle.snow_flake.specs.Model.Rule.{Answer}
 use Rattle.snow_board.specs.declared.board.Decision.{Decision}

@@ -1,7 +1,7 @@
 -- Votes that are alike: on every list of identifiers their numbers are of one class.
 use Rattle.std.specs.Prelude.{◌≡◌, ℕ, List, sum_by, bytes_eq, if◌then◌else◌}
 use Rattle.std.specs.List.{list_any}
-use Rattle.snow_base.specs.declared.vote.Vote.{Vote}
+use Rattle.snow_base.specs.declared.block.Vote.{Vote}
 use Rattle.snow_flake.specs.Model.Parameters.{Parameters}
 use Rattle.snow_flake.specs.Model.Counter.{class}
 

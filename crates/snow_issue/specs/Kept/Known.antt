@@ -1,6 +1,6 @@
 -- What the queue remembers of its waiting blocks, and when that is true of a board.
 use Rattle.std.specs.Prelude.{◌≡◌, ℕ, true, false, ◌||◌, List, map, All, Option, Some, None, bytes_eq, if◌then◌else◌}
-use Rattle.snow_base.specs.declared.header.Header.{Header}
+use Rattle.snow_base.specs.declared.block.Header.{Header}
 use Rattle.snow_board.specs.Model.Board.{Board}
 use Rattle.snow_issue.specs.declared.work.Waiting.{Waiting}
 use Rattle.snow_gets.specs.declared.gets.Get.{Get}

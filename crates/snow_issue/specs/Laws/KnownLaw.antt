@@ -1,7 +1,7 @@
 -- What is remembered stays true: laws of issuing a block and of recording a poll.
 use Rattle.std.specs.Prelude.{List}
-use Rattle.snow_base.specs.declared.header.Header.{Header}
-use Rattle.snow_base.specs.declared.vote.Vote.{Vote}
+use Rattle.snow_base.specs.declared.block.Header.{Header}
+use Rattle.snow_base.specs.declared.block.Vote.{Vote}
 use Rattle.snow_board.specs.Model.Board.{Board, issued}
 use Rattle.snow_board.specs.Model.Poll.{poll}
 use Rattle.snow_issue.specs.Kept.Known.{Seen, Knows, ForgetsChildren, NoneRipe}

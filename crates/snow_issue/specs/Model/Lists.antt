@@ -2,7 +2,7 @@
 use Rattle.std.specs.Prelude.{ℕ, ◌+◌, ◌≤◌, Bool, not, ◌&&◌, ◌==◌, List, [], ◌∷◌, ◌++◌, length, filter, bytes_eq, None}
 use Rattle.std.specs.List.{list_any}
 use Rattle.snow_base.specs.declared.limits.TheConstants.{MOST_WAITING, MOST_GETS, MOST_GONE}
-use Rattle.snow_base.specs.declared.header.Header.{Header}
+use Rattle.snow_base.specs.declared.block.Header.{Header}
 use Rattle.snow_issue.specs.declared.work.Waiting.{Waiting}
 use Rattle.snow_gets.specs.declared.gets.Get.{Get}
 use Rattle.snow_gets.specs.Model.Gets.{asked_in, is_get, with_get, without}

@@ -1,7 +1,7 @@
 -- One step of settling: the first of hopeless, ready and vote that applies.
 use Rattle.std.specs.Prelude.{◌≡◌, Bool, not, ◌||◌, List, find, Option, Some, None, is_some, if◌then◌else◌}
 use Rattle.std.specs.Option.{option_map, option_or}
-use Rattle.snow_base.specs.declared.header.Header.{Header}
+use Rattle.snow_base.specs.declared.block.Header.{Header}
 use Rattle.snow_board.specs.Model.Board.{Board}
 use Rattle.snow_issue.specs.declared.work.Waiting.{Waiting}
 use Rattle.snow_gets.specs.declared.gets.Get.{Get}

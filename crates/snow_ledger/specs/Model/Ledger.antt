@@ -3,7 +3,7 @@
 use Rattle.std.specs.Prelude.{◌≡◌, ℕ, ◌+◌, ◌-◌, ◌*◌, ◌/◌, Bool, true, not, ◌&&◌, List, [], ◌∷◌, ◌++◌, length, Option, Some, None, is_some, slice_index, nat_le, nat_lt, ◌==◌, if◌then◌else◌, flat_map}
 use Rattle.std.specs.List.{range_with_len, sum_by}
 use mathlib.Core.Path.{ap}
-use Rattle.snow_base.specs.declared.header.Header.{Header}
+use Rattle.snow_base.specs.declared.block.Header.{Header}
 use Rattle.snow_chain.specs.Model.Chain.{Rules, NeedsHeader, Held, state_of}
 use Rattle.snow_ledger.specs.declared.state.Transfer.{Transfer}
 use Rattle.snow_ledger.specs.Model.Blocks.{header_of, transfers_of}

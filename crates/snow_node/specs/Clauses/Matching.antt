@@ -1,7 +1,7 @@
 -- A board and a chain that belong together, and decisions of which a chain can be told.
 use Rattle.std.specs.Prelude.{◌≡◌, ℕ, Bool, true, false, List, [], ◌∷◌, Option, Some, None, is_some, ⊤}
 use Rattle.snow_board.specs.declared.board.Decision.{Decision}
-use Rattle.snow_base.specs.declared.header.Header.{Header}
+use Rattle.snow_base.specs.declared.block.Header.{Header}
 use Rattle.snow_board.specs.Model.Board.{Board, height_of, issued}
 use Rattle.snow_board.specs.Laws.Reached.{Reached}
 use Rattle.snow_chain.specs.Model.Chain.{Held, state_of, with_state, MayAccept, MayReject}

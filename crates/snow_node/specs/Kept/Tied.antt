@@ -1,7 +1,7 @@
 -- What ties the board, the chain, the polls and the queue of a node that runs.
 use Rattle.std.specs.Prelude.{◌≡◌, ℕ, ◌-◌, ◌^◌, ◌<◌, ◌≤◌, length, false, List, [], ◌∷◌, None}
 use Rattle.snow_base.specs.declared.limits.TheConstants.{MOST_GETS}
-use Rattle.snow_base.specs.declared.header.Header.{Header}
+use Rattle.snow_base.specs.declared.block.Header.{Header}
 use Rattle.snow_flake.specs.Model.Parameters.{Parameters}
 use Rattle.snow_board.specs.Model.Board.{Board, height_of}
 use Rattle.snow_chain.specs.Model.Chain.{Held}

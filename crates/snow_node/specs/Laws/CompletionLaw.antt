@@ -1,6 +1,6 @@
 -- A poll that is closed early leaves the very board that each of its completions would leave.
 use Rattle.std.specs.Prelude.{◌≡◌, List}
-use Rattle.snow_base.specs.declared.vote.Vote.{Vote}
+use Rattle.snow_base.specs.declared.block.Vote.{Vote}
 use Rattle.snow_board.specs.declared.board.Decision.{Decision}
 use Rattle.snow_board.specs.Laws.Alike.{GivesAll}
 use Rattle.snow_board.specs.Model.Board.{Board}

@@ -1,6 +1,6 @@
 -- Polls that are closed leave the table from its front, and their votes are recorded.
 use Rattle.std.specs.Prelude.{ℕ, Bool, true, false, List, fold, length, Option, Some, None, Ok}
-use Rattle.snow_base.specs.declared.vote.Vote.{Vote}
+use Rattle.snow_base.specs.declared.block.Vote.{Vote}
 use Rattle.snow_flake.specs.Model.Rule.{Answer}
 use Rattle.snow_board.specs.declared.board.Decision.{Decision}
 use Rattle.snow_board.specs.Model.Board.{Board}

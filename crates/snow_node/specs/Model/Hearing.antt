@@ -1,7 +1,7 @@
 -- What blocks, votes and timeouts do to a node that runs.
 use Rattle.std.specs.Prelude.{◌≡◌, ℕ, Bool, true, false, not, ◌&&◌, ◌==◌, List, find, Option, Some, None, bytes_eq, if◌then◌else◌}
 use Rattle.std.specs.Option.{option_map}
-use Rattle.snow_base.specs.declared.header.Header.{Header}
+use Rattle.snow_base.specs.declared.block.Header.{Header}
 use Rattle.snow_flake.specs.Model.Rule.{Answer}
 use Rattle.snow_chain.specs.Model.Chain.{Rules}
 use Rattle.snow_lines.specs.declared.line.Line.TheVariants as line

@@ -1,7 +1,7 @@
 -- What stands against a block that is to be issued.
 use Rattle.std.specs.Prelude.{ℕ, ◌+◌, length, Option, Some, None, nat_le, ◌==◌, if◌then◌else◌}
 use Rattle.snow_base.specs.declared.limits.TheConstants.{MOST_PENDING}
-use Rattle.snow_base.specs.declared.header.Header.{Header}
+use Rattle.snow_base.specs.declared.block.Header.{Header}
 use Rattle.snow_board.specs.Model.Board.{Board}
 use Rattle.snow_lines.specs.declared.why.DropWhy.{DropWhy}
 use Rattle.snow_lines.specs.declared.why.DropWhy.TheVariants as why

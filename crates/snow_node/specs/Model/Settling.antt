@@ -1,6 +1,6 @@
 -- Settling: blocks that wait are given up or issued, and held replies vote, until nothing is left to do.
 use Rattle.std.specs.Prelude.{ℕ, ◌+◌, Bool, true, false, List, [], length, Option, Some, None, if◌then◌else◌}
-use Rattle.snow_base.specs.declared.header.Header.{Header}
+use Rattle.snow_base.specs.declared.block.Header.{Header}
 use Rattle.snow_flake.specs.Model.Rule.{Answer}
 use Rattle.snow_board.specs.Model.Board.{height_of, issued}
 use Rattle.snow_board.specs.Model.Preference.{is_preferred}

@@ -1,6 +1,6 @@
 -- What peers are served follows the board: the blocks that are issued, and those that are decided.
 use Rattle.std.specs.Prelude.{◌≡◌, ℕ, Bool, List, map, fold, if◌then◌else◌}
-use Rattle.snow_base.specs.declared.header.Header.{Header}
+use Rattle.snow_base.specs.declared.block.Header.{Header}
 use Rattle.snow_board.specs.declared.board.Decision.{Decision}
 use Rattle.snow_board.specs.Model.Board.{Board, blocks_of}
 use Rattle.snow_getter.specs.declared.served.Served.{Served}

@@ -1,8 +1,7 @@
-ghost use Rattle.std.specs.Prelude.{◌≡◌, Some, None, true, false, IfOk, IfSome};
+ghost use Rattle.std.specs.Prelude.{◌≡◌, Some, true, IfOk, IfSome};
 ghost use Rattle.snow_lines.specs.declared.line.Line.TheVariants as line;
 ghost use Rattle.snow_lines.specs.declared.why.SkipKind.TheVariants as kind;
 ghost use Rattle.snow_issue.specs.declared.work.Waiting.{Waiting as Block};
-ghost use Rattle.snow_issue.specs.Model.Lists.{holds_in};
 ghost use Rattle.snow_node.specs.Model.Hearing as model;
 ghost use Rattle.snow_node.specs.Model.Closing.{closed_out};
 ghost use Rattle.snow_node.specs.Model.Outcome.{then_comes, with_line};

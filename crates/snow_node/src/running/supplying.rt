@@ -1,4 +1,4 @@
-ghost use Rattle.std.specs.Prelude.{◌≡◌, [], Err, IfOk, OnOk, OnErr};
+ghost use Rattle.std.specs.Prelude.{◌≡◌, [], IfOk, OnOk, OnErr};
 ghost use Rattle.snow_board.specs.Model.Board.{issued};
 ghost use Rattle.snow_board.specs.Laws.Reached.{MayIssue};
 ghost use Rattle.snow_chain.specs.Model.Chain.{next_on};

@@ -1,6 +1,6 @@
 -- Where each pending block stands: an index beside the list.
 use Rattle.std.specs.Prelude.{◌≡◌, ℕ, ◌+◌, List, [], ◌∷◌, length, reverse, Option, Some, None, bytes_eq, if◌then◌else◌}
-use Rattle.snow_base.specs.declared.header.Header.{Header}
+use Rattle.snow_base.specs.declared.block.Header.{Header}
 use Rattle.snow_board.specs.Kept.Grown.{IsGrown}
 
 -- the place of an identifier among blocks of which the first has this place

@@ -1,6 +1,6 @@
 -- The completions of a poll: each node without a reply gives any identifier, or none.
 use Rattle.std.specs.Prelude.{◌≡◌, ℕ, ◌+◌, ◌≤◌, true, List, [], ◌∷◌, ◌++◌, Option, Some, None}
-use Rattle.snow_base.specs.declared.vote.Vote.{Vote}
+use Rattle.snow_base.specs.declared.block.Vote.{Vote}
 use Rattle.snow_base.specs.Model.Votes.{total_count}
 use Rattle.snow_flake.specs.Laws.Alike.{AreAlike}
 use Rattle.snow_flake.specs.Model.Parameters.{Parameters, AreGood}

@@ -1,7 +1,7 @@
 -- How what is missed is known from one block to the next.
 use Rattle.std.specs.Prelude.{◌≡◌, ℕ, true, List, Option, Ok}
 use Rattle.std.specs.BTreeMap.{BTreeMap}
-use Rattle.snow_base.specs.declared.header.Header.{Header}
+use Rattle.snow_base.specs.declared.block.Header.{Header}
 use Rattle.snow_store.specs.declared.needs.Due.{Due}
 use Rattle.snow_store.specs.declared.stop.Verdict.{Verdict}
 use Rattle.snow_store.specs.Kept.Indexing.{Shelf}

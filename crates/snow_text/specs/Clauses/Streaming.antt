@@ -4,7 +4,7 @@ use Rattle.std.specs.List.{flat_map}
 use Rattle.std.specs.Io.KnownBytes.{Appends, Consumes}
 use Rattle.snow_base.specs.Clauses.Outside.{AppendsFront, Rose}
 use Rattle.snow_wire.specs.Model.Frame.{first_of, frames_of}
-use Rattle.snow_text.specs.declared.form.BlockForm.{BlockForm}
+use Rattle.snow_text.specs.declared.showing.blocks.BlockForm.{BlockForm}
 use Rattle.snow_text.specs.declared.showing.streaming.ShowEnd.{ShowEnd}
 use Rattle.snow_text.specs.declared.showing.streaming.ShowEnd.TheVariants as end
 use Rattle.snow_text.specs.Model.Shown.{shown_frame}

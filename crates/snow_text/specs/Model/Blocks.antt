@@ -3,8 +3,8 @@ use Rattle.std.specs.Prelude.{ℕ, zero, suc, ◌-◌, ◌/◌, Bool, false, if�
 use Rattle.std.specs.List.{join_with_byte}
 use Rattle.std.specs.Str.{bytes_eq}
 use Rattle.byteorder.specs.Endian.{big_number}
-use Rattle.snow_text.specs.declared.form.BlockForm.{BlockForm}
-use Rattle.snow_text.specs.declared.form.BlockForm.TheVariants as form
+use Rattle.snow_text.specs.declared.showing.blocks.BlockForm.{BlockForm}
+use Rattle.snow_text.specs.declared.showing.blocks.BlockForm.TheVariants as form
 use Rattle.snow_text.specs.Model.Words.{Word, Halt}
 use Rattle.snow_text.specs.Model.Bytes.{bytes_text, fixed_text}
 use Rattle.snow_text.specs.Model.Events.{block_of}

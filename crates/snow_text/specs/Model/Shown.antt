@@ -11,7 +11,7 @@ use Rattle.snow_wire.specs.Model.Spelling.{flag}
 use Rattle.snow_text.specs.Model.Words.{Word, Halt, parts, words_of}
 use Rattle.snow_text.specs.Model.Names.{Names}
 use Rattle.snow_text.specs.Model.Bytes.{runs_of, bytes_text, fixed_text}
-use Rattle.snow_text.specs.declared.form.BlockForm.{BlockForm}
+use Rattle.snow_text.specs.declared.showing.blocks.BlockForm.{BlockForm}
 use Rattle.snow_text.specs.Model.Blocks.{block_line, block_words}
 use Rattle.snow_text.specs.Model.Lines.{line_words}
 use Rattle.snow_text.specs.Model.Made.{Said, Frame, Name, Nothing, Rest, names_behind, say_words}

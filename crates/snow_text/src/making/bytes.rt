@@ -1,4 +1,4 @@
-ghost use Rattle.std.specs.Prelude.{◌≡◌, ◌≤◌, ◌^◌, ◌∷◌};
+ghost use Rattle.std.specs.Prelude.{◌≤◌, ◌^◌, ◌∷◌};
 ghost use Rattle.snow_text.specs.Model.Words.{parts};
 ghost use Rattle.snow_text.specs.Model.Bytes.{bytes_word, digits_word, fixed_word, number_below, number_word, piece_of, piece_word};
 ghost use Rattle.snow_text.specs.Clauses.Making.{Tells, filled, onto, repeated, sized_as};

@@ -1,10 +1,10 @@
-ghost use Rattle.std.specs.Prelude.{◌≡◌, ◌≤◌, [], OnOk};
+ghost use Rattle.std.specs.Prelude.{◌≡◌, [], OnOk};
 ghost use Rattle.std.specs.Option.{option_map};
 ghost use Rattle.snow_text.specs.declared.making.chain.Chain.TheVariants as shape;
 ghost use Rattle.snow_text.specs.Model.Words.{all, all_of, ended};
 ghost use Rattle.snow_text.specs.Model.Names.{Names as Blocks};
 ghost use Rattle.snow_text.specs.Model.Bytes.{bytes_of, part_word};
-ghost use Rattle.snow_text.specs.Model.Events.{behind, block_of, chain_of, first_word, ledger, list_field, plain, tally, transfer_word};
+ghost use Rattle.snow_text.specs.Model.Events.{behind, block_of, chain_of, first_word};
 ghost use Rattle.snow_text.specs.Clauses.Making.{Reads, ahead, onto};
 ghost use Rattle.snow_text.specs.Clauses.Blocks.{chain_in, fields_in, is_dot};
 

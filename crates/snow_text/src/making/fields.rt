@@ -1,4 +1,4 @@
-ghost use Rattle.std.specs.Prelude.{◌≡◌, ◌≤◌, ◌^◌};
+ghost use Rattle.std.specs.Prelude.{◌≤◌, ◌^◌};
 ghost use Rattle.snow_text.specs.Model.Words.{one};
 ghost use Rattle.snow_text.specs.Model.Bytes.{item_word, number_word};
 ghost use Rattle.snow_text.specs.Model.Events.{list_field};

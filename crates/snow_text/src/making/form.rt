@@ -1,4 +1,4 @@
-ghost use Rattle.std.specs.Prelude.{◌≡◌, ℕ, None, List, Option, Result, find};
+ghost use Rattle.std.specs.Prelude.{◌≡◌, ℕ, None, List, Result, find};
 ghost use Rattle.std.specs.Str.{bytes_eq};
 ghost use Rattle.snow_text.specs.Model.Words.{Halt, Word};
 ghost use Rattle.snow_text.specs.Model.Names.{Names as Blocks};

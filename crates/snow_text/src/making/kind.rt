@@ -1,4 +1,4 @@
-ghost use Rattle.std.specs.Prelude.{◌≡◌, List, [], find, map};
+ghost use Rattle.std.specs.Prelude.{◌≡◌, List, find, map};
 ghost use Rattle.std.specs.Option.{option_map};
 ghost use Rattle.std.specs.Str.{bytes_eq};
 ghost use Rattle.snow_text.specs.Model.Lines.{kinds_in, kinds_of, later_kinds, next_kind};

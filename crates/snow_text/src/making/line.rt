@@ -1,5 +1,5 @@
-ghost use Rattle.std.specs.Prelude.{◌≡◌, ◌≤◌, ◌^◌, ◌∷◌, ◌++◌, [], map};
-ghost use Rattle.snow_text.specs.Model.Bytes.{item_word, part_word};
+ghost use Rattle.std.specs.Prelude.{◌≤◌, ◌^◌, ◌∷◌, ◌++◌, [], map};
+ghost use Rattle.snow_text.specs.Model.Bytes.{item_word};
 ghost use Rattle.snow_text.specs.Model.Events.{text_of};
 ghost use Rattle.snow_text.specs.Model.Lines.{Block, Draw, digits, line_of, long_as, long_words};
 ghost use Rattle.snow_text.specs.Clauses.Making.{Reads, Tells, onto};

@@ -1,4 +1,4 @@
-ghost use Rattle.std.specs.Prelude.{◌≡◌, ◌+◌, ◌-◌, ◌^◌, ◌<◌, ◌≤◌, OnOk};
+ghost use Rattle.std.specs.Prelude.{◌≡◌, ◌+◌, ◌-◌, ◌^◌, ◌<◌, OnOk};
 ghost use Rattle.snow_text.specs.Clauses.Texts.{LineSteps, LineTakes, begun_lines, passed};
 
 use crate::making::maker::{MakeStop, Maker};

@@ -1,4 +1,4 @@
-ghost use Rattle.std.specs.Prelude.{◌≡◌, ◌+◌, ◌<◌, ◌≤◌, ◌^◌, [], ◌++◌, length, take, drop, OnOk, OnErr, Err};
+ghost use Rattle.std.specs.Prelude.{◌≡◌, ◌+◌, ◌<◌, ◌≤◌, [], ◌++◌, length, take, drop, OnOk, OnErr, Err};
 ghost use Rattle.snow_wire.specs.Model.Spelling.{number};
 ghost use Rattle.snow_text.specs.declared.refusal.Reason.TheVariants.{Many};
 ghost use Rattle.snow_text.specs.Model.Words.{all_of, each, parts};

@@ -1,4 +1,4 @@
-ghost use Rattle.std.specs.Prelude.{◌≡◌, ℕ, ◌+◌, ◌==◌, List, [], drop, Option};
+ghost use Rattle.std.specs.Prelude.{◌≡◌, ℕ, List, [], drop};
 ghost use Rattle.std.specs.Option.{option_map};
 ghost use Rattle.snow_text.specs.Model.Words.{parts};
 ghost use Rattle.snow_text.specs.Clauses.Cutting.{IsCut, IsHalved, first};

@@ -1,4 +1,3 @@
-ghost use Rattle.std.specs.Prelude.{◌≡◌};
 ghost use Rattle.snow_text.specs.Model.Words.{one};
 ghost use Rattle.snow_text.specs.Model.Events.{nodes_field, payload_of, sent, tagged};
 ghost use Rattle.snow_text.specs.declared.making.items.Item.TheVariants as item;

@@ -1,8 +1,7 @@
 ghost use Rattle.std.specs.Prelude.{◌≡◌, List, [], ◌∷◌, ◌++◌, ℕ, Err, OnOk, OnErr, Result, codes};
-ghost use Rattle.std.specs.Str.{bytes_eq};
 ghost use Rattle.snow_text.specs.declared.refusal.Reason.{Reason};
 ghost use Rattle.snow_text.specs.declared.making.stop.Stop.TheVariants.{Memory};
-ghost use Rattle.snow_text.specs.Model.Words.{Word, ◌&◌, one, parts};
+ghost use Rattle.snow_text.specs.Model.Words.{Word, one, parts};
 ghost use Rattle.snow_text.specs.Model.Bytes.{item_word, number_word};
 ghost use Rattle.snow_text.specs.Model.Events.{if_some, is_named, start_field, value_word};
 ghost use Rattle.snow_text.specs.Clauses.Making.{Reads, Tells, ahead, onto};

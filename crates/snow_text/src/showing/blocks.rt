@@ -1,17 +1,31 @@
 //! The words of blocks.
 
 ghost use Rattle.std.specs.Prelude.{◌≡◌, ◌≤◌, ◌/◌, [], ◌∷◌, length};
-ghost use Rattle.snow_text.specs.declared.form.BlockForm.TheVariants as form;
+ghost use Rattle.snow_text.specs.declared.showing.blocks.BlockForm.TheVariants as form;
 ghost use Rattle.snow_text.specs.Model.Blocks.{behind_words, block_line, transfer_text, transfer_texts, words_in};
 ghost use Rattle.snow_text.specs.Model.Shown.{line};
 ghost use Rattle.snow_text.specs.Clauses.Putting.{Puts};
 ghost use Rattle.snow_text.specs.Kept.Listing.{is_ledger, led, plain_fields, tally_fields};
 
-use crate::form::BlockForm;
 use crate::showing::bytes::{put_bytes, put_fixed_word};
 use crate::showing::put::{put, put_marked_number};
 use byteorder::{BigEndian, ByteOrder};
 use std::alloc::AllocError;
+
+/// How the bytes of blocks are shown: as they are, or in the words of a chain where these spell the
+/// very bytes.
+/// Rule: this project's own.
+#[derive(Clone, Copy, Debug, PartialEq, Eq)]
+pub enum BlockForm {
+    /// As they are.
+    Bytes,
+    /// In the words of the plain chain.
+    Plain,
+    /// In the words of the tally chain.
+    Tally,
+    /// In the words of the ledger chain.
+    Ledger,
+}
 
 /// Puts the bytes behind the fields of a block behind a text, with a space before them, if there
 /// are any.

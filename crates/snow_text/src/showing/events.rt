@@ -10,7 +10,7 @@ ghost use Rattle.snow_text.specs.Model.Shown.{event_words, is_line, line, sent_w
 ghost use Rattle.snow_text.specs.Clauses.Putting.{Puts};
 ghost use Rattle.snow_text.specs.Kept.Listing.{first_numbers, last_fields, led, more_fields, sender_text};
 
-use crate::form::BlockForm;
+use crate::showing::BlockForm;
 use crate::showing::blocks::put_block;
 use crate::showing::bytes::{put_fixed, put_fixed_word};
 use crate::showing::lists::{put_ids, put_nodes, put_numbers};

@@ -1,12 +1,11 @@
 //! The lines of frames.
 
-ghost use Rattle.std.specs.Prelude.{◌≡◌, ◌<◌, false, [], ◌∷◌, ◌++◌, length, OnErr, OnOk};
+ghost use Rattle.std.specs.Prelude.{◌≡◌, false, [], ◌∷◌, ◌++◌, OnErr, OnOk};
 ghost use Rattle.snow_wire.specs.Clauses.Viewed.{as_event};
-ghost use Rattle.snow_wire.specs.Model.Reading.{event_of};
 ghost use Rattle.snow_text.specs.Model.Shown.{event_words, frame_words, is_line, line, shown_frame};
 ghost use Rattle.snow_text.specs.Clauses.Putting.{Puts};
 
-use crate::form::BlockForm;
+use crate::showing::BlockForm;
 use crate::showing::bytes::put_bytes;
 use crate::showing::events::put_event;
 use crate::showing::lines::put_written;

@@ -7,14 +7,11 @@ ghost use Rattle.snow_wire.specs.Clauses.Stream.{fresh};
 ghost use Rattle.snow_text.specs.Model.Shown.{shown, shown_frame, shown_rest};
 ghost use Rattle.snow_text.specs.Clauses.Streaming.{Broke, Filled, HasFault, ShowsAll, ShowsOne, SinkFails, WritesText};
 
-use crate::form::BlockForm;
-use crate::showing::{show_frame, show_rest};
+use crate::showing::{BlockForm, show_frame, show_rest};
+use snow_base::limits::INPUT_BYTES;
 use snow_base::{Sink, Source, write_whole};
 use snow_wire::{Decoder, ReadFault};
 use std::alloc::Global;
-
-/// The most bytes of a stream that are taken: 2^40.
-const LIMIT: u64 = 1_099_511_627_776;
 
 /// How showing a stream ends.
 /// Rule: this project's own.
@@ -82,7 +79,7 @@ impl Shower {
         ensures source_later { S.faults source.old ≤ S.faults source.new }
         ensures sink_later { O.faults sink.old ≤ O.faults sink.new }
     {
-        let mut room = LIMIT;
+        let mut room = INPUT_BYTES;
         while room > 0 {
             let taken = match self.decoder.read_from(source, room) {
                 Ok(taken) => taken,

@@ -1,6 +1,6 @@
 -- What a climb over the pending blocks leaves.
 use Rattle.std.specs.Prelude.{◌≡◌, ℕ, ◌+◌, ◌<◌, ◌≤◌, List, length, map}
-use Rattle.snow_base.specs.declared.vote.Vote.{Vote}
+use Rattle.snow_base.specs.declared.block.Vote.{Vote}
 use Rattle.snow_flake.specs.Model.Parameters.{Parameters}
 use Rattle.snow_tree.specs.Kept.Held.{Held, blocks_in}
 use Rattle.snow_climb.specs.Kept.Climbing.{cursors_of, ArePlaced}

@@ -1,6 +1,6 @@
 -- The pending blocks after a block was issued: its parent has one child more.
 use Rattle.std.specs.Prelude.{List, ℕ, map, bytes_eq, if◌then◌else◌}
-use Rattle.snow_base.specs.declared.header.Header.{Header}
+use Rattle.snow_base.specs.declared.block.Header.{Header}
 use Rattle.snow_flake.specs.Model.Parameters.{Parameters}
 use Rattle.snow_tree.specs.Kept.Held.{Entry, Held}
 use Rattle.snow_topo.specs.Kept.Children.{Kept, gained}

@@ -1,7 +1,7 @@
 -- How many children the parents have that record a poll: those whose children get at least AlphaPreference votes.
 use Rattle.std.specs.Prelude.{ℕ, ◌+◌, nat_le, List, [], length, sum_by, if◌then◌else◌}
-use Rattle.snow_base.specs.declared.header.Header.{Header}
-use Rattle.snow_base.specs.declared.vote.Vote.{Vote}
+use Rattle.snow_base.specs.declared.block.Header.{Header}
+use Rattle.snow_base.specs.declared.block.Vote.{Vote}
 use Rattle.snow_base.specs.Model.Ancestry.{votes_below}
 use Rattle.snow_flake.specs.Model.Parameters.{Parameters}
 use Rattle.snow_tree.specs.Kept.Held.{children_of}

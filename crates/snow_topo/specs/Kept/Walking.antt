@@ -1,7 +1,7 @@
 -- What a walk by the answers needs of the tree of pending blocks.
 use Rattle.std.specs.Prelude.{ℕ, List, All, Option, Some, bytes_eq, if◌then◌else◌}
 use Rattle.std.specs.Option.{option_map}
-use Rattle.snow_base.specs.declared.header.Header.{Header}
+use Rattle.snow_base.specs.declared.block.Header.{Header}
 use Rattle.snow_base.specs.Clauses.Gathered.{IsNamed}
 use Rattle.snow_tree.specs.Kept.Held.{Held, entry_in}
 use Rattle.snow_topo.specs.Kept.Children.{Kept}

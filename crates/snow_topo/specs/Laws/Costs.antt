@@ -1,7 +1,7 @@
 -- How many steps polls take at most, and what they leave.
 use Rattle.std.specs.Prelude.{ℕ, ◌+◌, ◌*◌, nat_lt, List, [], ◌∷◌, sum_by, if◌then◌else◌}
 use Rattle.snow_base.specs.Model.Votes.{Votes}
-use Rattle.snow_base.specs.declared.vote.Vote.{Vote}
+use Rattle.snow_base.specs.declared.block.Vote.{Vote}
 use Rattle.snow_board.specs.Model.Board.{Board, blocks_of, is_pending}
 use Rattle.snow_board.specs.Model.Poll.{poll}
 use Rattle.snow_board.specs.Clauses.Shown.{Shown}

@@ -1,6 +1,6 @@
 -- The pending blocks as they are kept: a map of nodes in order of issue, by identifier.
 use Rattle.std.specs.Prelude.{◌≡◌, ℕ, ◌≤◌, ◌-◌, not, ◌&&◌, List, ◌∷◌, ◌++◌, [], length, take, map, filter, reverse, All, bytes_eq, if◌then◌else◌}
-use Rattle.snow_base.specs.declared.header.Header.{Header}
+use Rattle.snow_base.specs.declared.block.Header.{Header}
 use Rattle.snow_base.specs.Model.Ancestry.{descends}
 use Rattle.snow_board.specs.Kept.Grown.{IsGrown}
 use Rattle.snow_tree.specs.declared.node.Node.{Node}

@@ -1,6 +1,6 @@
 -- What a poll, a restamping and a narrowing of votes make, as facts on what was and what is.
 use Rattle.std.specs.Prelude.{◌≡◌, ℕ, ◌+◌, Bool, List, ◌++◌, All, Contains}
-use Rattle.snow_base.specs.declared.vote.Vote.{Vote}
+use Rattle.snow_base.specs.declared.block.Vote.{Vote}
 use Rattle.snow_base.specs.Model.Identifier.{AgreeFrom}
 use Rattle.snow_base.specs.Kept.Split.{AgreeBelow}
 use Rattle.snow_base.specs.Model.Votes.{IsInBitOrder}

@@ -1,6 +1,6 @@
 -- The preference is one of the identifiers that were given.
 use Rattle.std.proofs.Common.{rules, [], All, Contains}
-use Rattle.snow_base.specs.declared.vote.Vote.{Vote}
+use Rattle.snow_base.specs.declared.block.Vote.{Vote}
 use Rattle.snow_board.proofs.Given.{given_added}
 use Rattle.benches.proofs.tries.for_preference.Goals as goal
 

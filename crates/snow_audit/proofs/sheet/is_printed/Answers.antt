@@ -1,5 +1,5 @@
 -- There is a last byte, or none.
-use Rattle.std.proofs.Common.{◌≡◌, ℕ, List, [], ◌∷◌, ◌++◌, bytes_eq, sym, ap, ◌∙◌}
+use Rattle.std.proofs.Common.{[], ◌∷◌, ◌++◌, bytes_eq, sym, ap, ◌∙◌}
 use Rattle.std.proofs.lemmas.List.{nil_from_length}
 use Rattle.snow_audit.proofs.Printed.{none_right}
 use Rattle.snow_audit.proofs.sheet.is_printed.Goals as goal

@@ -1,5 +1,5 @@
 use Rattle.std.proofs.Common.{◌-◌, ◌∷◌, [], ◌++◌, sym, ap, ◌∙◌, arith}
-use Rattle.snow_base.specs.declared.vote.Vote.{Vote}
+use Rattle.snow_base.specs.declared.block.Vote.{Vote}
 use Rattle.snow_base.proofs.Adding.{added_first, added_last}
 use Rattle.snow_base.proofs.bag.count_in.Goals as goal
 

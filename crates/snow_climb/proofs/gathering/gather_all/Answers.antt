@@ -1,7 +1,7 @@
 use Rattle.std.proofs.Common.{◌≡◌, ℕ, ◌-◌, ◌<◌, ◌≤◌, List, [], ◌∷◌, length, get_or, sym, subst, ◌∙◌, arith}
 use Rattle.snow_board.proofs.Gathered.{ok_then}
 use Rattle.snow_tree.specs.Kept.Held.{Entry}
-use Rattle.snow_base.specs.declared.vote.Vote.{Vote}
+use Rattle.snow_base.specs.declared.block.Vote.{Vote}
 use Rattle.snow_climb.specs.declared.ladder.Link.{Link}
 use Rattle.snow_climb.specs.Kept.Ladder.{no_link, chain, AreLinked}
 use Rattle.snow_climb.proofs.Chains.{chain_next, next_falls}

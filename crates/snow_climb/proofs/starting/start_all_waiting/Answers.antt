@@ -1,6 +1,6 @@
 use Rattle.std.proofs.Common.{◌+◌, ap, ◌∙◌, drop, arith}
 use Rattle.std.proofs.lemmas.List.Sums.{sum_by_more, sum_by_more_le, sum_by-take-le}
-use Rattle.snow_base.specs.declared.vote.Vote.{Vote}
+use Rattle.snow_base.specs.declared.block.Vote.{Vote}
 use Rattle.snow_climb.specs.Kept.Starting.{votes_by}
 use Rattle.snow_climb.proofs.Started.{next_waits, all_started}
 use Rattle.snow_climb.proofs.starting.start_all_waiting.Goals as goal

@@ -1,6 +1,6 @@
 use Rattle.std.proofs.Common.{◌≡◌, ◌≤◌, ℕ, [], ◌∷◌, Option, Some, IfSome, List, length, bytes_eq, subst, ap, arith}
 use Rattle.std.proofs.lemmas.List.Sums.{sum_by-cons}
-use Rattle.snow_base.specs.declared.vote.Vote.{Vote}
+use Rattle.snow_base.specs.declared.block.Vote.{Vote}
 use Rattle.snow_base.specs.Clauses.Gathered.{one_each}
 use Rattle.snow_base.specs.Model.Votes.{total_count}
 use Rattle.snow_flake.specs.Model.Parameters.{Parameters}

@@ -1,5 +1,5 @@
 use Rattle.std.proofs.Common.{List, sym, ◌∙◌, subst, arith}
-use Rattle.snow_base.specs.declared.vote.Vote.{Vote}
+use Rattle.snow_base.specs.declared.block.Vote.{Vote}
 use Rattle.snow_plain.specs.Kept.Alone.{AreFor}
 use Rattle.snow_plain.proofs.Alone.{one_for, only_vote}
 use Rattle.snow_plain.proofs.only_child.count_for.Goals as goal

@@ -1,6 +1,6 @@
 -- The votes at the place that was found, or none.
 use Rattle.std.proofs.Common.{sym, ap, ◌∙◌}
-use Rattle.snow_base.specs.declared.vote.Vote.{Vote}
+use Rattle.snow_base.specs.declared.block.Vote.{Vote}
 use Rattle.snow_poll.proofs.Counting.{count_there, count_none}
 use Rattle.snow_poll.proofs.tally.count_of.Goals as goal
 

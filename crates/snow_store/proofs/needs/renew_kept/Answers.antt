@@ -1,5 +1,5 @@
 -- Whoever missed the block misses what its run misses, and its target what is missed below its highest block.
-use Rattle.std.proofs.Common.{◌≡◌, true, false, sym, ◌∙◌}
+use Rattle.std.proofs.Common.{◌≡◌, sym, ◌∙◌}
 use Rattle.snow_store.specs.Model.Paths.{has_id, missed}
 use Rattle.snow_store.specs.Kept.Renewing.{fetch_by}
 use Rattle.snow_store.proofs.Cases.{clash}

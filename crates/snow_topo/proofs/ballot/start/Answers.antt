@@ -1,5 +1,4 @@
-use Rattle.std.proofs.Common.{◌≡◌, ◌≤◌, length, sym, ap, subst, ◌∙◌, arith}
-use Rattle.snow_base.specs.Clauses.Gathered.{one_each}
+use Rattle.std.proofs.Common.{◌≡◌, sym, ap, subst, ◌∙◌, arith}
 use Rattle.snow_base.specs.Model.Votes.{total_count}
 use Rattle.snow_climb.specs.Kept.Majority.{StandFor}
 use Rattle.snow_climb.proofs.Majorities.{all_for_all}

@@ -1,5 +1,5 @@
 use Rattle.std.proofs.Common.{◌≡◌, ◌+◌, ◌*◌, ◌<◌, ◌≤◌, false, List, drop, length}
-use Rattle.snow_base.specs.declared.vote.Vote.{Vote}
+use Rattle.snow_base.specs.declared.block.Vote.{Vote}
 use Rattle.snow_tree.specs.Kept.Held.{blocks_in}
 use Rattle.snow_climb.specs.Kept.Climbing.{cursors_of, ArePlaced}
 use Rattle.snow_climb.specs.Kept.Rising.{AreClimbing}

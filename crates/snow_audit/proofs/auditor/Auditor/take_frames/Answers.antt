@@ -1,5 +1,5 @@
 -- One frame more, none any more, or the answer.
-use Rattle.std.proofs.Common.{◌≡◌, Ok, refl, sym, ap, ◌∙◌, le_trans}
+use Rattle.std.proofs.Common.{◌∙◌, le_trans}
 use Rattle.std.proofs.lemmas.Result.{err_from_is_err_and}
 use Rattle.snow_engine.specs.Model.Run.{after_frame}
 use Rattle.snow_engine.specs.declared.engine.Task.TheVariants as task

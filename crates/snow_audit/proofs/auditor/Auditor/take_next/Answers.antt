@@ -1,5 +1,5 @@
 -- A frame was taken, or a length came that no frame has.
-use Rattle.std.proofs.Common.{◌≡◌, ap}
+use Rattle.std.proofs.Common.{ap}
 use Rattle.std.proofs.lemmas.Result.{err_from_is_err_and}
 use Rattle.snow_wire.specs.declared.frame.TooLong.{TooLong}
 use Rattle.snow_engine.specs.Model.Run.{after_frame}

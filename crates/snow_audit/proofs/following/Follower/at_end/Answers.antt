@@ -1,6 +1,5 @@
 -- Lines are owed, or none.
-use Rattle.std.proofs.Common.{sym, ap, ◌∙◌}
-use Rattle.snow_audit.specs.Kept.Following.{at_end, between, owed_of}
+use Rattle.snow_audit.specs.Kept.Following.{between}
 use Rattle.snow_audit.proofs.Owing.{owing_end}
 use Rattle.snow_audit.proofs.following.Follower.at_end.Goals as goal
 

@@ -1,5 +1,5 @@
 -- The run stopped.
-use Rattle.std.proofs.Common.{◌≡◌, ℕ, ◌+◌, [], List, Option, Err, subst}
+use Rattle.std.proofs.Common.{◌+◌, [], List, Option, Err, subst}
 use Rattle.snow_lines.specs.declared.line.Line.{Line}
 use Rattle.snow_lines.specs.declared.why.SkipKind.{SkipKind}
 use Rattle.snow_engine.specs.Model.Run.{Stand, after_frame}

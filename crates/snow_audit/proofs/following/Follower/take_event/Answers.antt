@@ -1,5 +1,5 @@
 -- A line is owed.
-use Rattle.std.proofs.Common.{◌≡◌, Err, refl, sym, subst}
+use Rattle.std.proofs.Common.{Err, refl, sym, subst}
 use Rattle.snow_engine.specs.Model.Run.{after_frame}
 use Rattle.snow_engine.specs.declared.engine.Task.TheVariants as task
 use Rattle.snow_audit.specs.declared.auditing.AuditEnd.{AuditEnd}

@@ -1,6 +1,6 @@
 -- Bytes of no block are passed over, and a block that wasn't asked for too; any other is brought.
 use Rattle.std.proofs.Common.{Bool, cond, Option, sym, subst, ◌∙◌}
-use Rattle.snow_base.specs.declared.header.Header.{Header}
+use Rattle.snow_base.specs.declared.block.Header.{Header}
 use Rattle.snow_issue.specs.declared.work.Waiting.{Waiting}
 use Rattle.snow_node.specs.Model.Outcome.{quietly, then_comes}
 use Rattle.snow_node.specs.Model.Hearing.{brought, read_as}

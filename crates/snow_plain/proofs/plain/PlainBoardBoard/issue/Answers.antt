@@ -4,7 +4,7 @@ use Rattle.snow_board.specs.Model.Board.{Board, issued, height_of}
 use Rattle.snow_board.specs.Clauses.Shown.{Shown}
 use Rattle.snow_board.specs.Kept.Ending.{has_pending_child}
 use Rattle.snow_board.proofs.Ended.{leading_issued}
-use Rattle.snow_base.specs.declared.header.Header.{Header}
+use Rattle.snow_base.specs.declared.block.Header.{Header}
 use Rattle.snow_plain.proofs.plain.PlainBoardBoard.issue.Goals as goal
 
 pub invariant_of-self-2 : goal.invariant_of-self-2

@@ -2,7 +2,7 @@ use Rattle.std.proofs.Common.{◌≡◌, ◌<◌, List, All, map, bytes_eq, sym,
 use Rattle.std.specs.Vec.{with_items}
 use Rattle.std.specs.HashMap.{get, hash_map_len}
 use Rattle.std.proofs.lemmas.List.{with_items_is}
-use Rattle.snow_base.specs.declared.header.Header.{Header}
+use Rattle.snow_base.specs.declared.block.Header.{Header}
 use Rattle.snow_board.specs.declared.cursor.Cursor.{Cursor}
 use Rattle.snow_board.specs.Model.Conflict.{Pending}
 use Rattle.snow_board.specs.Model.Conflict.{Counters, all_polled}

@@ -1,5 +1,5 @@
 use Rattle.std.proofs.Common.{sym, ap, ◌∙◌, arith}
-use Rattle.snow_text.specs.declared.form.BlockForm.TheVariants as form
+use Rattle.snow_text.specs.declared.showing.blocks.BlockForm.TheVariants as form
 use Rattle.snow_text.specs.Model.Bytes.{bytes_text}
 use Rattle.snow_text.specs.Model.Blocks.{words_in}
 use Rattle.snow_text.specs.Model.Shown.{line}

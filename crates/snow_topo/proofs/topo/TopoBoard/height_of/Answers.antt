@@ -1,6 +1,6 @@
 use Rattle.std.proofs.Common.{◌≡◌, false, bytes_eq, sym, ap, ◌∙◌}
 use Rattle.std.specs.Option.{option_map}
-use Rattle.snow_base.specs.declared.header.Header.{Header}
+use Rattle.snow_base.specs.declared.block.Header.{Header}
 use Rattle.snow_topo.proofs.Endings.{height_seen}
 use Rattle.snow_topo.proofs.topo.TopoBoard.height_of.Goals as goal
 

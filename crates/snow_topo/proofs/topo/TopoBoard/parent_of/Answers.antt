@@ -1,6 +1,6 @@
 use Rattle.std.proofs.Common.{sym, ap, ◌∙◌}
 use Rattle.std.specs.Option.{option_map}
-use Rattle.snow_base.specs.declared.header.Header.{Header}
+use Rattle.snow_base.specs.declared.block.Header.{Header}
 use Rattle.snow_topo.proofs.Endings.{header_seen}
 use Rattle.snow_topo.proofs.topo.TopoBoard.parent_of.Goals as goal
 

@@ -7,7 +7,6 @@ use Rattle.snow_tree.proofs.Descending.{last_off}
 use Rattle.snow_tree.proofs.Linked.{kept_back, all_but_last}
 use Rattle.snow_tree.proofs.Seen.{fewer_off, seen_changed, last_seen}
 use Rattle.snow_tree.proofs.tree.Tree.take_back.Goals as goal
-use Rattle.snow_tree.proofs.tree.Tree.take_back.Goals.{After-drop-node}
 
 pub unlink-requires : goal.unlink-requires
 unlink-requires g c =

@@ -1,5 +1,5 @@
 use Rattle.std.proofs.Common.{◌∷◌, ◌+◌, ◌≤◌, All, Contains, refl, sym, ap, subst, ◌∙◌, arith}
-use Rattle.snow_base.specs.declared.vote.Vote.{Vote}
+use Rattle.snow_base.specs.declared.block.Vote.{Vote}
 use Rattle.snow_base.specs.Model.Votes.{total_count}
 use Rattle.snow_trie.specs.Kept.Tree.{tree_of}
 use Rattle.snow_trie.specs.Kept.Whole.{Compressed}

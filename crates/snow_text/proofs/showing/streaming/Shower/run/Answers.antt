@@ -4,7 +4,7 @@ use Rattle.std.proofs.lemmas.List.{length-append}
 use Rattle.snow_base.specs.Clauses.Outside.{AppendsFront}
 use Rattle.snow_wire.specs.Clauses.Stream.{Intake}
 use Rattle.snow_wire.specs.Model.Frame.{frames_of}
-use Rattle.snow_text.specs.declared.form.BlockForm.{BlockForm}
+use Rattle.snow_text.specs.declared.showing.blocks.BlockForm.{BlockForm}
 use Rattle.snow_text.specs.declared.showing.streaming.ShowEnd.TheVariants as end
 use Rattle.snow_text.specs.Model.Shown.{shown}
 use Rattle.snow_text.specs.Clauses.Streaming.{Passes, WritesText, lines_of}

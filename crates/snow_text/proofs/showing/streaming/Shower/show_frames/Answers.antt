@@ -1,6 +1,6 @@
 use Rattle.std.proofs.Common.{◌∙◌, le_trans, subst}
 use Rattle.std.proofs.lemmas.Result.{err_from_is_err_and}
-use Rattle.snow_text.specs.declared.form.BlockForm.{BlockForm}
+use Rattle.snow_text.specs.declared.showing.blocks.BlockForm.{BlockForm}
 use Rattle.snow_text.specs.Clauses.Streaming.{Breaks, TakesFirst}
 use Rattle.snow_text.proofs.Streamed.{breaks_all, passes_one, passes_then}
 use Rattle.snow_text.proofs.showing.streaming.Shower.show_frames.Goals as goal

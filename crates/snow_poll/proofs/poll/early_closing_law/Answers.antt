@@ -1,6 +1,6 @@
 -- The law.
 use Rattle.snow_poll.proofs.Closing.{closed_stands}
-use Rattle.snow_poll.proofs.laws.early_closing_law.Goals as goal
+use Rattle.snow_poll.proofs.poll.early_closing_law.Goals as goal
 
 pub returns : goal.returns
 returns c = closed_stands
