@@ -6,7 +6,7 @@ use Rattle.std.specs.Map.{keys_of}
 use Rattle.std.specs.Option.{option_map}
 use Rattle.std.proofs.lemmas.List.{map-append, reverse-append}
 use Rattle.std.proofs.lemmas.Option.{none-some, same_Some}
-use Rattle.snow_base.specs.declared.header.Header.{Header}
+use Rattle.snow_base.specs.declared.block.Header.{Header}
 use Rattle.snow_board.specs.Kept.Grown.{has_block, IsGrown}
 use Rattle.snow_board.proofs.Cases.{split_on, clash, id_same, differs_back}
 use Rattle.snow_board.proofs.Grown.{grown_before, grown_parent, has_block-reverse}
