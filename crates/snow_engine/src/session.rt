@@ -120,8 +120,8 @@ impl<C: Chain, B: Board> Session<C, B> {
     }
 
     /// Works all whole frames that the decoder holds, and writes their lines. Nothing waits to be
-    /// written before, nor behind. Where the run ends it returns `Over`, and the runner's `end`
-    /// tells how. At most 2^40 bytes came.
+    /// written before, nor behind. Where a frame ends the run it returns how. At most 2^40 bytes
+    /// came.
     /// Rule: this project's own.
     pub fn work_all<O: Sink>(&mut self, out: &mut O) -> Result<(), End>
         requires small { 4 * self.old.decoder.given + length self.old.decoder.rest ≤ 2 ^ 40 }
