@@ -70,7 +70,7 @@ impl From<BoxedStop> for EngineStop {
     }
 }
 
-/// How a run ended, in a box where it may be large.
+/// How a run ended, in a box where it may be large. `End::from` returns the end.
 /// Rule: this project's own.
 #[derive(Drop)]
 pub struct BoxedEnd {
