@@ -176,15 +176,15 @@ chosen_failed answer p (At (Undecided s) z o) good =
     let ones = chosen_failed answer p o good in
     rw (fails p (Undecided s) good) (λ i. if answer s.preference s.flake then true ∷ ones i else false ∷ zeros i)
 
--- a poll that restamps nothing, takes nothing off and leaves the tree leading where it led leaves the counters leading where they led
+-- a poll that restamps nothing and leaves the tree leading where it led leaves the counters leading where they led, whatever it decides
 pub still_chosen : (answer : Answer) (ids : List (List ℕ)) (p : Parameters) (polls before decided : ℕ) (leader : List ℕ) (votes rest : List Vote) (t t1 t2 : Tree) → ((b : Bool) → answer b b ≡ b)
-    → IsTaken ids p polls before decided leader votes rest t t1 t2 → (peeled decided t2).0 ≡ decided → t1 ≡ t → preferred answer t2 ≡ preferred answer t1
+    → IsTaken ids p polls before decided leader votes rest t t1 t2 → t1 ≡ t → preferred answer t2 ≡ preferred answer t1
     → chosen answer (whole (before + 1) (peeled decided t2).0 (next_leader leader decided (peeled decided t2).0 (peeled decided t2).1) (peeled decided t2).1) ≡ chosen answer (whole polls decided leader t)
-still_chosen answer ids p polls before decided leader votes rest t t1 t2 law h none kept steady =
-    let left = (left_over ids p polls before decided leader votes rest t t1 t2 h).same none in
+still_chosen answer ids p polls before decided leader votes rest t t1 t2 law h kept steady =
+    let left = (left_over ids p polls before decided leader votes rest t t1 t2 h).preferred answer in
     chosen_whole answer ids (before + 1) (peeled decided t2).0 (next_leader leader decided (peeled decided t2).0 (peeled decided t2).1) (peeled decided t2).1 law
     (whole_polled ids p polls before decided leader votes rest t t1 t2 h)
-    ∙ ap bits (ap (preferred answer) left ∙ steady ∙ ap (preferred answer) kept)
+    ∙ ap bits (left ∙ steady ∙ ap (preferred answer) kept)
     ∙ sym (chosen_whole answer ids polls decided leader t law h.was)
 
 -- a list of one that has an element is that one's

@@ -3,6 +3,7 @@ use Rattle.std.proofs.Common.{◌≡◌, inl, inr, ℕ, ◌+◌, ◌<◌, ◌≤
 use Rattle.std.proofs.lemmas.Bool.{cases_lt}
 use Rattle.snow_base.specs.Model.Identifier.{bit, AgreeFrom}
 use Rattle.snow_flake.specs.Model.Counter.{Decided}
+use Rattle.snow_flake.specs.Model.Rule.{Answer, answer_of}
 use Rattle.snow_flake.specs.Kept.Instance.{Instance, at_bit, counter_of}
 use Rattle.snow_board.specs.Model.Conflict.{Counters}
 use Rattle.snow_board.proofs.Cases.{split_on}
@@ -13,7 +14,7 @@ use Rattle.snow_trie.specs.Kept.Tree.{Tree, Tip, Line, Two}
 use Rattle.snow_trie.specs.Kept.Stamped.{between, linked, strand, pruned, counters}
 use Rattle.snow_trie.specs.Kept.Outline.{outline, size, Leads, IsLeaf, IsSorted}
 use Rattle.snow_trie.specs.Kept.Shape.{IsPlaced, IsStamped, IsOpenFirst}
-use Rattle.snow_trie.specs.Kept.Peeling.{peeled, first_leaf}
+use Rattle.snow_trie.specs.Kept.Peeling.{peeled, preferred, first_leaf}
 use Rattle.snow_trie.proofs.Strands.{between_split, between_none, between_first, between_same, strand-append, strand_same}
 
 -- what is left of a tree
@@ -28,7 +29,7 @@ pub record IsPeeled (from : ℕ) (t : Tree) (to : ℕ) (rest : Tree) : Type 0 wh
   pub agree : (x y : List ℕ) → IsLeaf (outline to rest) x → IsLeaf (outline to rest) y → AgreeFrom from to x y
   pub leads : (x y : List ℕ) → IsLeaf (outline to rest) x → AgreeFrom from to x y → Leads (outline from t) y → Leads (outline to rest) y
   pub counters : (now : ℕ) (x : List ℕ) → IsLeaf (outline to rest) x → counters now from t ≡ strand (between x from to) Decided (counters now to rest)
-  pub same : to ≡ from → rest ≡ t
+  pub preferred : (answer : Answer) → preferred answer rest ≡ preferred answer t
 
 -- where nothing is taken off
 stops : (from : ℕ) (t : Tree) → IsPlaced from t → IsSorted (outline from t) → IsOpenFirst t → IsPeeled from t from t
@@ -43,7 +44,7 @@ stops from t placed sorted first = record {
   agree = λ x y p q k low high. absurd (omega arith);
   leads = λ x y leaf agree leads. leads;
   counters = λ now x leaf. ap (λ l. strand l Decided (counters now from t)) (sym (between_none x from from (omega arith)));
-  same = λ e. refl;
+  preferred = λ answer. refl;
 }
 
 -- two that agree up to a place and from there on agree
@@ -78,13 +79,24 @@ past_line from run below to rest less small sorted final h =
           ap (λ l. strand l Decided (counters now to rest)) (between_split x from run.to to (omega arith) later)
           ∙ strand-append (between x from run.to) (between x run.to to) Decided (counters now to rest)
           );
-      same = λ e. absurd (omega arith);
+      preferred = h.preferred;
     }
 
 -- a decided counter leaves one side
 one_side : (b : Bool) (z o : Counters) → pruned (Decided b) z o ≡ linked b (Decided b) (if b then o else z)
 one_side true z o = refl
 one_side false z o = refl
+
+-- what one of two trees leads to
+side_of : (answer : Answer) (z o : Tree) (b : Bool) → (if b then preferred answer o else preferred answer z) ≡ preferred answer (if b then o else z)
+side_of answer z o true = refl
+side_of answer z o false = refl
+
+-- a decided binary node leads to the side of its flake
+decided_side : (answer : Answer) (fork : Fork) (z o : Tree) (b : Bool) → fork.counter.final ≡ true → fork.counter.standing.flake ≡ b
+    → preferred answer (Two fork z o) ≡ preferred answer (if b then o else z)
+decided_side answer fork z o b final flake =
+    ap (λ c. if answer_of answer c then preferred answer o else preferred answer z) (final_counter 0 fork.seen fork.counter final ∙ ap Decided flake) ∙ side_of answer z o b
 
 -- a decided binary node is taken off, with the side that lost
 past_fork : (from : ℕ) (fork : Fork) (z o : Tree) (to : ℕ) (rest : Tree) → from < 256 → IsSorted (outline from (Two fork z o))
@@ -117,7 +129,7 @@ past_fork from fork z o to rest small sorted final b flake fewer stamps leaves l
           ∙ ap (linked b (Decided b)) (chosen now ∙ h.counters now x leaf)
           ∙ ap (λ d. linked d (Decided d) (strand (between x (from + 1) to) Decided (counters now to rest))) (sym (has x leaf))
           ∙ ap (λ l. strand l Decided (counters now to rest)) (sym (between_first x from to (omega arith)));
-      same = λ e. absurd (omega arith);
+      preferred = λ answer. h.preferred answer ∙ sym (decided_side answer fork z o b final flake);
     }
 
 -- what is so on both sides of a test

@@ -55,12 +55,12 @@ impl<R: Rule> Model for Trie<R> {
     ghost invariant = { λ a. IsWhole (a.first ∷ a.more.items) a.polls a.decided a.leader (tree_of a.root) };
 }
 
-// Whether a poll may lead elsewhere: where it moved a counter that leads, began the stamps anew, or took
-// nodes off.
-fn has_moved(moved: bool, before: u64, polls: u64, from: u16, decided: u16) -> bool
-    ensures { result ≡ false → (moved ≡ false) × (before ≡ polls) × (from ≡ decided) }
+// Whether a poll may lead elsewhere: where it moved a counter that leads, or began the stamps anew. Nodes
+// that it takes off are decided, and led to what is left.
+fn has_moved(moved: bool, before: u64, polls: u64) -> bool
+    ensures { result ≡ false → (moved ≡ false) × (before ≡ polls) }
 {
-    moved || before != polls || from != decided
+    moved || before != polls
 }
 
 impl<R: Rule> Trie<R> {
@@ -181,7 +181,7 @@ impl<R: Rule> Trie<R> {
             steps,
         );
         let from = peel(&mut self.root, &mut self.leader, self.decided);
-        let is_elsewhere = has_moved(moved, before, self.polls, from, self.decided);
+        let is_elsewhere = has_moved(moved, before, self.polls);
         self.polls = before + 1;
         self.decided = from;
         is_elsewhere

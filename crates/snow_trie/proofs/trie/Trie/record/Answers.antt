@@ -81,7 +81,7 @@ returns-clause-steady g c =
     (still_chosen g.R.Rule.answer (inside.first ∷ inside.more.items) inside.params inside.polls c.ready-before.result inside.decided inside.leader c.args.votes.now c.narrowed-votes.result.now
     (tree_of inside.root) (tree_of c.ready-before.new.root) (tree_of c.poll-moved.new.root) g.met.R.Rule.agrees
     (record { good = c.k-k.ensures.good; was = c.self.invariant; restamped = c.ready-before.ensures.tree; narrowed = narrow; polled = c.poll-moved.ensures.tree; most = most })
-    (sym c.peel-from.ensures.from ∙ stays.2) (c.ready-before.ensures.kept stays.1) (c.poll-moved.ensures.steady stays.0))
+    (c.ready-before.ensures.kept stays.1) (c.poll-moved.ensures.steady stays.0))
 
 pub returns-then-count-alpha_preference-clause-counters : goal.returns-then-count-alpha_preference-clause-counters
 returns-then-count-alpha_preference-clause-counters g c =
