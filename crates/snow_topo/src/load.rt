@@ -44,7 +44,7 @@ impl<R: Rule> Model for Load<R> {
 }
 
 // A tree takes a poll with these votes, after it has failed where it didn't record the last poll. The
-// answer is false only where it leads where it led, as a tree of one child does whatever comes.
+// answer is false only where it leads where it led.
 fn catch_up<R: Rule, L: Ledger>(
     trie: &mut Trie<R>,
     is_behind: bool,
@@ -61,13 +61,10 @@ fn catch_up<R: Rule, L: Ledger>(
     ensures steps { steps.new ≤ steps.old + 1 + (trie.old).nodes }
     ensures steady { result ≡ false → chosen R.answer (trie.new).counters ≡ chosen R.answer (trie.old).counters }
 {
-    let choices = trie.choices();
     if is_behind {
         trie.fail(steps);
     }
-    let moved = trie.record(votes, steps);
-    let _choices = trie.choices();
-    if choices == 1 { false } else { moved }
+    trie.record(votes, steps)
 }
 
 // The tree of one child, in the place of another where there is one.
