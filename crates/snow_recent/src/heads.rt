@@ -7,7 +7,7 @@ use std::alloc::{AllocError, Global};
 use std::marker::Model;
 
 // How many seats there are.
-const SEATS: usize = 32_768;
+const SEATS: usize = 65_536;
 
 /// Maps each seat to the number of the entry of that seat that came last. Contracts see the
 /// numbers.
@@ -23,7 +23,7 @@ impl Model for Heads {
 
     ghost view = { λ a. a.numbers.items };
 
-    ghost invariant = { λ a. length a.numbers.items ≡ 32768 };
+    ghost invariant = { λ a. length a.numbers.items ≡ 65536 };
 }
 
 impl Heads {
@@ -52,7 +52,7 @@ impl Heads {
 /// Returns the seat of an identifier.
 pub(crate) fn seat_of(id: &Id) -> usize
     ensures seat { result ≡ seat_of id.now }
-    ensures there { result < 32768 }
+    ensures there { result < 65536 }
 {
     snow_map::seat_of(id) % SEATS
 }

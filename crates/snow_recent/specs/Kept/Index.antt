@@ -51,7 +51,7 @@ filed id (n ∷ numbers) number =
 
 -- the seat of an identifier
 abbrev pub seat_of : List ℕ → ℕ
-seat_of id = seat_among 32768 id
+seat_of id = seat_among 65536 id
 
 -- the place of the entry whose number stands at a seat
 abbrev pub head_of : ℕ → List ℕ → ℕ → ℕ
