@@ -1,4 +1,4 @@
-ghost use Rattle.std.specs.Prelude.{◌≡◌, ℕ, ◌+◌, ◌≤◌, List, ◌++◌, [], IfSome, length, reverse, slice_get, bytes_eq, Some, vec_len, vec_capacity};
+ghost use Rattle.std.specs.Prelude.{◌≡◌, ℕ, ◌+◌, ◌<◌, ◌≤◌, List, ◌++◌, [], IfSome, length, reverse, slice_get, bytes_eq, Some, vec_len, vec_capacity};
 ghost use Rattle.std.specs.List.{remove};
 ghost use Rattle.std.specs.Map.{lookup};
 ghost use Rattle.std.specs.Option.{option_map};
@@ -6,7 +6,7 @@ ghost use Rattle.snow_board.specs.Kept.Grown.{IsGrown};
 ghost use Rattle.snow_tree.specs.declared.node.Node.{Node};
 ghost use Rattle.snow_tree.specs.Kept.Held.{children_of};
 ghost use Rattle.snow_tree.specs.Kept.Nodes.{IsTakenOver, blocks_of, left, outsiders};
-ghost use Rattle.snow_tree.specs.Kept.Row.{IsFront, staying, leaving};
+ghost use Rattle.snow_tree.specs.Kept.Row.{EndsBefore, IsFront, staying, leaving};
 
 use crate::children::Children;
 use crate::node::Node;
@@ -34,10 +34,12 @@ fn take_first<T: Drop>(nodes: &mut Row<T>, children: &mut Children, load: &mut T
 }
 
 // How many nodes in front are sure to stay once the child at a place is out. Where it was issued first, all
-// before its first brother descend from it. Else a brother stands in front.
+// before its first brother descend from it. Else a brother stands in front. So where there is a brother, the
+// first one is the next node.
 fn before_brothers<T>(nodes: &Row<T>, place: usize, children: &Children) -> usize
     requires { (last : List ℕ) × IsGrown last (reverse (blocks_of nodes.now.entries)) × (children.now ≡ children_of (blocks_of nodes.now.entries) last) }
-    ensures { (e : List ℕ × Node T) → slice_get nodes.now.entries place ≡ Some e → IsFront e.1.number result (remove nodes.now.entries place) }
+    ensures front { (e : List ℕ × Node T) → slice_get nodes.now.entries place ≡ Some e → IsFront e.1.number result (remove nodes.now.entries place) }
+    ensures brother { 1 < length children.now → EndsBefore children.now result (remove nodes.now.entries place) }
 {
     let _len = nodes.len();
     if place != 0 {

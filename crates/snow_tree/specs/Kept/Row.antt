@@ -1,5 +1,5 @@
 -- Nodes in order of issue. A node has a number, which is higher than those of all that were issued before and never changes, and the number of its parent.
-use Rattle.std.specs.Prelude.{⊤, ◌≡◌, ℕ, zero, suc, ◌<◌, ◌≤◌, Bool, false, ◌==◌, ◌&&◌, ◌||◌, nat_eq, if◌then◌else◌, List, [], ◌∷◌, ◌++◌, length, take, map, find, Option, None, Some, bytes_eq, slice_get}
+use Rattle.std.specs.Prelude.{⊤, ◌≡◌, ℕ, zero, suc, ◌<◌, ◌≤◌, Bool, true, false, ◌==◌, ◌&&◌, ◌||◌, nat_eq, if◌then◌else◌, List, [], ◌∷◌, ◌++◌, length, take, map, find, Option, None, Some, bytes_eq, slice_get}
 use Rattle.std.specs.List.{AllByRecursion, list_any, position}
 use Rattle.std.specs.Option.{option_map, option_map_or}
 use Rattle.snow_tree.specs.Kept.Hints.{hint_of, slot_of}
@@ -111,3 +111,7 @@ module _ {T : Type 0} where
   pub record IsFront (number from : ℕ) (nodes : List (List ℕ × Node T)) : Type 0 where
     pub most : from ≤ length nodes
     pub none : leaving number [] (take from nodes) ≡ []
+
+  -- the first so many end right before one of these: the next node has one of these identifiers
+  abbrev pub EndsBefore : List (List ℕ) → ℕ → List (List ℕ × Node T) → Type 0
+  EndsBefore ids from nodes = option_map (λ e. list_any (bytes_eq e.0) ids) (slice_get nodes from) ≡ Some true
