@@ -1,5 +1,5 @@
 //! Compares bytes many at a time.
-ghost use Rattle.std.specs.Prelude.{◌≡◌, ℕ, ◌+◌, ◌-◌, ◌<◌, ◌≤◌, length, bytes_eq, slice_index};
+ghost use Rattle.std.specs.Prelude.{◌≡◌, ◌+◌, ◌-◌, ◌≤◌, length, bytes_eq, slice_index};
 ghost use Rattle.std.specs.Cmp.Lexicographic.{slice_cmp};
 ghost use Rattle.std.specs.Ordering.{nat_cmp};
 ghost use Rattle.snow_base.specs.Kept.Words.{eight_from, high_first};
@@ -22,30 +22,16 @@ pub(crate) fn are_equal(a: &[u8], b: &[u8]) -> bool
     same
 }
 
-// Order by bytes: the first one that differs decides. Most differ in their first eight.
-#[inline]
+// Order by bytes: the first one that differs decides. It compares eight at a time; the last eight may
+// have been looked at in part.
+#[inline(always)]
 pub(crate) fn order(a: &[u8], b: &[u8]) -> Ordering
     requires same { length a.now ≡ length b.now }
     requires long { 8 ≤ length a.now }
     ensures { result ≡ slice_cmp nat_cmp a.now b.now }
 {
-    let (x, y) = (high_word(a, 0), high_word(b, 0));
-    if x != y {
-        return x.cmp(&y);
-    }
-    order_past(a, b)
-}
-
-// The order behind the first eight, which agree. The last eight may have been looked at in part.
-#[inline(never)]
-fn order_past(a: &[u8], b: &[u8]) -> Ordering
-    requires same { length a.now ≡ length b.now }
-    requires long { 8 ≤ length a.now }
-    requires agree { (k : ℕ) → k < 8 → slice_index a.now k ≡ slice_index b.now k }
-    ensures { result ≡ slice_cmp nat_cmp a.now b.now }
-{
     let last = a.len() - 8;
-    for at in 1..a.len().div_ceil(8) {
+    for at in 0..a.len().div_ceil(8) {
         let from = last.min(8 * at);
         let (x, y) = (high_word(a, from), high_word(b, from));
         if x != y {

@@ -1,5 +1,5 @@
 -- Lemmas on the nodes that are awaited: which entry of a node counts, and what an entry more and a reply leave.
-use Rattle.std.proofs.Common.{◌≡◌, ℕ, zero, suc, ◌+◌, ◌-◌, ◌/◌, ◌^◌, ◌<◌, ◌≤◌, Bool, true, false, not, cond, if◌then◌else◌, List, [], ◌∷◌, ◌++◌, length, get_or, set, map, replicate, bytes_eq, is_some, Option, None, Some, refl, sym, ap, ◌∙◌, arith, inl, inr}
+use Rattle.std.proofs.Common.{◌≡◌, ℕ, zero, suc, ◌+◌, ◌-◌, ◌/◌, ◌^◌, ◌<◌, ◌≤◌, Bool, true, false, not, cond, if◌then◌else◌, List, [], ◌∷◌, ◌++◌, length, get_or, set, map, replicate, bytes_eq, bit_xor, is_some, Option, None, Some, refl, sym, ap, ◌∙◌, arith, inl, inr}
 use Rattle.std.specs.BTreeMap.{BTreeMap, get}
 use Rattle.std.specs.Cmp.Lexicographic.{slice_cmp}
 use Rattle.std.specs.Option.{unwrap_or}
@@ -43,7 +43,7 @@ waits_none mask lasts none =
 -- each node has a class
 pub within_classes : (mask : ℕ) (waits : List Wait) (lasts : List ℕ) (node : List ℕ) → AreWaits mask waits lasts → class_of mask node < length lasts
 within_classes mask waits lasts node are =
-    omega (arith, are.classes, and_le_r (spread_of node / 2 ^ 48) mask)
+    omega (arith, are.classes, and_le_r (bit_xor (spread_of node / 2 ^ 48) (spread_of node / 2 ^ 54)) mask)
 
 -- an entry more
 pub waits_more : (mask : ℕ) (waits : List Wait) (lasts : List ℕ) (w : Wait) → AreWaits mask waits lasts → w.before ≡ get_or lasts (class_of mask w.node) 0

@@ -239,11 +239,13 @@ fn rank_after(waits: &[Wait], number: u32) -> u8 {
     }
 }
 
-// The class of a node.
+// The class of a node: by its spread bytes' highest bits, of which the lowest alone would miss a number
+// in the last bytes of an end.
 fn class(node: &NodeId, mask: u64) -> usize
     ensures { result ≡ class_of mask node.now }
 {
-    (spread(node) >> 48 & mask) as usize
+    let spread = spread(node);
+    ((spread >> 48 ^ spread >> 54) & mask) as usize
 }
 
 // A node's first eight bytes and its last eight, which may count nodes, spread by a product. They are

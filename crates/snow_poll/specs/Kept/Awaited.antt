@@ -34,9 +34,9 @@ word_at from bytes =
 unfoldable pub spread_of : List ℕ → ℕ
 spread_of node = bit_xor (word_at 0 node) (word_at 12 node) * 11400714819323198485 % 2 ^ 64
 
--- the class of a node
+-- the class of a node, by the highest bits of its spread bytes
 abbrev pub class_of : ℕ → List ℕ → ℕ
-class_of mask node = bit_and (spread_of node / 2 ^ 48) mask
+class_of mask node = bit_and (bit_xor (spread_of node / 2 ^ 48) (spread_of node / 2 ^ 54)) mask
 
 -- the entries are chained in the classes of their nodes, of which there is one more than the mask
 pub record AreWaits (mask : ℕ) (waits : List Wait) (lasts : List ℕ) : Type 0 where

@@ -1,5 +1,5 @@
 use Rattle.std.proofs.Common.{◌≡◌, ℕ, ◌*◌, ◌<◌, length, get_or}
-use Rattle.snow_base.proofs.comparing.order_past.Given as goal
+use Rattle.snow_base.proofs.comparing.order.Given as goal
 
 -- the bytes so far agree
 abbrev pub invariant-loop-at : goal.invariant-loop-at
