@@ -3,12 +3,12 @@ use Rattle.std.proofs.Common.{◌≡◌, ℕ, ◌+◌, ◌-◌, ◌<◌, ◌==�
 use Rattle.std.specs.List.{onto_first}
 use Rattle.std.proofs.lemmas.Bool.{false≢true}
 use Rattle.std.proofs.lemmas.List.Splits.{slice_split-cons_yes, slice_split-cons_no}
-use Rattle.snow_text.specs.Model.Words.{Word, column_of, is_word, parts}
+use Rattle.snow_text_model.specs.Model.Words.{Word, column_of, is_word, parts}
 use Rattle.snow_text.specs.Clauses.Columns.{span}
-use Rattle.snow_text.specs.Clauses.Cutting.{first}
-use Rattle.snow_text.proofs.Cutting.{taken_shorter}
-use Rattle.snow_text.proofs.Pieces.{word_if}
-use Rattle.snow_text.proofs.Saying.{some_parts}
+use Rattle.snow_words.specs.Clauses.Cutting.{first}
+use Rattle.snow_words.proofs.Cutting.{taken_shorter}
+use Rattle.snow_text_model.proofs.Pieces.{word_if}
+use Rattle.snow_words.proofs.Saying.{some_parts}
 
 span_first : (x : ℕ) (ps : List Word) → 0 < length ps → span (onto_first x ps) ≡ span ps + 1
 span_first x [] h = absurd (omega (arith, h))

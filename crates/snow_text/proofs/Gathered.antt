@@ -1,16 +1,16 @@
 -- The lines of a text, taken one by one as its pieces come.
 use Rattle.std.proofs.Common.{◌≡◌, ℕ, ◌+◌, ◌==◌, Bool, true, false, List, [], ◌∷◌, ◌++◌, length, Result, Ok, Err, if◌then◌else◌, refl, sym, ap, ◌∙◌, append_assoc, append-nil}
 use Rattle.snow_wire.specs.Model.Frame.{frame}
-use Rattle.snow_text.specs.declared.refusal.Reason.TheVariants as reason
-use Rattle.snow_text.specs.declared.refusal.Refusal.{Refusal}
-use Rattle.snow_text.specs.declared.making.maker.MakeStop.{MakeStop}
-use Rattle.snow_text.specs.declared.making.maker.MakeStop.TheVariants as make
-use Rattle.snow_text.specs.Model.Words.{◌>>=◌, words_of}
-use Rattle.snow_text.specs.Model.Names.{Names}
-use Rattle.snow_text.specs.Model.Made.{Said, Nothing, Name, Frame, Rest, joined, made_from, names_behind, none_say, refusal, say_line}
+use Rattle.snow_text_model.specs.declared.refusal.Reason.TheVariants as reason
+use Rattle.snow_text_model.specs.declared.refusal.Refusal.{Refusal}
+use Rattle.snow_text.specs.declared.maker.MakeStop.{MakeStop}
+use Rattle.snow_text.specs.declared.maker.MakeStop.TheVariants as make
+use Rattle.snow_text_model.specs.Model.Words.{◌>>=◌, words_of}
+use Rattle.snow_text_model.specs.Model.Names.{Names}
+use Rattle.snow_text_model.specs.Model.Made.{Said, Nothing, Name, Frame, Rest, joined, made_from, names_behind, none_say, refusal, say_line}
 use Rattle.snow_text.specs.Clauses.Columns.{halt_at}
-use Rattle.snow_text.specs.Clauses.Making.{onto}
-use Rattle.snow_text.specs.Clauses.Meaning.{LineMade, bytes_said, is_rest}
+use Rattle.snow_words.specs.Clauses.Making.{onto}
+use Rattle.snow_text.specs.Clauses.Maker.{LineMade, bytes_said, is_rest}
 use Rattle.snow_text.specs.Clauses.Texts.{LineTakes, lines_say, passed}
 
 -- ---- a line

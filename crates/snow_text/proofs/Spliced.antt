@@ -1,14 +1,14 @@
 -- Pieces of a text, cut anywhere.
 use Rattle.std.proofs.Common.{◌≡◌, ℕ, ◌+◌, ◌<◌, ◌==◌, Bool, true, false, cond, List, [], ◌∷◌, ◌++◌, length, Result, Ok, Err, refl, sym, ap, ◌∙◌, append_assoc, append-nil, arith}
 use Rattle.std.specs.List.{onto_first}
-use Rattle.snow_text.specs.declared.making.maker.MakeStop.{MakeStop}
-use Rattle.snow_text.specs.declared.making.maker.MakeStop.TheVariants as make
-use Rattle.snow_text.specs.Model.Words.{parts}
-use Rattle.snow_text.specs.Model.Made.{made_from, none_say}
-use Rattle.snow_text.specs.Clauses.Making.{onto}
+use Rattle.snow_text.specs.declared.maker.MakeStop.{MakeStop}
+use Rattle.snow_text.specs.declared.maker.MakeStop.TheVariants as make
+use Rattle.snow_text_model.specs.Model.Words.{parts}
+use Rattle.snow_text_model.specs.Model.Made.{made_from, none_say}
+use Rattle.snow_words.specs.Clauses.Making.{onto}
 use Rattle.snow_text.specs.Clauses.Texts.{EndSteps, LineSteps, Lining, PieceSteps, Standing, TextEnds, glued, lines_say, means, says}
 use Rattle.snow_text.specs.Kept.Pieces.{Taking}
-use Rattle.snow_text.proofs.Saying.{some_parts}
+use Rattle.snow_words.proofs.Saying.{some_parts}
 
 -- parts, of which the last and the first of the others are one
 abbrev spliced : List (List ℕ) → List (List ℕ) → List (List ℕ)

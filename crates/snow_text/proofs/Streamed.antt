@@ -9,10 +9,10 @@ use Rattle.snow_wire.specs.Model.Frame.{first_of, frames_of, is_too_long}
 use Rattle.snow_wire.specs.Clauses.Stream.{Intake, taken}
 use Rattle.snow_wire.proofs.Pieces.{ahead, gave_all, goes_on, pieces, taken_none, taken_one}
 use Rattle.snow_wire.proofs.Streams.{behind_shorter, frames_front, long_first, off_front}
-use Rattle.snow_text.specs.declared.showing.blocks.BlockForm.{BlockForm}
-use Rattle.snow_text.specs.declared.showing.streaming.ShowEnd.{ShowEnd}
-use Rattle.snow_text.specs.declared.showing.streaming.ShowEnd.TheVariants as end
-use Rattle.snow_text.specs.Model.Shown.{shown, shown_frame, shown_rest}
+use Rattle.snow_text_model.specs.declared.block_form.BlockForm.{BlockForm}
+use Rattle.snow_text.specs.declared.streaming.ShowEnd.{ShowEnd}
+use Rattle.snow_text.specs.declared.streaming.ShowEnd.TheVariants as end
+use Rattle.snow_text_model.specs.Model.Shown.{shown, shown_frame, shown_rest}
 use Rattle.snow_text.specs.Clauses.Streaming.{Breaks, Broke, EndFails, Filled, FindsNone, HasFault, Passes, TakesFirst, WritesText, lines_of}
 
 -- lines of frames, and of frames behind them

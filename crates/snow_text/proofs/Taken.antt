@@ -3,12 +3,12 @@ use Rattle.std.proofs.Common.{◌≡◌, ℕ, ◌+◌, ◌-◌, ◌^◌, ◌≤�
 use Rattle.std.specs.Io.KnownBytes.{Consumes, IsAtEnd}
 use Rattle.std.proofs.lemmas.List.{take-append-le, length-append}
 use borrow.Rule.Slice.PartMut.{put_mid, post_of}
-use Rattle.snow_text.specs.declared.making.maker.MakeStop.{MakeStop}
-use Rattle.snow_text.specs.declared.making.maker.MakeStop.TheVariants as make
-use Rattle.snow_text.specs.declared.making.whole.MakeEnd.TheVariants as end
-use Rattle.snow_text.specs.Model.Words.{parts}
-use Rattle.snow_text.specs.Model.Made.{made, made_from}
-use Rattle.snow_text.specs.Clauses.Making.{onto}
+use Rattle.snow_text.specs.declared.maker.MakeStop.{MakeStop}
+use Rattle.snow_text.specs.declared.maker.MakeStop.TheVariants as make
+use Rattle.snow_text.specs.declared.whole.MakeEnd.TheVariants as end
+use Rattle.snow_text_model.specs.Model.Words.{parts}
+use Rattle.snow_text_model.specs.Model.Made.{made, made_from}
+use Rattle.snow_words.specs.Clauses.Making.{onto}
 use Rattle.snow_text.specs.Clauses.Texts.{PieceSteps, Standing, TextEnds, begun, means}
 use Rattle.snow_text.specs.Clauses.Whole.{Reads, end_at}
 use Rattle.snow_text.specs.Kept.Pieces.{IsOn}

@@ -1,4 +1,2 @@
 -- What the code keeps while it works.
-pub mod Listing
-pub mod Shortening
 pub mod Pieces

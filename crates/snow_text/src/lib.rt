@@ -1,12 +1,15 @@
 //! Streams as text: a line a frame, and back.
 #![tactic(auto)]
 
-mod laws;
-mod making;
-mod refusal;
-mod showing;
+mod lines;
+mod maker;
+mod refusing;
+mod streaming;
+mod text;
+mod whole;
 
-pub use laws::{one_by_one, one_form, one_text, own_words};
-pub use making::{MakeEnd, MakeStop, Maker, make};
-pub use refusal::{Reason, Refusal};
-pub use showing::{BlockForm, ShowEnd, show, show_frame, show_rest};
+pub use maker::{MakeStop, Maker};
+pub use snow_show::{show_frame, show_rest};
+pub use snow_text_model::{BlockForm, Reason, Refusal, one_by_one, one_form, one_text, own_words};
+pub use streaming::{ShowEnd, show};
+pub use whole::{MakeEnd, make};

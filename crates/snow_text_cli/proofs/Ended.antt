@@ -2,12 +2,12 @@
 use Rattle.std.proofs.Common.{◌≡◌, ℕ, ◌^◌, ◌≤◌, length, List, [], Option, Some, None, IfSome, refl, sym, ap, subst, ◌∙◌, append-nil}
 use Rattle.std.specs.Io.KnownBytes.{Appends}
 use Rattle.snow_base.specs.Clauses.Outside.{AppendsFront}
-use Rattle.snow_text.specs.declared.making.whole.MakeEnd.{MakeEnd}
-use Rattle.snow_text.specs.declared.making.whole.MakeEnd.TheVariants as made
+use Rattle.snow_text.specs.declared.whole.MakeEnd.{MakeEnd}
+use Rattle.snow_text.specs.declared.whole.MakeEnd.TheVariants as made
 use Rattle.snow_text.specs.Clauses.Whole as making
-use Rattle.snow_text.specs.Model.Made as model
-use Rattle.snow_text.specs.declared.showing.streaming.ShowEnd.{ShowEnd}
-use Rattle.snow_text.specs.declared.showing.streaming.ShowEnd.TheVariants as shown
+use Rattle.snow_text_model.specs.Model.Made as model
+use Rattle.snow_text.specs.declared.streaming.ShowEnd.{ShowEnd}
+use Rattle.snow_text.specs.declared.streaming.ShowEnd.TheVariants as shown
 use Rattle.snow_text.specs.Clauses.Streaming as showing
 use Rattle.snow_text_cli.specs.Clauses.Ends.{finish_of_make, finish_of_show}
 use Rattle.snow_text_cli.specs.declared.status.Status.TheVariants as status

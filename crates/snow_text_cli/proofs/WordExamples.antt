@@ -1,6 +1,6 @@
 -- Worked examples: what words ask for.
 use Rattle.std.proofs.Common.{◌≡◌, [], ◌∷◌, Some, None, refl, codes}
-use Rattle.snow_text.specs.declared.showing.blocks.BlockForm.TheVariants as form
+use Rattle.snow_text_model.specs.declared.block_form.BlockForm.TheVariants as form
 use Rattle.snow_text_cli.specs.declared.request.Request.TheVariants as request
 use Rattle.snow_text_cli.specs.Model.Words.{asked}
 

@@ -1,7 +1,7 @@
 -- Where a line isn't taken.
 use Rattle.std.specs.Prelude.{ℕ, ◌+◌, List, [], ◌∷◌, length}
-use Rattle.snow_text.specs.declared.refusal.Reason.{Reason}
-use Rattle.snow_text.specs.Model.Words.{Word, Halt}
+use Rattle.snow_text_model.specs.declared.refusal.Reason.{Reason}
+use Rattle.snow_text_model.specs.Model.Words.{Word, Halt}
 
 -- how far parts reach, with a mark behind each
 abbrev pub span : List Word → ℕ

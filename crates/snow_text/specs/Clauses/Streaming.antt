@@ -4,10 +4,10 @@ use Rattle.std.specs.List.{flat_map}
 use Rattle.std.specs.Io.KnownBytes.{Appends, Consumes}
 use Rattle.snow_base.specs.Clauses.Outside.{AppendsFront, Rose}
 use Rattle.snow_wire.specs.Model.Frame.{first_of, frames_of}
-use Rattle.snow_text.specs.declared.showing.blocks.BlockForm.{BlockForm}
-use Rattle.snow_text.specs.declared.showing.streaming.ShowEnd.{ShowEnd}
-use Rattle.snow_text.specs.declared.showing.streaming.ShowEnd.TheVariants as end
-use Rattle.snow_text.specs.Model.Shown.{shown_frame}
+use Rattle.snow_text_model.specs.declared.block_form.BlockForm.{BlockForm}
+use Rattle.snow_text.specs.declared.streaming.ShowEnd.{ShowEnd}
+use Rattle.snow_text.specs.declared.streaming.ShowEnd.TheVariants as end
+use Rattle.snow_text_model.specs.Model.Shown.{shown_frame}
 
 -- the lines of frames
 abbrev pub lines_of : BlockForm → List (List ℕ) → List ℕ

@@ -1,14 +1,14 @@
 -- What making the bytes of a text owes, as its pieces come.
 use Rattle.std.specs.Prelude.{◌≡◌, ℕ, ◌+◌, ◌==◌, if◌then◌else◌, Bool, true, false, List, [], ◌∷◌, ◌++◌, length, Result, Ok, Err, ⊤}
-use Rattle.snow_text.specs.declared.refusal.Reason.TheVariants as reason
-use Rattle.snow_text.specs.declared.refusal.Refusal.{Refusal}
-use Rattle.snow_text.specs.declared.making.maker.MakeStop.{MakeStop}
-use Rattle.snow_text.specs.declared.making.maker.MakeStop.TheVariants as make
-use Rattle.snow_text.specs.Model.Words.{parts, words_of}
-use Rattle.snow_text.specs.Model.Names.{Names}
-use Rattle.snow_text.specs.Model.Made.{made_from, none_say, refusal}
+use Rattle.snow_text_model.specs.declared.refusal.Reason.TheVariants as reason
+use Rattle.snow_text_model.specs.declared.refusal.Refusal.{Refusal}
+use Rattle.snow_text.specs.declared.maker.MakeStop.{MakeStop}
+use Rattle.snow_text.specs.declared.maker.MakeStop.TheVariants as make
+use Rattle.snow_text_model.specs.Model.Words.{parts, words_of}
+use Rattle.snow_text_model.specs.Model.Names.{Names}
+use Rattle.snow_text_model.specs.Model.Made.{made_from, none_say, refusal}
 use Rattle.snow_text.specs.Clauses.Columns.{halt_at}
-use Rattle.snow_text.specs.Clauses.Making.{onto}
+use Rattle.snow_words.specs.Clauses.Making.{onto}
 
 -- a line behind a rest says nothing, or is refused
 abbrev pub passed : ℕ → List ℕ → Result (Unit {0}) Refusal

@@ -2,11 +2,11 @@
 use Rattle.std.specs.Prelude.{◌≡◌, ℕ, ◌^◌, ◌≤◌, List, length, Option, Result, Ok, Err, ⊤}
 use Rattle.std.specs.Io.KnownBytes.{Appends}
 use Rattle.snow_base.specs.Clauses.Outside.{AppendsFront, Rose}
-use Rattle.snow_text.specs.declared.making.maker.MakeStop.{MakeStop}
-use Rattle.snow_text.specs.declared.making.maker.MakeStop.TheVariants as make
-use Rattle.snow_text.specs.declared.making.whole.MakeEnd.{MakeEnd}
-use Rattle.snow_text.specs.declared.making.whole.MakeEnd.TheVariants as end
-use Rattle.snow_text.specs.Model.Made.{made}
+use Rattle.snow_text.specs.declared.maker.MakeStop.{MakeStop}
+use Rattle.snow_text.specs.declared.maker.MakeStop.TheVariants as make
+use Rattle.snow_text.specs.declared.whole.MakeEnd.{MakeEnd}
+use Rattle.snow_text.specs.declared.whole.MakeEnd.TheVariants as end
+use Rattle.snow_text_model.specs.Model.Made.{made}
 
 -- a text was made to its stream: the sink got all bytes that the text means, or a front of them where it failed; or the text means none
 abbrev pub Makes : MakeEnd → List ℕ → Option (List ℕ) → Option (List ℕ) → Type 0

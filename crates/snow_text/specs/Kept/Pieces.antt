@@ -1,6 +1,6 @@
 -- Pieces of a text that is read: what is still to come means what was to come.
 use Rattle.std.specs.Prelude.{◌≡◌, ℕ, ◌+◌, ◌^◌, ◌<◌, ◌≤◌, List, ◌++◌, length, Option, Some, None, ⊤}
-use Rattle.snow_text.specs.Model.Made.{made}
+use Rattle.snow_text_model.specs.Model.Made.{made}
 use Rattle.snow_text.specs.Clauses.Texts.{Standing, means}
 
 -- the lines of a piece were taken, but for what is left of it

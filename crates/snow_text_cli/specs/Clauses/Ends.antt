@@ -1,8 +1,8 @@
 -- How the program ends where showing or making a stream ends so.
-use Rattle.snow_text.specs.declared.showing.streaming.ShowEnd.{ShowEnd}
-use Rattle.snow_text.specs.declared.showing.streaming.ShowEnd.TheVariants as shown
-use Rattle.snow_text.specs.declared.making.whole.MakeEnd.{MakeEnd}
-use Rattle.snow_text.specs.declared.making.whole.MakeEnd.TheVariants as made
+use Rattle.snow_text.specs.declared.streaming.ShowEnd.{ShowEnd}
+use Rattle.snow_text.specs.declared.streaming.ShowEnd.TheVariants as shown
+use Rattle.snow_text.specs.declared.whole.MakeEnd.{MakeEnd}
+use Rattle.snow_text.specs.declared.whole.MakeEnd.TheVariants as made
 use Rattle.snow_text_cli.specs.declared.finish.Finish.{Finish}
 use Rattle.snow_text_cli.specs.declared.finish.Finish.TheVariants as finish
 

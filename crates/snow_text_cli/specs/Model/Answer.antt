@@ -1,10 +1,10 @@
 -- What the program answers: the bytes that it writes, its status, and what it says on standard error.
 use Rattle.std.specs.Prelude.{ℕ, List, [], ◌++◌, Option, Some, None, Result, Ok, Err, codes, decimal}
-use Rattle.snow_text.specs.declared.refusal.Reason.{Reason}
-use Rattle.snow_text.specs.declared.refusal.Reason.TheVariants as reason
-use Rattle.snow_text.specs.declared.refusal.Refusal.{Refusal}
-use Rattle.snow_text.specs.Model.Shown.{shown}
-use Rattle.snow_text.specs.Model.Made.{made}
+use Rattle.snow_text_model.specs.declared.refusal.Reason.{Reason}
+use Rattle.snow_text_model.specs.declared.refusal.Reason.TheVariants as reason
+use Rattle.snow_text_model.specs.declared.refusal.Refusal.{Refusal}
+use Rattle.snow_text_model.specs.Model.Shown.{shown}
+use Rattle.snow_text_model.specs.Model.Made.{made}
 use Rattle.snow_text_cli.specs.declared.request.Request.{Request}
 use Rattle.snow_text_cli.specs.declared.request.Request.TheVariants as request
 use Rattle.snow_text_cli.specs.declared.finish.Finish.{Finish}

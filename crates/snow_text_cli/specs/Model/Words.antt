@@ -1,7 +1,7 @@
 -- What the words of the command line, without the program's name, ask for.
 use Rattle.std.specs.Prelude.{ℕ, Bool, List, [], ◌∷◌, Option, Some, None, codes, if◌then◌else◌, bytes_eq}
-use Rattle.snow_text.specs.declared.showing.blocks.BlockForm.{BlockForm}
-use Rattle.snow_text.specs.declared.showing.blocks.BlockForm.TheVariants as form
+use Rattle.snow_text_model.specs.declared.block_form.BlockForm.{BlockForm}
+use Rattle.snow_text_model.specs.declared.block_form.BlockForm.TheVariants as form
 use Rattle.snow_text_cli.specs.declared.request.Request.{Request}
 use Rattle.snow_text_cli.specs.declared.request.Request.TheVariants as request
 

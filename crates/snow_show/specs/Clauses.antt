@@ -1,0 +1,2 @@
+-- What the functions owe.
+pub mod Putting

@@ -1,0 +1,3 @@
+-- What the code keeps while it works.
+pub mod Listing
+pub mod Shortening

@@ -1,5 +1,0 @@
-use Rattle.snow_text.proofs.Framed.{made_again}
-use Rattle.snow_text.proofs.laws.one_text.Goals as goal
-
-pub returns : goal.returns
-returns c = made_again

@@ -1,5 +1,0 @@
-use Rattle.snow_text.proofs.Told.{own_words_shown}
-use Rattle.snow_text.proofs.laws.own_words.Goals as goal
-
-pub returns : goal.returns
-returns c = own_words_shown

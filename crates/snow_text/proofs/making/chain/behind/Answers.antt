@@ -1,6 +1,0 @@
-use Rattle.std.proofs.Common.{rules, ◌≡◌, []}
-use Rattle.snow_text.proofs.Chained.{behind_nothing}
-use Rattle.snow_text.proofs.making.chain.behind.Goals as goal
-
-pub returns-then-is_empty : goal.returns-then-is_empty
-returns-then-is_empty c = let none : c.args.words.now ≡ [] = search rules in behind_nothing c.args.names.now c.args.out.now c.args.words.now none

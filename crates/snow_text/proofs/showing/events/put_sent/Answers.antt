@@ -1,6 +1,0 @@
-use Rattle.snow_text.proofs.Evented.{sent_none}
-use Rattle.snow_text.proofs.Putting.{puts_as}
-use Rattle.snow_text.proofs.showing.events.put_sent.Goals as goal
-
-pub returns : goal.returns
-returns c = puts_as c.put_sender.result _ _ _ _ (sent_none c.args.name.now c.args.sender.now.node.now c.args.sender.now.request) c.put_sender.ensures

@@ -1,0 +1,5 @@
+pub mod Cutting
+pub mod Saying
+pub mod Named
+pub mod Listed
+pub mod Appended

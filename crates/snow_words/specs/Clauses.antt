@@ -1,0 +1,5 @@
+-- What the functions owe.
+pub mod Making
+pub mod Cutting
+pub mod Numbers
+pub mod Listing
