@@ -5,7 +5,6 @@ use Rattle.std.proofs.lemmas.Bool.{le-leb}
 use Rattle.std.proofs.lemmas.Bool.Decides.{nat_tests}
 use Rattle.std.proofs.lemmas.List.{take_all}
 use Rattle.snow_text_model.specs.declared.refusal.Reason.TheVariants as reason
-use Rattle.snow_say.specs.declared.meaning.Meaning.TheVariants as meaning
 use Rattle.snow_text_model.specs.Model.Words.{Word, Halt, ◌>>=◌, ended}
 use Rattle.snow_text_model.specs.Model.Names.{Names, is_name}
 use Rattle.snow_text_model.specs.Model.Bytes.{bytes_of}

@@ -10,6 +10,7 @@ ghost use Rattle.snow_show.specs.Kept.Listing.{is_ledger, led, plain_fields, tal
 use crate::bytes::{put_bytes, put_fixed_word};
 use crate::put::{put, put_marked_number};
 use byteorder::{BigEndian, ByteOrder};
+use snow_text_model::BlockForm;
 use std::alloc::AllocError;
 
 /// Puts the bytes behind the fields of a block behind a text, with a space before them, if there
