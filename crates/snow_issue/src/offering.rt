@@ -35,7 +35,10 @@ fn is_unknown<B: Board>(
 ) -> bool
     ensures { result ≡ is_unknown (parts waiting.now gets.now gone.now) (B.board board.now) id.now }
 {
-    !(is_on(board, id) || waiting.waits(id) || gets.asks_for(id) || gone.holds(id))
+    if gets.asks_for(id) {
+        return false;
+    }
+    !(is_on(board, id) || waiting.waits(id) || gone.holds(id))
 }
 
 /// Returns whether a block that a reply names is to be asked for.
