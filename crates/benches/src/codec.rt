@@ -1,5 +1,6 @@
 use snow_base::{Failed, Id, NodeId, PureSink};
-use snow_lines::{Line, Page};
+use snow_lines::Line;
+use snow_page::Page;
 use snow_sample::{Draw, Draws};
 use snow_wire::{Decoder, Event, decode};
 use std::alloc::{AllocError, Global};

@@ -1,6 +1,9 @@
 use crate::base::{id, is};
 use snow_base::{MemSink, Nums, Sink};
-use snow_lines::{DropWhy, Line, SkipKind, Text, print, print_all, read};
+use snow_digits::Text;
+use snow_lines::{DropWhy, Line, SkipKind};
+use snow_page::{print, print_all};
+use snow_reading::read;
 use std::alloc::{AllocError, Global};
 use std::test::Fail;
 

@@ -1,7 +1,8 @@
 use crate::base::{id, is};
 use crate::lines::{behind, failing_at};
 use snow_base::{Ids, MemSink, Sink};
-use snow_lines::{Line, Page, QueryWhy, RestartWhy};
+use snow_lines::{Line, QueryWhy, RestartWhy};
+use snow_page::Page;
 use std::alloc::{AllocError, Global};
 use std::test::Fail;
 

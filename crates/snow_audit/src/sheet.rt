@@ -4,7 +4,8 @@ ghost use Rattle.snow_base.specs.Clauses.Outside.{HasCause};
 ghost use Rattle.snow_lines.specs.Model.Text.{text};
 
 use snow_base::{Bytes, Failed, Sink};
-use snow_lines::{Line, print};
+use snow_lines::Line;
+use snow_page::print;
 use std::alloc::{AllocError, Global};
 use std::marker::Model;
 

@@ -4,10 +4,9 @@ use Rattle.std.specs.Result.{is_ok}
 use Rattle.std.specs.Fmt.{digits}
 use Rattle.hex.specs.Hex.{encode_with}
 use Rattle.sha2.specs.Sha256.{sha256, digest_bytes, hash_after, compress, rounds, schedule, first_words}
-use Rattle.snow_sample.specs.declared.draws.Draw.{Draw}
 use Rattle.snow_wire.specs.declared.event.Event.TheVariants as event
 use Rattle.snow_lines.specs.declared.line.Line.TheVariants as line
-use Rattle.snow_lines.specs.Model.Text.{text}
+use Rattle.snow_lines.specs.Model.Text.{Draw, text}
 use Rattle.snow_chain.specs.Model.Tally.{tally_rules}
 use Rattle.snow_engine.specs.declared.engine.Task.TheVariants as task
 use Rattle.snow_engine.specs.Model.Node.{started}

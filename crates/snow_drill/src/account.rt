@@ -9,7 +9,8 @@ use crate::scratch::Scratch;
 use crate::tally::Tally;
 use sha2::{Digest, Sha256};
 use snow_base::Bytes;
-use snow_lines::{Line, print_all};
+use snow_lines::Line;
+use snow_page::print_all;
 use std::alloc::{AllocError, Global};
 
 /// So many bytes of text are digested at once.

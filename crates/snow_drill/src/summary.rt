@@ -10,7 +10,7 @@ use crate::account::Account;
 use crate::tally::Tally;
 use sha2::Digest;
 use snow_base::Bytes;
-use snow_lines::Text;
+use snow_digits::Text;
 use std::alloc::{AllocError, Global};
 
 /// Returns the six lines of a drill of so many blocks. On want of memory it returns `AllocError`.

@@ -3,8 +3,7 @@ ghost use Rattle.snow_drill.specs.Kept.Told.{untold, noted};
 ghost use Rattle.snow_drill.specs.Kept.Following.{Takes};
 
 use snow_base::{Id, Items, NodeId};
-use snow_lines::Line;
-use snow_sample::Draws;
+use snow_lines::{Draws, Line};
 use std::alloc::{AllocError, Global};
 use std::collections::VecDeque;
 use std::marker::Model;

@@ -4,9 +4,9 @@ use Rattle.std.specs.Io.KnownBytes.{Appends}
 use Rattle.snow_base.specs.Clauses.Outside.{AppendsFront}
 use Rattle.snow_base.proofs.Known.{front_of_more, front_of_whole}
 use Rattle.snow_lines.specs.declared.line.Line.{Line}
-use Rattle.snow_lines.specs.Kept.Gathered.{Gathers}
+use Rattle.snow_page.specs.Kept.Gathered.{Gathers}
 use Rattle.snow_lines.specs.Model.Text.{texts}
-use Rattle.snow_lines.proofs.Waiting.{gathers_then_written, gathers_then_front}
+use Rattle.snow_page.proofs.Waiting.{gathers_then_written, gathers_then_front}
 use Rattle.snow_engine.specs.declared.end.End.{End}
 use Rattle.snow_engine.specs.declared.end.End.TheVariants as end
 use Rattle.snow_engine.specs.Clauses.Serving.{GathersLines, GathersFront, WritesLines}

@@ -9,9 +9,9 @@ use Rattle.snow_wire.specs.Model.Frame.{first_of, frames_of}
 use Rattle.snow_wire.specs.Clauses.Stream.{Intake}
 use Rattle.snow_wire.proofs.Streams.{frames_front, frames_end, long_first, off_front, behind_shorter}
 use Rattle.snow_lines.specs.declared.line.Line.{Line}
-use Rattle.snow_lines.specs.Kept.Gathered.{Gathers}
+use Rattle.snow_page.specs.Kept.Gathered.{Gathers}
 use Rattle.snow_lines.specs.Model.Text.{texts}
-use Rattle.snow_lines.proofs.Waiting.{gathers_none, gathers_then, gathers_then_front}
+use Rattle.snow_page.proofs.Waiting.{gathers_none, gathers_then, gathers_then_front}
 use Rattle.snow_engine.specs.declared.engine.Task.{Task}
 use Rattle.snow_engine.specs.declared.end.End.{End}
 use Rattle.snow_engine.specs.declared.end.End.TheVariants as end

@@ -9,9 +9,9 @@ use Rattle.snow_wire.specs.Model.Frame.{first_of, is_too_long}
 use Rattle.snow_wire.specs.Clauses.Stream.{Intake}
 use Rattle.snow_wire.proofs.Streams.{long_first}
 use Rattle.snow_lines.specs.declared.line.Line.{Line}
-use Rattle.snow_lines.specs.Kept.Gathered.{Gathers}
+use Rattle.snow_page.specs.Kept.Gathered.{Gathers}
 use Rattle.snow_lines.specs.Model.Text.{text, texts}
-use Rattle.snow_lines.proofs.Waiting.{gathers_none}
+use Rattle.snow_page.proofs.Waiting.{gathers_none}
 use Rattle.snow_engine.specs.declared.engine.Task.{Task}
 use Rattle.snow_engine.specs.declared.end.BadKind.TheVariants as kind
 use Rattle.snow_engine.specs.declared.end.End.{End}

@@ -1,6 +1,6 @@
 ghost use Rattle.std.specs.Prelude.{◌≡◌, ◌+◌, ◌*◌, ◌^◌, ◌-◌, ◌≤◌, ◌<◌, [], length, None, Ok, false, ◌==◌, if◌then◌else◌, is_some, IfOk, OnOk, OnErr, ◌∷◌, ◌++◌};
 ghost use Rattle.snow_base.specs.Clauses.Outside.{AppendsFront, HasCause};
-ghost use Rattle.snow_lines.specs.Kept.Gathered.{Gathers};
+ghost use Rattle.snow_page.specs.Kept.Gathered.{Gathers};
 ghost use Rattle.snow_lines.specs.Model.Text.{texts};
 ghost use Rattle.snow_lines.specs.declared.line.Line.TheVariants as line;
 ghost use Rattle.snow_wire.specs.Model.Frame.{first_of, is_too_long};
@@ -15,7 +15,8 @@ use crate::runner::Runner;
 use snow_base::{Failed, Sink};
 use snow_board::Board;
 use snow_chain::Chain;
-use snow_lines::{Line, Lines, Page, SkipKind};
+use snow_lines::{Line, Lines, SkipKind};
+use snow_page::Page;
 use snow_wire::Decoder;
 use std::alloc::{AllocError, Global};
 

@@ -1,6 +1,3 @@
-use crate::field::Field;
-use crate::kind::is;
-
 /// Why a `drop` line gives a block up.
 /// Rule: this project's own.
 #[derive(Clone, Copy, PartialEq, Eq)]
@@ -67,8 +64,9 @@ impl DropWhy {
     ghost use Rattle.std.specs.Prelude.{◌≡◌, ◌≤◌, length};
     ghost use Rattle.snow_lines.specs.Model.Text.{spaced, why_word};
 
-    /// Returns its word with a space in front.
-    pub(crate) fn spaced_word(&self) -> &'static [u8]
+    /// Returns its word with a space in front, at most 12 bytes.
+    /// Rule: this project's own.
+    pub fn spaced_word(&self) -> &'static [u8]
         ensures word { result.now ≡ spaced (why_word self.now) }
         ensures short { length result.now ≤ 12 }
     {
@@ -85,8 +83,9 @@ impl QueryWhy {
     ghost use Rattle.std.specs.Prelude.{◌≡◌, ◌≤◌, length};
     ghost use Rattle.snow_lines.specs.Model.Text.{spaced, query_word};
 
-    /// Returns its word with a space in front.
-    pub(crate) fn spaced_word(&self) -> &'static [u8]
+    /// Returns its word with a space in front, at most 12 bytes.
+    /// Rule: this project's own.
+    pub fn spaced_word(&self) -> &'static [u8]
         ensures word { result.now ≡ spaced (query_word self.now) }
         ensures short { length result.now ≤ 12 }
     {
@@ -102,8 +101,9 @@ impl RestartWhy {
     ghost use Rattle.std.specs.Prelude.{◌≡◌, ◌≤◌, length};
     ghost use Rattle.snow_lines.specs.Model.Text.{spaced, restart_word};
 
-    /// Returns its word with a space in front.
-    pub(crate) fn spaced_word(&self) -> &'static [u8]
+    /// Returns its word with a space in front, at most 12 bytes.
+    /// Rule: this project's own.
+    pub fn spaced_word(&self) -> &'static [u8]
         ensures word { result.now ≡ spaced (restart_word self.now) }
         ensures short { length result.now ≤ 12 }
     {
@@ -118,8 +118,9 @@ impl SkipKind {
     ghost use Rattle.std.specs.Prelude.{◌≡◌, ◌≤◌, [], ◌∷◌, ◌++◌, length, take};
     ghost use Rattle.snow_lines.specs.Model.Text.{spaced, kind_word};
 
-    /// Returns its word with a space in front.
-    pub(crate) fn spaced_word(&self) -> &'static [u8]
+    /// Returns its word with a space in front, at most 12 bytes.
+    /// Rule: this project's own.
+    pub fn spaced_word(&self) -> &'static [u8]
         ensures word { result.now ≡ spaced (kind_word self.now) }
         ensures short { length result.now ≤ 12 }
     {
@@ -138,9 +139,10 @@ impl SkipKind {
     }
 
     /// Returns the end of a line: its word with a space in front and a newline, at the front of a
-    /// piece of a known length, and how long they are.
+    /// piece of a known length, and how long they are, at most 8 bytes.
+    /// Rule: this project's own.
     #[inline(always)]
-    pub(crate) fn line_end(&self) -> (&'static [u8; 8], usize)
+    pub fn line_end(&self) -> (&'static [u8; 8], usize)
         ensures end { take result.1 result.0.now ≡ spaced (kind_word self.now) ++ 10 ∷ [] }
         ensures short { result.1 ≤ 8 }
     {
@@ -155,92 +157,6 @@ impl SkipKind {
             SkipKind::Full => (b" full\n  ", 6),
             SkipKind::Block => (b" block\n ", 7),
             SkipKind::Nodes => (b" nodes\n ", 7),
-        }
-    }
-}
-
-impl Field for DropWhy {
-    ghost use Rattle.snow_lines.specs.Model.Names.{why_of};
-
-    ghost read = { why_of };
-
-    fn of(word: &[u8]) -> Option<Self> {
-        if is(word, b"parent") {
-            Some(DropWhy::Parent)
-        } else if is(word, b"full") {
-            Some(DropWhy::Full)
-        } else if is(word, b"invalid") {
-            Some(DropWhy::Invalid)
-        } else if is(word, b"old") {
-            Some(DropWhy::Old)
-        } else {
-            None
-        }
-    }
-}
-
-impl Field for QueryWhy {
-    ghost use Rattle.snow_lines.specs.Model.Names.{query_of};
-
-    ghost read = { query_of };
-
-    fn of(word: &[u8]) -> Option<Self> {
-        if is(word, b"full") {
-            Some(QueryWhy::Full)
-        } else if is(word, b"units") {
-            Some(QueryWhy::Units)
-        } else if is(word, b"words") {
-            Some(QueryWhy::Words)
-        } else {
-            None
-        }
-    }
-}
-
-impl Field for RestartWhy {
-    ghost use Rattle.snow_lines.specs.Model.Names.{restart_of};
-
-    ghost read = { restart_of };
-
-    fn of(word: &[u8]) -> Option<Self> {
-        if is(word, b"frontier") {
-            Some(RestartWhy::Frontier)
-        } else if is(word, b"accepted") {
-            Some(RestartWhy::Accepted)
-        } else {
-            None
-        }
-    }
-}
-
-impl Field for SkipKind {
-    ghost use Rattle.snow_lines.specs.Model.Names.{kind_of};
-
-    ghost read = { kind_of };
-
-    fn of(word: &[u8]) -> Option<Self> {
-        if is(word, b"tag") {
-            Some(SkipKind::Tag)
-        } else if is(word, b"short") {
-            Some(SkipKind::Short)
-        } else if is(word, b"extra") {
-            Some(SkipKind::Extra)
-        } else if is(word, b"count") {
-            Some(SkipKind::Count)
-        } else if is(word, b"task") {
-            Some(SkipKind::Task)
-        } else if is(word, b"stage") {
-            Some(SkipKind::Stage)
-        } else if is(word, b"votes") {
-            Some(SkipKind::Votes)
-        } else if is(word, b"full") {
-            Some(SkipKind::Full)
-        } else if is(word, b"block") {
-            Some(SkipKind::Block)
-        } else if is(word, b"nodes") {
-            Some(SkipKind::Nodes)
-        } else {
-            None
         }
     }
 }

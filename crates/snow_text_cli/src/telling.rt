@@ -4,7 +4,7 @@ ghost use Rattle.snow_text_cli.specs.Clauses.Answering.{TookLine};
 
 use crate::finish::Finish;
 use snow_base::{Sink, write_whole};
-use snow_lines::Text;
+use snow_digits::Text;
 use snow_text::{Reason, Refusal};
 
 /// Tells on standard error how the program ended; nothing where all is done. A fault there changes

@@ -6,7 +6,7 @@ use Rattle.snow_flake.specs.Model.Rule.{Answer}
 use Rattle.snow_chain.specs.Model.Chain.{Rules}
 use Rattle.snow_wire.specs.Model.Frame.{first_of, frames_of, is_too_long}
 use Rattle.snow_wire.specs.Clauses.Stream.{Intake}
-use Rattle.snow_lines.specs.Kept.Gathered.{Gathers}
+use Rattle.snow_page.specs.Kept.Gathered.{Gathers}
 use Rattle.snow_lines.specs.Model.Text.{texts}
 use Rattle.snow_lines.specs.declared.line.Line.{Line}
 use Rattle.snow_lines.specs.declared.line.Line.TheVariants as line

@@ -1,0 +1,5 @@
+pub mod Encoded
+pub mod Joined
+pub mod Placed
+pub mod Printed
+pub mod Waiting

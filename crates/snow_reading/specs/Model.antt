@@ -1,0 +1,3 @@
+-- What is true of the protocol, of its bytes and of its lines.
+pub mod Names
+pub mod Reading
