@@ -9,8 +9,8 @@ use Rattle.snow_flake.specs.declared.params.ParamFault.TheVariants as params
 use Rattle.snow_sample.specs.declared.roster.RosterFault.{RosterFault}
 use Rattle.snow_sample.specs.declared.roster.RosterFault.TheVariants as roster
 use Rattle.hex.specs.Hex.{encode_lower}
-use Rattle.snow_store.specs.declared.stop.BootStop.{BootStop}
-use Rattle.snow_store.specs.declared.stop.BootStop.TheVariants as boot
+use Rattle.snow_boot.specs.BootStop.{BootStop}
+use Rattle.snow_boot.specs.BootStop.TheVariants as boot
 use Rattle.snow_chain.specs.Model.Chain.{Rules}
 use Rattle.snow_chain.specs.Model.Plain.{plain_rules}
 use Rattle.snow_chain.specs.Model.Tally.{tally_rules}
