@@ -6,7 +6,7 @@ use Rattle.std.specs.List.Sorted.{IsStrictlySortedBy}
 use Rattle.std.specs.Map.{keys_of, remove_entry, lookup}
 use Rattle.std.specs.Ordering.{nat_cmp}
 use Rattle.std.proofs.lemmas.Bool.{eqb-true, eq-eqb}
-use Rattle.snow_issue.specs.Kept.Arrivals.{Entries, PollMap, at_arrival, seat_of, IsFiled, stays, filed, filed_apart, number_of_node, IsLeaving, AreGone}
+use Rattle.snow_issue.specs.Kept.Arrivals.{Entries, PollMap, at_arrival, seat_of, IsFiled, stays, filed, filed_apart, number_of_node, StaysNamed, IsLeaving, AreGone}
 use Rattle.snow_issue.proofs.Stocked.{same_number, number_itself, each}
 use Rattle.snow_issue.proofs.Numbered.{Numbers, Names, key_back, filed_same, filed_taken}
 use Rattle.snow_issue.proofs.Seated.{seats_filtered, all_stay, one_leaves}
@@ -27,7 +27,7 @@ pub leaving_step : (number : ℕ) (before es now : Entries) (nodes left : Nodes)
     → ((q : List ℕ) → get (slice_cmp nat_cmp) left q ≡ cond (is_at (slice_cmp nat_cmp node) q) None (get (slice_cmp nat_cmp) nodes q))
     → now ≡ remove_entry (is_at (nat_cmp a)) es → IsStrictlySortedBy nat_cmp (keys_of now)
     → ((q : ℕ) → at_arrival now q ≡ cond (is_at (nat_cmp a) q) None (at_arrival es q))
-    → ((q : List ℕ) (b : ℕ) → is_at (nat_cmp a) b ≡ false → names q b ≡ named q b)
+    → StaysNamed now named names
     → IsLeaving number before now left others names next
 leaving_step number before es now nodes left others named names next a node is found change rest sorted less same =
     let there : filed_apart number nodes others number node ≡ Some a = ap (λ t. cond t (get (slice_cmp nat_cmp) nodes node) (others number node)) (number_itself number) ∙ found in

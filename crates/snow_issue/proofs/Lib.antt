@@ -9,6 +9,7 @@ mod Preferred
 pub mod Remembered
 mod Stocked
 mod Numbered
+mod Listed
 mod Seated
 mod Departed
 mod Next

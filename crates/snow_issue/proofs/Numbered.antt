@@ -17,7 +17,7 @@ use Rattle.snow_issue.specs.declared.backlog.Kept.{Kept}
 use Rattle.snow_issue.specs.declared.work.Held.{Held}
 use Rattle.snow_issue.specs.Model.Lists.{holds_in, is_reply}
 use Rattle.snow_issue.specs.Kept.Known.{items_of}
-use Rattle.snow_issue.specs.Kept.Arrivals.{Entries, at_arrival, seat_of, reply_key, IsFiled}
+use Rattle.snow_issue.specs.Kept.Arrivals.{Entries, at_arrival, seat_of, reply_key, is_among, StaysNamed, IsFiled}
 use Rattle.snow_issue.proofs.Stocked.{same_number, number_itself, number_apart, each}
 use Rattle.snow_map.proofs.Booleans.{or_true}
 use Rattle.snow_map.proofs.Lists.{same_id, id_itself}
@@ -30,7 +30,7 @@ Names = List ℕ → ℕ → Bool
 
 -- ---- a map of maps
 
-equal_by : (o : Ordering) → is_eq o ≡ true → o ≡ Equal
+pub equal_by : (o : Ordering) → is_eq o ≡ true → o ≡ Equal
 equal_by Less h = absurd cc
 equal_by Equal h = refl
 equal_by Greater h = absurd cc
@@ -124,15 +124,14 @@ filed_same es before now named next is same = record {
   named_so = is.named_so;
 }
 
--- the same numbers by block but for the next one
-pub filed_names : (es : Entries) (numbers : Numbers) (before now : Names) (next : ℕ) → IsFiled es numbers before next
-    → ((q : List ℕ) (a : ℕ) → is_at (nat_cmp next) a ≡ false → now q a ≡ before q a) → IsFiled es numbers now next
-filed_names es numbers before now next is same = record {
+-- numbers by block that are kept where they were
+pub filed_names : (es : Entries) (numbers : Numbers) (before now : Names) (next : ℕ) → IsFiled es numbers before next → StaysNamed es before now → IsFiled es numbers now next
+filed_names es numbers before now next is stays = record {
   sorted = is.sorted;
   below = is.below;
   found = is.found;
   real = is.real;
-  named_so = λ a k found. same k.reply.id a (number_apart next a (λ e. let h = is.below a k found in omega (arith, h, e))) ∙ is.named_so a k found;
+  named_so = λ a k found. stays k.reply.id a k found (is.named_so a k found);
 }
 
 pub filed_nothing : (es : Entries) (numbers : Numbers) (named : Names) (next : ℕ) → es ≡ [] → ((n : ℕ) (node : List ℕ) → numbers n node ≡ None) → IsFiled es numbers named next
@@ -187,7 +186,7 @@ pub filed_pushed : (es now : Entries) (before after : Numbers) (named names : Na
     → IsStrictlySortedBy nat_cmp (keys_of now)
     → ((a : ℕ) → at_arrival now a ≡ cond (is_at (nat_cmp next) a) (Some (record { reply = h; quiet = false })) (at_arrival es a))
     → ((n : ℕ) (node : List ℕ) → after n node ≡ cond (is_of h n node) (Some next) (before n node))
-    → names h.id next ≡ true → ((q : List ℕ) (a : ℕ) → is_at (nat_cmp next) a ≡ false → names q a ≡ named q a)
+    → names h.id next ≡ true → StaysNamed es named names
     → IsFiled now after names (next + 1)
 filed_pushed es now before after named names next h is new sorted there filed itself others =
     let kept : Kept = record { reply = h; quiet = false } in
@@ -228,7 +227,7 @@ filed_pushed es now before after named names next h is new sorted there filed it
           ]) refl (sym (filed n node) ∙ at);
       named_so = λ a k found. cases (λ a k. names k.reply.id a ≡ true) a k found
           (λ at is_k. ap (λ (k : Kept). names k.reply.id a) (sym is_k) ∙ ap (names h.id) (sym at) ∙ itself)
-          (λ apart f. others k.reply.id a apart ∙ is.named_so a k f);
+          (λ apart f. others k.reply.id a k f (is.named_so a k f));
     }
 
 -- ---- one reply less
@@ -237,7 +236,7 @@ pub filed_taken : (es now : Entries) (before after : Numbers) (named names : Nam
     → IsStrictlySortedBy nat_cmp (keys_of now)
     → ((a : ℕ) → at_arrival now a ≡ cond (is_at (nat_cmp gone) a) None (at_arrival es a))
     → ((n : ℕ) (node : List ℕ) → after n node ≡ cond (is_of k.reply n node) None (before n node))
-    → ((q : List ℕ) (a : ℕ) → is_at (nat_cmp gone) a ≡ false → names q a ≡ named q a)
+    → StaysNamed now named names
     → IsFiled now after names next
 filed_taken es now before after named names next gone k is there sorted left filed others =
     let cases : (a : ℕ) (j : Kept) → at_arrival now a ≡ Some j → (is_at (nat_cmp gone) a ≡ false) × (at_arrival es a ≡ Some j) =
@@ -272,7 +271,7 @@ filed_taken es now before after named names next gone k is there sorted left fil
                 both_ways (is_of k.reply n node) t (ap (λ m. is_of k.reply m node) (sym number) ∙ ap (is_of k.reply k.reply.number) (sym of_node) ∙ of_itself k.reply)) in
                 ap (option_map (λ (k : Kept). reply_key k.reply)) (left a ∙ ap (λ b. cond b None (at_arrival es a)) off) ∙ old
           ]) refl (sym (filed n node) ∙ at);
-      named_so = λ a j found. let old = cases a j found in others j.reply.id a old.0 ∙ is.named_so a j old.1;
+      named_so = λ a j found. others j.reply.id a j found (is.named_so a j (cases a j found).1);
     }
 
 -- a number that came and went
@@ -294,7 +293,7 @@ no_number es numbers named next n node is none = none_from (numbers n node) (hel
 
 -- each reply that names a block is among those whose numbers are kept under it
 pub all_named : (es : Entries) (numbers : Numbers) (named : Names) (next : ℕ) (row id : List ℕ) → IsFiled es numbers named next
-    → ((a : ℕ) → named id a ≡ true → list_any (is_at (nat_cmp a)) row ≡ true)
+    → ((a : ℕ) → named id a ≡ true → is_among row a ≡ true)
     → All (λ e. bytes_eq id e.1.reply.id ≡ true → list_any (is_at (nat_cmp e.0)) row ≡ true) es
 all_named es numbers named next row id is among =
     each (λ e. bytes_eq id e.1.reply.id ≡ true → list_any (is_at (nat_cmp e.0)) row ≡ true) es is.sorted

@@ -6,13 +6,14 @@ ghost use Rattle.std.specs.Ordering.{nat_cmp};
 ghost use Rattle.std.specs.List.Sorted.{IsStrictlySortedBy};
 ghost use Rattle.std.specs.Map.{keys_of, remove_entry};
 ghost use Rattle.snow_issue.specs.declared.backlog.Kept.{Kept};
-ghost use Rattle.snow_issue.specs.Kept.Arrivals.{at_arrival, woken_among, filed, names, LeavesEach};
+ghost use Rattle.snow_issue.specs.Kept.Arrivals.{at_arrival, woken_among, filed, names, StaysNamed, LeavesEach};
 
 use crate::backlog::Backlog;
+use crate::named::Named;
 use crate::work::Held;
 use snow_base::{Id, NodeId};
 use std::alloc::{AllocError, Global};
-use std::collections::{BTreeMap, BTreeSet};
+use std::collections::BTreeMap;
 
 /// Notes the number of a reply by its poll and node. On want of memory all stays as it was.
 pub(crate) fn file(
@@ -59,7 +60,7 @@ fn unfile_node(polls: &mut BTreeMap<u32, BTreeMap<NodeId, u64>>, number: u32, no
 /// stays as it was.
 pub(crate) fn keep_reply(
     backlog: &mut Backlog,
-    blocks: &mut BTreeMap<Id, BTreeSet<u64>>,
+    blocks: &mut BTreeMap<Id, Named>,
     alloc: Global,
     reply: &Held,
     arrival: u64,
@@ -70,11 +71,11 @@ pub(crate) fn keep_reply(
     ensures there { let kept : Kept = record { reply = reply.now; quiet = false } in OnOk result ((a : ℕ) → at_arrival backlog.new a ≡ (if is_at (nat_cmp arrival) a then Some kept else at_arrival backlog.old a)) }
     ensures sorted { OnOk result (IsStrictlySortedBy nat_cmp (keys_of backlog.new)) }
     ensures named { OnOk result (names blocks.new reply.now.id arrival ≡ true) }
-    ensures others { (q : List ℕ) (a : ℕ) → is_at (nat_cmp arrival) a ≡ false → names blocks.new q a ≡ names blocks.old q a }
+    ensures others { StaysNamed backlog.old (names blocks.old) (names blocks.new) }
 {
     name(blocks, alloc, reply.id, arrival)?;
     if let Err(error) = backlog.push(arrival, *reply) {
-        unname(blocks, &reply.id, arrival);
+        unname(blocks, backlog, &reply.id, arrival);
         return Err(error);
     }
     Ok(())
@@ -82,7 +83,7 @@ pub(crate) fn keep_reply(
 
 // Keeps a number under a block. On want of memory all stays as it was.
 fn name(
-    blocks: &mut BTreeMap<Id, BTreeSet<u64>>,
+    blocks: &mut BTreeMap<Id, Named>,
     alloc: Global,
     id: Id,
     arrival: u64,
@@ -90,57 +91,54 @@ fn name(
     ensures ok { OnOk result ((q : List ℕ) (a : ℕ) → names blocks.new q a ≡ (if is_at (slice_cmp nat_cmp id) q && is_at (nat_cmp arrival) a then true else names blocks.old q a)) }
     ensures err { OnErr result ((q : List ℕ) (a : ℕ) → names blocks.new q a ≡ names blocks.old q a) }
 {
-    if let Some(numbers) = blocks.get_mut(&id) {
-        numbers.insert(arrival)?;
+    if let Some(named) = blocks.get_mut(&id) {
+        named.push(arrival)?;
         return Ok(());
     }
-    let mut numbers = BTreeSet::new(alloc);
-    numbers.insert(arrival)?;
-    blocks.insert(id, numbers)?;
+    let mut named = Named::new(alloc);
+    named.push(arrival)?;
+    blocks.insert(id, named)?;
     Ok(())
 }
 
-// A number goes from under a block.
-fn unname(blocks: &mut BTreeMap<Id, BTreeSet<u64>>, id: &Id, arrival: u64)
-    ensures { (q : List ℕ) (a : ℕ) → names blocks.new q a ≡ (if is_at (slice_cmp nat_cmp id.now) q && is_at (nat_cmp arrival) a then false else names blocks.old q a) }
+// A number that no reply has needn't stand under a block any more.
+fn unname(blocks: &mut BTreeMap<Id, Named>, backlog: &Backlog, id: &Id, arrival: u64)
+    requires { at_arrival backlog.now arrival ≡ None }
+    ensures { StaysNamed backlog.now (names blocks.old) (names blocks.new) }
 {
-    if unname_number(blocks, id, arrival) {
+    if unname_number(blocks, backlog, id, arrival) {
         let _ = blocks.remove(id);
     }
 }
 
 // The same, but that a block stays where it has no number any more. Whether it is so.
-fn unname_number(blocks: &mut BTreeMap<Id, BTreeSet<u64>>, id: &Id, arrival: u64) -> bool
-    ensures left { (q : List ℕ) (a : ℕ) → names blocks.new q a ≡ (if is_at (slice_cmp nat_cmp id.now) q && is_at (nat_cmp arrival) a then false else names blocks.old q a) }
+fn unname_number(blocks: &mut BTreeMap<Id, Named>, backlog: &Backlog, id: &Id, arrival: u64) -> bool
+    requires { at_arrival backlog.now arrival ≡ None }
+    ensures left { StaysNamed backlog.now (names blocks.old) (names blocks.new) }
     ensures none { OnTrue result ((a : ℕ) → names blocks.new id.now a ≡ false) }
 {
-    let Some(numbers) = blocks.get_mut(id) else {
+    let Some(named) = blocks.get_mut(id) else {
         return false;
     };
-    let _ = numbers.remove(&arrival);
-    numbers.is_empty()
+    named.leave(backlog, arrival)
 }
 
 /// The reply with a number goes, if there is one.
-pub(crate) fn drop_one(
-    backlog: &mut Backlog,
-    blocks: &mut BTreeMap<Id, BTreeSet<u64>>,
-    arrival: u64,
-)
+pub(crate) fn drop_one(backlog: &mut Backlog, blocks: &mut BTreeMap<Id, Named>, arrival: u64)
     ensures rest { backlog.new ≡ remove_entry (is_at (nat_cmp arrival)) backlog.old }
     ensures sorted { IsStrictlySortedBy nat_cmp (keys_of backlog.new) }
     ensures left { (a : ℕ) → at_arrival backlog.new a ≡ (if is_at (nat_cmp arrival) a then None else at_arrival backlog.old a) }
-    ensures others { (q : List ℕ) (a : ℕ) → is_at (nat_cmp arrival) a ≡ false → names blocks.new q a ≡ names blocks.old q a }
+    ensures others { StaysNamed backlog.new (names blocks.old) (names blocks.new) }
 {
     if let Some(reply) = backlog.take(arrival) {
-        unname(blocks, &reply.id, arrival);
+        unname(blocks, backlog, &reply.id, arrival);
     }
 }
 
 /// The replies of a poll go, whose numbers are given by node.
 pub(crate) fn drop_each(
     backlog: &mut Backlog,
-    blocks: &mut BTreeMap<Id, BTreeSet<u64>>,
+    blocks: &mut BTreeMap<Id, Named>,
     mut nodes: BTreeMap<NodeId, u64>,
 )
     ensures { LeavesEach backlog.old (names blocks.old) nodes backlog.new (names blocks.new) }
@@ -151,8 +149,8 @@ pub(crate) fn drop_each(
 }
 
 /// The replies with these numbers that name this block aren't quiet any more.
-pub(crate) fn wake_each(backlog: &mut Backlog, numbers: &BTreeSet<u64>, id: &Id)
-    ensures { backlog.new ≡ map (woken_among numbers.now.keys id.now) backlog.old }
+pub(crate) fn wake_each(backlog: &mut Backlog, numbers: &[u64], id: &Id)
+    ensures { backlog.new ≡ map (woken_among numbers.now id.now) backlog.old }
 {
     for arrival in numbers {
         backlog.wake(*arrival, id);

@@ -3,7 +3,7 @@ ghost use Rattle.std.specs.BinaryHeap.{heap_items, heap_len, heap_capacity, Keep
 ghost use Rattle.std.specs.BTreeMap.{is_at};
 ghost use Rattle.std.specs.List.Sorted.{IsStrictlySortedBy};
 ghost use Rattle.std.specs.Map.{keys_of, set_value, remove_entry};
-ghost use Rattle.std.specs.Option.{option_map};
+ghost use Rattle.std.specs.Option.{option_map, is_some};
 ghost use Rattle.std.specs.Ordering.{nat_cmp};
 ghost use Rattle.snow_issue.specs.Kept.Arrivals.{at_arrival, woken_among, is_noted, IsBacklog, IsFirst, AreQuiet};
 ghost use Rattle.snow_issue.specs.declared.backlog.Kept.{Kept};
@@ -69,6 +69,13 @@ impl Backlog {
         ensures { result ≡ length self.now }
     {
         self.items.len()
+    }
+
+    /// Whether a reply with this number is kept.
+    pub(crate) fn has(&self, arrival: u64) -> bool
+        ensures { result ≡ is_some (at_arrival self.now arrival) }
+    {
+        self.items.get(arrival).is_some()
     }
 
     /// Appends a reply that isn't quiet, whose number is above all others. On want of memory all

@@ -8,6 +8,7 @@ mod bubbling;
 mod gone;
 mod laws;
 mod looking;
+mod named;
 mod offering;
 mod queue;
 mod replies;

@@ -8,10 +8,11 @@ ghost use Rattle.snow_issue.specs.Model.Lists.{holds_in};
 
 use crate::arrivals;
 use crate::backlog::Backlog;
+use crate::named::Named;
 use crate::work::Held;
 use snow_base::{Id, NodeId};
 use std::alloc::{AllocError, Global};
-use std::collections::{BTreeMap, BTreeSet};
+use std::collections::BTreeMap;
 use std::marker::Model;
 
 /// The held replies in order of arrival, each with what is remembered of it, and their numbers of
@@ -21,7 +22,7 @@ use std::marker::Model;
 pub(crate) struct Replies {
     alloc: Global,
     backlog: Backlog,
-    blocks: BTreeMap<Id, BTreeSet<u64>>,
+    blocks: BTreeMap<Id, Named>,
     polls: BTreeMap<u32, BTreeMap<NodeId, u64>>,
     next: u64,
 }
@@ -144,10 +145,10 @@ impl Replies {
     pub(crate) fn wake(&mut self, id: &Id)
         ensures { self.new ≡ map (woken (λ h. h.id) id.now) self.old }
     {
-        let Some(numbers) = self.blocks.get(id) else {
+        let Some(named) = self.blocks.get(id) else {
             return;
         };
-        arrivals::wake_each(&mut self.backlog, numbers, id);
+        arrivals::wake_each(&mut self.backlog, named.numbers(), id);
     }
 
     /// The replies to a poll go. It takes no memory.

@@ -2,7 +2,6 @@
 use Rattle.std.specs.Prelude.{◌≡◌, ℕ, ◌+◌, ◌<◌, ◌≤◌, Bool, true, false, ◌==◌, ◌&&◌, List, ◌∷◌, not, filter, Option, Some, None, bytes_eq, if◌then◌else◌}
 use Rattle.std.specs.BinaryHeap.{IsHeap}
 use Rattle.std.specs.BTreeMap.{BTreeMap, get, is_at}
-use Rattle.std.specs.BTreeSet.{BTreeSet, contains}
 use Rattle.std.specs.Cmp.Lexicographic.{slice_cmp}
 use Rattle.std.specs.List.{list_any, sum_by}
 use Rattle.std.specs.List.Sorted.{IsStrictlySortedBy}
@@ -65,20 +64,28 @@ pub record IsFirst (es : Entries) (a : ℕ) (reply : Held) : Type 0 where
 abbrev pub AreQuiet : Entries → Type 0
 AreQuiet es = (a : ℕ) (k : Kept) → at_arrival es a ≡ Some k → k.quiet ≡ true
 
--- the numbers of the replies that name a block
+-- the numbers of the replies that named a block
 abbrev pub BlockMap : Type 0
-BlockMap = BTreeMap (List ℕ) (BTreeSet ℕ)
+BlockMap = BTreeMap (List ℕ) (List ℕ)
 
 -- the numbers of the replies to a poll, by node
 abbrev pub PollMap : Type 0
 PollMap = BTreeMap ℕ (BTreeMap (List ℕ) ℕ)
 
-abbrev pub has_number_in : Option (BTreeSet ℕ) → ℕ → Bool
-has_number_in numbers a = option_map_or (λ s. contains nat_cmp s a) numbers false
+-- whether a number is in a list
+abbrev pub is_among : List ℕ → ℕ → Bool
+is_among numbers a = list_any (is_at (nat_cmp a)) numbers
+
+abbrev pub has_number_in : Option (List ℕ) → ℕ → Bool
+has_number_in numbers a = option_map_or (λ l. is_among l a) numbers false
 
 -- whether a number is kept under a block
 abbrev pub names : BlockMap → List ℕ → ℕ → Bool
 names blocks id a = has_number_in (get (slice_cmp nat_cmp) blocks id) a
+
+-- the numbers of these replies are kept where they were
+abbrev pub StaysNamed : Entries → (List ℕ → ℕ → Bool) → (List ℕ → ℕ → Bool) → Type 0
+StaysNamed es before now = (id : List ℕ) (a : ℕ) (k : Kept) → at_arrival es a ≡ Some k → before id a ≡ true → now id a ≡ true
 
 abbrev pub number_of_node : Option (BTreeMap (List ℕ) ℕ) → List ℕ → Option ℕ
 number_of_node nodes node = option_and_then (λ m. get (slice_cmp nat_cmp) m node) nodes

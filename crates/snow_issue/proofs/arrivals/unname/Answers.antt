@@ -7,7 +7,7 @@ use Rattle.snow_issue.proofs.Numbered.{nested_same}
 use Rattle.snow_issue.proofs.arrivals.unname.Goals as goal
 
 pub returns-then-unname_number : goal.returns-then-unname_number
-returns-then-unname_number c q a =
+returns-then-unname_number c q a k found named =
     nested_same (slice_cmp nat_cmp) exact_bytes has_number_in c.unname_number.new.blocks c.remove.new.self c.args.id.now None c.remove.ensures.updates.0
     (λ j. sym (c.if-unname_number.ensures.none j)) q a
-    ∙ c.unname_number.ensures.left q a
+    ∙ c.unname_number.ensures.left q a k found named
