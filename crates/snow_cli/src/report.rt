@@ -3,11 +3,9 @@ ghost use Rattle.snow_cli.specs.Clauses.Answer.{TookLine, bad_line, boot_line, e
 
 use crate::status::Finish;
 use snow_base::{Sink, write_whole};
-use snow_boot::BootStop;
 use snow_digits::Text;
-use snow_engine::{BadKind, End};
+use snow_engine::{BadKind, BootStop, End, RosterFault};
 use snow_flake::ParamFault;
-use snow_sample::RosterFault;
 
 /// Tells on standard error how a command ended, or that there was none. A fault there changes
 /// nothing.

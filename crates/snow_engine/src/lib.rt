@@ -17,4 +17,6 @@ pub use end::{BadKind, End};
 pub use engine::{Engine, Task};
 pub use runner::Runner;
 pub use serving::serve;
+pub use snow_boot::BootStop;
+pub use snow_sample::RosterFault;
 pub use stop::EngineStop;

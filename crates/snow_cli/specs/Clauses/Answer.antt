@@ -6,11 +6,11 @@ use Rattle.snow_base.specs.Clauses.Outside.{AppendsFront, Rose}
 use Rattle.snow_flake.specs.Model.Rule.{Answer, by_preference, by_flake}
 use Rattle.snow_flake.specs.declared.params.ParamFault.{ParamFault}
 use Rattle.snow_flake.specs.declared.params.ParamFault.TheVariants as params
-use Rattle.snow_sample.specs.declared.roster.RosterFault.{RosterFault}
-use Rattle.snow_sample.specs.declared.roster.RosterFault.TheVariants as roster
+use Rattle.snow_engine.specs.RosterFault.{RosterFault}
+use Rattle.snow_engine.specs.RosterFault.TheVariants as roster
 use Rattle.hex.specs.Hex.{encode_lower}
-use Rattle.snow_boot.specs.BootStop.{BootStop}
-use Rattle.snow_boot.specs.BootStop.TheVariants as boot
+use Rattle.snow_engine.specs.BootStop.{BootStop}
+use Rattle.snow_engine.specs.BootStop.TheVariants as boot
 use Rattle.snow_chain.specs.Model.Chain.{Rules}
 use Rattle.snow_chain.specs.Model.Plain.{plain_rules}
 use Rattle.snow_chain.specs.Model.Tally.{tally_rules}
