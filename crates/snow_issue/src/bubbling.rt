@@ -25,18 +25,9 @@ fn is_found<B: Board>(board: &B, id: &Id) -> bool
     board.is_pending(id)
 }
 
-/// Returns the vote that a reply gives. Mostly its block is pending, and so is itself the vote.
+/// Returns the vote that a reply gives. Mostly its block is pending, and so is itself the vote. The
+/// gone list can hold a circle, so the bound on the steps binds.
 pub(crate) fn bubble<B: Board>(gone: &GoneList, board: &B, id: &Id) -> Option<Id>
-    ensures { result ≡ bubbled_in MOST_GONE gone.now (B.board board.now) id.now }
-{
-    if board.is_pending(id) {
-        return Some(*id);
-    }
-    replace_gone(gone, board, id)
-}
-
-// The vote of a block that isn't pending, step by step. The gone list can hold a circle, so the bound on the steps binds.
-fn replace_gone<B: Board>(gone: &GoneList, board: &B, id: &Id) -> Option<Id>
     ensures { result ≡ bubbled_in MOST_GONE gone.now (B.board board.now) id.now }
 {
     let mut at = *id;
