@@ -248,13 +248,15 @@ fn class(node: &NodeId, mask: u64) -> usize
     ((spread >> 48 ^ spread >> 54) & mask) as usize
 }
 
-// A node's first eight bytes and its last eight, which may count nodes, spread by a product. They are
-// read as they are where nodes are compared, which isn't done byte by byte then.
+// The sum of a node's first eight bytes and its last eight, which may count nodes, spread by a product.
+// They are read as they are where nodes are compared, which isn't done byte by byte then.
 fn spread(node: &NodeId) -> u64
     ensures { result ≡ spread_of node.now }
 {
     let bytes = node.as_bytes();
-    (word(bytes, 0) ^ word(bytes, 12)).wrapping_mul(0x9e37_79b9_7f4a_7c15)
+    word(bytes, 0)
+        .wrapping_add(word(bytes, 12))
+        .wrapping_mul(0x9e37_79b9_7f4a_7c15)
 }
 
 // Eight bytes as a number, the first one the lowest.

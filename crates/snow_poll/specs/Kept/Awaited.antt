@@ -30,9 +30,9 @@ word_at from bytes =
     ∷ slice_index bytes (from + 4) ∷ slice_index bytes (from + 5) ∷ slice_index bytes (from + 6) ∷ slice_index bytes (from + 7) ∷ []
     )
 
--- a node's first eight bytes and its last eight, spread by a product
+-- the sum of a node's first eight bytes and its last eight, spread by a product
 unfoldable pub spread_of : List ℕ → ℕ
-spread_of node = bit_xor (word_at 0 node) (word_at 12 node) * 11400714819323198485 % 2 ^ 64
+spread_of node = (word_at 0 node + word_at 12 node) % 2 ^ 64 * 11400714819323198485 % 2 ^ 64
 
 -- the class of a node, by the highest bits of its spread bytes
 abbrev pub class_of : ℕ → List ℕ → ℕ
