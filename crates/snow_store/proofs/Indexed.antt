@@ -1,17 +1,16 @@
 -- The indexes of the kept blocks, with one block more.
 use Rattle.std.proofs.Common.{◌≡◌, ℕ, zero, suc, ◌<◌, Bool, true, false, ◌==◌, cond, List, [], ◌∷◌, ◌++◌, length, reverse, Option, Some, None, bytes_eq, nat_lt, if◌then◌else◌, inl, inr, refl, sym, ap, ◌∙◌, arith, ⊎_elim}
 use Rattle.std.specs.BTreeMap.{BTreeMap, get, is_at}
-use Rattle.std.specs.Cmp.Lexicographic.{slice_cmp}
 use Rattle.std.specs.List.{slice_get}
 use Rattle.std.specs.Option.{option_map}
 use Rattle.std.specs.Ordering.{nat_cmp, is_eq}
 use Rattle.std.proofs.lemmas.Bool.{eq-eqb, ne_eqb, lt-ltb, le-ltb, cases_order}
 use Rattle.std.proofs.lemmas.List.{length-reverse, reverse-append}
-use Rattle.std.proofs.lemmas.Map.Text.{is_eq-slice_cmp}
+use Rattle.snow_map.specs.Clauses.Entries.{value_of, HasAt}
 use Rattle.snow_store.specs.declared.store.KeptBlock.{KeptBlock}
-use Rattle.snow_store.specs.declared.index.Children.{Children}
+use Rattle.snow_store.specs.declared.index.Links.{Links}
 use Rattle.snow_store.specs.Model.Keeping.{held, highest, higher}
-use Rattle.snow_store.specs.Kept.Indexing.{place_of, top_of, higher_height, with_child, children_of, HasPlaces, HasTops, HasChildren}
+use Rattle.snow_store.specs.Kept.Indexing.{place_of, top_of, higher_height, with_child, children_of, links_of, with_top, adopting, links_or_none, links_at, HasPlaces, HasLinks}
 use Rattle.snow_store.proofs.Cases.{same_id, none_not, picked, passed}
 
 -- whichever of two numbers is compared to the other
@@ -90,46 +89,37 @@ higher_is b (Some c) = by_test (nat_lt b.header.height c.header.height)
     by_test true = refl
     by_test false = refl
 
-pub tops_more : (before now : BTreeMap (List ℕ) ℕ) (kept : List KeptBlock) (b : KeptBlock) (id : List ℕ) (height top : ℕ)
-    → ((q : List ℕ) → get (slice_cmp nat_cmp) now q ≡ cond (is_at (slice_cmp nat_cmp id) q) (Some top) (get (slice_cmp nat_cmp) before q))
-    → top ≡ higher_height height (get (slice_cmp nat_cmp) before id)
-    → b.header.id ≡ id → b.header.height ≡ height → HasTops before kept → HasTops now (b ∷ kept)
+-- a block's identifier has its top, and a parent its children
+tops_more : (before mid : List (List ℕ × Links)) (kept : List KeptBlock) (b : KeptBlock) (links : Links)
+    → links ≡ links_of kept b.header.id → HasAt before mid b.header.id (Some (with_top b.header.height links)) → HasLinks before kept
+    → (q : List ℕ) → links_at mid q ≡ record { top = top_of (b ∷ kept) q; children = children_of kept q }
 unfolding highest
-tops_more before now kept b id height top change is named at has q =
-    change q ∙ ap (λ t. cond t (Some top) (get (slice_cmp nat_cmp) before q)) (is_eq-slice_cmp id q ∙ ap (λ i. bytes_eq i q) (sym named))
-    ∙ by_test (bytes_eq b.header.id q) refl
+tops_more before mid kept b links is change has q = ap links_or_none (change q) ∙ by_test (bytes_eq b.header.id q) refl
   where
     by_test : (t : Bool) → bytes_eq b.header.id q ≡ t
-        → cond t (Some top) (get (slice_cmp nat_cmp) before q) ≡ option_map (λ x. x.header.height) (if t then Some (higher b (highest kept q)) else highest kept q)
+        → links_or_none (cond t (Some (with_top b.header.height links)) (value_of before q))
+        ≡ record { top = option_map (λ x. x.header.height) (if t then Some (higher b (highest kept q)) else highest kept q); children = children_of kept q }
     by_test true e =
-        let same : id ≡ q = sym named ∙ same_id b.header.id q e in
-        ap (λ n. Some n) (is ∙ ap (λ i. higher_height height (get (slice_cmp nat_cmp) before i)) same ∙ ap (λ o. higher_height height o) (has q)
-        ∙ ap (λ n. higher_height n (top_of kept q)) (sym at) ∙ sym (higher_is b (highest kept q)))
+        ap (with_top b.header.height) (is ∙ ap (links_of kept) (same_id b.header.id q e))
+        ∙ ap (λ (n : ℕ). record { top = Some n; children = children_of kept q }) (sym (higher_is b (highest kept q)))
     by_test false e = has q
 
-pub no_tops : (tops : BTreeMap (List ℕ) ℕ) → tops.entries ≡ [] → HasTops tops []
-unfolding highest
-no_tops tops none id = rw none refl
-
--- ---- by parent
-
-pub no_children : (children : BTreeMap (List ℕ) Children) → children.entries ≡ [] → HasChildren children []
+pub links_more : (before mid now : List (List ℕ × Links)) (kept : List KeptBlock) (b : KeptBlock) (links : Links)
+    → links ≡ links_of kept b.header.id → HasAt before mid b.header.id (Some (with_top b.header.height links))
+    → HasAt mid now b.header.parent (Some (adopting b.header.height (links_at mid b.header.parent)))
+    → HasLinks before kept → HasLinks now (b ∷ kept)
 unfolding children_of
-no_children children none id = rw none refl
-
-pub children_more : (before now : BTreeMap (List ℕ) Children) (kept : List KeptBlock) (b : KeptBlock) (parent : List ℕ) (height : ℕ) (grown : Children)
-    → ((q : List ℕ) → get (slice_cmp nat_cmp) now q ≡ cond (is_at (slice_cmp nat_cmp parent) q) (Some grown) (get (slice_cmp nat_cmp) before q))
-    → grown ≡ with_child height (get (slice_cmp nat_cmp) before parent)
-    → b.header.parent ≡ parent → b.header.height ≡ height → HasChildren before kept → HasChildren now (b ∷ kept)
-unfolding children_of
-children_more before now kept b parent height grown change is named at has q =
-    change q ∙ ap (λ t. cond t (Some grown) (get (slice_cmp nat_cmp) before q)) (is_eq-slice_cmp parent q ∙ ap (λ i. bytes_eq i q) (sym named))
-    ∙ by_test (bytes_eq b.header.parent q) refl
+links_more before mid now kept b links is top child has q = ap links_or_none (child q) ∙ by_test (bytes_eq b.header.parent q) refl
   where
+    mid_has : (id : List ℕ) → links_at mid id ≡ record { top = top_of (b ∷ kept) id; children = children_of kept id }
+    mid_has = tops_more before mid kept b links is top has
+
     by_test : (t : Bool) → bytes_eq b.header.parent q ≡ t
-        → cond t (Some grown) (get (slice_cmp nat_cmp) before q) ≡ (if t then Some (with_child b.header.height (children_of kept q)) else children_of kept q)
-    by_test true e =
-        let same : parent ≡ q = sym named ∙ same_id b.header.parent q e in
-        ap (λ c. Some c) (is ∙ ap (λ i. with_child height (get (slice_cmp nat_cmp) before i)) same ∙ ap (λ o. with_child height o) (has q)
-        ∙ ap (λ n. with_child n (children_of kept q)) (sym at))
-    by_test false e = has q
+        → links_or_none (cond t (Some (adopting b.header.height (links_at mid b.header.parent))) (value_of mid q))
+        ≡ record { top = top_of (b ∷ kept) q; children = if t then Some (with_child b.header.height (children_of kept q)) else children_of kept q }
+    by_test true e = ap (λ i. adopting b.header.height (links_at mid i)) (same_id b.header.parent q e) ∙ ap (adopting b.header.height) (mid_has q)
+    by_test false e = mid_has q
+
+pub no_links : (by_id : List (List ℕ × Links)) → by_id ≡ [] → HasLinks by_id []
+unfolding highest children_of
+no_links by_id none id = rw none refl

@@ -5,12 +5,12 @@ use Rattle.std.specs.Option.{option_map}
 use Rattle.std.specs.Prelude.{is_some, Ok}
 use Rattle.snow_interval.specs.Model.Heights.{Heights, with_height, lowest}
 use Rattle.snow_store.specs.declared.store.KeptBlock.{KeptBlock}
-use Rattle.snow_store.specs.declared.index.Children.{Children}
+use Rattle.snow_store.specs.declared.index.Links.{Links}
 use Rattle.snow_store.specs.declared.stop.Verdict.TheVariants as verdict
 use Rattle.snow_store.specs.Model.Keeping.{Store, held, highest, taken, keeping}
 use Rattle.snow_store.specs.Laws.Linking.{IsLinked, held_heights}
 use Rattle.snow_store.specs.Model.Paths.{Fetch, path, last_of, wanted_below, missed_from, missed}
-use Rattle.snow_store.specs.Kept.Indexing.{IsStored, HasPlaces, HasTops, HasChildren, top_of}
+use Rattle.snow_store.specs.Kept.Indexing.{IsStored, HasPlaces, HasLinks, top_of}
 use Rattle.snow_store.proofs.Cases.{clash, none_not, same_some}
 use Rattle.snow_store.proofs.Indexed.{turned}
 use Rattle.snow_store.proofs.Holding.{highest_held}
@@ -27,20 +27,19 @@ more_heights kept b h = by_test (b.header.height == h)
     by_test false = refl
 
 -- a store with one block more
-pub stored_more : (s : Store) (b : KeptBlock) (places more_places : BTreeMap ℕ ℕ) (tops more_tops : BTreeMap (List ℕ) ℕ) (children more_children : BTreeMap (List ℕ) Children)
+pub stored_more : (s : Store) (b : KeptBlock) (places more_places : BTreeMap ℕ ℕ) (by_id more_by_id : List (List ℕ × Links))
     (floor : ℕ) (now_floor : ℕ) (runs more_runs : Heights)
-    → IsStored s places tops children floor runs → taken s b.header ≡ Ok verdict.Keeps → b.header.height < 2 ^ 64
-    → (HasPlaces places s.kept → HasPlaces more_places (b ∷ s.kept)) → (HasTops tops s.kept → HasTops more_tops (b ∷ s.kept)) → (HasChildren children s.kept → HasChildren more_children (b ∷ s.kept))
+    → IsStored s places by_id floor runs → taken s b.header ≡ Ok verdict.Keeps → b.header.height < 2 ^ 64
+    → (HasPlaces places s.kept → HasPlaces more_places (b ∷ s.kept)) → (HasLinks by_id s.kept → HasLinks more_by_id (b ∷ s.kept))
     → now_floor ≡ floor → ((h : ℕ) → more_runs h ≡ with_height runs b.header.height h)
-    → IsStored (keeping s b) more_places more_tops more_children now_floor more_runs
-stored_more s b places more_places tops more_tops children more_children floor now_floor runs more_runs is e small p t c same_floor grown =
+    → IsStored (keeping s b) more_places more_by_id now_floor more_runs
+stored_more s b places more_places by_id more_by_id floor now_floor runs more_runs is e small p l same_floor grown =
     let facts = keeps_facts s b.header e in
     let few = facts.few in record {
       linked = kept_linked s b is.linked e;
       few = omega (arith, few);
       places = p is.places;
-      tops = t is.tops;
-      children = c is.children;
+      links = l is.links;
       floor = same_floor ∙ is.floor;
       runs = λ h. grown h ∙ ap (λ x. x || runs h) (turned h b.header.height) ∙ ap (λ x. (b.header.height == h) || x) (is.runs h) ∙ sym (more_heights s.kept b h);
       fits = λ h at. by_test h (b.header.height == h) refl (sym (more_heights s.kept b h) ∙ at);
@@ -91,16 +90,15 @@ unfolding missed
 missed_is f t = refl
 
 -- nothing is kept
-pub none_stored : (last : List ℕ) (height : ℕ) (places : BTreeMap ℕ ℕ) (tops : BTreeMap (List ℕ) ℕ) (children : BTreeMap (List ℕ) Children) (floor : ℕ) (runs : Heights)
-    → HasPlaces places [] → HasTops tops [] → HasChildren children [] → floor ≡ height → ((h : ℕ) → runs h ≡ false)
-    → IsStored record { last = last; height = height; kept = [] } places tops children floor runs
+pub none_stored : (last : List ℕ) (height : ℕ) (places : BTreeMap ℕ ℕ) (by_id : List (List ℕ × Links)) (floor : ℕ) (runs : Heights)
+    → HasPlaces places [] → HasLinks by_id [] → floor ≡ height → ((h : ℕ) → runs h ≡ false)
+    → IsStored record { last = last; height = height; kept = [] } places by_id floor runs
 unfolding held
-none_stored last height places tops children floor runs p t c f none = record {
+none_stored last height places by_id floor runs p l f none = record {
   linked = record { apart = tt; above = tt; founded = λ b e. none_not b e; linked = λ h x b e e2. none_not x e };
   few = omega arith;
   places = p;
-  tops = t;
-  children = c;
+  links = l;
   floor = f;
   runs = none;
   fits = λ h at. clash false at refl;

@@ -1,8 +1,9 @@
 ghost use Rattle.std.specs.Prelude.{◌≡◌, ◌^◌, ◌<◌, List, ◌∷◌, length, OnOk};
 ghost use Rattle.snow_store.specs.declared.store.KeptBlock.{KeptBlock};
-ghost use Rattle.snow_store.specs.Kept.Indexing.{HasPlaces, HasTops, HasChildren, with_child, lower_height, higher_height, stray_height};
+ghost use Rattle.snow_store.specs.Kept.Indexing.{HasPlaces, HasLinks, links_at, links_of, with_top, adopting, with_child, lower_height, higher_height, stray_height};
 
-use snow_base::Id;
+use snow_base::{Header, Id};
+use snow_map::IdMap;
 use std::alloc::AllocError;
 use std::collections::BTreeMap;
 
@@ -14,6 +15,16 @@ pub struct Children {
     pub lowest: u64,
     /// The lowest of the others, if there are others.
     pub second: Option<u64>,
+}
+
+/// At which heights an identifier's block is kept, and children of it.
+/// Rule: this project's own.
+#[derive(Clone, Copy)]
+pub struct Links {
+    /// The highest height at which it is kept, if it is.
+    pub top: Option<u64>,
+    /// The two lowest heights of its kept children, if there are any.
+    pub children: Option<Children>,
 }
 
 // The block that came at this place is found by its height.
@@ -29,26 +40,52 @@ pub(crate) fn note_place(
     Ok(())
 }
 
-// The highest height of a block's identifier is found.
-pub(crate) fn note_top(tops: &mut BTreeMap<Id, u64>, id: Id, height: u64) -> Result<(), AllocError>
-    ensures { OnOk result ((kept : List KeptBlock) (b : KeptBlock) → b.header.id ≡ id → b.header.height ≡ height → HasTops tops.old kept → HasTops tops.new (b ∷ kept)) }
+// What is kept of an identifier.
+pub(crate) fn links_at(by_id: &IdMap<Links>, id: &Id) -> Links
+    ensures { result ≡ links_at by_id.now id.now }
 {
-    let top = higher(height, tops.get(&id).copied());
-    tops.insert(id, top)?;
+    match by_id.get(id) {
+        Some(links) => *links,
+        None => Links {
+            top: None,
+            children: None,
+        },
+    }
+}
+
+// The block is found by its identifier, of which this is kept before, and by its parent.
+pub(crate) fn note_links(
+    by_id: &mut IdMap<Links>,
+    header: &Header,
+    links: Links,
+) -> Result<(), AllocError>
+    ensures { OnOk result ((kept : List KeptBlock) (b : KeptBlock) → b.header ≡ header.now → links ≡ links_of kept header.now.id → HasLinks by_id.old kept → HasLinks by_id.new (b ∷ kept)) }
+{
+    by_id.insert(header.id, with_top(header.height, links))?;
+    // The parent second, since it may be the block itself.
+    let parent = links_at(&*by_id, &header.parent);
+    by_id.insert(header.parent, adopting(header.height, parent))?;
     Ok(())
 }
 
-// The two lowest heights of a parent's children are found.
-pub(crate) fn note_child(
-    children: &mut BTreeMap<Id, Children>,
-    parent: Id,
-    height: u64,
-) -> Result<(), AllocError>
-    ensures { OnOk result ((kept : List KeptBlock) (b : KeptBlock) → b.header.parent ≡ parent → b.header.height ≡ height → HasChildren children.old kept → HasChildren children.new (b ∷ kept)) }
+// The highest height with one height more.
+fn with_top(height: u64, links: Links) -> Links
+    ensures { result ≡ with_top height links }
 {
-    let grown = with_child(height, children.get(&parent).copied());
-    children.insert(parent, grown)?;
-    Ok(())
+    Links {
+        top: Some(higher(height, links.top)),
+        children: links.children,
+    }
+}
+
+// The two lowest heights of children with one child more.
+fn adopting(height: u64, links: Links) -> Links
+    ensures { result ≡ adopting height links }
+{
+    Links {
+        top: links.top,
+        children: Some(with_child(height, links.children)),
+    }
 }
 
 // The two lowest heights with one height more.

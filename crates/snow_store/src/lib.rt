@@ -8,7 +8,7 @@ pub mod needs;
 mod stop;
 mod store;
 
-pub use index::Children;
+pub use index::{Children, Links};
 pub use laws::{linked_law, path_law, progress_law, run_law};
 pub use needs::Due;
 pub use stop::{BootStop, Verdict};

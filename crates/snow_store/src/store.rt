@@ -4,16 +4,17 @@ ghost use Rattle.std.specs.Option.{option_copied};
 ghost use Rattle.snow_store.specs.declared.stop.Verdict.TheVariants.{Keeps};
 ghost use Rattle.snow_store.specs.Model.Keeping.{held, highest, stray, child_stop, fork_stop, below_stop, above_stop, misplaced, placed_there, placed, taken, keeping, after_taking, Answers};
 ghost use Rattle.snow_store.specs.Model.Paths.{has_id, wanted_below, missed_from};
-ghost use Rattle.snow_store.specs.Kept.Indexing.{top_of};
+ghost use Rattle.snow_store.specs.Kept.Indexing.{top_of, children_of, links_of};
 ghost use Rattle.snow_store.specs.Laws.Linking.{IsLinked, held_heights};
 ghost use Rattle.snow_store.specs.Model.Needing.{need_at};
 
 use crate::index;
-use crate::index::Children;
+use crate::index::{Children, Links};
 use crate::stop::{BootStop, Verdict};
 use snow_base::limits::MOST_KEPT;
 use snow_base::{Bytes, Header, Id};
 use snow_interval::Kept;
+use snow_map::IdMap;
 use std::alloc::{AllocError, Global};
 use std::collections::BTreeMap;
 use std::marker::Model;
@@ -38,8 +39,7 @@ pub struct Store<H: Kept> {
     height: u64,
     kept: Vec<KeptBlock>,
     places: BTreeMap<u64, usize>,
-    tops: BTreeMap<Id, u64>,
-    children: BTreeMap<Id, Children>,
+    by_id: IdMap<Links>,
     heights: H,
     whole: bool,
     alloc: Global,
@@ -56,7 +56,7 @@ impl<H: Kept> Model for Store<H> {
 
     ghost view = { λ a. record { whole = a.whole; store = record { last = a.last; height = a.height; kept = reverse a.kept.items } } };
 
-    ghost invariant = { λ a. a.whole ≡ true → IsStored record { last = a.last; height = a.height; kept = reverse a.kept.items } a.places a.tops a.children (H.floor a.heights) (H.held a.heights) };
+    ghost invariant = { λ a. a.whole ≡ true → IsStored record { last = a.last; height = a.height; kept = reverse a.kept.items } a.places a.by_id (H.floor a.heights) (H.held a.heights) };
 }
 
 impl<H: Kept> Store<H> {
@@ -70,8 +70,7 @@ impl<H: Kept> Store<H> {
             height,
             kept: Vec::new(alloc),
             places: BTreeMap::new(alloc),
-            tops: BTreeMap::new(alloc),
-            children: BTreeMap::new(alloc),
+            by_id: IdMap::new(alloc),
             heights: H::begin(alloc, height),
             whole: true,
             alloc,
@@ -135,15 +134,24 @@ impl<H: Kept> Store<H> {
         requires { self.now.whole ≡ true }
         ensures { result ≡ top_of self.now.store.kept id.now }
     {
-        self.tops.get(id).copied()
+        self.links_of(id).top
+    }
+
+    /// Returns what is kept of an identifier.
+    fn links_of(&self, id: &Id) -> Links
+        requires { self.now.whole ≡ true }
+        ensures { result ≡ links_of self.now.store.kept id.now }
+    {
+        index::links_at(&self.by_id, id)
     }
 
     /// Returns the lowest kept child of a block that isn't right above its height.
-    fn stray(&self, header: &Header) -> Option<&KeptBlock>
-        requires { self.now.whole ≡ true }
+    fn stray(&self, header: &Header, children: Option<Children>) -> Option<&KeptBlock>
+        requires whole { self.now.whole ≡ true }
+        requires children { children ≡ children_of self.now.store.kept header.now.id }
         ensures { option_copied result ≡ stray self.now.store.kept header.now.id header.now.height }
     {
-        let children = self.children.get(&header.id).copied();
+        self.links();
         match index::stray_height(header.height, children) {
             Some(height) => self.at(height),
             None => None,
@@ -151,11 +159,12 @@ impl<H: Kept> Store<H> {
     }
 
     /// Returns the stop where a kept child of a block is at a wrong height.
-    fn refused(&self, header: &Header) -> Option<BootStop>
-        requires { self.now.whole ≡ true }
+    fn refused(&self, header: &Header, children: Option<Children>) -> Option<BootStop>
+        requires whole { self.now.whole ≡ true }
+        requires children { children ≡ children_of self.now.store.kept header.now.id }
         ensures { result ≡ child_stop (stray self.now.store.kept header.now.id header.now.height) }
     {
-        let child = self.stray(header)?;
+        let child = self.stray(header, children)?;
         Some(BootStop::Refused {
             id: child.header.id,
         })
@@ -163,11 +172,12 @@ impl<H: Kept> Store<H> {
 
     /// Returns what becomes of a block that is taken: the first of the rules that applies.
     #[tactic(auto, unfolding(crate::specs::Model::Keeping::taken))]
-    fn judge(&self, header: &Header) -> Result<Verdict, BootStop>
-        requires { self.now.whole ≡ true }
+    fn judge(&self, header: &Header, children: Option<Children>) -> Result<Verdict, BootStop>
+        requires whole { self.now.whole ≡ true }
+        requires children { children ≡ children_of self.now.store.kept header.now.id }
         ensures { result ≡ taken self.now.store header.now }
     {
-        if let Some(stop) = self.refused(header) {
+        if let Some(stop) = self.refused(header, children) {
             return Err(stop);
         }
         if header.height <= self.height {
@@ -274,23 +284,24 @@ impl<H: Kept> Store<H> {
         ensures answer { Answers result (taken self.old.store header.now) }
         ensures store { IfOk result (λ verdict. self.new ≡ record { whole = true; store = after_taking self.old.store record { header = header.now; bytes = bytes.now } verdict }) }
     {
-        let verdict = self.judge(header)?;
+        let links = self.links_of(&header.id);
+        let verdict = self.judge(header, links.children)?;
         if let Verdict::Keeps = verdict {
-            self.keep(header, bytes)?;
+            self.keep(header, bytes, links)?;
         }
         Ok(verdict)
     }
 
     /// Keeps a block that fits.
-    fn keep(&mut self, header: &Header, bytes: &[u8]) -> Result<(), AllocError>
+    fn keep(&mut self, header: &Header, bytes: &[u8], links: Links) -> Result<(), AllocError>
         requires whole { self.old.whole ≡ true }
+        requires links { links ≡ links_of self.old.store.kept header.now.id }
         requires fits { taken self.old.store header.now ≡ Ok Keeps }
         ensures { OnOk result (self.new ≡ record { whole = true; store = keeping self.old.store record { header = header.now; bytes = bytes.now } }) }
     {
         self.whole = false;
         index::note_place(&mut self.places, header.height, self.kept.len())?;
-        index::note_top(&mut self.tops, header.id, header.height)?;
-        index::note_child(&mut self.children, header.parent, header.height)?;
+        index::note_links(&mut self.by_id, header, links)?;
         let _ = self.heights.add(header.height)?;
         let bytes = Bytes::from_slice(self.alloc, bytes)?;
         self.kept.push(KeptBlock {
@@ -324,8 +335,8 @@ impl<H: Kept> Store<H> {
         requires { self.now.whole ≡ true }
         ensures { (noted : List (List ℕ)) → found ≡ has_id noted target.now → result ≡ missed_from self.now.store noted target.now (highest self.now.store.kept target.now) }
     {
-        match self.tops.get(target) {
-            Some(top) => self.wanted_at(*top),
+        match self.top(target) {
+            Some(top) => self.wanted_at(top),
             None => wanted(target, *target == self.last || found),
         }
     }

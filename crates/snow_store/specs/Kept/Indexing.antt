@@ -1,13 +1,14 @@
--- The indexes of the kept blocks: by height, by identifier and by parent.
+-- The indexes of the kept blocks: by height, and by identifier.
 use Rattle.std.specs.Prelude.{◌≡◌, ℕ, ◌+◌, ◌^◌, ◌<◌, ◌≤◌, Bool, true, ◌==◌, List, [], ◌∷◌, length, Option, Some, None, nat_lt, bytes_eq, if◌then◌else◌}
 use Rattle.std.specs.BTreeMap.{BTreeMap, get}
-use Rattle.std.specs.Cmp.Lexicographic.{slice_cmp}
 use Rattle.std.specs.Option.{option_map}
 use Rattle.std.specs.Ordering.{nat_cmp}
 use Rattle.snow_base.specs.declared.limits.TheConstants.{MOST_KEPT}
 use Rattle.snow_interval.specs.Model.Heights.{Heights}
+use Rattle.snow_map.specs.Clauses.Entries.{value_of}
 use Rattle.snow_store.specs.declared.store.KeptBlock.{KeptBlock}
 use Rattle.snow_store.specs.declared.index.Children.{Children}
+use Rattle.snow_store.specs.declared.index.Links.{Links}
 use Rattle.snow_store.specs.Model.Keeping.{Store, highest}
 use Rattle.snow_store.specs.Laws.Linking.{IsLinked, held_heights}
 
@@ -53,19 +54,34 @@ stray_height height (Some c) = if c.lowest == height + 1 then c.second else Some
 abbrev pub HasPlaces : BTreeMap ℕ ℕ → List KeptBlock → Type 0
 HasPlaces places kept = (h : ℕ) → get nat_cmp places h ≡ place_of kept h
 
-abbrev pub HasTops : BTreeMap (List ℕ) ℕ → List KeptBlock → Type 0
-HasTops tops kept = (id : List ℕ) → get (slice_cmp nat_cmp) tops id ≡ top_of kept id
+-- at which heights an identifier's block is kept, and children of it
+abbrev pub links_of : List KeptBlock → List ℕ → Links
+links_of kept id = record { top = top_of kept id; children = children_of kept id }
 
-abbrev pub HasChildren : BTreeMap (List ℕ) Children → List KeptBlock → Type 0
-HasChildren children kept = (id : List ℕ) → get (slice_cmp nat_cmp) children id ≡ children_of kept id
+-- the same with one height more, or one child more
+abbrev pub with_top : ℕ → Links → Links
+with_top h l = record { top = Some (higher_height h l.top); children = l.children }
+
+abbrev pub adopting : ℕ → Links → Links
+adopting h l = record { top = l.top; children = Some (with_child h l.children) }
+
+-- what is kept of an identifier, where something is
+abbrev pub links_or_none : Option Links → Links
+links_or_none None = record { top = None; children = None }
+links_or_none (Some l) = l
+
+abbrev pub links_at : List (List ℕ × Links) → List ℕ → Links
+links_at by_id id = links_or_none (value_of by_id id)
+
+abbrev pub HasLinks : List (List ℕ × Links) → List KeptBlock → Type 0
+HasLinks by_id kept = (id : List ℕ) → links_at by_id id ≡ links_of kept id
 
 -- the kept blocks are linked, at most so many, and each index is theirs
-pub record IsStored (s : Store) (by_height : BTreeMap ℕ ℕ) (by_id : BTreeMap (List ℕ) ℕ) (by_parent : BTreeMap (List ℕ) Children) (above : ℕ) (heights : Heights) : Type 0 where
+pub record IsStored (s : Store) (by_height : BTreeMap ℕ ℕ) (by_id : List (List ℕ × Links)) (above : ℕ) (heights : Heights) : Type 0 where
   pub linked : IsLinked s
   pub few : length s.kept ≤ MOST_KEPT
   pub places : HasPlaces by_height s.kept
-  pub tops : HasTops by_id s.kept
-  pub children : HasChildren by_parent s.kept
+  pub links : HasLinks by_id s.kept
   pub floor : above ≡ s.height
   pub runs : (h : ℕ) → heights h ≡ held_heights s.kept h
   pub fits : (h : ℕ) → held_heights s.kept h ≡ true → h < 2 ^ 64

@@ -4,7 +4,7 @@ use Rattle.std.specs.Prelude.{is_some, Ok}
 use Rattle.std.proofs.lemmas.List.{reverse-append, length-reverse}
 use Rattle.snow_store.specs.declared.store.KeptBlock.{KeptBlock}
 use Rattle.snow_store.specs.declared.stop.Verdict.TheVariants as verdict
-use Rattle.snow_store.specs.Kept.Indexing.{Shelf}
+use Rattle.snow_store.specs.Kept.Indexing.{Shelf, links_of}
 use Rattle.snow_store.specs.Model.Keeping.{Store, taken}
 use Rattle.snow_store.proofs.Linked.{keeps_facts}
 use Rattle.snow_store.proofs.Storing.{stored_more}
@@ -32,9 +32,8 @@ invariant_of-self-2 g c whole =
     let is = c.self.invariant (ap (λ (v : Shelf). v.whole) c.self.view_is ∙ c.requires.whole) in
     let fits : taken s b.header ≡ Ok verdict.Keeps = ap (λ (v : Shelf). taken v.store b.header) c.self.view_is ∙ c.requires.fits in
     rw (c.in_ok-push.ensures.items, reverse-append items (b ∷ []))
-    (stored_more s b c.self.inside.places c.note_place.new.places c.self.inside.tops c.note_top.new.tops c.self.inside.children c.note_child.new.children
+    (stored_more s b c.self.inside.places c.note_place.new.places c.self.inside.by_id c.note_links.new.by_id
     (g.H.Kept.floor c.self.inside.heights) (g.H.Kept.floor c.add.new.self) (g.H.Kept.held c.self.inside.heights) (g.H.Kept.held c.add.new.self) is fits c.note_place.ensures.fits
     (c.in_ok-note_place.ensures.noted (reverse items) b refl (let e : length (reverse items) ≡ c.len.result = omega (arith, length-reverse items, c.len.ensures, c.self.inside.kept.ok.0) in e))
-    (c.in_ok-note_top.ensures (reverse items) b refl refl)
-    (c.in_ok-note_child.ensures (reverse items) b refl refl)
+    (c.in_ok-note_links.ensures (reverse items) b refl (c.requires.links ∙ sym (ap (λ (v : Shelf). links_of v.store.kept c.args.header.now.id) c.self.view_is)))
     c.add.ensures.floor c.in_ok-add.ensures.held)
