@@ -335,6 +335,7 @@ impl<H: Kept> Store<H> {
         requires { self.now.whole ≡ true }
         ensures { (noted : List (List ℕ)) → found ≡ has_id noted target.now → result ≡ missed_from self.now.store noted target.now (highest self.now.store.kept target.now) }
     {
+        self.links();
         match self.top(target) {
             Some(top) => self.wanted_at(top),
             None => wanted(target, *target == self.last || found),

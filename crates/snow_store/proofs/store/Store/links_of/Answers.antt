@@ -1,5 +1,5 @@
 -- What the index has of the identifier.
-use Rattle.std.proofs.Common.{sym, ap, ◌∙◌}
+use Rattle.std.proofs.Common.{ap, ◌∙◌}
 use Rattle.snow_store.specs.Kept.Indexing.{Shelf, links_of}
 use Rattle.snow_store.proofs.store.Store.links_of.Goals as goal
 
