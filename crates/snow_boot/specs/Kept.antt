@@ -2,4 +2,5 @@
 pub mod BootCode
 pub mod Coursing
 pub mod Fetching
+pub mod Reply
 pub mod Surveying

@@ -8,6 +8,7 @@ ghost use Rattle.snow_boot.specs.Clauses.Promising.{Promises};
 
 use crate::fetching::Fetching;
 use crate::inquiring;
+use crate::reply::ReplyBlocks;
 use crate::survey::Survey;
 use snow_base::{Blocks, Bytes, Id, Ids, NodeId, Numbers};
 use snow_chain::Chain;
@@ -16,6 +17,7 @@ use snow_interval::Kept;
 use snow_lines::Lines;
 use snow_sample::Roster;
 use snow_store::BootStop;
+use snow_wire::Packed;
 use std::alloc::Global;
 use std::marker::{Model, PhantomData};
 
@@ -181,6 +183,36 @@ impl<C: Chain, H: Kept> Boot<C, H> {
         ensures promise { Promises result log.old log.new self.new.boot }
     {
         self.going = false;
+        let blocks = ReplyBlocks::Listed(blocks.list());
+        let came = self
+            .parts
+            .ancestors(node, number, blocks, chain, numbers, log);
+        self.going = goes_on(&came);
+        came
+    }
+
+    /// Takes such a reply as `ancestors` does, whose blocks still stand in the payload of their
+    /// frame. Those that it keeps are copied once.
+    /// Rule: AvalancheGo, snow/engine/snowman/bootstrap.
+    pub fn ancestors_packed(
+        &mut self,
+        node: &NodeId,
+        number: u32,
+        blocks: Packed<'_>,
+        chain: &mut C,
+        numbers: &mut Numbers,
+        log: &mut Lines,
+    ) -> Result<Stage, BootStop>
+        requires { MayGoOn self.old (C.held chain.old) numbers.old }
+        ensures answer { Brings result self.new.boot numbers.new (C.held chain.new) (model.ancestors_came C.rules (last_state (C.held chain.old)) self.old.boot numbers.old node.now number blocks.entry).1 }
+        ensures lines { Logs result log.old log.new (model.ancestors_came C.rules (last_state (C.held chain.old)) self.old.boot numbers.old node.now number blocks.entry).0 }
+        ensures chain { Leaves result (C.held chain.old) (C.held chain.new) }
+        ensures goes_on { OnGoing result (MayGoOn self.new (C.held chain.new) numbers.new) }
+        ensures numbers { OnDone result (numbers.new ≡ numbers.old) }
+        ensures promise { Promises result log.old log.new self.new.boot }
+    {
+        self.going = false;
+        let blocks = ReplyBlocks::Packed(blocks);
         let came = self
             .parts
             .ancestors(node, number, blocks, chain, numbers, log);
@@ -222,6 +254,28 @@ impl<C: Chain, H: Kept> Boot<C, H> {
         &mut self,
         frame: u64,
         bytes: &Bytes,
+        chain: &mut C,
+        numbers: &mut Numbers,
+        log: &mut Lines,
+    ) -> Result<Stage, BootStop>
+        requires { MayGoOn self.old (C.held chain.old) numbers.old }
+        ensures answer { Brings result self.new.boot numbers.new (C.held chain.new) (model.stored_came C.rules (last_state (C.held chain.old)) self.old.boot numbers.old frame bytes.now).1 }
+        ensures lines { Logs result log.old log.new (model.stored_came C.rules (last_state (C.held chain.old)) self.old.boot numbers.old frame bytes.now).0 }
+        ensures chain { Leaves result (C.held chain.old) (C.held chain.new) }
+        ensures goes_on { OnGoing result (MayGoOn self.new (C.held chain.new) numbers.new) }
+        ensures numbers { OnDone result (numbers.new ≡ numbers.old) }
+        ensures promise { Promises result log.old log.new self.new.boot }
+    {
+        self.stored_slice(frame, bytes.list(), chain, numbers, log)
+    }
+
+    /// Takes such a block as `stored` does, whose bytes stand anywhere. Where it is kept they are
+    /// copied once.
+    /// Rule: this project's own.
+    pub fn stored_slice(
+        &mut self,
+        frame: u64,
+        bytes: &[u8],
         chain: &mut C,
         numbers: &mut Numbers,
         log: &mut Lines,

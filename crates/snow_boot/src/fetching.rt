@@ -2,14 +2,16 @@ ghost use Rattle.std.specs.Prelude.{◌≡◌, true, [], Some, None, IfOk, OnOk,
 ghost use Rattle.snow_boot.specs.Clauses.Accepting.{higher_one, top_height};
 ghost use Rattle.snow_store.specs.Model.Keeping.{taken, Answers};
 ghost use Rattle.snow_boot.specs.Kept.Fetching.{Fetches, FetchesOne};
+ghost use Rattle.snow_boot.specs.Kept.Reply.{left};
 ghost use Rattle.snow_store.specs.Model.Needing.{is_missed, Covers};
 ghost use Rattle.snow_store.specs.Model.Paths.{missed, is_whole};
 ghost use Rattle.snow_store.specs.declared.needs.Due.TheVariants as due;
 ghost use Rattle.snow_store.specs.Clauses.Coming.{after_verdict};
 ghost use Rattle.snow_boot.specs.Model.Replying.{replied};
 
+use crate::reply::ReplyBlocks;
 use indexmap::IndexSet;
-use snow_base::{Bytes, Header, Id};
+use snow_base::{Header, Id};
 use snow_chain::Chain;
 use snow_interval::Kept;
 use snow_map::IdHashing;
@@ -189,10 +191,10 @@ impl<H: Kept> Fetching<H> {
         &mut self,
         chain: &C,
         id: Id,
-        blocks: &[Bytes],
+        blocks: ReplyBlocks<'_>,
     ) -> Result<(), BootStop>
         requires { self.old.whole ≡ true }
-        ensures fetch { Fetches result self.new (replied C.rules.header_of self.old.fetch id blocks.now) }
+        ensures fetch { Fetches result self.new (replied C.rules.header_of self.old.fetch id (left blocks.entry)) }
         ensures due { OnOk result (Covers (due.One id) (is_missed self.old.fetch self.old.fetch.targets) self.new.due (is_missed self.new.fetch self.new.fetch.targets)) }
     {
         self.expect(Due::One(id));
@@ -200,14 +202,19 @@ impl<H: Kept> Fetching<H> {
     }
 
     /// Takes the blocks of a reply, one after another.
-    fn reply_on<C: Chain>(&mut self, chain: &C, id: Id, blocks: &[Bytes]) -> Result<(), BootStop>
+    fn reply_on<C: Chain>(
+        &mut self,
+        chain: &C,
+        id: Id,
+        blocks: ReplyBlocks<'_>,
+    ) -> Result<(), BootStop>
         requires { self.old.whole ≡ true }
-        ensures fetch { Fetches result self.new (replied C.rules.header_of self.old.fetch id blocks.now) }
+        ensures fetch { Fetches result self.new (replied C.rules.header_of self.old.fetch id (left blocks.entry)) }
         ensures due { OnOk result (Covers self.old.due (is_missed self.old.fetch self.old.fetch.targets) self.new.due (is_missed self.new.fetch self.new.fetch.targets)) }
     {
         let mut wanted = id;
         for bytes in blocks {
-            match self.reply_one(chain, wanted, bytes.list())? {
+            match self.reply_one(chain, wanted, bytes)? {
                 Some(parent) => wanted = parent,
                 None => return Ok(()),
             }

@@ -4,10 +4,12 @@ ghost use Rattle.snow_boot.specs.Model.Asking.{due_of};
 ghost use Rattle.snow_boot.specs.Model.Booting as model;
 ghost use Rattle.snow_chain.specs.Kept.Alone.{last_state};
 ghost use Rattle.snow_boot.specs.Kept.Coursing.{boot_of, MayHear, Comes};
+ghost use Rattle.snow_boot.specs.Kept.Reply.{left};
 
 use crate::boot::{Parts, Stage};
 use crate::question::Question;
-use snow_base::{Blocks, Bytes, Id, Ids, NodeId, Numbers};
+use crate::reply::ReplyBlocks;
+use snow_base::{Id, Ids, NodeId, Numbers};
 use snow_chain::Chain;
 use snow_interval::Kept;
 use snow_lines::{Line, Lines, SkipKind};
@@ -87,19 +89,19 @@ impl<H: Kept> Parts<H> {
         &mut self,
         node: &NodeId,
         number: u32,
-        blocks: &Blocks,
+        blocks: ReplyBlocks<'_>,
         chain: &mut C,
         numbers: &mut Numbers,
         log: &mut Lines,
     ) -> Result<Stage, BootStop>
         requires { MayHear self.old.survey self.old.fetching self.old.requests (C.held chain.old) numbers.old }
         ensures { Comes result log.old log.new self.new.survey self.new.fetching self.new.requests numbers.old numbers.new (C.held chain.old) (C.held chain.new)
-            (model.ancestors_came C.rules (last_state (C.held chain.old)) (boot_of self.old.survey self.old.fetching.fetch self.old.requests) numbers.old node.now number blocks.now) }
+            (model.ancestors_came C.rules (last_state (C.held chain.old)) (boot_of self.old.survey self.old.fetching.fetch self.old.requests) numbers.old node.now number (left blocks.entry)) }
     {
         let Some(id) = self.requests.close(number, node) else {
             return Ok(Stage::Going);
         };
-        match self.fetching.reply(&*chain, id, blocks.list()) {
+        match self.fetching.reply(&*chain, id, blocks) {
             Ok(()) => self.follow(chain, numbers, log),
             Err(stop) => Err(stop),
         }
@@ -109,7 +111,7 @@ impl<H: Kept> Parts<H> {
     pub(crate) fn stored<C: Chain>(
         &mut self,
         frame: u64,
-        bytes: &Bytes,
+        bytes: &[u8],
         chain: &mut C,
         numbers: &mut Numbers,
         log: &mut Lines,
@@ -118,14 +120,14 @@ impl<H: Kept> Parts<H> {
         ensures { Comes result log.old log.new self.new.survey self.new.fetching self.new.requests numbers.old numbers.new (C.held chain.old) (C.held chain.new)
             (model.stored_came C.rules (last_state (C.held chain.old)) (boot_of self.old.survey self.old.fetching.fetch self.old.requests) numbers.old frame bytes.now) }
     {
-        let Some(header) = chain.parse(bytes.list()) else {
+        let Some(header) = chain.parse(bytes) else {
             log.push(Line::Skip {
                 frame,
                 kind: SkipKind::Block,
             })?;
             return Ok(Stage::Going);
         };
-        match self.fetching.take(&header, bytes.list()) {
+        match self.fetching.take(&header, bytes) {
             Ok(_) => self.follow(chain, numbers, log),
             Err(stop) => Err(stop),
         }

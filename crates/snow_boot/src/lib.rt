@@ -11,6 +11,7 @@ mod hearing;
 mod inquiring;
 mod laws;
 mod question;
+mod reply;
 mod survey;
 
 pub use boot::{Boot, Stage};

@@ -6,6 +6,7 @@ ghost use Rattle.snow_chain.specs.Model.Chain.{begun};
 ghost use Rattle.snow_chain.specs.Kept.Alone.{last_state};
 ghost use Rattle.snow_boot.specs.Clauses.Calling.{Brings, Leaves, MayGoOn, OnDone, OnGoing};
 ghost use Rattle.snow_boot.specs.Clauses.Calling.{Logs as BootLogs};
+ghost use Rattle.snow_wire.specs.Clauses.Viewed.{as_event};
 ghost use Rattle.snow_engine.specs.Model.Catching as model;
 ghost use Rattle.snow_engine.specs.Clauses.Stopping.{Logs, Starts};
 ghost use Rattle.snow_node.specs.Model.Turning.{members};
@@ -13,7 +14,7 @@ ghost use Rattle.snow_node.specs.Model.Turning.{members};
 use crate::stage::{Node, Stage};
 use crate::stop::EngineStop;
 use snow_base::limits::MOST_WORDS;
-use snow_base::{Numbers, Nums};
+use snow_base::{Id, NodeId, Numbers, Nums};
 use snow_board::Board;
 use snow_boot::{Boot, BootStop, Intervals, Stage as BootStage};
 use snow_chain::Chain;
@@ -21,7 +22,7 @@ use snow_flake::Params;
 use snow_lines::{Line, Lines, SkipKind};
 use snow_node::Running;
 use snow_sample::{Roster, Words};
-use snow_wire::{Event, Start};
+use snow_wire::{Start, View, ids_of, words_of};
 use std::alloc::Global;
 use std::marker::Model;
 
@@ -106,32 +107,38 @@ impl<C: Chain> Booting<C> {
     pub fn step<B: Board>(
         self,
         frame: u64,
-        event: &Event,
+        event: View<'_>,
         log: &mut Lines,
     ) -> Result<Node<C, B>, EngineStop>
-        ensures answer { Starts result (model.boots_on C.rules self frame event.now).1 }
-        ensures lines { Logs result log.old log.new (model.boots_on C.rules self frame event.now).0 }
+        ensures answer { Starts result (model.boots_on C.rules self frame (as_event event.entry)).1 }
+        ensures lines { Logs result log.old log.new (model.boots_on C.rules self frame (as_event event.entry)).0 }
     {
         match event {
-            Event::Start(_) => {
+            View::Start(_) => {
                 drop(self);
                 Err(EngineStop::SecondStart)
             }
-            Event::Words { words } => self.take_words(frame, words, log),
-            Event::Poll { .. } | Event::Line { .. } => self.pass_over(frame, SkipKind::Task, log),
-            Event::Block { .. }
-            | Event::Validators { .. }
-            | Event::AskQuery { .. }
-            | Event::AskFrontier { .. }
-            | Event::AskAccepted { .. }
-            | Event::AskAncestors { .. }
-            | Event::AskBlock { .. } => self.pass_over(frame, SkipKind::Stage, log),
-            Event::Chits { .. }
-            | Event::Timeout { .. }
-            | Event::Frontier { .. }
-            | Event::Accepted { .. }
-            | Event::Ancestors { .. }
-            | Event::Stored { .. } => self.catch_up(frame, event, log),
+            View::Words(words) => match words_of(self.alloc, words) {
+                Ok(words) => self.take_words(frame, &words, log),
+                Err(_) => {
+                    drop(self);
+                    Err(EngineStop::Memory)
+                }
+            },
+            View::Poll(_) | View::Line(_) => self.pass_over(frame, SkipKind::Task, log),
+            View::Block(_)
+            | View::Validators(_)
+            | View::AskQuery(_)
+            | View::AskFrontier(_)
+            | View::AskAccepted(_)
+            | View::AskAncestors(_)
+            | View::AskBlock(_) => self.pass_over(frame, SkipKind::Stage, log),
+            answer @ (View::Chits(_)
+            | View::Timeout(_)
+            | View::Frontier(_)
+            | View::Accepted(_)
+            | View::Ancestors(_)
+            | View::Stored(_)) => self.catch_up(frame, answer, log),
         }
     }
 
@@ -185,13 +192,14 @@ impl<C: Chain> Booting<C> {
     fn catch_up<B: Board>(
         mut self,
         frame: u64,
-        event: &Event,
+        event: View<'_>,
         log: &mut Lines,
     ) -> Result<Node<C, B>, EngineStop>
-        ensures answer { Starts result (model.came_to self (model.heard C.rules self.state self.boot self.last frame event.now)).1 }
-        ensures lines { Logs result log.old log.new (model.came_to self (model.heard C.rules self.state self.boot self.last frame event.now)).0 }
+        ensures answer { Starts result (model.came_to self (model.heard C.rules self.state self.boot self.last frame (as_event event.entry))).1 }
+        ensures lines { Logs result log.old log.new (model.came_to self (model.heard C.rules self.state self.boot self.last frame (as_event event.entry))).0 }
     {
         let came = match hear(
+            self.alloc,
             &mut self.boot,
             &mut self.chain,
             &mut self.numbers,
@@ -229,36 +237,43 @@ impl<C: Chain> Booting<C> {
 
 /// Takes an event into bootstrapping.
 fn hear<C: Chain>(
+    alloc: Global,
     boot: &mut Boot<C, Intervals>,
     chain: &mut C,
     numbers: &mut Numbers,
     frame: u64,
-    event: &Event,
+    event: View<'_>,
     log: &mut Lines,
 ) -> Result<BootStage, BootStop>
     requires { MayGoOn boot.old (C.held chain.old) numbers.old }
     ensures answer { Brings result boot.new.boot numbers.new (C.held chain.new)
-        (model.heard C.rules (last_state (C.held chain.old)) boot.old.boot numbers.old frame event.now).1 }
+        (model.heard C.rules (last_state (C.held chain.old)) boot.old.boot numbers.old frame (as_event event.entry)).1 }
     ensures lines { BootLogs result log.old log.new
-        (model.heard C.rules (last_state (C.held chain.old)) boot.old.boot numbers.old frame event.now).0 }
+        (model.heard C.rules (last_state (C.held chain.old)) boot.old.boot numbers.old frame (as_event event.entry)).0 }
     ensures chain { Leaves result (C.held chain.old) (C.held chain.new) }
     ensures goes_on { OnGoing result (MayGoOn boot.new (C.held chain.new) numbers.new) }
     ensures numbers { OnDone result (numbers.new ≡ numbers.old) }
 {
     match event {
-        Event::Frontier { node, request, id } => {
-            boot.frontier(node, *request, *id, chain, numbers, log)
+        View::Frontier(named) => {
+            let node = NodeId::from_bytes(*named.node);
+            let id = Id::from_bytes(*named.id);
+            boot.frontier(&node, named.request, id, chain, numbers, log)
         }
-        Event::Accepted { node, request, ids } => {
-            boot.accepted(node, *request, ids, chain, numbers, log)
+        View::Accepted(listing) => {
+            let node = NodeId::from_bytes(*listing.node);
+            let ids = ids_of(alloc, listing.ids)?;
+            boot.accepted(&node, listing.request, &ids, chain, numbers, log)
         }
-        Event::Ancestors {
-            node,
-            request,
-            blocks,
-        } => boot.ancestors(node, *request, blocks, chain, numbers, log),
-        Event::Timeout { node, request } => boot.timeout(node, *request, chain, numbers, log),
-        Event::Stored { bytes } => boot.stored(frame, bytes, chain, numbers, log),
+        View::Ancestors(parcel) => {
+            let node = NodeId::from_bytes(*parcel.node);
+            boot.ancestors_packed(&node, parcel.request, parcel.blocks, chain, numbers, log)
+        }
+        View::Timeout(sender) => {
+            let node = NodeId::from_bytes(*sender.node);
+            boot.timeout(&node, sender.request, chain, numbers, log)
+        }
+        View::Stored(bytes) => boot.stored_slice(frame, bytes, chain, numbers, log),
         _ => Ok(BootStage::Going),
     }
 }

@@ -127,13 +127,15 @@ impl<C: Chain, B: Board> Engine<C, B> {
     }
 
     /// Gives one event to a node that bootstraps. At a stop it drops the node.
+    // It moves whole nodes: were it inlined, each frame would probe the stack that this takes, page
+    // by page.
+    #[inline(never)]
     #[tactic(auto, using(snow_node::proofs::Logs::logs_nothing, crate::proofs::Staged::stopped, crate::proofs::Staged::stop_logged))]
     fn catch_up(&mut self, frame: u64, event: View<'_>, log: &mut Lines) -> Result<(), EngineStop>
         requires { model.is_booting self.old ≡ true }
         ensures answer { Steps result self.new (model.step C.rules B.answer self.old frame (as_event event.entry)).1 }
         ensures lines { Logs result log.old log.new (model.step C.rules B.answer self.old frame (as_event event.entry)).0 }
     {
-        let event = event.to_event(self.alloc)?;
         let node = match mem::replace(&mut self.stage, Stage::Ended) {
             Stage::Booting(node) => node,
             other => {
@@ -141,7 +143,7 @@ impl<C: Chain, B: Board> Engine<C, B> {
                 return Ok(());
             }
         };
-        match node.step(frame, &event, log) {
+        match node.step(frame, event, log) {
             Ok(stage) => {
                 drop(mem::replace(&mut self.stage, stage));
                 Ok(())

@@ -58,6 +58,9 @@ impl<C: Chain, B: Board> Runner<C, B> {
     }
 
     /// Works the first frame.
+    // It moves a whole engine: were it inlined, each frame would probe the stack that this takes,
+    // page by page.
+    #[inline(never)]
     fn work_first(&mut self, frame: u64, payload: &[u8]) -> Result<Option<SkipKind>, BoxedEnd>
         requires engine { self.old.engine ≡ None }
         requires log { self.old.log ≡ [] }

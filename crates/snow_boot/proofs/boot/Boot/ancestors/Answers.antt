@@ -13,5 +13,5 @@ returns-clause-promise g c =
     let now = c.ancestors-came.new.self in
     let boot = boot_of was.survey was.fetching.fetch was.requests in
     promised c.ancestors-came.result c.args.log.now c.ancestors-came.new.log now.survey now.fetching now.requests c.args.numbers.now c.ancestors-came.new.numbers held (g.C.Chain.held c.ancestors-came.new.chain)
-    (ancestors_came g.C.Chain.rules (last_state held) boot c.args.numbers.now c.args.node.now c.args.number c.args.blocks.now) c.ancestors-came.ensures
+    (ancestors_came g.C.Chain.rules (last_state held) boot c.args.numbers.now c.args.node.now c.args.number c.args.blocks.now) (rw c.list.ensures at c.ancestors-came.ensures)
     ((all_quiet g.C.Chain.rules (last_state held) boot c.args.numbers.now).ancestors c.args.node.now c.args.number c.args.blocks.now)

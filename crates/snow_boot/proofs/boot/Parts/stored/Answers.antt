@@ -15,13 +15,13 @@ pub returns-in_default : goal.returns-in_default
 returns-in_default g c =
     let held = g.C.Chain.held c.args.chain.now in
     skipped g.C.Chain.rules (last_state held) c.args.self.now.survey c.args.self.now.fetching c.args.self.now.requests c.args.numbers.now held c.args.log.now c.push.new.self c.args.frame c.args.bytes.now
-    c.requires.0 c.requires.3 c.requires.2 (rw c.list.ensures at c.in_default.ensures) c.in_ok-push.ensures.ok
+    c.requires.0 c.requires.3 c.requires.2 c.in_default.ensures c.in_ok-push.ensures.ok
 
 pub follow-requires-clause-may : goal.follow-requires-clause-may
 follow-requires-clause-may g c = (
   c.in-Ok.ensures.fetch.0,
   c.requires.2
-      ∙ sym (ap (λ (f : Fetch). f.store.last) c.in-Ok.ensures.fetch.1 ∙ (aim_verdict c.args.self.now.fetching.fetch record { header = c.in-Some.header; bytes = c.list-2.result.now } c.in-Ok.field-0).0),
+      ∙ sym (ap (λ (f : Fetch). f.store.last) c.in-Ok.ensures.fetch.1 ∙ (aim_verdict c.args.self.now.fetching.fetch record { header = c.in-Some.header; bytes = c.args.bytes.now } c.in-Ok.field-0).0),
   c.requires.3,
 )
 
@@ -37,11 +37,11 @@ returns-in-Ok g c =
     (model.followed g.C.Chain.rules (last_state held) (boot_of c.args.self.now.survey c.take.new.self.fetch c.args.self.now.requests) c.args.numbers.now)
     (model.stored_came g.C.Chain.rules (last_state held) (boot_of c.args.self.now.survey c.args.self.now.fetching.fetch c.args.self.now.requests) c.args.numbers.now c.args.frame c.args.bytes.now)
     (stored_kept g.C.Chain.rules (last_state held) c.args.self.now.survey c.args.self.now.fetching.fetch c.take.new.self c.args.self.now.requests c.args.numbers.now c.args.frame c.args.bytes.now c.in-Some.header c.in-Ok.field-0
-    (rw c.list.ensures at c.in-Some.ensures) c.in-Ok.ensures.answer (rw c.list-2.ensures at c.in-Ok.ensures.fetch.1))
+    c.in-Some.ensures c.in-Ok.ensures.answer c.in-Ok.ensures.fetch.1)
     c.follow.ensures
 
 pub returns-in-Err : goal.returns-in-Err
 returns-in-Err g c =
     let held = g.C.Chain.held c.args.chain.now in
     stored_stops g.C.Chain.rules (last_state held) c.args.self.now.survey c.args.self.now.fetching c.take.new.self c.args.self.now.requests c.args.numbers.now held c.args.log.now c.args.frame c.args.bytes.now
-    c.in-Some.header c.in-Err.stop (rw c.list.ensures at c.in-Some.ensures) c.in-Err.ensures.answer
+    c.in-Some.header c.in-Err.stop c.in-Some.ensures c.in-Err.ensures.answer

@@ -3,6 +3,7 @@ use Rattle.std.proofs.Common.{subst, ◌∙◌}
 use Rattle.std.specs.Prelude.{OnOk}
 use Rattle.snow_store.specs.declared.needs.Due.{Due}
 use Rattle.snow_boot.specs.Kept.Fetching.{Fetches}
+use Rattle.snow_boot.specs.Kept.Reply.{left}
 use Rattle.snow_store.specs.Model.Needing.{is_missed, Covers}
 use Rattle.snow_store.specs.Model.Paths.{Fetch}
 use Rattle.snow_boot.specs.Model.Replying.{replied}
@@ -13,7 +14,7 @@ reply_on-requires g c = c.expect.ensures.whole ∙ c.requires
 
 pub returns-clause-fetch : goal.returns-clause-fetch
 returns-clause-fetch g c =
-    subst (λ (f : Fetch). Fetches c.reply_on.result c.reply_on.new.self (replied g.C.Chain.rules.header_of f c.args.id c.args.blocks.now)) c.expect.ensures.fetch c.reply_on.ensures.fetch
+    subst (λ (f : Fetch). Fetches c.reply_on.result c.reply_on.new.self (replied g.C.Chain.rules.header_of f c.args.id (left c.args.blocks))) c.expect.ensures.fetch c.reply_on.ensures.fetch
 
 pub returns-clause-due : goal.returns-clause-due
 returns-clause-due g c =

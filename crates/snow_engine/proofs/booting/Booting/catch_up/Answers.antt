@@ -2,6 +2,7 @@
 use Rattle.std.proofs.Common.{◌++◌, Ok, ap, ◌∙◌, subst}
 use Rattle.snow_boot.specs.declared.boot.Stage.{Stage}
 use Rattle.snow_chain.specs.Kept.Alone.{last_state}
+use Rattle.snow_wire.specs.Clauses.Viewed.{as_event}
 use Rattle.snow_boot.specs.Clauses.Calling.{Brings, MayGoOn, OnGoing}
 use Rattle.snow_engine.specs.Model.Booting.{Booting}
 use Rattle.snow_engine.specs.Model.Catching.{heard}
@@ -15,13 +16,13 @@ invariant_of-self g c =
     record {
       good = c.self.invariant.good;
       may = subst (λ (s : Stage). OnGoing (Ok s) (MayGoOn c.hear.new.boot now c.hear.new.numbers)) c.in-Going.is c.in-Ok.ensures.goes_on;
-      small = still_fits g.C.Chain.rules (last_state held) c.self.inside.boot.boot c.hear.new.boot.boot c.self.inside.numbers c.hear.new.numbers c.args.frame c.args.event.now
+      small = still_fits g.C.Chain.rules (last_state held) c.self.inside.boot.boot c.hear.new.boot.boot c.self.inside.numbers c.hear.new.numbers c.args.frame (as_event c.args.event)
           (subst (λ (s : Stage). Brings (Ok s) c.hear.new.boot.boot c.hear.new.numbers now
-          (heard g.C.Chain.rules (last_state held) c.self.inside.boot.boot c.self.inside.numbers c.args.frame c.args.event.now).1) c.in-Going.is c.in-Ok.ensures.answer)
+          (heard g.C.Chain.rules (last_state held) c.self.inside.boot.boot c.self.inside.numbers c.args.frame (as_event c.args.event)).1) c.in-Going.is c.in-Ok.ensures.answer)
           c.self.invariant.small;
     }
 
 pub returns-in_ok-node-in-Done-clause-lines : goal.returns-in_ok-node-in-Done-clause-lines
 returns-in_ok-node-in-Done-clause-lines g c =
     c.in-Ok.ensures.lines
-    ∙ ap (λ (n : Booting). c.args.log.now ++ (heard g.C.Chain.rules n.state n.boot n.last c.args.frame c.args.event.now).0) c.self.view_is
+    ∙ ap (λ (n : Booting). c.args.log.now ++ (heard g.C.Chain.rules n.state n.boot n.last c.args.frame (as_event c.args.event)).0) c.self.view_is

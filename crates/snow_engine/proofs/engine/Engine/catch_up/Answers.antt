@@ -10,5 +10,4 @@ use Rattle.snow_engine.proofs.engine.Engine.catch_up.Goals as goal
 pub returns-clause-lines : goal.returns-clause-lines
 returns-clause-lines g c =
     let at : c.args.self.now ≡ stage.Booting c.in-Booting.node = search rules in
-    let same : as_event c.args.event ≡ c.in_ok-event.event = search rules in
-    rw (at, same) (stop_logged Node (Unit {0}) c.in-Err.stop c.args.log.now c.step.new.log (boots_on g.C.Chain.rules c.in-Booting.node c.args.frame c.in_ok-event.event).0 c.in-Err.ensures.lines)
+    rw at (stop_logged Node (Unit {0}) c.in-Err.stop c.args.log.now c.step.new.log (boots_on g.C.Chain.rules c.in-Booting.node c.args.frame (as_event c.args.event)).0 c.in-Err.ensures.lines)

@@ -4,7 +4,7 @@ use Rattle.snow_boot.specs.Kept.Coursing.{boot_of}
 use Rattle.snow_boot.specs.Model.Booting.{stored_came}
 use Rattle.snow_boot.proofs.Promised.{promised}
 use Rattle.snow_boot.proofs.Quiet.{all_quiet}
-use Rattle.snow_boot.proofs.boot.Boot.stored.Goals as goal
+use Rattle.snow_boot.proofs.boot.Boot.stored_slice.Goals as goal
 
 pub returns-clause-promise : goal.returns-clause-promise
 returns-clause-promise g c =
