@@ -1,5 +1,5 @@
 -- Lemmas on draws: where a node's are counted, and how many there are.
-use Rattle.std.proofs.Common.{◌≡◌, ◌≢◌, ℕ, zero, suc, ◌+◌, ◌<◌, Bool, true, false, cond, List, [], ◌∷◌, ◌++◌, length, get_or, set, None, Some, Option, All, refl, sym, ap, ◌∙◌, arith, inl, inr}
+use Rattle.std.proofs.Common.{◌≡◌, ◌≢◌, ℕ, zero, suc, ◌+◌, ◌<◌, ◌≤◌, Bool, true, false, cond, List, [], ◌∷◌, ◌++◌, length, get_or, set, None, Some, Option, All, refl, sym, ap, ◌∙◌, arith, inl, inr}
 use Rattle.std.specs.Option.{option_map}
 use Rattle.std.specs.Str.{bytes_eq}
 use Rattle.std.proofs.lemmas.Bool.{both_ways, cases_Bool}
@@ -47,15 +47,15 @@ counted_at (d ∷ draws) node at is =
       | false ↦ λ there. later (place draws node) refl there
     ] is
 
--- where a draw of a node stands somewhere, the node has a place
-pub place_there : (draws : List Draw) (at : ℕ) (node : List ℕ) → is_at draws at node ≡ true → (first : ℕ) × (place draws node ≡ Some first)
+-- where a draw of a node stands somewhere, the node has a place there or before
+pub place_there : (draws : List Draw) (at : ℕ) (node : List ℕ) → is_at draws at node ≡ true → (first : ℕ) × (place draws node ≡ Some first) × (first ≤ at)
 place_there [] at node is = absurd (cc)
-place_there (d ∷ draws) zero node is = (0, ap (λ same. first_place same (place draws node)) is)
+place_there (d ∷ draws) zero node is = (0, ap (λ same. first_place same (place draws node)) is, omega arith)
 place_there (d ∷ draws) (suc at) node is =
     let rest = place_there draws at node is in
     elim (cases_Bool (bytes_eq d.node node)) [
-      | inl same ↦ (0, ap (λ same. first_place same (place draws node)) same)
-      | inr differ ↦ (suc rest.0, ap (λ same. first_place same (place draws node)) differ ∙ ap (option_map suc) rest.1)
+      | inl same ↦ (0, ap (λ same. first_place same (place draws node)) same, omega arith)
+      | inr differ ↦ (suc rest.0, ap (λ same. first_place same (place draws node)) differ ∙ ap (option_map suc) rest.1, omega (arith, rest.2))
     ]
 
 -- a draw of it stands at that place

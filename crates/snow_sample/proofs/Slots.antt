@@ -116,13 +116,14 @@ few_places (d ∷ draws) all =
 
 -- a draw more of a node that was drawn: its slot has the place
 pub drawn_again : (nodes : List Node) (slots : List ℕ) (draws : List Draw) (i slot : ℕ) (id : List ℕ) → HasSlots nodes slots draws → i < length nodes
-    → ((n : Node) → (get_or nodes i n).id ≡ id) → slot ≡ get_or slots i slot → is_at draws slot id ≡ true
+    → ((n : Node) → (get_or nodes i n).id ≡ id) → (most : ℕ) → slot ≤ most → most ≡ get_or slots i most → is_at draws slot id ≡ true
     → (slot < length draws) × (one_more draws slot ≡ counted draws id) × HasSlots nodes slots (one_more draws slot)
-drawn_again nodes slots draws i slot id has h named is there =
+drawn_again nodes slots draws i slot id has h named most low is there =
     let n : Node = record { id = id; weight = 0 } in
-    let read : slot ≡ get_or slots i 0 = get_or_read slots i slot (omega (arith, has.each)) is 0 in
+    let read : most ≡ get_or slots i 0 = get_or_read slots i most (omega (arith, has.each)) is 0 in
     let first = place_there draws slot id there in
-    let at : slot ≡ first.0 = read ∙ has.places i first.0 n h (ap (place draws) (named n) ∙ first.1) in
+    let kept : most ≡ first.0 = read ∙ has.places i first.0 n h (ap (place draws) (named n) ∙ first.1) in
+    let at : slot ≡ first.0 = omega (arith, kept, low, first.2) in
     let placed : place draws id ≡ Some slot = first.1 ∙ ap Some (sym at) in
     let at_place = counted_at draws id slot placed in (
       at_place.0,
@@ -131,14 +132,18 @@ drawn_again nodes slots draws i slot id has h named is there =
     )
 
 -- the first draw of a node: it stands at the end, and its slot has that place
-pub drawn_first : (nodes : List Node) (slots : List ℕ) (draws more : List Draw) (i slot : ℕ) (n : Node) → HasSlots nodes slots draws
-    → first_fault nodes ≡ None → i < length nodes → slot ≡ get_or slots i slot → is_at draws slot (get_or nodes i n).id ≡ false
+pub drawn_first : (nodes : List Node) (slots : List ℕ) (draws more : List Draw) (i slot most : ℕ) (n : Node) → HasSlots nodes slots draws
+    → first_fault nodes ≡ None → i < length nodes → most ≡ get_or slots i most → (most < length draws → slot ≡ most)
+    → is_at draws slot (get_or nodes i n).id ≡ false
     → more ≡ draws ++ record { node = (get_or nodes i n).id; count = 1 } ∷ []
     → (more ≡ counted draws (get_or nodes i n).id) × HasSlots nodes (set slots i (length more - 1)) more
-drawn_first nodes slots draws more i slot n has good h is other all =
+drawn_first nodes slots draws more i slot most n has good h is clamped other all =
     let id = (get_or nodes i n).id in
-    let read : slot ≡ get_or slots i 0 = get_or_read slots i slot (omega (arith, has.each)) is 0 in
-    let free : place draws id ≡ None = no_place draws slot id other (λ at was. read ∙ has.places i at n h was) in
+    let read : most ≡ get_or slots i 0 = get_or_read slots i most (omega (arith, has.each)) is 0 in
+    let kept : (at : ℕ) → place draws id ≡ Some at → slot ≡ at = λ at was.
+    let here : most ≡ at = read ∙ has.places i at n h was in
+    clamped (omega (arith, here, (counted_at draws id at was).0)) ∙ here in
+    let free : place draws id ≡ None = no_place draws slot id other kept in
     let long : length more - 1 ≡ length draws =
     omega (arith, ap (λ (l : List Draw). length l) all, length-append draws (record { node = id; count = 1 } ∷ [])) in (
       all ∙ sym (counted_new draws id free),

@@ -75,6 +75,10 @@ pub(crate) fn skip(ends: &[u64], start: usize, unit: u64) -> usize
     ensures stops { (d : ℕ) → result < length ends.now → unit < slice_index_or ends.now result d }
 {
     let mut at = start;
+    // (The first step is an addition: whether it is taken can't be guessed.)
+    if let Some(end) = ends.get(at) {
+        at += usize::from(*end <= unit);
+    }
     while at < ends.len() && ends[at] <= unit {
         at += 1;
     }

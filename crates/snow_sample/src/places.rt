@@ -49,7 +49,9 @@ impl Places {
     {
         let at = roster.place(unit);
         let node = &roster.nodes()[at].id;
-        let slot = self.slots[at] as usize;
+        // (By a minimum, since whether what an earlier sample left there is a place can't be guessed.)
+        let last = draws.list().len().saturating_sub(1);
+        let slot = last.min(self.slots[at] as usize);
         if draws.is_at(slot, node) {
             draws.add_one(slot);
             return Ok(());

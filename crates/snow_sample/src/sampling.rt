@@ -110,32 +110,14 @@ pub(crate) fn draw_all(
         words.clear();
         return Err(SampleFault::WordsOut);
     }
-    draw_more(roster, k, words, room, out)
-}
-
-// Draws where the words may suffice.
-fn draw_more(
-    roster: &Roster,
-    k: u32,
-    words: &mut Line,
-    room: &mut Room,
-    out: &mut Draws,
-) -> Result<(), SampleFault>
-    requires enough { k ≤ total_weight roster.now }
-    requires empty { out.old ≡ [] }
-    ensures sample { OnOk result (sample_of roster.now k words.old ≡ Ok (out.new, words.new)) }
-    ensures fault { IfErr result (λ fault. IsFault (sample_of roster.now k words.old) words.old fault words.new) }
-    ensures counts { OnOk result (draw_count out.new ≡ k) }
-    ensures nodes { OnOk result (AreOfDistinctNodes out.new) }
-{
-    let draws = words.len().min(k as usize);
+    let draws = k as usize;
     out.reserve(draws.min(roster.nodes().len()))?;
-    room.shuffle.begin(draws)?;
+    room.shuffle.begin(draws, roster.total())?;
     room.places.begin(roster)?;
     draw_each(roster, k, words, &mut room.shuffle, &mut room.places, out)
 }
 
-// Draws `k` units, where nothing was moved and no node was drawn. There is room for a move a word.
+// Draws `k` units, where nothing was moved and no node was drawn. There is room for a move a draw.
 fn draw_each(
     roster: &Roster,
     k: u32,
@@ -146,9 +128,11 @@ fn draw_each(
 ) -> Result<(), SampleFault>
     requires enough { k ≤ total_weight roster.now }
     requires chained { AreMoves shuffle.old.mask shuffle.old.moved.items shuffle.old.lasts.items }
-    requires units { (p : ℕ) → unit_at shuffle.old.moved.items shuffle.old.later p ≡ p }
+    requires units { (p : ℕ) → unit_at shuffle.old.near.items shuffle.old.moved.items shuffle.old.later p ≡ p }
     requires none { length shuffle.old.moved.items ≡ 0 }
-    requires room { (n : ℕ) → n ≤ length words.old → n ≤ k → n ≤ vec_capacity shuffle.old.moved }
+    requires room { k ≤ vec_capacity shuffle.old.moved }
+    requires near { k ≤ length shuffle.old.near.items }
+    requires few { k ≤ 65536 }
     requires slots { HasSlots roster.now places.old.slots.items [] }
     requires empty { out.old ≡ [] }
     ensures sample { OnOk result (sample_of roster.now k words.old ≡ Ok (out.new, words.new)) }

@@ -1,5 +1,5 @@
-ghost use Rattle.std.specs.Prelude.{◌≡◌, ℕ, ◌==◌, ◌+◌, ◌^◌, ◌<◌, ◌≤◌, length, vec_capacity, if◌then◌else◌, IfOk, OnOk};
-ghost use Rattle.snow_sample.specs.Kept.Drawn.{AreMoves, moved_to, unit_at};
+ghost use Rattle.std.specs.Prelude.{◌≡◌, ℕ, ◌==◌, ◌+◌, ◌^◌, ◌<◌, ◌≤◌, length, slice_index, vec_capacity, if◌then◌else◌, IfOk, OnOk};
+ghost use Rattle.snow_sample.specs.Kept.Drawn.{AreMoves, moved_to, far_at, unit_at};
 ghost use Rattle.snow_sample.specs.Model.Sampling.{swapped};
 
 use crate::fresh;
@@ -8,6 +8,12 @@ use std::collections::BTreeMap;
 
 // So many moves of a class at most are walked.
 const LONGEST_WALK: u32 = 16;
+
+// Where there are at most so many units for each draw, all stand in a list.
+const FEW: u64 = 8;
+
+// So many classes, at least, for each draw.
+const CLASSES: usize = 4;
 
 // A unit that was moved to a position. Positions with the same low bits are one class; `before` is
 // the number, from 1, of the last move before this one in its class, and 0 where there is none.
@@ -20,14 +26,17 @@ pub(crate) struct Move {
     pub(crate) rank: u32,
 }
 
-// The units that were moved, in the order of their moves, and for each class of positions the number
-// of its last move, so that a look-up walks one class alone. Where nothing was moved to a position
-// it has its own unit.
+// What stands at each position. The first positions, one for each draw at least, have their units in
+// a list, since each draw looks at its own; where there are few units in all, it has all of them. Of the positions
+// behind the list only those to which a unit was moved are kept: in the order of their moves, with the
+// number of the last move of each class of positions, so that a look-up walks one class alone. Where
+// nothing was moved to such a position it has its own unit.
 //
 // Words can be chosen so that all positions are of one class. So once a class has as many moves as
 // are walked, every later move of the sample goes to an ordered map.
 #[derive(Debug, Drop)]
 pub(crate) struct Shuffle {
+    pub(crate) near: Vec<u64>,
     pub(crate) moved: Vec<Move>,
     pub(crate) lasts: Vec<u32>,
     pub(crate) mask: u64,
@@ -38,6 +47,7 @@ impl Shuffle {
     // None was begun. It takes no memory.
     pub(crate) fn new(alloc: Global) -> Shuffle {
         Shuffle {
+            near: Vec::new(alloc),
             moved: Vec::new(alloc),
             lasts: Vec::new(alloc),
             mask: 0,
@@ -45,20 +55,27 @@ impl Shuffle {
         }
     }
 
-    // Each unit stands at its own position. There is room for so many draws, and twice as many
-    // classes at least: in these vectors, of which only the room is used.
-    pub(crate) fn begin(&mut self, draws: usize) -> Result<(), AllocError>
-        requires { draws ≤ 65536 }
+    // Each of so many units stands at its own position. There is room for so many draws.
+    pub(crate) fn begin(&mut self, draws: usize, units: u64) -> Result<(), AllocError>
+        requires few { draws ≤ 65536 }
+        requires enough { draws ≤ units }
         ensures chained { OnOk result (AreMoves self.new.mask self.new.moved.items self.new.lasts.items) }
-        ensures units { OnOk result ((p : ℕ) → unit_at self.new.moved.items self.new.later p ≡ p) }
+        ensures units { OnOk result ((p : ℕ) → unit_at self.new.near.items self.new.moved.items self.new.later p ≡ p) }
         ensures none { OnOk result (length self.new.moved.items ≡ 0) }
         ensures room { OnOk result (draws ≤ vec_capacity self.new.moved) }
+        ensures near { OnOk result (draws ≤ length self.new.near.items) }
     {
-        let classes = (2 * draws).next_power_of_two();
-        self.mask = classes as u64 - 1;
+        let (near, far) = if units <= FEW * draws as u64 {
+            (units as usize, 0)
+        } else {
+            (draws, draws)
+        };
+        write_own(&mut self.near, near)?;
         self.moved.clear();
         self.later.clear();
         self.moved.reserve(draws)?;
+        let classes = (CLASSES * far).next_power_of_two();
+        self.mask = classes as u64 - 1;
         fresh::write_zeros(&mut self.lasts, classes)?;
         Ok(())
     }
@@ -68,45 +85,47 @@ impl Shuffle {
     pub(crate) fn exchange(&mut self, at: u64, r: u64) -> Result<u64, AllocError>
         requires chained { AreMoves self.old.mask self.old.moved.items self.old.lasts.items }
         requires within { at + r < 2 ^ 64 }
+        requires near { at < length self.old.near.items }
         requires few { length self.old.moved.items + 1 < 2 ^ 32 }
         requires room { length self.old.moved.items < vec_capacity self.old.moved }
-        ensures unit { IfOk result (λ unit. unit ≡ unit_at self.old.moved.items self.old.later (at + r)) }
+        ensures unit { IfOk result (λ unit. unit ≡ unit_at self.old.near.items self.old.moved.items self.old.later (at + r)) }
         ensures chained { OnOk result (AreMoves self.new.mask self.new.moved.items self.new.lasts.items) }
-        ensures behind { OnOk result ((p : ℕ) → at < p → unit_at self.new.moved.items self.new.later p ≡ swapped (unit_at self.old.moved.items self.old.later) (at + r) at p) }
+        ensures behind { OnOk result ((p : ℕ) → at < p → unit_at self.new.near.items self.new.moved.items self.new.later p ≡ swapped (unit_at self.old.near.items self.old.moved.items self.old.later) (at + r) at p) }
+        ensures near { length self.new.near.items ≡ length self.old.near.items }
         ensures moves { length self.new.moved.items ≤ length self.old.moved.items + 1 }
         ensures kept { vec_capacity self.new.moved ≡ vec_capacity self.old.moved }
     {
-        if !self.later.is_empty() {
-            return self.draw_later(at, r);
+        let own = self.near[at as usize];
+        let place = at + r;
+        if place >= self.near.len() as u64 {
+            return self.exchange_far(place, own);
         }
-        let own = self.walk(at);
-        let unit = self.walk(at + r);
-        self.keep(at + r, own)?;
+        let unit = self.near[place as usize];
+        self.near[place as usize] = own;
         Ok(unit)
     }
 
-    // Draws where the map has moves. It is a function apart, since few samples need it.
-    fn draw_later(&mut self, at: u64, r: u64) -> Result<u64, AllocError>
+    // Moves a unit to a position behind the list, and gives the one that stood there.
+    fn exchange_far(&mut self, place: u64, own: u64) -> Result<u64, AllocError>
         requires chained { AreMoves self.old.mask self.old.moved.items self.old.lasts.items }
-        requires within { at + r < 2 ^ 64 }
         requires few { length self.old.moved.items + 1 < 2 ^ 32 }
         requires room { length self.old.moved.items < vec_capacity self.old.moved }
-        ensures unit { IfOk result (λ unit. unit ≡ unit_at self.old.moved.items self.old.later (at + r)) }
+        ensures unit { IfOk result (λ unit. unit ≡ far_at self.old.moved.items self.old.later place) }
         ensures chained { OnOk result (AreMoves self.new.mask self.new.moved.items self.new.lasts.items) }
-        ensures behind { OnOk result ((p : ℕ) → at < p → unit_at self.new.moved.items self.new.later p ≡ swapped (unit_at self.old.moved.items self.old.later) (at + r) at p) }
+        ensures units { OnOk result ((p : ℕ) → far_at self.new.moved.items self.new.later p ≡ (if p == place then own else far_at self.old.moved.items self.old.later p)) }
+        ensures near { self.new.near.items ≡ self.old.near.items }
         ensures moves { length self.new.moved.items ≤ length self.old.moved.items + 1 }
         ensures kept { vec_capacity self.new.moved ≡ vec_capacity self.old.moved }
     {
-        let own = self.unit(at);
-        let unit = self.unit(at + r);
-        self.keep(at + r, own)?;
+        let unit = self.far(place);
+        self.keep(place, own)?;
         Ok(unit)
     }
 
-    // The unit at a position.
-    fn unit(&self, place: u64) -> u64
+    // The unit at a position behind the list.
+    fn far(&self, place: u64) -> u64
         requires { AreMoves self.now.mask self.now.moved.items self.now.lasts.items }
-        ensures { result ≡ unit_at self.now.moved.items self.now.later place }
+        ensures { result ≡ far_at self.now.moved.items self.now.later place }
     {
         if self.later.is_empty() {
             return self.walk(place);
@@ -133,13 +152,14 @@ impl Shuffle {
         place
     }
 
-    // Moves a unit to a position.
+    // Moves a unit to a position behind the list.
     fn keep(&mut self, place: u64, unit: u64) -> Result<(), AllocError>
         requires chained { AreMoves self.old.mask self.old.moved.items self.old.lasts.items }
         requires few { length self.old.moved.items + 1 < 2 ^ 32 }
         requires room { length self.old.moved.items < vec_capacity self.old.moved }
         ensures chained { OnOk result (AreMoves self.new.mask self.new.moved.items self.new.lasts.items) }
-        ensures units { OnOk result ((p : ℕ) → unit_at self.new.moved.items self.new.later p ≡ (if p == place then unit else unit_at self.old.moved.items self.old.later p)) }
+        ensures units { OnOk result ((p : ℕ) → far_at self.new.moved.items self.new.later p ≡ (if p == place then unit else far_at self.old.moved.items self.old.later p)) }
+        ensures near { self.new.near.items ≡ self.old.near.items }
         ensures moves { length self.new.moved.items ≤ length self.old.moved.items + 1 }
         ensures kept { vec_capacity self.new.moved ≡ vec_capacity self.old.moved }
     {
@@ -170,4 +190,17 @@ impl Shuffle {
             None => 0,
         }
     }
+}
+
+// Writes 0, 1, 2, .. over what stands in the room, so many.
+fn write_own(room: &mut Vec<u64>, count: usize) -> Result<(), AllocError>
+    ensures length { OnOk result (length room.new.items ≡ count) }
+    ensures own { OnOk result ((p : ℕ) → p < count → slice_index room.new.items p ≡ p) }
+{
+    room.clear();
+    room.reserve(count)?;
+    for unit in 0..count {
+        room.push_reserved(unit as u64);
+    }
+    Ok(())
 }

@@ -1,5 +1,5 @@
 -- What is kept while a sample is drawn: the units that were moved, and where each node's draws are counted.
-use Rattle.std.specs.Prelude.{◌≡◌, ℕ, zero, suc, ◌+◌, ◌<◌, ◌≤◌, Bool, false, List, [], ◌∷◌, length, map, fold, bit_and, Option, Some, None, ◌==◌, slice_get, slice_index, slice_index_or, if◌then◌else◌}
+use Rattle.std.specs.Prelude.{◌≡◌, ℕ, zero, suc, ◌+◌, ◌<◌, ◌≤◌, Bool, false, List, [], ◌∷◌, length, map, fold, bit_and, Option, Some, None, ◌==◌, slice_get, slice_index, slice_index_or, nat_lt, if◌then◌else◌}
 use Rattle.std.specs.BTreeMap.{BTreeMap, get}
 use Rattle.std.specs.Option.{option_map, option_map_or, unwrap_or}
 use Rattle.std.specs.Ordering.{nat_cmp}
@@ -13,9 +13,13 @@ use Rattle.snow_sample.specs.declared.shuffle.Move.{Move}
 abbrev pub moved_to : ℕ → ℕ → List Move → ℕ
 moved_to position first moves = fold (λ unit m. if m.place == position then m.unit else unit) first moves
 
--- the unit at a position: the one that was moved there later, as the map has it, else the last of these moves, else its own
-abbrev pub unit_at : List Move → BTreeMap ℕ ℕ → ℕ → ℕ
-unit_at moves later position = unwrap_or (get nat_cmp later position) (moved_to position position moves)
+-- the unit at a position behind the list: the one that was moved there later, as the map has it, else the last of these moves, else its own
+abbrev pub far_at : List Move → BTreeMap ℕ ℕ → ℕ → ℕ
+far_at moves later position = unwrap_or (get nat_cmp later position) (moved_to position position moves)
+
+-- the unit at a position: as the list has it, which has the first positions
+abbrev pub unit_at : List ℕ → List Move → BTreeMap ℕ ℕ → ℕ → ℕ
+unit_at near moves later position = if nat_lt position (length near) then slice_index near position else far_at moves later position
 
 -- the class of a position: its low bits
 abbrev pub class_of : ℕ → ℕ → ℕ

@@ -1,4 +1,4 @@
--- No move is chained to none.
+-- No move is chained to none, and each unit of the list stands at its own position.
 use Rattle.std.proofs.Common.{◌≡◌, ◌+◌, ◌-◌, ◌<◌, arith}
 use Rattle.std.proofs.lemmas.Nat.{pow_pos}
 use Rattle.snow_sample.proofs.Moves.{moves_none}
