@@ -9,9 +9,6 @@ use std::marker::Model;
 // The low 63 bits of a word.
 const LOW_BITS: u64 = 0x7fff_ffff_ffff_ffff;
 
-// Where more words are left, eight times so many that were taken are enough to move them.
-const FEW: usize = 8_192;
-
 // So many words are copied at a time.
 const SOME: usize = 256;
 
@@ -56,12 +53,12 @@ impl Line {
         append(&mut self.words, words)
     }
 
-    // Moves the words that are left to the front, where many times as many were taken: so hardly a
-    // word is moved for each that is taken.
+    // Moves the words that are left to the front, where more were taken: so at most a word is moved for
+    // each that is taken, and the room stays small.
     fn close_up(&mut self)
         ensures { self.new ≡ self.old }
     {
-        if self.taken / 8 > self.len().min(FEW) {
+        if self.taken > self.len() {
             cut_front(&mut self.words, self.taken);
             self.taken = 0;
         }
