@@ -33,20 +33,21 @@ impl Nodes {
     {
         let mut nodes = match left {
             Some(nodes) => nodes,
-            None => Nodes::new(alloc, draws.len())?,
+            None => Nodes::new(alloc)?,
         };
         nodes.begin(alloc, draws)?;
         Ok(nodes)
     }
 
-    // None, and room for so many.
-    fn new(alloc: Global, nodes: usize) -> Result<Box<Nodes>, AllocError> {
+    // None, and room for none.
+    fn new(alloc: Global) -> Result<Box<Nodes>, AllocError> {
         let replies = Vec::new(alloc);
-        let awaited = Awaited::new(alloc, nodes)?;
+        let awaited = Awaited::new(alloc, 0)?;
         Ok(Box::new(alloc, Nodes { replies, awaited })?)
     }
 
-    // Forgets all nodes, and takes those of these draws.
+    // Forgets all nodes, and takes those of these draws. Room is made for a power of two of them, so that a
+    // later poll of a few nodes more needs no other.
     fn begin(&mut self, alloc: Global, draws: &[Draw]) -> Result<(), AllocError>
         requires nodes { AreOfDistinctNodes draws.now }
         requires few { length draws.now < 2 ^ 32 }
@@ -55,10 +56,11 @@ impl Nodes {
         ensures replies { OnOk result (self.new.replies.items ≡ []) }
         ensures room { OnOk result (length draws.now ≤ vec_capacity self.new.replies) }
     {
+        let room = draws.len().next_power_of_two();
         self.replies.clear();
-        self.replies.reserve(draws.len())?;
+        self.replies.reserve(room)?;
         if !self.awaited.fits(draws.len()) {
-            self.awaited.grow(alloc, draws.len())?;
+            self.awaited.grow(alloc, room)?;
         }
         self.awaited.clear();
         self.awaited.await_all(alloc, draws)
