@@ -5,5 +5,3 @@ mod Forgotten
 mod Latest
 mod Looked
 mod Newest
-mod RowOf
-mod Rows

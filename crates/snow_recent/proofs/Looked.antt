@@ -1,14 +1,27 @@
 -- What stands at a likely place, and before it, tells where an identifier's number stands or belongs.
-use Rattle.std.proofs.Common.{◌≡◌, ℕ, zero, suc, ◌-◌, ◌<◌, ◌≤◌, Bool, true, false, ◌||◌, ◌==◌, List, [], ◌∷◌, length, get_or, Some, None, Ok, Err, Ordering, Less, Equal, Greater, is_lt, refl, sym, ap, ◌∙◌, arith, inl, inr}
-use Rattle.std.specs.List.{concat}
+use Rattle.std.proofs.Common.{◌≡◌, ℕ, zero, suc, ◌-◌, ◌<◌, ◌≤◌, true, false, ◌||◌, ◌==◌, List, [], ◌∷◌, length, get_or, Some, None, Ok, Err, Ordering, Less, Equal, Greater, is_lt, refl, sym, ap, ◌∙◌, arith, inl, inr}
 use Rattle.std.specs.Option.{option_map_or}
-use Rattle.std.specs.Ordering.{is_eq, is_gt}
+use Rattle.std.specs.Ordering.{is_eq, is_gt, ordering_reverse}
 use Rattle.std.proofs.lemmas.Bool.{cases_lt, or_cases, eqb-true}
 use Rattle.std.proofs.lemmas.Cmp.{nat_list_cmp_total}
+use Rattle.std.proofs.lemmas.Map.Lookups.{exact_bytes}
 use Rattle.std.proofs.lemmas.Option.{slice_get-get_or}
 use Rattle.snow_recent.specs.Kept.Index.{byte_cmp, order_at, IsRising, IsPlaceOf}
 use Rattle.snow_recent.specs.Kept.Table.{IsLatest}
-use Rattle.snow_recent.proofs.RowOf.{is_less, higher, rising_row, row_inside, latest_found, latest_missing}
+use Rattle.snow_recent.proofs.Filed.{flip, nowhere}
+
+is_less : (o : Ordering) → is_lt o ≡ true → o ≡ Less
+is_less Less h = refl
+is_less Equal h = absurd cc
+is_less Greater h = absurd cc
+
+-- where one identifier isn't below the key, a higher one is above it
+higher : (o : Ordering) (a b key : List ℕ) → byte_cmp a key ≡ o → is_lt o ≡ false → byte_cmp a b ≡ Less → byte_cmp b key ≡ Greater
+higher Less a b key is low less = absurd cc
+higher Equal a b key is low less =
+    flip b key ∙ ap ordering_reverse (ap (λ i. byte_cmp i b) (sym (exact_bytes a key is)) ∙ less)
+higher Greater a b key is low less =
+    flip b key ∙ ap ordering_reverse (nat_list_cmp_total.trans key a b (flip key a ∙ ap ordering_reverse is) less)
 
 is_equal : (o : Ordering) → is_eq o ≡ true → o ≡ Equal
 is_equal Less h = absurd cc
@@ -66,25 +79,13 @@ placed_at id numbers at key rising within above below = (within, (lower, upper))
           | inr behind ↦ let same : k ≡ at = omega (arith, low, behind) in ap (λ i. byte_cmp (id (get_or numbers i d)) key) same ∙ first
         ]
 
--- ---- among all numbers
+-- ---- what is told
 
--- a number at a likely place of a row is the latest one
-pub latest_at : (id : ℕ → List ℕ) (rows : List (List ℕ)) (key : List ℕ) (at place n : ℕ) → at < length rows → is_eq (order_at id (get_or rows at []) place key) ≡ true
-    → n ≡ get_or (get_or rows at []) place n → IsLatest id (concat rows) key (Some n)
-latest_at id rows key at place n h is = latest_found id rows key at place n h (found_at id (get_or rows at []) place key is)
+-- the number at the place is that of the identifier
+pub latest_found : (id : ℕ → List ℕ) (numbers : List ℕ) (key : List ℕ) (at n : ℕ) → IsPlaceOf id numbers key (Ok at) → n ≡ get_or numbers at n
+    → IsLatest id numbers key (Some n)
+latest_found id numbers key at n found is = ((at, found.0, sym is), ap id is ∙ exact_bytes _ _ (found.1 n))
 
--- and there is none where the identifier belongs inside a row
-pub latest_inside : (id : ℕ → List ℕ) (rows : List (List ℕ)) (key : List ℕ) (at place : ℕ) → IsRising id (concat rows) → at < length rows → 0 < place
-    → place < length (get_or rows at []) → is_gt (order_at id (get_or rows at []) place key) ≡ true → is_lt (order_at id (get_or rows at []) (place - 1) key) ≡ true
-    → IsLatest id (concat rows) key None
-latest_inside id rows key at place rising h some within above below =
-    let row = get_or rows at [] in
-    latest_missing id rows key at place
-    (row_inside id rows key at (place - 1) place rising h (omega arith) within
-    (λ d. sym (order_is id row (place - 1) d key (omega arith)) ∙ is_less _ below)
-    (λ d. sym (order_is id row place d key within) ∙ is_greater _ above))
-    (placed_at id row place key (rising_row id rows at h rising) (omega arith) above (second (place == 0) _ below))
-  where
-    second : (a b : Bool) → b ≡ true → (a || b) ≡ true
-    second true b is = refl
-    second false b is = is
+-- and none has it where it only belongs
+pub latest_missing : (id : ℕ → List ℕ) (numbers : List ℕ) (key : List ℕ) (at : ℕ) → IsPlaceOf id numbers key (Err at) → IsLatest id numbers key None
+latest_missing id numbers key at missing = λ k d h. nowhere id numbers key at k d missing h

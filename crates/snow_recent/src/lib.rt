@@ -4,7 +4,6 @@
 mod heads;
 mod index;
 mod recent;
-mod row;
 mod seats;
 mod table;
 

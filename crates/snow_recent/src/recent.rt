@@ -1,5 +1,5 @@
 ghost use Rattle.std.specs.Prelude.{◌≡◌, ◌<◌, ◌≤◌, ◌^◌, ◌∷◌, ◌++◌, [], None, IfOk, length, drop, nat_lt, if◌then◌else◌};
-ghost use Rattle.std.specs.List.{concat, last_or};
+ghost use Rattle.std.specs.List.{last_or};
 ghost use Rattle.std.specs.Option.{option_copied, option_to_list, is_some};
 ghost use Rattle.std.specs.VecDeque.{deque_capacity};
 ghost use Rattle.snow_recent.specs.Kept.Index.{id_of, IsRising};
@@ -38,12 +38,11 @@ pub struct Recent<T: Named, const MOST: usize> {
     entries: VecDeque<T>,
     first: u32,
     heads: Heads,
-    table: Table,
+    table: Table<MOST>,
 }
 
 impl<T: Named, const MOST: usize> Model for Recent<T, MOST> {
     ghost use Rattle.std.specs.Prelude.{List};
-    ghost use Rattle.std.specs.List.{concat};
     ghost use Rattle.std.specs.VecDeque.{deque_capacity};
     ghost use Rattle.snow_recent.specs.Kept.Index.{IsRecent};
 
@@ -51,7 +50,7 @@ impl<T: Named, const MOST: usize> Model for Recent<T, MOST> {
 
     ghost view = { λ a. a.entries.items };
 
-    ghost invariant = { λ a. IsRecent T.id MOST a.entries.items a.first a.heads (concat a.table.rows) (deque_capacity a.entries) a.table.most };
+    ghost invariant = { λ a. IsRecent T.id MOST a.entries.items a.first a.heads a.table (deque_capacity a.entries) };
 }
 
 impl<T: Named, const MOST: usize> Recent<T, MOST> {
@@ -65,7 +64,7 @@ impl<T: Named, const MOST: usize> Recent<T, MOST> {
     {
         let entries = VecDeque::with_capacity(alloc, MOST)?;
         let heads = Heads::new(alloc)?;
-        let table = Table::new(alloc, MOST)?;
+        let table = Table::new(alloc)?;
         Ok(Recent {
             entries,
             first: 0,
@@ -177,14 +176,14 @@ impl<T: Named, const MOST: usize> Recent<T, MOST> {
 }
 
 // The latest entry of an identifier that isn't the head of its seat.
-fn latest_filed<'a, T: Named>(
-    table: &Table,
+fn latest_filed<'a, T: Named, const MOST: usize>(
+    table: &Table<MOST>,
     entries: &'a VecDeque<T>,
     first: u32,
     id: &Id,
 ) -> Option<&'a T>
-    requires { IsRising (id_of T.id entries.now.items first) (concat table.now.rows) }
-    ensures { IsFiled T.id entries.now.items first (concat table.now.rows) id.now (option_copied result) }
+    requires { IsRising (id_of T.id entries.now.items first) table.now }
+    ensures { IsFiled T.id entries.now.items first table.now id.now (option_copied result) }
 {
     match table.latest(entries, first, id) {
         Some(number) => index::entry_of(entries, first, number),

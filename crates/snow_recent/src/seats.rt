@@ -1,6 +1,5 @@
 //! How entries take seats, and what the table has of those that gave theirs up.
 ghost use Rattle.std.specs.Prelude.{◌≡◌, ◌==◌, ◌<◌, ◌&&◌, not, bytes_eq, length};
-ghost use Rattle.std.specs.List.{concat};
 ghost use Rattle.snow_recent.specs.Kept.Index.{id_of, IsRising, gives_way, seated, seat_of, HasNoSeated, without_oldest};
 
 use crate::heads::{Heads, seat_of};
@@ -29,17 +28,16 @@ fn is_other(head: &Id, id: &Id) -> bool
 
 /// Gives a seat to an identifier. It files the number that stands there in the table, if its entry
 /// gives way.
-pub(crate) fn take_seat<T: Named>(
-    table: &mut Table,
+pub(crate) fn take_seat<T: Named, const MOST: usize>(
+    table: &mut Table<MOST>,
     entries: &VecDeque<T>,
     first: u32,
     number: u32,
     id: &Id,
 )
-    requires order { IsRising (id_of T.id entries.now.items first) (concat table.old.rows) }
-    requires room { length (concat table.old.rows) < table.old.most }
-    ensures numbers { concat table.new.rows ≡ seated T.id entries.now.items first (concat table.old.rows) number id.now }
-    ensures most { table.new.most ≡ table.old.most }
+    requires order { IsRising (id_of T.id entries.now.items first) table.old }
+    requires room { length table.old < MOST }
+    ensures { table.new ≡ seated T.id entries.now.items first table.old number id.now }
 {
     if gives_way(entries, first, number, id) {
         table.file(entries, first, number);
@@ -48,16 +46,15 @@ pub(crate) fn take_seat<T: Named>(
 
 /// Takes the number of the oldest entry out of the table. It isn't there where the entry still has
 /// its seat.
-pub(crate) fn take_oldest_number<T: Named>(
-    table: &mut Table,
+pub(crate) fn take_oldest_number<T: Named, const MOST: usize>(
+    table: &mut Table<MOST>,
     heads: &Heads,
     entries: &VecDeque<T>,
     first: u32,
 )
-    requires order { IsRising (id_of T.id entries.now.items first) (concat table.old.rows) }
-    requires seat { HasNoSeated (id_of T.id entries.now.items first) heads.now first (concat table.old.rows) }
-    ensures numbers { concat table.new.rows ≡ without_oldest first (concat table.old.rows) }
-    ensures most { table.new.most ≡ table.old.most }
+    requires order { IsRising (id_of T.id entries.now.items first) table.old }
+    requires seat { HasNoSeated (id_of T.id entries.now.items first) heads.now first table.old }
+    ensures { table.new ≡ without_oldest first table.old }
 {
     let oldest = index::id_of(entries, first, first);
     if heads.number(&oldest) != first {

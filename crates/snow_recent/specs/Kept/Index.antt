@@ -90,12 +90,11 @@ pub record IsIndex {T : Type 0} (name : T → List ℕ) (entries : List T) (head
   pub latest : (place : ℕ) → place < length entries
       → (id_at name entries (head (seat_of (id_at name entries place))) ≡ id_at name entries place) ⊎ HasLatest (id_at name entries) places place
 
--- at most so many entries with their index, and with room for as many entries and numbers
-pub record IsRecent {T : Type 0} (name : T → List ℕ) (most : ℕ) (entries : List T) (first : ℕ) (heads numbers : List ℕ) (for_entries for_numbers : ℕ) : Type 0 where
+-- at most so many entries with their index, and with room for as many entries
+pub record IsRecent {T : Type 0} (name : T → List ℕ) (most : ℕ) (entries : List T) (first : ℕ) (heads numbers : List ℕ) (for_entries : ℕ) : Type 0 where
   pub some : 0 < most
   pub fits : most < 2 ^ 32
   pub few : length entries ≤ most
   pub room : most ≤ for_entries
-  pub places : most ≤ for_numbers
   pub small : All (λ n. n < 2 ^ 32) numbers
   pub index : IsIndex name entries (head_of first heads) (map (place_of first) numbers)

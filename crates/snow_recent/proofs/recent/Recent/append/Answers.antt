@@ -1,24 +1,18 @@
 use Rattle.std.proofs.Common.{◌≡◌, ℕ, List, ◌<◌, get_or, ap, ◌∙◌, arith, length}
-use Rattle.std.specs.List.{concat}
 use Rattle.std.proofs.lemmas.List.{length_push}
 use Rattle.snow_recent.specs.Kept.Index.{head_of, seat_of}
 use Rattle.snow_recent.proofs.Appended.{appended, rising_before, few_numbers, small_seated}
 use Rattle.snow_recent.proofs.recent.Recent.append.Goals as goal
 
-pub take_seat-requires-clause-order : goal.take_seat-requires-clause-order
-take_seat-requires-clause-order g c =
+pub take_seat-requires : goal.take_seat-requires
+take_seat-requires g c =
     let inside = c.self.inside in
-    rising_before g.T.Named.id inside.entries.items inside.first (head_of inside.first inside.heads) (concat inside.table.rows) c.self.invariant.index
-
-pub take_seat-requires-clause-room : goal.take_seat-requires-clause-room
-take_seat-requires-clause-room g c =
-    let inside = c.self.inside in
-    omega (
-      arith,
-      few_numbers g.T.Named.id inside.entries.items inside.first (head_of inside.first inside.heads) (concat inside.table.rows) c.self.invariant.index,
-      ap length c.self.view_is,
-      c.requires,
-      c.self.invariant.places,
+    let few = few_numbers g.T.Named.id inside.entries.items inside.first (head_of inside.first inside.heads) inside.table c.self.invariant.index in (
+      omega arith,
+      (
+        rising_before g.T.Named.id inside.entries.items inside.first (head_of inside.first inside.heads) inside.table c.self.invariant.index,
+        omega (arith, few, ap length c.self.view_is, c.requires),
+      ),
     )
 
 pub invariant_of-self : goal.invariant_of-self
@@ -27,11 +21,11 @@ invariant_of-self g c =
     let entries = c.self.inside.entries.items in
     let first = c.self.inside.first in
     let heads = c.self.inside.heads in
-    let numbers = concat c.self.inside.table.rows in
+    let numbers = c.self.inside.table in
     let entry = c.args.entry in
     let few : length entries < g.row.MOST = omega (arith, ap length c.self.view_is, c.requires) in
     let count : c.len.result ≡ length entries = c.len.ensures ∙ c.self.inside.entries.ok.0 in
-    let seated_is = rw (c.number-head.ensures, c.id-id.ensures) at c.take_seat.ensures.numbers in
+    let seated_is = rw (c.number-head.ensures, c.id-id.ensures) at c.take_seat.ensures in
     let set_is = rw (c.id-id.ensures, count) at c.set.ensures.set in
     let there = rw c.id-id.ensures at c.set.ensures.there in
     record {
@@ -39,7 +33,6 @@ invariant_of-self g c =
       fits = c.self.invariant.fits;
       few = omega (arith, ap length c.push_back_reserved.ensures.items, length_push entries entry);
       room = omega (arith, c.push_back_reserved.ensures.capacity, c.self.invariant.room);
-      places = omega (arith, c.take_seat.ensures.most, c.self.invariant.places);
       small = rw seated_is (small_seated name entries first numbers (get_or heads (seat_of (name entry)) 0) (name entry) c.self.invariant.small
           (omega (arith, c.number-head.ensures, c.number-head.type_inv, ap (λ (i : List ℕ). get_or heads (seat_of i) 0) c.id-id.ensures)));
       index = rw (seated_is, c.push_back_reserved.ensures.items, set_is)

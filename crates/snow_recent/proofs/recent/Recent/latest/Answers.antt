@@ -1,5 +1,5 @@
-use Rattle.std.proofs.Common.{◌≡◌, true, false, sym, ap, ◌∙◌}
-use Rattle.std.specs.List.{concat, slice_get}
+use Rattle.std.proofs.Common.{◌≡◌, true, false, sym, ap, ◌∙◌, arith}
+use Rattle.std.specs.List.{slice_get}
 use Rattle.std.specs.Option.{option_copied}
 use Rattle.std.proofs.lemmas.Slice.Eq.{bytes_eq-Decides}
 use Rattle.snow_recent.specs.Model.Recent.{latest}
@@ -31,7 +31,7 @@ returns-then-eq g c =
 pub latest_filed-requires : goal.latest_filed-requires
 latest_filed-requires g c =
     let inside = c.self.inside in
-    rising_before g.T.Named.id inside.entries.items inside.first (head_of inside.first inside.heads) (concat inside.table.rows) c.self.invariant.index
+    (omega arith, rising_before g.T.Named.id inside.entries.items inside.first (head_of inside.first inside.heads) inside.table c.self.invariant.index)
 
 -- the head of the seat is of another identifier
 other : (g : _) (c : Else-eq g) → id_at g.T.Named.id c.self.inside.entries.items (head_of c.self.inside.first c.self.inside.heads (seat_of c.args.id.now)) ≡ c.args.id.now → ⊥
@@ -49,5 +49,5 @@ returns g c =
     let entries = inside.entries.items in
     let first = inside.first in
     let filed = c.latest_filed.ensures in
-    filed_latest g.T.Named.id entries first (head_of first inside.heads) (concat inside.table.rows) c.args.id.now filed.0 _ c.self.invariant.index (other g (goal.at.returns g c).Else-eq) filed.1 filed.2
+    filed_latest g.T.Named.id entries first (head_of first inside.heads) inside.table c.args.id.now filed.0 _ c.self.invariant.index (other g (goal.at.returns g c).Else-eq) filed.1 filed.2
     ∙ ap (λ entries. latest g.T.Named.id entries c.args.id.now) c.self.view_is
