@@ -7,8 +7,8 @@ use snow_map::seat_of;
 use std::alloc::{AllocError, Global};
 use std::marker::Model;
 
-// There are no more slots than these: that is sixteen for each of 4,096 blocks, and 512 KB.
-const MOST_SLOTS: usize = 1 << 16;
+// There are no more slots than these: that is eight for each of 4,096 blocks, and 256 KB.
+const MOST_SLOTS: usize = 1 << 15;
 
 /// Maps each slot to the number of the entry that was put there last; all identifiers of the slot
 /// share it. Contracts see the numbers.
@@ -38,7 +38,7 @@ impl Hints {
         }
     }
 
-    /// Makes slots for one more entry than so many: sixteen for each, so that few entries share
+    /// Makes slots for one more entry than so many: eight for each, so that few entries share
     /// one. Each identifier has the number that it had.
     pub(crate) fn make_room(&mut self, entries: usize) -> Result<(), AllocError>
         ensures told { (id : List ℕ) → hint_of self.new id ≡ hint_of self.old id }
@@ -46,7 +46,7 @@ impl Hints {
         ensures more { length self.old ≤ length self.new }
     {
         let slots = self.numbers.len();
-        if entries < slots / 16 || slots >= MOST_SLOTS {
+        if entries < slots / 8 || slots >= MOST_SLOTS {
             return Ok(());
         }
         self.make_slots()
