@@ -5,7 +5,7 @@ use Rattle.std.proofs.lemmas.List.{get_or_default, get_or-map, length-map}
 use Rattle.std.proofs.lemmas.List.Elements.{All-cons, All-head, All-tail}
 use Rattle.std.proofs.lemmas.List.Kept.{AllPairs-cons}
 use Rattle.std.proofs.lemmas.Map.Lookups.{exact_bytes}
-use Rattle.snow_recent.specs.Kept.Index.{id_at, id_of, place_of, head_of, seat_of, byte_cmp, IsRising, IsPlaceOf, HasLatest, HasNoSeated, IsIndex, without_oldest}
+use Rattle.snow_recent.specs.Kept.Index.{id_at, id_of, place_of, head_of, number_at, byte_cmp, IsRising, IsPlaceOf, HasLatest, HasNoSeated, IsIndex, without_oldest}
 use Rattle.snow_recent.proofs.Filed.{rising_head, rising_tail, not_itself, one_place, nowhere}
 
 -- ---- the number that is taken out
@@ -81,31 +81,31 @@ latest_lowered name e entries (suc p ∷ places) place has =
     ]
 
 -- the heads of the rest: each that has a place there is one place nearer to the front
-abbrev AreNearer : (ℕ → ℕ) → (ℕ → ℕ) → Type 0
-AreNearer head next = (seat p : ℕ) → head seat ≡ suc p → next seat ≡ p
+abbrev AreNearer : (List ℕ → ℕ) → (List ℕ → ℕ) → Type 0
+AreNearer head next = (id : List ℕ) (p : ℕ) → head id ≡ suc p → next id ≡ p
 
-nearer_head : (head next : ℕ → ℕ) (seat : ℕ) → AreNearer head next → 0 < head seat → head seat ≡ suc (next seat)
-nearer_head head next seat near some =
-    let is : head seat ≡ suc (head seat - 1) = omega arith in
-    is ∙ ap suc (sym (near seat (head seat - 1) is))
+nearer_head : (head next : List ℕ → ℕ) (id : List ℕ) → AreNearer head next → 0 < head id → head id ≡ suc (next id)
+nearer_head head next id near some =
+    let is : head id ≡ suc (head id - 1) = omega arith in
+    is ∙ ap suc (sym (near id (head id - 1) is))
 
 -- so the index of a list gives that of its rest
-index_lowered : {T : Type 0} (name : T → List ℕ) (e : T) (entries : List T) (head next : ℕ → ℕ) (places : List ℕ) → AreNearer head next
+index_lowered : {T : Type 0} (name : T → List ℕ) (e : T) (entries : List T) (head next : List ℕ → ℕ) (places : List ℕ) → AreNearer head next
     → IsIndex name (e ∷ entries) head places → IsIndex name entries next (lowered places)
 index_lowered name e entries head next places near index =
-    let seat : ℕ → ℕ = λ p. seat_of (id_at name entries p) in
+    let id : ℕ → List ℕ = id_at name entries in
     record {
       within = all_lowered (λ p. p < suc (length entries)) (λ p. p < length entries) (λ p h. omega arith) places index.within;
       rising = rising_lowered name e entries places index.rising;
-      behind = all_lowered (λ p. p < head (seat_of (id_at name (e ∷ entries) p))) (λ p. p < next (seat p))
-          (λ p h. let is = nearer_head head next (seat p) near (omega (arith, h)) in omega (arith, is, h)) places index.behind;
+      behind = all_lowered (λ p. p < head (id_at name (e ∷ entries) p)) (λ p. p < next (id p))
+          (λ p h. let is = nearer_head head next (id p) near (omega (arith, h)) in omega (arith, is, h)) places index.behind;
       headed = λ place h.
           let headed = index.headed (suc place) (omega (arith, h)) in
-          let is = nearer_head head next (seat place) near (omega (arith, headed.later)) in
+          let is = nearer_head head next (id place) near (omega (arith, headed.later)) in
           record { there = omega (arith, is, headed.there); later = omega (arith, is, headed.later) };
       latest = λ place h.
           let headed = index.headed (suc place) (omega (arith, h)) in
-          let is = nearer_head head next (seat place) near (omega (arith, headed.later)) in
+          let is = nearer_head head next (id place) near (omega (arith, headed.later)) in
           elim (index.latest (suc place) (omega (arith, h))) [
             | inl own ↦ inl (ap (id_at name (e ∷ entries)) (sym is) ∙ own)
             | inr has ↦ inr (latest_lowered name e entries places place has)
@@ -150,8 +150,8 @@ no_oldest name entries first heads numbers small index seated = λ k d h same.
     let zero_place : place first ≡ 0 = at_first first small in
     let long : k < length (map place numbers) = omega (arith, length-map numbers place, h) in
     let at : get_or (map place numbers) k 0 ≡ place first = get_or-map place numbers k d 0 h ∙ ap place same in
-    let before = subst (λ p. p < head_of first heads (seat_of (id_at name entries p))) at (index.behind k 0 long) in
-    let head : head_of first heads (seat_of (id_at name entries (place first))) ≡ place first = ap place seated in
+    let before = subst (λ p. p < head_of first heads (id_at name entries p)) at (index.behind k 0 long) in
+    let head : head_of first heads (id_at name entries (place first)) ≡ place first = ap place seated in
     omega (arith, before, head)
 
 -- the index of the list that forgot its oldest entry
@@ -163,4 +163,4 @@ forgotten name (e ∷ entries) first heads numbers some small within index =
     let next : ℕ = (first + 1) % 2 ^ 32 in
     subst (IsIndex name entries (head_of next heads)) (sym (map_lowered first numbers small within))
     (index_lowered name e entries (head_of first heads) (head_of next heads) (map (place_of first) numbers)
-    (λ seat p is. nearer first (get_or heads seat 0) p small is) index)
+    (λ id p is. nearer first (number_at heads id) p small is) index)

@@ -9,7 +9,7 @@ use Rattle.std.proofs.lemmas.List.Folds.{find-append}
 use Rattle.std.proofs.lemmas.Option.{slice_get-get_or, slice_get_cases, slice_get_within}
 use Rattle.std.proofs.lemmas.Slice.Eq.{bytes_eq-Decides}
 use Rattle.snow_recent.specs.Model.Recent.{latest}
-use Rattle.snow_recent.specs.Kept.Index.{id_at, id_of, place_of, seat_of, HasLatest, IsIndex}
+use Rattle.snow_recent.specs.Kept.Index.{id_at, id_of, place_of, HasLatest, IsIndex}
 use Rattle.snow_recent.specs.Kept.Table.{IsLatest}
 use Rattle.snow_recent.proofs.Filed.{one_place}
 
@@ -63,52 +63,52 @@ place_there id (p ∷ places) place has =
     ]
 
 -- the head of a seat is the latest entry of its identifier
-head_latest : {T : Type 0} (name : T → List ℕ) (entries : List T) (head : ℕ → ℕ) (places : List ℕ) (key : List ℕ) → IsIndex name entries head places
-    → head (seat_of key) < length entries → id_at name entries (head (seat_of key)) ≡ key → latest name entries key ≡ slice_get entries (head (seat_of key))
+head_latest : {T : Type 0} (name : T → List ℕ) (entries : List T) (head : List ℕ → ℕ) (places : List ℕ) (key : List ℕ) → IsIndex name entries head places
+    → head key < length entries → id_at name entries (head key) ≡ key → latest name entries key ≡ slice_get entries (head key)
 head_latest name entries head places key index there is =
-    last_latest name key entries (head (seat_of key)) there is
+    last_latest name key entries (head key) there is
     (λ j after within same.
-    let early : j ≤ head (seat_of key) = subst (λ (i : List ℕ). j ≤ head (seat_of i)) same (index.headed j within).later in
+    let early : j ≤ head key = subst (λ (i : List ℕ). j ≤ head i) same (index.headed j within).later in
     omega arith)
 
-pub head_found : {T : Type 0} (name : T → List ℕ) (entries : List T) (head : ℕ → ℕ) (places : List ℕ) (key : List ℕ) (e : T) → IsIndex name entries head places
-    → Some e ≡ slice_get entries (head (seat_of key)) → name e ≡ key → Some e ≡ latest name entries key
+pub head_found : {T : Type 0} (name : T → List ℕ) (entries : List T) (head : List ℕ → ℕ) (places : List ℕ) (key : List ℕ) (e : T) → IsIndex name entries head places
+    → Some e ≡ slice_get entries (head key) → name e ≡ key → Some e ≡ latest name entries key
 head_found name entries head places key e index is own =
     is
-    ∙ sym (head_latest name entries head places key index (slice_get_within entries (head (seat_of key)) e (sym is))
+    ∙ sym (head_latest name entries head places key index (slice_get_within entries (head key) e (sym is))
     (ap (λ o. option_map_or name o (replicate 32 0)) (sym is) ∙ own))
 
-pub head_other : {T : Type 0} (name : T → List ℕ) (entries : List T) (head : ℕ → ℕ) (key : List ℕ) (e : T)
-    → Some e ≡ slice_get entries (head (seat_of key)) → (name e ≡ key → ⊥) → id_at name entries (head (seat_of key)) ≡ key → ⊥
+pub head_other : {T : Type 0} (name : T → List ℕ) (entries : List T) (head : List ℕ → ℕ) (key : List ℕ) (e : T)
+    → Some e ≡ slice_get entries (head key) → (name e ≡ key → ⊥) → id_at name entries (head key) ≡ key → ⊥
 head_other name entries head key e is other same = other (ap (λ o. option_map_or name o (replicate 32 0)) is ∙ same)
 
 nothing : {T : Type 0} (e : T) → None ≡ Some e → ⊥
 nothing e is = absurd cc
 
 -- and where a seat has no head, none of its identifiers has an entry
-pub headless : {T : Type 0} (name : T → List ℕ) (entries : List T) (head : ℕ → ℕ) (places : List ℕ) (key : List ℕ) → IsIndex name entries head places
-    → None ≡ slice_get entries (head (seat_of key)) → None ≡ latest name entries key
+pub headless : {T : Type 0} (name : T → List ℕ) (entries : List T) (head : List ℕ → ℕ) (places : List ℕ) (key : List ℕ) → IsIndex name entries head places
+    → None ≡ slice_get entries (head key) → None ≡ latest name entries key
 headless {T} name entries head places key index none =
     sym (none_latest name key entries
     (λ k within same.
-    let there : head (seat_of key) < length entries = subst (λ (i : List ℕ). head (seat_of i) < length entries) same (index.headed k within).there in
-    elim (slice_get_cases entries (head (seat_of key))).1 [
+    let there : head key < length entries = subst (λ (i : List ℕ). head i < length entries) same (index.headed k within).there in
+    elim (slice_get_cases entries (head key)).1 [
       | inl found ↦ absurd (nothing found.0 (none ∙ found.2))
       | inr past ↦ omega (arith, there, past.0)
     ]))
 
 -- where the head has another identifier, the places tell
-tabled : {T : Type 0} (name : T → List ℕ) (entries : List T) (head : ℕ → ℕ) (places : List ℕ) (key : List ℕ) (j : ℕ) → IsIndex name entries head places
-    → (id_at name entries (head (seat_of key)) ≡ key → ⊥) → j < length entries → id_at name entries j ≡ key → HasLatest (id_at name entries) places j
+tabled : {T : Type 0} (name : T → List ℕ) (entries : List T) (head : List ℕ → ℕ) (places : List ℕ) (key : List ℕ) (j : ℕ) → IsIndex name entries head places
+    → (id_at name entries (head key) ≡ key → ⊥) → j < length entries → id_at name entries j ≡ key → HasLatest (id_at name entries) places j
 tabled name entries head places key j index other within same =
     elim (index.latest j within) [
-      | inl own ↦ absurd (other (ap (λ (i : List ℕ). id_at name entries (head (seat_of i))) (sym same) ∙ own ∙ same))
+      | inl own ↦ absurd (other (ap (λ (i : List ℕ). id_at name entries (head i)) (sym same) ∙ own ∙ same))
       | inr has ↦ has
     ]
 
 -- a place of the index that has the identifier has its latest entry
-pub found_latest : {T : Type 0} (name : T → List ℕ) (entries : List T) (head : ℕ → ℕ) (places : List ℕ) (key : List ℕ) (at : ℕ) → IsIndex name entries head places
-    → (id_at name entries (head (seat_of key)) ≡ key → ⊥) → at < length places
+pub found_latest : {T : Type 0} (name : T → List ℕ) (entries : List T) (head : List ℕ → ℕ) (places : List ℕ) (key : List ℕ) (at : ℕ) → IsIndex name entries head places
+    → (id_at name entries (head key) ≡ key → ⊥) → at < length places
     → id_at name entries (get_or places at 0) ≡ key → latest name entries key ≡ slice_get entries (get_or places at 0)
 found_latest name entries head places key at index other h is =
     last_latest name key entries (get_or places at 0) (index.within at 0 h) is
@@ -119,8 +119,8 @@ found_latest name entries head places key at index other h is =
     omega arith)
 
 -- and where none has it, there is none
-pub missing_latest : {T : Type 0} (name : T → List ℕ) (entries : List T) (head : ℕ → ℕ) (places : List ℕ) (key : List ℕ) → IsIndex name entries head places
-    → (id_at name entries (head (seat_of key)) ≡ key → ⊥)
+pub missing_latest : {T : Type 0} (name : T → List ℕ) (entries : List T) (head : List ℕ → ℕ) (places : List ℕ) (key : List ℕ) → IsIndex name entries head places
+    → (id_at name entries (head key) ≡ key → ⊥)
     → ((i : ℕ) → i < length places → id_at name entries (get_or places i 0) ≡ key → ⊥) → latest name entries key ≡ None
 missing_latest name entries head places key index other none =
     none_latest name key entries
@@ -131,8 +131,8 @@ missing_latest name entries head places key index other none =
 -- ---- by the numbers
 
 -- the number of an identifier is that of its latest entry
-pub found_number : {T : Type 0} (name : T → List ℕ) (entries : List T) (first : ℕ) (head : ℕ → ℕ) (numbers : List ℕ) (key : List ℕ) (n : ℕ)
-    → IsIndex name entries head (map (place_of first) numbers) → (id_at name entries (head (seat_of key)) ≡ key → ⊥)
+pub found_number : {T : Type 0} (name : T → List ℕ) (entries : List T) (first : ℕ) (head : List ℕ → ℕ) (numbers : List ℕ) (key : List ℕ) (n : ℕ)
+    → IsIndex name entries head (map (place_of first) numbers) → (id_at name entries (head key) ≡ key → ⊥)
     → IsLatest (id_of name entries first) numbers key (Some n) → latest name entries key ≡ slice_get entries (place_of first n)
 found_number name entries first head numbers key n index other found =
     let at = found.0.0 in
@@ -143,8 +143,8 @@ found_number name entries first head numbers key n index other found =
     ∙ ap (slice_get entries) there
 
 -- where no number has the identifier, there is no entry
-pub missing_number : {T : Type 0} (name : T → List ℕ) (entries : List T) (first : ℕ) (head : ℕ → ℕ) (numbers : List ℕ) (key : List ℕ)
-    → IsIndex name entries head (map (place_of first) numbers) → (id_at name entries (head (seat_of key)) ≡ key → ⊥)
+pub missing_number : {T : Type 0} (name : T → List ℕ) (entries : List T) (first : ℕ) (head : List ℕ → ℕ) (numbers : List ℕ) (key : List ℕ)
+    → IsIndex name entries head (map (place_of first) numbers) → (id_at name entries (head key) ≡ key → ⊥)
     → IsLatest (id_of name entries first) numbers key None → latest name entries key ≡ None
 missing_number name entries first head numbers key index other none =
     missing_latest name entries head (map (place_of first) numbers) key index other
@@ -153,8 +153,8 @@ missing_number name entries first head numbers key index other none =
     none i 0 within (ap (id_at name entries) (sym (get_or-map (place_of first) numbers i 0 0 within)) ∙ same))
 
 -- what is filed of an identifier that isn't the head of its seat is its latest entry
-pub filed_latest : {T : Type 0} (name : T → List ℕ) (entries : List T) (first : ℕ) (head : ℕ → ℕ) (numbers : List ℕ) (key : List ℕ) (n : Option ℕ) (entry : Option T)
-    → IsIndex name entries head (map (place_of first) numbers) → (id_at name entries (head (seat_of key)) ≡ key → ⊥)
+pub filed_latest : {T : Type 0} (name : T → List ℕ) (entries : List T) (first : ℕ) (head : List ℕ → ℕ) (numbers : List ℕ) (key : List ℕ) (n : Option ℕ) (entry : Option T)
+    → IsIndex name entries head (map (place_of first) numbers) → (id_at name entries (head key) ≡ key → ⊥)
     → IsLatest (id_of name entries first) numbers key n → entry ≡ option_and_then (λ n. slice_get entries (place_of first n)) n → entry ≡ latest name entries key
 filed_latest name entries first head numbers key None entry index other filed is = is ∙ sym (missing_number name entries first head numbers key index other filed)
 filed_latest name entries first head numbers key (Some n) entry index other filed is = is ∙ sym (found_number name entries first head numbers key n index other filed)

@@ -1,4 +1,5 @@
 mod Appended
+mod Doubled
 pub mod Examples
 mod Filed
 mod Forgotten

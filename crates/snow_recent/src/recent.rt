@@ -89,6 +89,7 @@ impl<T: Named, const MOST: usize> Recent<T, MOST> {
         ensures all { option_to_list result ++ self.new ≡ self.old ++ entry ∷ [] }
     {
         let forgotten = self.make_room();
+        self.make_seats();
         self.append(entry);
         forgotten
     }
@@ -103,6 +104,13 @@ impl<T: Named, const MOST: usize> Recent<T, MOST> {
             return self.forget_oldest();
         }
         None
+    }
+
+    // Makes seats for one more entry, if there are few.
+    fn make_seats(&mut self)
+        ensures { self.new ≡ self.old }
+    {
+        self.heads.make_room(self.entries.len());
     }
 
     /// Returns how many entries there are, at most `MOST`.
@@ -167,8 +175,7 @@ impl<T: Named, const MOST: usize> Recent<T, MOST> {
         ensures { self.new ≡ self.old ++ entry ∷ [] }
     {
         let id = entry.id();
-        let head = self.heads.number(&id);
-        seats::take_seat(&mut self.table, &self.entries, self.first, head, &id);
+        seats::take_seat(&mut self.table, &self.heads, &self.entries, self.first, &id);
         let number = self.first.wrapping_add(self.entries.len() as u32);
         self.entries.push_back_reserved(entry);
         self.heads.set(&id, number);

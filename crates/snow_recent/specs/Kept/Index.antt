@@ -49,46 +49,56 @@ filed id [] number = number ∷ []
 filed id (n ∷ numbers) number =
     match_ordering (byte_cmp (id n) (id number)) (n ∷ filed id numbers number) (number ∷ numbers) (number ∷ n ∷ numbers)
 
--- the seat of an identifier
-abbrev pub seat_of : List ℕ → ℕ
-seat_of id = seat_among 65536 id
+-- the seat of an identifier among so many
+abbrev pub seat_of : ℕ → List ℕ → ℕ
+seat_of seats id = seat_among seats id
 
--- the place of the entry whose number stands at a seat
-abbrev pub head_of : ℕ → List ℕ → ℕ → ℕ
-head_of first heads seat = place_of first (get_or heads seat 0)
+-- there are as many seats as a power of two, and there is room for 65,536
+pub record AreSeats (seats room : ℕ) : Type 0 where
+  pub bits : ℕ
+  pub is : seats ≡ 2 ^ bits
+  pub most : 65536 ≤ room
+
+-- the number that stands at an identifier's seat
+abbrev pub number_at : List ℕ → List ℕ → ℕ
+number_at heads id = get_or heads (seat_of (length heads) id) 0
+
+-- the place of the entry whose number stands at an identifier's seat
+abbrev pub head_of : ℕ → List ℕ → List ℕ → ℕ
+head_of first heads id = place_of first (number_at heads id)
 
 -- the head of a seat is one of so many entries, and no earlier than this one
 pub record IsHeaded (count head place : ℕ) : Type 0 where
   pub there : head < count
   pub later : place ≤ head
 
--- whether the entry of a number has another identifier of the same seat
-abbrev pub gives_way : {T : Type 0} → (T → List ℕ) → List T → ℕ → ℕ → List ℕ → Bool
-gives_way name entries first number id =
-    option_map_or (λ e. not (bytes_eq (name e) id) && (seat_of (name e) == seat_of id)) (slice_get entries (place_of first number)) false
+-- whether the entry of a number has another identifier of the same seat among so many
+abbrev pub gives_way : {T : Type 0} → (T → List ℕ) → List T → ℕ → ℕ → ℕ → List ℕ → Bool
+gives_way name entries first seats number id =
+    option_map_or (λ e. not (bytes_eq (name e) id) && (seat_of seats (name e) == seat_of seats id)) (slice_get entries (place_of first number)) false
 
 -- the numbers in the table once an entry of this identifier takes its seat: the one that stood there is filed, if it gives way
-abbrev pub seated : {T : Type 0} → (T → List ℕ) → List T → ℕ → List ℕ → ℕ → List ℕ → List ℕ
-seated name entries first numbers number id =
-    if gives_way name entries first number id then filed (id_of name entries first) numbers number else numbers
+abbrev pub seated : {T : Type 0} → (T → List ℕ) → List T → ℕ → List ℕ → List ℕ → List ℕ → List ℕ
+seated name entries first heads numbers id =
+    if gives_way name entries first (length heads) (number_at heads id) id then filed (id_of name entries first) numbers (number_at heads id) else numbers
 
 -- where a number stands at its seat, the table hasn't it
 abbrev pub HasNoSeated : (ℕ → List ℕ) → List ℕ → ℕ → List ℕ → Type 0
-HasNoSeated id heads number numbers = get_or heads (seat_of (id number)) 0 ≡ number → All (λ n. n ≡ number → ⊥) numbers
+HasNoSeated id heads number numbers = number_at heads (id number) ≡ number → All (λ n. n ≡ number → ⊥) numbers
 
 -- one of the places has the identifier of this one, and is no earlier
 abbrev pub HasLatest : (ℕ → List ℕ) → List ℕ → ℕ → Type 0
 HasLatest id [] place = ⊥
 HasLatest id (p ∷ places) place = ((id p ≡ id place) × (place ≤ p)) ⊎ HasLatest id places place
 
--- the place of each seat's head, and the places of entries that stand behind, identifiers rising: the latest entry of an identifier is the head of its seat or one of these
-pub record IsIndex {T : Type 0} (name : T → List ℕ) (entries : List T) (head : ℕ → ℕ) (places : List ℕ) : Type 0 where
+-- the place of the head of each identifier's seat, and the places of entries that stand behind, identifiers rising: the latest entry of an identifier is the head of its seat or one of these
+pub record IsIndex {T : Type 0} (name : T → List ℕ) (entries : List T) (head : List ℕ → ℕ) (places : List ℕ) : Type 0 where
   pub within : All (λ p. p < length entries) places
   pub rising : IsRising (id_at name entries) places
-  pub behind : All (λ p. p < head (seat_of (id_at name entries p))) places
-  pub headed : (place : ℕ) → place < length entries → IsHeaded (length entries) (head (seat_of (id_at name entries place))) place
+  pub behind : All (λ p. p < head (id_at name entries p)) places
+  pub headed : (place : ℕ) → place < length entries → IsHeaded (length entries) (head (id_at name entries place)) place
   pub latest : (place : ℕ) → place < length entries
-      → (id_at name entries (head (seat_of (id_at name entries place))) ≡ id_at name entries place) ⊎ HasLatest (id_at name entries) places place
+      → (id_at name entries (head (id_at name entries place)) ≡ id_at name entries place) ⊎ HasLatest (id_at name entries) places place
 
 -- at most so many entries with their index, and with room for as many entries
 pub record IsRecent {T : Type 0} (name : T → List ℕ) (most : ℕ) (entries : List T) (first : ℕ) (heads numbers : List ℕ) (for_entries : ℕ) : Type 0 where

@@ -1,6 +1,6 @@
-use Rattle.std.proofs.Common.{◌≡◌, ℕ, List, ◌<◌, get_or, ap, ◌∙◌, arith, length}
+use Rattle.std.proofs.Common.{◌≡◌, ◌<◌, ap, ◌∙◌, arith, length}
 use Rattle.std.proofs.lemmas.List.{length_push}
-use Rattle.snow_recent.specs.Kept.Index.{head_of, seat_of}
+use Rattle.snow_recent.specs.Kept.Index.{head_of}
 use Rattle.snow_recent.proofs.Appended.{appended, rising_before, few_numbers, small_seated}
 use Rattle.snow_recent.proofs.recent.Recent.append.Goals as goal
 
@@ -25,7 +25,8 @@ invariant_of-self g c =
     let entry = c.args.entry in
     let few : length entries < g.row.MOST = omega (arith, ap length c.self.view_is, c.requires) in
     let count : c.len.result ≡ length entries = c.len.ensures ∙ c.self.inside.entries.ok.0 in
-    let seated_is = rw (c.number-head.ensures, c.id-id.ensures) at c.take_seat.ensures in
+    let seated_is = rw c.id-id.ensures at c.take_seat.ensures.numbers in
+    let small = rw c.id-id.ensures at c.take_seat.ensures.small in
     let set_is = rw (c.id-id.ensures, count) at c.set.ensures.set in
     let there = rw c.id-id.ensures at c.set.ensures.there in
     record {
@@ -33,8 +34,7 @@ invariant_of-self g c =
       fits = c.self.invariant.fits;
       few = omega (arith, ap length c.push_back_reserved.ensures.items, length_push entries entry);
       room = omega (arith, c.push_back_reserved.ensures.capacity, c.self.invariant.room);
-      small = rw seated_is (small_seated name entries first numbers (get_or heads (seat_of (name entry)) 0) (name entry) c.self.invariant.small
-          (omega (arith, c.number-head.ensures, c.number-head.type_inv, ap (λ (i : List ℕ). get_or heads (seat_of i) 0) c.id-id.ensures)));
+      small = rw seated_is (small_seated name entries first heads numbers (name entry) c.self.invariant.small small);
       index = rw (seated_is, c.push_back_reserved.ensures.items, set_is)
           (appended name entries entry first heads numbers (omega arith) (omega (arith, few, c.self.invariant.fits)) there c.self.invariant.index);
     }

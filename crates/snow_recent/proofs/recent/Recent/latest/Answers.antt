@@ -3,7 +3,7 @@ use Rattle.std.specs.List.{slice_get}
 use Rattle.std.specs.Option.{option_copied}
 use Rattle.std.proofs.lemmas.Slice.Eq.{bytes_eq-Decides}
 use Rattle.snow_recent.specs.Model.Recent.{latest}
-use Rattle.snow_recent.specs.Kept.Index.{head_of, id_at, place_of, seat_of}
+use Rattle.snow_recent.specs.Kept.Index.{head_of, id_at, place_of}
 use Rattle.snow_recent.proofs.Appended.{rising_before}
 use Rattle.snow_recent.proofs.Latest.{head_found, head_other, headless, filed_latest}
 use Rattle.snow_recent.proofs.recent.Recent.latest.Goals as goal
@@ -34,7 +34,7 @@ latest_filed-requires g c =
     (omega arith, rising_before g.T.Named.id inside.entries.items inside.first (head_of inside.first inside.heads) inside.table c.self.invariant.index)
 
 -- the head of the seat is of another identifier
-other : (g : _) (c : Else-eq g) → id_at g.T.Named.id c.self.inside.entries.items (head_of c.self.inside.first c.self.inside.heads (seat_of c.args.id.now)) ≡ c.args.id.now → ⊥
+other : (g : _) (c : Else-eq g) → id_at g.T.Named.id c.self.inside.entries.items (head_of c.self.inside.first c.self.inside.heads c.args.id.now) ≡ c.args.id.now → ⊥
 other g c =
     let inside = c.self.inside in
     let entries = inside.entries.items in
