@@ -219,11 +219,6 @@ pub record IsLooking (before now : List (Waiting × Mark)) (gets : List Get) (bo
   pub same : items_of now ≡ items_of before
   pub tells : All (Tells (items_of now) gets board) now
 
--- a walk over held replies
-pub record IsChecking (before now : List (Held × Mark)) (waiting : List Waiting) (gets : List Get) : Type 0 where
-  pub same : items_of now ≡ items_of before
-  pub quiet : All (StaysQuiet waiting gets) now
-
 -- ---- ready blocks
 
 -- a test of the items that is one of what is remembered has the same first place

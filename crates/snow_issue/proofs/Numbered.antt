@@ -1,11 +1,11 @@
 -- Lemmas on held replies by their numbers of arrival, and on the numbers by block and by poll and node.
-use Rattle.std.proofs.Common.{◌≡◌, ℕ, ◌<◌, ◌+◌, ◌==◌, Bool, true, false, ◌&&◌, ◌||◌, cond, List, [], ◌∷◌, map, All, Option, Some, None, Less, Equal, Greater, refl, sym, ap, ◌∙◌, arith}
+use Rattle.std.proofs.Common.{◌≡◌, ℕ, ◌<◌, ◌+◌, ◌==◌, Bool, true, false, not, ◌&&◌, ◌||◌, cond, List, [], ◌∷◌, map, All, Option, Some, None, Less, Equal, Greater, refl, sym, ap, ◌∙◌, arith}
 use Rattle.std.specs.BTreeMap.{BTreeMap, get, is_at}
 use Rattle.std.specs.Cmp.Lexicographic.{slice_cmp}
 use Rattle.std.specs.List.{list_any}
 use Rattle.std.specs.List.Sorted.{IsStrictlySortedBy}
 use Rattle.std.specs.Map.{keys_of}
-use Rattle.std.specs.Option.{option_map, is_some}
+use Rattle.std.specs.Option.{option_map, is_some, is_none}
 use Rattle.std.specs.Ordering.{nat_cmp, is_eq}
 use Rattle.std.specs.Str.{bytes_eq}
 use Rattle.std.specs.declared.cmp.Ordering.{Ordering}
@@ -182,14 +182,14 @@ held_by_number es numbers named next n node is =
 
 -- ---- one reply more
 
-pub filed_pushed : (es now : Entries) (before after : Numbers) (named names : Names) (next : ℕ) (h : Held) → IsFiled es before named next → before h.number h.node ≡ None
+pub filed_pushed : (es now : Entries) (before after : Numbers) (named names : Names) (next : ℕ) (kept : Kept) → IsFiled es before named next → before kept.reply.number kept.reply.node ≡ None
     → IsStrictlySortedBy nat_cmp (keys_of now)
-    → ((a : ℕ) → at_arrival now a ≡ cond (is_at (nat_cmp next) a) (Some (record { reply = h; quiet = false })) (at_arrival es a))
-    → ((n : ℕ) (node : List ℕ) → after n node ≡ cond (is_of h n node) (Some next) (before n node))
-    → names h.id next ≡ true → StaysNamed es named names
+    → ((a : ℕ) → at_arrival now a ≡ cond (is_at (nat_cmp next) a) (Some kept) (at_arrival es a))
+    → ((n : ℕ) (node : List ℕ) → after n node ≡ cond (is_of kept.reply n node) (Some next) (before n node))
+    → names kept.reply.id next ≡ true → StaysNamed es named names
     → IsFiled now after names (next + 1)
-filed_pushed es now before after named names next h is new sorted there filed itself others =
-    let kept : Kept = record { reply = h; quiet = false } in
+filed_pushed es now before after named names next kept is new sorted there filed itself others =
+    let h = kept.reply in
     let Either : (ℕ → Kept → Type 0) → ℕ → Kept → Type 0 = λ P a k. (next ≡ a → kept ≡ k → P a k) → (is_at (nat_cmp next) a ≡ false → at_arrival es a ≡ Some k → P a k) → P a k in
     let cases : (P : ℕ → Kept → Type 0) (a : ℕ) (k : Kept) → at_arrival now a ≡ Some k → Either P a k =
     λ P a k found here other.
@@ -283,13 +283,22 @@ filed_undone before h a n node none =
       | false ↦ λ t. refl
     ] refl
 
-none_from : (o : Option ℕ) → is_some o ≡ false → o ≡ None
+pub none_from : (o : Option ℕ) → true ≡ is_none o → o ≡ None
 none_from None h = refl
 none_from (Some a) h = absurd cc
 
+none_is : (o : Option ℕ) → is_none o ≡ not (is_some o)
+none_is None = refl
+none_is (Some a) = refl
+
 -- where a node's reply isn't held, it has no number
-pub no_number : (es : Entries) (numbers : Numbers) (named : Names) (next n : ℕ) (node : List ℕ) → IsFiled es numbers named next → holds_in (items_of (map seat_of es)) n node ≡ false → numbers n node ≡ None
-no_number es numbers named next n node is none = none_from (numbers n node) (held_by_number es numbers named next n node is ∙ none)
+pub new_without : (es : Entries) (numbers : Numbers) (named : Names) (next n : ℕ) (node : List ℕ) → IsFiled es numbers named next → is_none (numbers n node) ≡ not (holds_in (items_of (map seat_of es)) n node)
+new_without es numbers named next n node is = none_is (numbers n node) ∙ ap not (held_by_number es numbers named next n node is)
+
+-- where none is noted, all stay
+pub none_noted : (b : Bool) (x y : Option ℕ) → cond (b && false) x y ≡ y
+none_noted true x y = refl
+none_noted false x y = refl
 
 -- each reply that names a block is among those whose numbers are kept under it
 pub all_named : (es : Entries) (numbers : Numbers) (named : Names) (next : ℕ) (row id : List ℕ) → IsFiled es numbers named next

@@ -1,5 +1,5 @@
 -- Lemmas on what is seen of held replies: the first one to be looked at, those that are woken, and those of a poll.
-use Rattle.std.proofs.Common.{◌≡◌, ℕ, suc, ◌≤◌, ◌+◌, ◌==◌, Bool, true, false, not, ◌&&◌, ◌||◌, cond, List, [], ◌∷◌, ◌++◌, get_or, set, map, filter, find, All, Option, Some, None, refl, sym, ap, ◌∙◌, arith}
+use Rattle.std.proofs.Common.{◌≡◌, ℕ, suc, ◌≤◌, ◌+◌, ◌==◌, Bool, true, false, not, ◌&&◌, ◌||◌, cond, List, [], ◌∷◌, ◌++◌, set, map, filter, find, All, Option, Some, None, refl, sym, ap, ◌∙◌, arith}
 use Rattle.std.specs.BTreeMap.{is_at}
 use Rattle.std.specs.List.{list_any, remove, position_or_len}
 use Rattle.std.specs.List.Sorted.{IsStrictlySortedBy}
@@ -119,21 +119,6 @@ seats_quieted (e ∷ es) a reply sorted is =
           ∙ ap (λ n. set (map seat_of (e ∷ es)) n now) (sym (place_behind (seat_of e) (map seat_of es) (new_by e.1 true b.quiet e.1.reply)))
     ] refl
 
--- its reply stands there
-pub first_at_place : (es : Entries) (a : ℕ) (reply : Held) (d : Held × Mark) → IsStrictlySortedBy nat_cmp (keys_of es) → IsFirst es a reply → (get_or (map seat_of es) (place (map seat_of es)) d).0 ≡ reply
-first_at_place [] a reply d sorted is = let h = is.there in absurd cc
-first_at_place (e ∷ es) a reply d sorted is =
-    let Goal : Bool → Type 0 = λ t. is_at (nat_cmp a) e.0 ≡ t → (get_or (map seat_of (e ∷ es)) (place (map seat_of (e ∷ es))) d).0 ≡ reply in
-    elim (is_at (nat_cmp a) e.0) as Goal [
-      | true ↦ λ t.
-          let new : has New (seat_of e) ≡ true = ap (λ (k : Kept). has New (k.reply, mark_of k)) (head_is e es a reply is t) in
-          ap (λ n. (get_or (map seat_of (e ∷ es)) n d).0) (place_there (seat_of e) (map seat_of es) new) ∙ ap (λ (k : Kept). k.reply) (head_is e es a reply is t)
-      | false ↦ λ t.
-          let b = behind e es a reply sorted is t in
-          ap (λ n. (get_or (map seat_of (e ∷ es)) n d).0) (place_behind (seat_of e) (map seat_of es) (new_by e.1 true b.quiet e.1.reply))
-          ∙ first_at_place es a reply d (tail_sorted e es sorted) b.first
-    ] refl
-
 -- where all are quiet, none is found
 quiet_seats : (es : Entries) → All (λ e. e.1.quiet ≡ true) es → find (has New) (map seat_of es) ≡ None
 quiet_seats [] h = refl
@@ -243,9 +228,9 @@ items_filtered (s ∷ seats) number =
 
 -- ---- one reply more, and one that quiet
 
-pub seats_pushed : (es now : Entries) (n : ℕ) (reply : Held) → now ≡ es ++ (n, record { reply = reply; quiet = false }) ∷ [] → map seat_of now ≡ map seat_of es ++ (reply, New) ∷ []
-seats_pushed es now n reply end =
-    let last : Entries = (n, record { reply = reply; quiet = false }) ∷ [] in
+pub seats_pushed : (es now : Entries) (n : ℕ) (k : Kept) → now ≡ es ++ (n, k) ∷ [] → map seat_of now ≡ map seat_of es ++ (k.reply, mark_of k) ∷ []
+seats_pushed es now n k end =
+    let last : Entries = (n, k) ∷ [] in
     ap (map seat_of) end ∙ map-append seat_of es last
 
 same_replies : (es : Entries) (n : ℕ) (k w : Kept) (a : ℕ) → at_arrival es n ≡ Some k → w.reply ≡ k.reply

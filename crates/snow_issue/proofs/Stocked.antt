@@ -161,27 +161,30 @@ stocked_wider es before after len now room wide is same long wider = record {
   enough = let h = is.enough in omega (arith, h, long, wider);
 }
 
-pub stocked_pushed : (es now : Entries) (before after : List ℕ) (len room mid wide n : ℕ) (kept : Kept) → IsBacklog es before len room → kept.quiet ≡ false
+-- its number comes to the heap, unless it is quiet
+pub stocked_pushed : (es now : Entries) (before after : List ℕ) (len count room mid wide n : ℕ) (kept : Kept) → IsBacklog es before len room
     → now ≡ es ++ (n, kept) ∷ [] → IsStrictlySortedBy nat_cmp (keys_of now)
     → ((q : ℕ) → at_arrival now q ≡ cond (is_at (nat_cmp n) q) (Some kept) (at_arrival es q))
-    → (IsHeap nat_cmp before → IsHeap nat_cmp after) → is_noted after n ≡ true → ((a : ℕ) → is_noted before a ≡ true → is_noted after a ≡ true)
-    → len + (length es + 1) ≤ mid → mid ≤ wide → IsBacklog now after (len + 1) wide
-stocked_pushed es now before after len room mid wide n kept is new end sorted change order itself others enough wider = record {
+    → (IsHeap nat_cmp before → IsHeap nat_cmp after) → (kept.quiet ≡ false → is_noted after n ≡ true) → ((a : ℕ) → is_noted before a ≡ true → is_noted after a ≡ true)
+    → count + weight kept ≤ len + 1 → len + (length es + 1) ≤ mid → mid ≤ wide → IsBacklog now after count wide
+stocked_pushed es now before after len count room mid wide n kept is end sorted change order itself others more enough wider = record {
   sorted = sorted;
   order = order is.order;
   noted = λ a k found quiet.
       let Goal : Bool → Type 0 = λ t. is_at (nat_cmp n) a ≡ t → is_noted after a ≡ true in
       elim (is_at (nat_cmp n) a) as Goal [
-        | true ↦ λ t. ap (is_noted after) (sym (same_number n a t)) ∙ itself
+        | true ↦ λ t.
+            let is_kept : at_arrival now a ≡ Some kept = change a ∙ ap (λ t. cond t (Some kept) (at_arrival es a)) t in
+            let same : kept ≡ k = cc in
+            ap (is_noted after) (sym (same_number n a t)) ∙ itself (ap (λ (k : Kept). k.quiet) same ∙ quiet)
         | false ↦ λ t. others a (is.noted a k (sym (change a ∙ ap (λ t. cond t (Some kept) (at_arrival es a)) t) ∙ found) quiet)
       ] refl;
   enough =
       let last : List (ℕ × Kept) = (n, kept) ∷ [] in
-      let none : weight kept ≡ 0 = ap (λ b. cond b 1 0) new in
       let parts : values_of now ≡ values_of es ++ kept ∷ [] = ap values_of end ∙ map-append (λ (e : ℕ × Kept). e.1) es last in
       let sum = ap (sum_by weight) parts ∙ sum_by-append weight (values_of es) (kept ∷ []) ∙ ap (λ k. sum_by weight (values_of es) + k) (sum_by-cons weight kept []) in
       let most = all_light es in
-      omega (arith, sum, none, most, enough, wider);
+      omega (arith, sum, more, most, enough, wider);
 }
 
 -- ---- one reply less

@@ -1,5 +1,5 @@
-ghost use Rattle.std.specs.Prelude.{◌≡◌, ℕ, ◌<◌, ◌&&◌, ◌∷◌, ◌++◌, [], List, map, true, false, Some, None, OnOk, OnErr, if◌then◌else◌};
-ghost use Rattle.std.specs.BTreeMap.{is_at};
+ghost use Rattle.std.specs.Prelude.{◌≡◌, ℕ, ◌<◌, ◌&&◌, ◌∷◌, ◌++◌, [], List, map, true, false, Some, None, is_none, IfOk, OnOk, OnErr, if◌then◌else◌};
+ghost use Rattle.std.specs.BTreeMap.{get, is_at};
 ghost use Rattle.std.specs.Bool.{OnTrue};
 ghost use Rattle.std.specs.Cmp.Lexicographic.{slice_cmp};
 ghost use Rattle.std.specs.Ordering.{nat_cmp};
@@ -8,31 +8,48 @@ ghost use Rattle.std.specs.Map.{keys_of, remove_entry};
 ghost use Rattle.snow_issue.specs.declared.backlog.Kept.{Kept};
 ghost use Rattle.snow_issue.specs.Kept.Arrivals.{at_arrival, woken_among, filed, names, StaysNamed, LeavesEach};
 
-use crate::backlog::Backlog;
+use crate::backlog::{Backlog, Kept};
 use crate::named::Named;
 use crate::work::Held;
 use snow_base::{Id, NodeId};
 use std::alloc::{AllocError, Global};
 use std::collections::BTreeMap;
+use std::collections::btree_map::Entry;
 
-/// Notes the number of a reply by its poll and node. On want of memory all stays as it was.
+/// Notes the number of a reply by its poll and node, and returns `true`. Where one is noted there,
+/// it returns `false`. Then, and on want of memory, all stays as it was.
 pub(crate) fn file(
     polls: &mut BTreeMap<u32, BTreeMap<NodeId, u64>>,
     alloc: Global,
     reply: &Held,
     arrival: u64,
-) -> Result<(), AllocError>
-    ensures ok { OnOk result ((n : ℕ) (other : List ℕ) → filed polls.new n other ≡ (if is_at (nat_cmp reply.now.number) n && is_at (slice_cmp nat_cmp reply.now.node) other then Some arrival else filed polls.old n other)) }
+) -> Result<bool, AllocError>
+    ensures is_new { IfOk result (λ is_new. is_new ≡ is_none (filed polls.old reply.now.number reply.now.node)) }
+    ensures ok { IfOk result (λ is_new. (n : ℕ) (other : List ℕ) → filed polls.new n other ≡ (if is_at (nat_cmp reply.now.number) n && (is_new && is_at (slice_cmp nat_cmp reply.now.node) other) then Some arrival else filed polls.old n other)) }
     ensures err { OnErr result ((n : ℕ) (other : List ℕ) → filed polls.new n other ≡ filed polls.old n other) }
 {
     if let Some(nodes) = polls.get_mut(&reply.number) {
-        nodes.insert(reply.node, arrival)?;
-        return Ok(());
+        return enter(nodes, reply.node, arrival);
     }
     let mut nodes = BTreeMap::new(alloc);
     nodes.insert(reply.node, arrival)?;
     polls.insert(reply.number, nodes)?;
-    Ok(())
+    Ok(true)
+}
+
+// The same for the nodes of the poll. It looks for the node once.
+fn enter(nodes: &mut BTreeMap<NodeId, u64>, node: NodeId, arrival: u64) -> Result<bool, AllocError>
+    ensures is_new { IfOk result (λ is_new. is_new ≡ is_none (get (slice_cmp nat_cmp) nodes.old node)) }
+    ensures ok { IfOk result (λ is_new. (other : List ℕ) → get (slice_cmp nat_cmp) nodes.new other ≡ (if is_new && is_at (slice_cmp nat_cmp node) other then Some arrival else get (slice_cmp nat_cmp) nodes.old other)) }
+    ensures err { OnErr result ((other : List ℕ) → get (slice_cmp nat_cmp) nodes.new other ≡ get (slice_cmp nat_cmp) nodes.old other) }
+{
+    match nodes.entry(node)? {
+        Entry::Occupied(_) => Ok(false),
+        Entry::Vacant(entry) => {
+            let _ = entry.insert(arrival);
+            Ok(true)
+        }
+    }
 }
 
 /// The number of a node's reply to a poll goes.
@@ -62,20 +79,20 @@ pub(crate) fn keep_reply(
     backlog: &mut Backlog,
     blocks: &mut BTreeMap<Id, Named>,
     alloc: Global,
-    reply: &Held,
     arrival: u64,
+    kept: &Kept,
 ) -> Result<(), AllocError>
     requires { (a : ℕ) (k : Kept) → at_arrival backlog.old a ≡ Some k → a < arrival }
-    ensures ok { let kept : Kept = record { reply = reply.now; quiet = false } in OnOk result (backlog.new ≡ backlog.old ++ (arrival, kept) ∷ []) }
+    ensures ok { OnOk result (backlog.new ≡ backlog.old ++ (arrival, kept.now) ∷ []) }
     ensures err { OnErr result (backlog.new ≡ backlog.old) }
-    ensures there { let kept : Kept = record { reply = reply.now; quiet = false } in OnOk result ((a : ℕ) → at_arrival backlog.new a ≡ (if is_at (nat_cmp arrival) a then Some kept else at_arrival backlog.old a)) }
+    ensures there { OnOk result ((a : ℕ) → at_arrival backlog.new a ≡ (if is_at (nat_cmp arrival) a then Some kept.now else at_arrival backlog.old a)) }
     ensures sorted { OnOk result (IsStrictlySortedBy nat_cmp (keys_of backlog.new)) }
-    ensures named { OnOk result (names blocks.new reply.now.id arrival ≡ true) }
+    ensures named { OnOk result (names blocks.new kept.now.reply.id arrival ≡ true) }
     ensures others { StaysNamed backlog.old (names blocks.old) (names blocks.new) }
 {
-    name(blocks, alloc, reply.id, arrival)?;
-    if let Err(error) = backlog.push(arrival, *reply) {
-        unname(blocks, backlog, &reply.id, arrival);
+    name(blocks, alloc, kept.reply.id, arrival)?;
+    if let Err(error) = backlog.push(arrival, *kept) {
+        unname(blocks, backlog, &kept.reply.id, arrival);
         return Err(error);
     }
     Ok(())

@@ -78,22 +78,20 @@ impl Backlog {
         self.items.get(arrival).is_some()
     }
 
-    /// Appends a reply that isn't quiet, whose number is above all others. On want of memory all
-    /// stays as it was.
-    pub(crate) fn push(&mut self, arrival: u64, reply: Held) -> Result<(), AllocError>
+    /// Appends a reply whose number is above all others. On want of memory all stays as it was.
+    pub(crate) fn push(&mut self, arrival: u64, kept: Kept) -> Result<(), AllocError>
         requires { (a : ℕ) (k : Kept) → at_arrival self.old a ≡ Some k → a < arrival }
-        ensures ok { let kept : Kept = record { reply = reply; quiet = false } in OnOk result (self.new ≡ self.old ++ (arrival, kept) ∷ []) }
+        ensures ok { OnOk result (self.new ≡ self.old ++ (arrival, kept) ∷ []) }
         ensures err { OnErr result (self.new ≡ self.old) }
-        ensures there { let kept : Kept = record { reply = reply; quiet = false } in OnOk result ((a : ℕ) → at_arrival self.new a ≡ (if is_at (nat_cmp arrival) a then Some kept else at_arrival self.old a)) }
+        ensures there { OnOk result ((a : ℕ) → at_arrival self.new a ≡ (if is_at (nat_cmp arrival) a then Some kept else at_arrival self.old a)) }
         ensures sorted { IsStrictlySortedBy nat_cmp (keys_of self.new) }
     {
+        let quiet = kept.quiet;
         self.fresh.reserve(self.items.len() + 1)?;
-        let kept = Kept {
-            reply,
-            quiet: false,
-        };
         self.items.push(arrival, kept)?;
-        note(&mut self.fresh, arrival);
+        if !quiet {
+            note(&mut self.fresh, arrival);
+        }
         Ok(())
     }
 
@@ -115,9 +113,9 @@ impl Backlog {
     /// The earliest reply that isn't quiet, with its number.
     pub(crate) fn first(&mut self) -> Option<(u64, Held)>
         ensures same { self.new ≡ self.old }
-        ensures first { IfSome result (λ f. IsFirst self.old f.0 f.1) }
-        ensures none { IfNone result (AreQuiet self.old) }
-        ensures sorted { IsStrictlySortedBy nat_cmp (keys_of self.old) }
+        ensures first { IfSome result (λ f. IsFirst self.new f.0 f.1) }
+        ensures none { IfNone result (AreQuiet self.new) }
+        ensures sorted { IsStrictlySortedBy nat_cmp (keys_of self.new) }
     {
         first_in(&self.items, &mut self.fresh)
     }

@@ -1,15 +1,20 @@
-ghost use Rattle.std.specs.Prelude.{◌≡◌, ◌<◌, true, false, All, length, find, IsSome};
+ghost use Rattle.std.specs.Prelude.{◌≡◌, ◌<◌, true, false, All, length, map, find, IfSome, IsSome};
 ghost use Rattle.std.specs.List.{position_or_len};
+ghost use Rattle.std.specs.List.Sorted.{IsStrictlySortedBy};
+ghost use Rattle.std.specs.Map.{keys_of};
+ghost use Rattle.std.specs.Option.{option_map};
+ghost use Rattle.std.specs.Ordering.{nat_cmp};
 ghost use Rattle.snow_board.specs.Model.Board as model;
 ghost use Rattle.snow_lineup.specs.declared.marks.Mark.TheVariants.{New};
 ghost use Rattle.snow_issue.specs.Model.Settling.{is_hopeless_by, is_free_by};
 ghost use Rattle.snow_issue.specs.Model.Offering.{is_on};
 ghost use Rattle.snow_issue.specs.Kept.Known.{items_of, sight, Tells, NoneNew, NoneRipe};
 ghost use Rattle.snow_lineup.specs.Kept.Marks.{has};
-ghost use Rattle.snow_issue.specs.Kept.Keeping.{StaysQuiet};
+ghost use Rattle.snow_issue.specs.Kept.Arrivals.{seat_of, IsFirst};
+ghost use Rattle.snow_issue.specs.Kept.Keeping.{StaysQuiet, IsWalked};
 
+use crate::backlog::Backlog;
 use crate::offering::is_on;
-use crate::replies::Replies;
 use crate::waiting::WaitingList;
 use crate::work::Held;
 use snow_base::{Header, Id};
@@ -84,29 +89,34 @@ pub(crate) fn mark_last_quiet(waiting: &mut WaitingList, gets: &Gets, block: &He
     waiting.all_quiet()
 }
 
-// Whether the block of a reply neither waits nor is asked for.
-fn is_free(waiting: &WaitingList, gets: &Gets, reply: &Held) -> bool
+/// Whether the block of a reply neither waits nor is asked for.
+pub(crate) fn is_free(waiting: &WaitingList, gets: &Gets, reply: &Held) -> bool
     ensures { result ≡ is_free_by (items_of waiting.now) gets.now reply.now }
 {
     !(waiting.waits(&reply.id) || gets.asks_for(&reply.id))
 }
 
-/// The earliest free reply, which is then the first one that is to be looked at. Each reply before it of
-/// which nothing was remembered is looked at.
-pub(crate) fn first_free(replies: &mut Replies, waiting: &WaitingList, gets: &Gets) -> Option<Held>
-    requires { All (StaysQuiet (items_of waiting.now) gets.now) replies.old }
-    ensures found { result ≡ find (is_free_by (items_of waiting.now) gets.now) (items_of replies.old) }
-    ensures first { IsSome result → position_or_len (has New) replies.new ≡ position_or_len (is_free_by (items_of waiting.now) gets.now) (items_of replies.old) }
-    ensures same { items_of replies.new ≡ items_of replies.old }
-    ensures quiet { All (StaysQuiet (items_of waiting.now) gets.now) replies.new }
+/// The earliest free reply with its number. It is then the first one that is to be looked at: each
+/// before it of which nothing was remembered is looked at.
+pub(crate) fn first_free(
+    backlog: &mut Backlog,
+    waiting: &WaitingList,
+    gets: &Gets,
+) -> Option<(u64, Held)>
+    requires { All (StaysQuiet (items_of waiting.now) gets.now) (map seat_of backlog.old) }
+    ensures found { option_map (λ f. f.1) result ≡ find (is_free_by (items_of waiting.now) gets.now) (items_of (map seat_of backlog.old)) }
+    ensures first { IfSome result (λ f. IsFirst backlog.new f.0 f.1) }
+    ensures place { IsSome result → position_or_len (has New) (map seat_of backlog.new) ≡ position_or_len (is_free_by (items_of waiting.now) gets.now) (items_of (map seat_of backlog.old)) }
+    ensures walked { IsWalked backlog.old backlog.new (items_of waiting.now) gets.now }
+    ensures sorted { IsStrictlySortedBy nat_cmp (keys_of backlog.new) }
 {
     loop {
-        let Some(reply) = replies.first_new() else {
+        let Some((arrival, reply)) = backlog.first() else {
             return None;
         };
         if is_free(waiting, gets, &reply) {
-            return Some(reply);
+            return Some((arrival, reply));
         }
-        replies.mark_first_quiet();
+        backlog.mark_first_quiet(arrival, reply);
     }
 }

@@ -1,4 +1,4 @@
-ghost use Rattle.std.specs.Prelude.{◌≡◌, ◌<◌, find, length, None, IfOk, OnOk, OnErr, true, false};
+ghost use Rattle.std.specs.Prelude.{◌≡◌, ◌<◌, find, length, not, None, Ok, IfOk, OnOk, OnErr, true, false, if◌then◌else◌};
 ghost use Rattle.std.specs.Option.{option_map};
 ghost use Rattle.snow_base.specs.declared.limits.TheConstants.{MOST_GETS};
 ghost use Rattle.snow_board.specs.Model.Board as model;
@@ -12,6 +12,7 @@ ghost use Rattle.snow_issue.specs.Model.Settling.{work_of, after, is_free, IsIdl
 ghost use Rattle.snow_issue.specs.declared.work.Work.TheVariants as work;
 ghost use Rattle.snow_issue.specs.Kept.Known.{lists_of, Knows, ForgetsChildren, NoneRipe, MarksAfter, TakesStep};
 
+use crate::backlog::Kept;
 use crate::gone::{Gone, GoneList};
 use crate::replies::Replies;
 use crate::spare::SpareBytes;
@@ -237,19 +238,22 @@ impl Queue {
         Some(id)
     }
 
-    /// Holds a reply of a node that has none held for this poll. On want of memory it returns
-    /// `AllocError`, and all stays as it was.
+    /// Holds a reply, and returns `true`. It returns `false` exactly where a reply of its node to
+    /// its poll is held already, and all stays as it was then. On want of memory it returns
+    /// `AllocError`, and all stays as it was too.
     /// Rule: AvalancheGo, snow/engine/snowman.
-    pub fn hold(&mut self, reply: Held) -> Result<(), AllocError>
-        requires { holds_in self.old.held reply.number reply.node ≡ false }
-        ensures lists { OnOk result (lists_of self.new ≡ after_held (lists_of self.old) reply) }
+    pub fn hold(&mut self, reply: Held) -> Result<bool, AllocError>
+        ensures is_new { IfOk result (λ is_new. is_new ≡ not (holds_in self.old.held reply.number reply.node)) }
+        ensures lists { IfOk result (λ is_new. lists_of self.new ≡ (if is_new then after_held (lists_of self.old) reply else lists_of self.old)) }
+        ensures again { result ≡ Ok false → self.new ≡ self.old }
         ensures err { OnErr result (self.new ≡ self.old) }
         ensures knows { (b : model.Board) → Knows self.old b → Knows self.new b }
         ensures seats { self.new.seats ≡ self.old.seats }
         ensures limits { AreWithinLimits (lists_of self.new) }
     {
-        self.replies.push(reply)?;
-        Ok(())
+        // Mostly its block is asked for. So it needn't be looked at before that changes.
+        let quiet = !looking::is_free(&self.waiting, &self.gets, &reply);
+        self.replies.push(Kept { reply, quiet })
     }
 
     /// Returns whether a reply of this node to the poll of this number is held.

@@ -1,16 +1,19 @@
-ghost use Rattle.std.specs.Prelude.{◌≡◌, ◌<◌, ◌==◌, ◌∷◌, ◌++◌, [], List, map, not, filter, find, false, length, slice_set, HoldsAt, OnOk, OnErr};
-ghost use Rattle.std.specs.List.{position_or_len, remove};
-ghost use Rattle.std.specs.Option.{option_map};
-ghost use Rattle.snow_issue.specs.Kept.Known.{items_of};
-ghost use Rattle.snow_lineup.specs.Kept.Marks.{has};
+ghost use Rattle.std.specs.Prelude.{◌≡◌, ◌==◌, ◌∷◌, ◌++◌, [], All, map, not, filter, find, false, is_some, length, IfOk, OnErr, if◌then◌else◌};
+ghost use Rattle.snow_gets.specs.Model.Gets.{without};
 ghost use Rattle.snow_lineup.specs.Kept.Index.{woken};
 ghost use Rattle.snow_issue.specs.Model.Lists.{holds_in};
+ghost use Rattle.snow_issue.specs.Model.Settling.{is_free_by};
+ghost use Rattle.snow_issue.specs.Kept.Arrivals.{mark_of};
+ghost use Rattle.snow_issue.specs.Kept.Keeping.{StaysQuiet};
+ghost use Rattle.snow_issue.specs.Kept.Known.{items_of};
 
-use crate::arrivals;
-use crate::backlog::Backlog;
+use crate::backlog::{Backlog, Kept};
 use crate::named::Named;
+use crate::waiting::WaitingList;
 use crate::work::Held;
+use crate::{arrivals, looking};
 use snow_base::{Id, NodeId};
+use snow_gets::Gets;
 use std::alloc::{AllocError, Global};
 use std::collections::BTreeMap;
 use std::marker::Model;
@@ -41,8 +44,6 @@ impl Model for Replies {
 }
 
 impl Replies {
-    ghost use Rattle.snow_lineup.specs.declared.marks.Mark.TheVariants.{New, Quiet};
-
     /// No reply is held. It takes no memory.
     pub(crate) fn new(alloc: Global) -> Self
         ensures { result ≡ [] }
@@ -82,10 +83,11 @@ impl Replies {
         }
     }
 
-    /// Appends a reply of a node that has none for this poll. On want of memory all stays as it was.
-    pub(crate) fn push(&mut self, reply: Held) -> Result<(), AllocError>
-        requires { holds_in (items_of self.old) reply.number reply.node ≡ false }
-        ensures ok { OnOk result (self.new ≡ self.old ++ (reply, New) ∷ []) }
+    /// Appends a reply, and returns `true`. Where the node has one for this poll, it returns
+    /// `false`. Then, and on want of memory, all stays as it was.
+    pub(crate) fn push(&mut self, kept: Kept) -> Result<bool, AllocError>
+        ensures is_new { IfOk result (λ is_new. is_new ≡ not (holds_in (items_of self.old) kept.reply.number kept.reply.node)) }
+        ensures ok { IfOk result (λ is_new. self.new ≡ (if is_new then self.old ++ (kept.reply, mark_of kept) ∷ [] else self.old)) }
         ensures err { OnErr result (self.new ≡ self.old) }
     {
         // Numbers never come again, and there are more than a node lives to use.
@@ -93,52 +95,38 @@ impl Replies {
             return Err(AllocError);
         }
         let arrival = self.next;
-        arrivals::file(&mut self.polls, self.alloc, &reply, arrival)?;
+        let is_new = arrivals::file(&mut self.polls, self.alloc, &kept.reply, arrival)?;
+        if !is_new {
+            return Ok(false);
+        }
         if let Err(error) = arrivals::keep_reply(
             &mut self.backlog,
             &mut self.blocks,
             self.alloc,
-            &reply,
             arrival,
+            &kept,
         ) {
-            arrivals::unfile(&mut self.polls, reply.number, &reply.node);
+            arrivals::unfile(&mut self.polls, kept.reply.number, &kept.reply.node);
             return Err(error);
         }
         self.next += 1;
-        Ok(())
+        Ok(true)
     }
 
-    /// The first reply that is to be looked at.
-    pub(crate) fn first_new(&mut self) -> Option<Held>
-        ensures first { result ≡ option_map (λ s. s.0) (find (has New) self.old) }
-        ensures same { self.new ≡ self.old }
+    /// Takes the earliest free reply out and returns it, if there is one. It takes no memory.
+    pub(crate) fn take_free(&mut self, waiting: &WaitingList, gets: &Gets) -> Option<Held>
+        requires { All (StaysQuiet (items_of waiting.now) gets.now) self.old }
+        ensures found { result ≡ find (is_free_by (items_of waiting.now) gets.now) (items_of self.old) }
+        ensures left { items_of self.new ≡ (if is_some result then without (is_free_by (items_of waiting.now) gets.now) (items_of self.old) else items_of self.old) }
+        ensures quiet { All (StaysQuiet (items_of waiting.now) gets.now) self.new }
     {
-        let Some((_, reply)) = self.backlog.first() else {
+        let first = looking::first_free(&mut self.backlog, waiting, gets);
+        let Some((arrival, reply)) = first else {
             return None;
-        };
-        Some(reply)
-    }
-
-    /// Remembers of the first reply that is to be looked at that it waits on.
-    pub(crate) fn mark_first_quiet(&mut self)
-        requires { position_or_len (has New) self.old < length self.old }
-        ensures { HoldsAt (λ s. self.new ≡ slice_set self.old (position_or_len (has New) self.old) (s.0, Quiet)) self.old (position_or_len (has New) self.old) }
-    {
-        let Some((arrival, reply)) = self.backlog.first() else {
-            return;
-        };
-        self.backlog.mark_first_quiet(arrival, reply);
-    }
-
-    /// Takes the first reply that is to be looked at out. It takes no memory.
-    pub(crate) fn take_first(&mut self)
-        ensures { self.new ≡ remove self.old (position_or_len (has New) self.old) }
-    {
-        let Some((arrival, reply)) = self.backlog.first() else {
-            return;
         };
         arrivals::unfile(&mut self.polls, reply.number, &reply.node);
         arrivals::drop_one(&mut self.backlog, &mut self.blocks, arrival);
+        Some(reply)
     }
 
     /// Forgets what is remembered of the replies that name a block. It takes no memory.

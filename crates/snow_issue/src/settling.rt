@@ -150,11 +150,6 @@ impl Queue {
         ensures gone { self.new.gone ≡ self.old.gone }
         ensures limits { AreWithinLimits (lists_of self.new) }
     {
-        let free = looking::first_free(&mut self.replies, &self.waiting, &self.gets);
-        let Some(reply) = free else {
-            return None;
-        };
-        self.replies.take_first();
-        Some(reply)
+        self.replies.take_free(&self.waiting, &self.gets)
     }
 }

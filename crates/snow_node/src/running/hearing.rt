@@ -1,7 +1,10 @@
-ghost use Rattle.std.specs.Prelude.{◌≡◌, Some, true, IfOk, IfSome};
+ghost use Rattle.std.specs.Prelude.{◌≡◌, Some, true, not, IfOk, IfSome, if◌then◌else◌};
 ghost use Rattle.snow_lines.specs.declared.line.Line.TheVariants as line;
 ghost use Rattle.snow_lines.specs.declared.why.SkipKind.TheVariants as kind;
+ghost use Rattle.snow_issue.specs.declared.work.Held.{Held};
 ghost use Rattle.snow_issue.specs.declared.work.Waiting.{Waiting as Block};
+ghost use Rattle.snow_issue.specs.Model.Lists.{holds_in, after_held};
+ghost use Rattle.snow_poll.specs.Model.Table.{is_awaited};
 ghost use Rattle.snow_node.specs.Model.Hearing as model;
 ghost use Rattle.snow_node.specs.Model.Closing.{closed_out};
 ghost use Rattle.snow_node.specs.Model.Outcome.{then_comes, with_line};
@@ -165,7 +168,8 @@ impl<C: Chain, B: Board> Running<C, B> {
 
     /// Takes a vote. Most votes are for the block that they name, and count as they come. Of any
     /// other it asks first whether the poll awaits it, so that one that isn't awaited costs no walk
-    /// from block to parent.
+    /// from block to parent. Whether a reply of the peer is held it asks last, since a reply that
+    /// is held itself tells that.
     pub(super) fn receive_vote(
         &mut self,
         number: u32,
@@ -176,17 +180,14 @@ impl<C: Chain, B: Board> Running<C, B> {
         ensures answer { Turns result self.new (model.vote_came C.rules B.answer self.old number peer.now id.now).1 }
         ensures lines { Tells result log.old log.new (model.vote_came C.rules B.answer self.old number peer.now id.now).0 }
     {
-        if self.queue.holds(number, peer) {
-            return Ok(());
-        }
         if self.is_own_vote(id) {
-            return self.count(number, peer, Some(*id), log);
+            return self.count_first(number, peer, id, Some(*id), log);
         }
         if !self.polls.awaits(number, peer) {
             return Ok(());
         }
         match self.vote_at_once(id) {
-            Some(vote) => self.count(number, peer, vote, log),
+            Some(vote) => self.count_first(number, peer, id, vote, log),
             None => self.hold_and_settle(number, peer, id, log),
         }
     }
@@ -211,6 +212,26 @@ impl<C: Chain, B: Board> Running<C, B> {
             QueueState::Settled => self.queue.vote_at_once(id, &self.board),
             _ => None,
         }
+    }
+
+    /// Counts a vote that would be the first thing to do, if its poll awaits it, and does all that
+    /// this brings, unless a reply of the peer is held.
+    fn count_first(
+        &mut self,
+        number: u32,
+        peer: &NodeId,
+        id: &Id,
+        vote: Option<Id>,
+        log: &mut Lines,
+    ) -> Result<(), Halt>
+        requires { model.IsFirst self.old id.now vote }
+        ensures answer { Turns result self.new (model.vote_came C.rules B.answer self.old number peer.now id.now).1 }
+        ensures lines { Tells result log.old log.new (model.vote_came C.rules B.answer self.old number peer.now id.now).0 }
+    {
+        if self.queue.holds(number, peer) {
+            return Ok(());
+        }
+        self.count(number, peer, vote, log)
     }
 
     /// Counts a vote where its poll awaits it, and does all that this brings.
@@ -239,7 +260,9 @@ impl<C: Chain, B: Board> Running<C, B> {
         self.settle(log)
     }
 
-    /// Holds a reply that its poll awaits, and does all that this brings.
+    /// Holds a reply that its poll awaits, and does all that this brings, unless one of the peer is
+    /// held.
+    #[tactic(auto, using(crate::proofs::Logs::logs_nothing))]
     fn hold_and_settle(
         &mut self,
         number: u32,
@@ -247,11 +270,23 @@ impl<C: Chain, B: Board> Running<C, B> {
         id: &Id,
         log: &mut Lines,
     ) -> Result<(), Halt>
-        requires { model.waits_for self.old number peer.now ≡ true }
-        ensures answer { Turns result self.new (model.vote_counts C.rules B.answer self.old number peer.now id.now).1 }
-        ensures lines { Tells result log.old log.new (model.vote_counts C.rules B.answer self.old number peer.now id.now).0 }
+        requires { is_awaited self.old.polls.polls number peer.now ≡ true }
+        ensures answer { Turns result self.new (model.vote_came C.rules B.answer self.old number peer.now id.now).1 }
+        ensures lines { Tells result log.old log.new (model.vote_came C.rules B.answer self.old number peer.now id.now).0 }
     {
-        self.hold(number, peer, *id, log)?;
+        if !self.hold(number, peer, *id)? {
+            return Ok(());
+        }
+        self.fetch_and_settle(peer, *id, log)
+    }
+
+    /// Asks for the block of a reply that was held, if nothing is known of it, and does all that the
+    /// reply brings.
+    fn fetch_and_settle(&mut self, peer: &NodeId, id: Id, log: &mut Lines) -> Result<(), Halt>
+        ensures answer { Turns result self.new (then_comes (model.fetched_unknown self.old peer.now id) (settled C.rules B.answer)).1 }
+        ensures lines { Tells result log.old log.new (then_comes (model.fetched_unknown self.old peer.now id) (settled C.rules B.answer)).0 }
+    {
+        self.fetch_unknown(peer, id, log)?;
         self.settle(log)
     }
 
@@ -262,20 +297,18 @@ impl<C: Chain, B: Board> Running<C, B> {
         self.polls.awaits(number, peer) && !self.queue.holds(number, peer)
     }
 
-    /// Holds a reply, and asks for its block where nothing is known of that.
-    #[tactic(auto, using(crate::proofs::Logs::logs_nothing))]
-    fn hold(&mut self, number: u32, peer: &NodeId, id: Id, log: &mut Lines) -> Result<(), Halt>
-        requires { model.waits_for self.old number peer.now ≡ true }
-        ensures answer { Turns result self.new (model.vote_held self.old number peer.now id).1 }
-        ensures lines { Tells result log.old log.new (model.vote_held self.old number peer.now id).0 }
+    /// Holds a reply, unless one of the peer to this poll is held, and returns whether it did.
+    fn hold(&mut self, number: u32, peer: &NodeId, id: Id) -> Result<bool, AllocError>
+        ensures is_new { IfOk result (λ is_new. is_new ≡ not (holds_in self.old.queue.held number peer.now)) }
+        ensures node { let reply : Held = record { number = number; node = peer.now; id = id } in
+            IfOk result (λ is_new. self.new ≡ (if is_new then record self.old { queue = after_held self.old.queue reply } else self.old)) }
     {
+        let node = *peer;
+        if !self.queue.hold(Held { number, node, id })? {
+            return Ok(false);
+        }
         self.queue_state = self.queue_state.woken();
-        self.queue.hold(Held {
-            number,
-            node: *peer,
-            id,
-        })?;
-        self.fetch_unknown(peer, id, log)
+        Ok(true)
     }
 
     /// Closes a get, or counts a lost vote, and does all that this brings.

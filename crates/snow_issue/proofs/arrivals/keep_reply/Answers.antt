@@ -8,7 +8,7 @@ use Rattle.snow_issue.proofs.arrivals.keep_reply.Goals as goal
 
 pub returns-clause-named : goal.returns-clause-named
 returns-clause-named c =
-    let id = c.args.reply.now.id in
+    let id = c.args.kept.now.reply.id in
     let a = c.args.arrival in
     c.in_ok-name.ensures.ok id a
     ∙ ap (λ b. cond (b && is_at (nat_cmp a) a) true (names c.args.blocks.now id a)) (node_itself id)

@@ -1,33 +1,68 @@
 -- The new reply has the next number; after want of memory none has it.
-use Rattle.std.proofs.Common.{◌≡◌, None, false, cond, List, sym, ap, ◌∙◌, subst}
+use Rattle.std.proofs.Common.{◌≡◌, ℕ, None, Some, not, ◌&&◌, cond, List, [], ◌∷◌, ◌++◌, sym, ap, ◌∙◌, subst}
+use Rattle.std.specs.BTreeMap.{is_at}
+use Rattle.std.specs.Cmp.Lexicographic.{slice_cmp}
+use Rattle.std.specs.Ordering.{nat_cmp}
 use Rattle.snow_issue.specs.declared.work.Held.{Held}
 use Rattle.snow_lineup.specs.declared.marks.Mark.{Mark}
 use Rattle.snow_issue.specs.Model.Lists.{holds_in}
 use Rattle.snow_issue.specs.Kept.Known.{items_of}
-use Rattle.snow_issue.specs.Kept.Arrivals.{Entries, IsFiled, filed, names}
-use Rattle.snow_issue.proofs.Numbered.{is_of, no_number, filed_same, filed_names, filed_pushed, filed_undone}
+use Rattle.snow_issue.specs.Kept.Arrivals.{Entries, IsFiled, mark_of, filed, names}
+use Rattle.snow_issue.proofs.Numbered.{is_of, none_from, new_without, none_noted, filed_same, filed_names, filed_pushed, filed_undone}
+use Rattle.snow_issue.proofs.Seated.{seats_pushed}
 use Rattle.snow_issue.proofs.replies.Replies.push.Goals as goal
-use Rattle.snow_issue.proofs.replies.Replies.push.Goals.{After-keep_reply}
+use Rattle.snow_issue.proofs.replies.Replies.push.Goals.{In_ok-is_new, After-keep_reply}
 
-new : (c : After-keep_reply) → filed c.self.inside.polls c.args.reply.number c.args.reply.node ≡ None
-new c =
+new : (c : After-keep_reply) → filed c.self.inside.polls c.args.kept.reply.number c.args.kept.reply.node ≡ None
+new c = none_from (filed c.self.inside.polls c.args.kept.reply.number c.args.kept.reply.node) (sym c.if-not-is_new.false ∙ c.in_ok-is_new.ensures.is_new)
+
+filed_so : (c : After-keep_reply) (n : ℕ) (node : List ℕ) → filed c.file.new.polls n node ≡ cond (is_of c.args.kept.reply n node) (Some c.self.inside.next) (filed c.self.inside.polls n node)
+filed_so c n node =
+    c.in_ok-is_new.ensures.ok n node
+    ∙ ap (λ b. cond (is_at (nat_cmp c.args.kept.reply.number) n && (b && is_at (slice_cmp nat_cmp c.args.kept.reply.node) node)) (Some c.self.inside.next) (filed c.self.inside.polls n node)) c.if-not-is_new.false
+
+is_new : (c : In_ok-is_new) → c.in_ok-is_new.is_new ≡ not (holds_in (items_of c.args.self.now) c.args.kept.reply.number c.args.kept.reply.node)
+is_new c =
     let inside = c.self.inside in
-    let reply = c.args.reply in
-    no_number inside.backlog (filed inside.polls) (names inside.blocks) inside.next reply.number reply.node c.self.invariant
-    (subst (λ (l : List (Held × Mark)). holds_in (items_of l) reply.number reply.node ≡ false) (sym c.self.view_is) c.requires)
+    let reply = c.args.kept.reply in
+    c.in_ok-is_new.ensures.is_new
+    ∙ new_without inside.backlog (filed inside.polls) (names inside.blocks) inside.next reply.number reply.node c.self.invariant
+    ∙ ap (λ (l : List (Held × Mark)). not (holds_in (items_of l) reply.number reply.node)) c.self.view_is
+
+pub invariant_of-self-then-not-is_new : goal.invariant_of-self-then-not-is_new
+invariant_of-self-then-not-is_new c =
+    let inside = c.self.inside in
+    let reply = c.args.kept.reply in
+    filed_same inside.backlog (filed inside.polls) (filed c.file.new.polls) (names inside.blocks) inside.next c.self.invariant
+    (λ n node. c.in_ok-is_new.ensures.ok n node
+    ∙ ap (λ b. cond (is_at (nat_cmp reply.number) n && (b && is_at (slice_cmp nat_cmp reply.node) node)) (Some inside.next) (filed inside.polls n node)) c.if-not-is_new.true
+    ∙ none_noted (is_at (nat_cmp reply.number) n) (Some inside.next) (filed inside.polls n node))
 
 pub invariant_of-self-in-Err : goal.invariant_of-self-in-Err
 invariant_of-self-in-Err c =
     let inside = c.self.inside in
-    let reply = c.args.reply in
+    let reply = c.args.kept.reply in
+    let after = (goal.at.invariant_of-self-in-Err c).After-keep_reply in
     subst (λ (es : Entries). IsFiled es (filed c.unfile.new.polls) (names c.keep_reply.new.blocks) inside.next) (sym c.in-Err.ensures.err)
     (filed_same inside.backlog (filed inside.polls) (filed c.unfile.new.polls) (names c.keep_reply.new.blocks) inside.next
     (filed_names inside.backlog (filed inside.polls) (names inside.blocks) (names c.keep_reply.new.blocks) inside.next c.self.invariant c.in-Err.ensures.others)
-    (λ n node. c.unfile.ensures n node ∙ ap (cond (is_of reply n node) None) (c.in_ok-file.ensures.ok n node)
-    ∙ filed_undone (filed inside.polls) reply inside.next n node (new (goal.at.invariant_of-self-in-Err c).After-keep_reply)))
+    (λ n node. c.unfile.ensures n node ∙ ap (cond (is_of reply n node) None) (filed_so after n node)
+    ∙ filed_undone (filed inside.polls) reply inside.next n node (new after)))
 
 pub invariant_of-self-2 : goal.invariant_of-self-2
 invariant_of-self-2 c =
     let inside = c.self.inside in
-    filed_pushed inside.backlog c.keep_reply.new.backlog (filed inside.polls) (filed c.file.new.polls) (names inside.blocks) (names c.keep_reply.new.blocks) inside.next c.args.reply
-    c.self.invariant (new (goal.at.invariant_of-self-2 c).After-keep_reply) c.in_default.ensures.sorted c.in_default.ensures.there c.in_ok-file.ensures.ok c.in_default.ensures.named c.in_default.ensures.others
+    let after = (goal.at.invariant_of-self-2 c).After-keep_reply in
+    filed_pushed inside.backlog c.keep_reply.new.backlog (filed inside.polls) (filed c.file.new.polls) (names inside.blocks) (names c.keep_reply.new.blocks) inside.next c.args.kept
+    c.self.invariant (new after) c.in_default.ensures.sorted c.in_default.ensures.there (filed_so after) c.in_default.ensures.named c.in_default.ensures.others
+
+pub returns-clause-ok : goal.returns-clause-ok
+returns-clause-ok c =
+    seats_pushed c.self.inside.backlog c.keep_reply.new.backlog c.self.inside.next c.args.kept c.in_default.ensures.ok
+    ∙ ap (λ (l : List (Held × Mark)). l ++ (c.args.kept.reply, mark_of c.args.kept) ∷ []) c.self.view_is
+
+pub returns-then-not-is_new-clause-is_new : goal.returns-then-not-is_new-clause-is_new
+returns-then-not-is_new-clause-is_new c = sym c.if-not-is_new.true ∙ is_new (goal.at.returns-then-not-is_new-clause-is_new c).In_ok-is_new
+
+pub returns-clause-is_new : goal.returns-clause-is_new
+returns-clause-is_new c = sym c.if-not-is_new.false ∙ is_new (goal.at.returns-clause-is_new c).In_ok-is_new
