@@ -1,101 +1,117 @@
 -- Lemmas on the replies of a poll that leaves: they go one by one, and then none is left.
-use Rattle.std.proofs.Common.{◌≡◌, ℕ, ◌==◌, Bool, true, false, not, ◌&&◌, cond, List, [], ◌∷◌, map, filter, Some, None, refl, sym, ap, ◌∙◌}
+use Rattle.std.proofs.Common.{◌≡◌, ℕ, ◌==◌, Bool, true, false, not, cond, List, [], map, filter, Option, Some, None, refl, sym, ap, ◌∙◌}
 use Rattle.std.specs.BTreeMap.{BTreeMap, get, is_at}
 use Rattle.std.specs.Cmp.Lexicographic.{slice_cmp}
 use Rattle.std.specs.List.Sorted.{IsStrictlySortedBy}
 use Rattle.std.specs.Map.{keys_of, remove_entry, lookup}
 use Rattle.std.specs.Ordering.{nat_cmp}
-use Rattle.std.proofs.lemmas.Bool.{eqb-true, eq-eqb}
-use Rattle.snow_issue.specs.Kept.Arrivals.{Entries, PollMap, at_arrival, seat_of, IsFiled, stays, filed, filed_apart, number_of_node, StaysNamed, IsLeaving, AreGone}
-use Rattle.snow_issue.proofs.Stocked.{same_number, number_itself, each}
-use Rattle.snow_issue.proofs.Numbered.{Numbers, Names, key_back, filed_same, filed_taken}
+use Rattle.std.proofs.lemmas.Bool.{both_ways, eqb-true, eq-eqb}
+use Rattle.snow_issue.specs.declared.backlog.Kept.{Kept}
+use Rattle.snow_issue.specs.Kept.Arrivals.{Entries, PollMap, at_arrival, seat_of, IsFiled, stays, filed, number_of_node, StaysNamed, AreNodesOf, IsLeaving, AreGone}
+use Rattle.snow_issue.proofs.Stocked.{number_itself, number_apart, each}
+use Rattle.snow_issue.proofs.Numbered.{Numbers, Names, filed_taken, node_is, still}
+use Rattle.snow_issue.proofs.Ranged.{none_taken}
 use Rattle.snow_issue.proofs.Seated.{seats_filtered, all_stay, one_leaves}
 
 abbrev pub Nodes : Type 0
 Nodes = BTreeMap (List ℕ) ℕ
 
-apart_less : (number : ℕ) (node : List ℕ) (nodes left : Nodes) (others : Numbers)
-    → ((q : List ℕ) → get (slice_cmp nat_cmp) left q ≡ cond (is_at (slice_cmp nat_cmp node) q) None (get (slice_cmp nat_cmp) nodes q))
-    → (n : ℕ) (other : List ℕ) → filed_apart number left others n other ≡ cond (is_at (nat_cmp number) n && is_at (slice_cmp nat_cmp node) other) None (filed_apart number nodes others n other)
-apart_less number node nodes left others change n other =
-    let Goal : Bool → Type 0 = λ t. cond t (get (slice_cmp nat_cmp) left other) (others n other)
-    ≡ cond (t && is_at (slice_cmp nat_cmp node) other) None (cond t (get (slice_cmp nat_cmp) nodes other) (others n other)) in
-    elim (is_at (nat_cmp number) n) as Goal [ true ↦ change other | false ↦ refl ]
-
-pub leaving_step : (number : ℕ) (before es now : Entries) (nodes left : Nodes) (others : Numbers) (named names : Names) (next a : ℕ) (node : List ℕ)
-    → IsLeaving number before es nodes others named next → get (slice_cmp nat_cmp) nodes node ≡ Some a
+pub leaving_step : (number : ℕ) (before es now : Entries) (nodes left : Nodes) (number_at : Numbers) (named names : Names) (next a : ℕ) (node : List ℕ)
+    → IsLeaving number before es nodes number_at named next → get (slice_cmp nat_cmp) nodes node ≡ Some a
     → ((q : List ℕ) → get (slice_cmp nat_cmp) left q ≡ cond (is_at (slice_cmp nat_cmp node) q) None (get (slice_cmp nat_cmp) nodes q))
     → now ≡ remove_entry (is_at (nat_cmp a)) es → IsStrictlySortedBy nat_cmp (keys_of now)
     → ((q : ℕ) → at_arrival now q ≡ cond (is_at (nat_cmp a) q) None (at_arrival es q))
     → StaysNamed now named names
-    → IsLeaving number before now left others names next
-leaving_step number before es now nodes left others named names next a node is found change rest sorted less same =
-    let there : filed_apart number nodes others number node ≡ Some a = ap (λ t. cond t (get (slice_cmp nat_cmp) nodes node) (others number node)) (number_itself number) ∙ found in
-    let k = key_back (at_arrival es a) (number ∷ node) (is.filed.real number node a there) in
-    let of_number : k.0.reply.number ≡ number = cc in
-    let of_node : k.0.reply.node ≡ node = cc in
+    → IsLeaving number before now left number_at names next
+leaving_step number before es now nodes left number_at named names next a node is there change rest sorted less same =
     record {
-      filed = filed_taken es now (filed_apart number nodes others) (filed_apart number left others) named names next a k.0 is.filed k.1 sorted less
-          (λ n other. apart_less number node nodes left others change n other
-          ∙ ap (λ m. cond (is_at (nat_cmp m) n && is_at (slice_cmp nat_cmp node) other) None (filed_apart number nodes others n other)) (sym of_number)
-          ∙ ap (λ m. cond (is_at (nat_cmp k.0.reply.number) n && is_at (slice_cmp nat_cmp m) other) None (filed_apart number nodes others n other)) (sym of_node))
-          same;
-      same = ap (filter (stays number)) rest ∙ one_leaves number es a k.0 k.1 (ap not (eq-eqb k.0.reply.number number of_number)) ∙ is.same;
+      filed = filed_taken es now number_at named names next a is.filed sorted less same;
+      left = record {
+        all = λ b k found of.
+            let old = still es now a b k (less b) found in
+            let at = is.left.all b k old.1 of in
+            let Goal : Bool → Type 0 = λ t. is_at (slice_cmp nat_cmp node) k.reply.node ≡ t → cond t None (get (slice_cmp nat_cmp) nodes k.reply.node) ≡ Some b in
+            change k.reply.node ∙ (elim (is_at (slice_cmp nat_cmp node) k.reply.node) as Goal [
+              | true ↦ λ t.
+                  let one : Some a ≡ Some b = sym there ∙ ap (get (slice_cmp nat_cmp) nodes) (node_is node k.reply.node t) ∙ at in
+                  let is_b : a ≡ b = cc in
+                  absurd (both_ways (is_at (nat_cmp a) b) old.0 (ap (is_at (nat_cmp a)) (sym is_b) ∙ number_itself a))
+              | false ↦ λ t. at
+            ]) refl;
+        only = λ q b k at found.
+            let Goal : Bool → Type 0 = λ t. cond t None (get (slice_cmp nat_cmp) nodes q) ≡ Some b → get (slice_cmp nat_cmp) nodes q ≡ Some b in
+            is.left.only q b k
+            ((elim (is_at (slice_cmp nat_cmp node) q) as Goal [ true ↦ λ f. absurd cc | false ↦ λ f. f ]) (sym (change q) ∙ at))
+            (still es now a b k (less b) found).1;
+      };
+      same = ap (filter (stays number)) rest ∙ goes ∙ is.same;
     }
+  where
+    goes : filter (stays number) (remove_entry (is_at (nat_cmp a)) es) ≡ filter (stays number) es
+    goes =
+        let Goal : Option Kept → Type 0 = λ o. at_arrival es a ≡ o → filter (stays number) (remove_entry (is_at (nat_cmp a)) es) ≡ filter (stays number) es in
+        elim (at_arrival es a) as Goal [
+          | Some k ↦ λ e.
+              let key = is.left.only node a k there e in
+              let of : k.reply.number ≡ number = cc in
+              one_leaves number es a k e (ap not (eq-eqb k.reply.number number of))
+          | None ↦ λ e. ap (filter (stays number)) (sym (none_taken es a e))
+        ] refl
 
-pub leaving_ended : (number : ℕ) (before now : Entries) (nodes : Nodes) (others : Numbers) (named : Names) (next : ℕ) → IsLeaving number before now nodes others named next → nodes.entries ≡ []
-    → AreGone number before now others named next
-leaving_ended number before now nodes others named next is empty = record {
-  filed = filed_same now (filed_apart number nodes others) (λ n node. cond (is_at (nat_cmp number) n) None (others n node)) named next is.filed
-      (λ n node. ap (λ l. cond (is_at (nat_cmp number) n) (lookup (is_at (slice_cmp nat_cmp node)) l) (others n node)) (sym empty));
+pub leaving_ended : (number : ℕ) (before now : Entries) (nodes : Nodes) (number_at : Numbers) (named : Names) (next : ℕ) → IsLeaving number before now nodes number_at named next → nodes.entries ≡ []
+    → AreGone number before now number_at named next
+leaving_ended number before now nodes number_at named next is empty = record {
+  filed = is.filed;
+  none = λ a k found of.
+      let at = is.left.all a k found of in
+      let nothing : get (slice_cmp nat_cmp) nodes k.reply.node ≡ None = ap (lookup (is_at (slice_cmp nat_cmp k.reply.node))) empty in
+      absurd cc;
   same = is.same;
 }
 
-pub gone_view : (number : ℕ) (before now : Entries) (others : Numbers) (named : Names) (next : ℕ) → AreGone number before now others named next
+pub gone_view : (number : ℕ) (before now : Entries) (number_at : Numbers) (named : Names) (next : ℕ) → AreGone number before now number_at named next
     → map seat_of now ≡ filter (λ s. not (s.0.number == number)) (map seat_of before)
-gone_view number before now others named next is =
+gone_view number before now number_at named next is =
     let stay = each (λ e. stays number e ≡ true) now is.filed.sorted (λ a k found.
     let Goal : Bool → Type 0 = λ b. (k.reply.number == number) ≡ b → not b ≡ true in
     elim (k.reply.number == number) as Goal [
-      | true ↦ λ t.
-          let same = eqb-true k.reply.number number t in
-          let none : cond (is_at (nat_cmp number) k.reply.number) None (others k.reply.number k.reply.node) ≡ None =
-          ap (λ m. cond (is_at (nat_cmp number) m) None (others m k.reply.node)) same ∙ ap (λ t. cond t None (others number k.reply.node)) (number_itself number) in
-          let some = is.filed.found a k found in
-          absurd cc
+      | true ↦ λ t. absurd (is.none a k found (eqb-true k.reply.number number t))
       | false ↦ λ t. refl
     ] refl) in
     ap (map seat_of) (sym (all_stay number now stay) ∙ is.same) ∙ seats_filtered number before
 
--- the nodes of a poll that was taken out of the map stand apart
-pub filed_out : (es : Entries) (polls left : PollMap) (nodes : Nodes) (named : Names) (number next : ℕ) → IsFiled es (filed polls) named next → get nat_cmp polls number ≡ Some nodes
-    → ((q : ℕ) → get nat_cmp left q ≡ cond (is_at (nat_cmp number) q) None (get nat_cmp polls q)) → IsFiled es (filed_apart number nodes (filed left)) named next
-filed_out es polls left nodes named number next is found change =
-    filed_same es (filed polls) (filed_apart number nodes (filed left)) named next is (λ n node.
-    let Goal : Bool → Type 0 = λ t. is_at (nat_cmp number) n ≡ t → cond t (get (slice_cmp nat_cmp) nodes node) (number_of_node (cond t None (get nat_cmp polls n)) node) ≡ filed polls n node in
-    ap (λ m. cond (is_at (nat_cmp number) n) (get (slice_cmp nat_cmp) nodes node) (number_of_node m node)) (change n)
-    ∙ (elim (is_at (nat_cmp number) n) as Goal [
-      | true ↦ λ t. ap (λ m. number_of_node m node) (sym found ∙ ap (get nat_cmp polls) (same_number number n t))
-      | false ↦ λ t. refl
-    ]) refl)
+-- the nodes of a poll
+pub nodes_of : (es : Entries) (polls : PollMap) (nodes : Nodes) (named : Names) (number next : ℕ) → IsFiled es (filed polls) named next → get nat_cmp polls number ≡ Some nodes → AreNodesOf number es nodes
+nodes_of es polls nodes named number next is there = record {
+  all = λ a k found of. ap (λ m. number_of_node m k.reply.node) (sym there) ∙ ap (λ n. filed polls n k.reply.node) (sym of) ∙ is.found a k found;
+  only = λ node a k at found. is.real number node a k (ap (λ m. number_of_node m node) there ∙ at) found;
+}
 
-pub filed_without : (es : Entries) (polls left : PollMap) (named : Names) (number next : ℕ) → IsFiled es (λ n node. cond (is_at (nat_cmp number) n) None (filed left n node)) named next
+-- the poll is taken out of the map
+pub filed_without : (es : Entries) (polls left : PollMap) (named : Names) (number next : ℕ) → IsFiled es (filed polls) named next → ((a : ℕ) (k : Kept) → at_arrival es a ≡ Some k → k.reply.number ≡ number → ⊥)
     → ((q : ℕ) → get nat_cmp left q ≡ cond (is_at (nat_cmp number) q) None (get nat_cmp polls q)) → IsFiled es (filed left) named next
-filed_without es polls left named number next is change =
-    filed_same es (λ n node. cond (is_at (nat_cmp number) n) None (filed left n node)) (filed left) named next is (λ n node.
-    let Goal : Bool → Type 0 = λ t. number_of_node (cond t None (get nat_cmp polls n)) node ≡ cond t None (number_of_node (cond t None (get nat_cmp polls n)) node) in
-    ap (λ m. number_of_node m node) (change n)
-    ∙ (elim (is_at (nat_cmp number) n) as Goal [ true ↦ refl | false ↦ refl ])
-    ∙ ap (λ m. cond (is_at (nat_cmp number) n) None (number_of_node m node)) (sym (change n)))
+filed_without es polls left named number next is none change =
+    let old : (n : ℕ) (node : List ℕ) (a : ℕ) → filed left n node ≡ Some a → filed polls n node ≡ Some a = λ n node a at.
+    let Goal : Bool → Type 0 = λ t. number_of_node (cond t None (get nat_cmp polls n)) node ≡ Some a → filed polls n node ≡ Some a in
+    (elim (is_at (nat_cmp number) n) as Goal [ true ↦ λ f. absurd cc | false ↦ λ f. f ]) (ap (λ m. number_of_node m node) (sym (change n)) ∙ at) in
+    record {
+      sorted = is.sorted;
+      below = is.below;
+      found = λ a k found.
+          ap (λ m. number_of_node m k.reply.node) (change k.reply.number)
+          ∙ ap (λ t. number_of_node (cond t None (get nat_cmp polls k.reply.number)) k.reply.node) (number_apart number k.reply.number (λ e. none a k found (sym e)))
+          ∙ is.found a k found;
+      real = λ n node a k at found. is.real n node a k (old n node a at) found;
+      low = λ n node a at. is.low n node a (old n node a at);
+      named_so = is.named_so;
+    }
 
--- where no reply to a poll is held, none goes
+-- where no number is noted for a poll, none of its replies goes
 pub none_gone : (es : Entries) (polls : PollMap) (named : Names) (number next : ℕ) → IsFiled es (filed polls) named next → get nat_cmp polls number ≡ None → AreGone number es es (filed polls) named next
-none_gone es polls named number next is none = record {
-  filed = filed_same es (filed polls) (λ n node. cond (is_at (nat_cmp number) n) None (filed polls n node)) named next is (λ n node.
-      let Goal : Bool → Type 0 = λ t. is_at (nat_cmp number) n ≡ t → cond t None (filed polls n node) ≡ filed polls n node in
-      (elim (is_at (nat_cmp number) n) as Goal [
-        | true ↦ λ t. ap (λ m. number_of_node m node) (sym none ∙ ap (get nat_cmp polls) (same_number number n t))
-        | false ↦ λ t. refl
-      ]) refl);
+none_gone es polls named number next is nothing = record {
+  filed = is;
+  none = λ a k found of.
+      let at = ap (λ m. number_of_node m k.reply.node) (sym nothing) ∙ ap (λ n. filed polls n k.reply.node) (sym of) ∙ is.found a k found in
+      absurd cc;
   same = refl;
 }

@@ -10,7 +10,6 @@ use Rattle.snow_board.specs.Model.Board.{Board}
 use Rattle.snow_issue.specs.declared.work.Waiting.{Waiting}
 use Rattle.snow_gets.specs.declared.gets.Get.{Get}
 use Rattle.snow_issue.specs.declared.work.Held.{Held}
-use Rattle.snow_issue.specs.declared.backlog.Kept.{Kept}
 use Rattle.snow_lineup.specs.declared.marks.Mark.{Mark}
 use Rattle.snow_lineup.specs.declared.marks.Mark.TheVariants.{New, Quiet, Ripe}
 use Rattle.snow_gets.specs.Model.Gets.{asked_in, with_get, is_get, without}
@@ -21,7 +20,6 @@ use Rattle.snow_issue.specs.Kept.Known.{items_of, sight, Tells, ForgetsChildren,
 use Rattle.snow_lineup.specs.Kept.Marks.{is_mark, has}
 use Rattle.snow_map.proofs.Lists.{same_id, id_turned}
 use Rattle.snow_lineup.specs.Kept.Index.{woken, forgotten}
-use Rattle.snow_issue.specs.Kept.Arrivals.{mark_of}
 use Rattle.snow_issue.specs.Kept.Keeping.{StaysQuiet}
 use Rattle.snow_lineup.proofs.Tagged.{All_remove, map_remove}
 use Rattle.snow_gets.proofs.Asking.{asked_with, first_at}

@@ -6,7 +6,7 @@ ghost use Rattle.std.specs.Ordering.{nat_cmp};
 ghost use Rattle.std.specs.List.Sorted.{IsStrictlySortedBy};
 ghost use Rattle.std.specs.Map.{keys_of, remove_entry};
 ghost use Rattle.snow_issue.specs.declared.backlog.Kept.{Kept};
-ghost use Rattle.snow_issue.specs.Kept.Arrivals.{at_arrival, woken_among, filed, names, StaysNamed, LeavesEach};
+ghost use Rattle.snow_issue.specs.Kept.Arrivals.{at_arrival, kept_at, woken_among, filed, names, StaysNamed, LeavesEach};
 
 use crate::backlog::{Backlog, Kept};
 use crate::named::Named;
@@ -16,20 +16,35 @@ use std::alloc::{AllocError, Global};
 use std::collections::BTreeMap;
 use std::collections::btree_map::Entry;
 
-/// Notes the number of a reply by its poll and node, and returns `true`. Where one is noted there,
-/// it returns `false`. Then, and on want of memory, all stays as it was.
+/// The number of a node's reply to a poll, or that of one that left.
+pub(crate) fn number_of(
+    polls: &BTreeMap<u32, BTreeMap<NodeId, u64>>,
+    number: u32,
+    node: &NodeId,
+) -> Option<u64>
+    ensures { result ≡ filed polls.now number node.now }
+{
+    match polls.get(&number) {
+        Some(nodes) => nodes.get(node).copied(),
+        None => None,
+    }
+}
+
+/// Notes the number of a reply by its poll and node, and returns `true`. Where a reply of them is
+/// kept, it returns `false`. Then, and on want of memory, all stays as it was.
 pub(crate) fn file(
     polls: &mut BTreeMap<u32, BTreeMap<NodeId, u64>>,
+    backlog: &Backlog,
     alloc: Global,
     reply: &Held,
     arrival: u64,
 ) -> Result<bool, AllocError>
-    ensures is_new { IfOk result (λ is_new. is_new ≡ is_none (filed polls.old reply.now.number reply.now.node)) }
+    ensures is_new { IfOk result (λ is_new. is_new ≡ is_none (kept_at backlog.now (filed polls.old reply.now.number reply.now.node))) }
     ensures ok { IfOk result (λ is_new. (n : ℕ) (other : List ℕ) → filed polls.new n other ≡ (if is_at (nat_cmp reply.now.number) n && (is_new && is_at (slice_cmp nat_cmp reply.now.node) other) then Some arrival else filed polls.old n other)) }
     ensures err { OnErr result ((n : ℕ) (other : List ℕ) → filed polls.new n other ≡ filed polls.old n other) }
 {
     if let Some(nodes) = polls.get_mut(&reply.number) {
-        return enter(nodes, reply.node, arrival);
+        return enter(nodes, backlog, reply.node, arrival);
     }
     let mut nodes = BTreeMap::new(alloc);
     nodes.insert(reply.node, arrival)?;
@@ -38,39 +53,29 @@ pub(crate) fn file(
 }
 
 // The same for the nodes of the poll. It looks for the node once.
-fn enter(nodes: &mut BTreeMap<NodeId, u64>, node: NodeId, arrival: u64) -> Result<bool, AllocError>
-    ensures is_new { IfOk result (λ is_new. is_new ≡ is_none (get (slice_cmp nat_cmp) nodes.old node)) }
+fn enter(
+    nodes: &mut BTreeMap<NodeId, u64>,
+    backlog: &Backlog,
+    node: NodeId,
+    arrival: u64,
+) -> Result<bool, AllocError>
+    ensures is_new { IfOk result (λ is_new. is_new ≡ is_none (kept_at backlog.now (get (slice_cmp nat_cmp) nodes.old node))) }
     ensures ok { IfOk result (λ is_new. (other : List ℕ) → get (slice_cmp nat_cmp) nodes.new other ≡ (if is_new && is_at (slice_cmp nat_cmp node) other then Some arrival else get (slice_cmp nat_cmp) nodes.old other)) }
     ensures err { OnErr result ((other : List ℕ) → get (slice_cmp nat_cmp) nodes.new other ≡ get (slice_cmp nat_cmp) nodes.old other) }
 {
     match nodes.entry(node)? {
-        Entry::Occupied(_) => Ok(false),
+        Entry::Occupied(entry) => {
+            if backlog.has(*entry.get()) {
+                return Ok(false);
+            }
+            *entry.into_mut() = arrival;
+            Ok(true)
+        }
         Entry::Vacant(entry) => {
             let _ = entry.insert(arrival);
             Ok(true)
         }
     }
-}
-
-/// The number of a node's reply to a poll goes.
-pub(crate) fn unfile(polls: &mut BTreeMap<u32, BTreeMap<NodeId, u64>>, number: u32, node: &NodeId)
-    ensures { (n : ℕ) (other : List ℕ) → filed polls.new n other ≡ (if is_at (nat_cmp number) n && is_at (slice_cmp nat_cmp node.now) other then None else filed polls.old n other) }
-{
-    if unfile_node(polls, number, node) {
-        let _ = polls.remove(&number);
-    }
-}
-
-// The same, but that a poll stays where it has no node any more. Whether it is so.
-fn unfile_node(polls: &mut BTreeMap<u32, BTreeMap<NodeId, u64>>, number: u32, node: &NodeId) -> bool
-    ensures left { (n : ℕ) (other : List ℕ) → filed polls.new n other ≡ (if is_at (nat_cmp number) n && is_at (slice_cmp nat_cmp node.now) other then None else filed polls.old n other) }
-    ensures none { OnTrue result ((other : List ℕ) → filed polls.new number other ≡ None) }
-{
-    let Some(nodes) = polls.get_mut(&number) else {
-        return false;
-    };
-    let _ = nodes.remove(node);
-    nodes.is_empty()
 }
 
 /// Appends a reply to the others, and keeps its number under its block. On want of memory all

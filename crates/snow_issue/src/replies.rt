@@ -19,8 +19,8 @@ use std::collections::BTreeMap;
 use std::marker::Model;
 
 /// The held replies in order of arrival, each with what is remembered of it, and their numbers of
-/// arrival by block and by poll and node. Whatever is done with a reply, no other one is moved or
-/// looked at.
+/// arrival by block and by poll and node. The number of a reply that left stands by poll and node
+/// until the poll leaves. Whatever is done with a reply, no other one is moved or looked at.
 #[derive(Drop)]
 pub(crate) struct Replies {
     alloc: Global,
@@ -77,8 +77,8 @@ impl Replies {
     fn has_node(&self, number: u32, node: &NodeId) -> bool
         ensures { result ≡ holds_in (items_of self.now) number node.now }
     {
-        match self.polls.get(&number) {
-            Some(nodes) => nodes.contains_key(node),
+        match arrivals::number_of(&self.polls, number, node) {
+            Some(arrival) => self.backlog.has(arrival),
             None => false,
         }
     }
@@ -95,21 +95,14 @@ impl Replies {
             return Err(AllocError);
         }
         let arrival = self.next;
-        let is_new = arrivals::file(&mut self.polls, self.alloc, &kept.reply, arrival)?;
+        let (polls, backlog) = (&mut self.polls, &mut self.backlog);
+        let is_new = arrivals::file(polls, backlog, self.alloc, &kept.reply, arrival)?;
         if !is_new {
             return Ok(false);
         }
-        if let Err(error) = arrivals::keep_reply(
-            &mut self.backlog,
-            &mut self.blocks,
-            self.alloc,
-            arrival,
-            &kept,
-        ) {
-            arrivals::unfile(&mut self.polls, kept.reply.number, &kept.reply.node);
-            return Err(error);
-        }
+        // The number stays noted also where there is no memory for the reply.
         self.next += 1;
+        arrivals::keep_reply(backlog, &mut self.blocks, self.alloc, arrival, &kept)?;
         Ok(true)
     }
 
@@ -124,7 +117,6 @@ impl Replies {
         let Some((arrival, reply)) = first else {
             return None;
         };
-        arrivals::unfile(&mut self.polls, reply.number, &reply.node);
         arrivals::drop_one(&mut self.backlog, &mut self.blocks, arrival);
         Some(reply)
     }

@@ -1,12 +1,12 @@
 -- Held replies by their numbers of arrival, and the indexes of these numbers: by block, and by poll and node.
-use Rattle.std.specs.Prelude.{◌≡◌, ℕ, ◌+◌, ◌<◌, ◌≤◌, Bool, true, false, ◌==◌, ◌&&◌, List, ◌∷◌, not, filter, Option, Some, None, bytes_eq, if◌then◌else◌}
+use Rattle.std.specs.Prelude.{◌≡◌, ℕ, ◌+◌, ◌<◌, ◌≤◌, Bool, true, false, ◌==◌, ◌&&◌, List, ◌∷◌, not, filter, Option, Some, bytes_eq, if◌then◌else◌}
 use Rattle.std.specs.BinaryHeap.{IsHeap}
 use Rattle.std.specs.BTreeMap.{BTreeMap, get, is_at}
 use Rattle.std.specs.Cmp.Lexicographic.{slice_cmp}
 use Rattle.std.specs.List.{list_any, sum_by}
 use Rattle.std.specs.List.Sorted.{IsStrictlySortedBy}
 use Rattle.std.specs.Map.{lookup, keys_of, values_of}
-use Rattle.std.specs.Option.{option_map, option_map_or, option_and_then}
+use Rattle.std.specs.Option.{option_map_or, option_and_then}
 use Rattle.std.specs.Ordering.{nat_cmp}
 use Rattle.snow_issue.specs.declared.backlog.Kept.{Kept}
 use Rattle.snow_issue.specs.declared.work.Held.{Held}
@@ -20,6 +20,10 @@ Entries = List (ℕ × Kept)
 -- the reply of a number
 abbrev pub at_arrival : Entries → ℕ → Option Kept
 at_arrival es a = lookup (is_at (nat_cmp a)) es
+
+-- the reply of a number, where there is one
+abbrev pub kept_at : Entries → Option ℕ → Option Kept
+kept_at es number = option_and_then (at_arrival es) number
 
 -- what is remembered of a reply
 abbrev pub mark_of : Kept → Mark
@@ -94,37 +98,41 @@ number_of_node nodes node = option_and_then (λ m. get (slice_cmp nat_cmp) m nod
 abbrev pub filed : PollMap → ℕ → List ℕ → Option ℕ
 filed polls n node = number_of_node (get nat_cmp polls n) node
 
--- the same where the nodes of one poll stand apart
-abbrev pub filed_apart : ℕ → BTreeMap (List ℕ) ℕ → (ℕ → List ℕ → Option ℕ) → ℕ → List ℕ → Option ℕ
-filed_apart number nodes others n node = if is_at (nat_cmp number) n then get (slice_cmp nat_cmp) nodes node else others n node
-
 -- the number of a reply's poll, and its node, in one list
 abbrev pub reply_key : Held → List ℕ
 reply_key h = h.number ∷ h.node
 
--- each number is below the next one, the numbers by poll and node are those of the replies, and each is kept under its block
+-- each number is below the next one, the numbers by poll and node are those of the replies or of some that left, and each is kept under its block
 pub record IsFiled (es : Entries) (number_at : ℕ → List ℕ → Option ℕ) (named : List ℕ → ℕ → Bool) (next : ℕ) : Type 0 where
   pub sorted : IsStrictlySortedBy nat_cmp (keys_of es)
   pub below : (a : ℕ) (k : Kept) → at_arrival es a ≡ Some k → a < next
   pub found : (a : ℕ) (k : Kept) → at_arrival es a ≡ Some k → number_at k.reply.number k.reply.node ≡ Some a
-  pub real : (n : ℕ) (node : List ℕ) (a : ℕ) → number_at n node ≡ Some a → option_map (λ k. reply_key k.reply) (at_arrival es a) ≡ Some (n ∷ node)
+  pub real : (n : ℕ) (node : List ℕ) (a : ℕ) (k : Kept) → number_at n node ≡ Some a → at_arrival es a ≡ Some k → reply_key k.reply ≡ n ∷ node
+  pub low : (n : ℕ) (node : List ℕ) (a : ℕ) → number_at n node ≡ Some a → a < next
   pub named_so : (a : ℕ) (k : Kept) → at_arrival es a ≡ Some k → named k.reply.id a ≡ true
 
 -- whether a reply isn't of a poll
 abbrev pub stays : ℕ → ℕ × Kept → Bool
 stays number e = not (e.1.reply.number == number)
 
+-- nodes has the numbers of all replies to a poll, and of no other reply
+pub record AreNodesOf (number : ℕ) (es : Entries) (nodes : BTreeMap (List ℕ) ℕ) : Type 0 where
+  pub all : (a : ℕ) (k : Kept) → at_arrival es a ≡ Some k → k.reply.number ≡ number → get (slice_cmp nat_cmp) nodes k.reply.node ≡ Some a
+  pub only : (node : List ℕ) (a : ℕ) (k : Kept) → get (slice_cmp nat_cmp) nodes node ≡ Some a → at_arrival es a ≡ Some k → reply_key k.reply ≡ number ∷ node
+
 -- replies of a poll go one by one: those of other polls stay, and nodes has the numbers of those that are left
-pub record IsLeaving (number : ℕ) (before now : Entries) (nodes : BTreeMap (List ℕ) ℕ) (others : ℕ → List ℕ → Option ℕ) (named : List ℕ → ℕ → Bool) (next : ℕ) : Type 0 where
-  pub filed : IsFiled now (filed_apart number nodes others) named next
+pub record IsLeaving (number : ℕ) (before now : Entries) (nodes : BTreeMap (List ℕ) ℕ) (number_at : ℕ → List ℕ → Option ℕ) (named : List ℕ → ℕ → Bool) (next : ℕ) : Type 0 where
+  pub filed : IsFiled now number_at named next
+  pub left : AreNodesOf number now nodes
   pub same : filter (stays number) now ≡ filter (stays number) before
 
 -- the replies of a poll went
-pub record AreGone (number : ℕ) (before now : Entries) (others : ℕ → List ℕ → Option ℕ) (named : List ℕ → ℕ → Bool) (next : ℕ) : Type 0 where
-  pub filed : IsFiled now (λ n node. if is_at (nat_cmp number) n then None else others n node) named next
+pub record AreGone (number : ℕ) (before now : Entries) (number_at : ℕ → List ℕ → Option ℕ) (named : List ℕ → ℕ → Bool) (next : ℕ) : Type 0 where
+  pub filed : IsFiled now number_at named next
+  pub none : (a : ℕ) (k : Kept) → at_arrival now a ≡ Some k → k.reply.number ≡ number → ⊥
   pub same : filter (stays number) now ≡ filter (stays number) before
 
 -- whichever poll it is whose nodes have these numbers, its replies went
 abbrev pub LeavesEach : Entries → (List ℕ → ℕ → Bool) → BTreeMap (List ℕ) ℕ → Entries → (List ℕ → ℕ → Bool) → Type 0
 LeavesEach before named nodes now names =
-    (number : ℕ) (others : ℕ → List ℕ → Option ℕ) (next : ℕ) → IsFiled before (filed_apart number nodes others) named next → AreGone number before now others names next
+    (number : ℕ) (number_at : ℕ → List ℕ → Option ℕ) (next : ℕ) → IsFiled before number_at named next → AreNodesOf number before nodes → AreGone number before now number_at names next

@@ -3,7 +3,7 @@ use Rattle.std.proofs.Common.{not, ◌==◌, filter, sym, ap, ◌∙◌}
 use Rattle.snow_issue.specs.declared.work.Held.{Held}
 use Rattle.snow_lineup.specs.declared.marks.Mark.{Mark}
 use Rattle.snow_issue.specs.Kept.Arrivals.{filed, names, AreGone}
-use Rattle.snow_issue.proofs.Departed.{filed_out, filed_without, none_gone, gone_view}
+use Rattle.snow_issue.proofs.Departed.{nodes_of, filed_without, none_gone, gone_view}
 use Rattle.snow_issue.proofs.replies.Replies.forget.Goals as goal
 use Rattle.snow_issue.proofs.replies.Replies.forget.Goals.{After-drop_each}
 
@@ -14,18 +14,19 @@ returns-in_default c =
     (none_gone inside.backlog inside.polls (names inside.blocks) c.args.number inside.next c.self.invariant (sym c.in_default.ensures.value))
     ∙ ap (filter (λ (s : Held × Mark). not (s.0.number == c.args.number))) c.self.view_is
 
-gone : (c : After-drop_each) → AreGone c.args.number c.self.inside.backlog c.drop_each.new.backlog (filed c.remove.new.self) (names c.drop_each.new.blocks) c.self.inside.next
+gone : (c : After-drop_each) → AreGone c.args.number c.self.inside.backlog c.drop_each.new.backlog (filed c.self.inside.polls) (names c.drop_each.new.blocks) c.self.inside.next
 gone c =
     let inside = c.self.inside in
-    c.drop_each.ensures c.args.number (filed c.remove.new.self) inside.next
-    (filed_out inside.backlog inside.polls c.remove.new.self c.in-Some.nodes (names inside.blocks) c.args.number inside.next c.self.invariant (sym c.in-Some.ensures.value) c.in-Some.ensures.updates.0)
+    c.drop_each.ensures c.args.number (filed inside.polls) inside.next c.self.invariant
+    (nodes_of inside.backlog inside.polls c.in-Some.nodes (names inside.blocks) c.args.number inside.next c.self.invariant (sym c.in-Some.ensures.value))
 
 pub invariant_of-self-2 : goal.invariant_of-self-2
 invariant_of-self-2 c =
+    let went = gone (goal.at.invariant_of-self-2 c).After-drop_each in
     filed_without c.drop_each.new.backlog c.self.inside.polls c.remove.new.self (names c.drop_each.new.blocks) c.args.number c.self.inside.next
-    (gone (goal.at.invariant_of-self-2 c).After-drop_each).filed c.in-Some.ensures.updates.0
+    went.filed went.none c.in-Some.ensures.updates.0
 
 pub returns : goal.returns
 returns c =
-    gone_view c.args.number c.self.inside.backlog c.drop_each.new.backlog (filed c.remove.new.self) (names c.drop_each.new.blocks) c.self.inside.next (gone (goal.at.returns c).After-drop_each)
+    gone_view c.args.number c.self.inside.backlog c.drop_each.new.backlog (filed c.self.inside.polls) (names c.drop_each.new.blocks) c.self.inside.next (gone (goal.at.returns c).After-drop_each)
     ∙ ap (filter (λ (s : Held × Mark). not (s.0.number == c.args.number))) c.self.view_is

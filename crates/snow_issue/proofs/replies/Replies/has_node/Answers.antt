@@ -1,24 +1,25 @@
+-- A node's reply is held where one has its number.
 use Rattle.std.proofs.Common.{List, ap, ◌∙◌}
 use Rattle.std.specs.Option.{is_some}
 use Rattle.snow_issue.specs.declared.work.Held.{Held}
 use Rattle.snow_lineup.specs.declared.marks.Mark.{Mark}
 use Rattle.snow_issue.specs.Model.Lists.{holds_in}
 use Rattle.snow_issue.specs.Kept.Known.{items_of}
-use Rattle.snow_issue.specs.Kept.Arrivals.{filed, names, number_of_node}
+use Rattle.snow_issue.specs.Kept.Arrivals.{kept_at, filed, names}
 use Rattle.snow_issue.proofs.Numbered.{held_by_number}
 use Rattle.snow_issue.proofs.replies.Replies.has_node.Goals as goal
 
 pub returns-in-Some : goal.returns-in-Some
 returns-in-Some c =
     let inside = c.self.inside in
-    c.contains_key.ensures
-    ∙ ap (λ m. is_some (number_of_node m c.args.node.now)) c.in-Some.ensures.value
+    c.has.ensures
+    ∙ ap (λ o. is_some (kept_at inside.backlog o)) c.in-Some.ensures
     ∙ held_by_number inside.backlog (filed inside.polls) (names inside.blocks) inside.next c.args.number c.args.node.now c.self.invariant
     ∙ ap (λ (l : List (Held × Mark)). holds_in (items_of l) c.args.number c.args.node.now) c.self.view_is
 
 pub returns-in-None : goal.returns-in-None
 returns-in-None c =
     let inside = c.self.inside in
-    ap (λ m. is_some (number_of_node m c.args.node.now)) c.in-None.ensures.value
+    ap (λ o. is_some (kept_at inside.backlog o)) c.in-None.ensures
     ∙ held_by_number inside.backlog (filed inside.polls) (names inside.blocks) inside.next c.args.number c.args.node.now c.self.invariant
     ∙ ap (λ (l : List (Held × Mark)). holds_in (items_of l) c.args.number c.args.node.now) c.self.view_is

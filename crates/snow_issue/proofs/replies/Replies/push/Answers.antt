@@ -1,5 +1,5 @@
 -- The new reply has the next number; after want of memory none has it.
-use Rattle.std.proofs.Common.{◌≡◌, ℕ, None, Some, not, ◌&&◌, cond, List, [], ◌∷◌, ◌++◌, sym, ap, ◌∙◌, subst}
+use Rattle.std.proofs.Common.{◌≡◌, ℕ, ◌+◌, None, Some, not, ◌&&◌, cond, List, [], ◌∷◌, ◌++◌, sym, ap, ◌∙◌, subst}
 use Rattle.std.specs.BTreeMap.{is_at}
 use Rattle.std.specs.Cmp.Lexicographic.{slice_cmp}
 use Rattle.std.specs.Ordering.{nat_cmp}
@@ -7,14 +7,14 @@ use Rattle.snow_issue.specs.declared.work.Held.{Held}
 use Rattle.snow_lineup.specs.declared.marks.Mark.{Mark}
 use Rattle.snow_issue.specs.Model.Lists.{holds_in}
 use Rattle.snow_issue.specs.Kept.Known.{items_of}
-use Rattle.snow_issue.specs.Kept.Arrivals.{Entries, IsFiled, mark_of, filed, names}
-use Rattle.snow_issue.proofs.Numbered.{is_of, none_from, new_without, none_noted, filed_same, filed_names, filed_pushed, filed_undone}
+use Rattle.snow_issue.specs.Kept.Arrivals.{Entries, IsFiled, kept_at, mark_of, filed, names}
+use Rattle.snow_issue.proofs.Numbered.{is_of, none_from, new_without, none_noted, filed_same, filed_names, filed_stale, filed_pushed}
 use Rattle.snow_issue.proofs.Seated.{seats_pushed}
 use Rattle.snow_issue.proofs.replies.Replies.push.Goals as goal
 use Rattle.snow_issue.proofs.replies.Replies.push.Goals.{In_ok-is_new, After-keep_reply}
 
-new : (c : After-keep_reply) → filed c.self.inside.polls c.args.kept.reply.number c.args.kept.reply.node ≡ None
-new c = none_from (filed c.self.inside.polls c.args.kept.reply.number c.args.kept.reply.node) (sym c.if-not-is_new.false ∙ c.in_ok-is_new.ensures.is_new)
+new : (c : After-keep_reply) → kept_at c.self.inside.backlog (filed c.self.inside.polls c.args.kept.reply.number c.args.kept.reply.node) ≡ None
+new c = none_from (kept_at c.self.inside.backlog (filed c.self.inside.polls c.args.kept.reply.number c.args.kept.reply.node)) (sym c.if-not-is_new.false ∙ c.in_ok-is_new.ensures.is_new)
 
 filed_so : (c : After-keep_reply) (n : ℕ) (node : List ℕ) → filed c.file.new.polls n node ≡ cond (is_of c.args.kept.reply n node) (Some c.self.inside.next) (filed c.self.inside.polls n node)
 filed_so c n node =
@@ -38,27 +38,25 @@ invariant_of-self-then-not-is_new c =
     ∙ ap (λ b. cond (is_at (nat_cmp reply.number) n && (b && is_at (slice_cmp nat_cmp reply.node) node)) (Some inside.next) (filed inside.polls n node)) c.if-not-is_new.true
     ∙ none_noted (is_at (nat_cmp reply.number) n) (Some inside.next) (filed inside.polls n node))
 
-pub invariant_of-self-in-Err : goal.invariant_of-self-in-Err
-invariant_of-self-in-Err c =
+pub invariant_of-self-in_err-keep_reply : goal.invariant_of-self-in_err-keep_reply
+invariant_of-self-in_err-keep_reply c =
     let inside = c.self.inside in
-    let reply = c.args.kept.reply in
-    let after = (goal.at.invariant_of-self-in-Err c).After-keep_reply in
-    subst (λ (es : Entries). IsFiled es (filed c.unfile.new.polls) (names c.keep_reply.new.blocks) inside.next) (sym c.in-Err.ensures.err)
-    (filed_same inside.backlog (filed inside.polls) (filed c.unfile.new.polls) (names c.keep_reply.new.blocks) inside.next
-    (filed_names inside.backlog (filed inside.polls) (names inside.blocks) (names c.keep_reply.new.blocks) inside.next c.self.invariant c.in-Err.ensures.others)
-    (λ n node. c.unfile.ensures n node ∙ ap (cond (is_of reply n node) None) (filed_so after n node)
-    ∙ filed_undone (filed inside.polls) reply inside.next n node (new after)))
+    let after = (goal.at.invariant_of-self-in_err-keep_reply c).After-keep_reply in
+    subst (λ (es : Entries). IsFiled es (filed c.file.new.polls) (names c.keep_reply.new.blocks) (inside.next + 1)) (sym c.in_err-keep_reply.ensures.err)
+    (filed_names inside.backlog (filed c.file.new.polls) (names inside.blocks) (names c.keep_reply.new.blocks) (inside.next + 1)
+    (filed_stale inside.backlog (filed inside.polls) (filed c.file.new.polls) (names inside.blocks) inside.next c.args.kept.reply c.self.invariant (new after) (filed_so after))
+    c.in_err-keep_reply.ensures.others)
 
 pub invariant_of-self-2 : goal.invariant_of-self-2
 invariant_of-self-2 c =
     let inside = c.self.inside in
     let after = (goal.at.invariant_of-self-2 c).After-keep_reply in
     filed_pushed inside.backlog c.keep_reply.new.backlog (filed inside.polls) (filed c.file.new.polls) (names inside.blocks) (names c.keep_reply.new.blocks) inside.next c.args.kept
-    c.self.invariant (new after) c.in_default.ensures.sorted c.in_default.ensures.there (filed_so after) c.in_default.ensures.named c.in_default.ensures.others
+    c.self.invariant (new after) c.in_ok-keep_reply.ensures.sorted c.in_ok-keep_reply.ensures.there (filed_so after) c.in_ok-keep_reply.ensures.named c.in_ok-keep_reply.ensures.others
 
 pub returns-clause-ok : goal.returns-clause-ok
 returns-clause-ok c =
-    seats_pushed c.self.inside.backlog c.keep_reply.new.backlog c.self.inside.next c.args.kept c.in_default.ensures.ok
+    seats_pushed c.self.inside.backlog c.keep_reply.new.backlog c.self.inside.next c.args.kept c.in_ok-keep_reply.ensures.ok
     ∙ ap (λ (l : List (Held × Mark)). l ++ (c.args.kept.reply, mark_of c.args.kept) ∷ []) c.self.view_is
 
 pub returns-then-not-is_new-clause-is_new : goal.returns-then-not-is_new-clause-is_new

@@ -1,5 +1,5 @@
 -- The earliest free reply leaves, and its numbers with it.
-use Rattle.std.proofs.Common.{◌≡◌, false, List, All, map, find, refl, sym, ap, ◌∙◌, subst}
+use Rattle.std.proofs.Common.{◌≡◌, List, All, map, find, refl, sym, ap, ◌∙◌, subst}
 use Rattle.std.specs.List.{remove}
 use Rattle.snow_gets.specs.Model.Gets.{without}
 use Rattle.snow_issue.specs.declared.work.Held.{Held}
@@ -30,9 +30,8 @@ invariant_of-self-2 c =
     let mid = c.first_free-first.new.backlog in
     let is : IsFiled mid (filed inside.polls) (names inside.blocks) inside.next =
     filed_by inside.backlog mid (filed inside.polls) (names inside.blocks) inside.next c.self.invariant c.in-Some.ensures.sorted c.in-Some.ensures.walked.replies in
-    filed_taken mid c.drop_one.new.backlog (filed inside.polls) (filed c.unfile.new.polls) (names inside.blocks) (names c.drop_one.new.blocks) inside.next c.in-Some.arrival
-    (record { reply = c.in-Some.reply; quiet = false }) is c.in-Some.ensures.first.there c.drop_one.ensures.sorted c.drop_one.ensures.left
-    c.unfile.ensures c.drop_one.ensures.others
+    filed_taken mid c.drop_one.new.backlog (filed inside.polls) (names inside.blocks) (names c.drop_one.new.blocks) inside.next c.in-Some.arrival
+    is c.drop_one.ensures.sorted c.drop_one.ensures.left c.drop_one.ensures.others
 
 left : (c : After-drop_one) → map seat_of c.drop_one.new.backlog ≡ remove (map seat_of c.first_free-first.new.backlog) (place (map seat_of c.first_free-first.new.backlog))
 left c = ap (map seat_of) c.drop_one.ensures.rest ∙ seats_taken c.first_free-first.new.backlog c.in-Some.arrival c.in-Some.reply c.in-Some.ensures.sorted c.in-Some.ensures.first
