@@ -6,24 +6,26 @@ use Rattle.std.specs.List.{list_any}
 use Rattle.std.specs.List.Sorted.{IsStrictlySortedBy}
 use Rattle.std.specs.Map.{keys_of}
 use Rattle.std.specs.Option.{option_map, is_some, is_none}
-use Rattle.std.specs.Ordering.{nat_cmp, is_eq}
+use Rattle.std.specs.Ordering.{nat_cmp, is_eq, ordering_then}
 use Rattle.std.specs.Str.{bytes_eq}
 use Rattle.std.specs.declared.cmp.Ordering.{Ordering}
 use Rattle.std.proofs.lemmas.Bool.{false_from_ne_true, eqb-true, eq-eqb, and_parts}
 use Rattle.std.proofs.lemmas.List.Elements.{All-head, All-tail}
-use Rattle.std.proofs.lemmas.Map.Lookups.{CmpEqualImpliesEq, exact_bytes}
+use Rattle.std.proofs.lemmas.Map.Lookups.{CmpEqualImpliesEq, exact_bytes, exact_pairs, exact_unsigned}
 use Rattle.std.proofs.lemmas.Map.Text.{is_eq-slice_cmp}
 use Rattle.snow_issue.specs.declared.backlog.Kept.{Kept}
+use Rattle.snow_issue.specs.declared.keys.NodeKey.{NodeKey}
 use Rattle.snow_issue.specs.declared.work.Held.{Held}
+use Rattle.snow_issue.specs.Kept.Keys.{key_of, key_cmp}
 use Rattle.snow_issue.specs.Model.Lists.{holds_in, is_reply}
 use Rattle.snow_issue.specs.Kept.Known.{items_of}
-use Rattle.snow_issue.specs.Kept.Arrivals.{Entries, at_arrival, kept_at, seat_of, reply_key, is_among, StaysNamed, IsFiled}
+use Rattle.snow_issue.specs.Kept.Arrivals.{Entries, at_arrival, kept_at, seat_of, is_among, StaysNamed, IsFiled}
 use Rattle.snow_issue.proofs.Stocked.{same_number, number_itself, each}
 use Rattle.snow_map.proofs.Booleans.{or_true}
 use Rattle.snow_map.proofs.Lists.{same_id, id_itself}
 
 abbrev pub Numbers : Type 0
-Numbers = ℕ → List ℕ → Option ℕ
+Numbers = ℕ → NodeKey → Option ℕ
 
 abbrev pub Names : Type 0
 Names = List ℕ → ℕ → Bool
@@ -71,23 +73,44 @@ nested_missing {B = B} R exact view before k inner new none nothing n j =
       | false ↦ λ t. refl
     ]) refl
 
--- whether a poll and node are those of a reply
-abbrev pub is_of : Held → ℕ → List ℕ → Bool
-is_of h n node = is_at (nat_cmp h.number) n && is_at (slice_cmp nat_cmp h.node) node
-
-of_parts : (h : Held) (n : ℕ) (node : List ℕ) → is_of h n node ≡ true → (h.number ≡ n) × (h.node ≡ node)
-of_parts h n node t =
-    let parts = and_parts (is_at (nat_cmp h.number) n) (is_at (slice_cmp nat_cmp h.node) node) t in
-    (same_number h.number n parts.0, exact_bytes h.node node (equal_by (slice_cmp nat_cmp h.node node) parts.1))
-
-pub node_is : (node other : List ℕ) → is_at (slice_cmp nat_cmp node) other ≡ true → node ≡ other
-node_is node other t = exact_bytes node other (equal_by (slice_cmp nat_cmp node other) t)
+-- ---- keys
 
 pub node_itself : (node : List ℕ) → is_at (slice_cmp nat_cmp node) node ≡ true
 node_itself node = is_eq-slice_cmp node node ∙ id_itself node
 
-of_itself : (h : Held) → is_of h h.number h.node ≡ true
-of_itself h = ap (λ b. b && is_at (slice_cmp nat_cmp h.node) h.node) (number_itself h.number) ∙ node_itself h.node
+key_itself : (key : NodeKey) → is_at (key_cmp key) key ≡ true
+key_itself key = ap (λ o. is_eq (ordering_then o (slice_cmp nat_cmp key.node key.node))) (equal_by (nat_cmp key.last key.last) (number_itself key.last)) ∙ node_itself key.node
+
+pub key_is : (key other : NodeKey) → is_at (key_cmp key) other ≡ true → key ≡ other
+key_is key other t =
+    let pair : NodeKey → ℕ × List ℕ = λ k. (k.last, k.node) in
+    let key_from : ℕ × List ℕ → NodeKey = λ p. record { last = p.0; node = p.1 } in
+    ap key_from (exact_pairs nat_cmp (slice_cmp nat_cmp) exact_unsigned exact_bytes (pair key) (pair other) (equal_by (key_cmp key other) t))
+
+-- a number that was put in another's place, and then that one back
+pub put_back : (before mid after : BTreeMap NodeKey ℕ) (key : NodeKey) (a number : ℕ) → get key_cmp before key ≡ Some number
+    → ((q : NodeKey) → get key_cmp mid q ≡ cond (is_at (key_cmp key) q) (Some a) (get key_cmp before q))
+    → ((q : NodeKey) → get key_cmp after q ≡ cond (is_at (key_cmp key) q) (Some number) (get key_cmp mid q))
+    → (q : NodeKey) → get key_cmp after q ≡ get key_cmp before q
+put_back before mid after key a number there put back q =
+    let Goal : Bool → Type 0 = λ t. is_at (key_cmp key) q ≡ t → cond t (Some number) (cond t (Some a) (get key_cmp before q)) ≡ get key_cmp before q in
+    back q ∙ ap (cond (is_at (key_cmp key) q) (Some number)) (put q)
+    ∙ (elim (is_at (key_cmp key) q) as Goal [
+      | true ↦ λ t. sym there ∙ ap (get key_cmp before) (key_is key q t)
+      | false ↦ λ t. refl
+    ]) refl
+
+-- whether a poll and node are those of a reply
+abbrev pub is_of : Held → ℕ → NodeKey → Bool
+is_of h n key = is_at (nat_cmp h.number) n && is_at (key_cmp (key_of h.node)) key
+
+of_parts : (h : Held) (n : ℕ) (key : NodeKey) → is_of h n key ≡ true → (h.number ≡ n) × (key_of h.node ≡ key)
+of_parts h n key t =
+    let parts = and_parts (is_at (nat_cmp h.number) n) (is_at (key_cmp (key_of h.node)) key) t in
+    (same_number h.number n parts.0, key_is (key_of h.node) key parts.1)
+
+of_itself : (h : Held) → is_of h h.number (key_of h.node) ≡ true
+of_itself h = ap (λ b. b && is_at (key_cmp (key_of h.node)) (key_of h.node)) (number_itself h.number) ∙ key_itself (key_of h.node)
 
 -- ---- the same replies
 
@@ -103,18 +126,21 @@ filed_by es now numbers named next is sorted same =
     record {
       sorted = sorted;
       below = λ a k found. let j = back a k found in is.below a j.0 j.1;
-      found = λ a k found. let j = back a k found in ap (λ (h : Held). numbers h.number h.node) (sym j.2) ∙ is.found a j.0 j.1;
-      real = λ n node a k there found. let j = back a k found in ap reply_key (sym j.2) ∙ is.real n node a j.0 there j.1;
+      found = λ a k found. let j = back a k found in ap (λ (h : Held). numbers h.number (key_of h.node)) (sym j.2) ∙ is.found a j.0 j.1;
+      real = λ n key a k there found.
+          let j = back a k found in
+          let old = is.real n key a j.0 there j.1 in
+          (ap (λ (h : Held). h.number) (sym j.2) ∙ old.0, ap (λ (h : Held). key_of h.node) (sym j.2) ∙ old.1);
       low = is.low;
       named_so = λ a k found. let j = back a k found in ap (λ (h : Held). named h.id a) (sym j.2) ∙ is.named_so a j.0 j.1;
     }
 
 -- the same numbers by poll and node
-pub filed_same : (es : Entries) (before now : Numbers) (named : Names) (next : ℕ) → IsFiled es before named next → ((n : ℕ) (node : List ℕ) → now n node ≡ before n node) → IsFiled es now named next
+pub filed_same : (es : Entries) (before now : Numbers) (named : Names) (next : ℕ) → IsFiled es before named next → ((n : ℕ) (key : NodeKey) → now n key ≡ before n key) → IsFiled es now named next
 filed_same es before now named next is same = record {
   sorted = is.sorted;
   below = is.below;
-  found = λ a k found. same k.reply.number k.reply.node ∙ is.found a k found;
+  found = λ a k found. same k.reply.number (key_of k.reply.node) ∙ is.found a k found;
   real = λ n node a k there found. is.real n node a k (sym (same n node) ∙ there) found;
   low = λ n node a there. is.low n node a (sym (same n node) ∙ there);
   named_so = is.named_so;
@@ -131,7 +157,7 @@ filed_names es numbers before now next is stays = record {
   named_so = λ a k found. stays k.reply.id a k found (is.named_so a k found);
 }
 
-pub filed_nothing : (es : Entries) (numbers : Numbers) (named : Names) (next : ℕ) → es ≡ [] → ((n : ℕ) (node : List ℕ) → numbers n node ≡ None) → IsFiled es numbers named next
+pub filed_nothing : (es : Entries) (numbers : Numbers) (named : Names) (next : ℕ) → es ≡ [] → ((n : ℕ) (key : NodeKey) → numbers n key ≡ None) → IsFiled es numbers named next
 unfolding IsStrictlySortedBy
 filed_nothing es numbers named next empty none = record {
   sorted = rw empty tt;
@@ -164,23 +190,22 @@ at_back es None k h = absurd cc
 at_back es (Some a) k h = (a, refl, h)
 
 pub held_by_number : (es : Entries) (numbers : Numbers) (named : Names) (next n : ℕ) (node : List ℕ) → IsFiled es numbers named next
-    → is_some (kept_at es (numbers n node)) ≡ holds_in (items_of (map seat_of es)) n node
+    → is_some (kept_at es (numbers n (key_of node))) ≡ holds_in (items_of (map seat_of es)) n node
 held_by_number es numbers named next n node is =
-    let Goal : Option Kept → Type 0 = λ o. kept_at es (numbers n node) ≡ o → is_some o ≡ holds_in (items_of (map seat_of es)) n node in
-    elim (kept_at es (numbers n node)) as Goal [
+    let Goal : Option Kept → Type 0 = λ o. kept_at es (numbers n (key_of node)) ≡ o → is_some o ≡ holds_in (items_of (map seat_of es)) n node in
+    elim (kept_at es (numbers n (key_of node))) as Goal [
       | Some k ↦ λ e.
-          let a = at_back es (numbers n node) k e in
-          let key = is.real n node a.0 k a.1 a.2 in
-          let number : k.reply.number ≡ n = cc in
-          let of_node : k.reply.node ≡ node = cc in
-          sym (holds_found es a.0 k n node a.2 (rw (number, of_node, eq-eqb n n refl) (id_itself node)))
+          let a = at_back es (numbers n (key_of node)) k e in
+          let real = is.real n (key_of node) a.0 k a.1 a.2 in
+          let of_node : k.reply.node ≡ node = ap (λ (key : NodeKey). key.node) real.1 in
+          sym (holds_found es a.0 k n node a.2 (rw (real.0, of_node, eq-eqb n n refl) (id_itself node)))
       | None ↦ λ e. sym (holds_none es n node (each (λ f. is_reply n node f.1.reply ≡ false) es is.sorted (λ a k found.
           false_from_ne_true (is_reply n node k.reply) (λ t.
           let parts = and_parts (k.reply.number == n) (bytes_eq k.reply.node node) t in
           let number : k.reply.number ≡ n = eqb-true k.reply.number n parts.0 in
           let of_node : k.reply.node ≡ node = same_id k.reply.node node parts.1 in
-          let there : numbers n node ≡ Some a = ap (λ m. numbers m node) (sym number) ∙ ap (λ l. numbers k.reply.number l) (sym of_node) ∙ is.found a k found in
-          let kept : kept_at es (numbers n node) ≡ Some k = ap (kept_at es) there ∙ found in
+          let there : numbers n (key_of node) ≡ Some a = ap (λ m. numbers m (key_of node)) (sym number) ∙ ap (λ l. numbers k.reply.number (key_of l)) (sym of_node) ∙ is.found a k found in
+          let kept : kept_at es (numbers n (key_of node)) ≡ Some k = ap (kept_at es) there ∙ found in
           absurd cc))))
     ] refl
 
@@ -194,8 +219,8 @@ none_is (Some k) = refl
 
 -- a reply is new where none of its node is held
 pub new_without : (es : Entries) (numbers : Numbers) (named : Names) (next n : ℕ) (node : List ℕ) → IsFiled es numbers named next
-    → is_none (kept_at es (numbers n node)) ≡ not (holds_in (items_of (map seat_of es)) n node)
-new_without es numbers named next n node is = none_is (kept_at es (numbers n node)) ∙ ap not (held_by_number es numbers named next n node is)
+    → is_none (kept_at es (numbers n (key_of node))) ≡ not (holds_in (items_of (map seat_of es)) n node)
+new_without es numbers named next n node is = none_is (kept_at es (numbers n (key_of node))) ∙ ap not (held_by_number es numbers named next n node is)
 
 -- where none is noted, all stay
 pub none_noted : (b : Bool) (x y : Option ℕ) → cond (b && false) x y ≡ y
@@ -205,25 +230,25 @@ none_noted false x y = refl
 -- ---- one reply more
 
 -- whatever is held is another node's, or of another poll
-apart_from : (es : Entries) (before : Numbers) (named : Names) (next : ℕ) (h : Held) (a : ℕ) (k : Kept) → IsFiled es before named next → kept_at es (before h.number h.node) ≡ None
-    → at_arrival es a ≡ Some k → is_of h k.reply.number k.reply.node ≡ false
+apart_from : (es : Entries) (before : Numbers) (named : Names) (next : ℕ) (h : Held) (a : ℕ) (k : Kept) → IsFiled es before named next → kept_at es (before h.number (key_of h.node)) ≡ None
+    → at_arrival es a ≡ Some k → is_of h k.reply.number (key_of k.reply.node) ≡ false
 apart_from es before named next h a k is new found =
-    false_from_ne_true (is_of h k.reply.number k.reply.node) (λ t.
-    let parts = of_parts h k.reply.number k.reply.node t in
-    let there : before h.number h.node ≡ Some a = ap (λ n. before n h.node) parts.0 ∙ ap (before k.reply.number) parts.1 ∙ is.found a k found in
-    let kept : kept_at es (before h.number h.node) ≡ Some k = ap (kept_at es) there ∙ found in
+    false_from_ne_true (is_of h k.reply.number (key_of k.reply.node)) (λ t.
+    let parts = of_parts h k.reply.number (key_of k.reply.node) t in
+    let there : before h.number (key_of h.node) ≡ Some a = ap (λ n. before n (key_of h.node)) parts.0 ∙ ap (before k.reply.number) parts.1 ∙ is.found a k found in
+    let kept : kept_at es (before h.number (key_of h.node)) ≡ Some k = ap (kept_at es) there ∙ found in
     absurd cc)
 
 -- its number is noted, and there is no memory for it
-pub filed_stale : (es : Entries) (before after : Numbers) (named : Names) (next : ℕ) (h : Held) → IsFiled es before named next → kept_at es (before h.number h.node) ≡ None
-    → ((n : ℕ) (node : List ℕ) → after n node ≡ cond (is_of h n node) (Some next) (before n node)) → IsFiled es after named (next + 1)
+pub filed_stale : (es : Entries) (before after : Numbers) (named : Names) (next : ℕ) (h : Held) → IsFiled es before named next → kept_at es (before h.number (key_of h.node)) ≡ None
+    → ((n : ℕ) (node : NodeKey) → after n node ≡ cond (is_of h n node) (Some next) (before n node)) → IsFiled es after named (next + 1)
 filed_stale es before after named next h is new filed = record {
   sorted = is.sorted;
   below = λ a k found. let low = is.below a k found in omega (arith, low);
   found = λ a k found.
-      filed k.reply.number k.reply.node ∙ ap (λ b. cond b (Some next) (before k.reply.number k.reply.node)) (apart_from es before named next h a k is new found) ∙ is.found a k found;
+      filed k.reply.number (key_of k.reply.node) ∙ ap (λ b. cond b (Some next) (before k.reply.number (key_of k.reply.node))) (apart_from es before named next h a k is new found) ∙ is.found a k found;
   real = λ n node a k at found.
-      let Goal : Bool → Type 0 = λ t. cond t (Some next) (before n node) ≡ Some a → reply_key k.reply ≡ n ∷ node in
+      let Goal : Bool → Type 0 = λ t. cond t (Some next) (before n node) ≡ Some a → (k.reply.number ≡ n) × (key_of k.reply.node ≡ node) in
       (elim (is_of h n node) as Goal [
         | true ↦ λ f. let same : next ≡ a = cc in let low = is.below a k found in absurd (omega (arith, same, low))
         | false ↦ λ f. is.real n node a k f found
@@ -237,10 +262,10 @@ filed_stale es before after named next h is new filed = record {
   named_so = is.named_so;
 }
 
-pub filed_pushed : (es now : Entries) (before after : Numbers) (named names : Names) (next : ℕ) (kept : Kept) → IsFiled es before named next → kept_at es (before kept.reply.number kept.reply.node) ≡ None
+pub filed_pushed : (es now : Entries) (before after : Numbers) (named names : Names) (next : ℕ) (kept : Kept) → IsFiled es before named next → kept_at es (before kept.reply.number (key_of kept.reply.node)) ≡ None
     → IsStrictlySortedBy nat_cmp (keys_of now)
     → ((a : ℕ) → at_arrival now a ≡ cond (is_at (nat_cmp next) a) (Some kept) (at_arrival es a))
-    → ((n : ℕ) (node : List ℕ) → after n node ≡ cond (is_of kept.reply n node) (Some next) (before n node))
+    → ((n : ℕ) (node : NodeKey) → after n node ≡ cond (is_of kept.reply n node) (Some next) (before n node))
     → names kept.reply.id next ≡ true → StaysNamed es named names
     → IsFiled now after names (next + 1)
 filed_pushed es now before after named names next kept is new sorted there filed itself others =
@@ -257,18 +282,18 @@ filed_pushed es now before after named names next kept is new sorted there filed
     record {
       sorted = sorted;
       below = λ a k found. cases (λ a k. a < next + 1) a k found (λ at is_k. omega (arith, at)) (mid.below a k);
-      found = λ a k found. cases (λ a k. after k.reply.number k.reply.node ≡ Some a) a k found
+      found = λ a k found. cases (λ a k. after k.reply.number (key_of k.reply.node) ≡ Some a) a k found
           (λ at is_k.
           let same : h ≡ k.reply = ap (λ (k : Kept). k.reply) is_k in
-          ap (λ (x : Held). after x.number x.node) (sym same) ∙ filed h.number h.node ∙ ap (λ b. cond b (Some next) (before h.number h.node)) (of_itself h) ∙ ap Some at)
+          ap (λ (x : Held). after x.number (key_of x.node)) (sym same) ∙ filed h.number (key_of h.node) ∙ ap (λ b. cond b (Some next) (before h.number (key_of h.node))) (of_itself h) ∙ ap Some at)
           (mid.found a k);
-      real = λ n node a k at found. cases (λ a k. after n node ≡ Some a → reply_key k.reply ≡ n ∷ node) a k found
+      real = λ n node a k at found. cases (λ a k. after n node ≡ Some a → (k.reply.number ≡ n) × (key_of k.reply.node ≡ node)) a k found
           (λ is_a is_k e.
-          let Goal : Bool → Type 0 = λ t. is_of h n node ≡ t → cond t (Some next) (before n node) ≡ Some a → reply_key k.reply ≡ n ∷ node in
+          let Goal : Bool → Type 0 = λ t. is_of h n node ≡ t → cond t (Some next) (before n node) ≡ Some a → (k.reply.number ≡ n) × (key_of k.reply.node ≡ node) in
           (elim (is_of h n node) as Goal [
             | true ↦ λ t f.
                 let parts = of_parts h n node t in
-                ap (λ (k : Kept). reply_key k.reply) (sym is_k) ∙ ap (λ m. m ∷ h.node) parts.0 ∙ ap (λ l. n ∷ l) parts.1
+                (ap (λ (k : Kept). k.reply.number) (sym is_k) ∙ parts.0, ap (λ (k : Kept). key_of k.reply.node) (sym is_k) ∙ parts.1)
             | false ↦ λ t f. let low = is.low n node a f in absurd (omega (arith, low, is_a))
           ]) refl (sym (filed n node) ∙ e))
           (λ f e. mid.real n node a k e f) at;

@@ -4,3 +4,4 @@ pub mod Index
 pub mod Arrivals
 pub mod Roll
 pub mod Keeping
+pub mod Keys

@@ -6,26 +6,28 @@ ghost use Rattle.std.specs.Ordering.{nat_cmp};
 ghost use Rattle.std.specs.List.Sorted.{IsStrictlySortedBy};
 ghost use Rattle.std.specs.Map.{keys_of, remove_entry};
 ghost use Rattle.snow_issue.specs.declared.backlog.Kept.{Kept};
+ghost use Rattle.snow_issue.specs.declared.keys.NodeKey.{NodeKey};
+ghost use Rattle.snow_issue.specs.Kept.Keys.{key_of, key_cmp};
 ghost use Rattle.snow_issue.specs.Kept.Arrivals.{at_arrival, kept_at, woken_among, filed, names, StaysNamed, LeavesEach};
 
 use crate::backlog::{Backlog, Kept};
+use crate::keys::NodeKey;
 use crate::named::Named;
 use crate::work::Held;
 use snow_base::{Id, NodeId};
 use std::alloc::{AllocError, Global};
 use std::collections::BTreeMap;
-use std::collections::btree_map::Entry;
 
 /// The number of a node's reply to a poll, or that of one that left.
 pub(crate) fn number_of(
-    polls: &BTreeMap<u32, BTreeMap<NodeId, u64>>,
+    polls: &BTreeMap<u32, BTreeMap<NodeKey, u64>>,
     number: u32,
     node: &NodeId,
 ) -> Option<u64>
-    ensures { result ≡ filed polls.now number node.now }
+    ensures { result ≡ filed polls.now number (key_of node.now) }
 {
     match polls.get(&number) {
-        Some(nodes) => nodes.get(node).copied(),
+        Some(nodes) => nodes.get(&NodeKey::of(node)).copied(),
         None => None,
     }
 }
@@ -33,49 +35,48 @@ pub(crate) fn number_of(
 /// Notes the number of a reply by its poll and node, and returns `true`. Where a reply of them is
 /// kept, it returns `false`. Then, and on want of memory, all stays as it was.
 pub(crate) fn file(
-    polls: &mut BTreeMap<u32, BTreeMap<NodeId, u64>>,
+    polls: &mut BTreeMap<u32, BTreeMap<NodeKey, u64>>,
     backlog: &Backlog,
     alloc: Global,
     reply: &Held,
     arrival: u64,
 ) -> Result<bool, AllocError>
-    ensures is_new { IfOk result (λ is_new. is_new ≡ is_none (kept_at backlog.now (filed polls.old reply.now.number reply.now.node))) }
-    ensures ok { IfOk result (λ is_new. (n : ℕ) (other : List ℕ) → filed polls.new n other ≡ (if is_at (nat_cmp reply.now.number) n && (is_new && is_at (slice_cmp nat_cmp reply.now.node) other) then Some arrival else filed polls.old n other)) }
-    ensures err { OnErr result ((n : ℕ) (other : List ℕ) → filed polls.new n other ≡ filed polls.old n other) }
+    ensures is_new { IfOk result (λ is_new. is_new ≡ is_none (kept_at backlog.now (filed polls.old reply.now.number (key_of reply.now.node)))) }
+    ensures ok { IfOk result (λ is_new. (n : ℕ) (other : NodeKey) → filed polls.new n other ≡ (if is_at (nat_cmp reply.now.number) n && (is_new && is_at (key_cmp (key_of reply.now.node)) other) then Some arrival else filed polls.old n other)) }
+    ensures err { OnErr result ((n : ℕ) (other : NodeKey) → filed polls.new n other ≡ filed polls.old n other) }
 {
+    let key = NodeKey::of(&reply.node);
     if let Some(nodes) = polls.get_mut(&reply.number) {
-        return enter(nodes, backlog, reply.node, arrival);
+        return enter(nodes, backlog, key, arrival);
     }
     let mut nodes = BTreeMap::new(alloc);
-    nodes.insert(reply.node, arrival)?;
+    nodes.insert(key, arrival)?;
     polls.insert(reply.number, nodes)?;
     Ok(true)
 }
 
-// The same for the nodes of the poll. It looks for the node once.
+// The same for the nodes of the poll. It looks for a new node once.
 fn enter(
-    nodes: &mut BTreeMap<NodeId, u64>,
+    nodes: &mut BTreeMap<NodeKey, u64>,
     backlog: &Backlog,
-    node: NodeId,
+    key: NodeKey,
     arrival: u64,
 ) -> Result<bool, AllocError>
-    ensures is_new { IfOk result (λ is_new. is_new ≡ is_none (kept_at backlog.now (get (slice_cmp nat_cmp) nodes.old node))) }
-    ensures ok { IfOk result (λ is_new. (other : List ℕ) → get (slice_cmp nat_cmp) nodes.new other ≡ (if is_new && is_at (slice_cmp nat_cmp node) other then Some arrival else get (slice_cmp nat_cmp) nodes.old other)) }
-    ensures err { OnErr result ((other : List ℕ) → get (slice_cmp nat_cmp) nodes.new other ≡ get (slice_cmp nat_cmp) nodes.old other) }
+    ensures is_new { IfOk result (λ is_new. is_new ≡ is_none (kept_at backlog.now (get key_cmp nodes.old key))) }
+    ensures ok { IfOk result (λ is_new. (other : NodeKey) → get key_cmp nodes.new other ≡ (if is_new && is_at (key_cmp key) other then Some arrival else get key_cmp nodes.old other)) }
+    ensures err { OnErr result ((other : NodeKey) → get key_cmp nodes.new other ≡ get key_cmp nodes.old other) }
 {
-    match nodes.entry(node)? {
-        Entry::Occupied(entry) => {
-            if backlog.has(*entry.get()) {
-                return Ok(false);
-            }
-            *entry.into_mut() = arrival;
-            Ok(true)
-        }
-        Entry::Vacant(entry) => {
-            let _ = entry.insert(arrival);
-            Ok(true)
-        }
+    let before = nodes.insert(key, arrival)?;
+    let Some(number) = before else {
+        return Ok(true);
+    };
+    if !backlog.has(number) {
+        return Ok(true);
     }
+    if let Some(back) = nodes.get_mut(&key) {
+        *back = number;
+    }
+    Ok(false)
 }
 
 /// Appends a reply to the others, and keeps its number under its block. On want of memory all
@@ -161,7 +162,7 @@ pub(crate) fn drop_one(backlog: &mut Backlog, blocks: &mut BTreeMap<Id, Named>, 
 pub(crate) fn drop_each(
     backlog: &mut Backlog,
     blocks: &mut BTreeMap<Id, Named>,
-    mut nodes: BTreeMap<NodeId, u64>,
+    mut nodes: BTreeMap<NodeKey, u64>,
 )
     ensures { LeavesEach backlog.old (names blocks.old) nodes backlog.new (names blocks.new) }
 {

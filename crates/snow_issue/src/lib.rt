@@ -6,6 +6,7 @@ mod arrivals;
 mod backlog;
 mod bubbling;
 mod gone;
+mod keys;
 mod laws;
 mod looking;
 mod named;

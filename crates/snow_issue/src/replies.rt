@@ -8,6 +8,7 @@ ghost use Rattle.snow_issue.specs.Kept.Keeping.{StaysQuiet};
 ghost use Rattle.snow_issue.specs.Kept.Known.{items_of};
 
 use crate::backlog::{Backlog, Kept};
+use crate::keys::NodeKey;
 use crate::named::Named;
 use crate::waiting::WaitingList;
 use crate::work::Held;
@@ -26,7 +27,7 @@ pub(crate) struct Replies {
     alloc: Global,
     backlog: Backlog,
     blocks: BTreeMap<Id, Named>,
-    polls: BTreeMap<u32, BTreeMap<NodeId, u64>>,
+    polls: BTreeMap<u32, BTreeMap<NodeKey, u64>>,
     next: u64,
 }
 

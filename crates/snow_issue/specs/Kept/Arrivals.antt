@@ -1,5 +1,5 @@
 -- Held replies by their numbers of arrival, and the indexes of these numbers: by block, and by poll and node.
-use Rattle.std.specs.Prelude.{◌≡◌, ℕ, ◌+◌, ◌<◌, ◌≤◌, Bool, true, false, ◌==◌, ◌&&◌, List, ◌∷◌, not, filter, Option, Some, bytes_eq, if◌then◌else◌}
+use Rattle.std.specs.Prelude.{◌≡◌, ℕ, ◌+◌, ◌<◌, ◌≤◌, Bool, true, false, ◌==◌, ◌&&◌, List, not, filter, Option, Some, bytes_eq, if◌then◌else◌}
 use Rattle.std.specs.BinaryHeap.{IsHeap}
 use Rattle.std.specs.BTreeMap.{BTreeMap, get, is_at}
 use Rattle.std.specs.Cmp.Lexicographic.{slice_cmp}
@@ -9,7 +9,9 @@ use Rattle.std.specs.Map.{lookup, keys_of, values_of}
 use Rattle.std.specs.Option.{option_map_or, option_and_then}
 use Rattle.std.specs.Ordering.{nat_cmp}
 use Rattle.snow_issue.specs.declared.backlog.Kept.{Kept}
+use Rattle.snow_issue.specs.declared.keys.NodeKey.{NodeKey}
 use Rattle.snow_issue.specs.declared.work.Held.{Held}
+use Rattle.snow_issue.specs.Kept.Keys.{key_of, key_cmp}
 use Rattle.snow_lineup.specs.declared.marks.Mark.{Mark}
 use Rattle.snow_lineup.specs.declared.marks.Mark.TheVariants.{New, Quiet}
 
@@ -74,7 +76,7 @@ BlockMap = BTreeMap (List ℕ) (List ℕ)
 
 -- the numbers of the replies to a poll, by node
 abbrev pub PollMap : Type 0
-PollMap = BTreeMap ℕ (BTreeMap (List ℕ) ℕ)
+PollMap = BTreeMap ℕ (BTreeMap NodeKey ℕ)
 
 -- whether a number is in a list
 abbrev pub is_among : List ℕ → ℕ → Bool
@@ -91,24 +93,20 @@ names blocks id a = has_number_in (get (slice_cmp nat_cmp) blocks id) a
 abbrev pub StaysNamed : Entries → (List ℕ → ℕ → Bool) → (List ℕ → ℕ → Bool) → Type 0
 StaysNamed es before now = (id : List ℕ) (a : ℕ) (k : Kept) → at_arrival es a ≡ Some k → before id a ≡ true → now id a ≡ true
 
-abbrev pub number_of_node : Option (BTreeMap (List ℕ) ℕ) → List ℕ → Option ℕ
-number_of_node nodes node = option_and_then (λ m. get (slice_cmp nat_cmp) m node) nodes
+abbrev pub number_of_node : Option (BTreeMap NodeKey ℕ) → NodeKey → Option ℕ
+number_of_node nodes key = option_and_then (λ m. get key_cmp m key) nodes
 
 -- the number of a node's reply to a poll
-abbrev pub filed : PollMap → ℕ → List ℕ → Option ℕ
-filed polls n node = number_of_node (get nat_cmp polls n) node
-
--- the number of a reply's poll, and its node, in one list
-abbrev pub reply_key : Held → List ℕ
-reply_key h = h.number ∷ h.node
+abbrev pub filed : PollMap → ℕ → NodeKey → Option ℕ
+filed polls n key = number_of_node (get nat_cmp polls n) key
 
 -- each number is below the next one, the numbers by poll and node are those of the replies or of some that left, and each is kept under its block
-pub record IsFiled (es : Entries) (number_at : ℕ → List ℕ → Option ℕ) (named : List ℕ → ℕ → Bool) (next : ℕ) : Type 0 where
+pub record IsFiled (es : Entries) (number_at : ℕ → NodeKey → Option ℕ) (named : List ℕ → ℕ → Bool) (next : ℕ) : Type 0 where
   pub sorted : IsStrictlySortedBy nat_cmp (keys_of es)
   pub below : (a : ℕ) (k : Kept) → at_arrival es a ≡ Some k → a < next
-  pub found : (a : ℕ) (k : Kept) → at_arrival es a ≡ Some k → number_at k.reply.number k.reply.node ≡ Some a
-  pub real : (n : ℕ) (node : List ℕ) (a : ℕ) (k : Kept) → number_at n node ≡ Some a → at_arrival es a ≡ Some k → reply_key k.reply ≡ n ∷ node
-  pub low : (n : ℕ) (node : List ℕ) (a : ℕ) → number_at n node ≡ Some a → a < next
+  pub found : (a : ℕ) (k : Kept) → at_arrival es a ≡ Some k → number_at k.reply.number (key_of k.reply.node) ≡ Some a
+  pub real : (n : ℕ) (key : NodeKey) (a : ℕ) (k : Kept) → number_at n key ≡ Some a → at_arrival es a ≡ Some k → (k.reply.number ≡ n) × (key_of k.reply.node ≡ key)
+  pub low : (n : ℕ) (key : NodeKey) (a : ℕ) → number_at n key ≡ Some a → a < next
   pub named_so : (a : ℕ) (k : Kept) → at_arrival es a ≡ Some k → named k.reply.id a ≡ true
 
 -- whether a reply isn't of a poll
@@ -116,23 +114,23 @@ abbrev pub stays : ℕ → ℕ × Kept → Bool
 stays number e = not (e.1.reply.number == number)
 
 -- nodes has the numbers of all replies to a poll, and of no other reply
-pub record AreNodesOf (number : ℕ) (es : Entries) (nodes : BTreeMap (List ℕ) ℕ) : Type 0 where
-  pub all : (a : ℕ) (k : Kept) → at_arrival es a ≡ Some k → k.reply.number ≡ number → get (slice_cmp nat_cmp) nodes k.reply.node ≡ Some a
-  pub only : (node : List ℕ) (a : ℕ) (k : Kept) → get (slice_cmp nat_cmp) nodes node ≡ Some a → at_arrival es a ≡ Some k → reply_key k.reply ≡ number ∷ node
+pub record AreNodesOf (number : ℕ) (es : Entries) (nodes : BTreeMap NodeKey ℕ) : Type 0 where
+  pub all : (a : ℕ) (k : Kept) → at_arrival es a ≡ Some k → k.reply.number ≡ number → get key_cmp nodes (key_of k.reply.node) ≡ Some a
+  pub only : (key : NodeKey) (a : ℕ) (k : Kept) → get key_cmp nodes key ≡ Some a → at_arrival es a ≡ Some k → k.reply.number ≡ number
 
 -- replies of a poll go one by one: those of other polls stay, and nodes has the numbers of those that are left
-pub record IsLeaving (number : ℕ) (before now : Entries) (nodes : BTreeMap (List ℕ) ℕ) (number_at : ℕ → List ℕ → Option ℕ) (named : List ℕ → ℕ → Bool) (next : ℕ) : Type 0 where
+pub record IsLeaving (number : ℕ) (before now : Entries) (nodes : BTreeMap NodeKey ℕ) (number_at : ℕ → NodeKey → Option ℕ) (named : List ℕ → ℕ → Bool) (next : ℕ) : Type 0 where
   pub filed : IsFiled now number_at named next
   pub left : AreNodesOf number now nodes
   pub same : filter (stays number) now ≡ filter (stays number) before
 
 -- the replies of a poll went
-pub record AreGone (number : ℕ) (before now : Entries) (number_at : ℕ → List ℕ → Option ℕ) (named : List ℕ → ℕ → Bool) (next : ℕ) : Type 0 where
+pub record AreGone (number : ℕ) (before now : Entries) (number_at : ℕ → NodeKey → Option ℕ) (named : List ℕ → ℕ → Bool) (next : ℕ) : Type 0 where
   pub filed : IsFiled now number_at named next
   pub none : (a : ℕ) (k : Kept) → at_arrival now a ≡ Some k → k.reply.number ≡ number → ⊥
   pub same : filter (stays number) now ≡ filter (stays number) before
 
 -- whichever poll it is whose nodes have these numbers, its replies went
-abbrev pub LeavesEach : Entries → (List ℕ → ℕ → Bool) → BTreeMap (List ℕ) ℕ → Entries → (List ℕ → ℕ → Bool) → Type 0
+abbrev pub LeavesEach : Entries → (List ℕ → ℕ → Bool) → BTreeMap NodeKey ℕ → Entries → (List ℕ → ℕ → Bool) → Type 0
 LeavesEach before named nodes now names =
-    (number : ℕ) (number_at : ℕ → List ℕ → Option ℕ) (next : ℕ) → IsFiled before number_at named next → AreNodesOf number before nodes → AreGone number before now number_at names next
+    (number : ℕ) (number_at : ℕ → NodeKey → Option ℕ) (next : ℕ) → IsFiled before number_at named next → AreNodesOf number before nodes → AreGone number before now number_at names next

@@ -1,10 +1,11 @@
-use Rattle.std.proofs.Common.{ℕ, List, Option, length}
+use Rattle.std.proofs.Common.{ℕ, Option, length}
+use Rattle.snow_issue.specs.declared.keys.NodeKey.{NodeKey}
 use Rattle.snow_issue.specs.Kept.Arrivals.{IsFiled, AreNodesOf, IsLeaving, names}
 use Rattle.snow_issue.proofs.arrivals.drop_each.Given as goal
 
 abbrev pub invariant-loop-arrival : goal.invariant-loop-arrival
 invariant-loop-arrival l =
-    (number : ℕ) (number_at : ℕ → List ℕ → Option ℕ) (next : ℕ) → IsFiled l.initial.backlog number_at (names l.initial.blocks) next → AreNodesOf number l.initial.backlog l.initial.nodes
+    (number : ℕ) (number_at : ℕ → NodeKey → Option ℕ) (next : ℕ) → IsFiled l.initial.backlog number_at (names l.initial.blocks) next → AreNodesOf number l.initial.backlog l.initial.nodes
     → IsLeaving number l.initial.backlog l.backlog l.nodes number_at (names l.blocks) next
 
 abbrev pub decreases-loop-arrival : goal.decreases-loop-arrival

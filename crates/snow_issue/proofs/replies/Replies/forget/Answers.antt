@@ -7,6 +7,10 @@ use Rattle.snow_issue.proofs.Departed.{nodes_of, filed_without, none_gone, gone_
 use Rattle.snow_issue.proofs.replies.Replies.forget.Goals as goal
 use Rattle.snow_issue.proofs.replies.Replies.forget.Goals.{After-drop_each}
 
+pub invariant_of-self : goal.invariant_of-self
+invariant_of-self c = filed_without c.self.inside.backlog c.self.inside.polls c.remove.new.self (names c.self.inside.blocks) c.args.number c.self.inside.next c.self.invariant
+    (none_gone c.self.inside.backlog c.self.inside.polls (names c.self.inside.blocks) c.args.number c.self.inside.next c.self.invariant (sym c.in_default.ensures.value)).none c.in_default.ensures.updates.0
+
 pub returns-in_default : goal.returns-in_default
 returns-in_default c =
     let inside = c.self.inside in

@@ -1,9 +1,10 @@
 -- The new reply has the next number; after want of memory none has it.
 use Rattle.std.proofs.Common.{◌≡◌, ℕ, ◌+◌, None, Some, not, ◌&&◌, cond, List, [], ◌∷◌, ◌++◌, sym, ap, ◌∙◌, subst}
 use Rattle.std.specs.BTreeMap.{is_at}
-use Rattle.std.specs.Cmp.Lexicographic.{slice_cmp}
 use Rattle.std.specs.Ordering.{nat_cmp}
+use Rattle.snow_issue.specs.declared.keys.NodeKey.{NodeKey}
 use Rattle.snow_issue.specs.declared.work.Held.{Held}
+use Rattle.snow_issue.specs.Kept.Keys.{key_of, key_cmp}
 use Rattle.snow_lineup.specs.declared.marks.Mark.{Mark}
 use Rattle.snow_issue.specs.Model.Lists.{holds_in}
 use Rattle.snow_issue.specs.Kept.Known.{items_of}
@@ -13,13 +14,13 @@ use Rattle.snow_issue.proofs.Seated.{seats_pushed}
 use Rattle.snow_issue.proofs.replies.Replies.push.Goals as goal
 use Rattle.snow_issue.proofs.replies.Replies.push.Goals.{In_ok-is_new, After-keep_reply}
 
-new : (c : After-keep_reply) → kept_at c.self.inside.backlog (filed c.self.inside.polls c.args.kept.reply.number c.args.kept.reply.node) ≡ None
-new c = none_from (kept_at c.self.inside.backlog (filed c.self.inside.polls c.args.kept.reply.number c.args.kept.reply.node)) (sym c.if-not-is_new.false ∙ c.in_ok-is_new.ensures.is_new)
+new : (c : After-keep_reply) → kept_at c.self.inside.backlog (filed c.self.inside.polls c.args.kept.reply.number (key_of c.args.kept.reply.node)) ≡ None
+new c = none_from (kept_at c.self.inside.backlog (filed c.self.inside.polls c.args.kept.reply.number (key_of c.args.kept.reply.node))) (sym c.if-not-is_new.false ∙ c.in_ok-is_new.ensures.is_new)
 
-filed_so : (c : After-keep_reply) (n : ℕ) (node : List ℕ) → filed c.file.new.polls n node ≡ cond (is_of c.args.kept.reply n node) (Some c.self.inside.next) (filed c.self.inside.polls n node)
+filed_so : (c : After-keep_reply) (n : ℕ) (node : NodeKey) → filed c.file.new.polls n node ≡ cond (is_of c.args.kept.reply n node) (Some c.self.inside.next) (filed c.self.inside.polls n node)
 filed_so c n node =
     c.in_ok-is_new.ensures.ok n node
-    ∙ ap (λ b. cond (is_at (nat_cmp c.args.kept.reply.number) n && (b && is_at (slice_cmp nat_cmp c.args.kept.reply.node) node)) (Some c.self.inside.next) (filed c.self.inside.polls n node)) c.if-not-is_new.false
+    ∙ ap (λ b. cond (is_at (nat_cmp c.args.kept.reply.number) n && (b && is_at (key_cmp (key_of c.args.kept.reply.node)) node)) (Some c.self.inside.next) (filed c.self.inside.polls n node)) c.if-not-is_new.false
 
 is_new : (c : In_ok-is_new) → c.in_ok-is_new.is_new ≡ not (holds_in (items_of c.args.self.now) c.args.kept.reply.number c.args.kept.reply.node)
 is_new c =
@@ -29,13 +30,18 @@ is_new c =
     ∙ new_without inside.backlog (filed inside.polls) (names inside.blocks) inside.next reply.number reply.node c.self.invariant
     ∙ ap (λ (l : List (Held × Mark)). not (holds_in (items_of l) reply.number reply.node)) c.self.view_is
 
+pub invariant_of-self : goal.invariant_of-self
+invariant_of-self c =
+    let inside = c.self.inside in
+    filed_same inside.backlog (filed inside.polls) (filed c.file.new.polls) (names inside.blocks) inside.next c.self.invariant c.in_err-is_new.ensures.err
+
 pub invariant_of-self-then-not-is_new : goal.invariant_of-self-then-not-is_new
 invariant_of-self-then-not-is_new c =
     let inside = c.self.inside in
     let reply = c.args.kept.reply in
     filed_same inside.backlog (filed inside.polls) (filed c.file.new.polls) (names inside.blocks) inside.next c.self.invariant
     (λ n node. c.in_ok-is_new.ensures.ok n node
-    ∙ ap (λ b. cond (is_at (nat_cmp reply.number) n && (b && is_at (slice_cmp nat_cmp reply.node) node)) (Some inside.next) (filed inside.polls n node)) c.if-not-is_new.true
+    ∙ ap (λ b. cond (is_at (nat_cmp reply.number) n && (b && is_at (key_cmp (key_of reply.node)) node)) (Some inside.next) (filed inside.polls n node)) c.if-not-is_new.true
     ∙ none_noted (is_at (nat_cmp reply.number) n) (Some inside.next) (filed inside.polls n node))
 
 pub invariant_of-self-in_err-keep_reply : goal.invariant_of-self-in_err-keep_reply
