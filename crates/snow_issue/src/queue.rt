@@ -238,11 +238,26 @@ impl Queue {
         Some(id)
     }
 
+    /// Holds a reply of a node that has none held for this poll. On want of memory it returns
+    /// `AllocError`, and all stays as it was.
+    /// Rule: AvalancheGo, snow/engine/snowman.
+    pub fn hold(&mut self, reply: Held) -> Result<(), AllocError>
+        requires { holds_in self.old.held reply.number reply.node ≡ false }
+        ensures lists { OnOk result (lists_of self.new ≡ after_held (lists_of self.old) reply) }
+        ensures err { OnErr result (self.new ≡ self.old) }
+        ensures knows { (b : model.Board) → Knows self.old b → Knows self.new b }
+        ensures seats { self.new.seats ≡ self.old.seats }
+        ensures limits { AreWithinLimits (lists_of self.new) }
+    {
+        let _is_new = self.hold_once(reply)?;
+        Ok(())
+    }
+
     /// Holds a reply, and returns `true`. It returns `false` exactly where a reply of its node to
     /// its poll is held already, and all stays as it was then. On want of memory it returns
     /// `AllocError`, and all stays as it was too.
     /// Rule: AvalancheGo, snow/engine/snowman.
-    pub fn hold(&mut self, reply: Held) -> Result<bool, AllocError>
+    pub fn hold_once(&mut self, reply: Held) -> Result<bool, AllocError>
         ensures is_new { IfOk result (λ is_new. is_new ≡ not (holds_in self.old.held reply.number reply.node)) }
         ensures lists { IfOk result (λ is_new. lists_of self.new ≡ (if is_new then after_held (lists_of self.old) reply else lists_of self.old)) }
         ensures again { result ≡ Ok false → self.new ≡ self.old }

@@ -304,7 +304,7 @@ impl<C: Chain, B: Board> Running<C, B> {
             IfOk result (λ is_new. self.new ≡ (if is_new then record self.old { queue = after_held self.old.queue reply } else self.old)) }
     {
         let node = *peer;
-        if !self.queue.hold(Held { number, node, id })? {
+        if !self.queue.hold_once(Held { number, node, id })? {
             return Ok(false);
         }
         self.queue_state = self.queue_state.woken();
