@@ -92,8 +92,10 @@ pub(crate) fn ask(queue: &mut Queue, number: u32, id: u16) -> Result<(), AllocEr
 
 pub(crate) fn hold(queue: &mut Queue, number: u32, id: u16) -> Result<(), AllocError> {
     let (node, id) = (node(), named(id));
-    let _ = queue.hold(Held { number, node, id })?;
-    Ok(())
+    if queue.holds(number, &node) {
+        return Ok(());
+    }
+    queue.hold(Held { number, node, id })
 }
 
 pub(crate) fn issue<B: Board>(board: &mut B, id: u16, parent: u16) -> Result<(), AllocError> {
