@@ -7,8 +7,8 @@ use Rattle.std.proofs.lemmas.Bool.{cases_lt}
 use Rattle.std.proofs.lemmas.Bool.Decides.{nat_tests}
 use Rattle.std.proofs.lemmas.Nat.{div-add-mod', mod_below, pow_pos}
 use Rattle.std.proofs.lemmas.Nat.Bits.{bit_at-lt, bit_at_cat_low, bit_at_cat_high, bit_at_above}
-use Rattle.snow_base.specs.Model.Identifier.{bit, bit_cmp, AgreeFrom, FirstDiffers}
-use Rattle.snow_base.specs.Kept.Words.{high_first, IsWord, eight_from}
+use Rattle.snow_base.specs.Model.Identifier.{bit, bit_cmp, AgreeFrom, FirstDiffers, eight_from}
+use Rattle.snow_base.specs.Kept.Words.{high_first, IsWord}
 use Rattle.snow_base.proofs.Bits.{bit_cmp-first, same_if_tested}
 
 -- ---- the bits of eight bytes

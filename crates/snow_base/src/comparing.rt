@@ -2,7 +2,8 @@
 ghost use Rattle.std.specs.Prelude.{◌≡◌, ◌+◌, ◌-◌, ◌≤◌, length, bytes_eq, slice_index};
 ghost use Rattle.std.specs.Cmp.Lexicographic.{slice_cmp};
 ghost use Rattle.std.specs.Ordering.{nat_cmp};
-ghost use Rattle.snow_base.specs.Kept.Words.{eight_from, high_first};
+ghost use Rattle.snow_base.specs.Kept.Words.{high_first};
+ghost use Rattle.snow_base.specs.Model.Identifier.{eight_from};
 
 use std::cmp::Ordering;
 

@@ -1,6 +1,7 @@
-ghost use Rattle.std.specs.Prelude.{◌≡◌, length};
+ghost use Rattle.std.specs.Prelude.{◌≡◌, ◌≤◌, length};
+ghost use Rattle.snow_base.specs.Model.Identifier.{word_at};
 
-use crate::comparing::{are_equal, order};
+use crate::comparing::{are_equal, eight, order};
 use std::cmp::Ordering;
 use std::marker::Model;
 
@@ -85,5 +86,14 @@ impl NodeId {
         ensures length { length self.now ≡ 20 }
     {
         &self.bytes
+    }
+    /// Returns the eight bytes from place `from` on as a number, the first one the lowest. `from`
+    /// is at most 12.
+    /// Rule: this project's own.
+    pub fn word(&self, from: usize) -> u64
+        requires { from ≤ 12 }
+        ensures { result ≡ word_at from self.now }
+    {
+        u64::from_le_bytes(eight(&self.bytes, from))
     }
 }

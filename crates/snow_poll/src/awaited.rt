@@ -1,7 +1,7 @@
 ghost use Rattle.std.specs.Prelude.{◌≡◌, ℕ, ◌+◌, ◌^◌, ◌<◌, ◌≤◌, List, [], ◌∷◌, ◌++◌, length, map, None, Some, bytes_eq, if◌then◌else◌, true, vec_capacity, IfOk, OnOk};
 ghost use Rattle.std.specs.Option.{ForSome, is_some};
 ghost use Rattle.snow_sample.specs.Model.Sampling.{AreOfDistinctNodes};
-ghost use Rattle.snow_poll.specs.Kept.Awaited.{counts_at, draw_of, word_at, spread_of, class_of, number_in, AreWaits, IsNumberOf, AreNumbers};
+ghost use Rattle.snow_poll.specs.Kept.Awaited.{counts_at, draw_of, spread_of, class_of, number_in, AreWaits, IsNumberOf, AreNumbers};
 ghost use Rattle.snow_poll.specs.Kept.Tallied.{HasTimes};
 
 use snow_base::NodeId;
@@ -249,29 +249,10 @@ fn class(node: &NodeId, mask: u64) -> usize
 }
 
 // The sum of a node's first eight bytes and its last eight, which may count nodes, spread by a product.
-// They are read as they are where nodes are compared, which isn't done byte by byte then.
 fn spread(node: &NodeId) -> u64
     ensures { result ≡ spread_of node.now }
 {
-    let bytes = node.as_bytes();
-    word(bytes, 0)
-        .wrapping_add(word(bytes, 12))
+    node.word(0)
+        .wrapping_add(node.word(12))
         .wrapping_mul(0x9e37_79b9_7f4a_7c15)
-}
-
-// Eight bytes as a number, the first one the lowest.
-fn word(bytes: &[u8; 20], from: usize) -> u64
-    requires { from ≤ 12 }
-    ensures { result ≡ word_at from bytes.now }
-{
-    u64::from_le_bytes([
-        bytes[from],
-        bytes[from + 1],
-        bytes[from + 2],
-        bytes[from + 3],
-        bytes[from + 4],
-        bytes[from + 5],
-        bytes[from + 6],
-        bytes[from + 7],
-    ])
 }

@@ -3,9 +3,14 @@ ghost use Rattle.std.specs.Io.KnownBytes.{IsAtEnd, Keeps};
 ghost use Rattle.snow_base.specs.Clauses.Outside.{HasCause};
 ghost use Rattle.snow_wire.specs.Clauses.Filling.{TakesIn};
 
+use snow_base::limits::{FRAME_BYTES, PIECE_BYTES};
 use snow_base::{Failed, Source};
 use std::alloc::{AllocError, Global};
 use std::marker::Model;
+
+/// The longest frame with its length word, and a piece behind it. Room for these is mostly enough, so
+/// that beyond it only what is wanted is filled with zeros.
+const MOSTLY_ENOUGH: usize = 4 + FRAME_BYTES as usize + PIECE_BYTES;
 
 /// Bytes, and room behind them into which a source can read. The room is filled with zeros once,
 /// when it is made, and never cleared. Contracts see the bytes, and how many more fit.
@@ -78,7 +83,7 @@ impl Buffer {
         if more <= self.room() {
             return Ok(());
         }
-        let twice = self.bytes.len().saturating_mul(2);
+        let twice = self.bytes.len().saturating_mul(2).min(MOSTLY_ENOUGH);
         let size = twice.max(self.len + more);
         self.bytes.resize(size, 0)?;
         Ok(())

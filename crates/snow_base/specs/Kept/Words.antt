@@ -1,5 +1,5 @@
 -- Bytes that are read eight at a time, as one number.
-use Rattle.std.specs.Prelude.{◌≡◌, ℕ, zero, suc, ◌+◌, ◌*◌, ◌<◌, List, [], ◌∷◌, ◌==◌, get_or}
+use Rattle.std.specs.Prelude.{◌≡◌, ℕ, zero, suc, ◌+◌, ◌*◌, ◌<◌, List, ◌==◌}
 use Rattle.std.specs.Int.{bit_at}
 use Rattle.snow_base.specs.Model.Identifier.{bit}
 
@@ -11,9 +11,3 @@ high_first f (suc n) = high_first f n * 256 + f n
 -- the bits of x are 64 bits of an identifier, from bit 64 * at on
 abbrev pub IsWord : List ℕ → ℕ → ℕ → Type 0
 IsWord id at x = (k : ℕ) → k < 64 → (bit_at x k == 1) ≡ bit id (64 * at + k)
-
--- the eight bytes from a place on
-abbrev pub eight_from : List ℕ → ℕ → List ℕ
-eight_from bytes from =
-    get_or bytes from 0 ∷ get_or bytes (from + 1) 0 ∷ get_or bytes (from + 2) 0 ∷ get_or bytes (from + 3) 0
-    ∷ get_or bytes (from + 4) 0 ∷ get_or bytes (from + 5) 0 ∷ get_or bytes (from + 6) 0 ∷ get_or bytes (from + 7) 0 ∷ []

@@ -1,10 +1,10 @@
 -- The nodes that a poll awaits, in classes.
-use Rattle.std.specs.Prelude.{◌≡◌, ℕ, ◌+◌, ◌-◌, ◌*◌, ◌/◌, ◌%◌, ◌^◌, ◌<◌, ◌≤◌, true, false, List, [], ◌∷◌, length, map, fold, bytes_eq, bit_and, bit_xor, slice_index, slice_index_or, Option, Some, None, if◌then◌else◌}
+use Rattle.std.specs.Prelude.{◌≡◌, ℕ, ◌+◌, ◌-◌, ◌*◌, ◌/◌, ◌%◌, ◌^◌, ◌<◌, ◌≤◌, true, false, List, length, map, fold, bytes_eq, bit_and, bit_xor, slice_index_or, Option, Some, None, if◌then◌else◌}
 use Rattle.std.specs.BTreeMap.{BTreeMap, get}
 use Rattle.std.specs.Cmp.Lexicographic.{slice_cmp}
-use Rattle.std.specs.Int.{w64, from_le_bytes}
 use Rattle.std.specs.Option.{unwrap_or}
 use Rattle.std.specs.Ordering.{nat_cmp}
+use Rattle.snow_base.specs.Model.Identifier.{word_at}
 use Rattle.snow_sample.specs.declared.draws.Draw.{Draw}
 use Rattle.snow_sample.specs.Kept.Chains.{AreChained}
 use Rattle.snow_poll.specs.declared.awaited.Wait.{Wait}
@@ -20,15 +20,6 @@ count_left w = if w.replied then None else Some w.count
 -- how often a node was drawn that is awaited: its last entry counts
 abbrev pub counts_at : List Wait → List ℕ → Option ℕ
 counts_at waits node = fold (λ found w. if bytes_eq w.node node then count_left w else found) None waits
-
--- eight bytes from one on as a number, the first one the lowest
-abbrev pub word_at : ℕ → List ℕ → ℕ
-word_at from bytes =
-    from_le_bytes w64
-    (
-    slice_index bytes from ∷ slice_index bytes (from + 1) ∷ slice_index bytes (from + 2) ∷ slice_index bytes (from + 3)
-    ∷ slice_index bytes (from + 4) ∷ slice_index bytes (from + 5) ∷ slice_index bytes (from + 6) ∷ slice_index bytes (from + 7) ∷ []
-    )
 
 -- the sum of a node's first eight bytes and its last eight, spread by a product
 unfoldable pub spread_of : List ℕ → ℕ

@@ -5,4 +5,4 @@ use Rattle.snow_poll.proofs.awaited.spread.Goals as goal
 
 pub returns : goal.returns
 unfolding spread_of
-returns c = rw (c.word.ensures, c.word-2.ensures, c.as_bytes-bytes.ensures.bytes) refl
+returns c = rw (c.word.ensures, c.word-2.ensures) refl
