@@ -75,7 +75,8 @@ fn bytes_of(alloc: Global, parent: &Id, numbers: [u64; 3]) -> Result<Bytes, Allo
     ensures { IfOk result (λ bytes. bytes ≡ bytes_of parent.now (slice_index numbers 0) (slice_index numbers 1) (slice_index numbers 2)) }
 {
     let [height, amount, number] = numbers;
-    let mut bytes = Bytes::from_slice(alloc, parent.as_bytes())?;
+    let mut bytes = Bytes::with_capacity(alloc, 56)?;
+    bytes.append(parent.as_bytes())?;
     bytes.append(&height.to_be_bytes())?;
     bytes.append(&amount.to_be_bytes())?;
     bytes.append(&number.to_be_bytes())?;

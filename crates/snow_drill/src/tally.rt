@@ -158,7 +158,7 @@ fn count(number: &mut u64) -> Result<(), AllocError>
 fn nodes_of(alloc: Global, draws: &Draws) -> Result<Items<NodeId>, AllocError>
     ensures { IfOk result (λ nodes. nodes ≡ map (λ draw. draw.node) draws.now) }
 {
-    let mut nodes = Items::new(alloc);
+    let mut nodes = Items::with_capacity(alloc, draws.list().len())?;
     for draw in draws.list() {
         nodes.push(draw.node)?;
     }
