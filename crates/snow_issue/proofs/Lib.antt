@@ -7,16 +7,10 @@ mod OnlyNew
 mod Looked
 mod Preferred
 pub mod Remembered
-mod Stocked
-mod Numbered
-mod Listed
-mod Seated
-mod Departed
-mod Next
 mod Settled
 mod Taken
+mod Walked
 mod Quieted
 mod Resting
-mod Ranged
 mod Stepped
 mod Descending

@@ -8,16 +8,14 @@ use Rattle.std.proofs.lemmas.List.Sums.{position_or_len_is, fails_before_first, 
 use Rattle.snow_board.specs.Model.Board.{Board}
 use Rattle.snow_issue.specs.declared.work.Waiting.{Waiting}
 use Rattle.snow_gets.specs.declared.gets.Get.{Get}
-use Rattle.snow_issue.specs.declared.work.Held.{Held}
 use Rattle.snow_lineup.specs.declared.marks.Mark.{Mark}
 use Rattle.snow_lineup.specs.declared.marks.Mark.TheVariants.{New, Quiet, Ripe}
 use Rattle.snow_gets.specs.Model.Gets.{asked_in}
 use Rattle.snow_issue.specs.Model.Lists.{waits_below}
 use Rattle.snow_issue.specs.Model.Offering.{is_on}
-use Rattle.snow_issue.specs.Model.Settling.{is_hopeless_by, is_ready, is_free_by}
+use Rattle.snow_issue.specs.Model.Settling.{is_hopeless_by, is_ready}
 use Rattle.snow_issue.specs.Kept.Known.{items_of, sight, Tells}
 use Rattle.snow_lineup.specs.Kept.Marks.{has, is_mark}
-use Rattle.snow_issue.specs.Kept.Keeping.{StaysQuiet}
 
 -- ---- places
 
@@ -164,21 +162,6 @@ tells_set gets board seats at w mark d there is h tells =
     subst (λ (l : List Waiting). All (Tells l gets board) after) (sym (items_set seats at w mark d there is))
     (All-set (Tells (items_of seats) gets board) seats at (w, mark) (told (items_of seats) gets board w mark h) tells)
 
--- ---- held replies
-
-quiet_fails : (waiting : List Waiting) (gets : List Get) (h : Held) (mark : Mark) → StaysQuiet waiting gets (h, mark) → is_mark New mark ≡ false → is_free_by waiting gets h ≡ false
-quiet_fails waiting gets h New r old = absurd cc
-quiet_fails waiting gets h Quiet r old = r
-quiet_fails waiting gets h Ripe r old = r
-
-pub known_not_free : (waiting : List Waiting) (gets : List Get) (replies : List (Held × Mark)) → All (StaysQuiet waiting gets) replies → KnownToFail (is_free_by waiting gets) replies
-known_not_free waiting gets replies quiet k d within old =
-    let s = get_or replies k d in quiet_fails waiting gets s.0 s.1 (quiet k d within) old
-
-pub quiet_set : (waiting : List Waiting) (gets : List Get) (replies : List (Held × Mark)) (at : ℕ) (h : Held) → is_free_by waiting gets h ≡ false → All (StaysQuiet waiting gets) replies
-    → All (StaysQuiet waiting gets) (set replies at (h, Quiet))
-quiet_set waiting gets replies at h busy quiet = All-set (StaysQuiet waiting gets) replies at (h, Quiet) busy quiet
-
 -- ---- by what the calls leave
 
 pub tells_after : (gets : List Get) (board : Board) (seats after : List (Waiting × Mark)) (at : ℕ) (mark : Mark) → at < length seats
@@ -190,15 +173,6 @@ tells_after gets board (s ∷ seats) after at mark there is sees tells =
     let all : List (Waiting × Mark) = s ∷ seats in
     subst (λ (l : List (Waiting × Mark)). All (Tells (items_of l) gets board) l) (sym (is s))
     (tells_set gets board all at (get_or all at s).0 mark s there refl (sees s) tells)
-
-pub quiet_after : (waiting : List Waiting) (gets : List Get) (replies after : List (Held × Mark)) (at : ℕ) → at < length replies
-    → ((d : Held × Mark) → after ≡ set replies at ((get_or replies at d).0, Quiet))
-    → ((d : Held × Mark) → is_free_by waiting gets (get_or replies at d).0 ≡ false)
-    → All (StaysQuiet waiting gets) replies → All (StaysQuiet waiting gets) after
-quiet_after waiting gets [] after at there is busy quiet = absurd (omega (arith, there))
-quiet_after waiting gets (s ∷ replies) after at there is busy quiet =
-    let all : List (Held × Mark) = s ∷ replies in
-    subst (λ (l : List (Held × Mark)). All (StaysQuiet waiting gets) l) (sym (is s)) (quiet_set waiting gets all at (get_or all at s).0 (busy s) quiet)
 
 pub smaller_after : {T : Type 0} (seats after : List (T × Mark)) (at : ℕ) (mark : Mark) → is_mark New mark ≡ false → at ≡ position_or_len (has New) seats → at < length seats
     → ((d : T × Mark) → after ≡ set seats at ((get_or seats at d).0, mark))

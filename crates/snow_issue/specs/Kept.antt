@@ -1,7 +1,4 @@
 -- What the code keeps beside the model, and what is always true of it.
 pub mod Known
 pub mod Index
-pub mod Arrivals
-pub mod Roll
 pub mod Keeping
-pub mod Keys

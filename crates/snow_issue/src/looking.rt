@@ -1,25 +1,20 @@
-ghost use Rattle.std.specs.Prelude.{◌≡◌, ◌<◌, true, false, All, length, map, find, IfSome, IsSome};
+ghost use Rattle.std.specs.Prelude.{◌≡◌, ◌<◌, true, false, All, length, find, is_some, if◌then◌else◌};
 ghost use Rattle.std.specs.List.{position_or_len};
-ghost use Rattle.std.specs.List.Sorted.{IsStrictlySortedBy};
-ghost use Rattle.std.specs.Map.{keys_of};
-ghost use Rattle.std.specs.Option.{option_map};
-ghost use Rattle.std.specs.Ordering.{nat_cmp};
 ghost use Rattle.snow_board.specs.Model.Board as model;
 ghost use Rattle.snow_lineup.specs.declared.marks.Mark.TheVariants.{New};
 ghost use Rattle.snow_issue.specs.Model.Settling.{is_hopeless_by, is_free_by};
 ghost use Rattle.snow_issue.specs.Model.Offering.{is_on};
 ghost use Rattle.snow_issue.specs.Kept.Known.{items_of, sight, Tells, NoneNew, NoneRipe};
 ghost use Rattle.snow_lineup.specs.Kept.Marks.{has};
-ghost use Rattle.snow_issue.specs.Kept.Arrivals.{seat_of, IsFirst};
-ghost use Rattle.snow_issue.specs.Kept.Keeping.{StaysQuiet, IsWalked};
+ghost use Rattle.snow_gets.specs.Model.Gets.{without};
+ghost use Rattle.snow_issue.specs.Kept.Keeping.{StaysQuiet};
 
-use crate::backlog::Backlog;
 use crate::offering::is_on;
 use crate::waiting::WaitingList;
-use crate::work::Held;
 use snow_base::{Header, Id};
 use snow_board::Board;
 use snow_gets::Gets;
+use snow_held::{Held, Replies};
 use snow_lineup::Mark;
 
 // What a look at a waiting block tells; nothing where it is hopeless.
@@ -96,27 +91,20 @@ pub(crate) fn is_free(waiting: &WaitingList, gets: &Gets, reply: &Held) -> bool
     !(waiting.waits(&reply.id) || gets.asks_for(&reply.id))
 }
 
-/// The earliest free reply with its number. It is then the first one that is to be looked at: each
-/// before it of which nothing was remembered is looked at.
-pub(crate) fn first_free(
-    backlog: &mut Backlog,
-    waiting: &WaitingList,
-    gets: &Gets,
-) -> Option<(u64, Held)>
-    requires { All (StaysQuiet (items_of waiting.now) gets.now) (map seat_of backlog.old) }
-    ensures found { option_map (λ f. f.1) result ≡ find (is_free_by (items_of waiting.now) gets.now) (items_of (map seat_of backlog.old)) }
-    ensures first { IfSome result (λ f. IsFirst backlog.new f.0 f.1) }
-    ensures place { IsSome result → position_or_len (has New) (map seat_of backlog.new) ≡ position_or_len (is_free_by (items_of waiting.now) gets.now) (items_of (map seat_of backlog.old)) }
-    ensures walked { IsWalked backlog.old backlog.new (items_of waiting.now) gets.now }
-    ensures sorted { IsStrictlySortedBy nat_cmp (keys_of backlog.new) }
+/// Takes the earliest free reply out and returns it, if there is one. It is then the first one that
+/// is to be looked at: each before it of which nothing was remembered is looked at. It takes no
+/// memory.
+pub(crate) fn take_free(replies: &mut Replies, waiting: &WaitingList, gets: &Gets) -> Option<Held>
+    requires { All (StaysQuiet (items_of waiting.now) gets.now) replies.old }
+    ensures found { result ≡ find (is_free_by (items_of waiting.now) gets.now) (items_of replies.old) }
+    ensures left { items_of replies.new ≡ (if is_some result then without (is_free_by (items_of waiting.now) gets.now) (items_of replies.old) else items_of replies.old) }
+    ensures quiet { All (StaysQuiet (items_of waiting.now) gets.now) replies.new }
 {
-    loop {
-        let Some((arrival, reply)) = backlog.first() else {
-            return None;
-        };
+    while let Some(reply) = replies.first() {
         if is_free(waiting, gets, &reply) {
-            return Some((arrival, reply));
+            return replies.take_first();
         }
-        backlog.mark_first_quiet(arrival, reply);
+        replies.mark_first_quiet();
     }
+    None
 }

@@ -6,22 +6,22 @@ ghost use Rattle.snow_gets.specs.declared.gets.Get.{Get};
 ghost use Rattle.snow_issue.specs.declared.work.Waiting.{Waiting};
 ghost use Rattle.snow_issue.specs.declared.gone.Gone.{Gone};
 ghost use Rattle.snow_gets.specs.Model.Gets.{has_number, is_get};
-ghost use Rattle.snow_issue.specs.Model.Lists.{begun, is_asked, holds_in, after_asked, after_closed, after_held, after_forgotten, after_gone, AreWithinLimits};
+ghost use Rattle.snow_held.specs.Model.Replies.{holds_in};
+ghost use Rattle.snow_issue.specs.Model.Lists.{begun, is_asked, after_asked, after_closed, after_held, after_forgotten, after_gone, AreWithinLimits};
 ghost use Rattle.snow_issue.specs.Model.Offering.{is_on, offered, after_offer, refusal, is_next, wanted};
 ghost use Rattle.snow_issue.specs.Model.Settling.{work_of, after, is_free, IsIdle};
 ghost use Rattle.snow_issue.specs.declared.work.Work.TheVariants as work;
 ghost use Rattle.snow_issue.specs.Kept.Known.{lists_of, Knows, ForgetsChildren, NoneRipe, MarksAfter, TakesStep};
 
-use crate::backlog::Kept;
 use crate::gone::{Gone, GoneList};
-use crate::replies::Replies;
 use crate::spare::SpareBytes;
 use crate::waiting::WaitingList;
-use crate::work::{Held, Offered, Waiting, Work};
+use crate::work::{Offered, Waiting, Work};
 use crate::{looking, offering};
 use snow_base::{Bytes, Header, Id, NodeId};
 use snow_board::Board;
 use snow_gets::{Get, Gets};
+use snow_held::{Held, Replies};
 use std::alloc::{AllocError, Global};
 use std::marker::Model;
 
@@ -268,7 +268,7 @@ impl Queue {
     {
         // Mostly its block is asked for. So it needn't be looked at before that changes.
         let quiet = !looking::is_free(&self.waiting, &self.gets, &reply);
-        self.replies.push(Kept { reply, quiet })
+        self.replies.push(reply, quiet)
     }
 
     /// Returns whether a reply of this node to the poll of this number is held.

@@ -13,8 +13,9 @@ use crate::gone::Gone;
 use crate::looking;
 use crate::offering::is_on;
 use crate::queue::Queue;
-use crate::work::{Held, Waiting, Work};
+use crate::work::{Waiting, Work};
 use snow_board::Board;
+use snow_held::Held;
 use snow_lineup::Mark;
 
 impl Queue {
@@ -150,6 +151,6 @@ impl Queue {
         ensures gone { self.new.gone ≡ self.old.gone }
         ensures limits { AreWithinLimits (lists_of self.new) }
     {
-        self.replies.take_free(&self.waiting, &self.gets)
+        looking::take_free(&mut self.replies, &self.waiting, &self.gets)
     }
 }

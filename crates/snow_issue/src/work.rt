@@ -1,4 +1,5 @@
 use snow_base::{Bytes, Header, Id, NodeId};
+use snow_held::Held;
 
 /// A block that waits, of at most 65,536 bytes, and the node that sent it.
 /// Rule: AvalancheGo, snow/engine/snowman.
@@ -7,15 +8,6 @@ pub struct Waiting {
     pub node: NodeId,
     pub header: Header,
     pub bytes: Bytes,
-}
-
-/// A node's reply to the poll of this number, which names a block that waits or is asked for.
-/// Rule: AvalancheGo, snow/engine/snowman.
-#[derive(Clone, Copy, Debug, PartialEq, Eq)]
-pub struct Held {
-    pub number: u32,
-    pub node: NodeId,
-    pub id: Id,
 }
 
 /// What `Queue::offer` did with a block.

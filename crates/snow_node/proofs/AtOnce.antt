@@ -3,13 +3,14 @@ use Rattle.std.proofs.Common.{◌≡◌, ℕ, Bool, true, false, cond, not, ◌&
 use Rattle.snow_flake.specs.Model.Rule.{Answer}
 use Rattle.snow_chain.specs.Model.Chain.{Rules}
 use Rattle.snow_lines.specs.declared.line.Line.{Line}
-use Rattle.snow_issue.specs.declared.work.Held.{Held}
+use Rattle.snow_held.specs.declared.held.Held.{Held}
 use Rattle.snow_issue.specs.declared.work.Waiting.{Waiting}
 use Rattle.snow_issue.specs.declared.work.Work.{Work}
 use Rattle.snow_issue.specs.declared.work.Work.TheVariants as work
 use Rattle.snow_poll.specs.declared.polls.Answered.TheVariants.{Counted, NotAwaited}
 use Rattle.snow_poll.specs.Model.Table.{is_awaited, answer as answer_of}
-use Rattle.snow_issue.specs.Model.Lists.{Lists, after_held, with_waiting, holds_in}
+use Rattle.snow_issue.specs.Model.Lists.{Lists, after_held, with_waiting}
+use Rattle.snow_held.specs.Model.Replies.{holds_in}
 use Rattle.snow_issue.specs.Model.Settling.{work_of, after}
 use Rattle.snow_issue.proofs.Idle.{first_to_do, counts, next_to_do, next_parts, next_waits}
 use Rattle.snow_node.specs.declared.stop.Halt.{Halt}

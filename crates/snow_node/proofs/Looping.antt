@@ -24,7 +24,7 @@ use Rattle.snow_poll.specs.Model.Poll.{Poll}
 use Rattle.snow_poll.specs.Model.Closing.{is_closed}
 use Rattle.snow_poll.specs.Model.Table.{finished, unfinished, voted}
 use Rattle.snow_issue.specs.Model.Bubbling.{bubbled}
-use Rattle.snow_issue.specs.declared.work.Held.{Held}
+use Rattle.snow_held.specs.declared.held.Held.{Held}
 use Rattle.snow_issue.specs.declared.work.Work.{Work}
 use Rattle.snow_issue.specs.declared.work.Work.TheVariants as work
 use Rattle.snow_issue.specs.Model.Lists.{Lists, after_gone, after_forgotten}

@@ -6,7 +6,7 @@ use Rattle.std.specs.Option.{option_map, option_or}
 use Rattle.snow_board.specs.Model.Board.{Board}
 use Rattle.snow_board.proofs.Cases.{split_on, differs_back}
 use Rattle.snow_gets.specs.declared.gets.Get.{Get}
-use Rattle.snow_issue.specs.declared.work.Held.{Held}
+use Rattle.snow_held.specs.declared.held.Held.{Held}
 use Rattle.snow_issue.specs.declared.work.Waiting.{Waiting}
 use Rattle.snow_issue.specs.declared.work.Work.{Work}
 use Rattle.snow_issue.specs.declared.work.Work.TheVariants as work

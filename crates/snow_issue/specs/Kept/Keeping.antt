@@ -1,16 +1,14 @@
 -- What a queue keeps: its limits, and that no held reply it calls quiet is free.
-use Rattle.std.specs.Prelude.{◌≡◌, ℕ, ◌≤◌, false, List, [], All, map, length}
-use Rattle.std.specs.Option.{option_map}
+use Rattle.std.specs.Prelude.{◌≡◌, ◌≤◌, false, List, [], All, length}
 use Rattle.snow_base.specs.declared.limits.TheConstants.{MOST_WAITING, MOST_GETS, MOST_GONE}
 use Rattle.snow_issue.specs.declared.work.Waiting.{Waiting}
 use Rattle.snow_gets.specs.declared.gets.Get.{Get}
-use Rattle.snow_issue.specs.declared.work.Held.{Held}
+use Rattle.snow_held.specs.declared.held.Held.{Held}
 use Rattle.snow_issue.specs.declared.gone.Gone.{Gone}
 use Rattle.snow_lineup.specs.declared.marks.Mark.{Mark}
 use Rattle.snow_lineup.specs.declared.marks.Mark.TheVariants.{New, Quiet, Ripe}
 use Rattle.snow_issue.specs.Model.Lists.{Lists}
 use Rattle.snow_issue.specs.Model.Settling.{is_free_by}
-use Rattle.snow_issue.specs.Kept.Arrivals.{Entries, at_arrival, seat_of}
 use Rattle.snow_issue.specs.Kept.Known.{items_of}
 
 -- the lists without the held replies, of which offering asks nothing
@@ -24,10 +22,9 @@ StaysQuiet waiting gets (h, Quiet) = is_free_by waiting gets h ≡ false
 StaysQuiet waiting gets (h, Ripe) = is_free_by waiting gets h ≡ false
 
 -- a walk over held replies: they are the same, and none is free of which something is remembered
-pub record IsWalked (before now : Entries) (waiting : List Waiting) (gets : List Get) : Type 0 where
-  pub same : items_of (map seat_of now) ≡ items_of (map seat_of before)
-  pub replies : (a : ℕ) → option_map (λ k. k.reply) (at_arrival now a) ≡ option_map (λ k. k.reply) (at_arrival before a)
-  pub quiet : All (StaysQuiet waiting gets) (map seat_of now)
+pub record IsWalked (before now : List (Held × Mark)) (waiting : List Waiting) (gets : List Get) : Type 0 where
+  pub same : items_of now ≡ items_of before
+  pub quiet : All (StaysQuiet waiting gets) now
 
 pub record IsKept (seats : List (Waiting × Mark)) (gets : List Get) (replies : List (Held × Mark)) (gone : List Gone) : Type 0 where
   pub quiet : All (StaysQuiet (items_of seats) gets) replies

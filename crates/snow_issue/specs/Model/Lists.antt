@@ -6,7 +6,7 @@ use Rattle.snow_base.specs.declared.block.Header.{Header}
 use Rattle.snow_issue.specs.declared.work.Waiting.{Waiting}
 use Rattle.snow_gets.specs.declared.gets.Get.{Get}
 use Rattle.snow_gets.specs.Model.Gets.{asked_in, is_get, with_get, without}
-use Rattle.snow_issue.specs.declared.work.Held.{Held}
+use Rattle.snow_held.specs.declared.held.Held.{Held}
 use Rattle.snow_issue.specs.declared.gone.Gone.{Gone}
 use Rattle.snow_issue.specs.Model.Gone.{with_gone}
 
@@ -34,14 +34,6 @@ waits_below waiting child = list_any (λ w. bytes_eq w.header.id child.parent &&
 
 abbrev pub is_asked : Lists → List ℕ → Bool
 is_asked q id = asked_in q.gets id
-
--- whether this is the reply of that node to that poll
-abbrev pub is_reply : ℕ → List ℕ → Held → Bool
-is_reply number node h = (h.number == number) && bytes_eq h.node node
-
--- whether a reply of a node to a poll is held
-abbrev pub holds_in : List Held → ℕ → List ℕ → Bool
-holds_in held number node = list_any (is_reply number node) held
 
 abbrev pub with_waiting : Lists → Waiting → Lists
 with_waiting q w = record q { waiting = q.waiting ++ w ∷ [] }

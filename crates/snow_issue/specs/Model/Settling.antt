@@ -5,7 +5,7 @@ use Rattle.snow_base.specs.declared.block.Header.{Header}
 use Rattle.snow_board.specs.Model.Board.{Board}
 use Rattle.snow_issue.specs.declared.work.Waiting.{Waiting}
 use Rattle.snow_gets.specs.declared.gets.Get.{Get}
-use Rattle.snow_issue.specs.declared.work.Held.{Held}
+use Rattle.snow_held.specs.declared.held.Held.{Held}
 use Rattle.snow_issue.specs.declared.work.Work.{Work}
 use Rattle.snow_issue.specs.declared.work.Work.TheVariants as work
 use Rattle.snow_issue.specs.declared.gone.Gone.{Gone}

@@ -13,7 +13,7 @@ use Rattle.snow_poll.specs.Model.Poll.{Poll}
 use Rattle.snow_poll.specs.Model.Table.{Table}
 use Rattle.snow_issue.specs.declared.gone.Gone.{Gone}
 use Rattle.snow_gets.specs.declared.gets.Get.{Get}
-use Rattle.snow_issue.specs.declared.work.Held.{Held}
+use Rattle.snow_held.specs.declared.held.Held.{Held}
 use Rattle.snow_issue.specs.declared.work.Waiting.{Waiting}
 use Rattle.snow_issue.specs.Model.Lists.{Lists}
 use Rattle.snow_getter.specs.declared.served.Served.{Served}

@@ -12,7 +12,8 @@ use Rattle.snow_issue.specs.declared.work.Waiting.{Waiting}
 use Rattle.snow_issue.specs.declared.work.Offered.{Offered}
 use Rattle.snow_issue.specs.declared.work.Offered.TheVariants as answer
 use Rattle.snow_gets.specs.Model.Gets.{is_get}
-use Rattle.snow_issue.specs.Model.Lists.{Lists, after_asked, after_closed, after_held, holds_in}
+use Rattle.snow_issue.specs.Model.Lists.{Lists, after_asked, after_closed, after_held}
+use Rattle.snow_held.specs.Model.Replies.{holds_in}
 use Rattle.snow_issue.specs.Model.Offering.{offered, after_offer, is_next, wanted}
 use Rattle.snow_issue.specs.Model.Bubbling.{vote_at_once}
 use Rattle.snow_issue.specs.Model.Settling.{IsIdle}

@@ -11,7 +11,7 @@ use Rattle.snow_lines.specs.declared.why.DropWhy.TheVariants as why
 use Rattle.snow_issue.specs.declared.work.Work.{Work}
 use Rattle.snow_issue.specs.declared.work.Work.TheVariants as work
 use Rattle.snow_issue.specs.declared.work.Waiting.{Waiting}
-use Rattle.snow_issue.specs.declared.work.Held.{Held}
+use Rattle.snow_held.specs.declared.held.Held.{Held}
 use Rattle.snow_issue.specs.Model.Lists.{after_gone}
 use Rattle.snow_issue.specs.Model.Settling.{work_of, after}
 use Rattle.snow_issue.specs.Model.Bubbling.{bubbled}

@@ -1,9 +1,10 @@
 ghost use Rattle.std.specs.Prelude.{◌≡◌, Some, true, not, IfOk, IfSome, if◌then◌else◌};
 ghost use Rattle.snow_lines.specs.declared.line.Line.TheVariants as line;
 ghost use Rattle.snow_lines.specs.declared.why.SkipKind.TheVariants as kind;
-ghost use Rattle.snow_issue.specs.declared.work.Held.{Held};
+ghost use Rattle.snow_held.specs.declared.held.Held.{Held};
 ghost use Rattle.snow_issue.specs.declared.work.Waiting.{Waiting as Block};
-ghost use Rattle.snow_issue.specs.Model.Lists.{holds_in, after_held};
+ghost use Rattle.snow_issue.specs.Model.Lists.{after_held};
+ghost use Rattle.snow_held.specs.Model.Replies.{holds_in};
 ghost use Rattle.snow_poll.specs.Model.Table.{is_awaited};
 ghost use Rattle.snow_node.specs.Model.Hearing as model;
 ghost use Rattle.snow_node.specs.Model.Closing.{closed_out};

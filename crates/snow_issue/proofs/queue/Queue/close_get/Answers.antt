@@ -1,7 +1,7 @@
 use Rattle.std.proofs.Common.{List, All, find, map, sym, ap, subst, ◌∙◌}
 use Rattle.snow_issue.specs.declared.work.Waiting.{Waiting}
 use Rattle.snow_gets.specs.declared.gets.Get.{Get}
-use Rattle.snow_issue.specs.declared.work.Held.{Held}
+use Rattle.snow_held.specs.declared.held.Held.{Held}
 use Rattle.snow_lineup.specs.declared.marks.Mark.{Mark}
 use Rattle.snow_gets.specs.Model.Gets.{is_get, without}
 use Rattle.snow_issue.specs.Model.Lists.{Lists, after_closed}

@@ -1,7 +1,7 @@
 -- The children of the block are woken once it is taken out.
 use Rattle.std.proofs.Common.{◌<◌, length, map, get_or, sym, ap, subst, ◌∙◌}
 use Rattle.std.specs.List.{remove}
-use Rattle.snow_issue.specs.declared.work.Held.{Held}
+use Rattle.snow_held.specs.declared.held.Held.{Held}
 use Rattle.snow_issue.specs.Kept.Known.{Seen, items_of}
 use Rattle.snow_lineup.specs.Kept.Index.{woken}
 use Rattle.snow_issue.proofs.Settled.{kept_left}

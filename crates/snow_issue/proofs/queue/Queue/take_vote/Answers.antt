@@ -10,7 +10,7 @@ use Rattle.snow_issue.proofs.queue.Queue.take_vote.Goals as goal
 pub invariant_of-self : goal.invariant_of-self
 invariant_of-self c =
     let inside = c.self.inside in
-    kept_replies inside.waiting inside.gets inside.replies c.take_free.new.self inside.gone c.self.invariant c.take_free.ensures.quiet
+    kept_replies inside.waiting inside.gets inside.replies c.take_free.new.replies inside.gone c.self.invariant c.take_free.ensures.quiet
 
 pub returns-clause-found : goal.returns-clause-found
 returns-clause-found c = c.take_free.ensures.found ∙ ap (λ (s : Seen). find (is_free (lists_of s)) s.held) c.self.view_is

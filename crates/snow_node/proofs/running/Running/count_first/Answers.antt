@@ -1,6 +1,6 @@
 -- A reply that would be the first thing to do is counted where it is awaited.
 use Rattle.std.proofs.Common.{◌≡◌, false, sym, subst, rules}
-use Rattle.snow_issue.specs.Model.Lists.{holds_in}
+use Rattle.snow_held.specs.Model.Replies.{holds_in}
 use Rattle.snow_node.specs.Model.Outcome.{Comes}
 use Rattle.snow_node.specs.Model.Running.{Running}
 use Rattle.snow_node.specs.Clauses.Stepping.{Tells, Turns}

@@ -1,0 +1,6 @@
+mod Stocked
+mod Numbered
+mod Listed
+pub mod Seated
+mod Departed
+mod Ranged

@@ -1,0 +1,2 @@
+-- What is true of the protocol, of its bytes and of its lines.
+pub mod Replies
