@@ -1,5 +1,5 @@
 ghost use Rattle.std.specs.Prelude.{◌≡◌};
-ghost use Rattle.snow_held.specs.Kept.Keys.{key_of, last_of};
+ghost use Rattle.snow_held.specs.Kept.Keys.{key_of};
 
 use snow_base::NodeId;
 
@@ -17,17 +17,8 @@ impl NodeKey {
         ensures { result ≡ key_of node.now }
     {
         NodeKey {
-            last: last_word(node.as_bytes()),
+            last: node.word(12),
             node: *node,
         }
     }
-}
-
-// The last eight bytes as a number, the first one the lowest.
-fn last_word(bytes: &[u8; 20]) -> u64
-    ensures { result ≡ last_of bytes.now }
-{
-    u64::from_le_bytes([
-        bytes[12], bytes[13], bytes[14], bytes[15], bytes[16], bytes[17], bytes[18], bytes[19],
-    ])
 }
