@@ -1,3 +1,1 @@
-pub mod Model
-pub mod Kept
 pub mod Clauses

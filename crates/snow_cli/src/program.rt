@@ -6,16 +6,15 @@ ghost use Rattle.snow_engine.specs.Model.Run.{lines_of, seen, end_of};
 ghost use Rattle.snow_engine.specs.Clauses.Serving as serving;
 ghost use Rattle.snow_audit.specs.Clauses.Answering as auditing;
 ghost use Rattle.snow_audit.specs.Model.Auditing.{audit_of};
-ghost use Rattle.snow_cli.specs.Model.Words.{command_of};
+ghost use Rattle.snow_command.specs.Model.Words.{command_of};
 ghost use Rattle.snow_cli.specs.Clauses.Answer as model;
 
-use crate::command::{ChainName, Command, Job, RuleName};
 use crate::report::report;
 use crate::status::{Finish, Status};
-use crate::words::read_words;
 use snow_audit::{AuditEnd, audit};
 use snow_base::{Failed, Sink, Source, write_whole};
 use snow_chain::{Chain, PlainChain, TallyChain};
+use snow_command::{ChainName, Command, Job, RuleName, read_words};
 use snow_digits::Text;
 use snow_drill::drill;
 use snow_engine::{End, Task, serve};
@@ -126,7 +125,8 @@ fn work<C: Chain, S: Source, O: Sink>(
     ensures fault { model.HasFault (model.status_of (Some result)) (S.faults source.old) (S.faults source.new) (O.faults out.old) (O.faults out.new) }
 {
     match job {
-        Job::Serve(task) => Finish::Ended(run::<C, S, O>(alloc, task, rule, source, out)),
+        Job::Decide => Finish::Ended(run::<C, S, O>(alloc, Task::Decide, rule, source, out)),
+        Job::Run => Finish::Ended(run::<C, S, O>(alloc, Task::Run, rule, source, out)),
         Job::Audit => check::<C, S, O>(alloc, rule, source, out),
     }
 }

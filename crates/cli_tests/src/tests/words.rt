@@ -1,5 +1,4 @@
 use snow_cli::{ChainName, Command, Job, RuleName, read_words};
-use snow_engine::Task;
 use std::alloc::{AllocError, Global};
 use std::test::Fail;
 
@@ -19,7 +18,7 @@ fn answers(rt: HostRuntime) -> Result<(), Fail> {
     let words = collect(alloc, &["decide", "--chain", "tally", "--rule=snowflake"])?;
     let command = read_words(alloc, &words)?;
     let expected = Command::Stream {
-        job: Job::Serve(Task::Decide),
+        job: Job::Decide,
         chain: ChainName::Tally,
         rule: RuleName::Snowflake,
     };

@@ -29,14 +29,14 @@ use Rattle.snow_engine.specs.Clauses.Serving.{Broke}
 use Rattle.snow_audit.specs.declared.auditing.AuditEnd.{AuditEnd}
 use Rattle.snow_audit.specs.declared.auditing.AuditEnd.TheVariants as audit
 use Rattle.snow_audit.specs.Model.Auditing.{audit_of}
-use Rattle.snow_cli.specs.declared.command.ChainName.{ChainName}
-use Rattle.snow_cli.specs.declared.command.ChainName.TheVariants as chain
-use Rattle.snow_cli.specs.declared.command.RuleName.{RuleName}
-use Rattle.snow_cli.specs.declared.command.RuleName.TheVariants as rule
-use Rattle.snow_cli.specs.declared.command.Job.{Job}
-use Rattle.snow_cli.specs.declared.command.Job.TheVariants as job
-use Rattle.snow_cli.specs.declared.command.Command.{Command}
-use Rattle.snow_cli.specs.declared.command.Command.TheVariants as command
+use Rattle.snow_command.specs.declared.command.ChainName.{ChainName}
+use Rattle.snow_command.specs.declared.command.ChainName.TheVariants as chain
+use Rattle.snow_command.specs.declared.command.RuleName.{RuleName}
+use Rattle.snow_command.specs.declared.command.RuleName.TheVariants as rule
+use Rattle.snow_command.specs.declared.command.Job.{Job}
+use Rattle.snow_command.specs.declared.command.Job.TheVariants as job
+use Rattle.snow_command.specs.declared.command.Command.{Command}
+use Rattle.snow_command.specs.declared.command.Command.TheVariants as command
 use Rattle.snow_cli.specs.declared.status.Finish.{Finish}
 use Rattle.snow_cli.specs.declared.status.Finish.TheVariants as finish
 use Rattle.snow_cli.specs.declared.status.Status.{Status}
@@ -77,12 +77,14 @@ audit_finish (audit.Stopped e) = finish.Ended e
 
 -- the text for what is done with a stream, of which the first 2^40 bytes count
 abbrev pub job_text : Job → Rules → Answer → List ℕ → List ℕ
-job_text (job.Serve t) rules answer bytes = texts (lines_of rules answer t (seen bytes))
+job_text job.Decide rules answer bytes = texts (lines_of rules answer task.Decide (seen bytes))
+job_text job.Run rules answer bytes = texts (lines_of rules answer task.Run (seen bytes))
 job_text job.Audit rules answer bytes = audit_text (audit_of rules answer bytes)
 
 -- how that ends
 abbrev pub job_finish : Job → Rules → Answer → List ℕ → Finish
-job_finish (job.Serve t) rules answer bytes = finish.Ended (end_of rules answer t bytes)
+job_finish job.Decide rules answer bytes = finish.Ended (end_of rules answer task.Decide bytes)
+job_finish job.Run rules answer bytes = finish.Ended (end_of rules answer task.Run bytes)
 job_finish job.Audit rules answer bytes = audit_finish (audit_of rules answer bytes)
 
 -- the text for a command and a stream; a drill doesn't look at it, and there is none without a command
@@ -222,7 +224,8 @@ Told given found before after faults_before faults_after = Tells (audit_finish f
 
 -- the source failed: exactly the lines of the whole frames that came were written, and these frames show no stop; an audit wrote nothing
 abbrev pub BrokeAt : Job → Rules → Answer → Option (List ℕ) → Option (List ℕ) → Option (List ℕ) → Option (List ℕ) → Type 0
-BrokeAt (job.Serve t) rules answer left_before left_after out_before out_after = Broke rules answer t left_before left_after out_before out_after
+BrokeAt job.Decide rules answer left_before left_after out_before out_after = Broke rules answer task.Decide left_before left_after out_before out_after
+BrokeAt job.Run rules answer left_before left_after out_before out_after = Broke rules answer task.Run left_before left_after out_before out_after
 BrokeAt job.Audit rules answer left_before left_after out_before out_after = out_after ≡ out_before
 
 abbrev pub BrokeFor : Option Command → Option (List ℕ) → Option (List ℕ) → Option (List ℕ) → Option (List ℕ) → Type 0

@@ -1,0 +1,12 @@
+pub mod WordExamples
+pub mod Looks
+pub mod Walks
+pub mod Gathered
+pub mod Ordered
+pub mod Faulted
+pub mod Matching
+pub mod Tested
+pub mod Refused
+pub mod Answered
+pub mod Whole
+pub mod Digits
