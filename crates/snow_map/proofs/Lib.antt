@@ -1,5 +1,4 @@
 pub mod Lists
 pub mod Booleans
 mod Seats
-mod Grouped
 mod Kept

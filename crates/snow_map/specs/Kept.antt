@@ -1,4 +1,3 @@
 -- What the code keeps beside the model, and what is always true of it.
-pub mod Groups
 pub mod Placed
 pub mod Seats

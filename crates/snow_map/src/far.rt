@@ -1,33 +1,32 @@
-//! Entries whose seat another one has: by seat, and those of one seat in order of identifiers.
-ghost use Rattle.std.specs.Prelude.{◌≡◌, [], IfOk, OnOk, OnErr, Some, None, bytes_eq, nat_eq};
-ghost use Rattle.std.specs.HashMap.{Updates, IsUnique};
+//! Entries whose seat another one has, in order of identifiers.
+ghost use Rattle.std.specs.Prelude.{◌≡◌, [], IfOk, OnOk, OnErr, Some, None, bytes_eq};
 ghost use Rattle.std.specs.List.{IsDistinct};
 ghost use Rattle.std.specs.Map.{keys_of};
 ghost use Rattle.std.specs.Option.{option_copied};
 ghost use Rattle.snow_map.specs.Clauses.Entries.{value_of, HasAt};
 
-use crate::near::place_of;
 use snow_base::Id;
 use std::alloc::{AllocError, Global};
-use std::collections::{BTreeMap, HashMap};
+use std::collections::BTreeMap;
 use std::marker::Model;
 
-/// Entries by seat, those of one seat in order of identifiers. Contracts see the entries.
+/// Entries in order of identifiers. Contracts see the entries.
+/// Rule: this project's own.
 #[derive(Drop)]
 pub(crate) struct Far<V> {
-    alloc: Global,
-    groups: HashMap<u32, BTreeMap<Id, V>>,
+    entries: BTreeMap<Id, V>,
 }
 
 impl<V> Model for Far<V> {
-    ghost use Rattle.std.specs.Prelude.{ℕ, List};
-    ghost use Rattle.snow_map.specs.Kept.Groups.{entries_in, AreGrouped};
+    ghost use Rattle.std.specs.Prelude.{ℕ, List, bytes_eq};
+    ghost use Rattle.std.specs.List.{IsDistinct};
+    ghost use Rattle.std.specs.Map.{keys_of};
 
     ghost Value = { List (List ℕ × V) };
 
-    ghost view = { λ a. entries_in a.groups.entries };
+    ghost view = { λ a. a.entries.entries };
 
-    ghost invariant = { λ a. AreGrouped a.groups.entries };
+    ghost invariant = { λ a. IsDistinct bytes_eq (keys_of a.entries.entries) };
 }
 
 impl<V: Drop> Far<V> {
@@ -36,8 +35,7 @@ impl<V: Drop> Far<V> {
         ensures { result ≡ [] }
     {
         Far {
-            alloc,
-            groups: HashMap::new(alloc),
+            entries: BTreeMap::new(alloc),
         }
     }
 
@@ -45,20 +43,10 @@ impl<V: Drop> Far<V> {
     pub(crate) fn value(&self, id: &Id) -> Option<&V>
         ensures { option_copied result ≡ value_of self.now id.now }
     {
-        if self.groups.is_empty() {
+        if self.entries.is_empty() {
             return None;
         }
-        self.find(id)
-    }
-
-    // The same where there are entries.
-    fn find(&self, id: &Id) -> Option<&V>
-        ensures { option_copied result ≡ value_of self.now id.now }
-    {
-        match self.groups.get(&place_of(id)) {
-            Some(group) => group.get(id),
-            None => None,
-        }
+        self.entries.get(id)
     }
 
     /// Puts a value at an identifier, and returns the one that was there. On want of memory all
@@ -70,18 +58,8 @@ impl<V: Drop> Far<V> {
         ensures err { OnErr result (self.new ≡ self.old) }
         ensures absent { OnErr result (value_of self.old id ≡ None) }
     {
-        match self.groups.get_mut(&place_of(&id)) {
-            Some(group) => {
-                let before = group.insert(id, value)?;
-                Ok(before)
-            }
-            None => {
-                let mut group = BTreeMap::new(self.alloc);
-                group.insert(id, value)?;
-                self.groups.insert(place_of(&id), group)?;
-                Ok(None)
-            }
-        }
+        let before = self.entries.insert(id, value)?;
+        Ok(before)
     }
 
     /// Takes the value at an identifier out and returns it.
@@ -90,21 +68,6 @@ impl<V: Drop> Far<V> {
         ensures updates { HasAt self.old self.new id.now None }
         ensures once { IsDistinct bytes_eq (keys_of self.new) }
     {
-        let Some(group) = self.groups.get_mut(&place_of(id)) else {
-            return None;
-        };
-        let value = group.remove(id);
-        if group.is_empty() {
-            clear(&mut self.groups, place_of(id));
-        }
-        value
+        self.entries.remove(id)
     }
-}
-
-// Nothing is left of a seat.
-fn clear<V: Drop>(groups: &mut HashMap<u32, BTreeMap<Id, V>>, place: u32)
-    ensures updates { Updates nat_eq groups.old groups.new place None }
-    ensures unique { IsUnique nat_eq groups.new }
-{
-    let _ = groups.remove(&place);
 }
