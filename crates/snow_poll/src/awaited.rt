@@ -13,6 +13,9 @@ use std::mem;
 // So many classes at most are told apart by a node's spread bytes.
 const MOST_CLASSES: usize = 65_536;
 
+// So many classes there are for each node, so that few nodes share one.
+const CLASSES_EACH: usize = 4;
+
 // So many nodes of a class at most are walked.
 const LONGEST_WALK: u8 = 16;
 
@@ -48,7 +51,7 @@ impl Awaited {
     pub(crate) fn new(alloc: Global, nodes: usize) -> Result<Awaited, AllocError>
         ensures { IfOk result (λ made. nodes ≤ vec_capacity made.waits) }
     {
-        let classes = nodes.min(MOST_CLASSES).next_power_of_two();
+        let classes = classes_of(nodes).next_power_of_two();
         let mut waits = Vec::new(alloc);
         waits.reserve(nodes)?;
         Ok(Awaited {
@@ -63,7 +66,7 @@ impl Awaited {
     pub(crate) fn fits(&self, nodes: usize) -> bool
         ensures { result ≡ true → nodes ≤ vec_capacity self.now.waits }
     {
-        nodes <= self.waits.capacity() && nodes.min(MOST_CLASSES) <= self.lasts.len()
+        nodes <= self.waits.capacity() && classes_of(nodes) <= self.lasts.len()
     }
 
     // Makes room for so many nodes. Those that were awaited are let go.
@@ -159,6 +162,13 @@ impl Awaited {
         }
         0
     }
+}
+
+// So many classes at least tell these nodes apart.
+fn classes_of(nodes: usize) -> usize
+    ensures { result ≤ MOST_CLASSES }
+{
+    nodes.saturating_mul(CLASSES_EACH).min(MOST_CLASSES)
 }
 
 // The number of a node by the map that has each, and 0 where it isn't there.
