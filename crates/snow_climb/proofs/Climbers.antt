@@ -268,6 +268,10 @@ placed_on bs at old came new h placed same =
     (λ t. rw t (All-cons P (passing bs at n) (under (at + 1) old) (h, refl) left))
     (λ t. rw t left))
 
+-- some are more than none
+pub some_count : (n : ℕ) → 0 < n → nat_lt 0 n ≡ true
+some_count n h = grind (arith, common_steps)
+
 -- votes that passed a block and go on to its parent are put in behind the others
 pub put_last : (bs : List Header) (at count place : ℕ) (cs new : List Climber) → place ≡ reach bs (parent_in (slice_get bs at)) → new ≡ cs ++ record { place = place; passed = at; count = count } ∷ []
     → IsPermutation (passing bs at count ∷ cs) new
