@@ -19,10 +19,6 @@ use Rattle.snow_climb.specs.Kept.Ladder.{under, up_from}
 use Rattle.snow_climb.proofs.Merged.{none_came, joined_at}
 use Rattle.snow_climb.proofs.Reached.{reach_within, reach_seen, at_reach, not_own, parent_is_last}
 
--- what a read past the end gives
-abbrev pub no_climber : Climber
-no_climber = record { place = 0; passed = 0; count = 0 }
-
 -- a sum over their counts is one over their votes
 pub same_total : (bs : List Header) (cs : List Climber) → cursor_total (cursors_of bs cs) ≡ climber_total cs
 same_total bs [] = refl
@@ -100,7 +96,7 @@ have_come last bs at d cs g below came placed high =
     has_come last bs d id c g own.0 same (all_back (CameBy bs) (cursor_of bs) cs came k e h))
 
 -- those that look for no pending block look for the last accepted one
-pub have_come_last : (last : List ℕ) (bs : List Header) (d : Header) (cs : List Climber) → IsGrown last (reverse bs) → AreBelow bs 0 (cursors_of bs cs) → All (CameBy bs) (cursors_of bs cs) → ArePlaced bs cs
+have_come_last : (last : List ℕ) (bs : List Header) (d : Header) (cs : List Climber) → IsGrown last (reverse bs) → AreBelow bs 0 (cursors_of bs cs) → All (CameBy bs) (cursors_of bs cs) → ArePlaced bs cs
     → All (HasCome bs last) (cursors_of bs cs)
 have_come_last last bs d cs g below came placed =
     All-map (HasCome bs last) (cursor_of bs) cs
@@ -267,6 +263,10 @@ placed_on bs at old came new h placed same =
     (split_on (nat_lt 0 n)
     (λ t. rw t (All-cons P (passing bs at n) (under (at + 1) old) (h, refl) left))
     (λ t. rw t left))
+
+-- some are more than none
+pub some_count : (n : ℕ) → 0 < n → nat_lt 0 n ≡ true
+some_count n h = grind (arith, common_steps)
 
 -- votes that passed a block and go on to its parent are put in behind the others
 pub put_last : (bs : List Header) (at count place : ℕ) (cs new : List Climber) → place ≡ reach bs (parent_in (slice_get bs at)) → new ≡ cs ++ record { place = place; passed = at; count = count } ∷ []

@@ -189,18 +189,6 @@ mark_highest words count at word high some zeros is less rung within marked =
     unmarked words count at zeros rung h within =
         ap (λ w. bit_at w (rung % 64)) (zeros (rung / 64) h (omega (arith, within))) ∙ bit_at-zero (rung % 64)
 
--- where a word is 0 those of the words before it are the ones that may be set
-pub mark_below : (words : List ℕ) (at high : ℕ) → get_or words at 0 ≤ 0 → ((rung : ℕ) → rung < 64 * at → mark_at words rung ≡ 1 → rung ≤ high)
-    → (rung : ℕ) → rung < 64 * (at + 1) → mark_at words rung ≡ 1 → rung ≤ high
-mark_below words at high none before rung within marked =
-    halves rung (64 * at)
-    (λ t. before rung t marked)
-    (λ t.
-    let here : rung / 64 ≡ at = omega (arith, t, within) in
-    let zero_word : get_or words (rung / 64) 0 ≡ 0 = ap (λ k. get_or words k 0) here ∙ omega (arith, none) in
-    let unset : mark_at words rung ≡ 0 = ap (λ w. bit_at w (rung % 64)) zero_word ∙ bit_at-zero (rung % 64) in
-    absurd (omega (arith, unset, marked)))
-
 -- where all are 0 none is set
 pub mark_none : (words : List ℕ) (count at : ℕ) → at ≤ 0 → ((k : ℕ) → at ≤ k → k < count → get_or words k 0 ≡ 0) → (rung : ℕ) → rung < 64 * count → mark_at words rung ≡ 1 → rung ≤ 0
 mark_none words count at none zeros rung within marked =

@@ -16,41 +16,16 @@ pub struct Climber {
     pub count: u32,
 }
 
-// One more than a place among so many.
-fn above(place: usize, len: usize) -> usize
-    requires { place < len }
-    ensures { result ≡ place + 1 }
-{
-    place + 1
-}
-
 // One more than the place of the parent of the block at a place; 0 where that isn't pending.
 fn parent_reach<T: Drop>(tree: &Tree<T>, at: usize) -> usize
     requires { at < length (tree.now).pending }
     ensures { result ≡ reach (blocks_in (tree.now).pending) (parent_in (slice_get (blocks_in (tree.now).pending) at)) }
 {
-    let len = tree.len();
+    let _len = tree.len();
     match tree.parent_place(at) {
-        Some(place) => above(place, len),
+        Some(place) => place + 1,
         None => 0,
     }
-}
-
-/// Puts votes that passed the block at a place on the ladder, to go on to its parent. It takes no
-/// memory.
-pub(crate) fn go_on<T: Drop>(tree: &Tree<T>, ladder: &mut Ladder, at: usize, count: u32)
-    requires room { (ladder.old).put < (ladder.old).most }
-    requires within { at < length (tree.now).pending }
-    requires below { reach (blocks_in (tree.now).pending) (parent_in (slice_get (blocks_in (tree.now).pending) at)) < (ladder.old).low }
-    ensures same { IsPermutation (passing (blocks_in (tree.now).pending) at count ∷ (ladder.old).climbers) (ladder.new).climbers }
-    ensures rest { ladder.new ≡ record (ladder.old) { climbers = (ladder.new).climbers; put = (ladder.old).put + 1 } }
-{
-    let place = parent_reach(tree, at);
-    ladder.put(Climber {
-        place,
-        passed: at,
-        count,
-    });
 }
 
 /// Puts so many votes that came to the block at a place on the ladder, to go on to its parent
@@ -63,10 +38,16 @@ pub fn pass<T: Drop>(tree: &Tree<T>, at: usize, count: u32, ladder: &mut Ladder)
     requires below { reach (blocks_in (tree.now).pending) (parent_in (slice_get (blocks_in (tree.now).pending) at)) < (ladder.old).low }
     ensures same { IsPermutation (if nat_lt 0 count then passing (blocks_in (tree.now).pending) at count ∷ (ladder.old).climbers else (ladder.old).climbers) (ladder.new).climbers }
     ensures put { (ladder.new).put ≤ (ladder.old).put + 1 }
+    ensures came { (ladder.new).came ≡ (ladder.old).came }
     ensures low { (ladder.new).low ≡ (ladder.old).low }
     ensures room { KeepsRoom ladder.old ladder.new }
 {
     if count > 0 {
-        go_on(tree, ladder, at, count);
+        let place = parent_reach(tree, at);
+        ladder.put(Climber {
+            place,
+            passed: at,
+            count,
+        });
     }
 }

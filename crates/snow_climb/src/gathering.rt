@@ -4,36 +4,10 @@ ghost use Rattle.snow_board.specs.Model.Conflict.{votes_on};
 ghost use Rattle.snow_board.specs.Kept.Cursors.{votes_at};
 ghost use Rattle.snow_tree.specs.Kept.Held.{blocks_in, children_of};
 ghost use Rattle.snow_climb.specs.Kept.Climbing.{climber_total, cursors_of, HasCome};
-ghost use Rattle.snow_climb.specs.Kept.Ladder.{chain, AreLinked};
 
-use crate::ladder::{Ladder, Link};
+use crate::ladder::Ladder;
 use snow_base::Bag;
 use snow_tree::Tree;
-
-// Votes that came to a parent, by its children: who was put on its rung last, and all before. It takes no
-// memory where the bag has places.
-fn gather_all<T: Drop>(tree: &Tree<T>, links: &[Link], last: usize, children: &mut Bag)
-    requires linked { AreLinked links.now }
-    requires within { last ≤ length links.now }
-    requires places { length (chain links.now last) ≤ children.old.room + length children.old.list }
-    requires placed { All (λ c. c.passed < length (tree.now).pending) (chain links.now last) }
-    requires counts { All (λ c. 0 < c.count) (chain links.now last) }
-    requires total { climber_total (chain links.now last) < 2 ^ 32 }
-    ensures votes { (parent : List ℕ) → All (HasCome (blocks_in (tree.now).pending) parent) (cursors_of (blocks_in (tree.now).pending) (chain links.now last)) → votes_on children.new.list ≡ votes_at (cursors_of (blocks_in (tree.now).pending) (chain links.now last)) parent }
-    ensures among { (parent : List ℕ) → All (HasCome (blocks_in (tree.now).pending) parent) (cursors_of (blocks_in (tree.now).pending) (chain links.now last)) → All (λ v. Contains (children_of (blocks_in (tree.now).pending) parent) v.id) children.new.list }
-    ensures total { total_count children.new.list ≤ climber_total (chain links.now last) }
-    ensures places { children.old.room + length children.old.list ≤ children.new.room + length children.new.list }
-{
-    children.clear();
-    let mut left = last;
-    while left > 0 {
-        let link = links[left - 1];
-        if let Some(child) = tree.at(link.climber.passed) {
-            let _ = children.add(child, link.climber.count);
-        }
-        left = link.next;
-    }
-}
 
 /// Gathers the votes that were taken off a ladder last and came to a parent, at most 2^32 - 1, by
 /// its children: they stand in `children`, in place of what it held. The bag has places for them,
@@ -49,6 +23,14 @@ pub fn gather<T: Drop>(tree: &Tree<T>, ladder: &Ladder, children: &mut Bag)
     ensures total { total_count children.new.list ≤ climber_total (ladder.now).came }
     ensures places { children.old.room + length children.old.list ≤ children.new.room + length children.new.list }
 {
+    children.clear();
     let (links, last) = ladder.came();
-    gather_all(tree, links, last, children);
+    let mut left = last;
+    while left > 0 {
+        let link = links[left - 1];
+        if let Some(child) = tree.at(link.climber.passed) {
+            let _ = children.add(child, link.climber.count);
+        }
+        left = link.next;
+    }
 }

@@ -97,20 +97,6 @@ fn highest(words: &[u64], count: usize) -> usize
     0
 }
 
-// The highest rung whose bit is set in a word or in one before it; 0 where none is. Most stand in the word
-// itself.
-fn highest_from(words: &[u64], at: usize) -> usize
-    requires within { at < length words.now }
-    requires small { 64 * at + 64 < 2 ^ 64 }
-    ensures { (rung : ℕ) → rung < 64 * (at + 1) → mark_at words.now rung ≡ 1 → rung ≤ result }
-{
-    let word = words[at];
-    if word > 0 {
-        return 64 * at + word.ilog2() as usize;
-    }
-    highest(words, at)
-}
-
 // There is a bit for one rung more.
 fn add_bit(words: &mut Vec<u64>, rungs: usize) -> Result<(), AllocError>
     requires small { rungs + 1 < 2 ^ 64 }
@@ -230,7 +216,7 @@ impl Ladder {
         ensures { All (λ c. c.place ≤ result) (self.now).climbers }
     {
         let bound = self.high.min(self.low);
-        highest_from(&self.words, bound / 64)
+        highest(&self.words, bound / 64 + 1)
     }
 
     /// Takes all off this rung, above which nobody stands; it is below those that were taken off

@@ -9,7 +9,7 @@ ghost use Rattle.snow_climb.specs.Kept.Ladder.{KeepsRoom, IsReady};
 ghost use Rattle.snow_climb.specs.Kept.Majority.{StandFor};
 ghost use Rattle.snow_climb.specs.Kept.Starting.{share, votes_by, ids_by, HaveStarted, HaveAllStarted, HaveBegun, IsLoaded, TakesMore};
 
-use crate::climber::go_on;
+use crate::climber::pass;
 use crate::ladder::Ladder;
 use crate::majority::main_vote;
 use crate::naming::all_named;
@@ -18,23 +18,8 @@ use snow_flake::Params;
 use snow_tree::Tree;
 use std::slice;
 
-// So many votes begin past their own block; those for a block that isn't pending count nowhere.
-fn start<T: Drop>(tree: &Tree<T>, ladder: &mut Ladder, id: &Id, count: u32)
-    requires room { (ladder.old).put < (ladder.old).most }
-    requires low { length (tree.now).pending < (ladder.old).low }
-    ensures same { let vote : Vote = record { id = id.now; count = count } in
-        IsPermutation (option_to_list (begun (tree.now).pending vote) ++ (ladder.old).climbers) (ladder.new).climbers }
-    ensures put { (ladder.new).put ≤ (ladder.old).put + 1 }
-    ensures low { (ladder.new).low ≡ (ladder.old).low }
-    ensures room { KeepsRoom ladder.old ladder.new }
-{
-    match tree.place_of(id) {
-        Some(at) => go_on(tree, ladder, at, count),
-        None => (),
-    }
-}
-
-// Starts the votes that a seat gathered, if there are any.
+// Starts the votes that a seat gathered, if there are any, past their own block; those for a block that isn't
+// pending count nowhere.
 fn start_waiting<T: Drop>(tree: &Tree<T>, ladder: &mut Ladder, vote: &Vote)
     requires room { (ladder.old).put + vote.now.count ≤ (ladder.old).most }
     requires low { length (tree.now).pending < (ladder.old).low }
@@ -44,8 +29,11 @@ fn start_waiting<T: Drop>(tree: &Tree<T>, ladder: &mut Ladder, vote: &Vote)
     ensures low { (ladder.new).low ≡ (ladder.old).low }
     ensures room { KeepsRoom ladder.old ladder.new }
 {
-    if vote.count > 0 {
-        start(tree, ladder, &vote.id, vote.count);
+    if vote.count == 0 {
+        return;
+    }
+    if let Some(at) = tree.place_of(&vote.id) {
+        pass(tree, at, vote.count, ladder);
     }
 }
 

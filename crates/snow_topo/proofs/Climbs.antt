@@ -11,7 +11,7 @@ use Rattle.snow_board.specs.declared.cursor.Cursor.{Cursor}
 use Rattle.snow_board.specs.Model.Conflict.{all_polled}
 use Rattle.snow_board.specs.Kept.Cursors.{votes_at}
 use Rattle.snow_board.specs.Kept.Grown.{IsGrown}
-use Rattle.snow_tree.specs.Kept.Held.{Entry, Held, blocks_in, children_of, set_load, with_load}
+use Rattle.snow_tree.specs.Kept.Held.{Entry, blocks_in, children_of, set_load}
 use Rattle.snow_topo.specs.Kept.Children.{Kept, shown, IsFit}
 use Rattle.snow_topo.specs.Kept.View.{pending_of, all_pending}
 use Rattle.snow_climb.specs.declared.climber.Climber.{Climber}
@@ -207,7 +207,3 @@ entry_of pending at b h = by (slice_get pending at) refl h
     by : (o : Option (Entry Kept)) → slice_get pending at ≡ o → option_map (λ e. e.block) o ≡ Some b → (e : Entry Kept) × (slice_get pending at ≡ Some e) × (e.block ≡ b)
     by None e h = absurd (none-some b h)
     by (Some x) e h = (x, e, cc)
-
--- the blocks after a load was written
-pub blocks_after : (now held : Held Kept) (at : ℕ) (load : Kept) → now ≡ with_load held at load → blocks_in now.pending ≡ blocks_in held.pending
-blocks_after now held at load is = ap (λ (t : Held Kept). blocks_in t.pending) is ∙ set_blocks held.pending at load

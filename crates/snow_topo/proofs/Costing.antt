@@ -16,9 +16,9 @@ use Rattle.snow_topo.specs.Laws.Costs.{pending_votes, most_steps}
 use Rattle.snow_topo.specs.Kept.Children.{Kept}
 use Rattle.snow_topo.specs.Kept.Recording.{recording_at, recording_in, recording}
 
--- where there is no quorum there are too few
-pub no_quorum : (least n : ℕ) → nat_le least n ≡ false → n < least
-no_quorum least n h = grind (arith, common_steps)
+-- where there are enough there is a quorum
+pub is_quorum : (least n : ℕ) → least ≤ n → nat_le least n ≡ true
+is_quorum least n h = grind (arith, common_steps)
 
 -- fewer blocks count no more
 fewer_sum : (f : Header → ℕ) (n : ℕ) (bs : List Header) → sum_by f (drop n bs) ≤ sum_by f bs

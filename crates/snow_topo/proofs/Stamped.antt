@@ -16,6 +16,9 @@ same_number n = grind (arith, common_steps)
 pub other_number : (n m : ℕ) → n < m → (n == m) ≡ false
 other_number n m h = grind (arith, common_steps)
 
+pub differs : (n m : ℕ) → (n ≡ m → ⊥) → (n == m) ≡ false
+differs n m h = grind (arith, common_steps)
+
 -- the parameters of a tree that fits
 of_tree : (p : Parameters) (polls : ℕ) (children : List (List ℕ)) (kept : Kept) (t : Conflict) → IsFit p polls children kept → kept.conflict ≡ Some t → t.parameters ≡ p
 of_tree p polls children kept t fit is = subst (λ o. IfSome o (λ t. t.parameters ≡ p)) is fit.parameters

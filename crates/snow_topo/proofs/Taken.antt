@@ -1,12 +1,12 @@
 -- Lemmas on what is kept of a block when a poll comes to it.
-use Rattle.std.proofs.Common.{◌≡◌, ℕ, zero, suc, ◌+◌, ◌<◌, Bool, List, [], ◌∷◌, Option, Some, None, slice_get, IfSome, refl, sym, ap, ◌∙◌, arith}
+use Rattle.std.proofs.Common.{◌≡◌, ℕ, zero, suc, ◌+◌, ◌<◌, ◌≤◌, Bool, List, [], ◌∷◌, Option, Some, None, slice_get, IfSome, refl, sym, ap, ◌∙◌, arith}
 use Rattle.std.specs.Option.{option_map}
 use Rattle.std.proofs.lemmas.Option.{none-some}
 use Rattle.snow_flake.specs.Model.Parameters.{Parameters, AreGood}
 use Rattle.snow_board.specs.Model.Conflict.{all_polled}
 use Rattle.snow_board.proofs.Failing.{few_fail}
 use Rattle.snow_tree.specs.Kept.Held.{Entry, set_load}
-use Rattle.snow_topo.specs.Kept.Children.{Kept, shown, IsFit}
+use Rattle.snow_topo.specs.Kept.Children.{Conflict, Kept, shown, IsFit}
 use Rattle.snow_topo.proofs.Stamped.{later}
 
 -- the entry whose load was read
@@ -32,3 +32,8 @@ left_alone p polls children kept votes good fit few = (
 pub if_some : (o : Option (Entry Kept)) (P Q : Entry Kept → Type 0) → ((e : Entry Kept) → (o ≡ Some e) × P e → Q e) → IfSome o P → IfSome o Q
 if_some None P Q step h = tt
 if_some (Some e) P Q step h = step e (refl, h)
+
+-- votes of at most K are so of the parameters of what fits
+pub at_most : (p : Parameters) (o : Option Conflict) (n : ℕ) → IfSome o (λ c. c.parameters ≡ p) → n ≤ p.k → IfSome o (λ c. n ≤ c.parameters.k)
+at_most p None n is h = tt
+at_most p (Some c) n is h = rw is h

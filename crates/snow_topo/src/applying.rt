@@ -8,13 +8,13 @@ ghost use Rattle.snow_topo.specs.Kept.Recording.{recording};
 ghost use Rattle.snow_climb.specs.Kept.Starting.{HaveBegun, IsLoaded};
 ghost use Rattle.snow_topo.specs.Kept.View.{view, AreFit};
 
-use crate::counting::count;
+use crate::climbing::climb;
 use crate::load::Load;
 use crate::settling::settle;
 use crate::spare::SpareTrees;
 use snow_base::{Bag, Steps};
 use snow_board::Decision;
-use snow_climb::Ladder;
+use snow_climb::{Ladder, gather};
 use snow_flake::{Params, Rule};
 use snow_tree::Tree;
 use std::sync::ledger::Ledger;
@@ -54,8 +54,16 @@ pub(crate) fn apply<R: Rule, L: Ledger>(
     ensures steps { (votes : List Vote) → HaveBegun params.now votes (tree.old).pending ladder.old
         → steps.new ≤ steps.old + 5 * recording params.now (tree.old).last (blocks_in (tree.old).pending) votes }
 {
-    let moved = count(params, root, tree, polls, ladder, children, steps);
+    let _k = params.k();
     let _last = tree.last();
+    let mut moved = climb(params, tree, polls, ladder, children, steps);
+    let count = ladder.take(0);
+    // Without a quorum the last accepted block's tree stays as it is, and its old number tells that
+    // it failed.
+    if count >= params.alpha_preference() {
+        gather(tree, ladder, children);
+        moved |= root.record(polls, children.entries(), steps);
+    }
     decisions.clear();
     settle(params, polls + 1, root, tree, decisions, spare);
     moved

@@ -1,4 +1,4 @@
-ghost use Rattle.std.specs.Prelude.{◌≡◌, ℕ, ◌+◌, ◌*◌, ◌^◌, ◌<◌, ◌≤◌, ◌||◌, false, List, length};
+ghost use Rattle.std.specs.Prelude.{◌≡◌, ◌+◌, ◌*◌, ◌^◌, ◌<◌, ◌≤◌, false, List, length};
 ghost use Rattle.snow_base.specs.declared.block.Vote.{Vote};
 ghost use Rattle.snow_tree.specs.Kept.Held.{blocks_in};
 ghost use Rattle.snow_climb.specs.Kept.Starting.{HaveBegun, IsLoaded};
@@ -14,22 +14,6 @@ use snow_climb::Ladder;
 use snow_flake::{Params, Rule};
 use snow_tree::Tree;
 use std::sync::ledger::Ledger;
-
-// The lower of two.
-fn lower(a: usize, b: usize) -> usize
-    ensures first { result ≤ a }
-    ensures second { result ≤ b }
-    ensures greatest { (n : ℕ) → n ≤ a → n ≤ b → n ≤ result }
-{
-    if a < b { a } else { b }
-}
-
-// One or the other.
-pub(crate) fn either(one: bool, other: bool) -> bool
-    ensures { result ≡ (one || other) }
-{
-    one || other
-}
 
 /// Visits the pending blocks for which there are votes, the latest first, and no others. It returns
 /// `false` only where each of them leads where it led. It takes no memory where the bag has places.
@@ -55,12 +39,11 @@ pub(crate) fn climb<R: Rule, L: Ledger>(
     let _k = params.k();
     let _last = tree.last();
     let mut moved = false;
-    let mut top = lower(ladder.top(), tree.len());
+    let mut top = ladder.top().min(tree.len());
     while top > 0 {
         let at = top - 1;
-        let one = visit(params, tree, at, polls, ladder, children, steps);
-        moved = either(one, moved);
-        top = lower(ladder.top(), at);
+        moved |= visit(params, tree, at, polls, ladder, children, steps);
+        top = ladder.top().min(at);
     }
     moved
 }

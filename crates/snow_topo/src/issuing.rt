@@ -1,35 +1,17 @@
-ghost use Rattle.std.specs.Prelude.{◌≡◌, ℕ, true, false, IfSome, OnOk, OnErr, slice_get};
+ghost use Rattle.std.specs.Prelude.{◌≡◌, ℕ, true, false, OnOk, OnErr};
 ghost use Rattle.snow_board.specs.Model.Board.{issued};
 ghost use Rattle.snow_board.specs.Kept.Grown.{is_on};
-ghost use Rattle.snow_tree.specs.Kept.Held.{blocks_in, place_in, inserted, taken_back, with_load};
-ghost use Rattle.snow_topo.specs.Kept.Children.{bare, gained};
+ghost use Rattle.snow_tree.specs.Kept.Held.{blocks_in, place_in, inserted};
+ghost use Rattle.snow_topo.specs.Kept.Children.{bare};
 ghost use Rattle.snow_topo.specs.Kept.View.{view, AreFit};
 ghost use Rattle.snow_topo.specs.Kept.Gaining.{gained_by, all_gained};
 
 use crate::load::Load;
 use crate::spare::SpareTrees;
-use snow_base::{Header, Id};
+use snow_base::Header;
 use snow_flake::{Params, Rule};
 use snow_tree::Tree;
 use std::alloc::{AllocError, Global};
-
-// What is kept at a place has one child more. After want of memory all is as before.
-fn add_at<R: Rule>(
-    alloc: Global,
-    params: &Params,
-    tree: &mut Tree<Load<R>>,
-    at: usize,
-    id: &Id,
-    spare: &mut SpareTrees<R>,
-) -> Result<(), AllocError>
-    ensures ok { IfSome (slice_get (tree.old).pending at) (λ e. OnOk result (tree.new ≡ with_load tree.old at (gained params.now id.now e.load))) }
-    ensures err { OnErr result (tree.new ≡ tree.old) }
-{
-    match tree.load_mut(at) {
-        Some(load) => load.add(alloc, params, id, spare),
-        None => Ok(()),
-    }
-}
 
 // A block was issued: its parent has one child more, which stands at this place. No identifier is looked up for
 // that. After want of memory all is as before.
@@ -51,7 +33,10 @@ fn add_below<R: Rule>(
 {
     let _last = tree.last();
     match at {
-        Some(at) => add_at(alloc, params, tree, at, &child.id, spare),
+        Some(at) => match tree.load_mut(at) {
+            Some(load) => load.add(alloc, params, &child.id, spare),
+            None => Ok(()),
+        },
         None => root.add(alloc, params, &child.id, spare),
     }
 }
@@ -73,13 +58,6 @@ fn insert<R: Rule>(
         Ok(()) => Ok(()),
         Err(_) => Err(AllocError),
     }
-}
-
-// The block that was issued last is taken back.
-fn take_back<R: Rule>(tree: &mut Tree<Load<R>>)
-    ensures { tree.new ≡ taken_back tree.old }
-{
-    let _ = tree.take_back();
 }
 
 /// Issues a block: it becomes the last pending one, without children, and its parent has one child
@@ -107,7 +85,7 @@ pub(crate) fn issue<R: Rule>(
     insert(tree, at, child)?;
     let added = add_below(alloc, params, root, tree, at, child, spare);
     if added.is_err() {
-        take_back(tree);
+        let _ = tree.take_back();
         return added;
     }
     Ok(())

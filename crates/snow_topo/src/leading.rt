@@ -211,22 +211,3 @@ pub(crate) fn follow_child<R: Rule>(
         *preference = preference_of(params, polls, root, tree);
     }
 }
-
-/// Makes the preference follow a poll. Where the poll moved none it stays.
-pub(crate) fn follow_poll<R: Rule>(
-    params: &Params,
-    polls: u64,
-    root: &Load<R>,
-    tree: &Tree<Load<R>>,
-    preference: &mut Id,
-    moved: bool,
-)
-    requires named { AreNamed (blocks_in (tree.now).pending) }
-    requires fit { AreFit params.now polls root.now tree.now }
-    requires steady { moved ≡ false → preference.old ≡ preferred R.answer (view params.now polls root.now tree.now) }
-    ensures { preference.new ≡ preferred R.answer (view params.now polls root.now tree.now) }
-{
-    if moved {
-        *preference = preference_of(params, polls, root, tree);
-    }
-}

@@ -5,7 +5,6 @@ mod accepting;
 mod applying;
 mod ballot;
 mod climbing;
-mod counting;
 mod issuing;
 mod leading;
 mod load;

@@ -43,30 +43,6 @@ impl<R: Rule> Model for Load<R> {
     ghost invariant = { λ a. IfSome a.trie (λ t. HasFewNodes t.value) };
 }
 
-// A tree takes a poll with these votes, after it has failed where it didn't record the last poll. The
-// answer is false only where it leads where it led.
-fn catch_up<R: Rule, L: Ledger>(
-    trie: &mut Trie<R>,
-    is_behind: bool,
-    votes: &[Vote],
-    steps: &mut Steps<L>,
-) -> bool
-    requires order { IsInBitOrder votes.now }
-    requires most { total_count votes.now ≤ (trie.old).parameters.k }
-    requires given { All (λ v. Contains (trie.old).ids v.id) votes.now }
-    ensures counters { (trie.new).counters ≡ all_polled (trie.old).parameters (votes_on votes.now) (if is_behind then failed (trie.old).parameters (trie.old).counters else (trie.old).counters) }
-    ensures parameters { (trie.new).parameters ≡ (trie.old).parameters }
-    ensures ids { (trie.new).ids ≡ (trie.old).ids }
-    ensures few { HasFewNodes trie.new }
-    ensures steps { steps.new ≤ steps.old + 1 + (trie.old).nodes }
-    ensures steady { result ≡ false → chosen R.answer (trie.new).counters ≡ chosen R.answer (trie.old).counters }
-{
-    if is_behind {
-        trie.fail(steps);
-    }
-    trie.record(votes, steps)
-}
-
 // The tree of one child, in the place of another where there is one.
 fn first_tree<R: Rule>(
     alloc: Global,
@@ -195,7 +171,12 @@ impl<R: Rule> Load<R> {
         let is_behind = self.recorded != polls;
         self.recorded = polls + 1;
         match &mut self.trie {
-            Some(trie) => catch_up(trie, is_behind, votes, steps),
+            Some(trie) => {
+                if is_behind {
+                    trie.fail(steps);
+                }
+                trie.record(votes, steps)
+            }
             None => false,
         }
     }

@@ -13,7 +13,7 @@ ghost use Rattle.snow_topo.specs.Kept.Standing.{AreKept};
 use crate::applying::apply;
 use crate::ballot::{Ballot, start};
 use crate::issuing::issue;
-use crate::leading::{follow_child, follow_poll, is_preferred, is_top, kept_of, place_on};
+use crate::leading::{follow_child, is_preferred, is_top, kept_of, place_on, preference_of};
 use crate::load::Load;
 use crate::renewing::renew_if_full;
 use crate::spare::SpareTrees;
@@ -128,14 +128,11 @@ impl<R: Rule> Topo<R> {
             steps,
         );
         self.polls = before + 1;
-        follow_poll(
-            &self.params,
-            self.polls,
-            &self.root,
-            &self.tree,
-            &mut self.preference,
-            moved,
-        );
+        self.preference = if moved {
+            preference_of(&self.params, self.polls, &self.root, &self.tree)
+        } else {
+            self.preference
+        };
     }
 
     /// Returns the tree of a block's children, or `None` exactly where the block isn't on the board

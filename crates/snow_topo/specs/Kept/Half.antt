@@ -6,7 +6,7 @@ use Rattle.snow_base.specs.declared.block.Vote.{Vote}
 use Rattle.snow_flake.specs.Model.Parameters.{Parameters}
 use Rattle.snow_board.specs.Model.Conflict.{Pending}
 use Rattle.snow_board.specs.Model.Board.{with_counters}
-use Rattle.snow_board.specs.Model.Conflict.{all_polled, votes_on}
+use Rattle.snow_board.specs.Model.Conflict.{all_polled}
 use Rattle.snow_board.specs.Model.Poll.{with_votes}
 use Rattle.snow_tree.specs.Kept.Held.{Entry, blocks_in, children_of}
 use Rattle.snow_topo.specs.Kept.Children.{Kept, shown, IsFit}
@@ -22,13 +22,7 @@ pub record IsHalf (p : Parameters) (polls : ℕ) (votes : List Vote) (first now 
   pub high : (j : ℕ) → top ≤ j → slice_get (all_pending p (polls + 1) now) j ≡ option_map (stepped_by p (blocks_in first) votes) (slice_get (all_pending p polls first) j)
   pub fit : (j : ℕ) (e : Entry Kept) → top ≤ j → slice_get now j ≡ Some e → IsFit p (polls + 1) (children_of (blocks_in first) e.block.id) e.load
 
--- what is kept took the next poll with these votes
-abbrev pub IsRecorded : ℕ → List Vote → Kept → Kept → Type 0
-IsRecorded polls votes old new =
-    (p : Parameters) (children : List (List ℕ)) → IsFit p polls children old
-    → (shown p (polls + 1) new ≡ all_polled p (votes_on votes) (shown p polls old)) × IsFit p (polls + 1) children new
-
--- with these parameters and counts
+-- what is kept took the next poll with these parameters and counts
 abbrev pub HasTaken : Parameters → ℕ → (List Bool → ℕ) → Kept → Kept → Type 0
 HasTaken p polls votes old new =
     (children : List (List ℕ)) → IsFit p polls children old

@@ -6,14 +6,14 @@ use Rattle.snow_climb.proofs.Climbers.{parent_placed}
 use Rattle.snow_climb.proofs.Reached.{reach_within}
 use Rattle.snow_climb.proofs.climber.parent_reach.Goals as goal
 
-pub above-requires : goal.above-requires
-above-requires g c =
+pub overflow_add-result : goal.overflow_add-result
+overflow_add-result g c =
     let pending = c.args.tree.now.pending in
     let is = parent_placed pending c.args.at c.parent_place.result c.requires c.parent_place.ensures in
     omega (arith, ap above (sym c.in-Some.is), is, reach_within (blocks_in pending) (parent_in (slice_get (blocks_in pending) c.args.at)), length-map pending (λ e. e.block), c.len-len.ensures)
 
 pub returns-in-Some : goal.returns-in-Some
-returns-in-Some g c = c.above.ensures ∙ ap above (sym c.in-Some.is) ∙ parent_placed c.args.tree.now.pending c.args.at c.parent_place.result c.requires c.parent_place.ensures
+returns-in-Some g c = ap above (sym c.in-Some.is) ∙ parent_placed c.args.tree.now.pending c.args.at c.parent_place.result c.requires c.parent_place.ensures
 
 pub returns-in-None : goal.returns-in-None
 returns-in-None g c = ap above (sym c.in-None.is) ∙ parent_placed c.args.tree.now.pending c.args.at c.parent_place.result c.requires c.parent_place.ensures

@@ -24,11 +24,11 @@ returns-then-is_err-clause-tree_stays g c =
     let child = c.args.child.now in
     let in' = c.in_ok-insert.ensures.ok in
     let same = err_after c.add_below-added.result (sym c.is_err.ensures.value ∙ c.if-is_err.true) c.add_below-added.ensures.tree_stays in
-    let back : c.take_back.new.tree ≡ taken_back (inserted old child bare) = c.take_back.ensures ∙ ap taken_back (same ∙ in') in
-    let pending : c.take_back.new.tree.pending ≡ old.pending =
+    let back : c.take_back.new.self ≡ taken_back (inserted old child bare) = c.take_back.ensures.tree ∙ ap taken_back (same ∙ in') in
+    let pending : c.take_back.new.self.pending ≡ old.pending =
     ap (λ (h : Held Kept). h.pending) back ∙ all_but_last old.pending (record { block = child; load = bare })
     in
-    on_err c.add_below-added.result (λ i. record { last = (back i).last; height = (back i).height; pending = pending i; rejected = c.take_back.new.tree.rejected })
+    on_err c.add_below-added.result (λ i. record { last = (back i).last; height = (back i).height; pending = pending i; rejected = c.take_back.new.self.rejected })
 
 pub returns-clause-board : goal.returns-clause-board
 returns-clause-board g c =

@@ -1,23 +1,23 @@
-use Rattle.std.proofs.Common.{◌≡◌, ◌<◌, ◌+◌, ◌*◌, ◌≤◌, ℕ, nat_le, nat_lt, [], ◌∷◌, Bool, List, IsPermutation, length, slice_get, rules, sym, ap, subst, ◌∙◌, arith, if◌then◌else◌}
+use Rattle.std.proofs.Common.{◌≡◌, ◌<◌, ◌+◌, ◌*◌, ◌≤◌, ℕ, nat_le, nat_lt, [], ◌∷◌, Bool, List, All, Contains, Some, IfSome, IsPermutation, length, slice_get, rules, refl, sym, ap, subst, ◌∙◌, arith, if◌then◌else◌}
+use Rattle.std.specs.Option.{option_copied_mut}
 use Rattle.std.proofs.lemmas.List.{length-map}
-use Rattle.std.proofs.lemmas.Option.{slice_get_within}
+use Rattle.snow_base.specs.Model.Votes.{total_count}
+use Rattle.snow_board.specs.Model.Conflict.{votes_on}
 use Rattle.snow_board.specs.Kept.Cursors.{votes_at}
-use Rattle.snow_tree.specs.Kept.Held.{Held, blocks_in}
-use Rattle.snow_climb.specs.declared.climber.Climber.{Climber}
-use Rattle.snow_topo.specs.Kept.Children.{Kept, ids_in}
+use Rattle.snow_tree.specs.Kept.Held.{Entry, blocks_in, children_of, with_load}
+use Rattle.snow_topo.specs.Kept.Children.{Kept, ids_in, IsFit}
 use Rattle.snow_topo.specs.Kept.Half.{HasTaken}
-use Rattle.snow_climb.specs.Kept.Climbing.{climber_total, cursor_of, cursors_of, parent_in, passing, reach}
-use Rattle.snow_climb.specs.Kept.Ladder.{Rungs}
+use Rattle.snow_topo.specs.Kept.Leading.{IsSteady}
+use Rattle.snow_climb.specs.Kept.Climbing.{climber_total, cursor_of, cursors_of, merged, parent_in, passing, reach, ArePlaced, HasCome}
+use Rattle.snow_climb.specs.Kept.Ladder.{Rungs, up_from, under}
 use Rattle.snow_climb.proofs.Climbers.{all_back, same_total, highest_place, of_group, group_total, group_few, votes_of_group, passed_on, merged_on, placed_on}
-use Rattle.snow_topo.proofs.Climbs.{block_at, entry_at, blocks_after, parent_reach, group_come, group_others, some_of}
-use Rattle.snow_climb.proofs.Merged.{all_came}
-use Rattle.snow_topo.proofs.Taken.{if_some}
+use Rattle.snow_topo.proofs.Climbs.{block_at, entry_at, parent_reach, group_come, group_others, some_of}
+use Rattle.snow_climb.proofs.Merged.{all_came, few_came}
+use Rattle.snow_topo.proofs.Costing.{is_quorum}
+use Rattle.snow_topo.proofs.Taken.{entry_read, same_load, left_alone, if_some, at_most}
+use Rattle.snow_topo.proofs.visiting.visit.Given as given
 use Rattle.snow_topo.proofs.visiting.visit.Goals as goal
-
--- as many votes as came went on
-passed_of : (held : Held Kept) (at n : ℕ) (rest came new : List Climber) → n ≡ climber_total came
-    → IsPermutation (if nat_lt 0 n then passing (blocks_in held.pending) at n ∷ rest else rest) new → IsPermutation (passed_on (blocks_in held.pending) at rest came) new
-passed_of held at n rest came new is same = subst (λ m. IsPermutation (if nat_lt 0 m then passing (blocks_in held.pending) at m ∷ rest else rest) new) is same
+use Rattle.snow_topo.proofs.visiting.visit.Goals.{After-pass, In-Some}
 
 pub overflow_add-at : goal.overflow_add-at
 overflow_add-at g c = let below = c.requires.below in let low = c.low-low.ensures in search rules
@@ -25,50 +25,6 @@ overflow_add-at g c = let below = c.requires.below in let low = c.low-low.ensure
 pub take-count-requires-clause-highest : goal.take-count-requires-clause-highest
 take-count-requires-clause-highest g c =
     highest_place (blocks_in c.args.tree.now.pending) (c.args.at + 1) c.args.ladder.now.climbers c.requires.placed c.requires.climbing.1.below
-
-pub record_came-moved-requires-clause-places : goal.record_came-moved-requires-clause-places
-record_came-moved-requires-clause-places g c =
-    omega (arith, c.requires.places, group_few (c.args.at + 1) c.args.ladder.now.climbers c.take-count.new.self.came c.take-count.ensures.came)
-
-pub record_came-moved-requires-clause-placed : goal.record_came-moved-requires-clause-placed
-record_came-moved-requires-clause-placed g c =
-    let first = c.args.tree.now.pending in
-    let bs = blocks_in first in
-    let all = of_group (λ x. (x.passed < length bs) × (x.place ≡ reach bs (parent_in (slice_get bs x.passed)))) (c.args.at + 1) c.args.ladder.now.climbers c.take-count.new.self.came c.take-count.ensures.came c.requires.placed in
-    λ k d h. omega (arith, (all k d h).0, length-map first (λ e. e.block))
-
-pub record_came-moved-requires-clause-count : goal.record_came-moved-requires-clause-count
-record_came-moved-requires-clause-count g c =
-    let bs = blocks_in c.args.tree.now.pending in
-    let cs = c.args.ladder.now.climbers in
-    omega (
-      arith,
-      c.take-count.ensures.total,
-      group_total (c.args.at + 1) cs c.take-count.new.self.came c.take-count.ensures.came,
-      same_total bs cs,
-      c.requires.climbing.1.total,
-      c.k-k.ensures.value,
-    )
-
-pub record_came-moved-requires-clause-counts : goal.record_came-moved-requires-clause-counts
-record_came-moved-requires-clause-counts g c =
-    let bs = blocks_in c.args.tree.now.pending in
-    let cs = c.args.ladder.now.climbers in
-    of_group (λ x. 0 < x.count) (c.args.at + 1) cs c.take-count.new.self.came c.take-count.ensures.came (all_back (λ x. 0 < x.count) (cursor_of bs) cs c.requires.climbing.1.counts)
-
-pub record_came-moved-requires-clause-total : goal.record_came-moved-requires-clause-total
-record_came-moved-requires-clause-total g c =
-    let bs = blocks_in c.args.tree.now.pending in
-    let cs = c.args.ladder.now.climbers in
-    omega (arith, group_total (c.args.at + 1) cs c.take-count.new.self.came c.take-count.ensures.came, same_total bs cs, c.requires.climbing.1.total)
-
-pub record_came-moved-requires-clause-came : goal.record_came-moved-requires-clause-came
-record_came-moved-requires-clause-came g c =
-    let first = c.args.tree.now.pending in
-    let cs = c.args.ladder.now.climbers in
-    if_some (slice_get first c.args.at) _ _
-    (λ e fit. group_come c.args.params.now c.requires.climbing.0 c.args.tree.now.last first c.args.at e cs c.take-count.new.self.came c.last-last.ensures.grown fit.0 c.requires.climbing.1 c.requires.placed c.take-count.ensures.came)
-    c.requires.fit
 
 pub pass-requires-clause-room : goal.pass-requires-clause-room
 pass-requires-clause-room g c =
@@ -79,122 +35,194 @@ pass-requires-clause-room g c =
       ap (λ (s : Rungs). s.most) c.take-count.ensures.rest,
     )
 
-pub pass-requires-clause-within : goal.pass-requires-clause-within
-pass-requires-clause-within g c =
-    let held = c.args.tree.now in
-    let found = entry_at held.pending c.args.at c.requires.within in
-    let took = some_of (slice_get held.pending c.args.at) _ found.0 found.1 c.record_came-moved.ensures.taken in
-    let blocks = blocks_after c.record_came-moved.new.tree held c.args.at took.0 took.1 in
-    omega (
-      arith,
-      c.requires.within,
-      ap length blocks,
-      length-map held.pending (λ e. e.block),
-      length-map c.record_came-moved.new.tree.pending (λ e. e.block),
-    )
-
 pub pass-requires-clause-below : goal.pass-requires-clause-below
 pass-requires-clause-below g c =
     let held = c.args.tree.now in
     let found = entry_at held.pending c.args.at c.requires.within in
-    let took = some_of (slice_get held.pending c.args.at) _ found.0 found.1 c.record_came-moved.ensures.taken in
-    let blocks = blocks_after c.record_came-moved.new.tree held c.args.at took.0 took.1 in
-    let low = parent_reach held.last held.pending c.args.at found.0 c.last-last.ensures.grown found.1 in
     let here = block_at held.pending c.args.at found.0 found.1 in
     omega (
       arith,
-      low,
+      parent_reach held.last held.pending c.args.at found.0 c.last-last.ensures.grown found.1,
       ap (λ o. reach (blocks_in held.pending) (parent_in o)) here,
-      ap (λ bs. reach bs (parent_in (slice_get bs c.args.at))) blocks,
       ap (λ (s : Rungs). s.low) c.take-count.ensures.rest,
     )
 
-pub returns-clause-taken : goal.returns-clause-taken
-returns-clause-taken g c =
-    let held = c.args.tree.now in
-    let first = held.pending in
-    let bs = blocks_in first in
-    let cs = c.args.ladder.now.climbers in
-    if_some (slice_get first c.args.at) _ _
-    (λ e took.
-    let others = group_others held.last first c.args.at e cs c.last-last.ensures.grown took.0 c.requires.placed in (
-      took.1.0,
-      took.1.1,
-      subst (λ (f : List Bool → ℕ). HasTaken c.args.params.now c.args.polls f e.load took.1.0)
-          (sym (votes_of_group bs e.block (c.args.at + 1) cs c.take-count.new.self.came c.take-count.ensures.came others)) took.1.2,
-      took.1.3,
-    ))
-    c.record_came-moved.ensures.taken
+-- those that came are still told when they went on
+told : (g : given.Over) (c : After-pass g) → IsPermutation (up_from (c.args.at + 1) c.args.ladder.now.climbers) c.pass.new.ladder.came
+told g c = subst (IsPermutation (up_from (c.args.at + 1) c.args.ladder.now.climbers)) (sym c.pass.ensures.came) c.take-count.ensures.came
 
-pub returns-clause-steps : goal.returns-clause-steps
-returns-clause-steps g c =
-    let held = c.args.tree.now in
-    let first = held.pending in
-    let bs = blocks_in first in
+-- they are no more than K
+few : (g : given.Over) (c : After-pass g) → climber_total c.pass.new.ladder.came ≤ c.args.params.now.k
+few g c =
     let cs = c.args.ladder.now.climbers in
-    let came = c.take-count.new.self.came in
-    if_some (slice_get first c.args.at) _ _
-    (λ e given.
-    let come = group_come c.args.params.now c.requires.climbing.0 held.last first c.args.at e cs came c.last-last.ensures.grown given.0 c.requires.climbing.1 c.requires.placed c.take-count.ensures.came in
-    let others = group_others held.last first c.args.at e cs c.last-last.ensures.grown given.0 c.requires.placed in
-    let total : climber_total came ≡ votes_at (cursors_of bs cs) e.block.id [] =
-    sym (same_total bs came) ∙ sym (all_came bs e.block.id (cursors_of bs came) come)
-    ∙ sym (ap (λ f. f []) (votes_of_group bs e.block (c.args.at + 1) cs came c.take-count.ensures.came others))
-    in
-    subst (λ n. c.record_came-moved.new.steps ≤ c.args.steps.now + 5 * (if nat_le c.args.params.now.alpha_preference n then length (ids_in e.load.conflict) else 0)) total given.1)
-    c.record_came-moved.ensures.steps
+    omega (arith, group_total (c.args.at + 1) cs c.pass.new.ladder.came (told g c), same_total (blocks_in c.args.tree.now.pending) cs, c.requires.climbing.1.total)
 
-pub returns-clause-merged : goal.returns-clause-merged
-returns-clause-merged g c =
+-- and were counted
+counted : (g : given.Over) (c : After-pass g) → c.take-count.result ≡ climber_total c.pass.new.ladder.came
+counted g c = omega (arith, c.take-count.ensures.total, ap climber_total c.pass.ensures.came, few g c, c.k-k.ensures.value)
+
+-- they came to the block by a child
+come : (g : given.Over) (c : After-pass g) (e : Entry Kept) → slice_get c.args.tree.now.pending c.args.at ≡ Some e
+    → All (HasCome (blocks_in c.args.tree.now.pending) e.block.id) (cursors_of (blocks_in c.args.tree.now.pending) c.pass.new.ladder.came)
+come g c e is =
     let held = c.args.tree.now in
-    let first = held.pending in
-    let bs = blocks_in first in
-    let cs = c.args.ladder.now.climbers in
-    let came = c.take-count.new.self.came in
-    let count : c.take-count.result ≡ climber_total came =
-    omega (arith, c.take-count.ensures.total, group_total (c.args.at + 1) cs came c.take-count.ensures.came, same_total bs cs, c.requires.climbing.1.total, c.k-k.ensures.value)
-    in
-    let stays = c.take-count.ensures.climbers in
-    if_some (slice_get first c.args.at) _ _
-    (λ e took.
-    let come = group_come c.args.params.now c.requires.climbing.0 held.last first c.args.at e cs came c.last-last.ensures.grown took.0 c.requires.climbing.1 c.requires.placed c.take-count.ensures.came in
-    let others = group_others held.last first c.args.at e cs c.last-last.ensures.grown took.0 c.requires.placed in
-    let blocks = blocks_after c.record_came-moved.new.tree held c.args.at took.1.0 took.1.1 in
-    merged_on bs e.block c.args.at cs came c.pass.new.ladder.climbers (block_at first c.args.at e took.0) others come c.take-count.ensures.came
-    (subst (λ l. IsPermutation (passed_on bs c.args.at l came) c.pass.new.ladder.climbers) stays
-    (subst (λ l. IsPermutation (passed_on l c.args.at c.take-count.new.self.climbers came) c.pass.new.ladder.climbers) blocks
-    (passed_of c.record_came-moved.new.tree c.args.at _ c.take-count.new.self.climbers came c.pass.new.ladder.climbers count c.pass.ensures.same))))
-    c.record_came-moved.ensures.taken
+    group_come c.args.params.now c.requires.climbing.0 held.last held.pending c.args.at e c.args.ladder.now.climbers c.pass.new.ladder.came c.last-last.ensures.grown is c.requires.climbing.1 c.requires.placed (told g c)
 
-pub returns-clause-placed : goal.returns-clause-placed
-returns-clause-placed g c =
+-- with all votes at it
+votes : (g : given.Over) (c : After-pass g) (e : Entry Kept) → slice_get c.args.tree.now.pending c.args.at ≡ Some e
+    → votes_at (cursors_of (blocks_in c.args.tree.now.pending) c.args.ladder.now.climbers) e.block.id ≡ votes_at (cursors_of (blocks_in c.args.tree.now.pending) c.pass.new.ladder.came) e.block.id
+votes g c e is =
+    let held = c.args.tree.now in
+    let cs = c.args.ladder.now.climbers in
+    votes_of_group (blocks_in held.pending) e.block (c.args.at + 1) cs c.pass.new.ladder.came (told g c) (group_others held.last held.pending c.args.at e cs c.last-last.ensures.grown is c.requires.placed)
+
+-- as many as they are
+total : (g : given.Over) (c : After-pass g) (e : Entry Kept) → slice_get c.args.tree.now.pending c.args.at ≡ Some e
+    → votes_at (cursors_of (blocks_in c.args.tree.now.pending) c.args.ladder.now.climbers) e.block.id [] ≡ c.take-count.result
+total g c e is =
+    let bs = blocks_in c.args.tree.now.pending in
+    let came = c.pass.new.ladder.came in
+    ap (λ f. f []) (votes g c e is) ∙ all_came bs e.block.id (cursors_of bs came) (come g c e is) ∙ same_total bs came ∙ sym (counted g c)
+
+-- those that stand on the ladder when they went on
+stand : (g : given.Over) (c : After-pass g)
+    → IsPermutation (passed_on (blocks_in c.args.tree.now.pending) c.args.at (under (c.args.at + 1) c.args.ladder.now.climbers) c.pass.new.ladder.came) c.pass.new.ladder.climbers
+stand g c =
+    let bs = blocks_in c.args.tree.now.pending in
+    let went = λ (l : List _) (n : ℕ). IsPermutation (if nat_lt 0 n then passing bs c.args.at n ∷ l else l) c.pass.new.ladder.climbers in
+    subst (λ l. went l (climber_total c.pass.new.ladder.came)) c.take-count.ensures.climbers (subst (went c.take-count.new.self.climbers) (counted g c) c.pass.ensures.same)
+
+-- the votes at the block went on together
+went : (g : given.Over) (c : After-pass g)
+    → IfSome (slice_get c.args.tree.now.pending c.args.at) (λ e. IsPermutation (merged e.block (cursors_of (blocks_in c.args.tree.now.pending) c.args.ladder.now.climbers)) (cursors_of (blocks_in c.args.tree.now.pending) c.pass.new.ladder.climbers))
+went g c =
+    let held = c.args.tree.now in
+    let cs = c.args.ladder.now.climbers in
+    if_some (slice_get held.pending c.args.at) _ _
+    (λ e fit.
+    merged_on (blocks_in held.pending) e.block c.args.at cs c.pass.new.ladder.came c.pass.new.ladder.climbers (block_at held.pending c.args.at e fit.0)
+    (group_others held.last held.pending c.args.at e cs c.last-last.ensures.grown fit.0 c.requires.placed) (come g c e fit.0) (told g c) (stand g c))
+    c.requires.fit
+
+-- and look for where they look
+placed : (g : given.Over) (c : After-pass g) → ArePlaced (blocks_in c.args.tree.now.pending) c.pass.new.ladder.climbers
+placed g c =
+    let bs = blocks_in c.args.tree.now.pending in
+    placed_on bs c.args.at c.args.ladder.now.climbers c.pass.new.ladder.came c.pass.new.ladder.climbers
+    (omega (arith, c.requires.within, length-map c.args.tree.now.pending (λ e. e.block))) c.requires.placed (stand g c)
+
+pub returns-then-count-alpha_preference-clause-taken : goal.returns-then-count-alpha_preference-clause-taken
+returns-then-count-alpha_preference-clause-taken g c =
+    let at = (goal.at.returns-then-count-alpha_preference-clause-taken g c).After-pass in
     let held = c.args.tree.now in
     let bs = blocks_in held.pending in
-    let cs = c.args.ladder.now.climbers in
-    let came = c.take-count.new.self.came in
-    let count : c.take-count.result ≡ climber_total came =
-    omega (arith, c.take-count.ensures.total, group_total (c.args.at + 1) cs came c.take-count.ensures.came, same_total bs cs, c.requires.climbing.1.total, c.k-k.ensures.value)
+    let came = c.pass.new.ladder.came in
+    if_some (slice_get held.pending c.args.at) _ _
+    (λ e fit. (
+      e.load,
+      λ j. record held { pending = sym (same_load held.pending c.args.at e fit.0) j },
+      λ children fits. left_alone c.args.params.now c.args.polls children e.load (votes_at (cursors_of bs c.args.ladder.now.climbers) e.block.id) c.k-k.ensures.good fits
+          (λ front. omega (
+            arith,
+            ap (λ f. f front) (votes g at e fit.0),
+            few_came e.block.id (cursors_of bs came) front,
+            same_total bs came,
+            counted g at,
+            c.if-count-alpha_preference.true,
+            c.alpha_preference.ensures.value,
+          )),
+      λ s. refl,
+    ))
+    c.requires.fit
+
+pub returns-then-count-alpha_preference-clause-merged : goal.returns-then-count-alpha_preference-clause-merged
+returns-then-count-alpha_preference-clause-merged g c = went g (goal.at.returns-then-count-alpha_preference-clause-merged g c).After-pass
+
+pub returns-then-count-alpha_preference-clause-placed : goal.returns-then-count-alpha_preference-clause-placed
+returns-then-count-alpha_preference-clause-placed g c = placed g (goal.at.returns-then-count-alpha_preference-clause-placed g c).After-pass
+
+pub gather-requires-clause-total : goal.gather-requires-clause-total
+gather-requires-clause-total g c = omega (arith, few g (goal.at.gather-requires-clause-total g c).After-pass, c.k-k.ensures.value)
+
+pub gather-requires-clause-places : goal.gather-requires-clause-places
+gather-requires-clause-places g c =
+    omega (arith, c.requires.places, group_few (c.args.at + 1) c.args.ladder.now.climbers c.pass.new.ladder.came (told g (goal.at.gather-requires-clause-places g c).After-pass))
+
+pub gather-requires-clause-placed : goal.gather-requires-clause-placed
+gather-requires-clause-placed g c =
+    let first = c.args.tree.now.pending in
+    let bs = blocks_in first in
+    let all = of_group (λ x. (x.passed < length bs) × (x.place ≡ reach bs (parent_in (slice_get bs x.passed)))) (c.args.at + 1) c.args.ladder.now.climbers c.pass.new.ladder.came
+    (told g (goal.at.gather-requires-clause-placed g c).After-pass) c.requires.placed
     in
-    let stays = c.take-count.ensures.climbers in
-    let found = entry_at held.pending c.args.at c.requires.within in
-    let took = some_of (slice_get held.pending c.args.at) _ found.0 found.1 c.record_came-moved.ensures.taken in
-    let blocks = blocks_after c.record_came-moved.new.tree held c.args.at took.0 took.1 in
-    placed_on bs c.args.at cs came c.pass.new.ladder.climbers (slice_get_within bs c.args.at found.0.block (block_at held.pending c.args.at found.0 found.1)) c.requires.placed
-    (subst (λ l. IsPermutation (passed_on bs c.args.at l came) c.pass.new.ladder.climbers) stays
-    (subst (λ l. IsPermutation (passed_on l c.args.at c.take-count.new.self.climbers came) c.pass.new.ladder.climbers) blocks
-    (passed_of c.record_came-moved.new.tree c.args.at _ c.take-count.new.self.climbers came c.pass.new.ladder.climbers count c.pass.ensures.same)))
+    λ k d h. omega (arith, (all k d h).0, length-map first (λ e. e.block))
 
-pub returns-clause-put : goal.returns-clause-put
-returns-clause-put g c = omega (arith, c.pass.ensures.put, ap (λ (s : Rungs). s.put) c.take-count.ensures.rest)
+pub gather-requires-clause-counts : goal.gather-requires-clause-counts
+gather-requires-clause-counts g c =
+    let cs = c.args.ladder.now.climbers in
+    of_group (λ x. 0 < x.count) (c.args.at + 1) cs c.pass.new.ladder.came (told g (goal.at.gather-requires-clause-counts g c).After-pass)
+    (all_back (λ x. 0 < x.count) (cursor_of (blocks_in c.args.tree.now.pending)) cs c.requires.climbing.1.counts)
 
-pub returns-clause-low : goal.returns-clause-low
-returns-clause-low g c = omega (arith, c.pass.ensures.low, ap (λ (s : Rungs). s.low) c.take-count.ensures.rest)
+-- the entry at the place, whose load was lent
+lent : (g : given.Over) (c : In-Some g) → (e : Entry Kept) × (slice_get c.args.tree.now.pending c.args.at ≡ Some e) × (e.load ≡ c.in-Some.load.now)
+lent g c = entry_read _ c.in-Some.load.now (sym c.load_mut.ensures.value ∙ ap option_copied_mut c.in-Some.is)
 
-pub returns-clause-room : goal.returns-clause-room
-returns-clause-room g c =
-    let took = c.take-count.ensures.rest in
-    record {
-      most = c.pass.ensures.room.most ∙ ap (λ (s : Rungs). s.most) took;
-      votes = c.pass.ensures.room.votes ∙ ap (λ (s : Rungs). s.votes) took;
-      rungs = c.pass.ensures.room.rungs ∙ ap (λ (s : Rungs). s.rungs) took;
-    }
+-- it fits
+fits : (g : given.Over) (c : In-Some g) → IsFit c.args.params.now c.args.polls (children_of (blocks_in c.args.tree.now.pending) (lent g c).0.block.id) c.in-Some.load.now
+fits g c =
+    let read = lent g c in
+    subst (IsFit c.args.params.now c.args.polls (children_of (blocks_in c.args.tree.now.pending) read.0.block.id)) read.2 (some_of (slice_get c.args.tree.now.pending c.args.at) _ read.0 read.1 c.requires.fit)
+
+pub record-requires-clause-most : goal.record-requires-clause-most
+record-requires-clause-most g c =
+    let fit = fits g (goal.at.record-requires-clause-most g c).In-Some in
+    at_most c.args.params.now c.in-Some.load.now.conflict _ fit.parameters
+    (omega (arith, ap total_count c.entries.ensures.list, c.gather.ensures.total, few g (goal.at.record-requires-clause-most g c).After-pass))
+
+pub record-requires-clause-given : goal.record-requires-clause-given
+record-requires-clause-given g c =
+    let at = (goal.at.record-requires-clause-given g c).In-Some in
+    let read = lent g at in
+    rw c.entries.ensures.list
+    (subst (λ l. All (λ v. Contains l v.id) c.gather.new.children.list) (sym (fits g at).ids)
+    (c.gather.ensures.among read.0.block.id (come g (goal.at.record-requires-clause-given g c).After-pass read.0 read.1)))
+
+pub returns-in-Some-clause-taken : goal.returns-in-Some-clause-taken
+returns-in-Some-clause-taken g c =
+    let at = (goal.at.returns-in-Some-clause-taken g c).After-pass in
+    let p = c.args.params.now in
+    let polls = c.args.polls in
+    let held = c.args.tree.now in
+    let cs = cursors_of (blocks_in held.pending) c.args.ladder.now.climbers in
+    let read = lent g (goal.at.returns-in-Some-clause-taken g c).In-Some in
+    let e = read.0 in
+    let new = c.record.new.self in
+    let all : votes_on c.entries.result.now ≡ votes_at cs e.block.id =
+    ap votes_on c.entries.ensures.list ∙ c.gather.ensures.votes e.block.id (come g at e read.1) ∙ sym (votes g at e read.1)
+    in
+    let took : HasTaken p polls (votes_on c.entries.result.now) c.in-Some.load.now new = λ children fit. (c.record.ensures.counters p children fit, c.record.ensures.fit p children fit) in
+    subst (λ o. IfSome o (λ e. (load : Kept) × (with_load held c.args.at new ≡ with_load held c.args.at load) × HasTaken p polls (votes_at cs e.block.id) e.load load × IsSteady g.R.Rule.answer c.record.result e.load load)) (sym read.1) (
+      new,
+      refl,
+      subst (λ (f : List Bool → ℕ). HasTaken p polls f e.load new) all (subst (λ (k : Kept). HasTaken p polls (votes_on c.entries.result.now) k new) (sym read.2) took),
+      subst (λ (k : Kept). IsSteady g.R.Rule.answer c.record.result k new) (sym read.2) c.record.ensures.steady,
+    )
+
+pub returns-in-Some-clause-steps : goal.returns-in-Some-clause-steps
+returns-in-Some-clause-steps g c =
+    let least = c.args.params.now.alpha_preference in
+    let read = lent g (goal.at.returns-in-Some-clause-steps g c).In-Some in
+    let all = total g (goal.at.returns-in-Some-clause-steps g c).After-pass read.0 read.1 in
+    let reached = is_quorum least c.take-count.result (omega (arith, c.if-count-alpha_preference.false, c.alpha_preference.ensures.value)) in
+    let steps : ℕ → Type 0 = λ n. c.record.new.steps ≤ c.args.steps.now + 5 * n in
+    subst (λ o. IfSome o (λ e. steps (if nat_le least (votes_at (cursors_of (blocks_in c.args.tree.now.pending) c.args.ladder.now.climbers) e.block.id []) then length (ids_in e.load.conflict) else 0))) (sym read.1)
+    (rw (all, reached) (subst (λ (k : Kept). steps (length (ids_in k.conflict))) (sym read.2) c.record.ensures.steps))
+
+pub returns-in-Some-clause-merged : goal.returns-in-Some-clause-merged
+returns-in-Some-clause-merged g c = went g (goal.at.returns-in-Some-clause-merged g c).After-pass
+
+pub returns-in-Some-clause-placed : goal.returns-in-Some-clause-placed
+returns-in-Some-clause-placed g c = placed g (goal.at.returns-in-Some-clause-placed g c).After-pass
+
+pub returns-in-None-clause-placed : goal.returns-in-None-clause-placed
+returns-in-None-clause-placed g c = placed g (goal.at.returns-in-None-clause-placed g c).After-pass

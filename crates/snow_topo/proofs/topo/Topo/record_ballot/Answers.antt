@@ -16,7 +16,7 @@ use Rattle.snow_topo.proofs.Standings.{view_length, names_seen, names_kept, name
 use Rattle.snow_climb.proofs.Started.{begun_again, loaded_again}
 use Rattle.snow_topo.proofs.topo.Topo.record_ballot.Given as given
 use Rattle.snow_topo.proofs.topo.Topo.record_ballot.Goals as goal
-use Rattle.snow_topo.proofs.topo.Topo.record_ballot.Goals.{After-renew_if_full-before, After-apply-moved}
+use Rattle.snow_topo.proofs.topo.Topo.record_ballot.Goals.{After-renew_if_full-before, After-apply-moved, then-moved, else-moved}
 
 -- the board whose numbers of polls may have begun anew
 anew : (g : given.Over) (c : After-renew_if_full-before g) → view c.self.inside.params c.renew_if_full-before.result c.renew_if_full-before.new.root c.renew_if_full-before.new.tree ≡ view c.self.inside.params c.self.inside.polls c.self.inside.root c.self.inside.tree
@@ -75,16 +75,10 @@ names g c board same =
     (names_polled before votes
     (subst (λ (b : Board). AreNamed (blocks_of b.pending)) (sym board) (names_seen p c.self.inside.polls first c.self.invariant.named)))
 
-pub follow_poll-requires-clause-named : goal.follow_poll-requires-clause-named
-follow_poll-requires-clause-named g c =
-    let first = (goal.at.follow_poll-requires-clause-named g c).After-renew_if_full-before in
-    names g (goal.at.follow_poll-requires-clause-named g c).After-apply-moved (anew g first) (blocks g first)
-
-pub follow_poll-requires-clause-steady : goal.follow_poll-requires-clause-steady
-follow_poll-requires-clause-steady g c =
-    λ s.
-    let at = (goal.at.follow_poll-requires-clause-steady g c).After-renew_if_full-before in
-    c.self.invariant.preference ∙ ap (preferred g.R.Rule.answer) (sym (anew g at)) ∙ sym (c.apply-moved.ensures.steady s)
+pub preference_of-self-inside-requires-clause-named : goal.preference_of-self-inside-requires-clause-named
+preference_of-self-inside-requires-clause-named g c =
+    let first = (goal.at.preference_of-self-inside-requires-clause-named g c).After-renew_if_full-before in
+    names g (goal.at.preference_of-self-inside-requires-clause-named g c).After-apply-moved (anew g first) (blocks g first)
 
 pub returns-clause-board : goal.returns-clause-board
 returns-clause-board g c =
@@ -121,7 +115,11 @@ invariant_of-self g c =
     record {
       fit = c.apply-moved.ensures.fit;
       named = names g (goal.at.invariant_of-self g c).After-apply-moved (anew g first) (blocks g first);
-      preference = c.follow_poll.ensures;
+      preference =
+          elim c.if-moved.branch [
+            | then-moved w ↦ w.self-is ∙ w.preference_of-self-inside.ensures
+            | else-moved w ↦ w.self-is ∙ stood.preference ∙ ap (preferred g.R.Rule.answer) (sym (anew g first)) ∙ sym (c.apply-moved.ensures.steady w.if-moved.false)
+          ];
       room = record {
         decides =
             omega (

@@ -1,12 +1,12 @@
 use Rattle.std.proofs.Common.{◌+◌, ◌≤◌, length}
 use Rattle.snow_climb.specs.Kept.Ladder.{chain}
 use Rattle.snow_climb.proofs.Gatherings.{AreGathered}
-use Rattle.snow_climb.proofs.gathering.gather_all.Given as goal
+use Rattle.snow_climb.proofs.gathering.gather.Given as goal
 
 abbrev pub invariant-loop-left : goal.invariant-loop-left
 invariant-loop-left g l = record {
   within : l.left ≤ length l.links;
-  gathered : AreGathered l.tree.pending (chain l.links l.last) (chain l.links l.left) l.children.list;
+  gathered : AreGathered l.tree.pending l.ladder.came (chain l.links l.left) l.children.list;
   places : l.fn.children.room + length l.fn.children.list ≤ l.children.room + length l.children.list;
 }
 
