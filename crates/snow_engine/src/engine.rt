@@ -8,7 +8,7 @@ ghost use Rattle.snow_engine.specs.Clauses.Stopping.{Logs, Starts, Steps};
 ghost use Rattle.snow_node.specs.Model.Turning.{members};
 
 use crate::booting::Booting;
-use crate::boxed::BoxedStop;
+use crate::boxed::{BoxedStop, boxed};
 use crate::deciding::Deciding;
 use crate::stage::{Node, Stage};
 use crate::stop::EngineStop;
@@ -99,7 +99,7 @@ impl<C: Chain, B: Board> Engine<C, B> {
     }
 
     /// Takes one event, as `step` does, and returns a stop in a box.
-    #[tactic(auto, using(crate::proofs::Staged::turned, crate::proofs::Staged::halted, crate::proofs::Staged::logged))]
+    #[tactic(auto, using(crate::proofs::Staged::stepped, crate::proofs::Staged::step_logged))]
     pub(crate) fn advance(
         &mut self,
         frame: u64,
@@ -110,18 +110,9 @@ impl<C: Chain, B: Board> Engine<C, B> {
         ensures lines { Logs result log.old log.new (model.step C.rules B.answer self.old frame (as_event event.entry)).0 }
     {
         match &mut self.stage {
-            Stage::Deciding(node) => match node.step(frame, event, log) {
-                Ok(()) => Ok(()),
-                Err(halt) => Err(BoxedStop::from(halt)),
-            },
-            Stage::Booting(_) => match self.catch_up(frame, event, log) {
-                Ok(()) => Ok(()),
-                Err(stop) => Err(BoxedStop::new(self.alloc, stop)),
-            },
-            Stage::Running(node) => match node.step(frame, event, log) {
-                Ok(()) => Ok(()),
-                Err(halt) => Err(BoxedStop::from(halt)),
-            },
+            Stage::Deciding(node) => boxed(node.step(frame, event, log)),
+            Stage::Booting(_) => self.catch_up(frame, event, log),
+            Stage::Running(node) => boxed(node.step(frame, event, log)),
             Stage::Ended => Ok(()),
         }
     }
@@ -130,8 +121,8 @@ impl<C: Chain, B: Board> Engine<C, B> {
     // It moves whole nodes: were it inlined, each frame would probe the stack that this takes, page
     // by page.
     #[inline(never)]
-    #[tactic(auto, using(snow_node::proofs::Logs::logs_nothing, crate::proofs::Staged::stopped, crate::proofs::Staged::stop_logged))]
-    fn catch_up(&mut self, frame: u64, event: View<'_>, log: &mut Lines) -> Result<(), EngineStop>
+    #[tactic(auto, using(crate::proofs::Staged::stopped, crate::proofs::Staged::stop_logged))]
+    fn catch_up(&mut self, frame: u64, event: View<'_>, log: &mut Lines) -> Result<(), BoxedStop>
         requires { model.is_booting self.old ≡ true }
         ensures answer { Steps result self.new (model.step C.rules B.answer self.old frame (as_event event.entry)).1 }
         ensures lines { Logs result log.old log.new (model.step C.rules B.answer self.old frame (as_event event.entry)).0 }
@@ -148,7 +139,7 @@ impl<C: Chain, B: Board> Engine<C, B> {
                 drop(mem::replace(&mut self.stage, stage));
                 Ok(())
             }
-            Err(stop) => Err(stop),
+            Err(stop) => Err(BoxedStop::new(self.alloc, stop)),
         }
     }
 
