@@ -111,35 +111,9 @@ impl<C: Chain, B: Board> Engine<C, B> {
     {
         match &mut self.stage {
             Stage::Deciding(node) => boxed(node.step(frame, event, log)),
-            Stage::Booting(_) => self.catch_up(frame, event, log),
+            stage @ Stage::Booting(_) => catch_up(self.alloc, stage, frame, event, log),
             Stage::Running(node) => boxed(node.step(frame, event, log)),
             Stage::Ended => Ok(()),
-        }
-    }
-
-    /// Gives one event to a node that bootstraps. At a stop it drops the node.
-    // It moves whole nodes: were it inlined, each frame would probe the stack that this takes, page
-    // by page.
-    #[inline(never)]
-    #[tactic(auto, using(crate::proofs::Staged::stopped, crate::proofs::Staged::stop_logged))]
-    fn catch_up(&mut self, frame: u64, event: View<'_>, log: &mut Lines) -> Result<(), BoxedStop>
-        requires { model.is_booting self.old ≡ true }
-        ensures answer { Steps result self.new (model.step C.rules B.answer self.old frame (as_event event.entry)).1 }
-        ensures lines { Logs result log.old log.new (model.step C.rules B.answer self.old frame (as_event event.entry)).0 }
-    {
-        let node = match mem::replace(&mut self.stage, Stage::Ended) {
-            Stage::Booting(node) => node,
-            other => {
-                drop(other);
-                return Ok(());
-            }
-        };
-        match node.step(frame, event, log) {
-            Ok(stage) => {
-                drop(mem::replace(&mut self.stage, stage));
-                Ok(())
-            }
-            Err(stop) => Err(BoxedStop::new(self.alloc, stop)),
         }
     }
 
@@ -147,6 +121,38 @@ impl<C: Chain, B: Board> Engine<C, B> {
     /// Rule: this project's own.
     pub fn discard(self) {
         drop(self);
+    }
+}
+
+/// Gives one event to a node that bootstraps. At a stop it drops the node.
+// It moves whole nodes: were it inlined, each frame would probe the stack that this takes, page
+// by page.
+#[inline(never)]
+#[tactic(auto, using(crate::proofs::Staged::stopped, crate::proofs::Staged::stop_logged))]
+fn catch_up<C: Chain, B: Board>(
+    alloc: Global,
+    stage: &mut Node<C, B>,
+    frame: u64,
+    event: View<'_>,
+    log: &mut Lines,
+) -> Result<(), BoxedStop>
+    requires { model.is_booting stage.old ≡ true }
+    ensures answer { Steps result stage.new (model.step C.rules B.answer stage.old frame (as_event event.entry)).1 }
+    ensures lines { Logs result log.old log.new (model.step C.rules B.answer stage.old frame (as_event event.entry)).0 }
+{
+    let node = match mem::replace(stage, Stage::Ended) {
+        Stage::Booting(node) => node,
+        other => {
+            drop(other);
+            return Ok(());
+        }
+    };
+    match node.step(frame, event, log) {
+        Ok(next) => {
+            drop(mem::replace(stage, next));
+            Ok(())
+        }
+        Err(stop) => Err(BoxedStop::new(alloc, stop)),
     }
 }
 
