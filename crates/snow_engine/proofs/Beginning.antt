@@ -4,12 +4,14 @@ use Rattle.std.specs.FinMap.{empty}
 use Rattle.snow_flake.specs.Model.Parameters.{Parameters}
 use Rattle.snow_sample.specs.declared.roster.Node.{Node as Member}
 use Rattle.snow_board.proofs.Cases.{id_itself}
-use Rattle.snow_chain.specs.Model.Chain.{Held, state_of, begun}
+use Rattle.snow_chain.specs.Model.Chain.{Held, Rules, state_of, begun}
 use Rattle.snow_boot.specs.Model.Booting.{Boot, Going, started}
 use Rattle.snow_chain.specs.Kept.Alone.{IsAlone, last_state}
+use Rattle.snow_wire.specs.declared.event.Event.{Event}
 use Rattle.snow_wire.specs.declared.event.Start.{Start}
 use Rattle.snow_engine.specs.declared.stage.Stage.TheVariants as stage
-use Rattle.snow_engine.specs.Model.Catching.{brings, new_booting}
+use Rattle.snow_engine.specs.Model.Booting.{Booting}
+use Rattle.snow_engine.specs.Model.Catching.{brings, heard, new_booting}
 use Rattle.snow_engine.specs.Model.Node.{begun_by}
 use Rattle.snow_node.specs.Model.Running.{Running, begun_above}
 use Rattle.snow_node.specs.Model.Turning.{members}
@@ -49,6 +51,16 @@ boots s p roster n drawn boot held words r z h w e =
     let f = subst (λ (k : ℕ). (started s.last s.height roster k).1 ≡ Ok (Going boot drawn)) z e in
     let g = subst (λ (nodes : List Member). (started s.last s.height nodes 0).1 ≡ Ok (Going boot drawn)) r f in
     rw (r, state_begun held s.last s.state h, w) (ap (brings (new_booting s p)) g)
+
+-- it goes on at this event, over the same state
+pub still_boots : (rules : Rules) (before node : Booting) (frame : ℕ) (e : Event) (boot : Boot) (drawn : ℕ) (state : List ℕ) → before ≡ node
+    → (heard rules before.state before.boot before.last frame e).1 ≡ Ok (Going boot drawn) → state ≡ before.state
+    → brings node (heard rules node.state node.boot node.last frame e).1
+    ≡ Ok (stage.Booting (record { parameters = before.parameters; roster = before.roster; boot = boot; state = state; words = before.words; last = drawn }))
+still_boots rules before node frame e boot drawn state is came same =
+    subst (λ (n : Booting). brings n (heard rules n.state n.boot n.last frame e).1
+    ≡ Ok (stage.Booting (record { parameters = before.parameters; roster = before.roster; boot = boot; state = state; words = before.words; last = drawn })))
+    is (rw same (ap (brings before) came))
 
 -- ---- a node runs at once
 

@@ -1,23 +1,48 @@
 -- What comes of a node of one stage comes of it as a node.
-use Rattle.std.proofs.Common.{◌≡◌, List, Result, Ok, Err, ap}
+use Rattle.std.proofs.Common.{◌≡◌, List, Result, Ok, Err, ap, subst, sym, inl, inr}
 use Rattle.snow_lines.specs.declared.line.Line.{Line}
 use Rattle.snow_node.specs.declared.stop.Halt.{Halt}
 use Rattle.snow_node.specs.declared.stop.Halt.TheVariants as halt
-use Rattle.snow_node.specs.Clauses.Stepping.{HaltsAs, Tells}
+use Rattle.snow_node.specs.Clauses.Stepping.{HaltsAs, LogsFront, Tells, Turns}
+use Rattle.snow_node.proofs.Logs.{logs_whole}
 use Rattle.snow_engine.specs.declared.stop.EngineStop.{EngineStop}
 use Rattle.snow_engine.specs.declared.stop.EngineStop.TheVariants as stop
 use Rattle.snow_engine.specs.Kept.Staging.{Node, staged, stop_for}
-use Rattle.snow_engine.specs.Clauses.Stopping.{Logs, Starts, StopsAs}
+use Rattle.snow_engine.specs.Kept.Boxed.{as_step}
+use Rattle.snow_engine.specs.Clauses.Boxing.{IsBoxed}
+use Rattle.snow_engine.specs.Clauses.Stopping.{Logs, Starts, Steps, StopsAs}
 
 -- a step of one stage is one of the node
-pub turned : (S : Type 0) (as_node : S → Node) (after : S) (expected : Result S Halt) → expected ≡ Ok after → staged as_node expected ≡ Ok (as_node after)
-turned S as_node after expected e = ap (staged as_node) e
+pub stepped : (S : Type 0) (as_node : S → Node) (given : Result (Unit {0}) Halt) (result : Result (Unit {0}) EngineStop) (after : S) (expected : Result S Halt)
+    → result ≡ as_step given → Turns given after expected → Steps result (as_node after) (staged as_node expected)
+stepped S as_node given result after expected is t = subst (λ (r : Result (Unit {0}) EngineStop). Steps r (as_node after) (staged as_node expected)) (sym is) (steps given t)
+  where
+    steps : (given : Result (Unit {0}) Halt) → Turns given after expected → Steps (as_step given) (as_node after) (staged as_node expected)
+    steps (Ok u) t = ap (staged as_node) t
+    steps (Err halt.Memory) t = tt
+    steps (Err halt.SecondStart) t = ap (staged as_node) t
+    steps (Err halt.Requests) t = ap (staged as_node) t
 
--- a stop of one stage is one of the engine
-pub halted : (S : Type 0) (as_node : S → Node) (h : Halt) (expected : Result S Halt) → HaltsAs h expected → StopsAs (stop_for h) (staged as_node expected)
-halted S as_node halt.Memory expected e = tt
-halted S as_node halt.SecondStart expected e = ap (staged as_node) e
-halted S as_node halt.Requests expected e = ap (staged as_node) e
+-- and its lines
+pub step_logged : (given : Result (Unit {0}) Halt) (result : Result (Unit {0}) EngineStop) (before now lines : List Line)
+    → result ≡ as_step given → Tells given before now lines → Logs result before now lines
+step_logged given result before now lines is l = subst (λ (r : Result (Unit {0}) EngineStop). Logs r before now lines) (sym is) (logs given l)
+  where
+    logs : (given : Result (Unit {0}) Halt) → Tells given before now lines → Logs (as_step given) before now lines
+    logs (Ok u) l = l
+    logs (Err halt.Memory) l = l
+    logs (Err halt.SecondStart) l = l
+    logs (Err halt.Requests) l = l
+
+-- a node of one stage that goes on is one that is returned
+pub kept_on : (S : Type 0) (as_node : S → Node) (after : S) (expected : Result S Halt) → expected ≡ Ok after → Starts (Ok (as_node after)) (staged as_node expected)
+kept_on S as_node after expected e = ap (staged as_node) e
+
+-- one that stopped is none
+pub let_go : (S : Type 0) (as_node : S → Node) (h : Halt) (expected : Result S Halt) → HaltsAs h expected → Starts (Err (stop_for h)) (staged as_node expected)
+let_go S as_node halt.Memory expected e = tt
+let_go S as_node halt.SecondStart expected e = ap (staged as_node) e
+let_go S as_node halt.Requests expected e = ap (staged as_node) e
 
 -- and its lines
 pub logged : (T U : Type 0) (h : Halt) (before now lines : List Line) → Tells {T = T} (Err h) before now lines → Logs {T = U} (Err (stop_for h)) before now lines
@@ -25,22 +50,39 @@ logged T U halt.Memory before now lines l = l
 logged T U halt.SecondStart before now lines l = l
 logged T U halt.Requests before now lines l = l
 
--- what gave a stop in place of a node stops so
-pub stopped : (S : Type 0) (s : EngineStop) (expected : Result S EngineStop) → Starts {S = S} (Err s) expected → StopsAs s expected
-stopped S (stop.Params fault) expected e = e
-stopped S (stop.Roster fault) expected e = e
-stopped S stop.State expected e = e
-stopped S (stop.Boot why) expected e = e
-stopped S stop.SecondStart expected e = e
-stopped S stop.Requests expected e = e
-stopped S stop.Memory expected e = tt
+-- what gave a stop in place of a node stops so, in a box
+pub stopped : (S : Type 0) (s b : EngineStop) (expected : Result S EngineStop) → IsBoxed stop.Memory s b → Starts {S = S} (Err s) expected → StopsAs b expected
+stopped S s b expected (inl same) e = rw same (stops s e)
+  where
+    stops : (s : EngineStop) → Starts {S = S} (Err s) expected → StopsAs s expected
+    stops (stop.Params fault) e = e
+    stops (stop.Roster fault) e = e
+    stops stop.State e = e
+    stops (stop.Boot why) e = e
+    stops stop.SecondStart e = e
+    stops stop.Requests e = e
+    stops stop.Memory e = tt
+stopped S s b expected (inr none) e = rw none tt
 
 -- and its lines
-pub stop_logged : (T U : Type 0) (s : EngineStop) (before now lines : List Line) → Logs {T = T} (Err s) before now lines → Logs {T = U} (Err s) before now lines
-stop_logged T U (stop.Params fault) before now lines l = l
-stop_logged T U (stop.Roster fault) before now lines l = l
-stop_logged T U stop.State before now lines l = l
-stop_logged T U (stop.Boot why) before now lines l = l
-stop_logged T U stop.SecondStart before now lines l = l
-stop_logged T U stop.Requests before now lines l = l
-stop_logged T U stop.Memory before now lines l = l
+pub stop_logged : (T U : Type 0) (s b : EngineStop) (before now lines : List Line) → IsBoxed stop.Memory s b → Logs {T = T} (Err s) before now lines → Logs {T = U} (Err b) before now lines
+stop_logged T U s b before now lines (inl same) l = rw same (logs s l)
+  where
+    logs : (s : EngineStop) → Logs {T = T} (Err s) before now lines → Logs {T = U} (Err s) before now lines
+    logs (stop.Params fault) l = l
+    logs (stop.Roster fault) l = l
+    logs stop.State l = l
+    logs (stop.Boot why) l = l
+    logs stop.SecondStart l = l
+    logs stop.Requests l = l
+    logs stop.Memory l = l
+stop_logged T U s b before now lines (inr none) l = rw none (front s l)
+  where
+    front : (s : EngineStop) → Logs {T = T} (Err s) before now lines → LogsFront before now lines
+    front (stop.Params fault) l = logs_whole before now lines l
+    front (stop.Roster fault) l = logs_whole before now lines l
+    front stop.State l = logs_whole before now lines l
+    front (stop.Boot why) l = logs_whole before now lines l
+    front stop.SecondStart l = logs_whole before now lines l
+    front stop.Requests l = logs_whole before now lines l
+    front stop.Memory l = l

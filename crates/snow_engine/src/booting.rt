@@ -1,6 +1,6 @@
 //! A node that bootstraps before it runs.
 
-ghost use Rattle.std.specs.Prelude.{◌≡◌};
+ghost use Rattle.std.specs.Prelude.{◌≡◌, [], ◌∷◌, Err, OnErr};
 ghost use Rattle.snow_flake.specs.Model.Parameters.{AreGood};
 ghost use Rattle.snow_chain.specs.Model.Chain.{begun};
 ghost use Rattle.snow_chain.specs.Kept.Alone.{last_state};
@@ -9,18 +9,20 @@ ghost use Rattle.snow_boot.specs.Clauses.Calling.{Logs as BootLogs};
 ghost use Rattle.snow_wire.specs.Clauses.Viewed.{as_event};
 ghost use Rattle.snow_engine.specs.Model.Catching as model;
 ghost use Rattle.snow_engine.specs.Clauses.Stopping.{Logs, Starts};
+ghost use Rattle.snow_lines.specs.declared.line.Line.TheVariants as line;
+ghost use Rattle.snow_node.specs.Clauses.Stepping.{Tells, Turns};
 ghost use Rattle.snow_node.specs.Model.Turning.{members};
 
 use crate::stage::{Node, Stage};
 use crate::stop::EngineStop;
 use snow_base::limits::MOST_WORDS;
-use snow_base::{Id, NodeId, Numbers, Nums};
+use snow_base::{Id, NodeId, Numbers};
 use snow_board::Board;
 use snow_boot::{Boot, BootStop, Intervals, Stage as BootStage};
 use snow_chain::Chain;
 use snow_flake::Params;
 use snow_lines::{Line, Lines, SkipKind};
-use snow_node::Running;
+use snow_node::{Halt, Running, write};
 use snow_sample::{Roster, Words};
 use snow_wire::{Start, View, ids_of, words_of};
 use std::alloc::Global;
@@ -103,9 +105,9 @@ impl<C: Chain> Booting<C> {
     /// Takes one event, which came in this frame, and returns the node that comes of it: it still
     /// bootstraps, or it runs. It returns the stop that comes; on want of memory, `Memory`.
     /// Rule: AvalancheGo, snow/engine/snowman/bootstrap.
-    #[tactic(auto, unfolding(crate::specs::Model::Catching::boots_on), using(snow_node::proofs::Logs::logs_nothing))]
+    #[tactic(auto, unfolding(crate::specs::Model::Catching::boots_on), using(crate::proofs::Staged::kept_on, crate::proofs::Staged::let_go, crate::proofs::Staged::logged))]
     pub fn step<B: Board>(
-        self,
+        mut self,
         frame: u64,
         event: View<'_>,
         log: &mut Lines,
@@ -113,75 +115,15 @@ impl<C: Chain> Booting<C> {
         ensures answer { Starts result (model.boots_on C.rules self frame (as_event event.entry)).1 }
         ensures lines { Logs result log.old log.new (model.boots_on C.rules self frame (as_event event.entry)).0 }
     {
-        match event {
-            View::Start(_) => {
-                drop(self);
-                Err(EngineStop::SecondStart)
-            }
-            View::Words(words) => match words_of(self.alloc, words) {
-                Ok(words) => self.take_words(frame, &words, log),
-                Err(_) => {
-                    drop(self);
-                    Err(EngineStop::Memory)
-                }
-            },
-            View::Poll(_) | View::Line(_) => self.pass_over(frame, SkipKind::Task, log),
-            View::Block(_)
-            | View::Validators(_)
-            | View::AskQuery(_)
-            | View::AskFrontier(_)
-            | View::AskAccepted(_)
-            | View::AskAncestors(_)
-            | View::AskBlock(_) => self.pass_over(frame, SkipKind::Stage, log),
-            answer @ (View::Chits(_)
-            | View::Timeout(_)
-            | View::Frontier(_)
-            | View::Accepted(_)
-            | View::Ancestors(_)
-            | View::Stored(_)) => self.catch_up(frame, answer, log),
+        if is_heard(&event) {
+            return self.catch_up(frame, event, log);
         }
-    }
-
-    /// Writes that a frame is passed over.
-    #[tactic(auto, using(snow_node::proofs::Logs::logs_nothing))]
-    fn pass_over<B: Board>(
-        self,
-        frame: u64,
-        kind: SkipKind,
-        log: &mut Lines,
-    ) -> Result<Node<C, B>, EngineStop>
-        ensures answer { Starts result (model.passed_over self frame kind).1 }
-        ensures lines { Logs result log.old log.new (model.passed_over self frame kind).0 }
-    {
-        // (a node is let go by a call: it is many steps, which stand in one place then)
-        match log.push(Line::Skip { frame, kind }) {
+        match note(self.alloc, &mut self.words, frame, event, log) {
             Ok(()) => Ok(Stage::Booting(self)),
-            Err(_) => {
+            Err(halt) => {
+                // (a node is let go by a call: it is many steps, which stand in one place then)
                 drop(self);
-                Err(EngineStop::Memory)
-            }
-        }
-    }
-
-    /// Takes words.
-    #[tactic(auto, using(snow_node::proofs::Logs::logs_nothing))]
-    fn take_words<B: Board>(
-        mut self,
-        frame: u64,
-        words: &Nums,
-        log: &mut Lines,
-    ) -> Result<Node<C, B>, EngineStop>
-        ensures answer { Starts result (model.words_kept self frame words.now).1 }
-        ensures lines { Logs result log.old log.new (model.words_kept self frame words.now).0 }
-    {
-        if words.list().len() > MOST_WORDS - self.words.len() {
-            return self.pass_over(frame, SkipKind::Full, log);
-        }
-        match self.words.push_all(words.list()) {
-            Ok(()) => Ok(Stage::Booting(self)),
-            Err(_) => {
-                drop(self);
-                Err(EngineStop::Memory)
+                Err(EngineStop::from(halt))
             }
         }
     }
@@ -233,6 +175,66 @@ impl<C: Chain> Booting<C> {
             }
         }
     }
+}
+
+/// Returns whether an event brings something to bootstrapping.
+fn is_heard(event: &View<'_>) -> bool
+    ensures { result ≡ model.is_heard (as_event event.now) }
+{
+    matches!(
+        event,
+        View::Frontier(_)
+            | View::Accepted(_)
+            | View::Ancestors(_)
+            | View::Timeout(_)
+            | View::Stored(_)
+    )
+}
+
+/// Takes an event that brings nothing to bootstrapping: words are kept, and most others are passed
+/// over.
+#[tactic(auto, using(snow_node::proofs::Logs::logs_nothing))]
+fn note(
+    alloc: Global,
+    kept: &mut Words,
+    frame: u64,
+    event: View<'_>,
+    log: &mut Lines,
+) -> Result<(), Halt>
+    ensures answer { Turns result kept.new (model.noted kept.old frame (as_event event.entry)).1 }
+    ensures lines { Tells result log.old log.new (model.noted kept.old frame (as_event event.entry)).0 }
+{
+    match event {
+        View::Start(_) => Err(Halt::SecondStart),
+        View::Words(words) => {
+            let words = words_of(alloc, words)?;
+            keep(kept, frame, words.list(), log)
+        }
+        View::Chits(_) => Ok(()),
+        View::Poll(_) | View::Line(_) => skip(frame, SkipKind::Task, log),
+        _ => skip(frame, SkipKind::Stage, log),
+    }
+}
+
+/// Keeps words until the node runs, unless they are too many.
+#[tactic(auto, using(snow_node::proofs::Logs::logs_nothing))]
+fn keep(kept: &mut Words, frame: u64, words: &[u64], log: &mut Lines) -> Result<(), Halt>
+    ensures answer { Turns result kept.new (model.words_kept kept.old frame words.now).1 }
+    ensures lines { Tells result log.old log.new (model.words_kept kept.old frame words.now).0 }
+{
+    if words.len() > MOST_WORDS - kept.len() {
+        return skip(frame, SkipKind::Full, log);
+    }
+    kept.push_all(words)?;
+    Ok(())
+}
+
+/// Writes that a frame is passed over.
+fn skip(frame: u64, kind: SkipKind, log: &mut Lines) -> Result<(), Halt>
+    ensures memory { OnErr result (result ≡ Err Halt.Memory) }
+    ensures lines { Tells result log.old log.new (line.Skip frame kind ∷ []) }
+{
+    write(Line::Skip { frame, kind }, log)
 }
 
 /// Takes an event into bootstrapping.

@@ -1,5 +1,8 @@
 //! Stops and ends in boxes, so that a call which brings none returns a few bytes.
 
+ghost use Rattle.std.specs.Prelude.{◌≡◌};
+ghost use Rattle.snow_engine.specs.Kept.Boxed.{as_step};
+
 use crate::end::End;
 use crate::stop::EngineStop;
 use snow_node::Halt;
@@ -67,6 +70,16 @@ impl From<BoxedStop> for EngineStop {
             KeptStop::Halted(halt) => EngineStop::from(*halt),
             KeptStop::Boxed(stop) => **stop,
         }
+    }
+}
+
+/// Returns what a step of a node gave, with its stop as one of the engine.
+pub(crate) fn boxed(stepped: Result<(), Halt>) -> Result<(), BoxedStop>
+    ensures { result ≡ as_step stepped }
+{
+    match stepped {
+        Ok(()) => Ok(()),
+        Err(halt) => Err(BoxedStop::from(halt)),
     }
 }
 

@@ -1,13 +1,11 @@
 //! A node that decides: it takes blocks and whole polls, and asks nobody.
 
-ghost use Rattle.std.specs.Prelude.{◌≡◌, None};
+ghost use Rattle.std.specs.Prelude.{◌≡◌};
 ghost use Rattle.snow_flake.specs.Model.Parameters.{AreGood};
-ghost use Rattle.snow_board.specs.Model.Board.{height_of};
 ghost use Rattle.snow_board.specs.Laws.Reached.{MayIssue};
 ghost use Rattle.snow_chain.specs.Model.Chain.{next_on};
 ghost use Rattle.snow_engine.specs.Model.Deciding as model;
 ghost use Rattle.snow_engine.specs.Model.Node.{decides_with};
-ghost use Rattle.snow_node.specs.Model.Placing.{opposed};
 ghost use Rattle.snow_engine.specs.Clauses.Stopping.{Starts};
 ghost use Rattle.snow_node.specs.Clauses.Stepping.{Tells, Turns};
 ghost use Rattle.snow_wire.specs.Clauses.Viewed.{as_event};
@@ -92,49 +90,22 @@ impl<C: Chain, B: Board> Deciding<C, B> {
         }
     }
 
-    /// Takes a block's bytes.
+    /// Takes a block's bytes: issues it above its parent, unless something stands against it. A
+    /// block that is on the board changes nothing.
     fn on_block(&mut self, frame: u64, bytes: &[u8], log: &mut Lines) -> Result<(), Halt>
         ensures answer { Turns result self.new (model.received C.rules B.answer self.old frame bytes.now (C.rules.header_of bytes.now)).1 }
         ensures lines { Tells result log.old log.new (model.received C.rules B.answer self.old frame bytes.now (C.rules.header_of bytes.now)).0 }
     {
-        match self.chain.parse(bytes) {
-            None => write(
-                Line::Skip {
-                    frame,
-                    kind: SkipKind::Block,
-                },
-                log,
-            ),
-            Some(block) => self.offer(&block, bytes, log),
+        let Some(block) = self.chain.parse(bytes) else {
+            let kind = SkipKind::Block;
+            return write(Line::Skip { frame, kind }, log);
+        };
+        if self.board.height_of(&block.id).is_some() {
+            return Ok(());
         }
-    }
-
-    /// Places a block that isn't on the board above its parent. One that is on it changes nothing.
-    fn offer(&mut self, block: &Header, bytes: &[u8], log: &mut Lines) -> Result<(), Halt>
-        ensures answer { Turns result self.new (model.offered B.answer self.old block.now
-            (next_on C.rules self.old.chain block.now.parent bytes.now) (height_of self.old.board block.now.id)).1 }
-        ensures lines { Tells result log.old log.new (model.offered B.answer self.old block.now
-            (next_on C.rules self.old.chain block.now.parent bytes.now) (height_of self.old.board block.now.id)).0 }
-    {
-        match self.board.height_of(&block.id) {
-            Some(_) => Ok(()),
-            None => self.place(block, bytes, log),
-        }
-    }
-
-    /// Issues a block that isn't on the board, unless something stands against it.
-    fn place(&mut self, block: &Header, bytes: &[u8], log: &mut Lines) -> Result<(), Halt>
-        requires { height_of self.old.board block.now.id ≡ None }
-        ensures answer { Turns result self.new (model.placed B.answer self.old block.now
-            (next_on C.rules self.old.chain block.now.parent bytes.now)
-            (opposed self.old.board block.now (height_of self.old.board block.now.parent))).1 }
-        ensures lines { Tells result log.old log.new (model.placed B.answer self.old block.now
-            (next_on C.rules self.old.chain block.now.parent bytes.now)
-            (opposed self.old.board block.now (height_of self.old.board block.now.parent))).0 }
-    {
-        match opposition(&self.board, block) {
+        match opposition(&self.board, &block) {
             Some(why) => write(Line::Drop { id: block.id, why }, log),
-            None => self.issue(block, bytes, log),
+            None => self.issue(&block, bytes, log),
         }
     }
 

@@ -8,7 +8,7 @@ ghost use Rattle.snow_engine.specs.Clauses.Stopping.{Logs, Starts, Steps};
 ghost use Rattle.snow_node.specs.Model.Turning.{members};
 
 use crate::booting::Booting;
-use crate::boxed::BoxedStop;
+use crate::boxed::{BoxedStop, boxed};
 use crate::deciding::Deciding;
 use crate::stage::{Node, Stage};
 use crate::stop::EngineStop;
@@ -99,7 +99,7 @@ impl<C: Chain, B: Board> Engine<C, B> {
     }
 
     /// Takes one event, as `step` does, and returns a stop in a box.
-    #[tactic(auto, using(crate::proofs::Staged::turned, crate::proofs::Staged::halted, crate::proofs::Staged::logged))]
+    #[tactic(auto, using(crate::proofs::Staged::stepped, crate::proofs::Staged::step_logged))]
     pub(crate) fn advance(
         &mut self,
         frame: u64,
@@ -110,45 +110,10 @@ impl<C: Chain, B: Board> Engine<C, B> {
         ensures lines { Logs result log.old log.new (model.step C.rules B.answer self.old frame (as_event event.entry)).0 }
     {
         match &mut self.stage {
-            Stage::Deciding(node) => match node.step(frame, event, log) {
-                Ok(()) => Ok(()),
-                Err(halt) => Err(BoxedStop::from(halt)),
-            },
-            Stage::Booting(_) => match self.catch_up(frame, event, log) {
-                Ok(()) => Ok(()),
-                Err(stop) => Err(BoxedStop::new(self.alloc, stop)),
-            },
-            Stage::Running(node) => match node.step(frame, event, log) {
-                Ok(()) => Ok(()),
-                Err(halt) => Err(BoxedStop::from(halt)),
-            },
+            Stage::Deciding(node) => boxed(node.step(frame, event, log)),
+            stage @ Stage::Booting(_) => catch_up(self.alloc, stage, frame, event, log),
+            Stage::Running(node) => boxed(node.step(frame, event, log)),
             Stage::Ended => Ok(()),
-        }
-    }
-
-    /// Gives one event to a node that bootstraps. At a stop it drops the node.
-    // It moves whole nodes: were it inlined, each frame would probe the stack that this takes, page
-    // by page.
-    #[inline(never)]
-    #[tactic(auto, using(snow_node::proofs::Logs::logs_nothing, crate::proofs::Staged::stopped, crate::proofs::Staged::stop_logged))]
-    fn catch_up(&mut self, frame: u64, event: View<'_>, log: &mut Lines) -> Result<(), EngineStop>
-        requires { model.is_booting self.old ≡ true }
-        ensures answer { Steps result self.new (model.step C.rules B.answer self.old frame (as_event event.entry)).1 }
-        ensures lines { Logs result log.old log.new (model.step C.rules B.answer self.old frame (as_event event.entry)).0 }
-    {
-        let node = match mem::replace(&mut self.stage, Stage::Ended) {
-            Stage::Booting(node) => node,
-            other => {
-                drop(other);
-                return Ok(());
-            }
-        };
-        match node.step(frame, event, log) {
-            Ok(stage) => {
-                drop(mem::replace(&mut self.stage, stage));
-                Ok(())
-            }
-            Err(stop) => Err(stop),
         }
     }
 
@@ -156,6 +121,38 @@ impl<C: Chain, B: Board> Engine<C, B> {
     /// Rule: this project's own.
     pub fn discard(self) {
         drop(self);
+    }
+}
+
+/// Gives one event to a node that bootstraps. At a stop it drops the node.
+// It moves whole nodes: were it inlined, each frame would probe the stack that this takes, page
+// by page.
+#[inline(never)]
+#[tactic(auto, using(crate::proofs::Staged::stopped, crate::proofs::Staged::stop_logged))]
+fn catch_up<C: Chain, B: Board>(
+    alloc: Global,
+    stage: &mut Node<C, B>,
+    frame: u64,
+    event: View<'_>,
+    log: &mut Lines,
+) -> Result<(), BoxedStop>
+    requires { model.is_booting stage.old ≡ true }
+    ensures answer { Steps result stage.new (model.step C.rules B.answer stage.old frame (as_event event.entry)).1 }
+    ensures lines { Logs result log.old log.new (model.step C.rules B.answer stage.old frame (as_event event.entry)).0 }
+{
+    let node = match mem::replace(stage, Stage::Ended) {
+        Stage::Booting(node) => node,
+        other => {
+            drop(other);
+            return Ok(());
+        }
+    };
+    match node.step(frame, event, log) {
+        Ok(next) => {
+            drop(mem::replace(stage, next));
+            Ok(())
+        }
+        Err(stop) => Err(BoxedStop::new(alloc, stop)),
     }
 }
 

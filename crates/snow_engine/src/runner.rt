@@ -44,16 +44,25 @@ impl<C: Chain, B: Board> Runner<C, B> {
     /// frame is passed over, and no line of that stands in the log. It returns the end of the run
     /// where the frame brings it.
     /// Rule: this project's own.
-    #[tactic(auto, unfolding(crate::specs::Model::Run::after_frame))]
+    #[tactic(auto, unfolding(crate::specs::Model::Run::after_frame), using(crate::proofs::Stopped::stands_in, crate::proofs::Stopped::logs_in))]
     pub fn work(&mut self, frame: u64, payload: &[u8]) -> Result<Option<SkipKind>, BoxedEnd>
         ensures stand { Stands result self.new.engine (after_frame C.rules B.answer self.old.task (stand_of self.old.engine) frame payload.now).1 }
         ensures lines { LogsFrame result [] (told frame result self.new.log) (after_frame C.rules B.answer self.old.task (stand_of self.old.engine) frame payload.now).0 }
         ensures task { self.new.task ≡ self.old.task }
     {
         self.log.clear();
-        match &mut self.engine {
-            None => self.work_first(frame, payload),
-            Some(engine) => follow(self.alloc, engine, frame, payload, &mut self.log),
+        let Some(engine) = &mut self.engine else {
+            return self.work_first(frame, payload);
+        };
+        match View::read(payload) {
+            Ok(event) => match engine.advance(frame, event, &mut self.log) {
+                Ok(()) => Ok(None),
+                Err(stop) => {
+                    let end = End::at(frame, EngineStop::from(stop));
+                    Err(BoxedEnd::new(self.alloc, end))
+                }
+            },
+            Err(fault) => Ok(Some(kind_of(fault))),
         }
     }
 
@@ -102,28 +111,6 @@ fn open<C: Chain, B: Board>(
     match Engine::start(alloc, task, &start, log) {
         Ok(engine) => Ok(engine),
         Err(stop) => Err(End::at(frame, stop)),
-    }
-}
-
-/// Makes a step of the engine, and passes over a payload that is no event.
-#[tactic(auto, using(crate::proofs::Stopped::stands_in, crate::proofs::Stopped::logs_in))]
-fn follow<C: Chain, B: Board>(
-    alloc: Global,
-    engine: &mut Engine<C, B>,
-    frame: u64,
-    payload: &[u8],
-    log: &mut Lines,
-) -> Result<Option<SkipKind>, BoxedEnd>
-    requires { log.old ≡ [] }
-    ensures stand { Stands result (Some engine.new) (model.followed C.rules B.answer engine.old frame (model.read payload.now)).1 }
-    ensures lines { LogsFrame result [] (told frame result log.new) (model.followed C.rules B.answer engine.old frame (model.read payload.now)).0 }
-{
-    match View::read(payload) {
-        Ok(event) => match engine.advance(frame, event, log) {
-            Ok(()) => Ok(None),
-            Err(stop) => Err(BoxedEnd::new(alloc, End::at(frame, EngineStop::from(stop)))),
-        },
-        Err(fault) => Ok(Some(kind_of(fault))),
     }
 }
 

@@ -1,8 +1,7 @@
-ghost use Rattle.std.specs.Prelude.{◌≡◌, ◌+◌, ◌*◌, ◌^◌, ◌-◌, ◌≤◌, ◌<◌, [], length, None, Ok, false, ◌==◌, if◌then◌else◌, is_some, IfOk, OnOk, OnErr, ◌∷◌, ◌++◌};
+ghost use Rattle.std.specs.Prelude.{◌≡◌, ◌+◌, ◌*◌, ◌^◌, ◌-◌, ◌≤◌, ◌<◌, [], length, None, Ok, false, ◌==◌, if◌then◌else◌, is_some, IfOk, OnOk, OnErr, ◌++◌};
 ghost use Rattle.snow_base.specs.Clauses.Outside.{AppendsFront, HasCause};
 ghost use Rattle.snow_page.specs.Kept.Gathered.{Gathers};
 ghost use Rattle.snow_lines.specs.Model.Text.{texts};
-ghost use Rattle.snow_lines.specs.declared.line.Line.TheVariants as line;
 ghost use Rattle.snow_wire.specs.Model.Frame.{first_of, is_too_long};
 ghost use Rattle.snow_wire.specs.Clauses.Stream.{fresh};
 ghost use Rattle.snow_engine.specs.Model.Run.{end_behind};
@@ -172,22 +171,7 @@ fn gather<O: Sink>(
     ensures cause { HasCause (O.faults out.old) (O.faults out.new) result }
 {
     match worked {
-        Ok(Some(kind)) => print_skip(page, frame, *kind, out),
+        Ok(Some(kind)) => page.print(&Line::Skip { frame, kind: *kind }, out),
         _ => page.print_all(log, out),
     }
-}
-
-/// Gathers the line of a frame that is passed over.
-#[tactic(auto, using(crate::proofs::Worked::one_text))]
-fn print_skip<O: Sink>(
-    page: &mut Page,
-    frame: u64,
-    kind: SkipKind,
-    out: &mut O,
-) -> Result<(), Failed>
-    ensures ok { OnOk result (Gathers (O.written out.old) page.old (O.written out.new) page.new (texts (line.Skip frame kind ∷ []))) }
-    ensures err { OnErr result (AppendsFront (O.written out.old) (O.written out.new) (page.old ++ texts (line.Skip frame kind ∷ []))) }
-    ensures cause { HasCause (O.faults out.old) (O.faults out.new) result }
-{
-    page.print(&Line::Skip { frame, kind }, out)
 }

@@ -1,4 +1,6 @@
 -- Stops and ends as they are kept: each large one in a box.
+use Rattle.std.specs.Prelude.{Result, Ok, Err}
+use Rattle.snow_node.specs.declared.stop.Halt.{Halt}
 use Rattle.snow_engine.specs.declared.boxed.KeptStop.{KeptStop}
 use Rattle.snow_engine.specs.declared.boxed.KeptStop.TheVariants as kept_stop
 use Rattle.snow_engine.specs.declared.boxed.KeptEnd.{KeptEnd}
@@ -18,3 +20,8 @@ abbrev pub end_in : KeptEnd → End
 end_in kept_end.Memory = end.Memory
 end_in kept_end.SinkFault = end.SinkFault
 end_in (kept_end.Boxed e) = e.value
+
+-- what a step of a node gave, with its stop as one of the engine
+abbrev pub as_step : Result (Unit {0}) Halt → Result (Unit {0}) EngineStop
+as_step (Ok u) = Ok u
+as_step (Err halt) = Err (stop_for halt)
