@@ -182,14 +182,14 @@ impl<C: Chain, B: Board> Running<C, B> {
         ensures lines { Tells result log.old log.new (model.vote_came C.rules B.answer self.old number peer.now id.now).0 }
     {
         if self.is_own_vote(id) {
-            return self.count_first(number, peer, id, Some(*id), log);
+            return self.count(number, peer, id, Some(*id), log);
         }
         if !self.polls.awaits(number, peer) {
             return Ok(());
         }
         match self.vote_at_once(id) {
-            Some(vote) => self.count_first(number, peer, id, vote, log),
-            None => self.hold_and_settle(number, peer, id, log),
+            Some(vote) => self.count(number, peer, id, vote, log),
+            None => self.hold(number, peer, id, log),
         }
     }
 
@@ -215,9 +215,9 @@ impl<C: Chain, B: Board> Running<C, B> {
         }
     }
 
-    /// Counts a vote that would be the first thing to do, if its poll awaits it, and does all that
-    /// this brings, unless a reply of the peer is held.
-    fn count_first(
+    /// Counts a vote that would be the first thing to do, and does all that this brings. It passes
+    /// over one that its poll doesn't await, or whose peer has a reply that is held.
+    fn count(
         &mut self,
         number: u32,
         peer: &NodeId,
@@ -232,61 +232,28 @@ impl<C: Chain, B: Board> Running<C, B> {
         if self.queue.holds(number, peer) {
             return Ok(());
         }
-        self.count(number, peer, vote, log)
-    }
-
-    /// Counts a vote where its poll awaits it, and does all that this brings.
-    fn count(
-        &mut self,
-        number: u32,
-        peer: &NodeId,
-        vote: Option<Id>,
-        log: &mut Lines,
-    ) -> Result<(), Halt>
-        ensures answer { Turns result self.new (model.counted_if_awaited C.rules B.answer self.old number peer.now vote).1 }
-        ensures lines { Tells result log.old log.new (model.counted_if_awaited C.rules B.answer self.old number peer.now vote).0 }
-    {
         match self.enter(number, peer, vote) {
-            Answered::Counted => self.close_and_settle(log),
             Answered::NotAwaited => Ok(()),
+            Answered::Counted => {
+                self.close_polls(log)?;
+                self.settle(log)
+            }
         }
     }
 
-    /// Lets closed polls leave, and does all that this brings.
-    fn close_and_settle(&mut self, log: &mut Lines) -> Result<(), Halt>
-        ensures answer { Turns result self.new (then_comes (closed_out B.answer self.old) (settled C.rules B.answer)).1 }
-        ensures lines { Tells result log.old log.new (then_comes (closed_out B.answer self.old) (settled C.rules B.answer)).0 }
-    {
-        self.close_polls(log)?;
-        self.settle(log)
-    }
-
-    /// Holds a reply that its poll awaits, and does all that this brings, unless one of the peer is
-    /// held.
+    /// Holds a reply that its poll awaits, unless one of the peer is held. Then it asks for the
+    /// reply's block, if nothing is known of it, and does all that this brings.
     #[tactic(auto, using(crate::proofs::Logs::logs_nothing))]
-    fn hold_and_settle(
-        &mut self,
-        number: u32,
-        peer: &NodeId,
-        id: &Id,
-        log: &mut Lines,
-    ) -> Result<(), Halt>
+    fn hold(&mut self, number: u32, peer: &NodeId, id: &Id, log: &mut Lines) -> Result<(), Halt>
         requires { is_awaited self.old.polls.polls number peer.now ≡ true }
         ensures answer { Turns result self.new (model.vote_came C.rules B.answer self.old number peer.now id.now).1 }
         ensures lines { Tells result log.old log.new (model.vote_came C.rules B.answer self.old number peer.now id.now).0 }
     {
-        if !self.hold(number, peer, *id)? {
+        let (node, id) = (*peer, *id);
+        if !self.queue.hold_once(Held { number, node, id })? {
             return Ok(());
         }
-        self.fetch_and_settle(peer, *id, log)
-    }
-
-    /// Asks for the block of a reply that was held, if nothing is known of it, and does all that the
-    /// reply brings.
-    fn fetch_and_settle(&mut self, peer: &NodeId, id: Id, log: &mut Lines) -> Result<(), Halt>
-        ensures answer { Turns result self.new (then_comes (model.fetched_unknown self.old peer.now id) (settled C.rules B.answer)).1 }
-        ensures lines { Tells result log.old log.new (then_comes (model.fetched_unknown self.old peer.now id) (settled C.rules B.answer)).0 }
-    {
+        self.queue_state = self.queue_state.woken();
         self.fetch_unknown(peer, id, log)?;
         self.settle(log)
     }
@@ -296,20 +263,6 @@ impl<C: Chain, B: Board> Running<C, B> {
         ensures { result ≡ model.waits_for self.now number peer.now }
     {
         self.polls.awaits(number, peer) && !self.queue.holds(number, peer)
-    }
-
-    /// Holds a reply, unless one of the peer to this poll is held, and returns whether it did.
-    fn hold(&mut self, number: u32, peer: &NodeId, id: Id) -> Result<bool, AllocError>
-        ensures is_new { IfOk result (λ is_new. is_new ≡ not (holds_in self.old.queue.held number peer.now)) }
-        ensures node { let reply : Held = record { number = number; node = peer.now; id = id } in
-            IfOk result (λ is_new. self.new ≡ (if is_new then record self.old { queue = after_held self.old.queue reply } else self.old)) }
-    {
-        let node = *peer;
-        if !self.queue.hold_once(Held { number, node, id })? {
-            return Ok(false);
-        }
-        self.queue_state = self.queue_state.woken();
-        Ok(true)
     }
 
     /// Closes a get, or counts a lost vote, and does all that this brings.
@@ -345,7 +298,8 @@ impl<C: Chain, B: Board> Running<C, B> {
         if !self.awaits(number, peer) {
             return Ok(());
         }
-        self.tally(number, peer, None, log)
+        self.enter(number, peer, None);
+        self.close_polls(log)
     }
 }
 

@@ -193,7 +193,8 @@ impl<C: Chain, B: Board> Running<C, B> {
         ensures lines { Tells result log.old log.new (model.heard B.answer self.old reply.now).0 }
     {
         let id = self.queue.bubble(&reply.id, &self.board);
-        self.tally(reply.number, &reply.node, id, log)
+        self.enter(reply.number, &reply.node, id);
+        self.close_polls(log)
     }
 }
 
