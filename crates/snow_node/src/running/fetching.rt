@@ -90,26 +90,9 @@ impl<C: Chain, B: Board> Running<C, B> {
         ensures node { self.new ≡ model.without_get self.old number peer.now }
         ensures none { result ≡ None → self.new ≡ self.old }
     {
-        if self.has_get(number) {
-            return self.close_numbered(number, peer);
+        if !self.queue.has_number(number) {
+            return None;
         }
-        None
-    }
-
-    /// Returns whether a get with this number is open.
-    fn has_get(&self, number: u32) -> bool
-        ensures { result ≡ has_number self.now.queue.gets number }
-    {
-        self.queue.has_number(number)
-    }
-
-    /// Closes the get of this number and peer without that look, and returns the block for which it
-    /// asked.
-    fn close_numbered(&mut self, number: u32, peer: &NodeId) -> Option<Id>
-        ensures found { result ≡ model.asked_by self.old.queue number peer.now }
-        ensures node { self.new ≡ model.without_get self.old number peer.now }
-        ensures none { result ≡ None → self.new ≡ self.old }
-    {
         self.queue_state = self.queue_state.woken();
         self.queue.close_get(number, peer)
     }

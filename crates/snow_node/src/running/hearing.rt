@@ -258,13 +258,6 @@ impl<C: Chain, B: Board> Running<C, B> {
         self.settle(log)
     }
 
-    /// Returns whether a poll awaits a peer of which it holds no reply yet.
-    fn awaits(&self, number: u32, peer: &NodeId) -> bool
-        ensures { result ≡ model.waits_for self.now number peer.now }
-    {
-        self.polls.awaits(number, peer) && !self.queue.holds(number, peer)
-    }
-
     /// Closes a get, or counts a lost vote, and does all that this brings.
     pub(super) fn time_out(
         &mut self,
@@ -279,23 +272,16 @@ impl<C: Chain, B: Board> Running<C, B> {
         self.settle(log)
     }
 
-    /// Closes a get, or counts a lost vote.
+    /// Closes a get, or counts that a peer gives no vote, where a poll awaits it and holds no reply
+    /// of it.
     fn give_up_on(&mut self, number: u32, peer: &NodeId, log: &mut Lines) -> Result<(), Halt>
         ensures answer { Turns result self.new (model.given_up_on B.answer self.old number peer.now (model.asked_by self.old.queue number peer.now)).1 }
         ensures lines { Tells result log.old log.new (model.given_up_on B.answer self.old number peer.now (model.asked_by self.old.queue number peer.now)).0 }
     {
-        match self.close_get(number, peer) {
-            Some(_) => Ok(()),
-            None => self.lose_vote(number, peer, log),
+        if self.close_get(number, peer).is_some() {
+            return Ok(());
         }
-    }
-
-    /// Notes that a peer gives no vote, and lets closed polls leave.
-    fn lose_vote(&mut self, number: u32, peer: &NodeId, log: &mut Lines) -> Result<(), Halt>
-        ensures answer { Turns result self.new (model.vote_lost B.answer self.old number peer.now).1 }
-        ensures lines { Tells result log.old log.new (model.vote_lost B.answer self.old number peer.now).0 }
-    {
-        if !self.awaits(number, peer) {
+        if !self.polls.awaits(number, peer) || self.queue.holds(number, peer) {
             return Ok(());
         }
         self.enter(number, peer, None);

@@ -30,40 +30,10 @@ impl<C: Chain, B: Board> Running<C, B> {
         ensures answer { Turns result self.new (model.settled C.rules B.answer self.old).1 }
         ensures lines { Tells result log.old log.new (model.settled C.rules B.answer self.old).0 }
     {
-        if self.is_idle() {
-            return Ok(());
+        while let Some(work) = self.take_work() {
+            self.work(work, log)?;
         }
-        self.settle_all(log)
-    }
-
-    /// Does all that is to do, where it isn't known whether anything is.
-    fn settle_all(&mut self, log: &mut Lines) -> Result<(), Halt>
-        ensures answer { Turns result self.new (model.settled C.rules B.answer self.old).1 }
-        ensures lines { Tells result log.old log.new (model.settled C.rules B.answer self.old).0 }
-    {
-        while self.settle_one(log)? {}
         Ok(())
-    }
-
-    /// Returns whether it is known that nothing is to do.
-    fn is_idle(&self) -> bool
-        ensures { result ≡ true → IsIdle self.now.queue self.now.board }
-    {
-        match self.queue_state {
-            QueueState::Settled => true,
-            _ => false,
-        }
-    }
-
-    /// Does the first thing that is to do, and returns whether there was any.
-    fn settle_one(&mut self, log: &mut Lines) -> Result<bool, Halt>
-        ensures answer { Answers result self.new (model.one_settled C.rules B.answer self.old).1 }
-        ensures lines { Tells result log.old log.new (model.one_settled C.rules B.answer self.old).0 }
-    {
-        match self.take_work() {
-            None => Ok(false),
-            Some(work) => self.carry_out(work, log),
-        }
     }
 
     /// Takes the first thing that is to do out of the queue, if there is any.
@@ -75,16 +45,6 @@ impl<C: Chain, B: Board> Running<C, B> {
         let work = take_next(&mut self.queue, &self.board, &self.queue_state);
         self.queue_state = QueueState::taken(&work);
         work
-    }
-
-    /// Does what it took out of the queue, if there was anything, and returns whether there was.
-    fn carry_out(&mut self, work: Work, log: &mut Lines) -> Result<bool, Halt>
-        requires { MayWork self.old.board self.old.queue work }
-        ensures answer { Answers result self.new (model.carried_out C.rules B.answer self.old work).1 }
-        ensures lines { Tells result log.old log.new (model.carried_out C.rules B.answer self.old work).0 }
-    {
-        self.work(work, log)?;
-        Ok(true)
     }
 
     /// Does what it took out of the queue.
@@ -167,24 +127,17 @@ impl<C: Chain, B: Board> Running<C, B> {
         drop_block(block.id, DropWhy::Invalid, log)
     }
 
-    /// Makes a query where a block that was issued is on the way to the preference.
+    /// Makes a query where a block that was issued is on the way to the preference. It tells the
+    /// preference itself without walking there.
+    #[tactic(auto, using(crate::proofs::Preferred::preference_leads))]
     fn ask_on_the_way(&mut self, id: &Id, log: &mut Lines) -> Result<(), Halt>
         ensures answer { Turns result self.new (model.asked_on_the_way B.answer id.now self.old).1 }
         ensures lines { Tells result log.old log.new (model.asked_on_the_way B.answer id.now self.old).0 }
     {
-        if self.leads(id) {
+        if self.board.preference() == *id || self.board.is_preferred(id) {
             self.query(log)?;
         }
         Ok(())
-    }
-
-    /// Returns whether a block is on the way to the preference. It tells the preference itself
-    /// without walking there.
-    #[tactic(auto, using(crate::proofs::Preferred::preference_leads))]
-    fn leads(&self, id: &Id) -> bool
-        ensures { result ≡ is_preferred B.answer self.now.board id.now }
-    {
-        self.board.preference() == *id || self.board.is_preferred(id)
     }
 
     /// Counts a held reply as a vote for what its block stands for, and lets closed polls leave.
