@@ -48,7 +48,9 @@ impl<C: Chain, B: Board> Running<C, B> {
         self.read_block(frame, peer, bytes, &asked, log)
     }
 
-    /// Takes a block's bytes, where this block was asked for, and does all that this brings.
+    /// Takes a block's bytes, where this block was asked for, and does all that this brings. Where
+    /// placing it would be the first step of settling, it places it at once. Else it offers it to
+    /// the queue.
     fn read_block(
         &mut self,
         frame: u64,
@@ -61,42 +63,17 @@ impl<C: Chain, B: Board> Running<C, B> {
         ensures lines { Tells result log.old log.new (model.block_read C.rules B.answer self.old frame peer.now bytes.now asked.now).0 }
     {
         let Some(header) = self.chain.parse(bytes) else {
-            return self.skip_block(frame, log);
+            let kind = SkipKind::Block;
+            write(Line::Skip { frame, kind }, log)?;
+            return self.settle(log);
         };
         if is_other(asked, &header.id) {
             return self.settle(log);
         }
-        self.bring(peer, &header, bytes, log)
-    }
-
-    /// Passes over bytes that are no block's, and does all that is to do.
-    fn skip_block(&mut self, frame: u64, log: &mut Lines) -> Result<(), Halt>
-        ensures answer { Turns result self.new (then_comes (with_line (line.Skip frame kind.Block) self.old) (settled C.rules B.answer)).1 }
-        ensures lines { Tells result log.old log.new (then_comes (with_line (line.Skip frame kind.Block) self.old) (settled C.rules B.answer)).0 }
-    {
-        let kind = SkipKind::Block;
-        write(Line::Skip { frame, kind }, log)?;
-        self.settle(log)
-    }
-
-    /// Takes a block that came, and settles. Where placing it would be the first step of settling,
-    /// it places it at once. Else it offers it to the queue.
-    fn bring(
-        &mut self,
-        peer: &NodeId,
-        header: &Header,
-        bytes: &[u8],
-        log: &mut Lines,
-    ) -> Result<(), Halt>
-        ensures answer { let block : Block = record { node = peer.now; header = header.now; bytes = bytes.now } in
-            Turns result self.new (model.block_brings C.rules B.answer self.old block).1 }
-        ensures lines { let block : Block = record { node = peer.now; header = header.now; bytes = bytes.now } in
-            Tells result log.old log.new (model.block_brings C.rules B.answer self.old block).0 }
-    {
-        if self.is_next(header) {
-            return self.place_at_once(header, bytes, log);
+        if self.is_next(&header) {
+            return self.place_at_once(&header, bytes, log);
         }
-        self.offer(peer, header, bytes, log)?;
+        self.offer(peer, &header, bytes, log)?;
         self.settle(log)
     }
 
@@ -111,33 +88,19 @@ impl<C: Chain, B: Board> Running<C, B> {
         }
     }
 
-    /// Places a block that would be the first thing to do, and does all that this brings.
+    /// Places a block that would be the first thing to do, and does all that this brings. The queue
+    /// forgets what it remembers of the block's children, so that the block may be issued.
     #[tactic(auto, using(crate::proofs::Logs::logs_nothing))]
     fn place_at_once(&mut self, block: &Header, bytes: &[u8], log: &mut Lines) -> Result<(), Halt>
         requires { model.IsNext self.old block.now }
         ensures answer { Turns result self.new (then_comes (placed C.rules B.answer self.old block.now bytes.now) (settled C.rules B.answer)).1 }
         ensures lines { Tells result log.old log.new (then_comes (placed C.rules B.answer self.old block.now bytes.now) (settled C.rules B.answer)).0 }
     {
-        let bytes = self.own(bytes)?;
-        self.forget_children(&block.id);
-        self.place_and_settle(block, bytes, log)
-    }
-
-    /// Returns a copy of the bytes of a block that came, in room that is kept, if there is some.
-    fn own(&mut self, bytes: &[u8]) -> Result<Bytes, AllocError>
-        ensures bytes { IfOk result (λ own. own ≡ bytes.now) }
-        ensures same { self.new ≡ self.old }
-    {
-        self.room.list(bytes)
-    }
-
-    /// Lets the queue forget what it remembers of a block's children, so that the block may be
-    /// issued.
-    fn forget_children(&mut self, id: &Id)
-        ensures { self.new ≡ self.old }
-    {
-        self.queue_state = self.queue_state.next(id);
-        self.queue.forget_children(id);
+        let bytes = self.room.list(bytes)?;
+        self.queue_state = self.queue_state.next(&block.id);
+        self.queue.forget_children(&block.id);
+        self.place(block, bytes, log)?;
+        self.settle(log)
     }
 
     /// Offers a block to the queue, and asks for its parent where nothing is known of that.

@@ -63,23 +63,13 @@ impl<C: Chain, B: Board> Running<C, B> {
         }
     }
 
-    /// Places a block whose parent is on the board, and does all that this brings.
-    pub(super) fn place_and_settle(
+    /// Issues a block whose parent is on the board, unless something stands against it.
+    pub(super) fn place(
         &mut self,
         block: &Header,
         bytes: Bytes,
         log: &mut Lines,
     ) -> Result<(), Halt>
-        requires { IsApart self.old.board self.old.queue.waiting block.now.id }
-        ensures answer { Turns result self.new (then_comes (model.placed C.rules B.answer self.old block.now bytes) (model.settled C.rules B.answer)).1 }
-        ensures lines { Tells result log.old log.new (then_comes (model.placed C.rules B.answer self.old block.now bytes) (model.settled C.rules B.answer)).0 }
-    {
-        self.place(block, bytes, log)?;
-        self.settle(log)
-    }
-
-    /// Issues a block whose parent is on the board, unless something stands against it.
-    fn place(&mut self, block: &Header, bytes: Bytes, log: &mut Lines) -> Result<(), Halt>
         requires { IsApart self.old.board self.old.queue.waiting block.now.id }
         ensures answer { Turns result self.new (model.placed_by B.answer self.old block.now bytes (next_on C.rules self.old.chain block.now.parent bytes)
             (opposed self.old.board block.now (height_of self.old.board block.now.parent))).1 }
