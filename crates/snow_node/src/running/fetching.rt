@@ -15,8 +15,9 @@ use snow_chain::Chain;
 use snow_lines::{Line, Lines};
 
 impl<C: Chain, B: Board> Running<C, B> {
-    /// Asks a peer for the parent of a block that came last and waits, if the parent is wanted.
-    /// Then mostly nothing is to be done.
+    /// Asks a peer for the parent of a block that came last and waits, if the parent is wanted. It
+    /// marks the block as quiet, and the one before it where that is its child: then mostly nothing
+    /// is to be done.
     pub(super) fn fetch_parent(
         &mut self,
         peer: &NodeId,
@@ -33,17 +34,9 @@ impl<C: Chain, B: Board> Running<C, B> {
             return Ok(());
         };
         self.fetch(peer, id, log)?;
-        self.mark_quiet(block);
-        Ok(())
-    }
-
-    /// Marks a block that came last as quiet, and the one before it where that is its child.
-    fn mark_quiet(&mut self, block: &Header)
-        requires { AreBothOff self.old.board block.now }
-        ensures { self.new ≡ self.old }
-    {
         let idle = self.queue.mark_quiet(block);
         self.queue_state = self.queue_state.looked(idle);
+        Ok(())
     }
 
     /// Asks a peer for a block, by a number of its own.

@@ -47,7 +47,8 @@ impl<C: Chain, B: Board> Running<C, B> {
         work
     }
 
-    /// Does what it took out of the queue.
+    /// Does what it took out of the queue. A held reply counts as a vote for what its block stands
+    /// for, and closed polls leave.
     fn work(&mut self, work: Work, log: &mut Lines) -> Result<(), Halt>
         requires { MayWork self.old.board self.old.queue work }
         ensures answer { Turns result self.new (model.done C.rules B.answer self.old work).1 }
@@ -59,7 +60,11 @@ impl<C: Chain, B: Board> Running<C, B> {
                 let header = block.header;
                 self.place(&header, block.bytes, log)
             }
-            Work::Vote(reply) => self.hear(&reply, log),
+            Work::Vote(reply) => {
+                let vote = self.queue.bubble(&reply.id, &self.board);
+                self.enter(reply.number, &reply.node, vote);
+                self.close_polls(log)
+            }
         }
     }
 
@@ -128,16 +133,6 @@ impl<C: Chain, B: Board> Running<C, B> {
             self.query(log)?;
         }
         Ok(())
-    }
-
-    /// Counts a held reply as a vote for what its block stands for, and lets closed polls leave.
-    fn hear(&mut self, reply: &Held, log: &mut Lines) -> Result<(), Halt>
-        ensures answer { Turns result self.new (model.heard B.answer self.old reply.now).1 }
-        ensures lines { Tells result log.old log.new (model.heard B.answer self.old reply.now).0 }
-    {
-        let id = self.queue.bubble(&reply.id, &self.board);
-        self.enter(reply.number, &reply.node, id);
-        self.close_polls(log)
     }
 }
 
