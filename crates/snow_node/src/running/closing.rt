@@ -1,5 +1,4 @@
-ghost use Rattle.std.specs.Prelude.{◌≡◌, ◌≤◌};
-ghost use Rattle.snow_base.specs.Model.Votes.{total_count};
+ghost use Rattle.std.specs.Prelude.{◌≡◌};
 ghost use Rattle.snow_board.specs.Model.Poll.{poll};
 ghost use Rattle.snow_board.specs.Model.Board.{Board};
 ghost use Rattle.snow_poll.specs.Model.Table.{answer};
@@ -12,7 +11,7 @@ use crate::reporting::tell;
 use crate::running::Running;
 use crate::running::supplying::serve_decisions;
 use crate::stop::Halt;
-use snow_base::{Bag, Id, NodeId};
+use snow_base::{Id, NodeId};
 use snow_board::{Board, Decision};
 use snow_chain::Chain;
 use snow_issue::Queue;

@@ -1,7 +1,6 @@
 //! How a node that runs asks for blocks.
 
 ghost use Rattle.std.specs.Prelude.{◌≡◌, None, IfSome, OnOk};
-ghost use Rattle.snow_gets.specs.Model.Gets.{has_number};
 ghost use Rattle.snow_node.specs.Kept.Tied.{MayFetch, AreBothOff};
 ghost use Rattle.snow_node.specs.Model.Running.{numbered};
 ghost use Rattle.snow_node.specs.Model.Hearing as model;

@@ -1,14 +1,9 @@
-ghost use Rattle.std.specs.Prelude.{◌≡◌, Some, true, not, IfOk, IfSome, if◌then◌else◌};
-ghost use Rattle.snow_lines.specs.declared.line.Line.TheVariants as line;
-ghost use Rattle.snow_lines.specs.declared.why.SkipKind.TheVariants as kind;
+ghost use Rattle.std.specs.Prelude.{◌≡◌, Some, true, IfSome, if◌then◌else◌};
 ghost use Rattle.snow_held.specs.declared.held.Held.{Held};
 ghost use Rattle.snow_issue.specs.declared.work.Waiting.{Waiting as Block};
-ghost use Rattle.snow_issue.specs.Model.Lists.{after_held};
-ghost use Rattle.snow_held.specs.Model.Replies.{holds_in};
 ghost use Rattle.snow_poll.specs.Model.Table.{is_awaited};
 ghost use Rattle.snow_node.specs.Model.Hearing as model;
-ghost use Rattle.snow_node.specs.Model.Closing.{closed_out};
-ghost use Rattle.snow_node.specs.Model.Outcome.{then_comes, with_line};
+ghost use Rattle.snow_node.specs.Model.Outcome.{then_comes};
 ghost use Rattle.snow_node.specs.Model.Settling.{placed, settled};
 ghost use Rattle.snow_node.specs.Clauses.Stepping.{Tells, Turns};
 
@@ -16,13 +11,12 @@ use crate::reporting::{drop_block, write};
 use crate::running::Running;
 use crate::running::queue_state::QueueState;
 use crate::stop::Halt;
-use snow_base::{Bytes, Header, Id, NodeId};
+use snow_base::{Header, Id, NodeId};
 use snow_board::Board;
 use snow_chain::Chain;
 use snow_issue::{Held, Offered};
 use snow_lines::{DropWhy, Line, Lines, SkipKind};
 use snow_poll::Answered;
-use std::alloc::AllocError;
 
 impl<C: Chain, B: Board> Running<C, B> {
     /// Takes a block for which nobody asked, or the answer to a get. It passes over one that no get

@@ -1,16 +1,14 @@
-ghost use Rattle.std.specs.Prelude.{◌≡◌, true, IfSome};
+ghost use Rattle.std.specs.Prelude.{◌≡◌, IfSome};
 ghost use Rattle.snow_board.specs.Model.Board.{height_of};
-ghost use Rattle.snow_board.specs.Model.Preference.{is_preferred};
 ghost use Rattle.snow_board.specs.Laws.Reached.{MayIssue};
 ghost use Rattle.snow_chain.specs.Model.Chain.{next_on};
 ghost use Rattle.snow_issue.specs.Kept.Known.{Knows, MarksAfter, lists_of};
-ghost use Rattle.snow_issue.specs.Model.Settling.{after, work_of, IsIdle};
+ghost use Rattle.snow_issue.specs.Model.Settling.{after, work_of};
 ghost use Rattle.snow_node.specs.Kept.QueueState.{IsInState};
 ghost use Rattle.snow_node.specs.Kept.Tied.{IsApart, MayWork};
-ghost use Rattle.snow_node.specs.Model.Outcome.{then_comes};
 ghost use Rattle.snow_node.specs.Model.Placing.{opposed};
 ghost use Rattle.snow_node.specs.Model.Settling as model;
-ghost use Rattle.snow_node.specs.Clauses.Stepping.{Answers, Tells, Turns};
+ghost use Rattle.snow_node.specs.Clauses.Stepping.{Tells, Turns};
 
 use crate::admitting::opposition;
 use crate::reporting::{drop_block, tell};
@@ -21,7 +19,7 @@ use crate::stop::Halt;
 use snow_base::{Bytes, Header, Id};
 use snow_board::Board;
 use snow_chain::Chain;
-use snow_issue::{Held, Queue, Work};
+use snow_issue::{Queue, Work};
 use snow_lines::{DropWhy, Lines};
 
 impl<C: Chain, B: Board> Running<C, B> {
