@@ -1,5 +1,5 @@
 -- What would be the first thing to do is done as it comes: a reply needn't be held, nor need a block wait.
-use Rattle.std.proofs.Common.{◌≡◌, ℕ, Bool, true, false, cond, not, ◌&&◌, List, append-nil, Option, Some, Result, Ok, Err, refl, ap, ◌∙◌}
+use Rattle.std.proofs.Common.{◌≡◌, ℕ, Bool, true, false, cond, not, ◌&&◌, List, append-nil, Option, Some, Result, Ok, Err, if◌then◌else◌, refl, sym, ap, ◌∙◌}
 use Rattle.snow_flake.specs.Model.Rule.{Answer}
 use Rattle.snow_chain.specs.Model.Chain.{Rules}
 use Rattle.snow_lines.specs.declared.line.Line.{Line}
@@ -16,9 +16,9 @@ use Rattle.snow_issue.proofs.Idle.{first_to_do, counts, next_to_do, next_parts, 
 use Rattle.snow_node.specs.declared.stop.Halt.{Halt}
 use Rattle.snow_node.specs.Model.Outcome.{Comes, quietly, after_lines, going_on, then_comes, where_made}
 use Rattle.snow_node.specs.Model.Running.{Running}
-use Rattle.snow_node.specs.Model.Closing.{tallied}
+use Rattle.snow_node.specs.Model.Closing.{with_vote, closed_out, tallied}
 use Rattle.snow_node.specs.Model.Settling.{placed, done, worked, carried_out, one_settled, left_to_do, settled}
-use Rattle.snow_node.specs.Model.Hearing.{IsFirst, IsNext, waits_for, vote_held, vote_counts, vote_came, counted_if_awaited, taken_in, brought, block_brings}
+use Rattle.snow_node.specs.Model.Hearing.{IsFirst, IsNext, waits_for, fetched_unknown, vote_held, vote_counts, vote_came, counted_if_awaited, taken_in, brought, block_brings}
 use Rattle.snow_node.proofs.Looping.{settling_falls}
 use Rattle.snow_node.proofs.Made.{one_then}
 
@@ -42,7 +42,7 @@ first_done rules answer node w left is rest =
     ∙ made_then (done rules answer (record node { queue = left }) w) (settled rules answer)
 
 -- to hold such a reply and to settle is to count it and to settle
-pub counted_at_once : (rules : Rules) (answer : Answer) (node : Running) (number : ℕ) (peer id : List ℕ) (vote : Option (List ℕ)) → IsFirst node id vote
+counted_at_once : (rules : Rules) (answer : Answer) (node : Running) (number : ℕ) (peer id : List ℕ) (vote : Option (List ℕ)) → IsFirst node id vote
     → vote_counts rules answer node number peer id ≡ then_comes (tallied answer node number peer vote) (settled rules answer)
 counted_at_once rules answer node number peer id vote first =
     let reply : Held = record { number = number; node = peer; id = id } in
@@ -55,7 +55,7 @@ counted_at_once rules answer node number peer id vote first =
     ∙ ap (λ (v : Option (List ℕ)). then_comes (tallied answer node number peer v) (settled rules answer)) parts.2
 
 -- so it may be counted before it is asked whether it is awaited, unless a reply of the peer is held
-pub came_at_once : (rules : Rules) (answer : Answer) (node : Running) (number : ℕ) (peer id : List ℕ) (vote : Option (List ℕ)) → IsFirst node id vote
+came_at_once : (rules : Rules) (answer : Answer) (node : Running) (number : ℕ) (peer id : List ℕ) (vote : Option (List ℕ)) → IsFirst node id vote
     → holds_in node.queue.held number peer ≡ false
     → vote_came rules answer node number peer id ≡ counted_if_awaited rules answer node number peer vote
 came_at_once rules answer node number peer id vote first free =
@@ -67,20 +67,8 @@ came_at_once rules answer node number peer id vote first free =
     by true = counted_at_once rules answer node number peer id vote first
     by false = refl
 
--- where it is awaited no reply of the peer is held
-pub awaited_at_once : (rules : Rules) (answer : Answer) (node : Running) (number : ℕ) (peer id : List ℕ) (vote : Option (List ℕ)) → IsFirst node id vote
-    → waits_for node number peer ≡ true
-    → vote_came rules answer node number peer id ≡ counted_if_awaited rules answer node number peer vote
-awaited_at_once rules answer node number peer id vote first waits =
-    came_at_once rules answer node number peer id vote first (by (is_awaited node.polls.polls number peer) (holds_in node.queue.held number peer) waits)
-  where
-    by : (a h : Bool) → (a && not h) ≡ true → h ≡ false
-    by a false e = refl
-    by true true e = absurd cc
-    by false true e = absurd cc
-
 -- a vote that was counted was awaited
-pub was_counted : (rules : Rules) (answer : Answer) (node : Running) (number : ℕ) (peer : List ℕ) (vote : Option (List ℕ))
+was_counted : (rules : Rules) (answer : Answer) (node : Running) (number : ℕ) (peer : List ℕ) (vote : Option (List ℕ))
     → Counted ≡ answer_of node.polls.polls number peer
     → counted_if_awaited rules answer node number peer vote ≡ then_comes (tallied answer node number peer vote) (settled rules answer)
 was_counted rules answer node number peer vote e = by (is_awaited node.polls.polls number peer) e
@@ -90,15 +78,24 @@ was_counted rules answer node number peer vote e = by (is_awaited node.polls.pol
     by true e = refl
     by false e = absurd cc
 
--- any other was not
-pub not_counted : (rules : Rules) (answer : Answer) (node : Running) (number : ℕ) (peer : List ℕ) (vote : Option (List ℕ))
-    → NotAwaited ≡ answer_of node.polls.polls number peer → counted_if_awaited rules answer node number peer vote ≡ quietly node
-not_counted rules answer node number peer vote e = by (is_awaited node.polls.polls number peer) e
-  where
-    by : (b : Bool) → NotAwaited ≡ cond b Counted NotAwaited
-        → cond b (then_comes (tallied answer node number peer vote) (settled rules answer)) (quietly node) ≡ quietly node
-    by true e = absurd cc
-    by false e = refl
+-- so to count such a vote and to settle is all that a reply brings
+pub counted_first : (rules : Rules) (answer : Answer) (node after : Running) (number : ℕ) (peer id : List ℕ) (vote : Option (List ℕ)) → IsFirst node id vote
+    → holds_in node.queue.held number peer ≡ false → Counted ≡ answer_of node.polls.polls number peer → after ≡ with_vote node number peer vote
+    → then_comes (closed_out answer after) (settled rules answer) ≡ vote_came rules answer node number peer id
+counted_first rules answer node after number peer id vote first free e is =
+    ap (λ (n : Running). then_comes (closed_out answer n) (settled rules answer)) is
+    ∙ sym (came_at_once rules answer node number peer id vote first free ∙ was_counted rules answer node number peer vote e)
+
+-- a reply that is held was awaited, and none of its peer was held
+pub held_first : (rules : Rules) (answer : Answer) (node after : Running) (queue : Lists) (number : ℕ) (peer id : List ℕ) (is_new : Bool) → is_awaited node.polls.polls number peer ≡ true
+    → is_new ≡ true → is_new ≡ not (holds_in node.queue.held number peer)
+    → queue ≡ (if is_new then after_held node.queue (record { number = number; node = peer; id = id }) else node.queue) → after ≡ record node { queue = queue }
+    → then_comes (fetched_unknown after peer id) (settled rules answer) ≡ vote_came rules answer node number peer id
+held_first rules answer node after queue number peer id false awaited new none q is = absurd cc
+held_first rules answer node after queue number peer id true awaited new none q is =
+    let waits : waits_for node number peer ≡ true = rw (awaited, sym none) refl in
+    ap (λ (n : Running). then_comes (fetched_unknown n peer id) (settled rules answer)) (is ∙ ap (λ (l : Lists). record node { queue = l }) q)
+    ∙ ap (λ (b : Bool). cond b (vote_counts rules answer node number peer id) (quietly node)) (sym waits)
 
 -- to let such a block wait and to settle is to place it and to settle
 pub placed_at_once : (rules : Rules) (answer : Answer) (node : Running) (w : Waiting) → IsNext node w.header

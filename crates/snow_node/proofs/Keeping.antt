@@ -22,9 +22,8 @@ use Rattle.snow_issue.specs.declared.work.Work.{Work}
 use Rattle.snow_gets.specs.Model.Gets.{with_get}
 use Rattle.snow_gets.specs.Model.Gets.{has_number as has_get}
 use Rattle.snow_issue.specs.Model.Lists.{Lists, begun as first_lists, after_gone, with_waiting, waits, waits_among}
-use Rattle.snow_issue.specs.Model.Offering.{is_on, is_next, offered}
+use Rattle.snow_issue.specs.Model.Offering.{is_on, offered}
 use Rattle.snow_issue.specs.Model.Settling.{work_of, after as left_by}
-use Rattle.snow_issue.proofs.Idle.{next_unknown}
 use Rattle.snow_node.specs.Model.Closing.{all_gone}
 use Rattle.snow_node.specs.Kept.Tied.{AreAtMost, AreOff, IsApart, IsKept, MayWork}
 use Rattle.snow_node.specs.Clauses.Matching.{IsSteady}
@@ -95,12 +94,6 @@ offered_apart queue board w ask e = by (is_on board w.header.id || waits queue w
     by false t e =
         let parts = or_parts (is_on board w.header.id) (waits queue w.header.id) t in
         record { off = no_height (height_of board w.header.id) parts.0; other = parts.1 }
-
--- so is one that is ready as it comes
-pub next_apart : (queue : Lists) (board : Board) (block : Header) → is_next queue board block ≡ true → IsApart board queue.waiting block.id
-next_apart queue board block e =
-    let unknown = next_unknown queue board block e in
-    record { off = no_height (height_of board block.id) unknown.0; other = unknown.1 }
 
 -- a node that begins
 pub kept_new : (p : Parameters) (last : List ℕ) (height : ℕ) (state : List ℕ) (board : Board) (held : Held) (table : Table) (queue : Lists) (number : ℕ) → AreGood p

@@ -28,15 +28,15 @@ use Rattle.snow_held.specs.declared.held.Held.{Held}
 use Rattle.snow_issue.specs.declared.work.Work.{Work}
 use Rattle.snow_issue.specs.declared.work.Work.TheVariants as work
 use Rattle.snow_issue.specs.Model.Lists.{Lists, after_gone, after_forgotten}
-use Rattle.snow_issue.specs.Model.Settling.{work_of, after, IsIdle}
+use Rattle.snow_issue.specs.Model.Settling.{work_of, after}
 use Rattle.snow_node.specs.declared.stop.Halt.{Halt}
-use Rattle.snow_node.specs.Model.Outcome.{Comes, quietly, going_on, then_comes, where_made}
+use Rattle.snow_node.specs.Model.Outcome.{Comes, quietly, going_on, where_made}
 use Rattle.snow_node.specs.Model.Again.{again}
 use Rattle.snow_node.specs.Model.Running.{Running}
 use Rattle.snow_node.specs.Model.Placing.{opposed}
 use Rattle.snow_node.specs.Model.Querying.{queried, sampled, lacks_polls, one_repolled}
 use Rattle.snow_node.specs.Model.Closing.{all_gone, front_closed, one_closed, running_polls}
-use Rattle.snow_node.specs.Model.Settling.{with_block, issued_by, placed_by, done, worked, one_settled, left_to_do, settled, asked_on_the_way}
+use Rattle.snow_node.specs.Model.Settling.{with_block, issued_by, placed_by, done, worked, one_settled, left_to_do, asked_on_the_way}
 use Rattle.snow_node.proofs.Working.{amount, work_smaller}
 
 -- ---- what holds of what comes, if it doesn't stop
@@ -214,9 +214,3 @@ settling_falls rules answer x y e = by (work_of x.queue x.board) refl e
       where
         same : (k : ℕ) → k ≤ k
         same k = omega arith
-
--- where nothing is to do all is settled
-pub none_settled : (rules : Rules) (answer : Answer) (node : Running) → IsIdle node.queue node.board → settled rules answer node ≡ quietly node
-unfolding again
-none_settled rules answer node idle =
-    ap (λ (o : Option Work). then_comes (worked rules answer node o) (where_made (again (left_to_do node) (one_settled rules answer)))) idle

@@ -53,17 +53,9 @@ fn tell_decisions(decisions: &[Decision], log: &mut Lines) -> Result<(), AllocEr
     ensures err { OnErr result (LogsFront log.old log.new (map model.decision_line decisions.now)) }
 {
     for decision in decisions {
-        tell_decision(decision, log)?;
+        log.push(line_of(decision))?;
     }
     Ok(())
-}
-
-/// Appends the line of a decision.
-fn tell_decision(decision: &Decision, log: &mut Lines) -> Result<(), AllocError>
-    ensures ok { OnOk result (log.new ≡ log.old ++ model.decision_line decision.now ∷ []) }
-    ensures err { OnErr result (log.new ≡ log.old) }
-{
-    log.push(line_of(decision))
 }
 
 /// Appends a line where the preference changed.
@@ -75,15 +67,7 @@ fn tell_preference(before: &Id, after: &Id, log: &mut Lines) -> Result<(), Alloc
     if before == after {
         return Ok(());
     }
-    tell_preferred(after, log)
-}
-
-/// Appends the line of a new preference.
-fn tell_preferred(id: &Id, log: &mut Lines) -> Result<(), AllocError>
-    ensures ok { OnOk result (log.new ≡ log.old ++ Line.Prefer id.now ∷ []) }
-    ensures err { OnErr result (log.new ≡ log.old) }
-{
-    log.push(Line::Prefer { id: *id })
+    log.push(Line::Prefer { id: *after })
 }
 
 /// Returns the line of a decision.

@@ -1,5 +1,4 @@
-ghost use Rattle.std.specs.Prelude.{◌≡◌, ◌≤◌};
-ghost use Rattle.snow_base.specs.Model.Votes.{total_count};
+ghost use Rattle.std.specs.Prelude.{◌≡◌};
 ghost use Rattle.snow_board.specs.Model.Poll.{poll};
 ghost use Rattle.snow_board.specs.Model.Board.{Board};
 ghost use Rattle.snow_poll.specs.Model.Table.{answer};
@@ -12,7 +11,7 @@ use crate::reporting::tell;
 use crate::running::Running;
 use crate::running::supplying::serve_decisions;
 use crate::stop::Halt;
-use snow_base::{Bag, Id, NodeId};
+use snow_base::{Id, NodeId};
 use snow_board::{Board, Decision};
 use snow_chain::Chain;
 use snow_issue::Queue;
@@ -20,21 +19,6 @@ use snow_lines::Lines;
 use snow_poll::Answered;
 
 impl<C: Chain, B: Board> Running<C, B> {
-    /// Counts a peer's vote, or that it gives none, and lets closed polls leave.
-    pub(super) fn tally(
-        &mut self,
-        number: u32,
-        peer: &NodeId,
-        vote: Option<Id>,
-        log: &mut Lines,
-    ) -> Result<(), Halt>
-        ensures answer { Turns result self.new (model.tallied B.answer self.old number peer.now vote).1 }
-        ensures lines { Tells result log.old log.new (model.tallied B.answer self.old number peer.now vote).0 }
-    {
-        self.enter(number, peer, vote);
-        self.close_polls(log)
-    }
-
     /// Counts a peer's vote, or that it gives none, where its poll awaits it, and returns whether
     /// it did.
     pub(super) fn enter(&mut self, number: u32, peer: &NodeId, vote: Option<Id>) -> Answered
@@ -54,8 +38,9 @@ impl<C: Chain, B: Board> Running<C, B> {
         Ok(())
     }
 
-    /// Lets the front poll leave if it is closed, and its held replies with it. It returns whether
-    /// the poll left.
+    /// Lets the front poll leave if it is closed, and its held replies with it. It records the
+    /// votes, tells chain and queue what they decided, makes what peers are served follow, and
+    /// returns whether the poll left.
     fn close_one(&mut self, log: &mut Lines) -> Result<bool, Halt>
         ensures answer { Answers result self.new (model.one_closed B.answer self.old).1 }
         ensures lines { Tells result log.old log.new (model.one_closed B.answer self.old).0 }
@@ -64,22 +49,11 @@ impl<C: Chain, B: Board> Running<C, B> {
             return Ok(false);
         };
         self.queue.forget(closed.number);
-        let recorded = self.record(&closed.votes, log);
-        self.polls.take_back(closed.votes);
-        recorded
-    }
-
-    /// Records votes, tells chain and queue what they decided, makes what peers are served follow,
-    /// and returns `true`.
-    fn record(&mut self, votes: &Bag, log: &mut Lines) -> Result<bool, Halt>
-        requires { total_count votes.now.list ≤ self.old.board.parameters.k }
-        ensures answer { Answers result self.new (model.moved_on B.answer self.old (poll self.old.board votes.now.list)).1 }
-        ensures lines { Tells result log.old log.new (model.moved_on B.answer self.old (poll self.old.board votes.now.list)).0 }
-    {
         let before = self.board.preference();
-        apply(&mut self.board, &mut self.chain, votes);
+        apply(&mut self.board, &mut self.chain, &closed.votes);
         mark_gone(&mut self.queue, self.board.decisions());
         serve_decisions(&mut self.served, &mut self.room, self.board.decisions());
+        self.polls.take_back(closed.votes);
         self.recorded = true;
         self.queue_state = self.queue_state.polled();
         tell(&self.board, &before, log)?;

@@ -1,7 +1,6 @@
 //! How a node that runs asks for blocks.
 
 ghost use Rattle.std.specs.Prelude.{◌≡◌, None, IfSome, OnOk};
-ghost use Rattle.snow_gets.specs.Model.Gets.{has_number};
 ghost use Rattle.snow_node.specs.Kept.Tied.{MayFetch, AreBothOff};
 ghost use Rattle.snow_node.specs.Model.Running.{numbered};
 ghost use Rattle.snow_node.specs.Model.Hearing as model;
@@ -15,8 +14,9 @@ use snow_chain::Chain;
 use snow_lines::{Line, Lines};
 
 impl<C: Chain, B: Board> Running<C, B> {
-    /// Asks a peer for the parent of a block that came last and waits, if the parent is wanted.
-    /// Then mostly nothing is to be done.
+    /// Asks a peer for the parent of a block that came last and waits, if the parent is wanted. It
+    /// marks the block as quiet, and the one before it where that is its child: then mostly nothing
+    /// is to be done.
     pub(super) fn fetch_parent(
         &mut self,
         peer: &NodeId,
@@ -33,17 +33,9 @@ impl<C: Chain, B: Board> Running<C, B> {
             return Ok(());
         };
         self.fetch(peer, id, log)?;
-        self.mark_quiet(block);
-        Ok(())
-    }
-
-    /// Marks a block that came last as quiet, and the one before it where that is its child.
-    fn mark_quiet(&mut self, block: &Header)
-        requires { AreBothOff self.old.board block.now }
-        ensures { self.new ≡ self.old }
-    {
         let idle = self.queue.mark_quiet(block);
         self.queue_state = self.queue_state.looked(idle);
+        Ok(())
     }
 
     /// Asks a peer for a block, by a number of its own.
@@ -90,26 +82,9 @@ impl<C: Chain, B: Board> Running<C, B> {
         ensures node { self.new ≡ model.without_get self.old number peer.now }
         ensures none { result ≡ None → self.new ≡ self.old }
     {
-        if self.has_get(number) {
-            return self.close_numbered(number, peer);
+        if !self.queue.has_number(number) {
+            return None;
         }
-        None
-    }
-
-    /// Returns whether a get with this number is open.
-    fn has_get(&self, number: u32) -> bool
-        ensures { result ≡ has_number self.now.queue.gets number }
-    {
-        self.queue.has_number(number)
-    }
-
-    /// Closes the get of this number and peer without that look, and returns the block for which it
-    /// asked.
-    fn close_numbered(&mut self, number: u32, peer: &NodeId) -> Option<Id>
-        ensures found { result ≡ model.asked_by self.old.queue number peer.now }
-        ensures node { self.new ≡ model.without_get self.old number peer.now }
-        ensures none { result ≡ None → self.new ≡ self.old }
-    {
         self.queue_state = self.queue_state.woken();
         self.queue.close_get(number, peer)
     }

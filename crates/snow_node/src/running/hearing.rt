@@ -1,14 +1,9 @@
-ghost use Rattle.std.specs.Prelude.{◌≡◌, Some, true, not, IfOk, IfSome, if◌then◌else◌};
-ghost use Rattle.snow_lines.specs.declared.line.Line.TheVariants as line;
-ghost use Rattle.snow_lines.specs.declared.why.SkipKind.TheVariants as kind;
+ghost use Rattle.std.specs.Prelude.{◌≡◌, Some, true, IfSome, if◌then◌else◌};
 ghost use Rattle.snow_held.specs.declared.held.Held.{Held};
 ghost use Rattle.snow_issue.specs.declared.work.Waiting.{Waiting as Block};
-ghost use Rattle.snow_issue.specs.Model.Lists.{after_held};
-ghost use Rattle.snow_held.specs.Model.Replies.{holds_in};
 ghost use Rattle.snow_poll.specs.Model.Table.{is_awaited};
 ghost use Rattle.snow_node.specs.Model.Hearing as model;
-ghost use Rattle.snow_node.specs.Model.Closing.{closed_out};
-ghost use Rattle.snow_node.specs.Model.Outcome.{then_comes, with_line};
+ghost use Rattle.snow_node.specs.Model.Outcome.{then_comes};
 ghost use Rattle.snow_node.specs.Model.Settling.{placed, settled};
 ghost use Rattle.snow_node.specs.Clauses.Stepping.{Tells, Turns};
 
@@ -16,13 +11,12 @@ use crate::reporting::{drop_block, write};
 use crate::running::Running;
 use crate::running::queue_state::QueueState;
 use crate::stop::Halt;
-use snow_base::{Bytes, Header, Id, NodeId};
+use snow_base::{Header, Id, NodeId};
 use snow_board::Board;
 use snow_chain::Chain;
 use snow_issue::{Held, Offered};
 use snow_lines::{DropWhy, Line, Lines, SkipKind};
 use snow_poll::Answered;
-use std::alloc::AllocError;
 
 impl<C: Chain, B: Board> Running<C, B> {
     /// Takes a block for which nobody asked, or the answer to a get. It passes over one that no get
@@ -48,7 +42,9 @@ impl<C: Chain, B: Board> Running<C, B> {
         self.read_block(frame, peer, bytes, &asked, log)
     }
 
-    /// Takes a block's bytes, where this block was asked for, and does all that this brings.
+    /// Takes a block's bytes, where this block was asked for, and does all that this brings. Where
+    /// placing it would be the first step of settling, it places it at once. Else it offers it to
+    /// the queue.
     fn read_block(
         &mut self,
         frame: u64,
@@ -61,42 +57,17 @@ impl<C: Chain, B: Board> Running<C, B> {
         ensures lines { Tells result log.old log.new (model.block_read C.rules B.answer self.old frame peer.now bytes.now asked.now).0 }
     {
         let Some(header) = self.chain.parse(bytes) else {
-            return self.skip_block(frame, log);
+            let kind = SkipKind::Block;
+            write(Line::Skip { frame, kind }, log)?;
+            return self.settle(log);
         };
         if is_other(asked, &header.id) {
             return self.settle(log);
         }
-        self.bring(peer, &header, bytes, log)
-    }
-
-    /// Passes over bytes that are no block's, and does all that is to do.
-    fn skip_block(&mut self, frame: u64, log: &mut Lines) -> Result<(), Halt>
-        ensures answer { Turns result self.new (then_comes (with_line (line.Skip frame kind.Block) self.old) (settled C.rules B.answer)).1 }
-        ensures lines { Tells result log.old log.new (then_comes (with_line (line.Skip frame kind.Block) self.old) (settled C.rules B.answer)).0 }
-    {
-        let kind = SkipKind::Block;
-        write(Line::Skip { frame, kind }, log)?;
-        self.settle(log)
-    }
-
-    /// Takes a block that came, and settles. Where placing it would be the first step of settling,
-    /// it places it at once. Else it offers it to the queue.
-    fn bring(
-        &mut self,
-        peer: &NodeId,
-        header: &Header,
-        bytes: &[u8],
-        log: &mut Lines,
-    ) -> Result<(), Halt>
-        ensures answer { let block : Block = record { node = peer.now; header = header.now; bytes = bytes.now } in
-            Turns result self.new (model.block_brings C.rules B.answer self.old block).1 }
-        ensures lines { let block : Block = record { node = peer.now; header = header.now; bytes = bytes.now } in
-            Tells result log.old log.new (model.block_brings C.rules B.answer self.old block).0 }
-    {
-        if self.is_next(header) {
-            return self.place_at_once(header, bytes, log);
+        if self.is_next(&header) {
+            return self.place_at_once(&header, bytes, log);
         }
-        self.offer(peer, header, bytes, log)?;
+        self.offer(peer, &header, bytes, log)?;
         self.settle(log)
     }
 
@@ -111,33 +82,19 @@ impl<C: Chain, B: Board> Running<C, B> {
         }
     }
 
-    /// Places a block that would be the first thing to do, and does all that this brings.
+    /// Places a block that would be the first thing to do, and does all that this brings. The queue
+    /// forgets what it remembers of the block's children, so that the block may be issued.
     #[tactic(auto, using(crate::proofs::Logs::logs_nothing))]
     fn place_at_once(&mut self, block: &Header, bytes: &[u8], log: &mut Lines) -> Result<(), Halt>
         requires { model.IsNext self.old block.now }
         ensures answer { Turns result self.new (then_comes (placed C.rules B.answer self.old block.now bytes.now) (settled C.rules B.answer)).1 }
         ensures lines { Tells result log.old log.new (then_comes (placed C.rules B.answer self.old block.now bytes.now) (settled C.rules B.answer)).0 }
     {
-        let bytes = self.own(bytes)?;
-        self.forget_children(&block.id);
-        self.place_and_settle(block, bytes, log)
-    }
-
-    /// Returns a copy of the bytes of a block that came, in room that is kept, if there is some.
-    fn own(&mut self, bytes: &[u8]) -> Result<Bytes, AllocError>
-        ensures bytes { IfOk result (λ own. own ≡ bytes.now) }
-        ensures same { self.new ≡ self.old }
-    {
-        self.room.list(bytes)
-    }
-
-    /// Lets the queue forget what it remembers of a block's children, so that the block may be
-    /// issued.
-    fn forget_children(&mut self, id: &Id)
-        ensures { self.new ≡ self.old }
-    {
-        self.queue_state = self.queue_state.next(id);
-        self.queue.forget_children(id);
+        let bytes = self.room.list(bytes)?;
+        self.queue_state = self.queue_state.next(&block.id);
+        self.queue.forget_children(&block.id);
+        self.place(block, bytes, log)?;
+        self.settle(log)
     }
 
     /// Offers a block to the queue, and asks for its parent where nothing is known of that.
@@ -182,14 +139,14 @@ impl<C: Chain, B: Board> Running<C, B> {
         ensures lines { Tells result log.old log.new (model.vote_came C.rules B.answer self.old number peer.now id.now).0 }
     {
         if self.is_own_vote(id) {
-            return self.count_first(number, peer, id, Some(*id), log);
+            return self.count(number, peer, id, Some(*id), log);
         }
         if !self.polls.awaits(number, peer) {
             return Ok(());
         }
         match self.vote_at_once(id) {
-            Some(vote) => self.count_first(number, peer, id, vote, log),
-            None => self.hold_and_settle(number, peer, id, log),
+            Some(vote) => self.count(number, peer, id, vote, log),
+            None => self.hold(number, peer, id, log),
         }
     }
 
@@ -215,9 +172,9 @@ impl<C: Chain, B: Board> Running<C, B> {
         }
     }
 
-    /// Counts a vote that would be the first thing to do, if its poll awaits it, and does all that
-    /// this brings, unless a reply of the peer is held.
-    fn count_first(
+    /// Counts a vote that would be the first thing to do, and does all that this brings. It passes
+    /// over one that its poll doesn't await, or whose peer has a reply that is held.
+    fn count(
         &mut self,
         number: u32,
         peer: &NodeId,
@@ -232,84 +189,30 @@ impl<C: Chain, B: Board> Running<C, B> {
         if self.queue.holds(number, peer) {
             return Ok(());
         }
-        self.count(number, peer, vote, log)
-    }
-
-    /// Counts a vote where its poll awaits it, and does all that this brings.
-    fn count(
-        &mut self,
-        number: u32,
-        peer: &NodeId,
-        vote: Option<Id>,
-        log: &mut Lines,
-    ) -> Result<(), Halt>
-        ensures answer { Turns result self.new (model.counted_if_awaited C.rules B.answer self.old number peer.now vote).1 }
-        ensures lines { Tells result log.old log.new (model.counted_if_awaited C.rules B.answer self.old number peer.now vote).0 }
-    {
         match self.enter(number, peer, vote) {
-            Answered::Counted => self.close_and_settle(log),
             Answered::NotAwaited => Ok(()),
+            Answered::Counted => {
+                self.close_polls(log)?;
+                self.settle(log)
+            }
         }
     }
 
-    /// Lets closed polls leave, and does all that this brings.
-    fn close_and_settle(&mut self, log: &mut Lines) -> Result<(), Halt>
-        ensures answer { Turns result self.new (then_comes (closed_out B.answer self.old) (settled C.rules B.answer)).1 }
-        ensures lines { Tells result log.old log.new (then_comes (closed_out B.answer self.old) (settled C.rules B.answer)).0 }
-    {
-        self.close_polls(log)?;
-        self.settle(log)
-    }
-
-    /// Holds a reply that its poll awaits, and does all that this brings, unless one of the peer is
-    /// held.
+    /// Holds a reply that its poll awaits, unless one of the peer is held. Then it asks for the
+    /// reply's block, if nothing is known of it, and does all that this brings.
     #[tactic(auto, using(crate::proofs::Logs::logs_nothing))]
-    fn hold_and_settle(
-        &mut self,
-        number: u32,
-        peer: &NodeId,
-        id: &Id,
-        log: &mut Lines,
-    ) -> Result<(), Halt>
+    fn hold(&mut self, number: u32, peer: &NodeId, id: &Id, log: &mut Lines) -> Result<(), Halt>
         requires { is_awaited self.old.polls.polls number peer.now ≡ true }
         ensures answer { Turns result self.new (model.vote_came C.rules B.answer self.old number peer.now id.now).1 }
         ensures lines { Tells result log.old log.new (model.vote_came C.rules B.answer self.old number peer.now id.now).0 }
     {
-        if !self.hold(number, peer, *id)? {
+        let (node, id) = (*peer, *id);
+        if !self.queue.hold_once(Held { number, node, id })? {
             return Ok(());
         }
-        self.fetch_and_settle(peer, *id, log)
-    }
-
-    /// Asks for the block of a reply that was held, if nothing is known of it, and does all that the
-    /// reply brings.
-    fn fetch_and_settle(&mut self, peer: &NodeId, id: Id, log: &mut Lines) -> Result<(), Halt>
-        ensures answer { Turns result self.new (then_comes (model.fetched_unknown self.old peer.now id) (settled C.rules B.answer)).1 }
-        ensures lines { Tells result log.old log.new (then_comes (model.fetched_unknown self.old peer.now id) (settled C.rules B.answer)).0 }
-    {
+        self.queue_state = self.queue_state.woken();
         self.fetch_unknown(peer, id, log)?;
         self.settle(log)
-    }
-
-    /// Returns whether a poll awaits a peer of which it holds no reply yet.
-    fn awaits(&self, number: u32, peer: &NodeId) -> bool
-        ensures { result ≡ model.waits_for self.now number peer.now }
-    {
-        self.polls.awaits(number, peer) && !self.queue.holds(number, peer)
-    }
-
-    /// Holds a reply, unless one of the peer to this poll is held, and returns whether it did.
-    fn hold(&mut self, number: u32, peer: &NodeId, id: Id) -> Result<bool, AllocError>
-        ensures is_new { IfOk result (λ is_new. is_new ≡ not (holds_in self.old.queue.held number peer.now)) }
-        ensures node { let reply : Held = record { number = number; node = peer.now; id = id } in
-            IfOk result (λ is_new. self.new ≡ (if is_new then record self.old { queue = after_held self.old.queue reply } else self.old)) }
-    {
-        let node = *peer;
-        if !self.queue.hold_once(Held { number, node, id })? {
-            return Ok(false);
-        }
-        self.queue_state = self.queue_state.woken();
-        Ok(true)
     }
 
     /// Closes a get, or counts a lost vote, and does all that this brings.
@@ -326,26 +229,20 @@ impl<C: Chain, B: Board> Running<C, B> {
         self.settle(log)
     }
 
-    /// Closes a get, or counts a lost vote.
+    /// Closes a get, or counts that a peer gives no vote, where a poll awaits it and holds no reply
+    /// of it.
     fn give_up_on(&mut self, number: u32, peer: &NodeId, log: &mut Lines) -> Result<(), Halt>
         ensures answer { Turns result self.new (model.given_up_on B.answer self.old number peer.now (model.asked_by self.old.queue number peer.now)).1 }
         ensures lines { Tells result log.old log.new (model.given_up_on B.answer self.old number peer.now (model.asked_by self.old.queue number peer.now)).0 }
     {
-        match self.close_get(number, peer) {
-            Some(_) => Ok(()),
-            None => self.lose_vote(number, peer, log),
-        }
-    }
-
-    /// Notes that a peer gives no vote, and lets closed polls leave.
-    fn lose_vote(&mut self, number: u32, peer: &NodeId, log: &mut Lines) -> Result<(), Halt>
-        ensures answer { Turns result self.new (model.vote_lost B.answer self.old number peer.now).1 }
-        ensures lines { Tells result log.old log.new (model.vote_lost B.answer self.old number peer.now).0 }
-    {
-        if !self.awaits(number, peer) {
+        if self.close_get(number, peer).is_some() {
             return Ok(());
         }
-        self.tally(number, peer, None, log)
+        if !self.polls.awaits(number, peer) || self.queue.holds(number, peer) {
+            return Ok(());
+        }
+        self.enter(number, peer, None);
+        self.close_polls(log)
     }
 }
 

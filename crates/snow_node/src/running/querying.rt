@@ -14,7 +14,7 @@ use snow_lines::{Line, Lines, QueryWhy};
 use snow_sample::{Draws, Roster, SampleFault, Words};
 
 impl<C: Chain, B: Board> Running<C, B> {
-    /// Makes a query for the preference, and returns whether it sent it.
+    /// Draws nodes and asks them for the preference, and returns whether it did.
     pub(super) fn query(&mut self, log: &mut Lines) -> Result<bool, Halt>
         ensures answer { Answers result self.new (model.queried B.answer self.old).1 }
         ensures lines { Tells result log.old log.new (model.queried B.answer self.old).0 }
@@ -26,15 +26,6 @@ impl<C: Chain, B: Board> Running<C, B> {
         if lacks_words(&self.params, &self.roster, &self.words) {
             return self.drop_query(QueryWhy::Words, log);
         }
-        self.draw_and_send(log)
-    }
-
-    /// Draws nodes and asks them for the preference, and returns whether it did.
-    fn draw_and_send(&mut self, log: &mut Lines) -> Result<bool, Halt>
-        requires { length self.old.polls.polls < MOST_POLLS }
-        ensures answer { Answers result self.new (model.queried B.answer self.old).1 }
-        ensures lines { Tells result log.old log.new (model.queried B.answer self.old).0 }
-    {
         let mut draws = Draws::new(self.alloc);
         match self
             .roster
@@ -80,19 +71,13 @@ impl<C: Chain, B: Board> Running<C, B> {
         Ok(false)
     }
 
-    /// Returns whether a block is pending and fewer polls run than may.
-    fn lacks_polls(&self) -> bool
-        ensures { result ≡ model.lacks_polls self.now }
-    {
-        self.board.pending_len() > 0 && self.polls.len() < self.params.repolls() as usize
-    }
-
-    /// Makes one query more where polls are lacking, and returns whether it sent it.
+    /// Makes one query more where a block is pending and fewer polls run than may, and returns
+    /// whether it sent it.
     fn repoll_one(&mut self, log: &mut Lines) -> Result<bool, Halt>
         ensures answer { Answers result self.new (model.one_repolled B.answer self.old).1 }
         ensures lines { Tells result log.old log.new (model.one_repolled B.answer self.old).0 }
     {
-        if self.lacks_polls() {
+        if self.board.pending_len() > 0 && self.polls.len() < self.params.repolls() as usize {
             self.query(log)
         } else {
             Ok(false)

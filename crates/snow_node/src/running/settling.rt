@@ -1,16 +1,14 @@
-ghost use Rattle.std.specs.Prelude.{◌≡◌, true, IfSome};
+ghost use Rattle.std.specs.Prelude.{◌≡◌, IfSome};
 ghost use Rattle.snow_board.specs.Model.Board.{height_of};
-ghost use Rattle.snow_board.specs.Model.Preference.{is_preferred};
 ghost use Rattle.snow_board.specs.Laws.Reached.{MayIssue};
 ghost use Rattle.snow_chain.specs.Model.Chain.{next_on};
 ghost use Rattle.snow_issue.specs.Kept.Known.{Knows, MarksAfter, lists_of};
-ghost use Rattle.snow_issue.specs.Model.Settling.{after, work_of, IsIdle};
+ghost use Rattle.snow_issue.specs.Model.Settling.{after, work_of};
 ghost use Rattle.snow_node.specs.Kept.QueueState.{IsInState};
 ghost use Rattle.snow_node.specs.Kept.Tied.{IsApart, MayWork};
-ghost use Rattle.snow_node.specs.Model.Outcome.{then_comes};
 ghost use Rattle.snow_node.specs.Model.Placing.{opposed};
 ghost use Rattle.snow_node.specs.Model.Settling as model;
-ghost use Rattle.snow_node.specs.Clauses.Stepping.{Answers, Tells, Turns};
+ghost use Rattle.snow_node.specs.Clauses.Stepping.{Tells, Turns};
 
 use crate::admitting::opposition;
 use crate::reporting::{drop_block, tell};
@@ -21,7 +19,7 @@ use crate::stop::Halt;
 use snow_base::{Bytes, Header, Id};
 use snow_board::Board;
 use snow_chain::Chain;
-use snow_issue::{Held, Queue, Work};
+use snow_issue::{Queue, Work};
 use snow_lines::{DropWhy, Lines};
 
 impl<C: Chain, B: Board> Running<C, B> {
@@ -30,40 +28,10 @@ impl<C: Chain, B: Board> Running<C, B> {
         ensures answer { Turns result self.new (model.settled C.rules B.answer self.old).1 }
         ensures lines { Tells result log.old log.new (model.settled C.rules B.answer self.old).0 }
     {
-        if self.is_idle() {
-            return Ok(());
+        while let Some(work) = self.take_work() {
+            self.work(work, log)?;
         }
-        self.settle_all(log)
-    }
-
-    /// Does all that is to do, where it isn't known whether anything is.
-    fn settle_all(&mut self, log: &mut Lines) -> Result<(), Halt>
-        ensures answer { Turns result self.new (model.settled C.rules B.answer self.old).1 }
-        ensures lines { Tells result log.old log.new (model.settled C.rules B.answer self.old).0 }
-    {
-        while self.settle_one(log)? {}
         Ok(())
-    }
-
-    /// Returns whether it is known that nothing is to do.
-    fn is_idle(&self) -> bool
-        ensures { result ≡ true → IsIdle self.now.queue self.now.board }
-    {
-        match self.queue_state {
-            QueueState::Settled => true,
-            _ => false,
-        }
-    }
-
-    /// Does the first thing that is to do, and returns whether there was any.
-    fn settle_one(&mut self, log: &mut Lines) -> Result<bool, Halt>
-        ensures answer { Answers result self.new (model.one_settled C.rules B.answer self.old).1 }
-        ensures lines { Tells result log.old log.new (model.one_settled C.rules B.answer self.old).0 }
-    {
-        match self.take_work() {
-            None => Ok(false),
-            Some(work) => self.carry_out(work, log),
-        }
     }
 
     /// Takes the first thing that is to do out of the queue, if there is any.
@@ -77,17 +45,8 @@ impl<C: Chain, B: Board> Running<C, B> {
         work
     }
 
-    /// Does what it took out of the queue, if there was anything, and returns whether there was.
-    fn carry_out(&mut self, work: Work, log: &mut Lines) -> Result<bool, Halt>
-        requires { MayWork self.old.board self.old.queue work }
-        ensures answer { Answers result self.new (model.carried_out C.rules B.answer self.old work).1 }
-        ensures lines { Tells result log.old log.new (model.carried_out C.rules B.answer self.old work).0 }
-    {
-        self.work(work, log)?;
-        Ok(true)
-    }
-
-    /// Does what it took out of the queue.
+    /// Does what it took out of the queue. A held reply counts as a vote for what its block stands
+    /// for, and closed polls leave.
     fn work(&mut self, work: Work, log: &mut Lines) -> Result<(), Halt>
         requires { MayWork self.old.board self.old.queue work }
         ensures answer { Turns result self.new (model.done C.rules B.answer self.old work).1 }
@@ -99,27 +58,21 @@ impl<C: Chain, B: Board> Running<C, B> {
                 let header = block.header;
                 self.place(&header, block.bytes, log)
             }
-            Work::Vote(reply) => self.hear(&reply, log),
+            Work::Vote(reply) => {
+                let vote = self.queue.bubble(&reply.id, &self.board);
+                self.enter(reply.number, &reply.node, vote);
+                self.close_polls(log)
+            }
         }
     }
 
-    /// Places a block whose parent is on the board, and does all that this brings.
-    pub(super) fn place_and_settle(
+    /// Issues a block whose parent is on the board, unless something stands against it.
+    pub(super) fn place(
         &mut self,
         block: &Header,
         bytes: Bytes,
         log: &mut Lines,
     ) -> Result<(), Halt>
-        requires { IsApart self.old.board self.old.queue.waiting block.now.id }
-        ensures answer { Turns result self.new (then_comes (model.placed C.rules B.answer self.old block.now bytes) (model.settled C.rules B.answer)).1 }
-        ensures lines { Tells result log.old log.new (then_comes (model.placed C.rules B.answer self.old block.now bytes) (model.settled C.rules B.answer)).0 }
-    {
-        self.place(block, bytes, log)?;
-        self.settle(log)
-    }
-
-    /// Issues a block whose parent is on the board, unless something stands against it.
-    fn place(&mut self, block: &Header, bytes: Bytes, log: &mut Lines) -> Result<(), Halt>
         requires { IsApart self.old.board self.old.queue.waiting block.now.id }
         ensures answer { Turns result self.new (model.placed_by B.answer self.old block.now bytes (next_on C.rules self.old.chain block.now.parent bytes)
             (opposed self.old.board block.now (height_of self.old.board block.now.parent))).1 }
@@ -167,33 +120,17 @@ impl<C: Chain, B: Board> Running<C, B> {
         drop_block(block.id, DropWhy::Invalid, log)
     }
 
-    /// Makes a query where a block that was issued is on the way to the preference.
+    /// Makes a query where a block that was issued is on the way to the preference. It tells the
+    /// preference itself without walking there.
+    #[tactic(auto, using(crate::proofs::Preferred::preference_leads))]
     fn ask_on_the_way(&mut self, id: &Id, log: &mut Lines) -> Result<(), Halt>
         ensures answer { Turns result self.new (model.asked_on_the_way B.answer id.now self.old).1 }
         ensures lines { Tells result log.old log.new (model.asked_on_the_way B.answer id.now self.old).0 }
     {
-        if self.leads(id) {
+        if self.board.preference() == *id || self.board.is_preferred(id) {
             self.query(log)?;
         }
         Ok(())
-    }
-
-    /// Returns whether a block is on the way to the preference. It tells the preference itself
-    /// without walking there.
-    #[tactic(auto, using(crate::proofs::Preferred::preference_leads))]
-    fn leads(&self, id: &Id) -> bool
-        ensures { result ≡ is_preferred B.answer self.now.board id.now }
-    {
-        self.board.preference() == *id || self.board.is_preferred(id)
-    }
-
-    /// Counts a held reply as a vote for what its block stands for, and lets closed polls leave.
-    fn hear(&mut self, reply: &Held, log: &mut Lines) -> Result<(), Halt>
-        ensures answer { Turns result self.new (model.heard B.answer self.old reply.now).1 }
-        ensures lines { Tells result log.old log.new (model.heard B.answer self.old reply.now).0 }
-    {
-        let id = self.queue.bubble(&reply.id, &self.board);
-        self.tally(reply.number, &reply.node, id, log)
     }
 }
 

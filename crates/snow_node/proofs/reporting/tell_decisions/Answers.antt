@@ -5,7 +5,7 @@ use Rattle.snow_node.specs.Model.Telling.{decision_line}
 use Rattle.snow_node.proofs.Logs.{logs_some}
 use Rattle.snow_node.proofs.reporting.tell_decisions.Goals as goal
 
-pub returns-in_err-tell_decision-clause-err : goal.returns-in_err-tell_decision-clause-err
-returns-in_err-tell_decision-clause-err c =
+pub returns-in_err-push-clause-err : goal.returns-in_err-push-clause-err
+returns-in_err-push-clause-err c =
     let p = err_from_is_err_and c.from_residual.result c.from_residual.ensures.1 in
-    rw p.1 (logs_some decision_line c.args.decisions.now c.loop-decision.decision-index c.args.log.now c.tell_decision.new.log (c.in_err-tell_decision.ensures.err ∙ c.loop-decision.invariant))
+    rw p.1 (logs_some decision_line c.args.decisions.now c.loop-decision.decision-index c.args.log.now c.push.new.self (c.in_err-push.ensures.err ∙ c.loop-decision.invariant))

@@ -1,35 +1,47 @@
--- What was counted was awaited, and where nothing was counted nothing changed.
-use Rattle.std.proofs.Common.{◌++◌, append-nil, Ok, refl, sym, ap, ◌∙◌, subst}
-use Rattle.snow_node.specs.Model.Outcome.{Comes, then_comes}
+-- A vote that was counted was awaited, and nothing was to be done before it.
+use Rattle.std.proofs.Common.{◌≡◌, false, Err, ◌∙◌, sym, subst, rules}
+use Rattle.std.proofs.lemmas.Result.{err_from_is_err_and}
+use Rattle.snow_held.specs.Model.Replies.{holds_in}
+use Rattle.snow_node.specs.Model.Outcome.{Comes}
 use Rattle.snow_node.specs.Model.Running.{Running}
 use Rattle.snow_node.specs.Model.Closing.{closed_out}
 use Rattle.snow_node.specs.Model.Settling.{settled}
-use Rattle.snow_node.specs.Clauses.Stepping.{Tells, Turns}
-use Rattle.snow_node.proofs.AtOnce.{was_counted, not_counted}
+use Rattle.snow_node.specs.Clauses.Stepping.{HaltsAs, Tells, Turns}
+use Rattle.snow_node.proofs.AtOnce.{counted_first}
+use Rattle.snow_node.proofs.Sequel.{stop_first, lines_first, then_is, lines_then}
 use Rattle.snow_node.proofs.running.Running.count.Goals as goal
 
-pub returns-in-Counted-clause-answer : goal.returns-in-Counted-clause-answer
-returns-in-Counted-clause-answer g c =
-    subst (λ (all : Comes Running). Turns c.close_and_settle.result c.close_and_settle.new.self all.1)
-    (ap (λ (node : Running). then_comes (closed_out g.B.Board.answer node) (settled g.C.Chain.rules g.B.Board.answer)) c.in-Counted.ensures.node
-    ∙ sym (was_counted g.C.Chain.rules g.B.Board.answer c.args.self.now c.args.number c.args.peer.now c.args.vote c.in-Counted.ensures.answer))
-    c.close_and_settle.ensures.answer
+pub returns-in_err-close_polls-in-Counted-clause-answer : goal.returns-in_err-close_polls-in-Counted-clause-answer
+returns-in_err-close_polls-in-Counted-clause-answer g c =
+    let free : holds_in c.args.self.now.queue.held c.args.number c.args.peer.now ≡ false = search rules in
+    let p = err_from_is_err_and c.from_residual.result c.from_residual.ensures.1 in
+    let s = c.in_err-close_polls-in-Counted.field-0.0 in
+    rw (p.1, p.2) (subst (λ (all : Comes Running). HaltsAs s all.1)
+    (counted_first g.C.Chain.rules g.B.Board.answer c.args.self.now c.enter.new.self c.args.number c.args.peer.now c.args.id.now c.args.vote c.requires free c.in-Counted.ensures.answer c.in-Counted.ensures.node)
+    (stop_first Running Running (closed_out g.B.Board.answer c.enter.new.self) (settled g.C.Chain.rules g.B.Board.answer) s c.in_err-close_polls-in-Counted.ensures.answer))
 
-pub returns-in-Counted-clause-lines : goal.returns-in-Counted-clause-lines
-returns-in-Counted-clause-lines g c =
-    subst (λ (all : Comes Running). Tells c.close_and_settle.result c.args.log.now c.close_and_settle.new.log all.0)
-    (ap (λ (node : Running). then_comes (closed_out g.B.Board.answer node) (settled g.C.Chain.rules g.B.Board.answer)) c.in-Counted.ensures.node
-    ∙ sym (was_counted g.C.Chain.rules g.B.Board.answer c.args.self.now c.args.number c.args.peer.now c.args.vote c.in-Counted.ensures.answer))
-    c.close_and_settle.ensures.lines
+pub returns-in_err-close_polls-in-Counted-clause-lines : goal.returns-in_err-close_polls-in-Counted-clause-lines
+returns-in_err-close_polls-in-Counted-clause-lines g c =
+    let free : holds_in c.args.self.now.queue.held c.args.number c.args.peer.now ≡ false = search rules in
+    let p = err_from_is_err_and c.from_residual.result c.from_residual.ensures.1 in
+    let s = c.in_err-close_polls-in-Counted.field-0.0 in
+    rw (p.1, p.2) (subst (λ (all : Comes Running). Tells {T = Unit {0}} (Err s) c.args.log.now c.close_polls.new.log all.0)
+    (counted_first g.C.Chain.rules g.B.Board.answer c.args.self.now c.enter.new.self c.args.number c.args.peer.now c.args.id.now c.args.vote c.requires free c.in-Counted.ensures.answer c.in-Counted.ensures.node)
+    (lines_first Running Running (closed_out g.B.Board.answer c.enter.new.self) (settled g.C.Chain.rules g.B.Board.answer) (Unit {0}) (Unit {0}) s c.args.log.now c.close_polls.new.log
+    c.in_err-close_polls-in-Counted.ensures.answer c.in_err-close_polls-in-Counted.ensures.lines))
 
-pub returns-in-NotAwaited-clause-answer : goal.returns-in-NotAwaited-clause-answer
-returns-in-NotAwaited-clause-answer g c =
-    ap (λ (all : Comes Running). all.1)
-    (not_counted g.C.Chain.rules g.B.Board.answer c.args.self.now c.args.number c.args.peer.now c.args.vote c.in-NotAwaited.ensures.answer)
-    ∙ ap (λ (node : Running). Ok node) (sym (c.in-NotAwaited.ensures.unchanged refl))
+pub returns-in_ok-close_polls-in-Counted-clause-answer : goal.returns-in_ok-close_polls-in-Counted-clause-answer
+returns-in_ok-close_polls-in-Counted-clause-answer g c =
+    let free : holds_in c.args.self.now.queue.held c.args.number c.args.peer.now ≡ false = search rules in
+    subst (λ (all : Comes Running). Turns c.settle.result c.settle.new.self all.1)
+    (sym (then_is Running Running (closed_out g.B.Board.answer c.enter.new.self) (settled g.C.Chain.rules g.B.Board.answer) c.close_polls.new.self c.in_ok-close_polls-in-Counted.ensures.answer)
+    ∙ counted_first g.C.Chain.rules g.B.Board.answer c.args.self.now c.enter.new.self c.args.number c.args.peer.now c.args.id.now c.args.vote c.requires free c.in-Counted.ensures.answer c.in-Counted.ensures.node)
+    c.settle.ensures.answer
 
-pub returns-in-NotAwaited-clause-lines : goal.returns-in-NotAwaited-clause-lines
-returns-in-NotAwaited-clause-lines g c =
-    sym (append-nil c.args.log.now)
-    ∙ ap (λ (all : Comes Running). c.args.log.now ++ all.0)
-    (sym (not_counted g.C.Chain.rules g.B.Board.answer c.args.self.now c.args.number c.args.peer.now c.args.vote c.in-NotAwaited.ensures.answer))
+pub returns-in_ok-close_polls-in-Counted-clause-lines : goal.returns-in_ok-close_polls-in-Counted-clause-lines
+returns-in_ok-close_polls-in-Counted-clause-lines g c =
+    let free : holds_in c.args.self.now.queue.held c.args.number c.args.peer.now ≡ false = search rules in
+    subst (λ (all : Comes Running). Tells c.settle.result c.args.log.now c.settle.new.log all.0)
+    (counted_first g.C.Chain.rules g.B.Board.answer c.args.self.now c.enter.new.self c.args.number c.args.peer.now c.args.id.now c.args.vote c.requires free c.in-Counted.ensures.answer c.in-Counted.ensures.node)
+    (lines_then Running Running (closed_out g.B.Board.answer c.enter.new.self) (settled g.C.Chain.rules g.B.Board.answer) (Unit {0}) c.settle.result c.close_polls.new.self
+    c.args.log.now c.close_polls.new.log c.settle.new.log c.in_ok-close_polls-in-Counted.ensures.answer c.in_ok-close_polls-in-Counted.ensures.lines c.settle.ensures.lines)

@@ -1,6 +1,9 @@
 -- Each arm does what its work asks for.
-use Rattle.std.proofs.Common.{sym, subst}
+use Rattle.std.proofs.Common.{◌≡◌, sym, ap, ◌∙◌, subst}
 use Rattle.snow_issue.specs.declared.work.Work.{Work}
+use Rattle.snow_issue.specs.Model.Bubbling.{bubbled}
+use Rattle.snow_node.specs.Model.Running.{Running}
+use Rattle.snow_node.specs.Model.Closing.{with_vote, closed_out}
 use Rattle.snow_node.specs.Model.Settling.{done}
 use Rattle.snow_node.specs.Clauses.Stepping.{Tells, Turns}
 use Rattle.snow_node.proofs.running.Running.work.Goals as goal
@@ -15,8 +18,18 @@ returns-in-Ready-clause-lines g c =
 
 pub returns-in-Vote-clause-answer : goal.returns-in-Vote-clause-answer
 returns-in-Vote-clause-answer g c =
-    subst (λ (w : Work). Turns c.hear.result c.hear.new.self (done g.C.Chain.rules g.B.Board.answer c.args.self.now w).1) (sym c.in-Vote.is) c.hear.ensures.answer
+    subst (λ (w : Work). Turns c.close_polls.result c.close_polls.new.self (done g.C.Chain.rules g.B.Board.answer c.args.self.now w).1) (sym c.in-Vote.is)
+    (subst (λ (n : Running). Turns c.close_polls.result c.close_polls.new.self (closed_out g.B.Board.answer n).1)
+    (c.enter.ensures.node
+    ∙ ap (with_vote c.args.self.now c.in-Vote.reply.number c.in-Vote.reply.node)
+    (subst (λ (n : Running). c.bubble-vote.result ≡ bubbled n.queue n.board c.in-Vote.reply.id) c.self.view_is c.bubble-vote.ensures))
+    c.close_polls.ensures.answer)
 
 pub returns-in-Vote-clause-lines : goal.returns-in-Vote-clause-lines
 returns-in-Vote-clause-lines g c =
-    subst (λ (w : Work). Tells c.hear.result c.args.log.now c.hear.new.log (done g.C.Chain.rules g.B.Board.answer c.args.self.now w).0) (sym c.in-Vote.is) c.hear.ensures.lines
+    subst (λ (w : Work). Tells c.close_polls.result c.args.log.now c.close_polls.new.log (done g.C.Chain.rules g.B.Board.answer c.args.self.now w).0) (sym c.in-Vote.is)
+    (subst (λ (n : Running). Tells c.close_polls.result c.args.log.now c.close_polls.new.log (closed_out g.B.Board.answer n).0)
+    (c.enter.ensures.node
+    ∙ ap (with_vote c.args.self.now c.in-Vote.reply.number c.in-Vote.reply.node)
+    (subst (λ (n : Running). c.bubble-vote.result ≡ bubbled n.queue n.board c.in-Vote.reply.id) c.self.view_is c.bubble-vote.ensures))
+    c.close_polls.ensures.lines)
