@@ -1,4 +1,4 @@
-ghost use Rattle.std.specs.Prelude.{◌≡◌, [], Some, None};
+ghost use Rattle.std.specs.Prelude.{◌≡◌, [], None};
 ghost use Rattle.snow_engine.specs.Model.Run as model;
 ghost use Rattle.snow_engine.specs.Model.Run.{after_frame};
 ghost use Rattle.snow_engine.specs.Clauses.Serving.{stand_of, told, Opens, Stands, LogsFrame};
