@@ -1,16 +1,17 @@
 -- Lemmas on the nodes that are awaited: which entry of a node counts, and what an entry more and a reply leave.
-use Rattle.std.proofs.Common.{◌≡◌, ℕ, zero, suc, ◌+◌, ◌-◌, ◌/◌, ◌^◌, ◌<◌, ◌≤◌, Bool, true, false, not, cond, if◌then◌else◌, List, [], ◌∷◌, ◌++◌, length, get_or, set, map, replicate, bytes_eq, bit_xor, is_some, Option, None, Some, refl, sym, ap, ◌∙◌, arith, inl, inr}
+use Rattle.std.proofs.Common.{◌≡◌, ℕ, zero, suc, ◌+◌, ◌-◌, ◌/◌, ◌^◌, ◌<◌, ◌≤◌, Bool, true, false, not, cond, if◌then◌else◌, List, [], ◌∷◌, ◌++◌, length, get_or, set, map, replicate, bytes_eq, bit_xor, is_some, Option, None, Some, refl, sym, subst, ap, ◌∙◌, arith, inl, inr}
 use Rattle.std.specs.BTreeMap.{BTreeMap, get}
 use Rattle.std.specs.Cmp.Lexicographic.{slice_cmp}
 use Rattle.std.specs.Option.{unwrap_or}
 use Rattle.std.specs.Ordering.{nat_cmp, is_eq}
 use Rattle.std.proofs.lemmas.Map.Text.{is_eq-slice_cmp}
 use Rattle.std.proofs.lemmas.Bool.{cases_Bool, cases_eq, cases_lt, cond-true, cond-false}
-use Rattle.std.proofs.lemmas.List.{get_or_read, get_or-set_same, get_or-set_other, length-map, length-replicate, length-set, map-append}
+use Rattle.std.proofs.lemmas.List.{get_or_read, get_or-set_same, get_or-set_other, get_or_append_left, length-append, length-map, length-replicate, length-set, map-append}
 use Rattle.std.proofs.lemmas.List.Sums.{fold-append}
 use Rattle.std.proofs.lemmas.Nat.{and_le_r}
 use Rattle.std.proofs.lemmas.Slice.Eq.{bytes_eq-Decides}
-use Rattle.std.proofs.Math.Seq.{map-set_same}
+use Rattle.std.proofs.Math.Seq.{get_or-append_seam, map-set_same}
+use Rattle.snow_sample.specs.Kept.Chains.{IsLast, AreChained}
 use Rattle.snow_sample.proofs.Chains.{chained_none, chained_more}
 use Rattle.snow_sample.proofs.Walks.{last_of, last_none, last_here, IsSought, sought_begins, sought_on, none_later}
 use Rattle.snow_poll.specs.declared.awaited.Wait.{Wait}
@@ -55,6 +56,72 @@ waits_more mask waits lasts w are first =
       classes = length-set lasts (class mask w) (length waits + 1) ∙ classes;
       chained = rw (map-append (class mask) waits (w ∷ []), map-append before waits (w ∷ []), first, ← many)
           (chained_more (map (class mask) waits) (map before waits) lasts (class mask w) are.chained (within_classes mask waits lasts w.node are));
+    }
+
+-- what is true of the last of a class among some items and one more is true without that one, where it is another
+last_fewer : (classes : List ℕ) (class c many number : ℕ) → many ≤ length classes → number ≤ many → IsLast (classes ++ class ∷ []) c many number → IsLast classes c many number
+last_fewer classes class c many number within few last =
+    let front : (i : ℕ) → i < many → get_or (classes ++ class ∷ []) i 0 ≡ get_or classes i 0 = λ i less. get_or_append_left classes (class ∷ []) 0 i (omega arith) in
+    record {
+      within = few;
+      same = λ some. sym (front (number - 1) (omega arith)) ∙ last.same some;
+      others = λ i low high is. last.others i low high (front i high ∙ is);
+    }
+
+-- the last of some items and one more, where it isn't that one
+last_before : (classes : List ℕ) (class c number : ℕ) → (c ≡ class → ⊥) → IsLast (classes ++ class ∷ []) c (length classes + 1) number → IsLast classes c (length classes) number
+last_before classes class c number differ last =
+    let within = last.within in
+    let seam : get_or (classes ++ class ∷ []) (length classes) 0 ≡ class = get_or-append_seam classes class [] 0 in
+    let few : number ≤ length classes =
+    elim (cases_lt number (length classes + 1)) [
+      | inl less ↦ omega arith
+      | inr more ↦
+          let one : number - 1 ≡ length classes = omega arith in
+          absurd (differ (sym (last.same (omega arith)) ∙ ap (λ k. get_or (classes ++ class ∷ []) k 0) one ∙ seam))
+    ] in
+    last_fewer classes class c (length classes) number (omega arith) few
+    (record { within = few; same = last.same; others = λ i low high. last.others i low (omega arith) })
+
+-- an item less: its class has the number that it had before
+chained_fewer : (classes befores lasts : List ℕ) (class old : ℕ) → AreChained (classes ++ class ∷ []) (befores ++ old ∷ []) lasts → class < length lasts
+    → AreChained classes befores (set lasts class old)
+chained_fewer classes befores lasts class old chained small =
+    let each = chained.each in
+    let long : length (classes ++ class ∷ []) ≡ length classes + 1 = length-append classes (class ∷ []) in
+    let also : length (befores ++ old ∷ []) ≡ length befores + 1 = length-append befores (old ∷ []) in
+    let same : length befores ≡ length classes = omega arith in
+    let of : get_or (classes ++ class ∷ []) (length classes) 0 ≡ class = get_or-append_seam classes class [] 0 in
+    let at : get_or (befores ++ old ∷ []) (length classes) 0 ≡ old = ap (λ k. get_or (befores ++ old ∷ []) k 0) (sym same) ∙ get_or-append_seam befores old [] 0 in
+    let mine : IsLast (classes ++ class ∷ []) class (length classes) old =
+    subst (λ k. IsLast (classes ++ class ∷ []) k (length classes) old) of
+    (subst (λ k. IsLast (classes ++ class ∷ []) (get_or (classes ++ class ∷ []) (length classes) 0) (length classes) k) at (chained.before (length classes) (omega arith))) in
+    record {
+      each = same;
+      last = λ c h.
+          elim (cases_eq c class) [
+            | inl is ↦
+                let here : get_or (set lasts class old) c 0 ≡ old = ap (λ k. get_or (set lasts class old) k 0) is ∙ get_or-set_same lasts class old 0 small in
+                rw (here, is) (last_fewer classes class class (length classes) old (omega arith) mine.within mine)
+            | inr differ ↦
+                let here : get_or (set lasts class old) c 0 ≡ get_or lasts c 0 = get_or-set_other lasts class c old 0 differ in
+                rw here (last_before classes class c (get_or lasts c 0) differ (rw (← long) (chained.last c (rw (length-set lasts class old) at h))))
+          ];
+      before = λ i h.
+          let here : get_or (classes ++ class ∷ []) i 0 ≡ get_or classes i 0 = get_or_append_left classes (class ∷ []) 0 i h in
+          let there : get_or (befores ++ old ∷ []) i 0 ≡ get_or befores i 0 = get_or_append_left befores (old ∷ []) 0 i (omega arith) in
+          let one : IsLast (classes ++ class ∷ []) (get_or classes i 0) i (get_or befores i 0) = rw (← here, ← there) (chained.before i (omega arith)) in
+          last_fewer classes class (get_or classes i 0) i (get_or befores i 0) (omega arith) one.within one;
+    }
+
+-- an entry less: its class has the entry before it again
+pub waits_fewer : (mask : ℕ) (waits : List Wait) (lasts : List ℕ) (w : Wait) → AreWaits mask (waits ++ w ∷ []) lasts → AreWaits mask waits (set lasts (class_of mask w.node) w.before)
+waits_fewer mask waits lasts w are =
+    let small : class mask w < length lasts = within_classes mask (waits ++ w ∷ []) lasts w.node are in
+    record {
+      classes = length-set lasts (class mask w) w.before ∙ are.classes;
+      chained = chained_fewer (map (class mask) waits) (map before waits) lasts (class mask w) w.before
+          (rw (← map-append (class mask) waits (w ∷ []), ← map-append before waits (w ∷ [])) are.chained) small;
     }
 
 -- an entry's count changes no class

@@ -83,8 +83,7 @@ impl Awaited {
         ensures none { self.new.waits.items ≡ [] }
         ensures room { vec_capacity self.new.waits ≡ vec_capacity self.old.waits }
     {
-        self.waits.clear();
-        self.lasts.fill(0);
+        leave_all(&mut self.waits, &mut self.lasts, self.mask);
         self.numbers = None;
     }
 
@@ -193,6 +192,19 @@ fn number_all(alloc: Global, waits: &[Wait]) -> Result<BTreeMap<NodeId, u32>, Al
         numbers.insert(wait.node, number)?;
     }
     Ok(numbers)
+}
+
+// Takes every node out, the last one first, so that its class has the one before it again. So a poll pays
+// for its nodes, and not for its classes.
+fn leave_all(waits: &mut Vec<Wait>, lasts: &mut Vec<u32>, mask: u64)
+    requires chained { AreWaits mask waits.old.items lasts.old.items }
+    ensures chained { AreWaits mask waits.new.items lasts.new.items }
+    ensures none { waits.new.items ≡ [] }
+    ensures room { vec_capacity waits.new ≡ vec_capacity waits.old }
+{
+    while let Some(wait) = waits.pop() {
+        lasts[class(&wait.node, mask)] = wait.before;
+    }
 }
 
 // Awaits the nodes of these draws, where none is awaited: the greatest rank of them.
