@@ -40,6 +40,9 @@ impl<C: Chain, B: Board> Running<C, B> {
         ensures node { self.new ≡ model.without_work self.old result }
         ensures may { IfSome result (λ work. MayWork self.new.board self.new.queue work) }
     {
+        if let QueueState::Settled = self.queue_state {
+            return None;
+        }
         let work = take_next(&mut self.queue, &self.board, &self.queue_state);
         self.queue_state = QueueState::taken(&work);
         work
