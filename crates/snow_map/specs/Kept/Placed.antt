@@ -1,6 +1,6 @@
 -- Where the entries of a map stand: each under its identifier's seat, or in order where another has that seat.
 use Rattle.std.specs.Prelude.{◌≡◌, ℕ, Bool, false, not, cond, List, ◌++◌, map, nat_eq, Option, Some, None, is_some, bytes_eq}
-use Rattle.std.specs.List.{IsDistinct}
+use Rattle.std.specs.List.{IsDistinct, list_any}
 use Rattle.std.specs.Map.{keys_of, lookup}
 use Rattle.snow_map.specs.Clauses.Entries.{value_of}
 use Rattle.snow_map.specs.Kept.Seats.{place_of as among}
@@ -36,6 +36,11 @@ module _ {V : Type 0} where
   pub record IsPlaced (far : List (List ℕ × V)) (place : ℕ) (e : List ℕ × V) : Type 0 where
     pub here : place_of e.0 ≡ place
     pub alone : value_of far e.0 ≡ None
+
+  -- an identifier has an entry in the order only where its seat is among these, and then one
+  pub record IsInOrder (shared : List ℕ) (far : List (List ℕ × V)) : Type 0 where
+    pub once : IsDistinct bytes_eq (keys_of far)
+    pub noted : (id : List ℕ) → list_any (nat_eq (place_of id)) shared ≡ false → value_of far id ≡ None
 
   pub record IsKept (near : List (ℕ × (List ℕ × V))) (far : List (List ℕ × V)) : Type 0 where
     pub unique : IsDistinct nat_eq (keys_of near)
