@@ -6,7 +6,7 @@ use Rattle.std.specs.Option.{unwrap_or}
 use Rattle.std.specs.Ordering.{nat_cmp, is_eq}
 use Rattle.std.proofs.lemmas.Map.Text.{is_eq-slice_cmp}
 use Rattle.std.proofs.lemmas.Bool.{cases_Bool, cases_eq, cases_lt, cond-true, cond-false}
-use Rattle.std.proofs.lemmas.List.{get_or_read, get_or-set_same, get_or-set_other, get_or_append_left, length-append, length-map, length-replicate, length-set, map-append}
+use Rattle.std.proofs.lemmas.List.{append_cancel_right, get_or_read, get_or-set_same, get_or-set_other, get_or_append_left, length-append, length-map, length-replicate, length-set, map-append}
 use Rattle.std.proofs.lemmas.List.Sums.{fold-append}
 use Rattle.std.proofs.lemmas.Nat.{and_le_r}
 use Rattle.std.proofs.lemmas.Slice.Eq.{bytes_eq-Decides}
@@ -25,6 +25,10 @@ is_of node w = bytes_eq w.node node
 abbrev class : ℕ → Wait → ℕ
 class mask w = class_of mask w.node
 
+-- the class that an entry tells
+abbrev told : Wait → ℕ
+told w = w.class
+
 -- the number of the entry before
 abbrev before : Wait → ℕ
 before w = w.before
@@ -36,24 +40,30 @@ count w = count_left w
 -- ---- entries in classes
 
 -- no entry is chained to none
-pub waits_none : (mask : ℕ) (lasts : List ℕ) → lasts ≡ replicate (mask + 1) 0 → AreWaits mask [] lasts
-waits_none mask lasts none =
+pub waits_none : (mask : ℕ) (lasts : List ℕ) → mask < 65536 → lasts ≡ replicate (mask + 1) 0 → AreWaits mask [] lasts
+waits_none mask lasts small none =
     let nothing : ℕ = 0 in
-    rw none (record { classes = length-replicate (mask + 1) nothing; chained = chained_none (mask + 1) })
+    rw none (record { classes = length-replicate (mask + 1) nothing; small = small; told = refl; chained = chained_none (mask + 1) })
 
 -- each node has a class
 pub within_classes : (mask : ℕ) (waits : List Wait) (lasts : List ℕ) (node : List ℕ) → AreWaits mask waits lasts → class_of mask node < length lasts
 within_classes mask waits lasts node are =
     omega (arith, are.classes, and_le_r (bit_xor (spread_of node / 2 ^ 48) (spread_of node / 2 ^ 54)) mask)
 
+-- two lists with the same item behind them
+one_behind : (xs ys : List ℕ) (x y : ℕ) → xs ≡ ys → x ≡ y → xs ++ x ∷ [] ≡ ys ++ y ∷ []
+one_behind xs ys x y same one = rw (same, one) refl
+
 -- an entry more
 pub waits_more : (mask : ℕ) (waits : List Wait) (lasts : List ℕ) (w : Wait) → AreWaits mask waits lasts → w.before ≡ get_or lasts (class_of mask w.node) 0
-    → AreWaits mask (waits ++ w ∷ []) (set lasts (class_of mask w.node) (length waits + 1))
-waits_more mask waits lasts w are first =
+    → w.class ≡ class_of mask w.node → AreWaits mask (waits ++ w ∷ []) (set lasts (class_of mask w.node) (length waits + 1))
+waits_more mask waits lasts w are first tells =
     let classes = are.classes in
     let many : length (map (class mask) waits) ≡ length waits = length-map waits (class mask) in
     record {
       classes = length-set lasts (class mask w) (length waits + 1) ∙ classes;
+      small = are.small;
+      told = map-append told waits (w ∷ []) ∙ one_behind (map told waits) (map (class mask) waits) w.class (class mask w) are.told tells ∙ sym (map-append (class mask) waits (w ∷ []));
       chained = rw (map-append (class mask) waits (w ∷ []), map-append before waits (w ∷ []), first, ← many)
           (chained_more (map (class mask) waits) (map before waits) lasts (class mask w) are.chained (within_classes mask waits lasts w.node are));
     }
@@ -114,21 +124,34 @@ chained_fewer classes befores lasts class old chained small =
           last_fewer classes class (get_or classes i 0) i (get_or befores i 0) (omega arith) one.within one;
     }
 
+-- an entry tells its node's class
+pub tells_class : (mask : ℕ) (waits : List Wait) (lasts : List ℕ) (w : Wait) → AreWaits mask (waits ++ w ∷ []) lasts → w.class ≡ class_of mask w.node
+tells_class mask waits lasts w are =
+    let many : length (map told waits) ≡ length (map (class mask) waits) = length-map waits told ∙ sym (length-map waits (class mask)) in
+    let same : map told waits ++ w.class ∷ [] ≡ map (class mask) waits ++ class mask w ∷ [] = sym (map-append told waits (w ∷ [])) ∙ are.told ∙ map-append (class mask) waits (w ∷ []) in
+    sym (get_or-append_seam (map told waits) w.class [] 0) ∙ ap (λ l. get_or l (length (map told waits)) 0) same
+    ∙ ap (λ k. get_or (map (class mask) waits ++ class mask w ∷ []) k 0) many ∙ get_or-append_seam (map (class mask) waits) (class mask w) [] 0
+
 -- an entry less: its class has the entry before it again
 pub waits_fewer : (mask : ℕ) (waits : List Wait) (lasts : List ℕ) (w : Wait) → AreWaits mask (waits ++ w ∷ []) lasts → AreWaits mask waits (set lasts (class_of mask w.node) w.before)
 waits_fewer mask waits lasts w are =
     let small : class mask w < length lasts = within_classes mask (waits ++ w ∷ []) lasts w.node are in
+    let same : map told waits ++ w.class ∷ [] ≡ map (class mask) waits ++ class mask w ∷ [] = sym (map-append told waits (w ∷ [])) ∙ are.told ∙ map-append (class mask) waits (w ∷ []) in
     record {
       classes = length-set lasts (class mask w) w.before ∙ are.classes;
+      small = are.small;
+      told = append_cancel_right (map told waits) (map (class mask) waits) (class mask w ∷ []) (ap (λ k. map told waits ++ k ∷ []) (sym (tells_class mask waits lasts w are)) ∙ same);
       chained = chained_fewer (map (class mask) waits) (map before waits) lasts (class mask w) w.before
           (rw (← map-append (class mask) waits (w ∷ []), ← map-append before waits (w ∷ [])) are.chained) small;
     }
 
 -- an entry's count changes no class
 pub waits_kept : (mask : ℕ) (waits : List Wait) (lasts : List ℕ) (i : ℕ) (w : Wait) → AreWaits mask waits lasts
-    → ((d : Wait) → w.node ≡ (get_or waits i d).node) → ((d : Wait) → w.before ≡ (get_or waits i d).before) → AreWaits mask (set waits i w) lasts
-waits_kept mask waits lasts i w are node number = record {
+    → ((d : Wait) → w.node ≡ (get_or waits i d).node) → ((d : Wait) → w.before ≡ (get_or waits i d).before) → ((d : Wait) → w.class ≡ (get_or waits i d).class) → AreWaits mask (set waits i w) lasts
+waits_kept mask waits lasts i w are node number tells = record {
   classes = are.classes;
+  small = are.small;
+  told = map-set_same told waits i w w (tells w) ∙ are.told ∙ sym (map-set_same (class mask) waits i w w (ap (class_of mask) (node w)));
   chained = rw (map-set_same (class mask) waits i w w (ap (class_of mask) (node w)), map-set_same before waits i w w (number w)) are.chained;
 }
 

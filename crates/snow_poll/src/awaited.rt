@@ -27,6 +27,7 @@ pub(crate) struct Wait {
     pub(crate) node: NodeId,
     pub(crate) count: u32,
     pub(crate) before: u32,
+    pub(crate) class: u16,
     pub(crate) rank: u8,
     pub(crate) replied: bool,
 }
@@ -51,7 +52,7 @@ impl Awaited {
     pub(crate) fn new(alloc: Global, nodes: usize) -> Result<Awaited, AllocError>
         ensures { IfOk result (λ made. nodes ≤ vec_capacity made.waits) }
     {
-        let classes = classes_of(nodes).next_power_of_two();
+        let classes = classes_of(nodes).next_power_of_two().min(MOST_CLASSES);
         let mut waits = Vec::new(alloc);
         waits.reserve(nodes)?;
         Ok(Awaited {
@@ -83,7 +84,7 @@ impl Awaited {
         ensures none { self.new.waits.items ≡ [] }
         ensures room { vec_capacity self.new.waits ≡ vec_capacity self.old.waits }
     {
-        leave_all(&mut self.waits, &mut self.lasts, self.mask);
+        leave_all(&mut self.waits, &mut self.lasts);
         self.numbers = None;
     }
 
@@ -196,14 +197,14 @@ fn number_all(alloc: Global, waits: &[Wait]) -> Result<BTreeMap<NodeId, u32>, Al
 
 // Takes every node out, the last one first, so that its class has the one before it again. So a poll pays
 // for its nodes, and not for its classes.
-fn leave_all(waits: &mut Vec<Wait>, lasts: &mut Vec<u32>, mask: u64)
-    requires chained { AreWaits mask waits.old.items lasts.old.items }
-    ensures chained { AreWaits mask waits.new.items lasts.new.items }
+fn leave_all(waits: &mut Vec<Wait>, lasts: &mut Vec<u32>)
+    requires chained { (mask : ℕ) × AreWaits mask waits.old.items lasts.old.items }
+    ensures chained { (mask : ℕ) → AreWaits mask waits.old.items lasts.old.items → AreWaits mask waits.new.items lasts.new.items }
     ensures none { waits.new.items ≡ [] }
     ensures room { vec_capacity waits.new ≡ vec_capacity waits.old }
 {
     while let Some(wait) = waits.pop() {
-        lasts[class(&wait.node, mask)] = wait.before;
+        lasts[wait.class as usize] = wait.before;
     }
 }
 
@@ -243,6 +244,7 @@ fn enter_draw(waits: &mut Vec<Wait>, lasts: &mut Vec<u32>, mask: u64, draw: &Dra
         node: draw.node,
         count: draw.count,
         before,
+        class: class as u16,
         rank,
         replied: false,
     });

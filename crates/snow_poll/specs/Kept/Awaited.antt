@@ -29,9 +29,11 @@ spread_of node = (word_at 0 node + word_at 12 node) % 2 ^ 64 * 11400714819323198
 abbrev pub class_of : ℕ → List ℕ → ℕ
 class_of mask node = bit_and (bit_xor (spread_of node / 2 ^ 48) (spread_of node / 2 ^ 54)) mask
 
--- the entries are chained in the classes of their nodes, of which there is one more than the mask
+-- the entries tell their nodes' classes, of which there is one more than the mask, and are chained in these
 pub record AreWaits (mask : ℕ) (waits : List Wait) (lasts : List ℕ) : Type 0 where
   pub classes : length lasts ≡ mask + 1
+  pub small : mask < 65536
+  pub told : map (λ w. w.class) waits ≡ map (λ w. class_of mask w.node) waits
   pub chained : AreChained (map (λ w. class_of mask w.node) waits) (map (λ w. w.before) waits) lasts
 
 -- the number of a node's last entry, from 1; 0 where it has none

@@ -6,7 +6,7 @@ use Rattle.snow_poll.proofs.awaited.Awaited.new.Goals as goal
 
 pub invariant_of-result-clause-chained : goal.invariant_of-result-clause-chained
 invariant_of-result-clause-chained c =
-    let some : 0 < c.next_power_of_two-classes.result = rw c.next_power_of_two-classes.ensures.power.1 (pow_pos c.next_power_of_two-classes.ensures.power.0) in
-    let classes : c.next_power_of_two-classes.result - 1 + 1 ≡ c.next_power_of_two-classes.result = omega arith in
+    let some : 0 < c.next_power_of_two.result = rw c.next_power_of_two.ensures.power.1 (pow_pos c.next_power_of_two.ensures.power.0) in
+    let classes : c.min-classes.result - 1 + 1 ≡ c.min-classes.result = omega (arith, c.min-classes.ensures) in
     rw (c.in_ok-reserve.ensures.items, c.new-waits.ensures.items)
-    (waits_none (c.next_power_of_two-classes.result - 1) c.in_ok-zeros.field-0.items (rw classes c.in_ok-zeros.ensures))
+    (waits_none (c.min-classes.result - 1) c.in_ok-zeros.field-0.items (omega (arith, c.min-classes.ensures)) (rw classes c.in_ok-zeros.ensures))

@@ -31,16 +31,16 @@ returns-then-wait-clause-updates c other =
 pub invariant_of-self-clause-chained : goal.invariant_of-self-clause-chained
 invariant_of-self-clause-chained c =
     let self = c.args.self.now in
-    let w : Wait = record { node = c.index_mut.result.now.node; count = c.index_mut.result.now.count; before = c.index_mut.result.now.before; rank = c.index_mut.result.now.rank; replied = true } in
+    let w : Wait = record { node = c.index_mut.result.now.node; count = c.index_mut.result.now.count; before = c.index_mut.result.now.before; class = c.index_mut.result.now.class; rank = c.index_mut.result.now.rank; replied = true } in
     let read : (d : Wait) → c.index_mut.result.now ≡ get_or self.waits.items (c.find-number.result - 1) d = λ d.
     get_or_read self.waits.items (c.find-number.result - 1) c.index_mut.result.now (omega (arith, c.find-number.ensures.within)) c.index_mut.ensures.value d in
     waits_kept self.mask self.waits.items self.lasts.items (c.find-number.result - 1) w self.chained
-    (λ d. ap (λ (x : Wait). x.node) (read d)) (λ d. ap (λ (x : Wait). x.before) (read d))
+    (λ d. ap (λ (x : Wait). x.node) (read d)) (λ d. ap (λ (x : Wait). x.before) (read d)) (λ d. ap (λ (x : Wait). x.class) (read d))
 
 pub invariant_of-self-clause-numbered : goal.invariant_of-self-clause-numbered
 invariant_of-self-clause-numbered c numbers is node =
     let self = c.args.self.now in
-    let w : Wait = record { node = c.index_mut.result.now.node; count = c.index_mut.result.now.count; before = c.index_mut.result.now.before; rank = c.index_mut.result.now.rank; replied = true } in
+    let w : Wait = record { node = c.index_mut.result.now.node; count = c.index_mut.result.now.count; before = c.index_mut.result.now.before; class = c.index_mut.result.now.class; rank = c.index_mut.result.now.rank; replied = true } in
     let read : (d : Wait) → c.index_mut.result.now ≡ get_or self.waits.items (c.find-number.result - 1) d = λ d.
     get_or_read self.waits.items (c.find-number.result - 1) c.index_mut.result.now (omega (arith, c.find-number.ensures.within)) c.index_mut.ensures.value d in
     numbers_kept self.waits.items (c.find-number.result - 1) w node (number_in numbers node) (λ d. ap (λ (x : Wait). x.node) (read d)) (self.numbered numbers is node)
@@ -53,7 +53,7 @@ returns-clause-value c =
 pub returns-clause-updates : goal.returns-clause-updates
 returns-clause-updates c other =
     let self = c.args.self.now in
-    let w : Wait = record { node = c.index_mut.result.now.node; count = c.index_mut.result.now.count; before = c.index_mut.result.now.before; rank = c.index_mut.result.now.rank; replied = true } in
+    let w : Wait = record { node = c.index_mut.result.now.node; count = c.index_mut.result.now.count; before = c.index_mut.result.now.before; class = c.index_mut.result.now.class; rank = c.index_mut.result.now.rank; replied = true } in
     let read : (d : Wait) → c.index_mut.result.now ≡ get_or self.waits.items (c.find-number.result - 1) d = λ d.
     get_or_read self.waits.items (c.find-number.result - 1) c.index_mut.result.now (omega (arith, c.find-number.ensures.within)) c.index_mut.ensures.value d in
     counts_less self.waits.items c.args.node.now c.find-number.result w other c.find-number.ensures (omega arith) (λ d. ap (λ (x : Wait). x.node) (read d)) refl
@@ -61,7 +61,7 @@ returns-clause-updates c other =
 pub returns-clause-drawn : goal.returns-clause-drawn
 returns-clause-drawn c =
     let self = c.args.self.now in
-    let w : Wait = record { node = c.index_mut.result.now.node; count = c.index_mut.result.now.count; before = c.index_mut.result.now.before; rank = c.index_mut.result.now.rank; replied = true } in
+    let w : Wait = record { node = c.index_mut.result.now.node; count = c.index_mut.result.now.count; before = c.index_mut.result.now.before; class = c.index_mut.result.now.class; rank = c.index_mut.result.now.rank; replied = true } in
     let read : (d : Wait) → c.index_mut.result.now ≡ get_or self.waits.items (c.find-number.result - 1) d = λ d.
     get_or_read self.waits.items (c.find-number.result - 1) c.index_mut.result.now (omega (arith, c.find-number.ensures.within)) c.index_mut.ensures.value d in
     map-set_same draw_of self.waits.items (c.find-number.result - 1) w w (ap draw_of (read w))
