@@ -1,7 +1,7 @@
 -- Lemmas on the votes of a poll before they climb: those that wait are counted with those that began.
-use Rattle.std.proofs.Common.{◌≡◌, ℕ, ◌+◌, ◌*◌, ◌<◌, ◌≤◌, Bool, true, false, List, [], ◌∷◌, ◌++◌, length, get_or, set, take, drop, replicate, reverse, bytes_eq, All, IsPermutation, refl, sym, ap, subst, ◌∙◌, arith, rules, if◌then◌else◌}
+use Rattle.std.proofs.Common.{◌≡◌, ℕ, ◌+◌, ◌*◌, ◌<◌, ◌≤◌, Bool, true, false, List, [], ◌∷◌, ◌++◌, length, get_or, set, take, drop, replicate, reverse, bytes_eq, All, IsPermutation, refl, sym, ap, ◌∙◌, arith, rules, if◌then◌else◌}
 use Rattle.std.specs.Option.{option_to_list}
-use Rattle.std.proofs.lemmas.List.{length-map, drop_all}
+use Rattle.std.proofs.lemmas.List.{drop_all}
 use Rattle.std.proofs.lemmas.List.Elements.{All-nil, All-cons}
 use Rattle.std.proofs.lemmas.List.Folds.{sum_by-replicate}
 use Rattle.std.proofs.lemmas.List.Sums.{sum_by-cons, sum_by-set, sum_by-drop_more, sum_by_more, get_or-le-sum_by}
@@ -17,10 +17,9 @@ use Rattle.snow_board.proofs.OneEach.{each_by}
 use Rattle.snow_board.proofs.Polled.{few_votes}
 use Rattle.snow_tree.specs.Kept.Held.{Entry, blocks_in}
 use Rattle.snow_climb.specs.declared.climber.Climber.{Climber}
-use Rattle.snow_climb.specs.Kept.Climbing.{begun, cursors_of, ArePlaced}
-use Rattle.snow_climb.specs.Kept.Rising.{AreClimbing}
+use Rattle.snow_climb.specs.Kept.Climbing.{begun, ArePlaced}
 use Rattle.snow_climb.specs.Kept.Ladder.{Rungs}
-use Rattle.snow_climb.specs.Kept.Starting.{share, votes_by, ids_by, HaveStarted, HaveBegun, IsLoaded}
+use Rattle.snow_climb.specs.Kept.Starting.{share, votes_by, ids_by, HaveStarted, HaveBegun}
 use Rattle.snow_climb.proofs.Begun.{begun_at, begun_few, begun_first, placed_at}
 
 share_more : (t : Bool) (m n : ℕ) → (if t then m + n else 0) ≡ (if t then m else 0) + (if t then n else 0)
@@ -184,20 +183,3 @@ begun_places pending waiting counted cs started = placed_at pending started.vote
 -- as many of the votes as of the identifiers pass a test
 pub each_passes : (ids : List (List ℕ)) → All IsNamed ids → (test : List ℕ → Bool) → ids_by test ids ≡ votes_by test (one_each ids)
 each_passes ids named test = sym (each_by test ids named)
-
--- ---- a board whose blocks are the same
-
-same_length : {T : Type 0} (old new : List (Entry T)) → blocks_in new ≡ blocks_in old → length new ≡ length old
-same_length old new same = omega (arith, ap length same, length-map old (λ e. e.block), length-map new (λ e. e.block))
-
-pub begun_again : {T : Type 0} (p : Parameters) (votes : List Vote) (old new : List (Entry T)) (ladder : Rungs) → blocks_in new ≡ blocks_in old → HaveBegun p votes old ladder → HaveBegun p votes new ladder
-begun_again p votes old new ladder same climbing =
-    subst (λ bs. AreClimbing p votes bs (length new) (cursors_of bs ladder.climbers)) (sym same)
-    (subst (λ n. AreClimbing p votes (blocks_in old) n (cursors_of (blocks_in old) ladder.climbers)) (sym (same_length old new same)) climbing)
-
-pub loaded_again : {T : Type 0} (old new : List (Entry T)) (ladder : Rungs) → blocks_in new ≡ blocks_in old → IsLoaded old ladder → IsLoaded new ladder
-loaded_again old new ladder same loaded = record {
-  placed = subst (λ bs. ArePlaced bs ladder.climbers) (sym same) loaded.placed;
-  put = omega (arith, loaded.put, same_length old new same);
-  low = omega (arith, loaded.low, same_length old new same);
-}

@@ -2,7 +2,6 @@
 #![tactic(auto)]
 
 mod accepting;
-mod applying;
 mod ballot;
 mod climbing;
 mod issuing;

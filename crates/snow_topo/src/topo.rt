@@ -10,16 +10,17 @@ ghost use Rattle.snow_topo.specs.Clauses.Ballot.{votes_of};
 ghost use Rattle.snow_topo.specs.Laws.Costs.{most_steps};
 ghost use Rattle.snow_topo.specs.Kept.Standing.{AreKept};
 
-use crate::applying::apply;
 use crate::ballot::{Ballot, start};
+use crate::climbing::climb;
 use crate::issuing::issue;
 use crate::leading::{follow_child, is_preferred, is_top, kept_of, place_on, preference_of};
 use crate::load::Load;
 use crate::renewing::renew_if_full;
+use crate::settling::settle;
 use crate::spare::SpareTrees;
 use snow_base::{Bag, Header, Id, Steps};
 use snow_board::{Board, Decision};
-use snow_climb::{Ladder, named};
+use snow_climb::{Ladder, gather, named};
 use snow_flake::{Params, Rule};
 use snow_tree::Tree;
 use snow_trie::Trie;
@@ -114,19 +115,30 @@ impl<R: Rule> Topo<R> {
         ensures decided { (self.new).decided ≡ (poll (self.old).board (votes_of ballot.entry)).1 }
         ensures steps { steps.new ≤ steps.old + most_steps (self.old).board (votes_of ballot.entry) }
     {
-        start(&self.params, &self.tree, &mut self.ladder, ballot);
         let before = renew_if_full(self.polls, &mut self.root, &mut self.tree);
-        let moved = apply(
-            &self.params,
-            before,
-            &mut self.root,
-            &mut self.tree,
-            &mut self.ladder,
-            &mut self.children,
-            &mut self.decisions,
-            &mut self.spare,
-            steps,
-        );
+        let Topo {
+            params,
+            root,
+            tree,
+            spare,
+            decisions,
+            ladder,
+            children,
+            ..
+        } = self;
+        let _k = params.k();
+        let _last = tree.last();
+        start(params, tree, ladder, ballot);
+        let mut moved = climb(params, tree, before, ladder, children, steps);
+        let count = ladder.take(0);
+        // Without a quorum the last accepted block's tree stays as it is, and its old number tells
+        // that it failed.
+        if count >= params.alpha_preference() {
+            gather(tree, ladder, children);
+            moved |= root.record(before, children.entries(), steps);
+        }
+        decisions.clear();
+        settle(params, before + 1, root, tree, decisions, spare);
         self.polls = before + 1;
         self.preference = if moved {
             preference_of(&self.params, self.polls, &self.root, &self.tree)
