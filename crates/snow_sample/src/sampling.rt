@@ -5,7 +5,6 @@ ghost use Rattle.snow_sample.specs.Laws.Law.{DrawsAsTheList, DrawsDistinctUnits}
 
 use crate::draws::Draws;
 use crate::line::Line;
-use crate::room::Room;
 use crate::roster::Roster;
 use crate::words::Words;
 use std::alloc::AllocError;
@@ -84,41 +83,6 @@ pub(crate) fn draw_one(
     };
     let at = roster.place(unit);
     out.push_first(&roster.nodes()[at].id)?;
-    Ok(())
-}
-
-// Draws `k` units, at most all, and counts the draws of their nodes. Each draw takes a word, so that
-// none is made where they can't suffice.
-pub(crate) fn draw_all(
-    roster: &Roster,
-    k: u32,
-    words: &mut Line,
-    room: &mut Room,
-    out: &mut Draws,
-) -> Result<(), SampleFault>
-    requires enough { k ≤ total_weight roster.now }
-    requires empty { out.old ≡ [] }
-    ensures sample { OnOk result (sample_of roster.now k words.old ≡ Ok (out.new, words.new)) }
-    ensures fault { IfErr result (λ fault. IsFault (sample_of roster.now k words.old) words.old fault words.new) }
-    ensures counts { OnOk result (draw_count out.new ≡ k) }
-    ensures nodes { OnOk result (AreOfDistinctNodes out.new) }
-{
-    let draws = k as usize;
-    if words.len() < draws {
-        words.clear();
-        return Err(SampleFault::WordsOut);
-    }
-    let total = roster.total();
-    out.reserve(draws.min(roster.nodes().len()))?;
-    room.shuffle.begin(draws, total)?;
-    room.places.begin(roster)?;
-    for j in 0..u64::from(k) {
-        let Some(r) = words.choose(total - 1 - j) else {
-            return Err(SampleFault::WordsOut);
-        };
-        let unit = room.shuffle.exchange(j, r)?;
-        room.places.count(out, roster, unit)?;
-    }
     Ok(())
 }
 
