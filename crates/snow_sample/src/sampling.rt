@@ -1,15 +1,11 @@
-ghost use Rattle.std.specs.Prelude.{◌≡◌, ℕ, ◌<◌, ◌≤◌, [], length, vec_capacity, Ok, Err, IfErr, OnOk, OnErr};
-ghost use Rattle.snow_sample.specs.Kept.Drawn.{unit_at, AreMoves, HasSlots};
+ghost use Rattle.std.specs.Prelude.{◌≡◌, ◌<◌, ◌≤◌, [], Ok, Err, IfErr, OnOk, OnErr};
 ghost use Rattle.snow_sample.specs.Model.Roster.{total_weight};
 ghost use Rattle.snow_sample.specs.Model.Sampling.{sample_of, IsFault, draw_count, AreOfDistinctNodes};
 ghost use Rattle.snow_sample.specs.Laws.Law.{DrawsAsTheList, DrawsDistinctUnits};
 
 use crate::draws::Draws;
 use crate::line::Line;
-use crate::places::Places;
-use crate::room::Room;
 use crate::roster::Roster;
-use crate::shuffle::Shuffle;
 use crate::words::Words;
 use std::alloc::AllocError;
 use thiserror::Error;
@@ -87,67 +83,6 @@ pub(crate) fn draw_one(
     };
     let at = roster.place(unit);
     out.push_first(&roster.nodes()[at].id)?;
-    Ok(())
-}
-
-// Draws `k` units, at most all, and counts the draws of their nodes. Each draw takes a word, so that
-// none is made where they can't suffice.
-pub(crate) fn draw_all(
-    roster: &Roster,
-    k: u32,
-    words: &mut Line,
-    room: &mut Room,
-    out: &mut Draws,
-) -> Result<(), SampleFault>
-    requires enough { k ≤ total_weight roster.now }
-    requires empty { out.old ≡ [] }
-    ensures sample { OnOk result (sample_of roster.now k words.old ≡ Ok (out.new, words.new)) }
-    ensures fault { IfErr result (λ fault. IsFault (sample_of roster.now k words.old) words.old fault words.new) }
-    ensures counts { OnOk result (draw_count out.new ≡ k) }
-    ensures nodes { OnOk result (AreOfDistinctNodes out.new) }
-{
-    if words.len() < k as usize {
-        words.clear();
-        return Err(SampleFault::WordsOut);
-    }
-    let draws = k as usize;
-    out.reserve(draws.min(roster.nodes().len()))?;
-    room.shuffle.begin(draws, roster.total())?;
-    room.places.begin(roster)?;
-    draw_each(roster, k, words, &mut room.shuffle, &mut room.places, out)
-}
-
-// Draws `k` units, where nothing was moved and no node was drawn. There is room for a move a draw.
-fn draw_each(
-    roster: &Roster,
-    k: u32,
-    words: &mut Line,
-    shuffle: &mut Shuffle,
-    places: &mut Places,
-    out: &mut Draws,
-) -> Result<(), SampleFault>
-    requires enough { k ≤ total_weight roster.now }
-    requires chained { AreMoves shuffle.old.mask shuffle.old.moved.items shuffle.old.lasts.items }
-    requires units { (p : ℕ) → unit_at shuffle.old.near.items shuffle.old.moved.items shuffle.old.later p ≡ p }
-    requires none { length shuffle.old.moved.items ≡ 0 }
-    requires room { k ≤ vec_capacity shuffle.old.moved }
-    requires near { k ≤ length shuffle.old.near.items }
-    requires few { k ≤ 65536 }
-    requires slots { HasSlots roster.now places.old.slots.items [] }
-    requires empty { out.old ≡ [] }
-    ensures sample { OnOk result (sample_of roster.now k words.old ≡ Ok (out.new, words.new)) }
-    ensures fault { IfErr result (λ fault. IsFault (sample_of roster.now k words.old) words.old fault words.new) }
-    ensures counts { OnOk result (draw_count out.new ≡ k) }
-    ensures nodes { OnOk result (AreOfDistinctNodes out.new) }
-{
-    let total = roster.total();
-    for j in 0..u64::from(k) {
-        let Some(r) = words.choose(total - 1 - j) else {
-            return Err(SampleFault::WordsOut);
-        };
-        let unit = shuffle.exchange(j, r)?;
-        places.count(out, roster, unit)?;
-    }
     Ok(())
 }
 

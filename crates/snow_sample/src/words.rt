@@ -7,7 +7,7 @@ use crate::draws::Draws;
 use crate::line::Line;
 use crate::room::Room;
 use crate::roster::Roster;
-use crate::sampling::{SampleFault, draw_all, draw_one};
+use crate::sampling::{SampleFault, draw_one};
 use std::alloc::{AllocError, Global};
 use std::marker::Model;
 
@@ -62,7 +62,8 @@ impl Words {
         self.line.len()
     }
 
-    // Draws `k` units, at most all, and counts the draws of their nodes. One draw needs no room.
+    // Draws `k` units, at most all, and counts the draws of their nodes. One draw needs no room. Each
+    // draw takes a word, so that none is made where they can't suffice.
     pub(crate) fn draw(
         &mut self,
         roster: &Roster,
@@ -79,6 +80,22 @@ impl Words {
         if k == 1 {
             return draw_one(roster, &mut self.line, out);
         }
-        draw_all(roster, k, &mut self.line, &mut self.room, out)
+        let draws = k as usize;
+        if self.line.len() < draws {
+            self.line.clear();
+            return Err(SampleFault::WordsOut);
+        }
+        let total = roster.total();
+        out.reserve(draws.min(roster.nodes().len()))?;
+        self.room.shuffle.begin(draws, total)?;
+        self.room.places.begin(roster)?;
+        for j in 0..u64::from(k) {
+            let Some(r) = self.line.choose(total - 1 - j) else {
+                return Err(SampleFault::WordsOut);
+            };
+            let unit = self.room.shuffle.exchange(j, r)?;
+            self.room.places.count(out, roster, unit)?;
+        }
+        Ok(())
     }
 }

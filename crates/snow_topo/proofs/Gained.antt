@@ -1,24 +1,27 @@
 -- Lemmas on the issue of a block: one write at its parent's place, and what the board shows then.
-use Rattle.std.proofs.Common.{◌≡◌, ℕ, ◌+◌, ◌<◌, true, false, ◌||◌, List, [], ◌∷◌, ◌++◌, ◌==◌, length, get_or, map, reverse, bytes_eq, All, Option, Some, None, IfSome, slice_get, Result, Ok, Err, OnErr, refl, sym, ap, subst, ◌∙◌, append-nil, arith, if◌then◌else◌}
+use Rattle.std.proofs.Common.{◌≡◌, ℕ, ◌+◌, ◌<◌, true, false, ◌||◌, List, [], ◌∷◌, ◌++◌, ◌==◌, length, get_or, map, reverse, bytes_eq, All, Option, Some, None, IfSome, slice_get, Result, Ok, Err, OnOk, OnErr, refl, sym, ap, subst, ◌∙◌, append-nil, arith, if◌then◌else◌}
 use Rattle.std.specs.Option.{option_map}
 use Rattle.std.specs.Result.{is_err}
 use Rattle.std.proofs.lemmas.Bool.{or_parts}
 use Rattle.std.proofs.lemmas.Grind.{common_steps}
-use Rattle.std.proofs.lemmas.List.{get_or-map, length-map, map-append}
+use Rattle.std.proofs.lemmas.List.{get_or-map, length-map, map-append, reverse-append}
 use Rattle.std.proofs.lemmas.List.Elements.{All-append, All-map, All-cons, All-nil}
-use Rattle.std.proofs.lemmas.Option.{slice_get-map, slice_get_within, get_or_from_slice_get}
+use Rattle.std.proofs.lemmas.Result.{on_ok_weaker, on_err_weaker}
+use Rattle.std.proofs.lemmas.Option.{none-some, slice_get-map, slice_get_within, get_or_from_slice_get}
 use Rattle.snow_base.specs.declared.block.Header.{Header}
 use Rattle.snow_base.specs.Model.Identifier.{bits}
 use Rattle.snow_flake.specs.Model.Parameters.{Parameters, AreGood}
 use Rattle.snow_board.specs.Model.Conflict.{with_child}
 use Rattle.snow_board.specs.Laws.FailingLaw.{failed}
 use Rattle.snow_board.specs.Model.Board.{with_counters, with_issued, issued}
-use Rattle.snow_board.specs.Kept.Grown.{has_block, is_on, IsGrown}
+use Rattle.snow_board.specs.Kept.Grown.{has_block, is_on, IsGrown, Grew}
 use Rattle.snow_board.proofs.Cases.{split_on, clash, same_id, id_same}
 use Rattle.snow_board.proofs.Failing.{fails_or_adds}
 use Rattle.snow_board.proofs.Grown.{has_block-reverse}
-use Rattle.snow_tree.specs.Kept.Held.{Entry, Held, blocks_in, children_of, inserted, place_in, set_load}
+use Rattle.snow_tree.specs.Kept.Held.{Entry, Held, blocks_in, children_of, inserted, place_in, set_load, with_load}
+use Rattle.snow_tree.proofs.Linked.{on_ok}
 use Rattle.snow_tree.proofs.Listed.{children_push, no_children}
+use Rattle.snow_tree.proofs.Numbered.{place_kept}
 use Rattle.snow_board.proofs.Kept.{has_own}
 use Rattle.snow_tree.proofs.Descending.{last_off}
 use Rattle.snow_tree.proofs.Placed.{either_way}
@@ -27,6 +30,8 @@ use Rattle.snow_topo.specs.Kept.View.{pending_of, all_pending, view, AreFit}
 use Rattle.snow_topo.specs.Kept.Gaining.{gained_by, with_gain, all_gained}
 use Rattle.snow_climb.specs.Kept.Climbing.{above, reach}
 use Rattle.snow_topo.proofs.Stamped.{same_number, shown_none}
+use Rattle.snow_topo.proofs.Taken.{entry_read, same_load}
+use Rattle.snow_climb.proofs.Begun.{block_off}
 use Rattle.snow_climb.proofs.Reached.{reach_at, at_reach, reach_within, reach_seen}
 use Rattle.snow_topo.proofs.Climbs.{entry_at, set_here, set_other, same_slices}
 
@@ -263,3 +268,63 @@ err_after (Err e) h p = p
 pub on_err : {A E P : Type 0} (r : Result A E) → P → OnErr r P
 on_err (Ok x) p = tt
 on_err (Err e) p = p
+
+-- ---- a child is added
+
+-- a new block is the latest one
+pub grown_inserted : (held : Held Kept) (child : Header) → IsGrown held.last (reverse (blocks_in held.pending)) → is_on held.last (blocks_in held.pending) child.id ≡ false
+    → is_on held.last (blocks_in held.pending) child.parent ≡ true → IsGrown held.last (reverse (blocks_in (inserted held child bare).pending))
+grown_inserted held child g new parent =
+    let bs = blocks_in held.pending in
+    let on : (id : List ℕ) → is_on held.last (reverse bs) id ≡ is_on held.last bs id = λ id. ap (λ t. bytes_eq held.last id || t) (has_block-reverse bs id) in
+    subst (λ l. IsGrown held.last (reverse l)) (sym (map-append (λ e. e.block) held.pending (record { block = child; load = bare } ∷ [])))
+    (subst (IsGrown held.last) (sym (reverse-append bs (child ∷ []))) (Grew child (reverse bs) (on child.id ∙ new) (on child.parent ∙ parent) g))
+
+-- its parent stands where it stood
+pub place_inserted : (held : Held Kept) (child : Header) (at : Option ℕ) → bytes_eq child.id child.parent ≡ false → at ≡ place_in held.pending child.parent
+    → place_in (inserted held child bare).pending child.parent ≡ at
+place_inserted held child at other is = place_kept (λ e. bytes_eq e.block.id child.parent) held.pending (record { block = child; load = bare }) other ∙ sym is
+
+-- what is kept after a child was added below its parent
+pub record Added {E : Type 0} (p : Parameters) (child : Header) (before : Kept) (held : Held Kept) (after : Kept) (now : Held Kept) (r : Result Unit E) : Type 0 where
+  pub root : OnOk r (after ≡ gained_by p child held.last before)
+  pub tree : OnOk r (now ≡ all_gained p child held)
+
+-- where the load of a pending block stays, all stays
+pub load_stays : {E : Type 0} (held : Held Kept) (at : ℕ) (load new : Kept) (r : Result Unit E) → option_map (λ e. e.load) (slice_get held.pending at) ≡ Some load
+    → OnErr r (new ≡ load) → OnErr r (with_load held at new ≡ held)
+load_stays held at load new r read err =
+    let entry = entry_read (slice_get held.pending at) load read in
+    on_err_weaker r (λ e. ap (λ l. record held { pending = l }) (ap (set_load held.pending at) (e ∙ sym entry.2) ∙ same_load held.pending at entry.0 entry.1)) err
+
+-- it was added below a pending block
+pub added_pending : {E : Type 0} (p : Parameters) (child : Header) (root : Kept) (held : Held Kept) (at : ℕ) (load new : Kept) (r : Result Unit E)
+    → IsGrown held.last (reverse (blocks_in held.pending)) → place_in held.pending child.parent ≡ Some at → option_map (λ e. e.load) (slice_get held.pending at) ≡ Some load
+    → OnOk r (new ≡ gained p child.id load) → Added p child root held root (with_load held at new) r
+added_pending p child root held at load new r g place read ok =
+    let parent = placed held.pending child.parent at place in
+    let same : Some load ≡ Some parent.0.load = sym read ∙ ap (option_map (λ (e : Entry Kept). e.load)) parent.1 in
+    let is : load ≡ parent.0.load = cc in
+    record {
+      root = on_ok r (rw (placed_away held.last held.pending child.parent at g place) refl);
+      tree = on_ok_weaker r
+          (λ e. ap (with_load held at) (e ∙ ap (gained p child.id) is)
+          ∙ ap (λ l. record held { pending = l }) (one_gained held.last p child held.pending at parent.0 g parent.1 parent.2)) ok;
+    }
+
+-- a block that has a place has a load
+pub has_load : (pending : List (Entry Kept)) (id : List ℕ) (at : ℕ) → place_in pending id ≡ Some at → option_map (λ e. e.load) (slice_get pending at) ≡ None → ⊥
+has_load pending id at place none =
+    let entry = placed pending id at place in
+    none-some entry.0.load (sym none ∙ ap (option_map (λ (e : Entry Kept). e.load)) entry.1)
+
+-- it was added below the last accepted block
+pub added_last : {E : Type 0} (p : Parameters) (child : Header) (root new : Kept) (held : Held Kept) (r : Result Unit E)
+    → bytes_eq held.last child.parent ≡ true → place_in held.pending child.parent ≡ None
+    → OnOk r (new ≡ gained p child.id root) → Added p child root held new held r
+added_last p child root new held r own place ok =
+    let away = block_off held.pending child.parent place in
+    record {
+      root = rw own ok;
+      tree = on_ok r (ap (λ l. record held { pending = l }) (sym (none_gained p child held.pending away)));
+    }

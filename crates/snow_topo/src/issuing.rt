@@ -1,10 +1,8 @@
 ghost use Rattle.std.specs.Prelude.{◌≡◌, ℕ, true, false, OnOk, OnErr};
 ghost use Rattle.snow_board.specs.Model.Board.{issued};
 ghost use Rattle.snow_board.specs.Kept.Grown.{is_on};
-ghost use Rattle.snow_tree.specs.Kept.Held.{blocks_in, place_in, inserted};
-ghost use Rattle.snow_topo.specs.Kept.Children.{bare};
+ghost use Rattle.snow_tree.specs.Kept.Held.{blocks_in, place_in};
 ghost use Rattle.snow_topo.specs.Kept.View.{view, AreFit};
-ghost use Rattle.snow_topo.specs.Kept.Gaining.{gained_by, all_gained};
 
 use crate::load::Load;
 use crate::spare::SpareTrees;
@@ -12,53 +10,6 @@ use snow_base::Header;
 use snow_flake::{Params, Rule};
 use snow_tree::Tree;
 use std::alloc::{AllocError, Global};
-
-// A block was issued: its parent has one child more, which stands at this place. No identifier is looked up for
-// that. After want of memory all is as before.
-fn add_below<R: Rule>(
-    alloc: Global,
-    params: &Params,
-    root: &mut Load<R>,
-    tree: &mut Tree<Load<R>>,
-    at: Option<usize>,
-    child: &Header,
-    spare: &mut SpareTrees<R>,
-) -> Result<(), AllocError>
-    requires place { at ≡ place_in (tree.old).pending (child.now).parent }
-    requires follows { is_on (tree.old).last (blocks_in (tree.old).pending) (child.now).parent ≡ true }
-    ensures root { OnOk result (root.new ≡ gained_by params.now child.now (tree.old).last root.old) }
-    ensures tree { OnOk result (tree.new ≡ all_gained params.now child.now tree.old) }
-    ensures root_stays { OnErr result (root.new ≡ root.old) }
-    ensures tree_stays { OnErr result (tree.new ≡ tree.old) }
-{
-    let _last = tree.last();
-    match at {
-        Some(at) => match tree.load_mut(at) {
-            Some(load) => load.add(alloc, params, &child.id, spare),
-            None => Ok(()),
-        },
-        None => root.add(alloc, params, &child.id, spare),
-    }
-}
-
-// A block becomes the last pending one, without children. Its parent stands at this place. After want of memory
-// all is as before.
-fn insert<R: Rule>(
-    tree: &mut Tree<Load<R>>,
-    at: Option<usize>,
-    child: &Header,
-) -> Result<(), AllocError>
-    requires unknown { is_on (tree.old).last (blocks_in (tree.old).pending) (child.now).id ≡ false }
-    requires follows { is_on (tree.old).last (blocks_in (tree.old).pending) (child.now).parent ≡ true }
-    requires place { at ≡ place_in (tree.old).pending (child.now).parent }
-    ensures ok { OnOk result (tree.new ≡ inserted tree.old child.now bare) }
-    ensures err { OnErr result (tree.new ≡ tree.old) }
-{
-    match tree.insert(child.id, child.parent, at, child.height, Load::new()) {
-        Ok(()) => Ok(()),
-        Err(_) => Err(AllocError),
-    }
-}
 
 /// Issues a block: it becomes the last pending one, without children, and its parent has one child
 /// more. It costs what its parent's tree costs, however many blocks are pending. On want of memory
@@ -82,8 +33,19 @@ pub(crate) fn issue<R: Rule>(
 {
     let _k = params.k();
     let _last = tree.last();
-    insert(tree, at, child)?;
-    let added = add_below(alloc, params, root, tree, at, child, spare);
+    if tree
+        .insert(child.id, child.parent, at, child.height, Load::new())
+        .is_err()
+    {
+        return Err(AllocError);
+    }
+    let added = match at {
+        Some(at) => match tree.load_mut(at) {
+            Some(load) => load.add(alloc, params, &child.id, spare),
+            None => Ok(()),
+        },
+        None => root.add(alloc, params, &child.id, spare),
+    };
     if added.is_err() {
         let _ = tree.take_back();
         return added;

@@ -1,8 +1,8 @@
-ghost use Rattle.std.specs.Prelude.{◌≡◌, ◌+◌, ◌≤◌, All, Contains, None, IfSome, IfOk, false, if◌then◌else◌};
+ghost use Rattle.std.specs.Prelude.{◌≡◌, ◌+◌, ◌≤◌, All, Contains, None, IfSome, false, if◌then◌else◌};
 ghost use Rattle.snow_base.specs.Model.Votes.{IsInBitOrder, total_count};
 ghost use Rattle.snow_board.specs.Model.Conflict.{all_polled, votes_on, chosen};
 ghost use Rattle.snow_board.specs.Laws.FailingLaw.{failed};
-ghost use Rattle.snow_trie.specs.Kept.Whole.{HasFewNodes, begun};
+ghost use Rattle.snow_trie.specs.Kept.Whole.{HasFewNodes};
 ghost use Rattle.snow_topo.specs.Kept.Leading.{HasDecided};
 
 use crate::spare::SpareTrees;
@@ -41,27 +41,6 @@ impl<R: Rule> Model for Load<R> {
     ghost view = { λ a. record { conflict = option_map (λ t. conflict_of t.value) a.trie; recorded = a.recorded } };
 
     ghost invariant = { λ a. IfSome a.trie (λ t. HasFewNodes t.value) };
-}
-
-// The tree of one child, in the place of another where there is one.
-fn first_tree<R: Rule>(
-    alloc: Global,
-    params: &Params,
-    id: &Id,
-    spare: BoxedTrie<R>,
-) -> Result<Box<Trie<R>>, AllocError>
-    ensures { IfOk result (λ tree. tree.value ≡ begun params.now id.now) }
-{
-    match spare {
-        Some(mut tree) => {
-            tree.begin_anew(params, id);
-            Ok(tree)
-        }
-        None => {
-            let tree = Trie::new(alloc, *params, *id)?;
-            Ok(Box::new(alloc, tree)?)
-        }
-    }
 }
 
 // The identifier to which decided counters alone lead.
@@ -119,7 +98,13 @@ impl<R: Rule> Load<R> {
         match &mut self.trie {
             Some(trie) => trie.add(*id),
             None => {
-                let trie = first_tree(alloc, params, id, spare.take())?;
+                let trie = match spare.take() {
+                    Some(mut tree) => {
+                        tree.begin_anew(params, id);
+                        tree
+                    }
+                    None => Box::new(alloc, Trie::new(alloc, *params, *id)?)?,
+                };
                 self.trie = Some(trie);
                 Ok(())
             }
