@@ -55,7 +55,7 @@ fn ask_all<H: Kept>(
     Ok(())
 }
 
-// What a target misses is asked for, where no open request names it.
+// What a target misses is asked for, with its ancestors, where no open request names it.
 fn ask_one(
     nodes: &[Node],
     requests: &mut Gets,
@@ -73,22 +73,6 @@ fn ask_one(
     if requests.asks_for(&id) {
         return Ok(());
     }
-    ask_for(nodes, requests, numbers, id, log)
-}
-
-// A block and its ancestors are asked for.
-fn ask_for(
-    nodes: &[Node],
-    requests: &mut Gets,
-    numbers: &mut Numbers,
-    id: Id,
-    log: &mut Lines,
-) -> Result<(), BootStop>
-    requires nodes { 0 < length nodes.now }
-    requires new { asked_in requests.old id ≡ false }
-    requires drawn { AreDrawn requests.old numbers.old }
-    ensures { Asks result log.old log.new requests.new numbers.new (asked_with nodes.now requests.old id (next_number numbers.old)) }
-{
     let Some(number) = numbers.draw() else {
         return Err(BootStop::Requests);
     };
