@@ -1,22 +1,26 @@
 -- Which of the missed identifiers may be without a request, while requests are made and closed.
-use Rattle.std.proofs.Common.{◌≡◌, ◌+◌, ℕ, suc, Bool, true, false, ◌||◌, not, cond, List, [], ◌∷◌, ◌++◌, Option, Some, None, bytes_eq, find, if◌then◌else◌, refl, sym, ap, ◌∙◌, arith, append-nil}
+use Rattle.std.proofs.Common.{◌≡◌, ◌+◌, ℕ, suc, Bool, true, false, ◌||◌, not, cond, List, [], ◌∷◌, ◌++◌, Option, Some, None, bytes_eq, find, if◌then◌else◌, refl, sym, ap, subst, ◌∙◌, arith, append-nil}
 use Rattle.std.specs.List.{remove, position_or_len}
 use Rattle.std.specs.Option.{option_map}
-use Rattle.std.specs.Prelude.{Ok, Err}
+use Rattle.std.specs.Prelude.{Result, Ok, Err}
 use Rattle.std.proofs.lemmas.Bool.{or_right}
 use Rattle.snow_base.specs.Model.Numbers.{next_number}
 use Rattle.snow_gets.specs.declared.gets.Get.{Get}
 use Rattle.snow_gets.specs.Model.Gets.{asked_in, is_get, without}
 use Rattle.snow_gets.proofs.Asking.{none_without}
 use Rattle.snow_sample.specs.declared.roster.Node.{Node}
+use Rattle.snow_lines.specs.declared.line.Line.{Line}
 use Rattle.snow_store.specs.declared.needs.Due.{Due}
 use Rattle.snow_store.specs.declared.needs.Due.TheVariants as due
+use Rattle.snow_store.specs.declared.stop.BootStop.{BootStop}
 use Rattle.snow_store.specs.Model.Needing.{names, is_missed, Covers}
 use Rattle.snow_store.specs.Model.Paths.{Fetch, missed}
 use Rattle.snow_store.proofs.Cases.{split_on, clash, same_id, id_same, same_some, none_not}
 use Rattle.snow_store.proofs.Missing.{misser, missed_by}
 use Rattle.snow_boot.specs.Model.Asking.{Asked, asked_with, asked_one, and_asked, asked, AreAskedBut, due_of}
 use Rattle.snow_boot.specs.Laws.OutcomeLaw.{AreAsked}
+use Rattle.snow_boot.specs.Clauses.Calling.{AreDrawn}
+use Rattle.snow_boot.specs.Clauses.Requesting.{Asks}
 use Rattle.snow_boot.proofs.Requested.{kept_by_one, asked_by_one, nothing_to_ask}
 
 -- ---- what is asked for
@@ -125,3 +129,20 @@ closed_due f requests more number node None none left are q is free =
     none_found (Some g) e = none_not g.id e
 closed_due f requests more number node (Some x) found left are q is free =
     ap (λ l. asked_in l q) left ∙ closed_stays (is_get number node) requests x q (sym found) free (none_due due.Nothing f requests are q is refl)
+
+-- ---- what is due is asked for
+
+-- nothing is due
+pub asks_nothing : (nodes : List Node) (f : Fetch) (requests : List Get) (drawn : ℕ) (log : List Line) → AreAskedBut due.Nothing f requests → AreDrawn requests drawn
+    → Asks (Ok tt) log log requests drawn (asked nodes f f.targets requests drawn)
+asks_nothing nodes f requests drawn log free are =
+    let none = nothing_to_ask nodes f f.targets requests drawn (all_asked_for f f.targets requests (λ q is. free q is refl)) in
+    subst (λ (o : Asked). Asks (Ok tt) log log requests drawn o) (sym none) (sym (append-nil log), refl, are)
+
+-- one identifier is, where a target misses it
+pub asks_one : (r : Result (Unit {0}) BootStop) (seen nodes : List Node) (f : Fetch) (requests more : List Get) (drawn last : ℕ) (before after : List Line) (id : List ℕ) (needed : Option (List ℕ))
+    → AreAskedBut (due.One id) f requests → seen ≡ nodes → needed ≡ (if is_missed f f.targets id then Some id else None) → Asks r before after more last (asked_one seen requests drawn needed)
+    → Asks r before after more last (asked nodes f f.targets requests drawn)
+asks_one r seen nodes f requests more drawn last before after id needed free same is a =
+    subst (λ (o : Asked). Asks r before after more last o) (ap (asked_one nodes requests drawn) is ∙ sym (asked_but_one nodes f f.targets requests drawn id free))
+    (subst (λ (n : List Node). Asks r before after more last (asked_one n requests drawn needed)) same a)

@@ -7,7 +7,7 @@ use Rattle.snow_store.specs.declared.stop.BootStop.{BootStop}
 use Rattle.snow_store.specs.declared.stop.Verdict.{Verdict}
 use Rattle.snow_store.specs.declared.stop.Verdict.TheVariants as verdict
 use Rattle.snow_store.specs.declared.stop.BootStop.TheVariants as stop
-use Rattle.snow_boot.specs.Kept.Fetching.{Hunt, FetchesOne}
+use Rattle.snow_boot.specs.Kept.Fetching.{Hunt, Fetches}
 use Rattle.snow_store.specs.Model.Keeping.{taken, Answers}
 use Rattle.snow_store.specs.Model.Paths.{Fetch}
 use Rattle.snow_store.specs.Clauses.Coming.{after_verdict}
@@ -36,16 +36,16 @@ unfolding replied
 takes_wanted header_of f id bytes blocks h e same = rw (e, same) refl
 
 -- a stop
-pub stops_at : (header_of : List ℕ → Option Header) (f : Fetch) (hunt : Hunt) (id bytes : List ℕ) (h : Header) → header_of bytes ≡ Some h → bytes_eq h.id id ≡ true
-    → (why : BootStop) → Answers (Err why) (taken f.store h) → FetchesOne header_of (Err why) f hunt id bytes
-stops_at header_of f hunt id bytes h e same why a = by_stop why a
+pub stops_at : (T : Type 0) (header_of : List ℕ → Option Header) (f : Fetch) (hunt : Hunt) (id bytes : List ℕ) (blocks : List (List ℕ)) (h : Header) → header_of bytes ≡ Some h → bytes_eq h.id id ≡ true
+    → (expected : Result Fetch BootStop) → expected ≡ replied header_of f id (bytes ∷ blocks) → (why : BootStop) → Answers (Err why) (taken f.store h) → Fetches {T = T} (Err why) hunt expected
+stops_at T header_of f hunt id bytes blocks h e same expected so_far why a = by_stop why a
   where
-    stopped : (why : BootStop) → (let r : Result Verdict BootStop = Err why in r) ≡ taken f.store h → (blocks : List (List ℕ)) → replied header_of f id (bytes ∷ blocks) ≡ Err why
-    stopped why is blocks =
-        takes_wanted header_of f id bytes blocks h e same
+    stopped : (why : BootStop) → (let r : Result Verdict BootStop = Err why in r) ≡ taken f.store h → expected ≡ Err why
+    stopped why is =
+        so_far ∙ takes_wanted header_of f id bytes blocks h e same
         ∙ ap (λ r. with_taken f record { header = h; bytes = bytes } r (λ f. replied header_of f h.parent blocks)) (sym is)
 
-    by_stop : (why : BootStop) → Answers (Err why) (taken f.store h) → FetchesOne header_of (Err why) f hunt id bytes
+    by_stop : (why : BootStop) → Answers (Err why) (taken f.store h) → Fetches {T = T} (Err why) hunt expected
     by_stop stop.Memory a = tt
     by_stop (stop.Conflict height first second) a = stopped (stop.Conflict height first second) a
     by_stop (stop.Fork x parent) a = stopped (stop.Fork x parent) a
@@ -60,6 +60,12 @@ pub takes_on : (header_of : List ℕ → Option Header) (f : Fetch) (id bytes : 
 takes_on header_of f id bytes h e same v is blocks =
     takes_wanted header_of f id bytes blocks h e same
     ∙ ap (λ r. with_taken f record { header = h; bytes = bytes } r (λ f. replied header_of f h.parent blocks)) (sym is)
+
+-- what is still to come of a reply makes of what is known what the whole reply makes of what was known
+pub still_comes : (header_of : List ℕ → Option Header) (was before now : Fetch) (id wanted : List ℕ) (all left some : List (List ℕ)) → before ≡ was
+    → replied header_of now wanted left ≡ replied header_of before id all → left ≡ some → replied header_of was id all ≡ replied header_of now wanted some
+still_comes header_of was before now id wanted all left some same so_far is =
+    ap (λ (f : Fetch). replied header_of f id all) (sym same) ∙ sym so_far ∙ ap (replied header_of now wanted) is
 
 -- the last accepted block and the targets stay
 abbrev pub SameAim : Fetch → Fetch → Type 0

@@ -1,7 +1,7 @@
 ghost use Rattle.std.specs.Prelude.{◌≡◌, ◌<◌, true, false, length};
 ghost use Rattle.snow_gets.specs.Model.Gets.{asked_in};
 ghost use Rattle.snow_boot.specs.Clauses.Calling.{AreDrawn};
-ghost use Rattle.snow_boot.specs.Model.Asking.{asked_node, asked_one, asked_with, asked, AreAskedBut};
+ghost use Rattle.snow_boot.specs.Model.Asking.{asked_node, asked_one, asked_with, asked};
 ghost use Rattle.snow_base.specs.Model.Numbers.{next_number};
 ghost use Rattle.snow_boot.specs.Clauses.Requesting.{Asks};
 
@@ -11,31 +11,10 @@ use snow_gets::{Get, Gets};
 use snow_interval::Kept;
 use snow_lines::{Line, Lines};
 use snow_sample::Node;
-use snow_store::{BootStop, Due};
-
-// What is due is asked for, where a target misses it.
-pub(crate) fn ask_due<H: Kept>(
-    nodes: &[Node],
-    fetching: &Fetching<H>,
-    requests: &mut Gets,
-    numbers: &mut Numbers,
-    log: &mut Lines,
-) -> Result<(), BootStop>
-    requires whole { fetching.now.whole ≡ true }
-    requires nodes { 0 < length nodes.now }
-    requires drawn { AreDrawn requests.old numbers.old }
-    requires due { AreAskedBut fetching.now.due fetching.now.fetch requests.old }
-    ensures { Asks result log.old log.new requests.new numbers.new (asked nodes.now fetching.now.fetch fetching.now.fetch.targets requests.old numbers.old) }
-{
-    match fetching.due() {
-        Due::Nothing => Ok(()),
-        Due::One(id) => ask_one(nodes, requests, numbers, fetching.needed(id), log),
-        Due::All => ask_all(nodes, fetching, requests, numbers, log),
-    }
-}
+use snow_store::BootStop;
 
 // What the targets miss is asked for, in their order, each once.
-fn ask_all<H: Kept>(
+pub(crate) fn ask_all<H: Kept>(
     nodes: &[Node],
     fetching: &Fetching<H>,
     requests: &mut Gets,
@@ -55,8 +34,8 @@ fn ask_all<H: Kept>(
     Ok(())
 }
 
-// What a target misses is asked for, where no open request names it.
-fn ask_one(
+// What a target misses is asked for, with its ancestors, where no open request names it.
+pub(crate) fn ask_one(
     nodes: &[Node],
     requests: &mut Gets,
     numbers: &mut Numbers,
@@ -73,22 +52,6 @@ fn ask_one(
     if requests.asks_for(&id) {
         return Ok(());
     }
-    ask_for(nodes, requests, numbers, id, log)
-}
-
-// A block and its ancestors are asked for.
-fn ask_for(
-    nodes: &[Node],
-    requests: &mut Gets,
-    numbers: &mut Numbers,
-    id: Id,
-    log: &mut Lines,
-) -> Result<(), BootStop>
-    requires nodes { 0 < length nodes.now }
-    requires new { asked_in requests.old id ≡ false }
-    requires drawn { AreDrawn requests.old numbers.old }
-    ensures { Asks result log.old log.new requests.new numbers.new (asked_with nodes.now requests.old id (next_number numbers.old)) }
-{
     let Some(number) = numbers.draw() else {
         return Err(BootStop::Requests);
     };

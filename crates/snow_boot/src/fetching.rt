@@ -1,7 +1,7 @@
 ghost use Rattle.std.specs.Prelude.{◌≡◌, true, [], Some, None, IfOk, OnOk, if◌then◌else◌};
 ghost use Rattle.snow_boot.specs.Clauses.Accepting.{higher_one, top_height};
 ghost use Rattle.snow_store.specs.Model.Keeping.{taken, Answers};
-ghost use Rattle.snow_boot.specs.Kept.Fetching.{Fetches, FetchesOne};
+ghost use Rattle.snow_boot.specs.Kept.Fetching.{Fetches};
 ghost use Rattle.snow_boot.specs.Kept.Reply.{left};
 ghost use Rattle.snow_store.specs.Model.Needing.{is_missed, Covers};
 ghost use Rattle.snow_store.specs.Model.Paths.{missed, is_whole};
@@ -198,54 +198,22 @@ impl<H: Kept> Fetching<H> {
         ensures due { OnOk result (Covers (due.One id) (is_missed self.old.fetch self.old.fetch.targets) self.new.due (is_missed self.new.fetch self.new.fetch.targets)) }
     {
         self.expect(Due::One(id));
-        self.reply_on(chain, id, blocks)
-    }
-
-    /// Takes the blocks of a reply, one after another.
-    fn reply_on<C: Chain>(
-        &mut self,
-        chain: &C,
-        id: Id,
-        blocks: ReplyBlocks<'_>,
-    ) -> Result<(), BootStop>
-        requires { self.old.whole ≡ true }
-        ensures fetch { Fetches result self.new (replied C.rules.header_of self.old.fetch id (left blocks.entry)) }
-        ensures due { OnOk result (Covers self.old.due (is_missed self.old.fetch self.old.fetch.targets) self.new.due (is_missed self.new.fetch self.new.fetch.targets)) }
-    {
         let mut wanted = id;
         for bytes in blocks {
-            match self.reply_one(chain, wanted, bytes)? {
-                Some(parent) => wanted = parent,
-                None => return Ok(()),
+            let Some(header) = chain.parse(bytes) else {
+                return Ok(());
+            };
+            if header.id != wanted {
+                return Ok(());
+            }
+            match self.came(&header, bytes) {
+                Ok(Verdict::Low) => return Ok(()),
+                Ok(Verdict::Known) => wanted = header.parent,
+                Ok(Verdict::Keeps) => wanted = header.parent,
+                Err(stop) => return Err(stop),
             }
         }
         Ok(())
-    }
-
-    /// Takes one block of a reply, and returns the identifier that has to come next, if the reply
-    /// goes on.
-    fn reply_one<C: Chain>(
-        &mut self,
-        chain: &C,
-        wanted: Id,
-        bytes: &[u8],
-    ) -> Result<Option<Id>, BootStop>
-        requires { self.old.whole ≡ true }
-        ensures fetch { FetchesOne C.rules.header_of result self.old.fetch self.new wanted bytes.now }
-        ensures due { OnOk result (Covers self.old.due (is_missed self.old.fetch self.old.fetch.targets) self.new.due (is_missed self.new.fetch self.new.fetch.targets)) }
-    {
-        let Some(header) = chain.parse(bytes) else {
-            return Ok(None);
-        };
-        if header.id != wanted {
-            return Ok(None);
-        }
-        match self.came(&header, bytes) {
-            Ok(Verdict::Low) => Ok(None),
-            Ok(Verdict::Known) => Ok(Some(header.parent)),
-            Ok(Verdict::Keeps) => Ok(Some(header.parent)),
-            Err(stop) => Err(stop),
-        }
     }
 }
 

@@ -5,14 +5,15 @@ ghost use Rattle.snow_chain.specs.Kept.Alone.{IsAlone, last_state};
 ghost use Rattle.snow_boot.specs.Kept.Coursing.{boot_of, MayAsk, Comes};
 ghost use Rattle.snow_boot.specs.declared.question.Question.TheVariants as question;
 
+use crate::asking::{ask_all, ask_one};
 use crate::boot::{Parts, Stage};
+use crate::executing;
 use crate::question::Question;
-use crate::{asking, executing};
 use snow_base::Numbers;
 use snow_chain::Chain;
 use snow_interval::Kept;
 use snow_lines::Lines;
-use snow_store::BootStop;
+use snow_store::{BootStop, Due};
 
 impl<H: Kept> Parts<H> {
     /// Asks for what the targets miss, once they are known. Where none misses anything it executes
@@ -37,15 +38,13 @@ impl<H: Kept> Parts<H> {
         if self.fetching.is_whole() {
             return executing::finish(&self.fetching, chain, log);
         }
-        match asking::ask_due(
-            self.survey.nodes(),
-            &self.fetching,
-            &mut self.requests,
-            numbers,
-            log,
-        ) {
-            Ok(()) => Ok(Stage::Going),
-            Err(stop) => Err(stop),
+        let nodes = self.survey.nodes();
+        let requests = &mut self.requests;
+        match self.fetching.due() {
+            Due::Nothing => {}
+            Due::One(id) => ask_one(nodes, requests, numbers, self.fetching.needed(id), log)?,
+            Due::All => ask_all(nodes, &self.fetching, requests, numbers, log)?,
         }
+        Ok(Stage::Going)
     }
 }

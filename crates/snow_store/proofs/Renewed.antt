@@ -1,5 +1,5 @@
 -- What is missed is known from one block to the next, and what is due covers what is newly missed.
-use Rattle.std.proofs.Common.{◌≡◌, ◌<◌, ℕ, Bool, true, false, List, Option, bytes_eq, if◌then◌else◌, refl, sym, ap, ◌∙◌, arith}
+use Rattle.std.proofs.Common.{◌≡◌, ◌<◌, ℕ, Bool, true, false, List, Option, bytes_eq, if◌then◌else◌, refl, sym, ap, subst, ◌∙◌, arith}
 use Rattle.std.specs.BTreeMap.{BTreeMap}
 use Rattle.std.specs.List.{IsDistinct}
 use Rattle.std.specs.Prelude.{is_some, Result, Ok, Err, OnOk, IfOk}
@@ -154,3 +154,17 @@ target_renewed (Ok after) now targets found header itself anew needs less passed
     ∙ ap (λ o. counted (with_more (missed (with_kept f b) header.id) 1 (passed_on header.id (need_at (keeping s b) header.height) (with_less o count)) q)) may.itself)
     (covers_on before before after (has_need needs) (has_need less) (has_need more) (covers_fewer before (has_need needs) (has_need less) fewer)
     (covers_on before mid after (has_need less) (has_need passed) (has_need more) one two))
+
+-- what was owed where the block is kept is owed with the verdict that says so
+pub kept_owed : {E : Type 0} (v : Verdict) → v ≡ verdict.Keeps → (r : Result Due E) (now : Store) (targets found : List (List ℕ)) (header : Header) (itself : Option (List ℕ)) (needs more : Table) (before : Due)
+    → IfOk r (λ after. OwesKept now targets found header itself needs before after more)
+    → IfOk r (λ after. (s : Store) (bytes : List ℕ) → now ≡ after_taking s record { header = header; bytes = bytes } v → MayRenew (fetch_by s targets found) header v itself needs
+    → (found ≡ (after_verdict (fetch_by s targets found) record { header = header; bytes = bytes } v).found)
+    × IsRenewed (fetch_by s targets found) (after_verdict (fetch_by s targets found) record { header = header; bytes = bytes } v) before after more)
+kept_owed v keeps (Err e) now targets found header itself needs more before owed = tt
+kept_owed v keeps (Ok after) now targets found header itself needs more before owed =
+    λ s bytes is may.
+    let b : KeptBlock = record { header = header; bytes = bytes } in
+    let f = fetch_by s targets found in
+    subst (λ (x : Verdict). (found ≡ (after_verdict f b x).found) × IsRenewed f (after_verdict f b x) before after more) (sym keeps)
+    (refl, owed s bytes (subst (λ (x : Verdict). now ≡ after_taking s b x) keeps is) (subst (λ (x : Verdict). MayRenew f b.header x itself needs) keeps may))

@@ -147,8 +147,17 @@ pub fn renew<H: Kept>(
 {
     match verdict {
         Verdict::Keeps => {
-            let kept = renew_kept(store, targets, &*found, needs, due, header, before)?;
-            Ok(kept)
+            if !has(targets, &header.id) {
+                return pass_on(store, header, needs, due);
+            }
+            let now = store.missed(&header.id, has(&*found, &header.id));
+            if !is_other(&header.id, &before, &now) {
+                return pass_on(store, header, needs, due);
+            }
+            distinct(targets);
+            leave(needs, &before)?;
+            let passed = pass_on(store, header, needs, due)?;
+            join(needs, &now, 1, passed)
         }
         Verdict::Low => {
             let low = renew_low(targets, found, needs, due, &header.id)?;
@@ -156,35 +165,6 @@ pub fn renew<H: Kept>(
         }
         Verdict::Known => Ok(due),
     }
-}
-
-// Renews what is missed where the block is kept.
-fn renew_kept<H: Kept>(
-    store: &Store<H>,
-    targets: &IndexSet<Id, IdHashing>,
-    found: &IndexSet<Id, IdHashing>,
-    needs: &mut BTreeMap<Id, u64>,
-    due: Due,
-    header: &Header,
-    before: Option<Id>,
-) -> Result<Due, AllocError>
-    requires whole { store.now.whole ≡ true }
-    requires held { held_heights store.now.store.kept header.now.height ≡ true }
-    ensures { IfOk result (λ after. (s : keeping.Store) (bytes : List ℕ) → store.now.store ≡ after_taking s record { header = header.now; bytes = bytes } Keeps
-        → MayRenew (fetch_by s targets.now.keys found.now.keys) header.now Keeps before needs.old
-        → IsRenewed (fetch_by s targets.now.keys found.now.keys) (after_verdict (fetch_by s targets.now.keys found.now.keys) record { header = header.now; bytes = bytes } Keeps) due after needs.new) }
-{
-    if !has(targets, &header.id) {
-        return pass_on(store, header, needs, due);
-    }
-    let now = store.missed(&header.id, has(found, &header.id));
-    if !is_other(&header.id, &before, &now) {
-        return pass_on(store, header, needs, due);
-    }
-    distinct(targets);
-    leave(needs, &before)?;
-    let passed = pass_on(store, header, needs, due)?;
-    join(needs, &now, 1, passed)
 }
 
 // Whether something else than itself was missed before than now.

@@ -1,8 +1,7 @@
 ghost use Rattle.std.specs.Prelude.{◌≡◌, ℕ, ◌+◌, ◌-◌, ◌<◌, List, true, [], Some, None, Ok, IfOk, OnOk, if◌then◌else◌};
 ghost use Rattle.std.specs.List.{slice_get};
 ghost use Rattle.std.specs.Option.{option_copied};
-ghost use Rattle.snow_store.specs.declared.stop.Verdict.TheVariants.{Keeps};
-ghost use Rattle.snow_store.specs.Model.Keeping.{held, highest, stray, child_stop, fork_stop, below_stop, above_stop, misplaced, placed_there, placed, taken, keeping, after_taking, Answers};
+ghost use Rattle.snow_store.specs.Model.Keeping.{held, highest, stray, child_stop, fork_stop, below_stop, above_stop, misplaced, placed_there, placed, taken, after_taking, Answers};
 ghost use Rattle.snow_store.specs.Model.Paths.{has_id, wanted_below, missed_from};
 ghost use Rattle.snow_store.specs.Kept.Indexing.{top_of, children_of, links_of};
 ghost use Rattle.snow_store.specs.Laws.Linking.{IsLinked, held_heights};
@@ -15,7 +14,7 @@ use snow_base::limits::MOST_KEPT;
 use snow_base::{Bytes, Header, Id};
 use snow_interval::Kept;
 use snow_map::IdMap;
-use std::alloc::{AllocError, Global};
+use std::alloc::Global;
 use std::collections::BTreeMap;
 use std::marker::Model;
 
@@ -286,30 +285,21 @@ impl<H: Kept> Store<H> {
     {
         let links = self.links_of(&header.id);
         let verdict = self.judge(header, links.children)?;
-        if let Verdict::Keeps = verdict {
-            self.keep(header, bytes, links)?;
-        }
-        Ok(verdict)
-    }
-
-    /// Keeps a block that fits.
-    fn keep(&mut self, header: &Header, bytes: &[u8], links: Links) -> Result<(), AllocError>
-        requires whole { self.old.whole ≡ true }
-        requires links { links ≡ links_of self.old.store.kept header.now.id }
-        requires fits { taken self.old.store header.now ≡ Ok Keeps }
-        ensures { OnOk result (self.new ≡ record { whole = true; store = keeping self.old.store record { header = header.now; bytes = bytes.now } }) }
-    {
+        let Verdict::Keeps = verdict else {
+            return Ok(verdict);
+        };
         self.whole = false;
+        self.kept.reserve(1)?;
         index::note_place(&mut self.places, header.height, self.kept.len())?;
         index::note_links(&mut self.by_id, header, links)?;
         let _ = self.heights.add(header.height)?;
         let bytes = Bytes::from_slice(self.alloc, bytes)?;
-        self.kept.push(KeptBlock {
+        self.kept.push_reserved(KeptBlock {
             header: *header,
             bytes,
-        })?;
+        });
         self.whole = true;
-        Ok(())
+        Ok(verdict)
     }
 
     /// Returns what is missed below the run of held heights that holds this one: the parent of the

@@ -37,7 +37,9 @@ impl<'a> Packed<'a> {
     {
         let count = reader.count(limit)?;
         let bytes = reader.rest();
-        pass(reader, count)?;
+        for _ in 0..count {
+            reader.slice(BLOCK_BYTES)?;
+        }
         Ok(Packed { count, bytes })
     }
 
@@ -93,14 +95,4 @@ impl<'a> Iterator for Packed<'a> {
     fn next(&mut self) -> Option<&'a [u8]> {
         self.first()
     }
-}
-
-/// Passes over so many blocks.
-fn pass(reader: &mut Reader, count: u16) -> Result<(), Fault>
-    ensures { ReadsAs (λ _. items_in (items_at block_at count reader.old)) result reader.new (items_at block_at count reader.old) }
-{
-    for _ in 0..count {
-        reader.slice(BLOCK_BYTES)?;
-    }
-    Ok(())
 }

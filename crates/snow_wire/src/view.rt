@@ -1,5 +1,5 @@
 ghost use Rattle.std.specs.Prelude.{◌≡◌, IfOk};
-ghost use Rattle.snow_wire.specs.Model.Reading.{ReadsAs, event_of, fields_at};
+ghost use Rattle.snow_wire.specs.Model.Reading.{event_of};
 ghost use Rattle.snow_wire.specs.Clauses.Viewed.{as_event, seen};
 
 use crate::event::Event;
@@ -59,14 +59,32 @@ impl<'a> View<'a> {
     /// none is refused with the first thing that goes wrong, read from the front; a field's range
     /// is checked as soon as the field is read. It takes no memory.
     /// Rule: this project's own.
-    #[tactic(auto, unfolding(crate::specs::Model::Reading::event_of))]
+    #[tactic(auto, unfolding(crate::specs::Model::Reading::event_of, crate::specs::Model::Reading::fields_at, crate::specs::Model::Reading::single_at))]
     #[inline(always)]
     pub fn read(payload: &'a [u8]) -> Result<Self, Fault>
         ensures { seen result ≡ event_of payload.now }
     {
         let mut reader = Reader::new(payload);
-        let tag = reader.u8()?;
-        let view = fields(tag, &mut reader)?;
+        let view = match reader.u8()? {
+            1 => View::Start(Opening::read(&mut reader)?),
+            2 => View::Block(Brought::read(&mut reader)?),
+            3 => View::Poll(reader.list::<32>(MOST_VOTES)?),
+            4 => View::Words(reader.words(MOST_LISTED)?),
+            5 => View::Chits(Named::read(&mut reader)?),
+            6 => View::Timeout(Sender::read(&mut reader)?),
+            7 => View::Frontier(Named::read(&mut reader)?),
+            8 => View::Accepted(Listing::read(&mut reader)?),
+            9 => View::Ancestors(Parcel::read(&mut reader)?),
+            10 => View::Stored(reader.slice(BLOCK_BYTES)?),
+            11 => View::Validators(reader.nodes(MOST_LISTED)?),
+            12 => View::AskQuery(Sender::read(&mut reader)?),
+            13 => View::AskFrontier(Sender::read(&mut reader)?),
+            14 => View::AskAccepted(Listing::read(&mut reader)?),
+            15 => View::AskAncestors(Named::read(&mut reader)?),
+            16 => View::AskBlock(Named::read(&mut reader)?),
+            17 => View::Line(reader.slice(LINE_BYTES)?),
+            _ => return Err(Fault::Tag),
+        };
         reader.end()?;
         Ok(view)
     }
@@ -105,33 +123,5 @@ impl<'a> View<'a> {
                 text: Bytes::from_slice(alloc, text)?,
             }),
         }
-    }
-}
-
-/// Returns the event with this tag whose fields stand in front.
-#[tactic(auto, unfolding(crate::specs::Model::Reading::fields_at, crate::specs::Model::Reading::single_at))]
-#[inline(always)]
-fn fields<'a>(tag: u8, reader: &mut Reader<'a>) -> Result<View<'a>, Fault>
-    ensures { ReadsAs as_event result reader.new (fields_at tag reader.old) }
-{
-    match tag {
-        1 => Ok(View::Start(Opening::read(reader)?)),
-        2 => Ok(View::Block(Brought::read(reader)?)),
-        3 => Ok(View::Poll(reader.list::<32>(MOST_VOTES)?)),
-        4 => Ok(View::Words(reader.words(MOST_LISTED)?)),
-        5 => Ok(View::Chits(Named::read(reader)?)),
-        6 => Ok(View::Timeout(Sender::read(reader)?)),
-        7 => Ok(View::Frontier(Named::read(reader)?)),
-        8 => Ok(View::Accepted(Listing::read(reader)?)),
-        9 => Ok(View::Ancestors(Parcel::read(reader)?)),
-        10 => Ok(View::Stored(reader.slice(BLOCK_BYTES)?)),
-        11 => Ok(View::Validators(reader.nodes(MOST_LISTED)?)),
-        12 => Ok(View::AskQuery(Sender::read(reader)?)),
-        13 => Ok(View::AskFrontier(Sender::read(reader)?)),
-        14 => Ok(View::AskAccepted(Listing::read(reader)?)),
-        15 => Ok(View::AskAncestors(Named::read(reader)?)),
-        16 => Ok(View::AskBlock(Named::read(reader)?)),
-        17 => Ok(View::Line(reader.slice(LINE_BYTES)?)),
-        _ => Err(Fault::Tag),
     }
 }

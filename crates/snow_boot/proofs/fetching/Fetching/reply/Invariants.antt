@@ -3,7 +3,7 @@ use Rattle.std.proofs.Common.{◌≡◌, true}
 use Rattle.snow_store.specs.Model.Needing.{is_missed, Covers}
 use Rattle.snow_boot.specs.Kept.Reply.{left}
 use Rattle.snow_boot.specs.Model.Replying.{replied}
-use Rattle.snow_boot.proofs.fetching.Fetching.reply_on.Given as goal
+use Rattle.snow_boot.proofs.fetching.Fetching.reply.Given as goal
 
 abbrev pub invariant-loop-bytes : goal.invariant-loop-bytes
 invariant-loop-bytes g l =
