@@ -8,7 +8,7 @@ use Rattle.snow_issue.specs.declared.work.Waiting.{Waiting}
 use Rattle.snow_issue.specs.declared.work.Work.{Work}
 use Rattle.snow_issue.specs.declared.work.Work.TheVariants as work
 use Rattle.snow_poll.specs.declared.polls.Answered.TheVariants.{Counted, NotAwaited}
-use Rattle.snow_poll.specs.Model.Table.{is_awaited, answer as answer_of}
+use Rattle.snow_poll.specs.Model.Table.{Table, is_awaited, voted, answer as answer_of}
 use Rattle.snow_issue.specs.Model.Lists.{Lists, after_held, with_waiting}
 use Rattle.snow_held.specs.Model.Replies.{holds_in}
 use Rattle.snow_issue.specs.Model.Settling.{work_of, after}
@@ -21,6 +21,11 @@ use Rattle.snow_node.specs.Model.Settling.{placed, done, worked, carried_out, on
 use Rattle.snow_node.specs.Model.Hearing.{IsFirst, IsNext, waits_for, fetched_unknown, vote_held, vote_counts, vote_came, counted_if_awaited, taken_in, brought, block_brings}
 use Rattle.snow_node.proofs.Looping.{settling_falls}
 use Rattle.snow_node.proofs.Made.{one_then}
+
+-- the table of polls after a vote is that of the node after it
+pub with_vote_is : (before node : Running) (polls : Table) (number : ℕ) (peer : List ℕ) (vote : Option (List ℕ)) → before ≡ node → polls ≡ voted before.polls number peer vote
+    → record before { polls = polls } ≡ with_vote node number peer vote
+with_vote_is before node polls number peer vote e is = ap (λ (t : Table). record before { polls = t }) is ∙ ap (λ (n : Running). with_vote n number peer vote) e
 
 -- a step that was made, and then all that follow
 made_then : (first : Comes Running) (next : Running → Comes Running)

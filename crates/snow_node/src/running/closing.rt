@@ -1,7 +1,6 @@
 ghost use Rattle.std.specs.Prelude.{◌≡◌};
 ghost use Rattle.snow_board.specs.Model.Poll.{poll};
 ghost use Rattle.snow_board.specs.Model.Board.{Board};
-ghost use Rattle.snow_poll.specs.Model.Table.{answer};
 ghost use Rattle.snow_issue.specs.Kept.Known.{Knows, lists_of};
 ghost use Rattle.snow_node.specs.Model.Closing as model;
 ghost use Rattle.snow_node.specs.Clauses.Stepping.{Answers, Tells, Turns};
@@ -11,24 +10,12 @@ use crate::reporting::tell;
 use crate::running::Running;
 use crate::running::supplying::serve_decisions;
 use crate::stop::Halt;
-use snow_base::{Id, NodeId};
 use snow_board::{Board, Decision};
 use snow_chain::Chain;
 use snow_issue::Queue;
 use snow_lines::Lines;
-use snow_poll::Answered;
 
 impl<C: Chain, B: Board> Running<C, B> {
-    /// Counts a peer's vote, or that it gives none, where its poll awaits it, and returns whether
-    /// it did.
-    pub(super) fn enter(&mut self, number: u32, peer: &NodeId, vote: Option<Id>) -> Answered
-        ensures answer { result ≡ answer self.old.polls.polls number peer.now }
-        ensures node { self.new ≡ model.with_vote self.old number peer.now vote }
-        ensures unchanged { result ≡ Answered.NotAwaited → self.new ≡ self.old }
-    {
-        self.polls.vote(number, peer, vote)
-    }
-
     /// Lets polls leave while the front one is closed, and records their votes.
     pub(super) fn close_polls(&mut self, log: &mut Lines) -> Result<(), Halt>
         ensures answer { Turns result self.new (model.closed_out B.answer self.old).1 }

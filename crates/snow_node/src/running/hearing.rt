@@ -189,7 +189,7 @@ impl<C: Chain, B: Board> Running<C, B> {
         if self.queue.holds(number, peer) {
             return Ok(());
         }
-        match self.enter(number, peer, vote) {
+        match self.polls.vote(number, peer, vote) {
             Answered::NotAwaited => Ok(()),
             Answered::Counted => {
                 self.close_polls(log)?;
@@ -241,7 +241,7 @@ impl<C: Chain, B: Board> Running<C, B> {
         if !self.polls.awaits(number, peer) || self.queue.holds(number, peer) {
             return Ok(());
         }
-        self.enter(number, peer, None);
+        self.polls.vote(number, peer, None);
         self.close_polls(log)
     }
 }
