@@ -1,5 +1,5 @@
 -- A poll that leaves takes its replies with it. What its votes decided is off the board, and so is what waits.
-use Rattle.std.proofs.Common.{◌≡◌, ℕ, Bool, true, false, List, [], ◌∷◌, ◌++◌, append-nil, map, Some, None, Ok, Err, refl, ap, ◌∙◌, sym, subst}
+use Rattle.std.proofs.Common.{◌≡◌, ℕ, Bool, true, false, List, [], ◌∷◌, ◌++◌, append-nil, map, Some, None, Ok, refl, ap, ◌∙◌, sym, subst}
 use Rattle.std.proofs.lemmas.Result.{err_from_is_err_and}
 use Rattle.snow_base.specs.declared.block.Vote.{Vote}
 use Rattle.snow_flake.specs.Model.Parameters.{Parameters}
@@ -11,7 +11,6 @@ use Rattle.snow_board.specs.Model.Preference.{preferred}
 use Rattle.snow_board.proofs.Cases.{split_on}
 use Rattle.snow_chain.specs.Model.Chain.{Held}
 use Rattle.snow_getter.specs.Model.Serving.{Serving}
-use Rattle.snow_lines.specs.declared.line.Line.{Line}
 use Rattle.snow_poll.specs.Model.Poll.{Poll}
 use Rattle.snow_poll.specs.Model.Closing.{is_closed}
 use Rattle.snow_poll.specs.Model.Table.{Table, finished, unfinished, shortened}

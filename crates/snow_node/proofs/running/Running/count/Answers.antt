@@ -6,7 +6,6 @@ use Rattle.snow_poll.specs.Model.Table.{answer}
 use Rattle.snow_issue.specs.Kept.Known.{lists_of}
 use Rattle.snow_node.specs.Model.Outcome.{Comes}
 use Rattle.snow_node.specs.Model.Running.{Running}
-use Rattle.snow_node.specs.Model.Closing.{closed_out}
 use Rattle.snow_node.specs.Model.Settling.{settled}
 use Rattle.snow_node.specs.Clauses.Stepping.{HaltsAs, Tells, Turns}
 use Rattle.snow_node.proofs.AtOnce.{with_vote_is, counted_first}
