@@ -135,8 +135,10 @@ impl<C: Chain, B: Board> Running<C, B> {
         let number = vote.request;
         let peer = NodeId::from_bytes(*vote.node);
         let id = Id::from_bytes(*vote.id);
-        if self.is_own_vote(&id) {
-            return self.count(number, &peer, &id, Some(id), log);
+        if let QueueState::Settled = self.queue_state {
+            if self.queue.is_own_vote(&id, &self.board) {
+                return self.count(number, &peer, &id, Some(id), log);
+            }
         }
         if !self.polls.awaits(number, &peer) {
             return Ok(());
@@ -144,17 +146,6 @@ impl<C: Chain, B: Board> Running<C, B> {
         match self.vote_at_once(&id) {
             Some(vote) => self.count(number, &peer, &id, vote, log),
             None => self.hold(number, &peer, &id, log),
-        }
-    }
-
-    /// Returns whether a reply would be the first thing to do, if its poll awaits it, and a vote
-    /// for the very block that it names.
-    fn is_own_vote(&self, id: &Id) -> bool
-        ensures { result ≡ true → model.IsFirst self.now id.now (Some id.now) }
-    {
-        match self.queue_state {
-            QueueState::Settled => self.queue.is_own_vote(id, &self.board),
-            _ => false,
         }
     }
 
