@@ -1,5 +1,5 @@
 -- What would be the first thing to do is done as it comes: a reply needn't be held, nor need a block wait.
-use Rattle.std.proofs.Common.{◌≡◌, ℕ, Bool, true, false, cond, not, ◌&&◌, List, append-nil, Option, Some, Result, Ok, Err, if◌then◌else◌, refl, sym, ap, ◌∙◌}
+use Rattle.std.proofs.Common.{◌≡◌, ℕ, Bool, true, false, cond, not, ◌&&◌, List, append-nil, Option, Some, None, Result, Ok, Err, if◌then◌else◌, refl, sym, ap, ◌∙◌}
 use Rattle.snow_flake.specs.Model.Rule.{Answer}
 use Rattle.snow_chain.specs.Model.Chain.{Rules}
 use Rattle.snow_lines.specs.declared.line.Line.{Line}
@@ -8,7 +8,7 @@ use Rattle.snow_issue.specs.declared.work.Waiting.{Waiting}
 use Rattle.snow_issue.specs.declared.work.Work.{Work}
 use Rattle.snow_issue.specs.declared.work.Work.TheVariants as work
 use Rattle.snow_poll.specs.declared.polls.Answered.TheVariants.{Counted, NotAwaited}
-use Rattle.snow_poll.specs.Model.Table.{is_awaited, answer as answer_of}
+use Rattle.snow_poll.specs.Model.Table.{Table, is_awaited, voted, answer as answer_of}
 use Rattle.snow_issue.specs.Model.Lists.{Lists, after_held, with_waiting}
 use Rattle.snow_held.specs.Model.Replies.{holds_in}
 use Rattle.snow_issue.specs.Model.Settling.{work_of, after}
@@ -18,9 +18,14 @@ use Rattle.snow_node.specs.Model.Outcome.{Comes, quietly, after_lines, going_on,
 use Rattle.snow_node.specs.Model.Running.{Running}
 use Rattle.snow_node.specs.Model.Closing.{with_vote, closed_out, tallied}
 use Rattle.snow_node.specs.Model.Settling.{placed, done, worked, carried_out, one_settled, left_to_do, settled}
-use Rattle.snow_node.specs.Model.Hearing.{IsFirst, IsNext, waits_for, fetched_unknown, vote_held, vote_counts, vote_came, counted_if_awaited, taken_in, brought, block_brings}
+use Rattle.snow_node.specs.Model.Hearing.{IsFirst, IsNext, asked_by, waits_for, fetched_unknown, vote_held, vote_counts, vote_came, counted_if_awaited, given_up_on, taken_in, brought, block_brings}
 use Rattle.snow_node.proofs.Looping.{settling_falls}
 use Rattle.snow_node.proofs.Made.{one_then}
+
+-- the table of polls after a vote is that of the node after it
+pub with_vote_is : (before node : Running) (polls : Table) (number : ℕ) (peer : List ℕ) (vote : Option (List ℕ)) → before ≡ node → polls ≡ voted before.polls number peer vote
+    → record before { polls = polls } ≡ with_vote node number peer vote
+with_vote_is before node polls number peer vote e is = ap (λ (t : Table). record before { polls = t }) is ∙ ap (λ (n : Running). with_vote n number peer vote) e
 
 -- a step that was made, and then all that follow
 made_then : (first : Comes Running) (next : Running → Comes Running)
@@ -96,6 +101,16 @@ held_first rules answer node after queue number peer id true awaited new none q 
     let waits : waits_for node number peer ≡ true = rw (awaited, sym none) refl in
     ap (λ (n : Running). then_comes (fetched_unknown n peer id) (settled rules answer)) (is ∙ ap (λ (l : Lists). record node { queue = l }) q)
     ∙ ap (λ (b : Bool). cond b (vote_counts rules answer node number peer id) (quietly node)) (sym waits)
+
+-- a vote that a poll awaits is lost where no get is open for it and no reply of its peer is held
+pub lost_if_awaited : (answer : Answer) (node after : Running) (number : ℕ) (peer : List ℕ) → asked_by node.queue number peer ≡ None → is_awaited node.polls.polls number peer ≡ true
+    → holds_in node.queue.held number peer ≡ false → after ≡ with_vote node number peer None
+    → closed_out answer after ≡ given_up_on answer node number peer (asked_by node.queue number peer)
+lost_if_awaited answer node after number peer asked awaited free is =
+    let waits : waits_for node number peer ≡ true = rw (awaited, free) refl in
+    ap (closed_out answer) is
+    ∙ ap (λ (b : Bool). cond b (tallied answer node number peer None) (quietly node)) (sym waits)
+    ∙ ap (given_up_on answer node number peer) (sym asked)
 
 -- to let such a block wait and to settle is to place it and to settle
 pub placed_at_once : (rules : Rules) (answer : Answer) (node : Running) (w : Waiting) → IsNext node w.header

@@ -11,8 +11,6 @@ ghost use Rattle.snow_chain.specs.Kept.Alone.{IsAlone, last_state};
 ghost use Rattle.snow_getter.specs.Model.Serving.{serving_from};
 ghost use Rattle.snow_issue.specs.Kept.Known.{lists_of};
 ghost use Rattle.snow_issue.specs.Model.Lists.{begun};
-ghost use Rattle.snow_node.specs.Model.Hearing as hearing;
-ghost use Rattle.snow_node.specs.Model.Outcome.{then_comes};
 ghost use Rattle.snow_node.specs.Model.Running.{begun_above};
 ghost use Rattle.snow_node.specs.Clauses.Stepping.{Tells, Turns};
 ghost use Rattle.snow_node.specs.Model.Turning as model;
@@ -29,7 +27,7 @@ use crate::reporting::write;
 use crate::running::queue_state::QueueState;
 use crate::stop::Halt;
 use snow_base::limits::MOST_WORDS;
-use snow_base::{Id, NodeId, Nodes, Numbers, Nums};
+use snow_base::{Id, Nodes, Numbers, Nums};
 use snow_board::Board;
 use snow_chain::Chain;
 use snow_flake::Params;
@@ -38,7 +36,7 @@ use snow_issue::{Queue, SpareBytes};
 use snow_lines::{Line, Lines, SkipKind};
 use snow_poll::Polls;
 use snow_sample::{Node, Roster, RosterFault, Words};
-use snow_wire::{Brought, Named, Sender, View, nodes_of, words_of};
+use snow_wire::{View, nodes_of, words_of};
 use std::alloc::{AllocError, Global};
 use std::marker::Model;
 use std::mem;
@@ -154,9 +152,18 @@ impl<C: Chain, B: Board> Running<C, B> {
     {
         match event {
             View::Start(_) => Err(Halt::SecondStart),
-            View::Block(block) => self.on_block(frame, block, log),
-            View::Chits(vote) => self.on_chits(vote, log),
-            View::Timeout(timeout) => self.on_timeout(timeout, log),
+            View::Block(block) => {
+                self.on_block(frame, block, log)?;
+                self.round(log)
+            }
+            View::Chits(vote) => {
+                self.on_chits(vote, log)?;
+                self.round(log)
+            }
+            View::Timeout(timeout) => {
+                self.on_timeout(timeout, log)?;
+                self.round(log)
+            }
             View::Words(words) => self.on_words(frame, &words_of(self.alloc, words)?, log),
             View::Validators(nodes) => {
                 self.on_validators(frame, &nodes_of(self.alloc, nodes)?, log)
@@ -170,37 +177,6 @@ impl<C: Chain, B: Board> Running<C, B> {
             | View::AskAncestors(_)
             | View::AskBlock(_)) => self.on_question(question, log),
         }
-    }
-
-    /// Takes a block, and ends the event.
-    fn on_block(&mut self, frame: u64, block: Brought<'_>, log: &mut Lines) -> Result<(), Halt>
-        ensures answer { Turns result self.new (then_comes (hearing.block_came C.rules B.answer self.old frame block.entry.node.now block.entry.request block.entry.bytes.now) (model.rounded B.answer)).1 }
-        ensures lines { Tells result log.old log.new (then_comes (hearing.block_came C.rules B.answer self.old frame block.entry.node.now block.entry.request block.entry.bytes.now) (model.rounded B.answer)).0 }
-    {
-        let peer = NodeId::from_bytes(*block.node);
-        self.receive_block(frame, &peer, block.request, block.bytes, log)?;
-        self.round(log)
-    }
-
-    /// Takes a vote, and ends the event.
-    fn on_chits(&mut self, vote: Named<'_>, log: &mut Lines) -> Result<(), Halt>
-        ensures answer { Turns result self.new (then_comes (hearing.vote_came C.rules B.answer self.old vote.entry.request vote.entry.node.now vote.entry.id.now) (model.rounded B.answer)).1 }
-        ensures lines { Tells result log.old log.new (then_comes (hearing.vote_came C.rules B.answer self.old vote.entry.request vote.entry.node.now vote.entry.id.now) (model.rounded B.answer)).0 }
-    {
-        let peer = NodeId::from_bytes(*vote.node);
-        let id = Id::from_bytes(*vote.id);
-        self.receive_vote(vote.request, &peer, &id, log)?;
-        self.round(log)
-    }
-
-    /// Takes that a peer won't answer, and ends the event.
-    fn on_timeout(&mut self, timeout: Sender<'_>, log: &mut Lines) -> Result<(), Halt>
-        ensures answer { Turns result self.new (then_comes (hearing.timed_out C.rules B.answer self.old timeout.entry.request timeout.entry.node.now) (model.rounded B.answer)).1 }
-        ensures lines { Tells result log.old log.new (then_comes (hearing.timed_out C.rules B.answer self.old timeout.entry.request timeout.entry.node.now) (model.rounded B.answer)).0 }
-    {
-        let peer = NodeId::from_bytes(*timeout.node);
-        self.time_out(timeout.request, &peer, log)?;
-        self.round(log)
     }
 
     /// Answers a peer's question.

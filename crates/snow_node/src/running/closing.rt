@@ -1,63 +1,39 @@
 ghost use Rattle.std.specs.Prelude.{◌≡◌};
 ghost use Rattle.snow_board.specs.Model.Poll.{poll};
 ghost use Rattle.snow_board.specs.Model.Board.{Board};
-ghost use Rattle.snow_poll.specs.Model.Table.{answer};
 ghost use Rattle.snow_issue.specs.Kept.Known.{Knows, lists_of};
 ghost use Rattle.snow_node.specs.Model.Closing as model;
-ghost use Rattle.snow_node.specs.Clauses.Stepping.{Answers, Tells, Turns};
+ghost use Rattle.snow_node.specs.Clauses.Stepping.{Tells, Turns};
 
 use crate::admitting::apply;
 use crate::reporting::tell;
 use crate::running::Running;
 use crate::running::supplying::serve_decisions;
 use crate::stop::Halt;
-use snow_base::{Id, NodeId};
 use snow_board::{Board, Decision};
 use snow_chain::Chain;
 use snow_issue::Queue;
 use snow_lines::Lines;
-use snow_poll::Answered;
 
 impl<C: Chain, B: Board> Running<C, B> {
-    /// Counts a peer's vote, or that it gives none, where its poll awaits it, and returns whether
-    /// it did.
-    pub(super) fn enter(&mut self, number: u32, peer: &NodeId, vote: Option<Id>) -> Answered
-        ensures answer { result ≡ answer self.old.polls.polls number peer.now }
-        ensures node { self.new ≡ model.with_vote self.old number peer.now vote }
-        ensures unchanged { result ≡ Answered.NotAwaited → self.new ≡ self.old }
-    {
-        self.polls.vote(number, peer, vote)
-    }
-
-    /// Lets polls leave while the front one is closed, and records their votes.
+    /// Lets polls leave while the front one is closed, and their held replies with them. It records
+    /// their votes, tells chain and queue what they decided, and makes what peers are served follow.
     pub(super) fn close_polls(&mut self, log: &mut Lines) -> Result<(), Halt>
         ensures answer { Turns result self.new (model.closed_out B.answer self.old).1 }
         ensures lines { Tells result log.old log.new (model.closed_out B.answer self.old).0 }
     {
-        while self.close_one(log)? {}
+        while let Some(closed) = self.polls.take_finished() {
+            self.queue.forget(closed.number);
+            let before = self.board.preference();
+            apply(&mut self.board, &mut self.chain, &closed.votes);
+            mark_gone(&mut self.queue, self.board.decisions());
+            serve_decisions(&mut self.served, &mut self.room, self.board.decisions());
+            self.polls.take_back(closed.votes);
+            self.recorded = true;
+            self.queue_state = self.queue_state.polled();
+            tell(&self.board, &before, log)?;
+        }
         Ok(())
-    }
-
-    /// Lets the front poll leave if it is closed, and its held replies with it. It records the
-    /// votes, tells chain and queue what they decided, makes what peers are served follow, and
-    /// returns whether the poll left.
-    fn close_one(&mut self, log: &mut Lines) -> Result<bool, Halt>
-        ensures answer { Answers result self.new (model.one_closed B.answer self.old).1 }
-        ensures lines { Tells result log.old log.new (model.one_closed B.answer self.old).0 }
-    {
-        let Some(closed) = self.polls.take_finished() else {
-            return Ok(false);
-        };
-        self.queue.forget(closed.number);
-        let before = self.board.preference();
-        apply(&mut self.board, &mut self.chain, &closed.votes);
-        mark_gone(&mut self.queue, self.board.decisions());
-        serve_decisions(&mut self.served, &mut self.room, self.board.decisions());
-        self.polls.take_back(closed.votes);
-        self.recorded = true;
-        self.queue_state = self.queue_state.polled();
-        tell(&self.board, &before, log)?;
-        Ok(true)
     }
 }
 

@@ -17,29 +17,29 @@ use snow_chain::Chain;
 use snow_issue::{Held, Offered};
 use snow_lines::{DropWhy, Line, Lines, SkipKind};
 use snow_poll::Answered;
+use snow_wire::{Brought, Named, Sender};
 
 impl<C: Chain, B: Board> Running<C, B> {
     /// Takes a block for which nobody asked, or the answer to a get. It passes over one that no get
     /// awaits.
-    pub(super) fn receive_block(
+    pub(super) fn on_block(
         &mut self,
         frame: u64,
-        peer: &NodeId,
-        number: u32,
-        bytes: &[u8],
+        block: Brought<'_>,
         log: &mut Lines,
     ) -> Result<(), Halt>
-        ensures answer { Turns result self.new (model.block_came C.rules B.answer self.old frame peer.now number bytes.now).1 }
-        ensures lines { Tells result log.old log.new (model.block_came C.rules B.answer self.old frame peer.now number bytes.now).0 }
+        ensures answer { Turns result self.new (model.block_came C.rules B.answer self.old frame block.entry.node.now block.entry.request block.entry.bytes.now).1 }
+        ensures lines { Tells result log.old log.new (model.block_came C.rules B.answer self.old frame block.entry.node.now block.entry.request block.entry.bytes.now).0 }
     {
-        if number == 0 {
-            return self.read_block(frame, peer, bytes, &None, log);
+        let peer = NodeId::from_bytes(*block.node);
+        if block.request == 0 {
+            return self.read_block(frame, &peer, block.bytes, &None, log);
         }
-        let asked = self.close_get(number, peer);
+        let asked = self.close_get(block.request, &peer);
         if asked.is_none() {
             return Ok(());
         }
-        self.read_block(frame, peer, bytes, &asked, log)
+        self.read_block(frame, &peer, block.bytes, &asked, log)
     }
 
     /// Takes a block's bytes, where this block was asked for, and does all that this brings. Where
@@ -128,36 +128,24 @@ impl<C: Chain, B: Board> Running<C, B> {
     /// other it asks first whether the poll awaits it, so that one that isn't awaited costs no walk
     /// from block to parent. Whether a reply of the peer is held it asks last, since a reply that
     /// is held itself tells that.
-    pub(super) fn receive_vote(
-        &mut self,
-        number: u32,
-        peer: &NodeId,
-        id: &Id,
-        log: &mut Lines,
-    ) -> Result<(), Halt>
-        ensures answer { Turns result self.new (model.vote_came C.rules B.answer self.old number peer.now id.now).1 }
-        ensures lines { Tells result log.old log.new (model.vote_came C.rules B.answer self.old number peer.now id.now).0 }
+    pub(super) fn on_chits(&mut self, vote: Named<'_>, log: &mut Lines) -> Result<(), Halt>
+        ensures answer { Turns result self.new (model.vote_came C.rules B.answer self.old vote.entry.request vote.entry.node.now vote.entry.id.now).1 }
+        ensures lines { Tells result log.old log.new (model.vote_came C.rules B.answer self.old vote.entry.request vote.entry.node.now vote.entry.id.now).0 }
     {
-        if self.is_own_vote(id) {
-            return self.count(number, peer, id, Some(*id), log);
+        let number = vote.request;
+        let peer = NodeId::from_bytes(*vote.node);
+        let id = Id::from_bytes(*vote.id);
+        if let QueueState::Settled = self.queue_state {
+            if self.queue.is_own_vote(&id, &self.board) {
+                return self.count(number, &peer, &id, Some(id), log);
+            }
         }
-        if !self.polls.awaits(number, peer) {
+        if !self.polls.awaits(number, &peer) {
             return Ok(());
         }
-        match self.vote_at_once(id) {
-            Some(vote) => self.count(number, peer, id, vote, log),
-            None => self.hold(number, peer, id, log),
-        }
-    }
-
-    /// Returns whether a reply would be the first thing to do, if its poll awaits it, and a vote
-    /// for the very block that it names.
-    fn is_own_vote(&self, id: &Id) -> bool
-        ensures { result ≡ true → model.IsFirst self.now id.now (Some id.now) }
-    {
-        match self.queue_state {
-            QueueState::Settled => self.queue.is_own_vote(id, &self.board),
-            _ => false,
+        match self.vote_at_once(&id) {
+            Some(vote) => self.count(number, &peer, &id, vote, log),
+            None => self.hold(number, &peer, &id, log),
         }
     }
 
@@ -189,7 +177,7 @@ impl<C: Chain, B: Board> Running<C, B> {
         if self.queue.holds(number, peer) {
             return Ok(());
         }
-        match self.enter(number, peer, vote) {
+        match self.polls.vote(number, peer, vote) {
             Answered::NotAwaited => Ok(()),
             Answered::Counted => {
                 self.close_polls(log)?;
@@ -215,34 +203,23 @@ impl<C: Chain, B: Board> Running<C, B> {
         self.settle(log)
     }
 
-    /// Closes a get, or counts a lost vote, and does all that this brings.
-    pub(super) fn time_out(
-        &mut self,
-        number: u32,
-        peer: &NodeId,
-        log: &mut Lines,
-    ) -> Result<(), Halt>
-        ensures answer { Turns result self.new (model.timed_out C.rules B.answer self.old number peer.now).1 }
-        ensures lines { Tells result log.old log.new (model.timed_out C.rules B.answer self.old number peer.now).0 }
+    /// Takes that a peer won't answer. It closes a get, or counts that the peer gives no vote, where
+    /// a poll awaits it and no reply of it is held. Then it does all that this brings.
+    pub(super) fn on_timeout(&mut self, timeout: Sender<'_>, log: &mut Lines) -> Result<(), Halt>
+        ensures answer { Turns result self.new (model.timed_out C.rules B.answer self.old timeout.entry.request timeout.entry.node.now).1 }
+        ensures lines { Tells result log.old log.new (model.timed_out C.rules B.answer self.old timeout.entry.request timeout.entry.node.now).0 }
     {
-        self.give_up_on(number, peer, log)?;
+        let number = timeout.request;
+        let peer = NodeId::from_bytes(*timeout.node);
+        if self.close_get(number, &peer).is_some() {
+            return self.settle(log);
+        }
+        if !self.polls.awaits(number, &peer) || self.queue.holds(number, &peer) {
+            return self.settle(log);
+        }
+        self.polls.vote(number, &peer, None);
+        self.close_polls(log)?;
         self.settle(log)
-    }
-
-    /// Closes a get, or counts that a peer gives no vote, where a poll awaits it and holds no reply
-    /// of it.
-    fn give_up_on(&mut self, number: u32, peer: &NodeId, log: &mut Lines) -> Result<(), Halt>
-        ensures answer { Turns result self.new (model.given_up_on B.answer self.old number peer.now (model.asked_by self.old.queue number peer.now)).1 }
-        ensures lines { Tells result log.old log.new (model.given_up_on B.answer self.old number peer.now (model.asked_by self.old.queue number peer.now)).0 }
-    {
-        if self.close_get(number, peer).is_some() {
-            return Ok(());
-        }
-        if !self.polls.awaits(number, peer) || self.queue.holds(number, peer) {
-            return Ok(());
-        }
-        self.enter(number, peer, None);
-        self.close_polls(log)
     }
 }
 

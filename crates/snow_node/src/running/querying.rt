@@ -71,25 +71,16 @@ impl<C: Chain, B: Board> Running<C, B> {
         Ok(false)
     }
 
-    /// Makes one query more where a block is pending and fewer polls run than may, and returns
-    /// whether it sent it.
-    fn repoll_one(&mut self, log: &mut Lines) -> Result<bool, Halt>
-        ensures answer { Answers result self.new (model.one_repolled B.answer self.old).1 }
-        ensures lines { Tells result log.old log.new (model.one_repolled B.answer self.old).0 }
-    {
-        if self.board.pending_len() > 0 && self.polls.len() < self.params.repolls() as usize {
-            self.query(log)
-        } else {
-            Ok(false)
-        }
-    }
-
-    /// Makes queries until enough polls run or it sends one not.
+    /// Makes queries while a block is pending and fewer polls run than may, until it sends one not.
     pub(super) fn repoll(&mut self, log: &mut Lines) -> Result<(), Halt>
         ensures answer { Turns result self.new (model.repolled B.answer self.old).1 }
         ensures lines { Tells result log.old log.new (model.repolled B.answer self.old).0 }
     {
-        while self.repoll_one(log)? {}
+        while self.board.pending_len() > 0 && self.polls.len() < self.params.repolls() as usize {
+            if !self.query(log)? {
+                return Ok(());
+            }
+        }
         Ok(())
     }
 }

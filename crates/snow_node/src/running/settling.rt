@@ -63,7 +63,7 @@ impl<C: Chain, B: Board> Running<C, B> {
             }
             Work::Vote(reply) => {
                 let vote = self.queue.bubble(&reply.id, &self.board);
-                self.enter(reply.number, &reply.node, vote);
+                self.polls.vote(reply.number, &reply.node, vote);
                 self.close_polls(log)
             }
         }
