@@ -6,6 +6,7 @@ ghost use Rattle.snow_chain.specs.Model.Chain.{begun};
 ghost use Rattle.snow_chain.specs.Kept.Alone.{last_state};
 ghost use Rattle.snow_boot.specs.Clauses.Calling.{Brings, Leaves, MayGoOn, OnDone, OnGoing};
 ghost use Rattle.snow_boot.specs.Clauses.Calling.{Logs as BootLogs};
+ghost use Rattle.snow_sample.specs.Model.Words.{spelled};
 ghost use Rattle.snow_wire.specs.Clauses.Viewed.{as_event};
 ghost use Rattle.snow_engine.specs.Model.Catching as model;
 ghost use Rattle.snow_engine.specs.Clauses.Stopping.{Logs, Starts};
@@ -24,7 +25,7 @@ use snow_flake::Params;
 use snow_lines::{Line, Lines, SkipKind};
 use snow_node::{Halt, Running, write};
 use snow_sample::{Roster, Words};
-use snow_wire::{Start, View, ids_of, words_of};
+use snow_wire::{Start, View, ids_of};
 use std::alloc::Global;
 use std::marker::Model;
 
@@ -118,7 +119,7 @@ impl<C: Chain> Booting<C> {
         if is_heard(&event) {
             return self.catch_up(frame, event, log);
         }
-        match note(self.alloc, &mut self.words, frame, event, log) {
+        match note(&mut self.words, frame, event, log) {
             Ok(()) => Ok(Stage::Booting(self)),
             Err(halt) => {
                 // (a node is let go by a call: it is many steps, which stand in one place then)
@@ -195,7 +196,6 @@ fn is_heard(event: &View<'_>) -> bool
 /// over.
 #[tactic(auto, using(snow_node::proofs::Logs::logs_nothing))]
 fn note(
-    alloc: Global,
     kept: &mut Words,
     frame: u64,
     event: View<'_>,
@@ -206,10 +206,7 @@ fn note(
 {
     match event {
         View::Start(_) => Err(Halt::SecondStart),
-        View::Words(words) => {
-            let words = words_of(alloc, words)?;
-            keep(kept, frame, words.list(), log)
-        }
+        View::Words(words) => keep(kept, frame, words, log),
         View::Chits(_) => Ok(()),
         View::Poll(_) | View::Line(_) => skip(frame, SkipKind::Task, log),
         _ => skip(frame, SkipKind::Stage, log),
@@ -217,15 +214,15 @@ fn note(
 }
 
 /// Keeps words until the node runs, unless they are too many.
-#[tactic(auto, using(snow_node::proofs::Logs::logs_nothing))]
-fn keep(kept: &mut Words, frame: u64, words: &[u64], log: &mut Lines) -> Result<(), Halt>
-    ensures answer { Turns result kept.new (model.words_kept kept.old frame words.now).1 }
-    ensures lines { Tells result log.old log.new (model.words_kept kept.old frame words.now).0 }
+#[tactic(auto, using(snow_node::proofs::Logs::logs_nothing, snow_sample::proofs::Spelled::as_many))]
+fn keep(kept: &mut Words, frame: u64, words: &[[u8; 8]], log: &mut Lines) -> Result<(), Halt>
+    ensures answer { Turns result kept.new (model.words_kept kept.old frame (spelled words.now)).1 }
+    ensures lines { Tells result log.old log.new (model.words_kept kept.old frame (spelled words.now)).0 }
 {
     if words.len() > MOST_WORDS - kept.len() {
         return skip(frame, SkipKind::Full, log);
     }
-    kept.push_all(words)?;
+    kept.push_spelled(words)?;
     Ok(())
 }
 

@@ -3,6 +3,7 @@
 ghost use Rattle.std.specs.Prelude.{◌≡◌, ◌-◌, ◌^◌, ◌≤◌, [], ◌∷◌, Err, IfOk, OnErr};
 ghost use Rattle.snow_flake.specs.Model.Parameters.{AreGood};
 ghost use Rattle.snow_sample.specs.Model.Roster.{first_fault, IsRosterOf};
+ghost use Rattle.snow_sample.specs.Model.Words.{spelled};
 ghost use Rattle.snow_getter.specs.Model.Answer.{answer};
 ghost use Rattle.snow_board.specs.Model.Preference.{preferred};
 ghost use Rattle.snow_wire.specs.Clauses.Viewed.{as_event};
@@ -36,7 +37,11 @@ use snow_issue::{Queue, SpareBytes};
 use snow_lines::{Line, Lines, SkipKind};
 use snow_poll::Polls;
 use snow_sample::{Node, Roster, RosterFault, Words};
+<<<<<<< HEAD
 use snow_wire::{View, nodes_of, words_of};
+=======
+use snow_wire::{Brought, Named, Sender, View, nodes_of};
+>>>>>>> 0e48dae1775450bd15658bc46058e421235fda95
 use std::alloc::{AllocError, Global};
 use std::marker::Model;
 use std::mem;
@@ -152,6 +157,7 @@ impl<C: Chain, B: Board> Running<C, B> {
     {
         match event {
             View::Start(_) => Err(Halt::SecondStart),
+<<<<<<< HEAD
             View::Block(block) => {
                 self.on_block(frame, block, log)?;
                 self.round(log)
@@ -165,6 +171,12 @@ impl<C: Chain, B: Board> Running<C, B> {
                 self.round(log)
             }
             View::Words(words) => self.on_words(frame, &words_of(self.alloc, words)?, log),
+=======
+            View::Block(block) => self.on_block(frame, block, log),
+            View::Chits(vote) => self.on_chits(vote, log),
+            View::Timeout(timeout) => self.on_timeout(timeout, log),
+            View::Words(words) => self.on_words(frame, words, log),
+>>>>>>> 0e48dae1775450bd15658bc46058e421235fda95
             View::Validators(nodes) => {
                 self.on_validators(frame, &nodes_of(self.alloc, nodes)?, log)
             }
@@ -202,15 +214,15 @@ impl<C: Chain, B: Board> Running<C, B> {
     }
 
     /// Takes words, which may bring queries where no poll runs.
-    #[tactic(auto, using(crate::proofs::Logs::logs_nothing))]
-    fn on_words(&mut self, frame: u64, words: &Nums, log: &mut Lines) -> Result<(), Halt>
-        ensures answer { Turns result self.new (model.words_came B.answer self.old frame words.now).1 }
-        ensures lines { Tells result log.old log.new (model.words_came B.answer self.old frame words.now).0 }
+    #[tactic(auto, using(crate::proofs::Logs::logs_nothing, snow_sample::proofs::Spelled::as_many))]
+    fn on_words(&mut self, frame: u64, words: &[[u8; 8]], log: &mut Lines) -> Result<(), Halt>
+        ensures answer { Turns result self.new (model.words_came B.answer self.old frame (spelled words.now)).1 }
+        ensures lines { Tells result log.old log.new (model.words_came B.answer self.old frame (spelled words.now)).0 }
     {
-        if words.list().len() > MOST_WORDS - self.words.len() {
+        if words.len() > MOST_WORDS - self.words.len() {
             return skip(frame, SkipKind::Full, log);
         }
-        self.words.push_all(words.list())?;
+        self.words.push_spelled(words)?;
         if self.polls.len() > 0 {
             return Ok(());
         }

@@ -8,5 +8,6 @@ mod Guiding
 mod Listing
 mod Moves
 pub mod Slots
+pub mod Spelled
 pub mod Walks
 mod Weights

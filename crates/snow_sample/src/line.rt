@@ -1,8 +1,9 @@
 ghost use Rattle.std.specs.Prelude.{◌≡◌, ◌+◌, ◌^◌, ◌<◌, ◌≤◌, [], ◌++◌, length, drop, vec_len, vec_capacity, OnOk, OnErr, IfSome, IfNone};
 ghost use Rattle.std.specs.Option.{option_map};
 ghost use Rattle.snow_base.specs.declared.limits.TheConstants.{MOST_WORDS};
-ghost use Rattle.snow_sample.specs.Model.Words.{choice, reduced, IsRest};
+ghost use Rattle.snow_sample.specs.Model.Words.{choice, reduced, spelled, IsRest};
 
+use byteorder::{BigEndian, ByteOrder};
 use std::alloc::{AllocError, Global};
 use std::marker::Model;
 
@@ -51,6 +52,17 @@ impl Line {
     {
         self.close_up();
         append(&mut self.words, words)
+    }
+
+    // Appends the words that these bytes spell, where at most 65,536 stand there afterwards. After
+    // want of memory those that stood there are as before.
+    pub(crate) fn push_spelled(&mut self, words: &[[u8; 8]]) -> Result<(), AllocError>
+        requires { length self.old + length words.now ≤ MOST_WORDS }
+        ensures ok { OnOk result (self.new ≡ self.old ++ spelled words.now) }
+        ensures err { OnErr result (self.new ≡ self.old) }
+    {
+        self.close_up();
+        append_spelled(&mut self.words, words)
     }
 
     // Moves the words that are left to the front, where more were taken: so at most a word is moved for
@@ -139,6 +151,18 @@ fn append(room: &mut Vec<u64>, words: &[u64]) -> Result<(), AllocError>
         let len = rest.len().min(SOME);
         append_some(room, &rest[..len]);
         rest = &rest[len..];
+    }
+    Ok(())
+}
+
+// Appends the words that these bytes spell, or none where there is no memory for them.
+fn append_spelled(room: &mut Vec<u64>, words: &[[u8; 8]]) -> Result<(), AllocError>
+    ensures ok { OnOk result (room.new.items ≡ room.old.items ++ spelled words.now) }
+    ensures err { OnErr result (room.new.items ≡ room.old.items) }
+{
+    room.reserve(words.len())?;
+    for word in words {
+        room.push_reserved(BigEndian::read_u64(word));
     }
     Ok(())
 }

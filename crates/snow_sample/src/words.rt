@@ -1,6 +1,7 @@
 ghost use Rattle.std.specs.Prelude.{◌≡◌, ◌+◌, ◌≤◌, [], ◌++◌, length, Ok, IfErr, OnOk, OnErr};
 ghost use Rattle.snow_base.specs.declared.limits.TheConstants.{MOST_WORDS};
 ghost use Rattle.snow_sample.specs.Model.Roster.{total_weight};
+ghost use Rattle.snow_sample.specs.Model.Words.{spelled};
 ghost use Rattle.snow_sample.specs.Model.Sampling.{sample_of, IsFault, draw_count, AreOfDistinctNodes};
 
 use crate::draws::Draws;
@@ -51,6 +52,18 @@ impl Words {
         ensures err { OnErr result (self.new ≡ self.old) }
     {
         self.line.push_all(words)
+    }
+
+    /// Appends the words that these bytes spell, the highest byte first. At most 65,536 stand there
+    /// afterwards. On want of memory it returns `AllocError`, and the words that stood there stay as
+    /// they were.
+    /// Rule: this project's own.
+    pub fn push_spelled(&mut self, words: &[[u8; 8]]) -> Result<(), AllocError>
+        requires { length self.old + length words.now ≤ MOST_WORDS }
+        ensures ok { OnOk result (self.new ≡ self.old ++ spelled words.now) }
+        ensures err { OnErr result (self.new ≡ self.old) }
+    {
+        self.line.push_spelled(words)
     }
 
     /// Returns how many words there are, at most 65,536.

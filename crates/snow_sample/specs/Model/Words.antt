@@ -1,6 +1,11 @@
 -- How random words choose a number.
-use Rattle.std.specs.Prelude.{◌≡◌, ℕ, ◌+◌, ◌-◌, ◌%◌, ◌^◌, List, [], ◌∷◌, ◌++◌, Bool, Option, Some, None, nat_le, ◌==◌, bit_and, if◌then◌else◌}
+use Rattle.std.specs.Prelude.{◌≡◌, ℕ, ◌+◌, ◌-◌, ◌%◌, ◌^◌, List, [], ◌∷◌, ◌++◌, map, Bool, Option, Some, None, nat_le, ◌==◌, bit_and, if◌then◌else◌}
 use Rattle.std.specs.List.{list_any, range_with_len}
+use Rattle.byteorder.specs.Endian.{big_number}
+
+-- the words that eight bytes each spell, the highest byte first
+abbrev pub spelled : List (List ℕ) → List ℕ
+spelled words = map (big_number 8) words
 
 -- whether this is one of the powers of two from 2^0 to 2^63
 unfoldable pub is_power : ℕ → Bool
