@@ -28,7 +28,7 @@ use crate::reporting::write;
 use crate::running::queue_state::QueueState;
 use crate::stop::Halt;
 use snow_base::limits::MOST_WORDS;
-use snow_base::{Id, Nodes, Numbers, Nums};
+use snow_base::{Id, Nodes, Numbers};
 use snow_board::Board;
 use snow_chain::Chain;
 use snow_flake::Params;
@@ -37,11 +37,7 @@ use snow_issue::{Queue, SpareBytes};
 use snow_lines::{Line, Lines, SkipKind};
 use snow_poll::Polls;
 use snow_sample::{Node, Roster, RosterFault, Words};
-<<<<<<< HEAD
-use snow_wire::{View, nodes_of, words_of};
-=======
-use snow_wire::{Brought, Named, Sender, View, nodes_of};
->>>>>>> 0e48dae1775450bd15658bc46058e421235fda95
+use snow_wire::{View, nodes_of};
 use std::alloc::{AllocError, Global};
 use std::marker::Model;
 use std::mem;
@@ -157,7 +153,6 @@ impl<C: Chain, B: Board> Running<C, B> {
     {
         match event {
             View::Start(_) => Err(Halt::SecondStart),
-<<<<<<< HEAD
             View::Block(block) => {
                 self.on_block(frame, block, log)?;
                 self.round(log)
@@ -170,13 +165,7 @@ impl<C: Chain, B: Board> Running<C, B> {
                 self.on_timeout(timeout, log)?;
                 self.round(log)
             }
-            View::Words(words) => self.on_words(frame, &words_of(self.alloc, words)?, log),
-=======
-            View::Block(block) => self.on_block(frame, block, log),
-            View::Chits(vote) => self.on_chits(vote, log),
-            View::Timeout(timeout) => self.on_timeout(timeout, log),
             View::Words(words) => self.on_words(frame, words, log),
->>>>>>> 0e48dae1775450bd15658bc46058e421235fda95
             View::Validators(nodes) => {
                 self.on_validators(frame, &nodes_of(self.alloc, nodes)?, log)
             }
