@@ -1,8 +1,6 @@
-ghost use Rattle.std.specs.Prelude.{◌≡◌, ◌<◌, true, false, length};
-ghost use Rattle.snow_gets.specs.Model.Gets.{asked_in};
+ghost use Rattle.std.specs.Prelude.{◌≡◌, ◌<◌, true, length};
 ghost use Rattle.snow_boot.specs.Clauses.Calling.{AreDrawn};
-ghost use Rattle.snow_boot.specs.Model.Asking.{asked_node, asked_one, asked_with, asked};
-ghost use Rattle.snow_base.specs.Model.Numbers.{next_number};
+ghost use Rattle.snow_boot.specs.Model.Asking.{asked_node, asked_one, asked};
 ghost use Rattle.snow_boot.specs.Clauses.Requesting.{Asks};
 
 use crate::fetching::Fetching;
