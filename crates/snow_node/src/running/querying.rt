@@ -1,6 +1,5 @@
-ghost use Rattle.std.specs.Prelude.{◌≡◌, ◌<◌, [], length, true, Err};
-ghost use Rattle.snow_sample.specs.Model.Sampling.{sample_of, draw_count, AreOfDistinctNodes};
-ghost use Rattle.snow_node.specs.Model.Running.{numbered};
+ghost use Rattle.std.specs.Prelude.{◌≡◌, [], true, Err};
+ghost use Rattle.snow_sample.specs.Model.Sampling.{sample_of};
 ghost use Rattle.snow_node.specs.Model.Querying as model;
 ghost use Rattle.snow_node.specs.Clauses.Stepping.{Answers, Tells, Turns};
 
@@ -15,6 +14,7 @@ use snow_sample::{Draws, Roster, SampleFault, Words};
 
 impl<C: Chain, B: Board> Running<C, B> {
     /// Draws nodes and asks them for the preference, and returns whether it did.
+    #[tactic(auto, using(crate::proofs::Logs::logs_nothing))]
     pub(super) fn query(&mut self, log: &mut Lines) -> Result<bool, Halt>
         ensures answer { Answers result self.new (model.queried B.answer self.old).1 }
         ensures lines { Tells result log.old log.new (model.queried B.answer self.old).0 }
@@ -31,22 +31,11 @@ impl<C: Chain, B: Board> Running<C, B> {
             .roster
             .sample(self.params.k(), &mut self.words, &mut draws)
         {
-            Ok(()) => self.send(draws, log),
-            Err(SampleFault::TooFewUnits { .. }) => self.drop_query(QueryWhy::Units, log),
-            Err(SampleFault::WordsOut) => self.drop_query(QueryWhy::Words, log),
-            Err(SampleFault::Memory) => Err(Halt::Memory),
+            Ok(()) => {}
+            Err(SampleFault::TooFewUnits { .. }) => return self.drop_query(QueryWhy::Units, log),
+            Err(SampleFault::WordsOut) => return self.drop_query(QueryWhy::Words, log),
+            Err(SampleFault::Memory) => return Err(Halt::Memory),
         }
-    }
-
-    /// Sends the query to those drawn.
-    #[tactic(auto, using(crate::proofs::Logs::logs_nothing))]
-    fn send(&mut self, draws: Draws, log: &mut Lines) -> Result<bool, Halt>
-        requires room { length self.old.polls.polls < MOST_POLLS }
-        requires count { draw_count draws ≡ self.old.board.parameters.k }
-        requires nodes { AreOfDistinctNodes draws }
-        ensures answer { Answers result self.new (numbered self.old (model.sent B.answer draws)).1 }
-        ensures lines { Tells result log.old log.new (numbered self.old (model.sent B.answer draws)).0 }
-    {
         let Some(number) = self.numbers.draw() else {
             return Err(Halt::Requests);
         };
@@ -54,11 +43,8 @@ impl<C: Chain, B: Board> Running<C, B> {
         if let Err(_) = self.polls.begin(number, &draws) {
             return Err(Halt::Memory);
         }
-        log.push(Line::Query {
-            number,
-            id: self.board.preference(),
-            draws,
-        })?;
+        let id = self.board.preference();
+        log.push(Line::Query { number, id, draws })?;
         Ok(true)
     }
 
