@@ -142,14 +142,6 @@ ended_fit p polls votes first now half same =
     let e = get_or now k d in
     subst (λ l. IsFit p (polls + 1) (children_of l e.block.id) e.load) (sym same) (half.fit k e (omega arith) (slice_get-get_or now k d h))
 
--- what is so of all is so of what is seen at a place
-pub all_there : (P : Entry Kept → Type 0) (pending : List (Entry Kept)) (at : ℕ) → All P pending → IfSome (slice_get pending at) P
-all_there P pending at all = by (slice_get pending at) refl
-  where
-    by : (o : Option (Entry Kept)) → slice_get pending at ≡ o → IfSome o P
-    by None e = tt
-    by (Some x) e = one_of P pending at x all e
-
 -- what is known of something that is seen
 pub some_of : {X : Type 0} (o : Option X) (P : X → Type 0) (x : X) → o ≡ Some x → IfSome o P → P x
 some_of o P x e h = subst (λ o. IfSome o P) e h

@@ -2,6 +2,7 @@ pub mod Stamped
 pub mod Halfway
 pub mod Taken
 pub mod Climbs
+pub mod Passing
 pub mod Counted
 pub mod Steady
 pub mod Costing

@@ -28,11 +28,6 @@ left_alone p polls children kept votes good fit few = (
   record { past = omega (arith, fit.past); parameters = fit.parameters; ids = fit.ids },
 )
 
--- what is so of the entry there, where that follows from what is known of it
-pub if_some : (o : Option (Entry Kept)) (P Q : Entry Kept → Type 0) → ((e : Entry Kept) → (o ≡ Some e) × P e → Q e) → IfSome o P → IfSome o Q
-if_some None P Q step h = tt
-if_some (Some e) P Q step h = step e (refl, h)
-
 -- votes of at most K are so of the parameters of what fits
 pub at_most : (p : Parameters) (o : Option Conflict) (n : ℕ) → IfSome o (λ c. c.parameters ≡ p) → n ≤ p.k → IfSome o (λ c. n ≤ c.parameters.k)
 at_most p None n is h = tt

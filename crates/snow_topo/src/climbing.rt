@@ -8,9 +8,8 @@ ghost use Rattle.snow_topo.specs.Kept.Recording.{recording_in};
 ghost use Rattle.snow_topo.specs.Kept.View.{AllFit};
 
 use crate::load::Load;
-use crate::visiting::visit;
 use snow_base::{Bag, Steps};
-use snow_climb::Ladder;
+use snow_climb::{Ladder, gather, pass};
 use snow_flake::{Params, Rule};
 use snow_tree::Tree;
 use std::sync::ledger::Ledger;
@@ -42,8 +41,17 @@ pub(crate) fn climb<R: Rule, L: Ledger>(
     let mut top = ladder.top().min(tree.len());
     while top > 0 {
         let at = top - 1;
-        moved |= visit(params, tree, at, polls, ladder, children, steps);
+        let count = ladder.take(top);
+        pass(tree, at, count, ladder);
         top = ladder.top().min(at);
+        // Without a quorum the tree stays as it is, and its old number tells that it failed.
+        if count < params.alpha_preference() {
+            continue;
+        }
+        gather(tree, ladder, children);
+        if let Some(load) = tree.load_mut(at) {
+            moved |= load.record(polls, children.entries(), steps);
+        }
     }
     moved
 }

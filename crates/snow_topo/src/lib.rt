@@ -12,7 +12,6 @@ mod replaying;
 mod settling;
 mod spare;
 mod topo;
-mod visiting;
 mod winning;
 
 pub use replaying::replay_counted;
