@@ -202,14 +202,6 @@ impl Ladder {
         mark(&mut self.words, climber.place);
     }
 
-    /// Returns a rung on which nobody stands, nor on a higher one.
-    /// Rule: this project's own.
-    pub fn low(&self) -> usize
-        ensures { result ≡ (self.now).low }
-    {
-        self.low
-    }
-
     /// Returns a rung above which nobody stands.
     /// Rule: this project's own.
     pub fn top(&self) -> usize
