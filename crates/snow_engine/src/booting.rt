@@ -195,12 +195,7 @@ fn is_heard(event: &View<'_>) -> bool
 /// Takes an event that brings nothing to bootstrapping: words are kept, and most others are passed
 /// over.
 #[tactic(auto, using(snow_node::proofs::Logs::logs_nothing))]
-fn note(
-    kept: &mut Words,
-    frame: u64,
-    event: View<'_>,
-    log: &mut Lines,
-) -> Result<(), Halt>
+fn note(kept: &mut Words, frame: u64, event: View<'_>, log: &mut Lines) -> Result<(), Halt>
     ensures answer { Turns result kept.new (model.noted kept.old frame (as_event event.entry)).1 }
     ensures lines { Tells result log.old log.new (model.noted kept.old frame (as_event event.entry)).0 }
 {
