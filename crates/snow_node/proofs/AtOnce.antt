@@ -1,5 +1,7 @@
 -- What would be the first thing to do is done as it comes: a reply needn't be held, nor need a block wait.
-use Rattle.std.proofs.Common.{◌≡◌, ℕ, Bool, true, false, cond, not, ◌&&◌, List, append-nil, Option, Some, None, Result, Ok, Err, if◌then◌else◌, refl, sym, ap, ◌∙◌}
+use Rattle.std.proofs.Common.{◌≡◌, ℕ, Bool, true, false, cond, not, ◌&&◌, List, append-nil, Option, Some, None, is_some, Result, Ok, Err, if◌then◌else◌, refl, sym, ap, ap₂, ◌∙◌}
+use Rattle.std.proofs.lemmas.Bool.{true≢false}
+use Rattle.snow_base.specs.declared.block.Vote.{Vote}
 use Rattle.snow_flake.specs.Model.Rule.{Answer}
 use Rattle.snow_chain.specs.Model.Chain.{Rules}
 use Rattle.snow_lines.specs.declared.line.Line.{Line}
@@ -8,18 +10,18 @@ use Rattle.snow_issue.specs.declared.work.Waiting.{Waiting}
 use Rattle.snow_issue.specs.declared.work.Work.{Work}
 use Rattle.snow_issue.specs.declared.work.Work.TheVariants as work
 use Rattle.snow_poll.specs.declared.polls.Answered.TheVariants.{Counted, NotAwaited}
-use Rattle.snow_poll.specs.Model.Table.{Table, is_awaited, voted, answer as answer_of}
+use Rattle.snow_poll.specs.Model.Table.{Table, is_awaited, finished, voted, answer as answer_of}
 use Rattle.snow_issue.specs.Model.Lists.{Lists, after_held, with_waiting}
 use Rattle.snow_held.specs.Model.Replies.{holds_in}
-use Rattle.snow_issue.specs.Model.Settling.{work_of, after}
+use Rattle.snow_issue.specs.Model.Settling.{work_of, after, IsIdle}
 use Rattle.snow_issue.proofs.Idle.{first_to_do, counts, next_to_do, next_parts, next_waits}
 use Rattle.snow_node.specs.declared.stop.Halt.{Halt}
 use Rattle.snow_node.specs.Model.Outcome.{Comes, quietly, after_lines, going_on, then_comes, where_made}
 use Rattle.snow_node.specs.Model.Running.{Running}
-use Rattle.snow_node.specs.Model.Closing.{with_vote, closed_out, tallied}
+use Rattle.snow_node.specs.Model.Closing.{with_vote, front_closed, one_closed, running_polls, closed_out, tallied}
 use Rattle.snow_node.specs.Model.Settling.{placed, done, worked, carried_out, one_settled, left_to_do, settled}
 use Rattle.snow_node.specs.Model.Hearing.{IsFirst, IsNext, asked_by, waits_for, fetched_unknown, vote_held, vote_counts, vote_came, counted_if_awaited, given_up_on, taken_in, brought, block_brings}
-use Rattle.snow_node.proofs.Looping.{settling_falls}
+use Rattle.snow_node.proofs.Looping.{polls_fall, settling_falls}
 use Rattle.snow_node.proofs.Made.{one_then}
 
 -- the table of polls after a vote is that of the node after it
@@ -90,6 +92,32 @@ pub counted_first : (rules : Rules) (answer : Answer) (node after : Running) (nu
 counted_first rules answer node after number peer id vote first free e is =
     ap (λ (n : Running). then_comes (closed_out answer n) (settled rules answer)) is
     ∙ sym (came_at_once rules answer node number peer id vote first free ∙ was_counted rules answer node number peer vote e)
+
+-- no poll is closed where it is answered so
+pub open_front : {X : Type 0} (o : Option X) (b : Bool) → b ≡ is_some o → b ≡ false → o ≡ None
+open_front None b e none = refl
+open_front (Some x) b e none = absurd (true≢false (sym e ∙ none))
+
+-- where no poll is closed and nothing is to be done, nothing comes of both
+none_closed : (rules : Rules) (answer : Answer) (node : Running) → finished node.polls.parameters node.polls.polls ≡ None → IsIdle node.queue node.board
+    → then_comes (closed_out answer node) (settled rules answer) ≡ quietly node
+none_closed rules answer node none idle =
+    let stays : closed_out answer node ≡ quietly node =
+    one_then Running running_polls (one_closed answer) (polls_fall answer) node
+    ∙ ap (λ (o : Option (ℕ × List Vote)). then_comes (front_closed answer node o) (where_made (closed_out answer))) none in
+    let rests : settled rules answer node ≡ quietly node =
+    one_then Running left_to_do (one_settled rules answer) (settling_falls rules answer) node
+    ∙ ap (λ (o : Option Work). then_comes (worked rules answer node o) (where_made (settled rules answer))) idle in
+    ap (λ (c : Comes Running). then_comes c (settled rules answer)) stays ∙ rests
+
+-- so such a vote that closes no poll brings nothing but its count
+pub counted_alone : (rules : Rules) (answer : Answer) (node after : Running) (number : ℕ) (peer id : List ℕ) (vote : Option (List ℕ)) → IsFirst node id vote
+    → holds_in node.queue.held number peer ≡ false → Counted ≡ answer_of node.polls.polls number peer → after ≡ with_vote node number peer vote
+    → finished after.polls.parameters after.polls.polls ≡ None → quietly after ≡ vote_came rules answer node number peer id
+counted_alone rules answer node after number peer id vote first free e is none =
+    let queue : after.queue ≡ node.queue = ap (λ (n : Running). n.queue) is in
+    let board : after.board ≡ node.board = ap (λ (n : Running). n.board) is in
+    sym (none_closed rules answer after none (ap₂ (λ q b. work_of q b) queue board ∙ first.0)) ∙ counted_first rules answer node after number peer id vote first free e is
 
 -- a reply that is held was awaited, and none of its peer was held
 pub held_first : (rules : Rules) (answer : Answer) (node after : Running) (queue : Lists) (number : ℕ) (peer id : List ℕ) (is_new : Bool) → is_awaited node.polls.polls number peer ≡ true

@@ -208,8 +208,9 @@ impl Polls {
         self.take_front()
     }
 
-    // Whether the front poll is closed.
-    fn has_finished(&self) -> bool
+    /// Returns whether the front poll is closed, so that `take_finished` would take it out.
+    /// Rule: AvalancheGo, snow/consensus/snowman/poll.
+    pub fn has_finished(&self) -> bool
         ensures finished { result ≡ is_some (finished self.now.parameters self.now.polls) }
         ensures good { result ≡ true → AreGood self.now.parameters }
     {

@@ -180,6 +180,10 @@ impl<C: Chain, B: Board> Running<C, B> {
         match self.polls.vote(number, peer, vote) {
             Answered::NotAwaited => Ok(()),
             Answered::Counted => {
+                // Where no poll is closed, nothing is to be done, as before.
+                if !self.polls.has_finished() {
+                    return Ok(());
+                }
                 self.close_polls(log)?;
                 self.settle(log)
             }

@@ -1,14 +1,14 @@
 -- A vote that was counted was awaited, and nothing was to be done before it.
-use Rattle.std.proofs.Common.{◌≡◌, false, Err, ap, ◌∙◌, sym, subst, rules}
+use Rattle.std.proofs.Common.{◌≡◌, ◌++◌, append-nil, false, Err, ap, ◌∙◌, sym, subst, rules}
 use Rattle.std.proofs.lemmas.Result.{err_from_is_err_and}
 use Rattle.snow_held.specs.Model.Replies.{holds_in}
-use Rattle.snow_poll.specs.Model.Table.{answer}
+use Rattle.snow_poll.specs.Model.Table.{answer, finished}
 use Rattle.snow_issue.specs.Kept.Known.{lists_of}
 use Rattle.snow_node.specs.Model.Outcome.{Comes}
 use Rattle.snow_node.specs.Model.Running.{Running}
 use Rattle.snow_node.specs.Model.Settling.{settled}
 use Rattle.snow_node.specs.Clauses.Stepping.{HaltsAs, Tells, Turns}
-use Rattle.snow_node.proofs.AtOnce.{with_vote_is, counted_first}
+use Rattle.snow_node.proofs.AtOnce.{open_front, with_vote_is, counted_first, counted_alone}
 use Rattle.snow_node.proofs.Keeping.{kept_voted}
 use Rattle.snow_node.proofs.Sequel.{stop_first, lines_first, then_is, lines_then}
 use Rattle.snow_node.proofs.running.Running.count.Goals as goal
@@ -63,3 +63,29 @@ returns-in_ok-close_polls-in-Counted-clause-lines g c =
     (with_vote_is _ c.args.self.now c.vote.new.self c.args.number c.args.peer.now c.args.vote c.self.view_is c.in-Counted.ensures.table))
     (lines_then Running Running _ (settled g.C.Chain.rules g.B.Board.answer) (Unit {0}) c.settle.result c.close_polls.new.self
     c.args.log.now c.close_polls.new.log c.settle.new.log c.in_ok-close_polls-in-Counted.ensures.answer c.in_ok-close_polls-in-Counted.ensures.lines c.settle.ensures.lines)
+
+pub invariant_of-self-then-not-has_finished : goal.invariant_of-self-then-not-has_finished
+invariant_of-self-then-not-has_finished g c = (
+  kept_voted c.self.inside.params (g.B.Board.board c.self.inside.board) (g.C.Chain.held c.self.inside.chain) c.self.inside.polls (lists_of c.self.inside.queue) c.self.inside.numbers c.self.invariant.0 c.vote.new.self
+      c.args.number c.args.peer.now c.args.vote c.in-Counted.ensures.table,
+  c.self.invariant.1,
+  c.self.invariant.2,
+)
+
+pub returns-then-not-has_finished-clause-answer : goal.returns-then-not-has_finished-clause-answer
+returns-then-not-has_finished-clause-answer g c =
+    let free : holds_in c.args.self.now.queue.held c.args.number c.args.peer.now ≡ false = search rules in
+    sym (ap (λ (all : Comes Running). all.1)
+    (counted_alone g.C.Chain.rules g.B.Board.answer c.args.self.now _ c.args.number c.args.peer.now c.args.id.now c.args.vote c.requires free
+    (c.in-Counted.ensures.answer ∙ ap (λ (n : Running). answer n.polls.polls c.args.number c.args.peer.now) c.self.view_is)
+    (with_vote_is _ c.args.self.now c.vote.new.self c.args.number c.args.peer.now c.args.vote c.self.view_is c.in-Counted.ensures.table)
+    (open_front (finished c.vote.new.self.parameters c.vote.new.self.polls) c.has_finished.result c.has_finished.ensures.finished c.if-not-has_finished.true)))
+
+pub returns-then-not-has_finished-clause-lines : goal.returns-then-not-has_finished-clause-lines
+returns-then-not-has_finished-clause-lines g c =
+    let free : holds_in c.args.self.now.queue.held c.args.number c.args.peer.now ≡ false = search rules in
+    sym (append-nil c.args.log.now) ∙ ap (λ (all : Comes Running). c.args.log.now ++ all.0)
+    (counted_alone g.C.Chain.rules g.B.Board.answer c.args.self.now _ c.args.number c.args.peer.now c.args.id.now c.args.vote c.requires free
+    (c.in-Counted.ensures.answer ∙ ap (λ (n : Running). answer n.polls.polls c.args.number c.args.peer.now) c.self.view_is)
+    (with_vote_is _ c.args.self.now c.vote.new.self c.args.number c.args.peer.now c.args.vote c.self.view_is c.in-Counted.ensures.table)
+    (open_front (finished c.vote.new.self.parameters c.vote.new.self.polls) c.has_finished.result c.has_finished.ensures.finished c.if-not-has_finished.true))
