@@ -1,6 +1,7 @@
 //! Weighted sampling of nodes without replacement, by random words that are given.
 #![tactic(auto)]
 
+mod dividing;
 mod draws;
 mod fresh;
 mod guide;

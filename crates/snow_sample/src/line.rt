@@ -3,6 +3,7 @@ ghost use Rattle.std.specs.Option.{option_map};
 ghost use Rattle.snow_base.specs.declared.limits.TheConstants.{MOST_WORDS};
 ghost use Rattle.snow_sample.specs.Model.Words.{choice, reduced, spelled, IsRest};
 
+use crate::dividing::remainder;
 use byteorder::{BigEndian, ByteOrder};
 use std::alloc::{AllocError, Global};
 use std::marker::Model;
@@ -93,8 +94,9 @@ impl Line {
 
     // A number from 0 to `n` by the words at the front, which are taken out. There is none where a
     // word past the last is asked for; no word is left then. Where `n + 1` is a power of two no word
-    // is passed over, and the remainder is the bits that `n` has.
-    pub(crate) fn choose(&mut self, n: u64) -> Option<u64>
+    // is passed over, and the remainder is the bits that `n` has. `inverse` is 2^64 over `n + 1`: by any
+    // other number it takes longer.
+    pub(crate) fn choose(&mut self, n: u64, inverse: u64) -> Option<u64>
         requires { n + 1 < 2 ^ 63 }
         ensures chosen { choice n self.old ≡ option_map (λ r. (r, self.new)) result }
         ensures out { IfNone result (self.new ≡ []) }
@@ -102,13 +104,13 @@ impl Line {
         ensures rest { IsRest self.old self.new }
         ensures fewer { IfSome result (λ r. length self.new < length self.old) }
     {
-        reduce(self.words.as_slice(), &mut self.taken, n)
+        reduce(self.words.as_slice(), &mut self.taken, n, inverse)
     }
 }
 
 // The low 63 bits of the first word from a place on that isn't passed over, modulo `n + 1`. The
 // place is then behind that word, or behind all.
-fn reduce(words: &[u64], at: &mut usize, n: u64) -> Option<u64>
+fn reduce(words: &[u64], at: &mut usize, n: u64, inverse: u64) -> Option<u64>
     requires few { n + 1 < 2 ^ 63 }
     requires begins { at.old ≤ length words.now }
     ensures reduced { reduced n (drop at.old words.now) ≡ option_map (λ r. (r, drop at.new words.now)) result }
@@ -121,7 +123,7 @@ fn reduce(words: &[u64], at: &mut usize, n: u64) -> Option<u64>
     while *at < words.len() {
         let value = words[*at] & LOW_BITS;
         *at += 1;
-        let r = value % (n + 1);
+        let r = remainder(value, n + 1, inverse);
         // A value is good where all values with its quotient are below 2^63.
         if value - r <= LOW_BITS - n {
             return Some(r);

@@ -1,3 +1,4 @@
+use crate::dividing::Inverses;
 use crate::places::Places;
 use crate::shuffle::Shuffle;
 use std::alloc::Global;
@@ -7,6 +8,7 @@ use std::alloc::Global;
 pub(crate) struct Room {
     pub(crate) shuffle: Shuffle,
     pub(crate) places: Places,
+    pub(crate) inverses: Inverses,
 }
 
 impl Room {
@@ -15,6 +17,7 @@ impl Room {
         Room {
             shuffle: Shuffle::new(alloc),
             places: Places::new(alloc),
+            inverses: Inverses::new(alloc),
         }
     }
 }

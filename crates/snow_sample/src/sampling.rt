@@ -69,6 +69,7 @@ impl Roster {
 pub(crate) fn draw_one(
     roster: &Roster,
     words: &mut Line,
+    inverse: u64,
     out: &mut Draws,
 ) -> Result<(), SampleFault>
     requires enough { 1 ≤ total_weight roster.now }
@@ -78,7 +79,7 @@ pub(crate) fn draw_one(
     ensures counts { OnOk result (draw_count out.new ≡ 1) }
     ensures nodes { OnOk result (AreOfDistinctNodes out.new) }
 {
-    let Some(unit) = words.choose(roster.total() - 1) else {
+    let Some(unit) = words.choose(roster.total() - 1, inverse) else {
         return Err(SampleFault::WordsOut);
     };
     let at = roster.place(unit);

@@ -90,20 +90,22 @@ impl Words {
         ensures counts { OnOk result (draw_count out.new ≡ k) }
         ensures nodes { OnOk result (AreOfDistinctNodes out.new) }
     {
+        let total = roster.total();
+        self.room.inverses.begin(u64::from(k), total)?;
         if k == 1 {
-            return draw_one(roster, &mut self.line, out);
+            let inverse = self.room.inverses.at(0);
+            return draw_one(roster, &mut self.line, inverse, out);
         }
         let draws = k as usize;
         if self.line.len() < draws {
             self.line.clear();
             return Err(SampleFault::WordsOut);
         }
-        let total = roster.total();
         out.reserve(draws.min(roster.nodes().len()))?;
         self.room.shuffle.begin(draws, total)?;
         self.room.places.begin(roster)?;
         for j in 0..u64::from(k) {
-            let Some(r) = self.line.choose(total - 1 - j) else {
+            let Some(r) = self.line.choose(total - 1 - j, self.room.inverses.at(j)) else {
                 return Err(SampleFault::WordsOut);
             };
             let unit = self.room.shuffle.exchange(j, r)?;

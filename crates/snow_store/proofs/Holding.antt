@@ -35,6 +35,13 @@ pub held_later : (kept : List KeptBlock) (c : KeptBlock) (h : ℕ) → (c.header
 unfolding held
 held_later kept c h other = rw other refl
 
+-- the block at its height stays that, where one more comes at another height
+pub held_deeper : (kept : List KeptBlock) (c b : KeptBlock) → AreApart (c ∷ kept) → held kept b.header.height ≡ Some b → held (c ∷ kept) b.header.height ≡ Some b
+held_deeper kept c b apart h =
+    split_on (c.header.height == b.header.height)
+    (λ same. none_not b (sym apart.0 ∙ ap (held kept) (eqb-true c.header.height b.header.height same) ∙ h))
+    (λ other. held_later kept c b.header.height other ∙ h)
+
 -- the higher of two is one of them
 higher_cases : (c : KeptBlock) (rest : Option KeptBlock) (b : KeptBlock) → Some (higher c rest) ≡ Some b → (c ≡ b) ⊎ (rest ≡ Some b)
 higher_cases c None b e = inl (same_some c b e)
@@ -55,13 +62,6 @@ highest_held (c ∷ kept) id b apart e =
     let made : Some (higher c (highest kept id)) ≡ Some b = rw same at e in
     elim (higher_cases c (highest kept id) b made) [
       | inl is ↦ (subst (λ x. held (c ∷ kept) x.header.height ≡ Some x) is (held_first kept c), ap (λ (x : KeptBlock). x.header.id) (sym is) ∙ same_id c.header.id id same)
-      | inr later ↦ deeper kept c id b apart (highest_held kept id b apart.1 later)
+      | inr later ↦ let h = highest_held kept id b apart.1 later in (held_deeper kept c b apart h.0, h.1)
     ])
-    (λ other. deeper kept c id b apart (highest_held kept id b apart.1 (rw other at e)))
-  where
-    deeper : (kept : List KeptBlock) (c : KeptBlock) (id : List ℕ) (b : KeptBlock) → AreApart (c ∷ kept) → (held kept b.header.height ≡ Some b) × (b.header.id ≡ id)
-        → (held (c ∷ kept) b.header.height ≡ Some b) × (b.header.id ≡ id)
-    deeper kept c id b apart h =
-        split_on (c.header.height == b.header.height)
-        (λ same. none_not b (sym apart.0 ∙ ap (held kept) (eqb-true c.header.height b.header.height same) ∙ h.0))
-        (λ other. (held_later kept c b.header.height other ∙ h.0, h.1))
+    (λ other. let h = highest_held kept id b apart.1 (rw other at e) in (held_deeper kept c b apart h.0, h.1))

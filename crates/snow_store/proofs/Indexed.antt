@@ -1,17 +1,20 @@
 -- The indexes of the kept blocks, with one block more.
-use Rattle.std.proofs.Common.{◌≡◌, ℕ, zero, suc, ◌<◌, Bool, true, false, ◌==◌, cond, List, [], ◌∷◌, ◌++◌, length, reverse, Option, Some, None, bytes_eq, nat_lt, if◌then◌else◌, inl, inr, refl, sym, ap, ◌∙◌, arith, ⊎_elim}
+use Rattle.std.proofs.Common.{◌≡◌, ℕ, zero, suc, ◌<◌, Bool, true, false, ◌==◌, cond, List, [], ◌∷◌, ◌++◌, length, reverse, Option, Some, None, bytes_eq, nat_lt, if◌then◌else◌, inl, inr, refl, sym, ap, ◌∙◌, arith, subst, ⊎_elim}
 use Rattle.std.specs.BTreeMap.{BTreeMap, get, is_at}
 use Rattle.std.specs.List.{slice_get}
 use Rattle.std.specs.Option.{option_map}
 use Rattle.std.specs.Ordering.{nat_cmp, is_eq}
-use Rattle.std.proofs.lemmas.Bool.{eq-eqb, ne_eqb, lt-ltb, le-ltb, cases_order}
-use Rattle.std.proofs.lemmas.List.{length-reverse, reverse-append}
+use Rattle.std.proofs.lemmas.Bool.{eq-eqb, ne_eqb, lt-ltb, le-ltb, cases_lt, cases_order}
+use Rattle.std.proofs.lemmas.List.{length-append, length-reverse, reverse-append}
+use Rattle.std.proofs.lemmas.Option.{slice_get_within}
 use Rattle.snow_map.specs.Clauses.Entries.{value_of, HasAt}
 use Rattle.snow_store.specs.declared.store.KeptBlock.{KeptBlock}
 use Rattle.snow_store.specs.declared.index.Links.{Links}
 use Rattle.snow_store.specs.Model.Keeping.{held, highest, higher}
 use Rattle.snow_store.specs.Kept.Indexing.{place_of, top_of, higher_height, with_child, children_of, links_of, with_top, adopting, links_or_none, links_at, HasPlaces, HasLinks}
-use Rattle.snow_store.proofs.Cases.{same_id, none_not, picked, passed}
+use Rattle.snow_store.specs.Laws.Linking.{AreApart}
+use Rattle.snow_store.proofs.Cases.{same_id, same_some, none_not, picked, passed}
+use Rattle.snow_store.proofs.Holding.{held_first, held_deeper}
 
 -- whichever of two numbers is compared to the other
 pub turned : (a b : ℕ) → (a == b) ≡ (b == a)
@@ -76,6 +79,20 @@ at_place (b ∷ kept) h p e =
           let rest = at_place kept h p q.1 in
           let within : p < length (reverse kept) = omega (arith, rest.0, length-reverse kept) in
           (omega (arith, rest.0), ap (λ l. slice_get l p) (reverse-append (b ∷ []) kept) ∙ get_front (reverse kept) b p within ∙ rest.1 ∙ rw q.0 refl)
+    ]
+
+-- the block at a place is the one at its height
+pub held_there : (kept : List KeptBlock) (p : ℕ) (b : KeptBlock) → AreApart kept → slice_get (reverse kept) p ≡ Some b → held kept b.header.height ≡ Some b
+held_there [] p b apart e = none_not b e
+held_there (c ∷ kept) p b apart e =
+    let there : slice_get (reverse kept ++ c ∷ []) p ≡ Some b = ap (λ l. slice_get l p) (sym (reverse-append (c ∷ []) kept)) ∙ e in
+    elim (cases_lt p (length (reverse kept))) [
+      | inl before ↦ held_deeper kept c b apart (held_there kept p b apart.1 (sym (get_front (reverse kept) c p before) ∙ there))
+      | inr behind ↦
+          let within : p < length (reverse kept ++ c ∷ []) = slice_get_within (reverse kept ++ c ∷ []) p b there in
+          let is : p ≡ length (reverse kept) = omega (arith, behind, within, length-append (reverse kept) (c ∷ [])) in
+          let same : c ≡ b = same_some c b (sym (get_last (reverse kept) c) ∙ ap (slice_get (reverse kept ++ c ∷ [])) (sym is) ∙ there) in
+          subst (λ (x : KeptBlock). held (c ∷ kept) x.header.height ≡ Some x) same (held_first kept c)
     ]
 
 -- ---- by identifier

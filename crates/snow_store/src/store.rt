@@ -1,4 +1,4 @@
-ghost use Rattle.std.specs.Prelude.{◌≡◌, ℕ, ◌+◌, ◌-◌, ◌<◌, List, true, [], Some, None, IfOk, if◌then◌else◌};
+ghost use Rattle.std.specs.Prelude.{◌≡◌, ℕ, ◌+◌, ◌-◌, ◌<◌, List, true, [], Some, None, IfOk, IfSome, if◌then◌else◌};
 ghost use Rattle.std.specs.List.{slice_get};
 ghost use Rattle.std.specs.Option.{option_copied};
 ghost use Rattle.snow_store.specs.Model.Keeping.{held, highest, stray, child_stop, fork_stop, below_stop, above_stop, misplaced, placed_there, placed, taken, after_taking, Answers};
@@ -108,6 +108,36 @@ impl<H: Kept> Store<H> {
         requires { self.now.whole ≡ true }
         ensures { option_copied result ≡ held self.now.store.kept height }
     {
+        match self.in_run(height) {
+            Some(block) => Some(block),
+            None => self.look_up(height),
+        }
+    }
+
+    /// Returns the kept block at a height, where it came so many blocks before the last one as it
+    /// is higher. Most blocks come so, each right below the one before.
+    fn in_run(&self, height: u64) -> Option<&KeptBlock>
+        requires { self.now.whole ≡ true }
+        ensures { IfSome (option_copied result) (λ block. held self.now.store.kept height ≡ Some block) }
+    {
+        let last = self.kept.last()?;
+        let higher = height.checked_sub(last.header.height)?;
+        let place = (self.kept.len() as u64 - 1).checked_sub(higher)?;
+        let block = item_at(self.kept.as_slice(), place as usize)?;
+        if block.header.height != height {
+            return None;
+        }
+        Some(block)
+    }
+
+    /// Returns the kept block at a height, by its place. It searches no place where none is kept.
+    fn look_up(&self, height: u64) -> Option<&KeptBlock>
+        requires { self.now.whole ≡ true }
+        ensures { option_copied result ≡ held self.now.store.kept height }
+    {
+        if !self.heights.contains(height) {
+            return None;
+        }
         match self.places.get(&height) {
             Some(place) => item_at(self.kept.as_slice(), *place),
             None => None,

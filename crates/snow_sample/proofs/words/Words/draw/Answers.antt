@@ -10,19 +10,24 @@ pub returns-then-len-draws-clause-fault : goal.returns-then-len-draws-clause-fau
 returns-then-len-draws-clause-fault c =
     rw (← c.self.view_is) (short_fails c.args.roster.now c.args.k c.self.inside.line (omega (arith, c.len.ensures.len, c.if-len-draws.true)) c.requires.enough, c.clear.ensures)
 
-pub returns-in_err-reserve-clause-fault : goal.returns-in_err-reserve-clause-fault
-returns-in_err-reserve-clause-fault c =
-    let fault = err_from_is_err_and c.from_residual.result c.from_residual.ensures.1 in
-    rw (fault.1, fault.2) (rest_whole c.args.self.now)
-
 pub returns-in_err-begin-clause-fault : goal.returns-in_err-begin-clause-fault
 returns-in_err-begin-clause-fault c =
-    let fault = err_from_is_err_and c.from_residual-in_err-begin.result c.from_residual-in_err-begin.ensures.1 in
+    let fault = err_from_is_err_and c.from_residual.result c.from_residual.ensures.1 in
+    rw (← c.self.view_is, fault.1, fault.2) (rest_whole c.self.inside.line)
+
+pub returns-in_err-reserve-clause-fault : goal.returns-in_err-reserve-clause-fault
+returns-in_err-reserve-clause-fault c =
+    let fault = err_from_is_err_and c.from_residual-in_err-reserve.result c.from_residual-in_err-reserve.ensures.1 in
     rw (← c.self.view_is, fault.1, fault.2) (rest_whole c.self.inside.line)
 
 pub returns-in_err-begin-2-clause-fault : goal.returns-in_err-begin-2-clause-fault
 returns-in_err-begin-2-clause-fault c =
     let fault = err_from_is_err_and c.from_residual-in_err-begin-2.result c.from_residual-in_err-begin-2.ensures.1 in
+    rw (← c.self.view_is, fault.1, fault.2) (rest_whole c.self.inside.line)
+
+pub returns-in_err-begin-3-clause-fault : goal.returns-in_err-begin-3-clause-fault
+returns-in_err-begin-3-clause-fault c =
+    let fault = err_from_is_err_and c.from_residual-in_err-begin-3.result c.from_residual-in_err-begin-3.ensures.1 in
     rw (← c.self.view_is, fault.1, fault.2) (rest_whole c.self.inside.line)
 
 pub returns-in_default-clause-fault : goal.returns-in_default-clause-fault

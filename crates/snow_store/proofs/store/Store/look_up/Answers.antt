@@ -5,7 +5,7 @@ use Rattle.std.proofs.lemmas.List.{reverse-reverse}
 use Rattle.snow_store.specs.Kept.Indexing.{Shelf}
 use Rattle.snow_store.specs.Model.Keeping.{held}
 use Rattle.snow_store.proofs.Indexed.{no_place, at_place}
-use Rattle.snow_store.proofs.store.Store.at.Goals as goal
+use Rattle.snow_store.proofs.store.Store.look_up.Goals as goal
 
 pub returns-in-Some : goal.returns-in-Some
 returns-in-Some g c =
