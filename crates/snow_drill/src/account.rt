@@ -10,11 +10,8 @@ use crate::tally::Tally;
 use sha2::{Digest, Sha256};
 use snow_base::Bytes;
 use snow_lines::Line;
-use snow_page::print_all;
+use snow_page::Page;
 use std::alloc::{AllocError, Global};
-
-/// So many bytes of text are digested at once.
-const ENOUGH: usize = 32_768;
 
 /// What a drill keeps of its lines, and their digest as they come.
 /// Rule: this project's own.
@@ -24,24 +21,28 @@ pub struct Account {
     pub hasher: Sha256,
     /// The end of the text, which waits to be digested. So the lines of many events are digested at
     /// once.
+    pub page: Page,
+    /// Where a full page goes, to be digested at once.
     pub scratch: Scratch,
 }
 
 impl Account {
-    /// Returns the account before the first line. It takes no memory.
+    /// Returns the account before the first line. On want of memory it returns `AllocError`.
     /// Rule: this project's own.
-    pub fn new(alloc: Global) -> Self
-        ensures told { result.tally ≡ untold }
-        ensures digest { Digests result [] }
+    pub fn new(alloc: Global) -> Result<Self, AllocError>
+        ensures told { IfOk result (λ account. account.tally ≡ untold) }
+        ensures digest { IfOk result (λ account. Digests account []) }
     {
-        Account {
+        let page = Page::new(alloc)?;
+        Ok(Account {
             tally: Tally::new(alloc),
             hasher: Sha256::new(),
+            page,
             scratch: Scratch {
                 bytes: Bytes::new(alloc),
                 faults: 0,
             },
-        }
+        })
     }
 
     /// Counts and digests lines that were written. On want of memory it returns `AllocError`.
@@ -50,17 +51,25 @@ impl Account {
         ensures told { OnOk result (self.new.tally ≡ fold noted self.old.tally lines.now) }
         ensures digest { OnOk result ((past : List told.Line) → Digests self.old past → Digests self.new (past ++ lines.now)) }
     {
-        digest(&mut self.hasher, &mut self.scratch, lines)?;
+        if self.page.print_all(lines, &mut self.scratch).is_err() {
+            return Err(AllocError);
+        }
+        take_in(&mut self.hasher, &mut self.scratch);
         note_each(&mut self.tally, lines)
     }
 
-    /// Digests what waits, as no more lines come. The tally stays.
+    /// Digests what waits, as no more lines come. The tally stays. On want of memory it returns
+    /// `AllocError`.
     /// Rule: this project's own.
-    pub fn finish(&mut self)
+    pub fn finish(&mut self) -> Result<(), AllocError>
         ensures told { self.new.tally ≡ self.old.tally }
-        ensures digest { (lines : List told.Line) → Digests self.old lines → Holds256 self.new.hasher (texts lines) }
+        ensures digest { OnOk result ((lines : List told.Line) → Digests self.old lines → Holds256 self.new.hasher (texts lines)) }
     {
+        if self.page.flush(&mut self.scratch).is_err() {
+            return Err(AllocError);
+        }
         take_in(&mut self.hasher, &mut self.scratch);
+        Ok(())
     }
 }
 
@@ -74,25 +83,14 @@ fn note_each(tally: &mut Tally, lines: &[Line]) -> Result<(), AllocError>
     Ok(())
 }
 
-// Appends the text of lines to what waits to be digested, and digests it once it is enough.
-fn digest(hasher: &mut Sha256, scratch: &mut Scratch, lines: &[Line]) -> Result<(), AllocError>
-    ensures { OnOk result ((past : List told.Line)
-        → DigestsBut hasher.old scratch.old.bytes (texts past) → DigestsBut hasher.new scratch.new.bytes (texts (past ++ lines.now))) }
-{
-    if print_all(lines, scratch).is_err() {
-        return Err(AllocError);
-    }
-    if scratch.bytes.list().len() >= ENOUGH {
-        take_in(hasher, scratch);
-    }
-    Ok(())
-}
-
-// Digests what waits.
+// Digests a page that was full, if one was.
 fn take_in(hasher: &mut Sha256, scratch: &mut Scratch)
     ensures digest { (past : List ℕ) → Holds256 hasher.old past → Holds256 hasher.new (past ++ scratch.old.bytes) }
     ensures empty { scratch.new.bytes ≡ [] }
 {
+    if scratch.bytes.list().is_empty() {
+        return;
+    }
     hasher.update(scratch.bytes.list());
     scratch.bytes.clear();
 }

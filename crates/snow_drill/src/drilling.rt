@@ -120,7 +120,7 @@ fn opened(alloc: Global, log: &mut Lines) -> Result<Account, AllocError>
     ensures told { IfOk result (λ account. account.tally ≡ fold noted untold log.old) }
     ensures digest { IfOk result (λ account. Digests account log.old) }
 {
-    let mut account = Account::new(alloc);
+    let mut account = Account::new(alloc)?;
     match account.keep(log.list()) {
         Ok(()) => Ok(account),
         Err(fault) => {

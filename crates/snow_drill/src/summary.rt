@@ -19,8 +19,13 @@ pub fn summary(alloc: Global, blocks: u32, mut account: Account) -> Result<Bytes
     ensures { (lines : List told.Line) → Digests account lines
         → IfOk result (λ text. text ≡ summary_of blocks account.tally (sha256 (texts lines))) }
 {
-    account.finish();
-    finished(alloc, blocks, account)
+    match account.finish() {
+        Ok(()) => finished(alloc, blocks, account),
+        Err(fault) => {
+            drop(account);
+            Err(fault)
+        }
+    }
 }
 
 // The six lines, where all was digested.
