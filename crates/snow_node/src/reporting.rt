@@ -43,7 +43,11 @@ pub fn tell<B: Board>(board: &B, before: &Id, log: &mut Lines) -> Result<(), All
         ++ model.preference_line before.now (preferred B.answer (B.board board.now)))) }
 {
     tell_decisions(board.decisions(), log)?;
-    tell_preference(before, &board.preference(), log)
+    let id = board.preference();
+    if *before == id {
+        return Ok(());
+    }
+    log.push(Line::Prefer { id })
 }
 
 /// Appends a line for each decision.
@@ -56,18 +60,6 @@ fn tell_decisions(decisions: &[Decision], log: &mut Lines) -> Result<(), AllocEr
         log.push(line_of(decision))?;
     }
     Ok(())
-}
-
-/// Appends a line where the preference changed.
-#[tactic(auto, using(crate::proofs::Logs::logging))]
-fn tell_preference(before: &Id, after: &Id, log: &mut Lines) -> Result<(), AllocError>
-    ensures ok { OnOk result (log.new ≡ log.old ++ model.preference_line before.now after.now) }
-    ensures err { OnErr result (LogsFront log.old log.new (model.preference_line before.now after.now)) }
-{
-    if before == after {
-        return Ok(());
-    }
-    log.push(Line::Prefer { id: *after })
 }
 
 /// Returns the line of a decision.
