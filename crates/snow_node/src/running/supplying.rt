@@ -1,5 +1,4 @@
-ghost use Rattle.std.specs.Prelude.{◌≡◌, [], IfOk, OnOk, OnErr};
-ghost use Rattle.snow_board.specs.Model.Board.{issued};
+ghost use Rattle.std.specs.Prelude.{◌≡◌, IfOk, OnErr};
 ghost use Rattle.snow_board.specs.Laws.Reached.{MayIssue};
 ghost use Rattle.snow_chain.specs.Model.Chain.{next_on};
 ghost use Rattle.snow_node.specs.Clauses.Matching.{IsSteady, Admits};
@@ -13,10 +12,10 @@ use snow_getter::Getter;
 use snow_issue::SpareBytes;
 use std::alloc::AllocError;
 
-/// Issues a block, if it is valid, then serves it, and returns whether it did. On want of memory
-/// all stays as it was: it takes the state of a valid block back out of the chain where there is no
-/// room for the block.
-#[tactic(auto, using(crate::proofs::Offers::may_take_back))]
+/// Issues a block, if it is valid, and serves it, and returns whether it did. On want of memory all
+/// stays as it was: where there is no room for a valid block, it takes the block's state back out
+/// of the chain, and the block back out of what is served.
+#[tactic(auto, using(crate::proofs::Offers::may_take_back, crate::proofs::Supplying::new_to_serve))]
 pub(super) fn verify_and_issue<C: Chain, B: Board>(
     board: &mut B,
     chain: &mut C,
@@ -39,36 +38,16 @@ pub(super) fn verify_and_issue<C: Chain, B: Board>(
     if !chain.verify(&block.parent, &block.id, bytes.list())? {
         return Ok(false);
     }
-    if let Err(error) = issue_and_serve(board, served, block, bytes) {
+    if let Err(error) = served.issued(block.id, block.parent, bytes) {
+        chain.reject(&block.id);
+        return Err(error);
+    }
+    if let Err(error) = board.issue(block.id, block.parent, block.height) {
+        let _taken_back = served.rejected(&block.id);
         chain.reject(&block.id);
         return Err(error);
     }
     Ok(true)
-}
-
-/// Puts a block on the board, and serves it. On want of memory all stays as it was.
-#[tactic(auto, using(crate::proofs::Supplying::new_to_serve))]
-fn issue_and_serve<B: Board>(
-    board: &mut B,
-    served: &mut Getter,
-    block: &Header,
-    bytes: Bytes,
-) -> Result<(), AllocError>
-    requires may { MayIssue (B.board board.old) block.now }
-    requires serves { Serves (B.board board.old) served.old }
-    ensures board { OnOk result (B.board board.new ≡ issued (B.board board.old) block.now) }
-    ensures decided { OnOk result (B.decided board.new ≡ []) }
-    ensures served { OnOk result (served.new ≡ model.with_issued served.old block.now bytes) }
-    ensures board_stays { OnErr result (B.board board.new ≡ B.board board.old) }
-    ensures unserved { OnErr result (served.new ≡ served.old) }
-    ensures serves { Serves (B.board board.new) served.new }
-{
-    served.issued(block.id, block.parent, bytes)?;
-    if let Err(error) = board.issue(block.id, block.parent, block.height) {
-        let _taken_back = served.rejected(&block.id);
-        return Err(error);
-    }
-    Ok(())
 }
 
 /// Makes what peers are served follow the decisions. It keeps the room of bytes that aren't served
