@@ -1,31 +1,33 @@
 -- A block that was issued: what ties the node is kept, and its lines are told.
-use Rattle.std.proofs.Common.{◌≡◌, ℕ, Bool, true, false, List, [], ◌++◌, map, Option, Some, None, Result, refl, ap, ◌∙◌, subst}
+use Rattle.std.proofs.Common.{◌≡◌, ℕ, Bool, true, false, cond, List, [], ◌++◌, append-nil, map, Option, Some, None, Ok, Err, refl, sym, ap, ◌∙◌, subst}
 use Rattle.snow_base.specs.declared.block.Header.{Header}
 use Rattle.snow_flake.specs.Model.Parameters.{Parameters}
 use Rattle.snow_flake.specs.Model.Rule.{Answer}
 use Rattle.snow_board.specs.declared.board.Decision.{Decision}
 use Rattle.snow_board.specs.Model.Board.{Board, issued}
-use Rattle.snow_board.specs.Model.Preference.{preferred}
+use Rattle.snow_board.specs.Model.Preference.{preferred, is_preferred}
 use Rattle.snow_chain.specs.Model.Chain.{Held, with_state}
 use Rattle.snow_lines.specs.declared.line.Line.{Line}
+use Rattle.snow_lines.specs.declared.why.DropWhy.{DropWhy}
 use Rattle.snow_poll.specs.Model.Table.{Table}
 use Rattle.snow_getter.specs.Model.Serving.{Serving}
-use Rattle.snow_issue.specs.Kept.Known.{Seen}
-use Rattle.snow_issue.specs.Model.Lists.{Lists}
+use Rattle.snow_issue.specs.Kept.Known.{Seen, lists_of}
 use Rattle.snow_node.specs.declared.stop.Halt.{Halt}
 use Rattle.snow_node.specs.Kept.Tied.{IsApart, IsKept}
 use Rattle.snow_node.specs.Clauses.Matching.{IsSteady, Admits}
 use Rattle.snow_node.specs.declared.running.queue_state.QueueState.{QueueState}
 use Rattle.snow_node.specs.Kept.QueueState.{IsInState, when_issued}
+use Rattle.snow_node.specs.Model.Outcome.{Comes, quietly, after_lines, then_comes}
 use Rattle.snow_node.specs.Model.Running.{Running}
-use Rattle.snow_node.specs.Model.Settling.{issued_by, asked_on_the_way}
-use Rattle.snow_node.specs.Clauses.Stepping.{Tells, LogsFront}
+use Rattle.snow_node.specs.Model.Querying.{queried}
+use Rattle.snow_node.specs.Model.Settling.{placed_by, asked_on_the_way}
+use Rattle.snow_node.specs.Clauses.Stepping.{Tells, LogsFront, HaltsAs}
 use Rattle.snow_node.specs.Model.Supplying.{with_issued, if_issued}
 use Rattle.snow_node.specs.Model.Telling.{decision_line, preference_line}
 use Rattle.snow_node.proofs.Keeping.{kept_issued}
 use Rattle.snow_node.proofs.QueueState.{kept_at_issue}
 use Rattle.snow_node.proofs.Logs.{logs_front_of_more}
-use Rattle.snow_node.proofs.Sequel.{logs_behind}
+use Rattle.snow_node.proofs.Sequel.{lines_first, lines_then, logs_behind}
 
 -- a block that was admitted has a state
 record HasState (board : Board) (held : Held) (board_now : Board) (held_now : Held) (decisions : List Decision) (block : Header) (o : Option (List ℕ)) : Type 0 where
@@ -42,55 +44,63 @@ admitted true board held board_now held_now decisions block (Some state) v a =
 admitted true board held board_now held_now decisions block None v a = absurd a
 admitted false board held board_now held_now decisions block o v a = absurd cc
 
-module _ (p : Parameters) (board : Board) (held : Held) (table : Table) (queue : Lists) (last : ℕ) (kept : IsKept p board held table queue last) where
-  pub kept_admitted : (valid : Bool) (board_now : Board) (held_now : Held) (decisions : List Decision) (block : Header) (o : Option (List ℕ))
-      → valid ≡ true → Admits valid board held board_now held_now decisions block o → IsSteady board_now held_now → IsApart board queue.waiting block.id
-      → IsKept p board_now held_now table queue last
-  kept_admitted valid board_now held_now decisions block o v a steady apart =
-      let has = admitted valid board held board_now held_now decisions block o v a in
-      kept_issued p board held table queue last kept board_now held_now block has.state steady has.board_is has.held_is apart
+-- what ties the node, and what is known of the queue's memory
+pub kept_admitted : (p : Parameters) (board : Board) (held : Held) (table : Table) (seen : Seen) (last : ℕ) (k : QueueState) → IsKept p board held table (lists_of seen) last → IsInState board seen k
+    → (valid : Bool) (board_now : Board) (held_now : Held) (decisions : List Decision) (block : Header) (o : Option (List ℕ))
+    → valid ≡ true → Admits valid board held board_now held_now decisions block o → IsSteady board_now held_now → IsApart board (lists_of seen).waiting block.id
+    → IsKept p board_now held_now table (lists_of seen) last × IsInState board_now seen (when_issued k block.id)
+kept_admitted p board held table seen last k kept state valid board_now held_now decisions block o v a steady apart =
+    let has = admitted valid board held board_now held_now decisions block o v a in (
+      kept_issued p board held table (lists_of seen) last kept board_now held_now block has.state steady has.board_is has.held_is apart,
+      kept_at_issue board board_now seen k block has.board_is state,
+    )
 
--- what is known of the queue's memory
-pub in_state_admitted : (board : Board) (held : Held) (seen : Seen) (k : QueueState) (valid : Bool) (board_now : Board) (held_now : Held) (decisions : List Decision) (block : Header)
-    (o : Option (List ℕ)) → valid ≡ true → Admits valid board held board_now held_now decisions block o → IsInState board seen k → IsInState board_now seen (when_issued k block.id)
-in_state_admitted board held seen k valid board_now held_now decisions block o v a r =
-    kept_at_issue board board_now seen k block (admitted valid board held board_now held_now decisions block o v a).board_is r
+-- what an issue tells, and then what comes of a query
+told_and_asked : (answer : Answer) (node : Running) (block : Header) (bytes state before : List ℕ) (board_now : Board) (held_now : Held) (served_now : Serving) (decisions : List Decision)
+    (o : Option (List ℕ)) (against : Option DropWhy) → o ≡ Some state → against ≡ None → board_now ≡ issued node.board block → held_now ≡ with_state node.chain block.id state
+    → served_now ≡ with_issued node.served block bytes → decisions ≡ [] → before ≡ preferred answer node.board
+    → after_lines (map decision_line decisions ++ preference_line before (preferred answer board_now))
+    (asked_on_the_way answer block.id (record node { board = board_now; chain = held_now; served = served_now }))
+    ≡ placed_by answer node block bytes o against
+told_and_asked answer node block bytes state before board_now held_now served_now decisions o against a f b c s d e = rw (a, f, b, c, s, d, e) refl
 
--- the lines of an issue, and then those of a query
-lines_of_both : (answer : Answer) (node : Running) (block : Header) (bytes state before : List ℕ) (board_now : Board) (held_now : Held) (served_now : Serving) (decisions : List Decision)
-    (o : Option (List ℕ)) → o ≡ Some state → board_now ≡ issued node.board block → held_now ≡ with_state node.chain block.id state → served_now ≡ with_issued node.served block bytes
-    → decisions ≡ [] → before ≡ preferred answer node.board
-    → (map decision_line decisions ++ preference_line before (preferred answer board_now))
-    ++ (asked_on_the_way answer block.id (record node { board = board_now; chain = held_now; served = served_now })).0
-    ≡ (issued_by answer node block bytes o).0
-lines_of_both answer node block bytes state before board_now held_now served_now decisions o a b c s d e = rw (a, b, c, s, d, e) refl
+-- that is all where a block was admitted against which nothing stands
+pub placed_is : (answer : Answer) (node : Running) (valid : Bool) (board_now : Board) (held_now : Held) (served_now : Serving) (decisions : List Decision) (block : Header) (bytes : List ℕ)
+    (o : Option (List ℕ)) (against : Option DropWhy) (before : List ℕ) → against ≡ None → valid ≡ true → Admits valid node.board node.chain board_now held_now decisions block o
+    → served_now ≡ if_issued node.served valid block bytes → before ≡ preferred answer node.board
+    → after_lines (map decision_line decisions ++ preference_line before (preferred answer board_now))
+    (asked_on_the_way answer block.id (record node { board = board_now; chain = held_now; served = served_now }))
+    ≡ placed_by answer node block bytes o against
+placed_is answer node valid board_now held_now served_now decisions block bytes o against before free v a s preference =
+    let has = admitted valid node.board node.chain board_now held_now decisions block o v a in
+    told_and_asked answer node block bytes has.state before board_now held_now served_now decisions o against has.is free has.board_is has.held_is
+    (s ∙ ap (λ (b : Bool). if_issued node.served b block bytes) v) has.none_decided preference
 
--- a block that was admitted is served
-served_then : (served now : Serving) (valid : Bool) (block : Header) (bytes : List ℕ) → valid ≡ true → now ≡ if_issued served valid block bytes → now ≡ with_issued served block bytes
-served_then served now valid block bytes v e = e ∙ ap (λ (b : Bool). if_issued served b block bytes) v
+module _ (answer : Answer) (id : List ℕ) (after : Running) (told : List Line) (all : Comes Running) (is : after_lines told (asked_on_the_way answer id after) ≡ all) where
+  -- memory ran out before the query
+  pub told_front : (log now : List Line) → LogsFront log now told → LogsFront log now all.0
+  told_front log now l = logs_front_of_more log now told (asked_on_the_way answer id after).0 all.0 l (ap (λ (c : Comes Running). c.0) is)
 
-module _ (answer : Answer) (node : Running) (valid : Bool) (board_now : Board) (held_now : Held) (served_now : Serving) (decisions : List Decision) (block : Header) (bytes : List ℕ)
-    (o : Option (List ℕ)) (before : List ℕ) (v : valid ≡ true) (a : Admits valid node.board node.chain board_now held_now decisions block o)
-    (s : served_now ≡ if_issued node.served valid block bytes) (preference : before ≡ preferred answer node.board) where
-  abbrev told_lines : List Line
-  told_lines = map decision_line decisions ++ preference_line before (preferred answer board_now)
+  module _ (on : is_preferred answer after.board id ≡ true) (log mid : List Line) (m : mid ≡ log ++ told) where
+    abbrev query : Comes (Running × Bool)
+    query = queried answer after
 
-  abbrev after : Running
-  after = record node { board = board_now; chain = held_now; served = served_now }
+    abbrev next : Running × Bool → Comes Running
+    next sent = quietly sent.0
 
-  has : HasState node.board node.chain board_now held_now decisions block o
-  has = admitted valid node.board node.chain board_now held_now decisions block o v a
+    asks : after_lines told (then_comes query next) ≡ all
+    asks = ap (λ (b : Bool). after_lines told (cond b (then_comes query next) (quietly after))) (sym on) ∙ is
 
-  -- the lines of the issue, and then those of a query
-  all_lines : told_lines ++ (asked_on_the_way answer block.id after).0 ≡ (issued_by answer node block bytes o).0
-  all_lines =
-      lines_of_both answer node block bytes has.state before board_now held_now served_now decisions o has.is has.board_is has.held_is
-      (served_then node.served served_now valid block bytes v s) has.none_decided preference
+    -- the query came to a stop
+    pub lines_stopped : (s : Halt) (now : List Line) → HaltsAs s query.1 → Tells {T = Bool} (Err s) mid now query.0 → Tells {T = Unit {0}} (Err s) log now all.0
+    lines_stopped s now h l =
+        subst (λ (c : Comes Running). Tells {T = Unit {0}} (Err s) log now c.0) asks
+        (logs_behind (Unit {0}) (Err s) log mid now told (then_comes query next).0 m
+        (lines_first (Running × Bool) Running query next Bool (Unit {0}) s mid now h l))
 
-  pub issue_front : (log now : List Line) → LogsFront log now told_lines → LogsFront log now (issued_by answer node block bytes o).0
-  issue_front log now l = logs_front_of_more log now told_lines (asked_on_the_way answer block.id after).0 (issued_by answer node block bytes o).0 l all_lines
-
-  pub issue_lines : (result : Result (Unit {0}) Halt) (log mid now : List Line) → mid ≡ log ++ told_lines → Tells result mid now (asked_on_the_way answer block.id after).0
-      → Tells result log now (issued_by answer node block bytes o).0
-  issue_lines result log mid now m l =
-      subst (λ (ls : List Line). Tells result log now ls) all_lines (logs_behind (Unit {0}) result log mid now told_lines (asked_on_the_way answer block.id after).0 m l)
+    -- the query was made, or dropped
+    pub lines_asked : (sent : Running × Bool) (now : List Line) → query.1 ≡ Ok sent → now ≡ mid ++ query.0 → now ≡ log ++ all.0
+    lines_asked sent now h l =
+        subst (λ (c : Comes Running). now ≡ log ++ c.0) asks
+        (logs_behind (Unit {0}) (Ok tt) log mid now told (then_comes query next).0 m
+        (lines_then (Running × Bool) Running query next (Unit {0}) (Ok tt) sent mid now now h l (sym (append-nil now))))

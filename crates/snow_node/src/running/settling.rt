@@ -1,6 +1,5 @@
 ghost use Rattle.std.specs.Prelude.{◌≡◌, IfSome};
 ghost use Rattle.snow_board.specs.Model.Board.{height_of};
-ghost use Rattle.snow_board.specs.Laws.Reached.{MayIssue};
 ghost use Rattle.snow_chain.specs.Model.Chain.{next_on};
 ghost use Rattle.snow_issue.specs.Kept.Known.{Knows, MarksAfter, lists_of};
 ghost use Rattle.snow_issue.specs.Model.Settling.{after, work_of};
@@ -16,7 +15,7 @@ use crate::running::Running;
 use crate::running::queue_state::QueueState;
 use crate::running::supplying::verify_and_issue;
 use crate::stop::Halt;
-use snow_base::{Bytes, Header, Id};
+use snow_base::{Bytes, Header};
 use snow_board::Board;
 use snow_chain::Chain;
 use snow_issue::{Queue, Work};
@@ -69,7 +68,9 @@ impl<C: Chain, B: Board> Running<C, B> {
         }
     }
 
-    /// Issues a block whose parent is on the board, unless something stands against it.
+    /// Issues a block that is valid and against which nothing stands, and serves it. It makes a query
+    /// where the block is on the way to the preference. It gives up any other block.
+    #[tactic(auto, using(crate::proofs::Logs::logs_nothing, crate::proofs::Preferred::preference_leads))]
     pub(super) fn place(
         &mut self,
         block: &Header,
@@ -83,22 +84,10 @@ impl<C: Chain, B: Board> Running<C, B> {
             (opposed self.old.board block.now (height_of self.old.board block.now.parent))).0 }
     {
         match opposition(&self.board, block) {
-            None => self.issue(block, bytes, log),
-            Some(DropWhy::Invalid) => self.refuse(block, log),
-            Some(DropWhy::Parent) => drop_block(block.id, DropWhy::Parent, log),
-            Some(DropWhy::Full) => drop_block(block.id, DropWhy::Full, log),
-            Some(DropWhy::Old) => drop_block(block.id, DropWhy::Old, log),
+            None => {}
+            Some(DropWhy::Invalid) => return self.refuse(block, log),
+            Some(why) => return drop_block(block.id, why, log),
         }
-    }
-
-    /// Issues a block, if it is valid, and then serves it.
-    #[tactic(auto, using(crate::proofs::Logs::logs_nothing))]
-    fn issue(&mut self, block: &Header, bytes: Bytes, log: &mut Lines) -> Result<(), Halt>
-        requires may { MayIssue self.old.board block.now }
-        requires apart { IsApart self.old.board self.old.queue.waiting block.now.id }
-        ensures answer { Turns result self.new (model.issued_by B.answer self.old block.now bytes (next_on C.rules self.old.chain block.now.parent bytes)).1 }
-        ensures lines { Tells result log.old log.new (model.issued_by B.answer self.old block.now bytes (next_on C.rules self.old.chain block.now.parent bytes)).0 }
-    {
         let before = self.board.preference();
         if !verify_and_issue(
             &mut self.board,
@@ -111,7 +100,11 @@ impl<C: Chain, B: Board> Running<C, B> {
         }
         self.queue_state = self.queue_state.issued(&block.id);
         tell(&self.board, &before, log)?;
-        self.ask_on_the_way(&block.id, log)
+        // The preference itself is told without a walk.
+        if self.board.preference() == block.id || self.board.is_preferred(&block.id) {
+            self.query(log)?;
+        }
+        Ok(())
     }
 
     /// Enters an invalid block in the gone list, with its parent.
@@ -121,19 +114,6 @@ impl<C: Chain, B: Board> Running<C, B> {
     {
         self.queue.gone(block.id, Some(block.parent));
         drop_block(block.id, DropWhy::Invalid, log)
-    }
-
-    /// Makes a query where a block that was issued is on the way to the preference. It tells the
-    /// preference itself without walking there.
-    #[tactic(auto, using(crate::proofs::Preferred::preference_leads))]
-    fn ask_on_the_way(&mut self, id: &Id, log: &mut Lines) -> Result<(), Halt>
-        ensures answer { Turns result self.new (model.asked_on_the_way B.answer id.now self.old).1 }
-        ensures lines { Tells result log.old log.new (model.asked_on_the_way B.answer id.now self.old).0 }
-    {
-        if self.board.preference() == *id || self.board.is_preferred(id) {
-            self.query(log)?;
-        }
-        Ok(())
     }
 }
 
