@@ -3,8 +3,6 @@ ghost use Rattle.snow_held.specs.declared.held.Held.{Held};
 ghost use Rattle.snow_issue.specs.declared.work.Waiting.{Waiting as Block};
 ghost use Rattle.snow_poll.specs.Model.Table.{is_awaited};
 ghost use Rattle.snow_node.specs.Model.Hearing as model;
-ghost use Rattle.snow_node.specs.Model.Outcome.{then_comes};
-ghost use Rattle.snow_node.specs.Model.Settling.{placed, settled};
 ghost use Rattle.snow_node.specs.Clauses.Stepping.{Tells, Turns};
 
 use crate::reporting::{drop_block, write};
@@ -20,8 +18,10 @@ use snow_poll::Answered;
 use snow_wire::{Brought, Named, Sender};
 
 impl<C: Chain, B: Board> Running<C, B> {
-    /// Takes a block for which nobody asked, or the answer to a get. It passes over one that no get
-    /// awaits.
+    /// Takes a block for which nobody asked, or the answer to a get, and does all that this brings. It
+    /// passes over one that no get awaits. Where placing it would be the first step of settling, it
+    /// places it at once: the queue forgets what it remembers of the block's children, so that the
+    /// block may be issued. Else it offers it to the queue.
     pub(super) fn on_block(
         &mut self,
         frame: u64,
@@ -32,42 +32,30 @@ impl<C: Chain, B: Board> Running<C, B> {
         ensures lines { Tells result log.old log.new (model.block_came C.rules B.answer self.old frame block.entry.node.now block.entry.request block.entry.bytes.now).0 }
     {
         let peer = NodeId::from_bytes(*block.node);
-        if block.request == 0 {
-            return self.read_block(frame, &peer, block.bytes, &None, log);
-        }
-        let asked = self.close_get(block.request, &peer);
-        if asked.is_none() {
-            return Ok(());
-        }
-        self.read_block(frame, &peer, block.bytes, &asked, log)
-    }
-
-    /// Takes a block's bytes, where this block was asked for, and does all that this brings. Where
-    /// placing it would be the first step of settling, it places it at once. Else it offers it to
-    /// the queue.
-    fn read_block(
-        &mut self,
-        frame: u64,
-        peer: &NodeId,
-        bytes: &[u8],
-        asked: &Option<Id>,
-        log: &mut Lines,
-    ) -> Result<(), Halt>
-        ensures answer { Turns result self.new (model.block_read C.rules B.answer self.old frame peer.now bytes.now asked.now).1 }
-        ensures lines { Tells result log.old log.new (model.block_read C.rules B.answer self.old frame peer.now bytes.now asked.now).0 }
-    {
-        let Some(header) = self.chain.parse(bytes) else {
+        let asked = if block.request == 0 {
+            None
+        } else {
+            match self.close_get(block.request, &peer) {
+                None => return Ok(()),
+                asked => asked,
+            }
+        };
+        let Some(header) = self.chain.parse(block.bytes) else {
             let kind = SkipKind::Block;
             write(Line::Skip { frame, kind }, log)?;
             return self.settle(log);
         };
-        if is_other(asked, &header.id) {
+        if is_other(&asked, &header.id) {
             return self.settle(log);
         }
         if self.is_next(&header) {
-            return self.place_at_once(&header, bytes, log);
+            let bytes = self.room.list(block.bytes)?;
+            self.queue_state = self.queue_state.next(&header.id);
+            self.queue.forget_children(&header.id);
+            self.place(&header, bytes, log)?;
+            return self.settle(log);
         }
-        self.offer(peer, &header, bytes, log)?;
+        self.offer(&peer, &header, block.bytes, log)?;
         self.settle(log)
     }
 
@@ -80,21 +68,6 @@ impl<C: Chain, B: Board> Running<C, B> {
             QueueState::Settled => self.queue.is_next(block, &self.board),
             _ => false,
         }
-    }
-
-    /// Places a block that would be the first thing to do, and does all that this brings. The queue
-    /// forgets what it remembers of the block's children, so that the block may be issued.
-    #[tactic(auto, using(crate::proofs::Logs::logs_nothing))]
-    fn place_at_once(&mut self, block: &Header, bytes: &[u8], log: &mut Lines) -> Result<(), Halt>
-        requires { model.IsNext self.old block.now }
-        ensures answer { Turns result self.new (then_comes (placed C.rules B.answer self.old block.now bytes.now) (settled C.rules B.answer)).1 }
-        ensures lines { Tells result log.old log.new (then_comes (placed C.rules B.answer self.old block.now bytes.now) (settled C.rules B.answer)).0 }
-    {
-        let bytes = self.room.list(bytes)?;
-        self.queue_state = self.queue_state.next(&block.id);
-        self.queue.forget_children(&block.id);
-        self.place(block, bytes, log)?;
-        self.settle(log)
     }
 
     /// Offers a block to the queue, and asks for its parent where nothing is known of that.
