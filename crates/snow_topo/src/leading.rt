@@ -1,8 +1,7 @@
-ghost use Rattle.std.specs.Prelude.{◌≡◌, true, false, [], ◌∷◌, None, IfSome, bytes_eq};
+ghost use Rattle.std.specs.Prelude.{◌≡◌, true, [], ◌∷◌, None, IfSome, bytes_eq};
 ghost use Rattle.std.specs.List.{list_any};
 ghost use Rattle.std.specs.Option.{option_copied};
-ghost use Rattle.snow_board.specs.declared.board.Leading.{Leading};
-ghost use Rattle.snow_board.specs.Kept.Ending.{IsTop, leading_after};
+ghost use Rattle.snow_board.specs.Kept.Ending.{IsTop};
 ghost use Rattle.snow_board.specs.Kept.Grown.{is_on};
 ghost use Rattle.snow_board.specs.Model.Preference.{path_from, preferred_path, preferred, is_preferred};
 ghost use Rattle.snow_tree.specs.Kept.Held.{blocks_in, children_of, place_in};
@@ -11,7 +10,7 @@ ghost use Rattle.snow_topo.specs.Kept.View.{all_pending, view, AllFit, AreFit};
 ghost use Rattle.snow_topo.specs.Kept.Walking.{AreNamed, kept_of};
 
 use crate::load::Load;
-use snow_base::{Header, Id};
+use snow_base::Id;
 use snow_flake::{Params, Rule};
 use snow_tree::Tree;
 
@@ -184,30 +183,5 @@ pub(crate) fn is_top<R: Rule>(
     match load.trie() {
         Some(_) => false,
         None => true,
-    }
-}
-
-/// Makes the preference follow a child that was issued: at once where no block stood above its
-/// parent, which was the preference then. It doesn't walk where the child doesn't stand above the
-/// preference.
-pub(crate) fn follow_child<R: Rule>(
-    params: &Params,
-    polls: u64,
-    root: &Load<R>,
-    tree: &Tree<Load<R>>,
-    preference: &mut Id,
-    is_top: bool,
-    child: &Header,
-)
-    requires named { AreNamed (blocks_in (tree.now).pending) }
-    requires fit { AreFit params.now polls root.now tree.now }
-    requires top { is_top ≡ true → preference.old ≡ (child.now).parent }
-    ensures { let leading : Leading = record { block = preference.old; is_top = is_top } in
-        preference.new ≡ (leading_after R.answer leading (view params.now polls root.now tree.now) child.now).block }
-{
-    if is_top {
-        *preference = child.id;
-    } else if child.parent == *preference {
-        *preference = preference_of(params, polls, root, tree);
     }
 }

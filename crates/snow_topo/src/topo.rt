@@ -13,7 +13,7 @@ ghost use Rattle.snow_topo.specs.Kept.Standing.{AreKept};
 use crate::ballot::{Ballot, start};
 use crate::climbing::climb;
 use crate::issuing::issue;
-use crate::leading::{follow_child, is_preferred, is_top, kept_of, place_on, preference_of};
+use crate::leading::{is_preferred, is_top, kept_of, place_on, preference_of};
 use crate::load::Load;
 use crate::renewing::renew_if_full;
 use crate::settling::settle;
@@ -214,15 +214,14 @@ impl<R: Rule> Board for Topo<R> {
             &child,
             &mut self.spare,
         )?;
-        follow_child(
-            &self.params,
-            self.polls,
-            &self.root,
-            &self.tree,
-            &mut self.preference,
-            on_top,
-            &child,
-        );
+        // Only a child of the preference can move it: at once where it is the first one.
+        self.preference = if on_top {
+            id
+        } else if parent == self.preference {
+            preference_of(&self.params, self.polls, &self.root, &self.tree)
+        } else {
+            self.preference
+        };
         self.decisions.clear();
         Ok(())
     }

@@ -1,6 +1,7 @@
-use Rattle.std.proofs.Common.{◌≡◌, ◌+◌, true, length, sym, ap, subst, ◌∙◌, arith}
+use Rattle.std.proofs.Common.{◌≡◌, ◌+◌, true, false, length, bytes_eq, refl, sym, ap, subst, ◌∙◌, arith}
 use Rattle.std.proofs.lemmas.Grind.{common_steps}
 use Rattle.snow_base.specs.declared.block.Header.{Header}
+use Rattle.snow_flake.specs.Model.Rule.{Answer}
 use Rattle.snow_board.specs.declared.board.Leading.{Leading}
 use Rattle.snow_board.specs.Model.Board.{Board, issued}
 use Rattle.snow_board.specs.Kept.Grown.{is_on}
@@ -8,6 +9,7 @@ use Rattle.snow_board.specs.Kept.Ending.{IsLeading, leading_after}
 use Rattle.snow_board.specs.Model.Preference.{preferred}
 use Rattle.snow_board.specs.Laws.Reached.{MayIssue}
 use Rattle.snow_board.specs.Clauses.Shown.{Shown}
+use Rattle.snow_board.proofs.Cases.{id_itself}
 use Rattle.snow_board.proofs.Ended.{latest_alone, leading_issued}
 use Rattle.snow_tree.specs.Kept.Held.{blocks_in}
 use Rattle.snow_climb.specs.Kept.Ladder.{IsReady}
@@ -15,7 +17,15 @@ use Rattle.snow_topo.specs.Kept.View.{view}
 use Rattle.snow_topo.proofs.Standings.{issue_unknown, issue_follows, grown_seen, issued_length, view_length, names_issued, names_seen, names_kept}
 use Rattle.snow_topo.proofs.topo.TopoBoard.issue.Given as given
 use Rattle.snow_topo.proofs.topo.TopoBoard.issue.Goals as goal
-use Rattle.snow_topo.proofs.topo.TopoBoard.issue.Goals.{After-last-last}
+use Rattle.snow_topo.proofs.topo.TopoBoard.issue.Goals.{After-last-last, then-on_top, else-on_top+then-eq, else-on_top+else-eq}
+
+-- a child of the preference, above which no block stood, is the preference
+moves : (answer : Answer) (leading : Leading) (board : Board) (child : Header) → leading.is_top ≡ true → leading.block ≡ child.parent → (leading_after answer leading board child).block ≡ child.id
+moves answer leading board child top same = rw (same, id_itself child.parent, top) refl
+
+-- a block that is no child of it leaves it
+stays : (answer : Answer) (leading : Leading) (board : Board) (child : Header) → bytes_eq child.parent leading.block ≡ false → leading.block ≡ (leading_after answer leading board child).block
+stays answer leading board child other = rw other refl
 
 pub issue-requires-clause-unknown : goal.issue-requires-clause-unknown
 issue-requires-clause-unknown g c =
@@ -38,16 +48,16 @@ is_top-on_top-requires-clause-on g c = parent_on g (goal.at.is_top-on_top-requir
 pub issue-requires-clause-follows : goal.issue-requires-clause-follows
 issue-requires-clause-follows g c = parent_on g (goal.at.issue-requires-clause-follows g c).After-last-last
 
-pub follow_child-requires-clause-named : goal.follow_child-requires-clause-named
-follow_child-requires-clause-named g c =
+pub preference_of-requires-clause-named : goal.preference_of-requires-clause-named
+preference_of-requires-clause-named g c =
     let a = c.self.inside in
     let child : Header = record { id = c.args.id; parent = c.args.parent; height = c.args.height } in
     let old = view a.params a.polls a.root a.tree in
     names_kept a.params a.polls c.issue.new.root c.issue.new.tree (issued old child) (c.in_ok-issue.ensures.board a.polls)
     (names_issued old child (names_seen a.params a.polls a.tree c.self.invariant.named) c.named.ensures)
 
-pub follow_child-requires-clause-fit : goal.follow_child-requires-clause-fit
-follow_child-requires-clause-fit g c = c.in_ok-issue.ensures.fit c.self.inside.polls c.self.invariant.fit
+pub preference_of-requires-clause-fit : goal.preference_of-requires-clause-fit
+preference_of-requires-clause-fit g c = c.in_ok-issue.ensures.fit c.self.inside.polls c.self.invariant.fit
 
 pub invariant_of-self-2 : goal.invariant_of-self-2
 invariant_of-self-2 g c =
@@ -67,7 +77,13 @@ invariant_of-self-2 g c =
       named =
           names_kept a.params a.polls c.issue.new.root c.issue.new.tree (issued old child) new
           (names_issued old child (names_seen a.params a.polls a.tree c.self.invariant.named) c.named.ensures);
-      preference = c.follow_child.ensures ∙ ap (λ b. (leading_after answer leading b child).block) new ∙ after.block ∙ ap (preferred answer) (sym new);
+      preference =
+          elim c.if-on_top.branch [
+            | then-on_top w ↦
+                w.self-is ∙ sym (moves answer leading (issued old child) child w.if-on_top.true (c.is_top-on_top.ensures.same w.if-on_top.true)) ∙ after.block ∙ ap (preferred answer) (sym new)
+            | else-on_top+then-eq w ↦ w.self-is ∙ w.preference_of.ensures
+            | else-on_top+else-eq w ↦ w.self-is ∙ stays answer leading (issued old child) child (sym w.eq.ensures ∙ w.if-eq.false) ∙ after.block ∙ ap (preferred answer) (sym new)
+          ];
       room = record {
         decides = let before = view_length a.params a.polls a.root a.tree in grind (arith, common_steps);
         counts = omega (arith, c.make_room.ensures.votes, c.self.invariant.room.counts);
