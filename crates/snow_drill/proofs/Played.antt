@@ -28,6 +28,10 @@ module _ {N : Type 0} (step : Step N) where
   follows_made p mid after e log first logs later d h =
       subst (λ (lines : List Line). Plays after (fold (timed_out step) (with_event step d e) lines)) (logs d h) (later (with_event step d e) (first d h))
 
+  -- only the room of the log counts
+  pub follows_log : (p after : Player N) (log : List Line) (change : Drill N → Drill N) → Follows (record p { log = log }) after change → Follows p after change
+  follows_log p after log change f d h = f d (record { node = h.node; frame = h.frame; x = h.x; made = h.made; told = h.told; digest = h.digest })
+
   -- values were taken of the generator
   turned : (p : Player N) (g x : ℕ) (d : Drill N) → g ≡ x → Plays p d → Plays (record p { generator = g }) (record d { x = x })
   turned p g x d e h = record { node = h.node; frame = h.frame; x = e; made = h.made; told = h.told; digest = h.digest }

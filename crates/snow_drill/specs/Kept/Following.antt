@@ -26,9 +26,9 @@ pub record DigestsBut (hasher : Sha256) (waiting text : List ℕ) : Type 0 where
   pub holds : Holds256 hasher digested
   pub whole : digested ++ waiting ≡ text
 
--- the text of these lines was digested, but for what waits
+-- the text of these lines was digested, but for what waits on the page
 abbrev pub Digests : Account → List Line → Type 0
-Digests account lines = DigestsBut account.hasher account.scratch.bytes (texts lines)
+Digests account lines = DigestsBut account.hasher account.page (texts lines) × (account.scratch.bytes ≡ [])
 
 module _ {N : Type 0} where
   -- a player is where a drill is

@@ -3,4 +3,4 @@ use Rattle.std.proofs.Common.{[], sym}
 use Rattle.snow_drill.proofs.drilling.opened.Goals as goal
 
 pub returns-in-Ok-clause-digest : goal.returns-in-Ok-clause-digest
-returns-in-Ok-clause-digest c = rw (sym c.list.ensures) (c.in-Ok.ensures.digest [] c.new-account.ensures.digest)
+returns-in-Ok-clause-digest c = rw (sym c.list.ensures) (c.in-Ok.ensures.digest [] c.in_ok-account.ensures.digest)
