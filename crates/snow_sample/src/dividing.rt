@@ -56,7 +56,11 @@ fn guessed(value: u64, divisor: u64, inverse: u64) -> Option<u64>
     ensures { IfSome result (λ rest. rest ≡ value % divisor) }
 {
     let (_, quotient) = value.carrying_mul(inverse, 0);
-    let rest = value.checked_sub(quotient.checked_mul(divisor)?)?;
+    let (product, over) = quotient.carrying_mul(divisor, 0);
+    if over > 0 {
+        return None;
+    }
+    let rest = value.checked_sub(product)?;
     let rest = if rest < divisor { rest } else { rest - divisor };
     if rest < divisor { Some(rest) } else { None }
 }

@@ -197,10 +197,17 @@ fn write_own(room: &mut Vec<u64>, count: usize) -> Result<(), AllocError>
     ensures length { OnOk result (length room.new.items ≡ count) }
     ensures own { OnOk result ((p : ℕ) → p < count → slice_index room.new.items p ≡ p) }
 {
-    room.clear();
-    room.reserve(count)?;
-    for unit in 0..count {
-        room.push_reserved(unit as u64);
-    }
+    room.resize(count, 0)?;
+    number(room.as_mut_slice());
     Ok(())
+}
+
+// Writes 0, 1, 2, .. over all units. (A list of its own would be read anew for each of them.)
+fn number(units: &mut [u64])
+    ensures length { length units.new ≡ length units.old }
+    ensures own { (p : ℕ) → p < length units.new → slice_index units.new p ≡ p }
+{
+    for p in 0..units.len() {
+        units[p] = p as u64;
+    }
 }

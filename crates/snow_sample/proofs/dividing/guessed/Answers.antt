@@ -1,5 +1,5 @@
 -- The quotient is the guess, or one more.
-use Rattle.std.proofs.Common.{◌≡◌, ℕ, suc, ◌+◌, ◌*◌, ◌%◌, sym, ap, ◌∙◌, arith}
+use Rattle.std.proofs.Common.{◌≡◌, suc, ◌+◌, ◌*◌, ◌%◌, sym, ap, ◌∙◌, arith}
 use Rattle.std.proofs.lemmas.Nat.{mod-mul-add}
 use Rattle.snow_sample.proofs.dividing.guessed.Goals.{then-rest-divisor, else-rest-divisor}
 use Rattle.snow_sample.proofs.dividing.guessed.Goals as goal
@@ -9,7 +9,7 @@ returns-then-rest-divisor-2 c =
     let d = c.args.divisor in
     let q = c.carrying_mul-quotient.result.1 in
     let r = c.if-rest-divisor.rest in
-    let product : c.in_ok-checked_mul.field-0 ≡ q * d = c.in_ok-checked_mul.ensures.1 in
+    let product : c.carrying_mul-product.result.0 ≡ q * d = omega (arith, c.carrying_mul-product.ensures, c.if-over-gt0.false) in
     let within = c.in_ok-rest.ensures.0 in
     let left = c.in_ok-rest.ensures.1 in
     elim c.if-rest-divisor.branch [
