@@ -27,6 +27,12 @@ pub struct Links {
     pub children: Option<Children>,
 }
 
+// Nothing is kept of an identifier.
+const NOTHING: Links = Links {
+    top: None,
+    children: None,
+};
+
 // The block that came at this place is found by its height.
 pub(crate) fn note_place(
     places: &mut BTreeMap<u64, usize>,
@@ -54,10 +60,7 @@ pub(crate) fn links_at(by_id: &IdMap<Links>, id: &Id) -> Links
 {
     match by_id.get(id) {
         Some(links) => *links,
-        None => Links {
-            top: None,
-            children: None,
-        },
+        None => NOTHING,
     }
 }
 
@@ -70,9 +73,11 @@ pub(crate) fn note_links(
     ensures { OnOk result ((kept : List KeptBlock) (b : KeptBlock) → b.header ≡ header.now → links ≡ links_of kept header.now.id → HasLinks by_id.old kept → HasLinks by_id.new (b ∷ kept)) }
 {
     by_id.insert(header.id, with_top(header.height, links))?;
-    // The parent second, since it may be the block itself.
-    let parent = links_at(&*by_id, &header.parent);
-    by_id.insert(header.parent, adopting(header.height, parent))?;
+    // The parent second, since it may be the block itself. Of most parents nothing is kept yet.
+    let first = adopting(header.height, NOTHING);
+    if let Some(parent) = by_id.insert(header.parent, first)? {
+        by_id.insert(header.parent, adopting(header.height, parent))?;
+    }
     Ok(())
 }
 
