@@ -61,13 +61,15 @@ IsSet before id n now = (q : List ℕ) → get (slice_cmp nat_cmp) now q ≡ con
 set_at : (before now : Table) (id : List ℕ) (n : Option ℕ) → IsSet before id n now → (q : List ℕ) → get (slice_cmp nat_cmp) now q ≡ cond (bytes_eq id q) n (get (slice_cmp nat_cmp) before q)
 set_at before now id n change q = change q ∙ ap (λ t. cond t n (get (slice_cmp nat_cmp) before q)) (is_eq-slice_cmp id q)
 
-pub added : (before now : Table) (id : List ℕ) (there n : ℕ) (count : List ℕ → ℕ) → IsSet before id (Some (there + n)) now → there ≡ count id → 0 < n → Counts before count
-    → Counts now (with_more (Some id) n count)
-added before now id there n count change is some counts q = set_at before now id (Some (there + n)) change q ∙ by (bytes_eq id q) refl
+pub added : (before now : Table) (id : List ℕ) (missed : Option (List ℕ)) (there n sum : ℕ) (count : List ℕ → ℕ) → IsSet before id (Some sum) now → sum ≡ there + n
+    → there ≡ unwrap_or (get (slice_cmp nat_cmp) before id) 0 → missed ≡ Some id → 0 < n → Counts before count → Counts now (with_more missed n count)
+added before now id missed there n sum count change is was named some counts q =
+    set_at before now id (Some sum) change q ∙ by (bytes_eq id q) refl ∙ ap (λ o. counted (with_more o n count q)) (sym named)
   where
-    by : (t : Bool) → bytes_eq id q ≡ t → cond t (Some (there + n)) (get (slice_cmp nat_cmp) before q) ≡ counted (if t then count q + n else count q)
+    by : (t : Bool) → bytes_eq id q ≡ t → cond t (Some sum) (get (slice_cmp nat_cmp) before q) ≡ counted (if t then count q + n else count q)
     by true same =
-        ap (λ m. (let o : Option ℕ = Some (m + n) in o)) (is ∙ ap count (same_id id q same)) ∙ some_counted (count q + n) (omega (arith, some))
+        ap (λ m. (let o : Option ℕ = Some m in o)) (is ∙ ap (λ m. m + n) (was ∙ there_is before count id counts ∙ ap count (same_id id q same)))
+        ∙ some_counted (count q + n) (omega (arith, some))
     by false other = counts q
 
 pub has_added : (before now : Table) (id : List ℕ) (n : ℕ) → IsSet before id (Some n) now → (q : List ℕ) → has_need now q ≡ (has_need before q || bytes_eq id q)
@@ -85,6 +87,26 @@ removed before now id count change counts q = set_at before now id None change q
     by : (t : Bool) → cond t None (get (slice_cmp nat_cmp) before q) ≡ counted (if t then 0 else count q)
     by true = refl
     by false = counts q
+
+pub has_removed : (before now : Table) (id : List ℕ) → IsSet before id None now → (q : List ℕ) → has_need now q ≡ true → has_need before q ≡ true
+has_removed before now id change q e = by (bytes_eq id q) (sym (ap is_some (set_at before now id None change q)) ∙ e)
+  where
+    by : (t : Bool) → is_some (cond t None (get (slice_cmp nat_cmp) before q)) ≡ true → has_need before q ≡ true
+    by true e = clash true refl (sym e)
+    by false e = e
+
+-- where nobody misses a block, nothing is passed on
+pub none_there : (needs : Table) (count : List ℕ → ℕ) (id : List ℕ) (need : Option (List ℕ)) → Counts needs count → None ≡ get (slice_cmp nat_cmp) needs id
+    → (q : List ℕ) → with_none id count q ≡ passed_on id need count q
+none_there needs count id need counts none q = by (names need q) (with_none id count q) (count id) (zero_is (count id) (none ∙ counts id))
+  where
+    zero_is : (m : ℕ) → None ≡ counted m → m ≡ 0
+    zero_is zero e = refl
+    zero_is (suc m) e = none_not (suc m) e
+
+    by : (u : Bool) (n k : ℕ) → k ≡ 0 → n ≡ (if u then n + k else n)
+    by true n k e = omega (arith, e)
+    by false n k e = refl
 
 -- one of more than one is left
 pub lessened : (before now : Table) (id : List ℕ) (n : ℕ) (count : List ℕ → ℕ) → IsSet before id (Some (n - 1)) now → n ≡ count id → 1 < n → Counts before count
@@ -243,13 +265,33 @@ missing_kept f b (t ∷ targets) l fits new q =
     ∙ ap (λ n. one (names (missed (with_kept f b) t) q) + n) (missing_kept f b targets l fits (λ u among. new u (later t u targets among)) q)
 
 -- a target misses what it misses
-counted_once : (f : Fetch) (targets : List (List ℕ)) (t r : List ℕ) → has_id targets t ≡ true → names (missed f t) r ≡ true → 1 ≤ missing f targets r
+pub counted_once : (f : Fetch) (targets : List (List ℕ)) (t r : List ℕ) → has_id targets t ≡ true → names (missed f t) r ≡ true → 1 ≤ missing f targets r
 unfolding missing
 counted_once f [] t r among e = clash true refl (sym among)
 counted_once f (s ∷ targets) t r among e =
     split_on (bytes_eq s t)
     (λ same. let it : names (missed f s) r ≡ true = ap (λ i. names (missed f i) r) (same_id s t same) ∙ e in subst (λ u. 1 ≤ one u + missing f targets r) (sym it) (omega arith))
     (λ other. let more = counted_once f targets t r (sym (ap (λ u. u || has_id targets t) other) ∙ among) e in omega (arith, more))
+
+-- a target that misses something else than a block leaves as well once the block was passed on
+pub left_later : (block : List ℕ) (need o : Option (List ℕ)) (count : List ℕ → ℕ) → names o block ≡ false → ((r : List ℕ) → names o r ≡ true → 1 ≤ count r) → (q : List ℕ)
+    → with_less o (passed_on block need count) q ≡ passed_on block need (with_less o count) q
+left_later block need o count other some q =
+    by (names need q) (bytes_eq block q) (names o q) (names o block) (count block) (count q) other
+    (λ same named. clash (names o block) (ap (names o) (same_id block q same) ∙ named) other) (some q)
+  where
+    by : (u v w x : Bool) (k n : ℕ) → x ≡ false → (v ≡ true → w ≡ true → ⊥) → (w ≡ true → 1 ≤ n)
+        → (if w then (if u then (if v then 0 else n) + k else if v then 0 else n) - 1 else if u then (if v then 0 else n) + k else if v then 0 else n)
+        ≡ (if u then (if v then 0 else if w then n - 1 else n) + (if x then k - 1 else k) else if v then 0 else if w then n - 1 else n)
+    by u v w true k n e apart one = clash true refl e
+    by true true true false k n e apart one = absurd (apart refl refl)
+    by false true true false k n e apart one = absurd (apart refl refl)
+    by true false true false k n e apart one = let more = one refl in omega (arith, more)
+    by false false true false k n e apart one = refl
+    by true true false false k n e apart one = refl
+    by true false false false k n e apart one = refl
+    by false true false false k n e apart one = refl
+    by false false false false k n e apart one = refl
 
 -- one target less, which is the first or a later one
 less_first : (o : Option (List ℕ)) (m : List ℕ → ℕ) (r : List ℕ) → with_less o (λ q. one (names o q) + m q) r ≡ m r

@@ -1,7 +1,9 @@
 -- What is missed is known from one block to the next, and what is due covers what is newly missed.
-use Rattle.std.proofs.Common.{◌≡◌, ◌<◌, ℕ, Bool, true, false, List, Option, bytes_eq, if◌then◌else◌, refl, sym, ap, subst, ◌∙◌, arith}
-use Rattle.std.specs.BTreeMap.{BTreeMap}
+use Rattle.std.proofs.Common.{◌≡◌, ◌+◌, ◌<◌, ◌≤◌, ℕ, Bool, true, false, ◌||◌, List, Option, Some, None, bytes_eq, if◌then◌else◌, refl, sym, ap, subst, ◌∙◌, arith}
+use Rattle.std.specs.BTreeMap.{BTreeMap, get}
+use Rattle.std.specs.Cmp.Lexicographic.{slice_cmp}
 use Rattle.std.specs.List.{IsDistinct}
+use Rattle.std.specs.Ordering.{nat_cmp}
 use Rattle.std.specs.Prelude.{is_some, Result, Ok, Err, OnOk, IfOk}
 use Rattle.snow_base.specs.declared.block.Header.{Header}
 use Rattle.snow_store.specs.declared.store.KeptBlock.{KeptBlock}
@@ -11,12 +13,12 @@ use Rattle.snow_store.specs.declared.stop.Verdict.TheVariants as verdict
 use Rattle.snow_store.specs.Clauses.Coming.{after_verdict}
 use Rattle.snow_store.specs.Model.Keeping.{Store, taken, keeping, after_taking}
 use Rattle.snow_store.specs.Laws.Linking.{IsLinked, held_heights}
-use Rattle.snow_store.specs.Model.Needing.{need_at, names, is_missed, missing, counted, Counts, has_need, HasNeeds, with_more, with_less, with_none, passed_on, Covers}
+use Rattle.snow_store.specs.Model.Needing.{need_at, names, is_missed, missing, counted, Counts, has_need, HasNeeds, with_more, with_less, with_none, passed_on, is_due, Covers}
 use Rattle.snow_store.specs.Model.Paths.{Fetch, has_id, missed}
 use Rattle.snow_store.specs.Kept.Renewing.{fetch_by, MayRenew, IsRenewed}
 use Rattle.snow_store.proofs.Cases.{split_on, clash, same_id}
 use Rattle.snow_store.proofs.Holding.{held_first}
-use Rattle.snow_store.proofs.Counting.{counts_same, has_missed, missing_kept, missing_moved, missing_low}
+use Rattle.snow_store.proofs.Counting.{IsSet, some_there, none_there, removed, has_removed, counts_same, has_added, counted_once, left_later, has_missed, missing_kept, missing_moved, missing_low}
 use Rattle.snow_store.proofs.Needed.{with_kept, with_found}
 
 -- ---- a block was taken
@@ -104,6 +106,26 @@ pub other_due : (needs : BTreeMap (List ℕ) ℕ) (x q : List ℕ) → has_need 
 other_due needs x q gone there =
     split_on (bytes_eq x q) (λ same. clash (has_need needs x) (ap (has_need needs) (same_id x q same) ∙ there) gone) (λ other. other)
 
+-- as many are due where an identifier was missed before
+pub same_due : (before now : BTreeMap (List ℕ) ℕ) (id : List ℕ) (n m : ℕ) (due : Due) → IsSet before id (Some n) now → get (slice_cmp nat_cmp) before id ≡ Some m
+    → Covers due (has_need before) due (has_need now)
+same_due before now id n m due change was q is free =
+    let one : (has_need before q || bytes_eq id q) ≡ true = sym (has_added before now id n change q) ∙ is in (
+      split_on (has_need before q) (λ there. there)
+          (λ none. ap (has_need before) (sym (same_id id q (sym (ap (λ t. t || bytes_eq id q) none) ∙ one))) ∙ ap is_some was),
+      free,
+    )
+
+-- and it is due where it wasn't
+pub new_due : (before now : BTreeMap (List ℕ) ℕ) (id : List ℕ) (n : ℕ) (due after : Due) → IsSet before id (Some n) now → is_due after id ≡ true
+    → ((q : List ℕ) → has_need now q ≡ true → is_due after q ≡ false → is_due due q ≡ false) → Covers due (has_need before) after (has_need now)
+new_due before now id n due after change its others q is free =
+    let one : (has_need before q || bytes_eq id q) ≡ true = sym (has_added before now id n change q) ∙ is in (
+      split_on (has_need before q) (λ there. there)
+          (λ none. clash (is_due after q) (ap (is_due after) (sym (same_id id q (sym (ap (λ t. t || bytes_eq id q) none) ∙ one))) ∙ its) free),
+      others q is free,
+    )
+
 -- ---- a block was kept
 
 abbrev Table : Type 0
@@ -115,56 +137,91 @@ OwesKept now targets found header itself needs before after more =
     (s : Store) (bytes : List ℕ) → now ≡ after_taking s record { header = header; bytes = bytes } verdict.Keeps → MayRenew (fetch_by s targets found) header verdict.Keeps itself needs
     → IsRenewed (fetch_by s targets found) (after_verdict (fetch_by s targets found) record { header = header; bytes = bytes } verdict.Keeps) before after more
 
--- whoever missed the block misses something else
-pub passed_renewed : {E : Type 0} (r : Result Due E) (now : Store) (targets found : List (List ℕ)) (header : Header) (itself : Option (List ℕ)) (needs more : Table) (before : Due)
-    → OnOk r ((count : List ℕ → ℕ) → Counts needs count → Counts more (passed_on header.id (need_at now header.height) count))
-    → IfOk r (λ after. Covers before (has_need needs) after (has_need more))
+-- whoever missed the block misses something else, and what is due covers what is newly missed
+abbrev pub Passes : Table → List ℕ → Option (List ℕ) → Due → Due → Table → Type 0
+Passes needs id need before after more =
+    ((count : List ℕ → ℕ) → Counts needs count → Counts more (passed_on id need count)) × Covers before (has_need needs) after (has_need more)
+
+pub some_passed : (needs less joined more : Table) (id : List ℕ) (need wanted : Option (List ℕ)) (n : ℕ) (before due after : Due) → Some n ≡ get (slice_cmp nat_cmp) needs id → IsSet needs id None less → wanted ≡ need
+    → ((count : List ℕ → ℕ) → 0 < n → Counts less count → Counts joined (with_more wanted n count)) → Covers before (has_need less) due (has_need joined)
+    → more ≡ joined → after ≡ due → Passes needs id need before after more
+some_passed needs less joined more id need wanted n before due after there gone its joins covers more_is after_is =
+    subst (λ (t : Table). Passes needs id need before after t) (sym more_is) (subst (λ (d : Due). Passes needs id need before d joined) (sym after_is) (passes, covered))
+  where
+    passes : (count : List ℕ → ℕ) → Counts needs count → Counts joined (passed_on id need count)
+    passes count counts =
+        let some = some_there needs count id n counts there in
+        counts_same joined (with_more wanted n (with_none id count)) (passed_on id need count) (joins (with_none id count) some.1 (removed needs less id count gone counts))
+        (λ q. ap (λ o. with_more o n (with_none id count) q) its ∙ ap (λ m. with_more need m (with_none id count) q) some.0)
+
+    covered : Covers before (has_need needs) due (has_need joined)
+    covered = covers_on before before due (has_need needs) (has_need less) (has_need joined) (covers_fewer before (has_need needs) (has_need less) (has_removed needs less id gone)) covers
+
+-- nobody missed it
+pub none_passed : (needs less more : Table) (id : List ℕ) (need : Option (List ℕ)) (before after : Due) → None ≡ get (slice_cmp nat_cmp) needs id → IsSet needs id None less
+    → more ≡ less → after ≡ before → Passes needs id need before after more
+none_passed needs less more id need before after none gone more_is after_is =
+    subst (λ (t : Table). Passes needs id need before after t) (sym more_is)
+    (subst (λ (d : Due). Passes needs id need before d less) (sym after_is) (
+      λ count counts. counts_same less (with_none id count) (passed_on id need count) (removed needs less id count gone counts) (none_there needs count id need counts none),
+      covers_fewer before (has_need needs) (has_need less) (has_removed needs less id gone),
+    ))
+
+pub passed_renewed : (now : Store) (targets found : List (List ℕ)) (header : Header) (itself : Option (List ℕ)) (needs more : Table) (before after : Due)
+    → Passes needs header.id (need_at now header.height) before after more
     → (has_id targets header.id ≡ true → names itself header.id ≡ false → missed (fetch_by now targets found) header.id ≡ itself)
-    → IfOk r (λ after. OwesKept now targets found header itself needs before after more)
-passed_renewed (Err e) now targets found header itself needs more before counts covers same = tt
-passed_renewed (Ok after) now targets found header itself needs more before counts covers same =
-    λ s bytes is may.
+    → OwesKept now targets found header itself needs before after more
+passed_renewed now targets found header itself needs more before after passes same s bytes is may =
     let b : KeptBlock = record { header = header; bytes = bytes } in
     let f = fetch_by s targets found in
     kept_renewed f b needs more before after may.linked may.fits may.has
     (λ among other.
     sym (ap (λ (t : Store). missed (fetch_by t targets found) header.id) is) ∙ same among (ap (λ o. names o header.id) may.itself ∙ other) ∙ may.itself)
-    (λ q. counts (missing f targets) may.has q ∙ ap (λ (t : Store). counted (passed_on header.id (need_at t header.height) (missing f targets) q)) is)
-    covers
+    (λ q. passes.0 (missing f targets) may.has q ∙ ap (λ (t : Store). counted (passed_on header.id (need_at t header.height) (missing f targets) q)) is)
+    passes.1
 
 -- and its target misses something else
-pub target_renewed : {E : Type 0} (r : Result Due E) (now : Store) (targets found : List (List ℕ)) (header : Header) (itself anew : Option (List ℕ)) (needs less passed more : Table) (before mid : Due)
-    → IsDistinct bytes_eq targets → has_id targets header.id ≡ true → anew ≡ missed (fetch_by now targets found) header.id
-    → ((count : List ℕ → ℕ) → Counts needs count → Counts less (with_less itself count)) → ((q : List ℕ) → has_need less q ≡ true → has_need needs q ≡ true)
-    → ((count : List ℕ → ℕ) → Counts less count → Counts passed (passed_on header.id (need_at now header.height) count)) → Covers before (has_need less) mid (has_need passed)
-    → OnOk r ((count : List ℕ → ℕ) → 0 < 1 → Counts passed count → Counts more (with_more anew 1 count)) → IfOk r (λ after. Covers mid (has_need passed) after (has_need more))
+pub target_renewed : {E : Type 0} (r : Result Due E) (now : Store) (targets found : List (List ℕ)) (header : Header) (itself anew : Option (List ℕ)) (needs passed less more : Table) (before mid : Due)
+    → IsDistinct bytes_eq targets → has_id targets header.id ≡ true → anew ≡ missed (fetch_by now targets found) header.id → names itself header.id ≡ false
+    → Passes needs header.id (need_at now header.height) before mid passed
+    → ((count : List ℕ → ℕ) → Counts passed count → Counts less (with_less itself count)) → ((q : List ℕ) → has_need less q ≡ true → has_need passed q ≡ true)
+    → OnOk r ((count : List ℕ → ℕ) → 0 < 1 → Counts less count → Counts more (with_more anew 1 count)) → IfOk r (λ after. Covers mid (has_need less) after (has_need more))
     → IfOk r (λ after. OwesKept now targets found header itself needs before after more)
-target_renewed (Err e) now targets found header itself anew needs less passed more before mid apart among its leaves fewer passes one joins two = tt
-target_renewed (Ok after) now targets found header itself anew needs less passed more before mid apart among its leaves fewer passes one joins two =
+target_renewed (Err e) now targets found header itself anew needs passed less more before mid apart among its other passes leaves fewer joins two = tt
+target_renewed (Ok after) now targets found header itself anew needs passed less more before mid apart among its other passes leaves fewer joins two =
     λ s bytes is may.
     let b : KeptBlock = record { header = header; bytes = bytes } in
     let f = fetch_by s targets found in
     let count : List ℕ → ℕ = missing f targets in
-    let left : List ℕ → ℕ = with_less itself count in
+    let need : Option (List ℕ) = need_at now header.height in
+    let some : (r : List ℕ) → names itself r ≡ true → 1 ≤ count r = λ r named. counted_once f targets header.id r among (sym (ap (λ o. names o r) may.itself) ∙ named) in
     moved_renewed f b needs more before after may.linked may.fits may.has apart among
     (λ q.
-    joins (passed_on header.id (need_at now header.height) left) (omega arith) (passes left (leaves count may.has)) q
-    ∙ ap (λ o. counted (with_more o 1 (passed_on header.id (need_at now header.height) left) q)) (its ∙ ap (λ (t : Store). missed (fetch_by t targets found) header.id) is)
-    ∙ ap (λ (t : Store). counted (with_more (missed (with_kept f b) header.id) 1 (passed_on header.id (need_at t header.height) left) q)) is
+    joins (with_less itself (passed_on header.id need count)) (omega arith) (leaves (passed_on header.id need count) (passes.0 count may.has)) q
+    ∙ ap (λ n. counted (if names anew q then n + 1 else n)) (left_later header.id need itself count other some q)
+    ∙ ap (λ o. counted (with_more o 1 (passed_on header.id need (with_less itself count)) q)) (its ∙ ap (λ (t : Store). missed (fetch_by t targets found) header.id) is)
+    ∙ ap (λ (t : Store). counted (with_more (missed (with_kept f b) header.id) 1 (passed_on header.id (need_at t header.height) (with_less itself count)) q)) is
     ∙ ap (λ o. counted (with_more (missed (with_kept f b) header.id) 1 (passed_on header.id (need_at (keeping s b) header.height) (with_less o count)) q)) may.itself)
-    (covers_on before before after (has_need needs) (has_need less) (has_need more) (covers_fewer before (has_need needs) (has_need less) fewer)
-    (covers_on before mid after (has_need less) (has_need passed) (has_need more) one two))
+    (covers_on before mid after (has_need needs) (has_need passed) (has_need more) passes.1
+    (covers_on mid mid after (has_need passed) (has_need less) (has_need more) (covers_fewer mid (has_need passed) (has_need less) fewer) two))
 
 -- what was owed where the block is kept is owed with the verdict that says so
-pub kept_owed : {E : Type 0} (v : Verdict) → v ≡ verdict.Keeps → (r : Result Due E) (now : Store) (targets found : List (List ℕ)) (header : Header) (itself : Option (List ℕ)) (needs more : Table) (before : Due)
-    → IfOk r (λ after. OwesKept now targets found header itself needs before after more)
-    → IfOk r (λ after. (s : Store) (bytes : List ℕ) → now ≡ after_taking s record { header = header; bytes = bytes } v → MayRenew (fetch_by s targets found) header v itself needs
+abbrev pub Owes : Verdict → Store → List (List ℕ) → List (List ℕ) → Header → Option (List ℕ) → Table → Due → Due → Table → Type 0
+Owes v now targets found header itself needs before after more =
+    (s : Store) (bytes : List ℕ) → now ≡ after_taking s record { header = header; bytes = bytes } v → MayRenew (fetch_by s targets found) header v itself needs
     → (found ≡ (after_verdict (fetch_by s targets found) record { header = header; bytes = bytes } v).found)
-    × IsRenewed (fetch_by s targets found) (after_verdict (fetch_by s targets found) record { header = header; bytes = bytes } v) before after more)
-kept_owed v keeps (Err e) now targets found header itself needs more before owed = tt
-kept_owed v keeps (Ok after) now targets found header itself needs more before owed =
-    λ s bytes is may.
+    × IsRenewed (fetch_by s targets found) (after_verdict (fetch_by s targets found) record { header = header; bytes = bytes } v) before after more
+
+pub kept_owed : (v : Verdict) → v ≡ verdict.Keeps → (now : Store) (targets found : List (List ℕ)) (header : Header) (itself : Option (List ℕ)) (needs more : Table) (before after : Due)
+    → OwesKept now targets found header itself needs before after more → Owes v now targets found header itself needs before after more
+kept_owed v keeps now targets found header itself needs more before after owed s bytes is may =
     let b : KeptBlock = record { header = header; bytes = bytes } in
     let f = fetch_by s targets found in
     subst (λ (x : Verdict). (found ≡ (after_verdict f b x).found) × IsRenewed f (after_verdict f b x) before after more) (sym keeps)
     (refl, owed s bytes (subst (λ (x : Verdict). now ≡ after_taking s b x) keeps is) (subst (λ (x : Verdict). MayRenew f b.header x itself needs) keeps may))
+
+-- and where memory may have run out
+pub result_owed : {E : Type 0} (v : Verdict) → v ≡ verdict.Keeps → (r : Result Due E) (now : Store) (targets found : List (List ℕ)) (header : Header) (itself : Option (List ℕ)) (needs more : Table) (before : Due)
+    → IfOk r (λ after. OwesKept now targets found header itself needs before after more) → IfOk r (λ after. Owes v now targets found header itself needs before after more)
+result_owed v keeps (Err e) now targets found header itself needs more before owed = tt
+result_owed v keeps (Ok after) now targets found header itself needs more before owed = kept_owed v keeps now targets found header itself needs more before after owed

@@ -84,26 +84,34 @@ pub fn gather<H: Kept>(
     needs.clear();
     for target in targets.as_slice() {
         let missed = store.missed(target, has(found, target));
-        add(needs, &missed, 1)?;
+        join(needs, &missed, 1, Due::All)?;
     }
     Ok(())
 }
 
-// So many targets more miss this.
-fn add(needs: &mut BTreeMap<Id, u64>, missed: &Option<Id>, targets: u64) -> Result<(), AllocError>
+// So many targets more miss this, which is due where none missed it.
+fn join(
+    needs: &mut BTreeMap<Id, u64>,
+    missed: &Option<Id>,
+    targets: u64,
+    due: Due,
+) -> Result<Due, AllocError>
     ensures counts { OnOk result ((count : List ℕ → ℕ) → 0 < targets → Counts needs.old count → Counts needs.new (with_more missed.now targets count)) }
-    ensures has { OnOk result ((q : List ℕ) → has_need needs.new q ≡ (has_need needs.old q || names missed.now q)) }
+    ensures due { IfOk result (λ after. Covers due (has_need needs.old) after (has_need needs.new)) }
 {
     let Some(id) = missed else {
-        return Ok(());
+        return Ok(due);
     };
-    let before = needs.get(id).copied().unwrap_or(0);
+    let before = needs.get(id).copied();
     // There are far fewer targets than numbers.
-    if before > u64::MAX - targets {
+    let Some(sum) = before.unwrap_or(0).checked_add(targets) else {
         return Err(AllocError);
+    };
+    needs.insert(*id, sum)?;
+    match before {
+        Some(_) => Ok(due),
+        None => Ok(due_with(&*needs, *id, due)),
     }
-    needs.insert(*id, before + targets)?;
-    Ok(())
 }
 
 // One target less misses this.
@@ -147,16 +155,20 @@ pub fn renew<H: Kept>(
 {
     match verdict {
         Verdict::Keeps => {
+            // Whoever missed the block misses what its run misses.
+            let passed = match needs.remove(&header.id) {
+                Some(missing) => join(needs, &store.wanted_at(header.height), missing, due)?,
+                None => due,
+            };
             if !has(targets, &header.id) {
-                return pass_on(store, header, needs, due);
+                return Ok(passed);
             }
             let now = store.missed(&header.id, has(&*found, &header.id));
             if !is_other(&header.id, &before, &now) {
-                return pass_on(store, header, needs, due);
+                return Ok(passed);
             }
             distinct(targets);
             leave(needs, &before)?;
-            let passed = pass_on(store, header, needs, due)?;
             join(needs, &now, 1, passed)
         }
         Verdict::Low => {
@@ -169,7 +181,8 @@ pub fn renew<H: Kept>(
 
 // Whether something else than itself was missed before than now.
 fn is_other(id: &Id, before: &Option<Id>, now: &Option<Id>) -> bool
-    ensures { result ≡ false → names before.now id.now ≡ false → now.now ≡ before.now }
+    ensures same { result ≡ false → names before.now id.now ≡ false → now.now ≡ before.now }
+    ensures other { result ≡ true → names before.now id.now ≡ false }
 {
     match before {
         Some(before) => *before != *id && !names(now, before),
@@ -177,55 +190,7 @@ fn is_other(id: &Id, before: &Option<Id>, now: &Option<Id>) -> bool
     }
 }
 
-// Whoever missed a block misses what its run misses.
-fn pass_on<H: Kept>(
-    store: &Store<H>,
-    header: &Header,
-    needs: &mut BTreeMap<Id, u64>,
-    due: Due,
-) -> Result<Due, AllocError>
-    requires whole { store.now.whole ≡ true }
-    requires held { held_heights store.now.store.kept header.now.height ≡ true }
-    ensures counts { OnOk result ((count : List ℕ → ℕ) → Counts needs.old count → Counts needs.new (passed_on header.now.id (need_at store.now.store header.now.height) count)) }
-    ensures due { IfOk result (λ after. Covers due (has_need needs.old) after (has_need needs.new)) }
-{
-    let Some(targets) = needs.remove(&header.id) else {
-        return Ok(due);
-    };
-    let need = store.wanted_at(header.height);
-    let after = join(needs, &need, targets, due)?;
-    Ok(after)
-}
-
-// So many targets more miss this, which is due where none missed it.
-fn join(
-    needs: &mut BTreeMap<Id, u64>,
-    missed: &Option<Id>,
-    targets: u64,
-    due: Due,
-) -> Result<Due, AllocError>
-    ensures counts { OnOk result ((count : List ℕ → ℕ) → 0 < targets → Counts needs.old count → Counts needs.new (with_more missed.now targets count)) }
-    ensures due { IfOk result (λ after. Covers due (has_need needs.old) after (has_need needs.new)) }
-{
-    let after = due_now(&*needs, missed, due);
-    add(needs, missed, targets)?;
-    Ok(after)
-}
-
-// What is due then.
-fn due_now(needs: &BTreeMap<Id, u64>, missed: &Option<Id>, due: Due) -> Due
-    ensures { (now : List ℕ → Bool) → ((q : List ℕ) → now q ≡ (has_need needs.now q || names missed.now q)) → Covers due (has_need needs.now) result now }
-{
-    let Some(id) = missed else {
-        return due;
-    };
-    if needs.contains_key(id) {
-        return due;
-    }
-    due_with(needs, *id, due)
-}
-
-// What is due with an identifier more, which isn't missed yet.
+// What is due with an identifier more, which wasn't missed before.
 fn due_with(needs: &BTreeMap<Id, u64>, id: Id, due: Due) -> Due
     ensures id { is_due result id ≡ true }
     ensures others { (q : List ℕ) → has_need needs.now q ≡ true → is_due result q ≡ false → is_due due q ≡ false }

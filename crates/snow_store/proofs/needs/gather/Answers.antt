@@ -21,8 +21,8 @@ loop-target-preserved g c =
     let its : c.missed-missed.result ≡ missed f t = c.missed-missed.ensures c.args.found.now.keys c.has.ensures ∙ missed_is f t in
     let more : take i items ++ t ∷ [] ≡ take (suc i) items = ap (λ x. take i items ++ x ∷ []) c.target-item.is ∙ sym (take-suc items i t c.loop-target-test.true) in
     let next : suc i ≡ i + 1 = omega arith in
-    counts_same c.add.new.needs (with_more c.missed-missed.result 1 (missing f (take i items))) (missing f (take (i + 1) items))
-    (c.in_ok-add.ensures.counts (missing f (take i items)) (omega arith) c.loop-target.invariant)
+    counts_same c.join.new.needs (with_more c.missed-missed.result 1 (missing f (take i items))) (missing f (take (i + 1) items))
+    (c.in_ok-join.ensures.counts (missing f (take i items)) (omega arith) c.loop-target.invariant)
     (λ q. ap (λ o. with_more o 1 (missing f (take i items)) q) its ∙ missing_last f (take i items) t q ∙ ap (λ l. missing f l q) (more ∙ ap (λ n. take n items) next))
 
 pub returns : goal.returns

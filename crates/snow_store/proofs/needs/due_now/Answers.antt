@@ -1,1 +1,0 @@
--- It is missed already, or is due.
