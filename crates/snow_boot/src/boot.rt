@@ -4,6 +4,7 @@ ghost use Rattle.snow_boot.specs.Model.Booting as model;
 ghost use Rattle.snow_chain.specs.Kept.Alone.{IsAlone, last_state};
 ghost use Rattle.snow_boot.specs.Clauses.Calling.{MayGoOn, OnGoing, OnDone, Brings, Begins, Logs, Leaves};
 ghost use Rattle.snow_boot.specs.Kept.Coursing.{is_going};
+ghost use Rattle.snow_boot.specs.Kept.Reply.{left};
 ghost use Rattle.snow_boot.specs.Clauses.Promising.{Promises};
 
 use crate::fetching::Fetching;
@@ -17,7 +18,6 @@ use snow_interval::Kept;
 use snow_lines::Lines;
 use snow_sample::Roster;
 use snow_store::BootStop;
-use snow_wire::Packed;
 use std::alloc::Global;
 use std::marker::{Model, PhantomData};
 
@@ -182,40 +182,38 @@ impl<C: Chain, H: Kept> Boot<C, H> {
         ensures numbers { OnDone result (numbers.new ≡ numbers.old) }
         ensures promise { Promises result log.old log.new self.new.boot }
     {
-        self.going = false;
-        let blocks = ReplyBlocks::Listed(blocks.list());
-        let came = self
-            .parts
-            .ancestors(node, number, blocks, chain, numbers, log);
-        self.going = goes_on(&came);
-        came
+        let listed = ReplyBlocks::Listed(blocks.list());
+        self.reply(node, number, listed, chain, numbers, log)
     }
 
-    /// Takes such a reply as `ancestors` does, whose blocks still stand in the payload of their
-    /// frame. Those that it keeps are copied once.
+    /// Takes such a reply as `ancestors` does, whose blocks stand in a list, or still in the payload
+    /// of their frame. Those that it keeps are copied once.
     /// Rule: AvalancheGo, snow/engine/snowman/bootstrap.
-    pub fn ancestors_packed(
+    pub fn reply(
         &mut self,
         node: &NodeId,
         number: u32,
-        blocks: Packed<'_>,
+        blocks: ReplyBlocks<'_>,
         chain: &mut C,
         numbers: &mut Numbers,
         log: &mut Lines,
     ) -> Result<Stage, BootStop>
         requires { MayGoOn self.old (C.held chain.old) numbers.old }
-        ensures answer { Brings result self.new.boot numbers.new (C.held chain.new) (model.ancestors_came C.rules (last_state (C.held chain.old)) self.old.boot numbers.old node.now number blocks.entry).1 }
-        ensures lines { Logs result log.old log.new (model.ancestors_came C.rules (last_state (C.held chain.old)) self.old.boot numbers.old node.now number blocks.entry).0 }
+        ensures answer { Brings result self.new.boot numbers.new (C.held chain.new) (model.ancestors_came C.rules (last_state (C.held chain.old)) self.old.boot numbers.old node.now number (left blocks.entry)).1 }
+        ensures lines { Logs result log.old log.new (model.ancestors_came C.rules (last_state (C.held chain.old)) self.old.boot numbers.old node.now number (left blocks.entry)).0 }
         ensures chain { Leaves result (C.held chain.old) (C.held chain.new) }
         ensures goes_on { OnGoing result (MayGoOn self.new (C.held chain.new) numbers.new) }
         ensures numbers { OnDone result (numbers.new ≡ numbers.old) }
         ensures promise { Promises result log.old log.new self.new.boot }
     {
         self.going = false;
-        let blocks = ReplyBlocks::Packed(blocks);
-        let came = self
-            .parts
-            .ancestors(node, number, blocks, chain, numbers, log);
+        let came = match self.parts.requests.close(number, node) {
+            Some(id) => match self.parts.fetching.reply(&*chain, id, blocks) {
+                Ok(()) => self.parts.follow(chain, numbers, log),
+                Err(stop) => Err(stop),
+            },
+            None => Ok(Stage::Going),
+        };
         self.going = goes_on(&came);
         came
     }

@@ -4,11 +4,9 @@ ghost use Rattle.snow_boot.specs.Model.Asking.{due_of};
 ghost use Rattle.snow_boot.specs.Model.Booting as model;
 ghost use Rattle.snow_chain.specs.Kept.Alone.{last_state};
 ghost use Rattle.snow_boot.specs.Kept.Coursing.{boot_of, MayHear, Comes};
-ghost use Rattle.snow_boot.specs.Kept.Reply.{left};
 
 use crate::boot::{Parts, Stage};
 use crate::question::Question;
-use crate::reply::ReplyBlocks;
 use snow_base::{Id, Ids, NodeId, Numbers};
 use snow_chain::Chain;
 use snow_interval::Kept;
@@ -82,29 +80,6 @@ impl<H: Kept> Parts<H> {
         };
         self.survey.hear(node);
         self.conclude(chain, numbers, log)
-    }
-
-    /// Takes a block and its ancestors, which a node sent.
-    pub(crate) fn ancestors<C: Chain>(
-        &mut self,
-        node: &NodeId,
-        number: u32,
-        blocks: ReplyBlocks<'_>,
-        chain: &mut C,
-        numbers: &mut Numbers,
-        log: &mut Lines,
-    ) -> Result<Stage, BootStop>
-        requires { MayHear self.old.survey self.old.fetching self.old.requests (C.held chain.old) numbers.old }
-        ensures { Comes result log.old log.new self.new.survey self.new.fetching self.new.requests numbers.old numbers.new (C.held chain.old) (C.held chain.new)
-            (model.ancestors_came C.rules (last_state (C.held chain.old)) (boot_of self.old.survey self.old.fetching.fetch self.old.requests) numbers.old node.now number (left blocks.entry)) }
-    {
-        let Some(id) = self.requests.close(number, node) else {
-            return Ok(Stage::Going);
-        };
-        match self.fetching.reply(&*chain, id, blocks) {
-            Ok(()) => self.follow(chain, numbers, log),
-            Err(stop) => Err(stop),
-        }
     }
 
     /// Takes a block that an earlier run had kept.

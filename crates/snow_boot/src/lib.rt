@@ -20,6 +20,7 @@ pub use laws::{
     refused_law, reply_law, stopped_law,
 };
 pub use question::{Candidate, Question};
+pub use reply::ReplyBlocks;
 pub use snow_interval::Intervals;
 pub use snow_store::{
     BootStop, Children, KeptBlock, Verdict, linked_law, path_law, progress_law, run_law,

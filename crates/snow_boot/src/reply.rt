@@ -1,32 +1,16 @@
 //! The blocks of a reply, wherever they stand.
-ghost use Rattle.std.specs.Iterator.{YieldsFirstRef};
-ghost use Rattle.snow_boot.specs.Kept.Reply.{left};
 
 use snow_base::Bytes;
 use snow_wire::Packed;
 
-/// The blocks of a reply: in a list of their own, or in the payload of their frame. Each step takes
-/// the first one off.
+/// The blocks of a reply. Each step takes the first one off.
+/// Rule: this project's own.
 #[derive(Drop)]
-pub(crate) enum ReplyBlocks<'a> {
+pub enum ReplyBlocks<'a> {
+    /// They stand in a list of their own.
     Listed(&'a [Bytes]),
+    /// They still stand in the payload of their frame.
     Packed(Packed<'a>),
-}
-
-impl<'a> ReplyBlocks<'a> {
-    // Takes the first block off.
-    fn first(&mut self) -> Option<&'a [u8]>
-        ensures { YieldsFirstRef left self.old result self.new }
-    {
-        match self {
-            ReplyBlocks::Listed(blocks) => {
-                let (first, rest) = blocks.split_first()?;
-                *blocks = rest;
-                Some(first.list())
-            }
-            ReplyBlocks::Packed(blocks) => blocks.next(),
-        }
-    }
 }
 
 impl<'a> Iterator for ReplyBlocks<'a> {
@@ -40,6 +24,13 @@ impl<'a> Iterator for ReplyBlocks<'a> {
     ghost remaining = { item_count left };
 
     fn next(&mut self) -> Option<&'a [u8]> {
-        self.first()
+        match self {
+            ReplyBlocks::Listed(blocks) => {
+                let (first, rest) = blocks.split_first()?;
+                *blocks = rest;
+                Some(first.list())
+            }
+            ReplyBlocks::Packed(blocks) => blocks.next(),
+        }
     }
 }

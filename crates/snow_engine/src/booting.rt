@@ -19,7 +19,7 @@ use crate::stop::EngineStop;
 use snow_base::limits::MOST_WORDS;
 use snow_base::{Id, NodeId, Numbers};
 use snow_board::Board;
-use snow_boot::{Boot, BootStop, Intervals, Stage as BootStage};
+use snow_boot::{Boot, BootStop, Intervals, ReplyBlocks, Stage as BootStage};
 use snow_chain::Chain;
 use snow_flake::Params;
 use snow_lines::{Line, Lines, SkipKind};
@@ -261,7 +261,8 @@ fn hear<C: Chain>(
         }
         View::Ancestors(parcel) => {
             let node = NodeId::from_bytes(*parcel.node);
-            boot.ancestors_packed(&node, parcel.request, parcel.blocks, chain, numbers, log)
+            let blocks = ReplyBlocks::Packed(parcel.blocks);
+            boot.reply(&node, parcel.request, blocks, chain, numbers, log)
         }
         View::Timeout(sender) => {
             let node = NodeId::from_bytes(*sender.node);
