@@ -1,5 +1,5 @@
 -- How a node that runs begins: with the state of its last accepted block, at once or with bootstrapping.
-use Rattle.std.proofs.Common.{◌≡◌, ℕ, ◌-◌, ◌^◌, ◌≤◌, false, List, [], Option, Some, Ok, unwrap_or, refl, sym, ap, ◌∙◌, subst, arith}
+use Rattle.std.proofs.Common.{◌≡◌, ℕ, ◌-◌, ◌^◌, ◌≤◌, Bool, true, false, if◌then◌else◌, List, [], Option, Some, Ok, unwrap_or, refl, sym, ap, ◌∙◌, subst, arith}
 use Rattle.std.specs.FinMap.{empty}
 use Rattle.snow_flake.specs.Model.Parameters.{Parameters}
 use Rattle.snow_sample.specs.declared.roster.Node.{Node as Member}
@@ -11,8 +11,10 @@ use Rattle.snow_wire.specs.declared.event.Event.{Event}
 use Rattle.snow_wire.specs.declared.event.Start.{Start}
 use Rattle.snow_engine.specs.declared.stage.Stage.TheVariants as stage
 use Rattle.snow_engine.specs.Model.Booting.{Booting}
-use Rattle.snow_engine.specs.Model.Catching.{brings, heard, new_booting}
-use Rattle.snow_engine.specs.Model.Node.{begun_by}
+use Rattle.snow_engine.specs.Kept.Staging.{Node, Comes, goes_as}
+use Rattle.snow_engine.specs.Model.Catching.{boots_on, brings, came_to, heard, is_heard, new_booting, noted, with_words}
+use Rattle.snow_engine.specs.Model.Node.{begun_by, step}
+use Rattle.snow_flake.specs.Model.Rule.{Answer}
 use Rattle.snow_node.specs.Model.Running.{Running, begun_above}
 use Rattle.snow_node.specs.Model.Turning.{members}
 use Rattle.snow_node.proofs.Following.{state_with}
@@ -61,6 +63,15 @@ still_boots rules before node frame e boot drawn state is came same =
     subst (λ (n : Booting). brings n (heard rules n.state n.boot n.last frame e).1
     ≡ Ok (stage.Booting (record { parameters = before.parameters; roster = before.roster; boot = boot; state = state; words = before.words; last = drawn })))
     is (rw same (ap (brings before) came))
+
+-- ---- an event is heard
+
+pub catches : (rules : Rules) (answer : Answer) (node : Node) (before : Booting) (frame : ℕ) (e : Event) → stage.Booting before ≡ node → is_heard e ≡ true
+    → came_to before (heard rules before.state before.boot before.last frame e) ≡ step rules answer node frame e
+unfolding boots_on
+catches rules answer node before frame e is h =
+    ap (λ (t : Bool). (let comes : Comes Node = if t then came_to before (heard rules before.state before.boot before.last frame e) else goes_as (with_words before) (noted before.words frame e) in comes)) (sym h)
+    ∙ ap (λ (n : Node). step rules answer n frame e) is
 
 -- ---- a node runs at once
 

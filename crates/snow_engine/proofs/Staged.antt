@@ -1,13 +1,16 @@
 -- What comes of a node of one stage comes of it as a node.
 use Rattle.std.proofs.Common.{◌≡◌, List, Result, Ok, Err, ap, subst, sym, inl, inr}
+use Rattle.snow_boot.specs.Clauses.Calling.{Logs as BootLogs}
 use Rattle.snow_lines.specs.declared.line.Line.{Line}
 use Rattle.snow_node.specs.declared.stop.Halt.{Halt}
 use Rattle.snow_node.specs.declared.stop.Halt.TheVariants as halt
-use Rattle.snow_node.specs.Clauses.Stepping.{HaltsAs, LogsFront, Tells, Turns}
+use Rattle.snow_node.specs.Clauses.Stepping.{LogsFront, Tells, Turns}
 use Rattle.snow_node.proofs.Logs.{logs_whole}
+use Rattle.snow_store.specs.declared.stop.BootStop.{BootStop}
+use Rattle.snow_store.specs.declared.stop.BootStop.TheVariants as why
 use Rattle.snow_engine.specs.declared.stop.EngineStop.{EngineStop}
 use Rattle.snow_engine.specs.declared.stop.EngineStop.TheVariants as stop
-use Rattle.snow_engine.specs.Kept.Staging.{Node, staged, stop_for}
+use Rattle.snow_engine.specs.Kept.Staging.{Node, staged, stop_of_boot}
 use Rattle.snow_engine.specs.Kept.Boxed.{as_step}
 use Rattle.snow_engine.specs.Clauses.Boxing.{IsBoxed}
 use Rattle.snow_engine.specs.Clauses.Stopping.{Logs, Starts, Steps, StopsAs}
@@ -33,22 +36,6 @@ step_logged given result before now lines is l = subst (λ (r : Result (Unit {0}
     logs (Err halt.Memory) l = l
     logs (Err halt.SecondStart) l = l
     logs (Err halt.Requests) l = l
-
--- a node of one stage that goes on is one that is returned
-pub kept_on : (S : Type 0) (as_node : S → Node) (after : S) (expected : Result S Halt) → expected ≡ Ok after → Starts (Ok (as_node after)) (staged as_node expected)
-kept_on S as_node after expected e = ap (staged as_node) e
-
--- one that stopped is none
-pub let_go : (S : Type 0) (as_node : S → Node) (h : Halt) (expected : Result S Halt) → HaltsAs h expected → Starts (Err (stop_for h)) (staged as_node expected)
-let_go S as_node halt.Memory expected e = tt
-let_go S as_node halt.SecondStart expected e = ap (staged as_node) e
-let_go S as_node halt.Requests expected e = ap (staged as_node) e
-
--- and its lines
-pub logged : (T U : Type 0) (h : Halt) (before now lines : List Line) → Tells {T = T} (Err h) before now lines → Logs {T = U} (Err (stop_for h)) before now lines
-logged T U halt.Memory before now lines l = l
-logged T U halt.SecondStart before now lines l = l
-logged T U halt.Requests before now lines l = l
 
 -- what gave a stop in place of a node stops so, in a box
 pub stopped : (S : Type 0) (s b : EngineStop) (expected : Result S EngineStop) → IsBoxed stop.Memory s b → Starts {S = S} (Err s) expected → StopsAs b expected
@@ -86,3 +73,15 @@ stop_logged T U s b before now lines (inr none) l = rw none (front s l)
     front stop.SecondStart l = logs_whole before now lines l
     front stop.Requests l = logs_whole before now lines l
     front stop.Memory l = l
+
+-- the lines of a stop of bootstrapping are those of the node's
+pub boot_logged : (T U : Type 0) (w : BootStop) (s : EngineStop) (before now lines : List Line) → s ≡ stop_of_boot w → BootLogs {T = T} (Err w) before now lines → Logs {T = U} (Err s) before now lines
+boot_logged T U w s before now lines is l = rw is (logs w l)
+  where
+    logs : (w : BootStop) → BootLogs {T = T} (Err w) before now lines → Logs {T = U} (Err (stop_of_boot w)) before now lines
+    logs why.Memory l = record { front = l.front; rest = l.rest; whole = l.whole; grown = l.grown }
+    logs why.Requests l = l
+    logs why.Full l = l
+    logs (why.Conflict height first second) l = l
+    logs (why.Fork id parent) l = l
+    logs (why.Refused id) l = l

@@ -1,6 +1,6 @@
 //! A node that bootstraps before it runs.
 
-ghost use Rattle.std.specs.Prelude.{◌≡◌, [], ◌∷◌, Err, OnErr};
+ghost use Rattle.std.specs.Prelude.{◌≡◌, [], ◌∷◌, Err, OnErr, true, false};
 ghost use Rattle.snow_flake.specs.Model.Parameters.{AreGood};
 ghost use Rattle.snow_chain.specs.Model.Chain.{begun};
 ghost use Rattle.snow_chain.specs.Kept.Alone.{last_state};
@@ -9,11 +9,14 @@ ghost use Rattle.snow_boot.specs.Clauses.Calling.{Logs as BootLogs};
 ghost use Rattle.snow_sample.specs.Model.Words.{spelled};
 ghost use Rattle.snow_wire.specs.Clauses.Viewed.{as_event};
 ghost use Rattle.snow_engine.specs.Model.Catching as model;
-ghost use Rattle.snow_engine.specs.Clauses.Stopping.{Logs, Starts};
+ghost use Rattle.snow_engine.specs.Model.Node.{is_booting, step};
+ghost use Rattle.snow_engine.specs.Clauses.Stopping.{Logs, Starts, Steps};
+ghost use Rattle.snow_engine.specs.declared.stage.Stage.TheVariants as node;
 ghost use Rattle.snow_lines.specs.declared.line.Line.TheVariants as line;
 ghost use Rattle.snow_node.specs.Clauses.Stepping.{Tells, Turns};
 ghost use Rattle.snow_node.specs.Model.Turning.{members};
 
+use crate::boxed::{BoxedStop, boxed};
 use crate::stage::{Node, Stage};
 use crate::stop::EngineStop;
 use snow_base::limits::MOST_WORDS;
@@ -28,6 +31,7 @@ use snow_sample::{Roster, Words};
 use snow_wire::{Start, View, ids_of};
 use std::alloc::Global;
 use std::marker::Model;
+use std::mem;
 
 /// A node that bootstraps, over any chain. Contracts see the node of the definitions. After a stop
 /// its caller only drops it.
@@ -40,7 +44,6 @@ pub struct Booting<C: Chain> {
     chain: C,
     words: Words,
     numbers: Numbers,
-    alloc: Global,
 }
 
 impl<C: Chain> Model for Booting<C> {
@@ -93,7 +96,6 @@ impl<C: Chain> Booting<C> {
                 chain,
                 words: Words::new(alloc),
                 numbers,
-                alloc,
             })),
             Err(stop) => {
                 drop(roster);
@@ -103,83 +105,87 @@ impl<C: Chain> Booting<C> {
         }
     }
 
-    /// Takes one event, which came in this frame, and returns the node that comes of it: it still
-    /// bootstraps, or it runs. It returns the stop that comes; on want of memory, `Memory`.
-    /// Rule: AvalancheGo, snow/engine/snowman/bootstrap.
-    #[tactic(auto, unfolding(crate::specs::Model::Catching::boots_on), using(crate::proofs::Staged::kept_on, crate::proofs::Staged::let_go, crate::proofs::Staged::logged))]
-    pub fn step<B: Board>(
-        mut self,
+    /// Takes note of an event that brings nothing to bootstrapping.
+    #[tactic(auto, unfolding(crate::specs::Model::Catching::boots_on), using(crate::proofs::Staged::stepped, crate::proofs::Staged::step_logged))]
+    pub(crate) fn note(
+        &mut self,
         frame: u64,
         event: View<'_>,
         log: &mut Lines,
-    ) -> Result<Node<C, B>, EngineStop>
-        ensures answer { Starts result (model.boots_on C.rules self frame (as_event event.entry)).1 }
-        ensures lines { Logs result log.old log.new (model.boots_on C.rules self frame (as_event event.entry)).0 }
+    ) -> Result<(), BoxedStop>
+        requires { model.is_heard (as_event event) ≡ false }
+        ensures answer { Steps result (node.Booting self.new) (model.boots_on C.rules self.old frame (as_event event.entry)).1 }
+        ensures lines { Logs result log.old log.new (model.boots_on C.rules self.old frame (as_event event.entry)).0 }
     {
-        if is_heard(&event) {
-            return self.catch_up(frame, event, log);
-        }
-        match note(&mut self.words, frame, event, log) {
-            Ok(()) => Ok(Stage::Booting(self)),
-            Err(halt) => {
-                // (a node is let go by a call: it is many steps, which stand in one place then)
-                drop(self);
-                Err(EngineStop::from(halt))
-            }
-        }
-    }
-
-    /// Takes an answer, or that none will come, or a block that was stored. The node runs once it
-    /// has caught up.
-    #[tactic(auto, using(snow_node::proofs::Logs::logs_whole))]
-    fn catch_up<B: Board>(
-        mut self,
-        frame: u64,
-        event: View<'_>,
-        log: &mut Lines,
-    ) -> Result<Node<C, B>, EngineStop>
-        ensures answer { Starts result (model.came_to self (model.heard C.rules self.state self.boot self.last frame (as_event event.entry))).1 }
-        ensures lines { Logs result log.old log.new (model.came_to self (model.heard C.rules self.state self.boot self.last frame (as_event event.entry))).0 }
-    {
-        let came = match hear(
-            self.alloc,
-            &mut self.boot,
-            &mut self.chain,
-            &mut self.numbers,
-            frame,
-            event,
-            log,
-        ) {
-            Ok(came) => came,
-            Err(stop) => {
-                drop(self.boot);
-                drop(self.roster);
-                drop(self.words);
-                return Err(EngineStop::from(stop));
-            }
-        };
-        match came {
-            BootStage::Going => Ok(Stage::Booting(self)),
-            BootStage::Done { last, height } => {
-                drop(self.boot);
-                let node = Running::above(
-                    self.alloc,
-                    self.params,
-                    self.chain,
-                    self.roster,
-                    self.words,
-                    self.numbers,
-                    last,
-                    height,
-                )?;
-                Ok(Stage::Running(node))
-            }
-        }
+        boxed(note(&mut self.words, frame, event, log))
     }
 }
 
+/// Gives an answer, or that none will come, or a block that was stored, to a node that bootstraps.
+/// The node runs once it has caught up. At a stop it is dropped.
+// It moves whole nodes: were it inlined, each frame would probe the stack that this takes, page
+// by page.
+#[inline(never)]
+#[tactic(auto, unfolding(crate::specs::Model::Catching::boots_on), using(crate::proofs::Staged::stopped))]
+pub(crate) fn catch_up<C: Chain, B: Board>(
+    alloc: Global,
+    stage: &mut Node<C, B>,
+    frame: u64,
+    event: View<'_>,
+    log: &mut Lines,
+) -> Result<(), BoxedStop>
+    requires booting { is_booting stage.old ≡ true }
+    requires heard { model.is_heard (as_event event) ≡ true }
+    ensures answer { Steps result stage.new (step C.rules B.answer stage.old frame (as_event event.entry)).1 }
+    ensures lines { Logs result log.old log.new (step C.rules B.answer stage.old frame (as_event event.entry)).0 }
+{
+    let mut node = match mem::replace(stage, Stage::Ended) {
+        Stage::Booting(node) => node,
+        other => {
+            drop(other);
+            return Ok(());
+        }
+    };
+    let came = match hear(
+        alloc,
+        &mut node.boot,
+        &mut node.chain,
+        &mut node.numbers,
+        frame,
+        event,
+        log,
+    ) {
+        Ok(came) => came,
+        Err(stop) => {
+            drop((node.boot, node.roster, node.words));
+            return Err(BoxedStop::new(alloc, EngineStop::from(stop)));
+        }
+    };
+    let next = match came {
+        BootStage::Going => Stage::Booting(node),
+        BootStage::Done { last, height } => {
+            drop(node.boot);
+            match Running::above(
+                alloc,
+                node.params,
+                node.chain,
+                node.roster,
+                node.words,
+                node.numbers,
+                last,
+                height,
+            ) {
+                Ok(running) => Stage::Running(running),
+                Err(_) => return Err(BoxedStop::from(Halt::Memory)),
+            }
+        }
+    };
+    drop(mem::replace(stage, next));
+    Ok(())
+}
+
 /// Returns whether an event brings something to bootstrapping.
-fn is_heard(event: &View<'_>) -> bool
+pub(crate) fn is_heard(event: &View<'_>) -> bool
     ensures { result ≡ model.is_heard (as_event event.now) }
 {
     matches!(

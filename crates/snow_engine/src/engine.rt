@@ -1,4 +1,4 @@
-ghost use Rattle.std.specs.Prelude.{◌≡◌, true, IfOk};
+ghost use Rattle.std.specs.Prelude.{◌≡◌, IfOk};
 ghost use Rattle.snow_flake.specs.Model.Parameters.{AreGood, checked};
 ghost use Rattle.snow_sample.specs.Model.Roster.{first_fault};
 ghost use Rattle.snow_chain.specs.Model.Chain.{begun};
@@ -7,7 +7,7 @@ ghost use Rattle.snow_engine.specs.Model.Node as model;
 ghost use Rattle.snow_engine.specs.Clauses.Stopping.{Logs, Starts, Steps};
 ghost use Rattle.snow_node.specs.Model.Turning.{members};
 
-use crate::booting::Booting;
+use crate::booting::{Booting, catch_up, is_heard};
 use crate::boxed::{BoxedStop, boxed};
 use crate::deciding::Deciding;
 use crate::stage::{Node, Stage};
@@ -22,7 +22,6 @@ use snow_sample::{Roster, Words};
 use snow_wire::{Start, View};
 use std::alloc::Global;
 use std::marker::Model;
-use std::mem;
 
 /// What a node does with the events of its stream.
 /// Rule: this project's own.
@@ -111,6 +110,7 @@ impl<C: Chain, B: Board> Engine<C, B> {
     {
         match &mut self.stage {
             Stage::Deciding(node) => boxed(node.step(frame, event, log)),
+            Stage::Booting(node) if !is_heard(&event) => node.note(frame, event, log),
             stage @ Stage::Booting(_) => catch_up(self.alloc, stage, frame, event, log),
             Stage::Running(node) => boxed(node.step(frame, event, log)),
             Stage::Ended => Ok(()),
@@ -121,38 +121,6 @@ impl<C: Chain, B: Board> Engine<C, B> {
     /// Rule: this project's own.
     pub fn discard(self) {
         drop(self);
-    }
-}
-
-/// Gives one event to a node that bootstraps. At a stop it drops the node.
-// It moves whole nodes: were it inlined, each frame would probe the stack that this takes, page
-// by page.
-#[inline(never)]
-#[tactic(auto, using(crate::proofs::Staged::stopped, crate::proofs::Staged::stop_logged))]
-fn catch_up<C: Chain, B: Board>(
-    alloc: Global,
-    stage: &mut Node<C, B>,
-    frame: u64,
-    event: View<'_>,
-    log: &mut Lines,
-) -> Result<(), BoxedStop>
-    requires { model.is_booting stage.old ≡ true }
-    ensures answer { Steps result stage.new (model.step C.rules B.answer stage.old frame (as_event event.entry)).1 }
-    ensures lines { Logs result log.old log.new (model.step C.rules B.answer stage.old frame (as_event event.entry)).0 }
-{
-    let node = match mem::replace(stage, Stage::Ended) {
-        Stage::Booting(node) => node,
-        other => {
-            drop(other);
-            return Ok(());
-        }
-    };
-    match node.step(frame, event, log) {
-        Ok(next) => {
-            drop(mem::replace(stage, next));
-            Ok(())
-        }
-        Err(stop) => Err(BoxedStop::new(alloc, stop)),
     }
 }
 
