@@ -1,5 +1,5 @@
 -- The indexes of the kept blocks, with one block more.
-use Rattle.std.proofs.Common.{◌≡◌, ℕ, zero, suc, ◌^◌, ◌<◌, Bool, true, false, ◌==◌, cond, List, [], ◌∷◌, ◌++◌, length, reverse, Option, Some, None, bytes_eq, nat_lt, if◌then◌else◌, inl, inr, refl, sym, ap, ◌∙◌, arith, subst, ⊎_elim}
+use Rattle.std.proofs.Common.{◌≡◌, ℕ, zero, suc, ◌<◌, Bool, true, false, ◌==◌, cond, List, [], ◌∷◌, ◌++◌, length, reverse, Option, Some, None, bytes_eq, nat_lt, if◌then◌else◌, inl, inr, refl, sym, ap, ◌∙◌, arith, subst, ⊎_elim}
 use Rattle.std.specs.BTreeMap.{BTreeMap, get, is_at}
 use Rattle.std.specs.List.{slice_get}
 use Rattle.std.specs.Option.{option_map}
@@ -11,7 +11,7 @@ use Rattle.snow_map.specs.Clauses.Entries.{value_of, HasAt}
 use Rattle.snow_store.specs.declared.store.KeptBlock.{KeptBlock}
 use Rattle.snow_store.specs.declared.index.Links.{Links}
 use Rattle.snow_store.specs.Model.Keeping.{held, highest, higher}
-use Rattle.snow_store.specs.Kept.Indexing.{depth_of, place_of, top_of, higher_height, with_child, children_of, links_of, with_top, adopting, links_or_none, links_at, HasPlaces, HasLinks}
+use Rattle.snow_store.specs.Kept.Indexing.{place_of, top_of, higher_height, with_child, children_of, links_of, with_top, adopting, links_or_none, links_at, HasPlaces, HasLinks}
 use Rattle.snow_store.specs.Laws.Linking.{AreApart}
 use Rattle.snow_store.proofs.Cases.{same_id, same_some, none_not, picked, passed}
 use Rattle.snow_store.proofs.Holding.{held_first, held_deeper}
@@ -38,29 +38,18 @@ same_height a b =
 
 -- ---- by height
 
--- depths are equal where heights are
-same_depth : (a b : ℕ) → a < 2 ^ 64 → b < 2 ^ 64 → (depth_of a == depth_of b) ≡ (a == b)
-same_depth a b small few =
-    ⊎_elim (λ (same : a ≡ b). eq-eqb (depth_of a) (depth_of b) (ap depth_of same) ∙ sym (eq-eqb a b same))
-    (λ apart. ⊎_elim
-    (λ (less : a < b). ne_eqb (depth_of a) (depth_of b) (λ e. omega (arith, e, less, few)) ∙ sym (ne_eqb a b (λ e. omega (arith, e, less))))
-    (λ (more : b < a). ne_eqb (depth_of a) (depth_of b) (λ e. omega (arith, e, more, small)) ∙ sym (ne_eqb a b (λ e. omega (arith, e, more))))
-    apart)
-    (cases_order a b)
-
-pub places_more : (before now : BTreeMap ℕ ℕ) (kept : List KeptBlock) (b : KeptBlock) (height place : ℕ) → height < 2 ^ 64
-    → ((q : ℕ) → get nat_cmp now q ≡ cond (is_at (nat_cmp (depth_of height)) q) (Some place) (get nat_cmp before q))
+pub places_more : (before now : BTreeMap ℕ ℕ) (kept : List KeptBlock) (b : KeptBlock) (height place : ℕ)
+    → ((q : ℕ) → get nat_cmp now q ≡ cond (is_at (nat_cmp height) q) (Some place) (get nat_cmp before q))
     → b.header.height ≡ height → length kept ≡ place → HasPlaces before kept → HasPlaces now (b ∷ kept)
 unfolding place_of
-places_more before now kept b height place small change at len has h few =
-    change (depth_of h)
-    ∙ ap (λ t. cond t (Some place) (get nat_cmp before (depth_of h))) (same_height (depth_of height) (depth_of h) ∙ same_depth height h small few ∙ ap (λ n. n == h) (sym at))
-    ∙ ap (λ o. cond (b.header.height == h) (Some place) o) (has h few)
-    ∙ ap (λ n. cond (b.header.height == h) (Some n) (place_of kept h)) (sym len)
+places_more before now kept b height place change at len has q =
+    change q ∙ ap (λ t. cond t (Some place) (get nat_cmp before q)) (same_height height q ∙ ap (λ n. n == q) (sym at))
+    ∙ ap (λ o. cond (b.header.height == q) (Some place) o) (has q)
+    ∙ ap (λ n. cond (b.header.height == q) (Some n) (place_of kept q)) (sym len)
 
 pub no_places : (places : BTreeMap ℕ ℕ) → places.entries ≡ [] → HasPlaces places []
 unfolding place_of
-no_places places none h few = rw none refl
+no_places places none h = rw none refl
 
 get_last : (items : List KeptBlock) (b : KeptBlock) → slice_get (items ++ b ∷ []) (length items) ≡ Some b
 get_last [] b = refl

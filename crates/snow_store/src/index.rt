@@ -1,6 +1,6 @@
 ghost use Rattle.std.specs.Prelude.{◌≡◌, ◌^◌, ◌<◌, List, ◌∷◌, length, OnOk};
 ghost use Rattle.snow_store.specs.declared.store.KeptBlock.{KeptBlock};
-ghost use Rattle.snow_store.specs.Kept.Indexing.{HasPlaces, HasLinks, depth_of, links_at, links_of, with_top, adopting, with_child, lower_height, higher_height, stray_height};
+ghost use Rattle.snow_store.specs.Kept.Indexing.{HasPlaces, HasLinks, links_at, links_of, with_top, adopting, with_child, lower_height, higher_height, stray_height};
 
 use snow_base::{Header, Id};
 use snow_map::IdMap;
@@ -42,16 +42,8 @@ pub(crate) fn note_place(
     ensures noted { OnOk result ((kept : List KeptBlock) (b : KeptBlock) → b.header.height ≡ height → length kept ≡ place → HasPlaces places.old kept → HasPlaces places.new (b ∷ kept)) }
     ensures fits { height < 2 ^ 64 }
 {
-    places.insert(depth(height), place)?;
+    places.insert(height, place)?;
     Ok(())
-}
-
-// How far below the highest possible height one is: the key of its place. Most blocks come from the top
-// downwards, and then each key comes behind all others.
-pub(crate) fn depth(height: u64) -> u64
-    ensures { result ≡ depth_of height }
-{
-    u64::MAX - height
 }
 
 // What is kept of an identifier.

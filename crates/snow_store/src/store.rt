@@ -138,7 +138,7 @@ impl<H: Kept> Store<H> {
         if !self.heights.contains(height) {
             return None;
         }
-        match self.places.get(&index::depth(height)) {
+        match self.places.get(&height) {
             Some(place) => item_at(self.kept.as_slice(), *place),
             None => None,
         }

@@ -1,5 +1,5 @@
 -- The indexes of the kept blocks: by height, and by identifier.
-use Rattle.std.specs.Prelude.{◌≡◌, ℕ, ◌+◌, ◌-◌, ◌^◌, ◌<◌, ◌≤◌, Bool, true, ◌==◌, List, [], ◌∷◌, length, Option, Some, None, nat_lt, bytes_eq, if◌then◌else◌}
+use Rattle.std.specs.Prelude.{◌≡◌, ℕ, ◌+◌, ◌^◌, ◌<◌, ◌≤◌, Bool, true, ◌==◌, List, [], ◌∷◌, length, Option, Some, None, nat_lt, bytes_eq, if◌then◌else◌}
 use Rattle.std.specs.BTreeMap.{BTreeMap, get}
 use Rattle.std.specs.Option.{option_map}
 use Rattle.std.specs.Ordering.{nat_cmp}
@@ -51,12 +51,8 @@ abbrev pub stray_height : ℕ → Option Children → Option ℕ
 stray_height height None = None
 stray_height height (Some c) = if c.lowest == height + 1 then c.second else Some c.lowest
 
--- how far below the highest possible height one is
-abbrev pub depth_of : ℕ → ℕ
-depth_of height = 2 ^ 64 - 1 - height
-
 abbrev pub HasPlaces : BTreeMap ℕ ℕ → List KeptBlock → Type 0
-HasPlaces places kept = (h : ℕ) → h < 2 ^ 64 → get nat_cmp places (depth_of h) ≡ place_of kept h
+HasPlaces places kept = (h : ℕ) → get nat_cmp places h ≡ place_of kept h
 
 -- at which heights an identifier's block is kept, and children of it
 abbrev pub links_of : List KeptBlock → List ℕ → Links
