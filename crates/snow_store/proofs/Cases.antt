@@ -2,6 +2,7 @@
 use Rattle.std.proofs.Common.{◌≡◌, ℕ, suc, ◌+◌, ◌<◌, Bool, true, false, ◌||◌, cond, List, [], ◌∷◌, length, get_or, drop, drop-cons, Option, Some, None, bytes_eq, if◌then◌else◌, ◌⊎◌, inl, inr, refl, sym, ap, ◌∙◌, arith}
 use Rattle.std.proofs.lemmas.Slice.Eq.{bytes_eq-Decides}
 use Rattle.std.specs.List.{list_any}
+use Rattle.std.specs.Option.{option_eq}
 use Rattle.std.proofs.lemmas.Bool.{true≢false, false_from_ne_true}
 
 -- cases on a test
@@ -27,6 +28,13 @@ id_turned a b =
     split_on (bytes_eq b a)
     (λ same. id_same a b (sym (same_id b a same)) ∙ sym same)
     (λ other. false_from_ne_true (bytes_eq a b) (λ same. clash (bytes_eq b a) (id_same b a (sym (same_id a b same))) other) ∙ sym other)
+
+-- nothing, or one identifier, that is found equal to another is the same
+pub same_need : (a b : Option (List ℕ)) → option_eq bytes_eq a b ≡ true → a ≡ b
+same_need None None is = refl
+same_need None (Some id) is = absurd (true≢false (sym is))
+same_need (Some id) None is = absurd (true≢false (sym is))
+same_need (Some id) (Some other) is = ap Some (same_id id other is)
 
 -- in a list too
 pub any_turned : (ids : List (List ℕ)) (id : List ℕ) → list_any (bytes_eq id) ids ≡ list_any (λ x. bytes_eq x id) ids
@@ -63,13 +71,6 @@ or_false false = refl
 pub or_assoc : (a b c : Bool) → ((a || b) || c) ≡ (a || (b || c))
 or_assoc true b c = refl
 or_assoc false b c = refl
-
--- a test that is set where another holds
-pub cond_or : (a b : Bool) → cond a true b ≡ (b || a)
-cond_or true true = refl
-cond_or true false = refl
-cond_or false true = refl
-cond_or false false = refl
 
 -- ---- lists
 

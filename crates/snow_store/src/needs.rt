@@ -160,11 +160,15 @@ pub fn renew<H: Kept>(
                 Some(missing) => join(needs, &store.wanted_at(header.height), missing, due)?,
                 None => due,
             };
+            // Nearly every block missed itself, as it wasn't kept.
+            if names(&before, &header.id) {
+                return Ok(passed);
+            }
             if !has(targets, &header.id) {
                 return Ok(passed);
             }
             let now = store.missed(&header.id, has(&*found, &header.id));
-            if !is_other(&header.id, &before, &now) {
+            if now == before {
                 return Ok(passed);
             }
             distinct(targets);
@@ -176,17 +180,6 @@ pub fn renew<H: Kept>(
             Ok(low)
         }
         Verdict::Known => Ok(due),
-    }
-}
-
-// Whether something else than itself was missed before than now.
-fn is_other(id: &Id, before: &Option<Id>, now: &Option<Id>) -> bool
-    ensures same { result ≡ false → names before.now id.now ≡ false → now.now ≡ before.now }
-    ensures other { result ≡ true → names before.now id.now ≡ false }
-{
-    match before {
-        Some(before) => *before != *id && !names(now, before),
-        None => now.is_some(),
     }
 }
 
