@@ -1,5 +1,5 @@
 -- An audit while the bytes of its stream come.
-use Rattle.std.proofs.Common.{◌≡◌, ℕ, zero, suc, ◌*◌, ◌+◌, ◌-◌, ◌^◌, ◌<◌, ◌≤◌, ◌==◌, Bool, true, false, cond, nat_le, List, [], ◌∷◌, ◌++◌, take, length, append_assoc, append-nil, Option, Some, None, refl, sym, ap, ◌∙◌, arith}
+use Rattle.std.proofs.Common.{◌≡◌, ℕ, zero, suc, ◌*◌, ◌+◌, ◌-◌, ◌^◌, ◌<◌, ◌≤◌, ◌==◌, Bool, true, false, nat_le, List, [], ◌∷◌, ◌++◌, take, length, append_assoc, append-nil, Option, Some, None, refl, sym, ap, ◌∙◌, arith}
 use Rattle.std.proofs.lemmas.Bool.Decides.{nat_tests}
 use Rattle.std.specs.Prelude.{IfSome}
 use Rattle.std.specs.Io.KnownBytes.{Consumes, IsAtEnd}
@@ -13,12 +13,12 @@ use Rattle.snow_wire.proofs.Pieces.{first_more, long_more}
 use Rattle.snow_engine.specs.declared.end.BadKind.TheVariants as kind
 use Rattle.snow_engine.specs.declared.end.End.{End}
 use Rattle.snow_engine.specs.declared.end.End.TheVariants as end
-use Rattle.snow_engine.specs.Model.Run.{seen, end_behind}
+use Rattle.snow_engine.specs.Model.Run.{seen}
 use Rattle.snow_lines.specs.declared.line.Line.{Line}
 use Rattle.snow_engine.specs.Kept.Staging.{Node}
 use Rattle.snow_engine.proofs.Ended.{of_all, of_whole}
 use Rattle.snow_audit.specs.declared.auditing.AuditEnd.{AuditEnd}
-use Rattle.snow_audit.specs.Model.Auditing.{Steps, audited, behind_frames, stream_end}
+use Rattle.snow_audit.specs.Model.Auditing.{Steps, audited, stream_end}
 use Rattle.snow_audit.specs.Kept.Following.{Between, beginning, between, frame_comes, at_end, goes_on, owed_of, follows, finish}
 use Rattle.snow_audit.proofs.Followed.{Begins, follows_audit}
 
@@ -82,11 +82,6 @@ module _ (steps : Steps) where
 -- all was taken that may be
 pub ends_full : (given : ℕ) (rest : List ℕ) → is_too_long rest ≡ false → stream_end given rest true ≡ end.InputLimit
 ends_full given rest calm = rw calm refl
-
--- the end was read
-pub ends_read : (given : ℕ) (rest : List ℕ) → is_too_long rest ≡ false
-    → stream_end given rest false ≡ cond (length rest == 0) (end_behind (behind_frames given)) (end.BadInput (given + 1) kind.Cut)
-ends_read given rest calm = rw calm refl
 
 -- ---- the bytes of a piece
 

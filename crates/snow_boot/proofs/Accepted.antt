@@ -105,12 +105,6 @@ pub accepts_at : (rules : Rules) (before after : List Line) (old new : Held) (b 
 accepts_at rules before after old new b o is e =
     subst (ExecutesAt rules (Ok b.header.id) before after old new) is (e.3, e.1, e.2, λ rest. one_first rules old new b rest e.0)
 
--- no block
-pub passes_at : (rules : Rules) (before : List Line) (old : Held) (below : List ℕ) (o : Option KeptBlock) → None ≡ o → old.last ≡ below → IsAlone old → ExecutesAt rules (Ok below) before before old old o
-passes_at rules before old below o is last alone =
-    subst (ExecutesAt rules (Ok below) before before old old) is
-    (sym (append-nil before), last, alone, λ rest. ap (λ i. executed rules i (last_state old) rest) last)
-
 -- the next height
 next_up : (kept : List KeptBlock) (height top : ℕ) → height < top → upward kept (height + 1) (top - height) ≡ listed (held kept (height + 1)) ++ upward kept (height + 1 + 1) (top - (height + 1))
 unfolding upward

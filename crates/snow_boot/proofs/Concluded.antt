@@ -1,8 +1,7 @@
 -- The path of the highest kept target is executed where no target misses a block.
-use Rattle.std.proofs.Common.{◌≡◌, ℕ, ◌+◌, ◌-◌, true, List, [], ◌∷◌, ◌++◌, Option, Some, None, inl, inr, refl, sym, ap, ◌∙◌, arith, append_assoc, append-nil}
+use Rattle.std.proofs.Common.{◌≡◌, ℕ, ◌+◌, ◌-◌, true, List, [], ◌∷◌, ◌++◌, Option, Some, None, refl, sym, ap, ◌∙◌, append_assoc, append-nil}
 use Rattle.std.specs.Prelude.{Result, Ok, Err}
 use Rattle.std.specs.Option.{option_map}
-use Rattle.std.proofs.lemmas.Bool.{lt-ltb, le-ltb, cases_lt}
 use Rattle.snow_chain.specs.Model.Chain.{Rules, Held}
 use Rattle.snow_lines.specs.declared.line.Line.{Line}
 use Rattle.snow_lines.specs.declared.line.Line.TheVariants as line
@@ -15,7 +14,7 @@ use Rattle.snow_boot.specs.Clauses.Accepting.{Executes, EndsAt, Concludes, highe
 use Rattle.snow_boot.specs.Model.Booting.{Outcome, Next, Done, ended, finished}
 use Rattle.snow_chain.specs.Kept.Alone.{last_state}
 use Rattle.snow_boot.specs.Model.Executing.{Executed, executed}
-use Rattle.snow_store.specs.Kept.Indexing.{top_of, higher_height}
+use Rattle.snow_store.specs.Kept.Indexing.{top_of}
 use Rattle.snow_store.specs.Model.Keeping.{highest}
 use Rattle.snow_store.specs.Laws.Linking.{IsLinked, upward}
 use Rattle.snow_store.specs.Model.Paths.{Fetch, is_whole, higher_of, highest_target}
@@ -36,33 +35,6 @@ pub top_height_is : (kept : List KeptBlock) (targets : List (List ℕ)) → heig
 unfolding highest_target
 top_height_is kept [] = refl
 top_height_is kept (t ∷ targets) = higher_heights (highest kept t) (highest_target kept targets) ∙ ap (higher_one (top_of kept t)) (top_height_is kept targets)
-
--- the higher of three, in whatever order
-higher_three : (h k : ℕ) (o : Option ℕ) → higher_height (higher_height h (Some k)) o ≡ higher_height h (Some (higher_height k o))
-higher_three h k None = refl
-higher_three h k (Some m) =
-    elim (cases_lt h k) [
-      | inl hk ↦
-          elim (cases_lt k m) [
-            | inl km ↦ rw (lt-ltb h k hk, lt-ltb k m km, lt-ltb h m (omega (arith, hk, km))) refl
-            | inr mk ↦ rw (lt-ltb h k hk, le-ltb k m mk, lt-ltb h k hk) refl
-          ]
-      | inr kh ↦
-          elim (cases_lt k m) [
-            | inl km ↦ rw (le-ltb h k kh, lt-ltb k m km) refl
-            | inr mk ↦ rw (le-ltb h k kh, le-ltb k m mk, le-ltb h k kh, le-ltb h m (omega (arith, mk, kh))) refl
-          ]
-    ]
-
-pub higher_next : (a b o : Option ℕ) → higher_one (higher_one a b) o ≡ higher_one a (higher_one b o)
-higher_next None b o = refl
-higher_next (Some h) None o = refl
-higher_next (Some h) (Some k) o = ap (λ n. Some n) (higher_three h k o)
-
--- none is higher
-pub higher_none : (a : Option ℕ) → higher_one a None ≡ a
-higher_none None = refl
-higher_none (Some h) = refl
 
 -- ---- the end
 

@@ -1,5 +1,5 @@
 -- Lines that are written one after another: what is still to be done makes of what was done the whole.
-use Rattle.std.proofs.Common.{◌≡◌, List, [], ◌++◌, refl, sym, ap, ◌∙◌, append_assoc, append-nil}
+use Rattle.std.proofs.Common.{◌≡◌, List, [], ◌++◌, sym, ap, ◌∙◌, append_assoc}
 use Rattle.snow_lines.specs.declared.line.Line.{Line}
 use Rattle.snow_boot.specs.Clauses.Calling.{LogsFront}
 
@@ -8,10 +8,6 @@ pub record IsUnderway {R : Type 0} (before now : List Line) (rest whole : List L
   pub grown : now ≡ before ++ done
   pub lines : done ++ rest.0 ≡ whole.0
   pub ends : rest.1 ≡ whole.1
-
--- nothing is done yet
-pub at_first : {R : Type 0} (before : List Line) (whole : List Line × R) → IsUnderway before before whole whole
-at_first before whole = record { done = []; grown = sym (append-nil before); lines = refl; ends = refl }
 
 -- some lines more are written
 pub goes_on : {R : Type 0} (before now after lines : List Line) (rest next whole : List Line × R) → IsUnderway before now rest whole → after ≡ now ++ lines → rest ≡ (lines ++ next.0, next.1)

@@ -82,10 +82,6 @@ one_small nodes requests drawn (Some id) h = by_test (asked_in requests id)
     by_test true = h
     by_test false = with_number (next_number drawn) (next_fits drawn)
 
-behind_small : (lines : List Line) (a : Asked) → AreSmall a → AreSmall (let b : Asked = (lines, a.1) in b)
-behind_small lines (more, Ok (requests, drawn)) s = s
-behind_small lines (more, Err why) s = tt
-
 both_small : (one : Asked) (more : List Get → ℕ → Asked) → AreSmall one → ((requests : List Get) (drawn : ℕ) → Fits drawn → AreSmall (more requests drawn)) → AreSmall (and_asked one more)
 both_small (lines, Err why) more s h = tt
 both_small (lines, Ok (requests, drawn)) more s h = again (more requests drawn) (h requests drawn s)

@@ -11,7 +11,7 @@ use Rattle.snow_wire.proofs.Streams.{frames_front, frames_end, long_first, off_f
 use Rattle.snow_lines.specs.declared.line.Line.{Line}
 use Rattle.snow_page.specs.Kept.Gathered.{Gathers}
 use Rattle.snow_lines.specs.Model.Text.{texts}
-use Rattle.snow_page.proofs.Waiting.{gathers_none, gathers_then, gathers_then_front}
+use Rattle.snow_page.proofs.Waiting.{gathers_then, gathers_then_front}
 use Rattle.snow_engine.specs.declared.engine.Task.{Task}
 use Rattle.snow_engine.specs.declared.end.End.{End}
 use Rattle.snow_engine.specs.declared.end.End.TheVariants as end
@@ -89,9 +89,6 @@ pub record Gone (rules : Rules) (answer : Answer) (task : Task) (first now : Sta
   pub lines : List Line
   pub parts : all_worked rules answer task first start ≡ behind lines (all_worked rules answer task now intake)
   pub gathered : Gathers before held after kept (texts lines)
-
-pub begins : (rules : Rules) (answer : Answer) (task : Task) (first : Stand) (start : Intake) (before : Option (List ℕ)) (held : List ℕ) → Gone rules answer task first first start start before held before held
-begins rules answer task first start before held = record { lines = []; parts = refl; gathered = gathers_none before held }
 
 -- lines, and then more, behind which others come
 behind_more : (a b : List Line) (w : Worked) → behind a (behind b w) ≡ behind (a ++ b) w

@@ -20,7 +20,7 @@ use Rattle.snow_engine.specs.Kept.Staging.{Node}
 use Rattle.snow_engine.specs.Model.Run.{Stand, after_frame, is_stopped}
 use Rattle.snow_node.specs.Clauses.Stepping.{LogsFront}
 use Rattle.snow_engine.specs.Clauses.Boxing.{IsBoxed}
-use Rattle.snow_engine.specs.Clauses.Serving.{stand_of, Stands, LogsFrame, Goes, GathersLines, GathersFront, SinkFails, Halts, front_worked, one_worked}
+use Rattle.snow_engine.specs.Clauses.Serving.{stand_of, Stands, LogsFrame, Goes, GathersLines, GathersFront, Halts, front_worked, one_worked}
 
 -- what isn't a stop is none
 pub no_stop : {A : Type 0} → false ≡ true → A
@@ -80,12 +80,6 @@ failed_first rules answer task stand intake payload rest frame result new before
     ap (λ (n : ℕ). (after_frame rules answer task stand n payload).0) number
     ∙ sym (ap (λ (o : Option (List ℕ × List ℕ)). (front_worked rules answer task stand intake o).lines) first) in
     failed result new (one_worked rules answer task stand intake).lines before held after (subst (λ (ls : List Line). LogsFrame result [] new ls) lines l) p
-
--- a frame alone never ends in a fault of the sink
-pub faultless : {T : Type 0} (result : Result T End) (now : Option Node) (stand : Stand) (before after : ℕ) → Stands result now stand → SinkFails result before after
-faultless (Ok x) now stand before after s = tt
-faultless (Err end.SinkFault) now stand before after s = no_stop s.0
-faultless (Err e) now stand before after s = tt
 
 -- ---- a length that no frame has
 

@@ -13,7 +13,7 @@ use Rattle.snow_board.specs.Kept.Grown.{has_block, is_on}
 use Rattle.snow_board.proofs.Cases.{split_on, clash, same_id, id_same, id_itself, differs_back}
 use Rattle.snow_board.proofs.Children.{some_height}
 use Rattle.snow_board.proofs.Invariant.{blocks_issued}
-use Rattle.snow_chain.specs.Model.Chain.{Held, States, state_of, begun, with_state, rejected, MayVerify, MayReject}
+use Rattle.snow_chain.specs.Model.Chain.{Held, States, state_of, begun, with_state, rejected, MayReject}
 use Rattle.snow_node.specs.Clauses.Matching.{Matches, IsSteady}
 
 -- ---- the states that are held
@@ -107,12 +107,6 @@ no_state (Some state) h = clash true refl h
 unknown : (board : Board) (held : Held) (id : List ℕ) → Matches board held → height_of board id ≡ None → state_of held id ≡ None
 unknown board held id m off = no_state (state_of held id) (m.each id ∙ ap (λ o. is_some o) off)
 
--- a block that isn't on the board may be verified on one that is
-pub may_verify : (board : Board) (held : Held) (id parent : List ℕ) (below : ℕ) → Matches board held → height_of board id ≡ None → height_of board parent ≡ Some below
-    → MayVerify held parent id
-may_verify board held id parent below m off on = record {
-  above = m.each parent ∙ ap (λ o. is_some o) on;
-  unknown = unknown board held id m off;
 }
 
 -- the last accepted block is on the board
@@ -142,7 +136,3 @@ undone board held id state m off =
         ∙ split_on (bytes_eq q id)
         (λ t. rw t (sym (ap (state_of held) (same_id q id t) ∙ unknown board held id m off)))
         (λ t. rw t refl)
-
-pub undone_matches : (board : Board) (held : Held) (id state : List ℕ) → Matches board held → height_of board id ≡ None
-    → Matches board (rejected (with_state held id state) id)
-undone_matches board held id state m off = rw (undone board held id state m off) m
