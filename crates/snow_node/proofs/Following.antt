@@ -107,8 +107,6 @@ no_state (Some state) h = clash true refl h
 unknown : (board : Board) (held : Held) (id : List ℕ) → Matches board held → height_of board id ≡ None → state_of held id ≡ None
 unknown board held id m off = no_state (state_of held id) (m.each id ∙ ap (λ o. is_some o) off)
 
-}
-
 -- the last accepted block is on the board
 off_last : (board : Board) (held : Held) (id : List ℕ) → Matches board held → height_of board id ≡ None → bytes_eq held.last id ≡ false
 off_last board held id m off =

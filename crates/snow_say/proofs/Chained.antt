@@ -209,9 +209,6 @@ bytes_all names (w ∷ more) h k = rw k refl
 pub bytes_nothing : (names : Names) (old : List ℕ) (ws : List Word) → is_dot ws ≡ true → onto old (bytes_of names ws) ≡ Ok old
 bytes_nothing names old ws h = ap (onto old) (bytes_dot names ws h) ∙ ap Ok (append-nil old)
 
-pub behind_none : (names : Names) (ws : List Word) → ws ≡ [] → behind names ws ≡ Ok []
-behind_none names ws e = rw e refl
-
 pub behind_some : (names : Names) (ws : List Word) → 0 < length ws → behind names ws ≡ bytes_of names ws
 behind_some names [] h = absurd (omega (arith, h))
 behind_some names (w ∷ more) h = refl

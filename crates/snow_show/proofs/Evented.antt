@@ -2,7 +2,7 @@
 use Rattle.std.proofs.Common.{◌≡◌, ℕ, ◌<◌, Bool, true, false, List, [], ◌∷◌, ◌++◌, length, map, codes, decimal, refl, sym, ap, ◌∙◌, append_assoc, append-nil, arith}
 use Rattle.snow_wire.specs.declared.event.Start.{Start}
 use Rattle.snow_wire.specs.Model.Spelling.{flag}
-use Rattle.snow_wire.specs.Clauses.Viewed.{weighed_in}
+use Rattle.snow_wire.specs.Clauses.Spelled.{weighed_in}
 use Rattle.snow_text_model.specs.declared.block_form.BlockForm.{BlockForm}
 use Rattle.snow_text_model.specs.declared.block_form.BlockForm.TheVariants as form
 use Rattle.snow_text_model.specs.Model.Words.{Word}

@@ -3,7 +3,8 @@
 ghost use Rattle.std.specs.Prelude.{◌≡◌, false, [], ◌∷◌, ◌++◌, codes, map};
 ghost use Rattle.byteorder.specs.Endian.{big_number};
 ghost use Rattle.snow_wire.specs.Model.Spelling.{flag};
-ghost use Rattle.snow_wire.specs.Clauses.Viewed.{as_event, as_start, weighed_in};
+ghost use Rattle.snow_wire.specs.Clauses.Spelled.{as_start, weighed_in};
+ghost use Rattle.snow_wire.specs.Clauses.Viewed.{as_event};
 ghost use Rattle.snow_text_model.specs.Model.Blocks.{block_line, block_words};
 ghost use Rattle.snow_text_model.specs.Model.Bytes.{fixed_text};
 ghost use Rattle.snow_text_model.specs.Model.Shown.{event_words, is_line, line, sent_words, some_word, start_words, times_texts, weighed_text};
@@ -15,7 +16,7 @@ use crate::bytes::{put_fixed, put_fixed_word};
 use crate::lists::{put_ids, put_nodes, put_numbers};
 use crate::put::{put, put_marked_number};
 use snow_text_model::BlockForm;
-use snow_wire::{Brought, Listing, Named, Opening, Packed, Parcel, Sender, View};
+use snow_wire::{Brought, Listing, Named, Packed, Parcel, Sender, StartFields, View};
 use std::alloc::AllocError;
 
 /// Puts a name, a node and the number of a request behind a text.
@@ -108,21 +109,21 @@ fn put_parcel(text: &mut Vec<u8>, form: BlockForm, parcel: &Parcel) -> Result<()
 }
 
 /// Puts the first four numbers of a Start behind a text.
-fn put_first_numbers(text: &mut Vec<u8>, opening: &Opening) -> Result<(), AllocError>
-    ensures { Puts result text.old.items text.new.items (first_numbers (as_start opening.now)) }
+fn put_first_numbers(text: &mut Vec<u8>, fields: &StartFields) -> Result<(), AllocError>
+    ensures { Puts result text.old.items text.new.items (first_numbers (as_start fields.now)) }
 {
-    put_marked_number(text, b"start k=", u64::from(opening.k))?;
+    put_marked_number(text, b"start k=", u64::from(fields.k))?;
     put_marked_number(
         text,
         b" alpha-preference=",
-        u64::from(opening.alpha_preference),
+        u64::from(fields.alpha_preference),
     )?;
     put_marked_number(
         text,
         b" alpha-confidence=",
-        u64::from(opening.alpha_confidence),
+        u64::from(fields.alpha_confidence),
     )?;
-    put_marked_number(text, b" beta=", u64::from(opening.beta))
+    put_marked_number(text, b" beta=", u64::from(fields.beta))
 }
 
 /// Returns 1 where a node bootstraps first, and else 0.
@@ -141,31 +142,31 @@ fn put_last(text: &mut Vec<u8>, last: &[u8; 32]) -> Result<(), AllocError>
 }
 
 /// Puts the fields of a Start behind its first four numbers, up to the last block.
-fn put_more_fields(text: &mut Vec<u8>, opening: &Opening) -> Result<(), AllocError>
-    ensures { Puts result text.old.items text.new.items (more_fields (as_start opening.now)) }
+fn put_more_fields(text: &mut Vec<u8>, fields: &StartFields) -> Result<(), AllocError>
+    ensures { Puts result text.old.items text.new.items (more_fields (as_start fields.now)) }
 {
-    let last = opening.last;
-    put_marked_number(text, b" repolls=", u64::from(opening.repolls))?;
-    put_marked_number(text, b" boot=", flag_of(opening.boot))?;
+    let last = fields.last;
+    put_marked_number(text, b" repolls=", u64::from(fields.repolls))?;
+    put_marked_number(text, b" boot=", flag_of(fields.boot))?;
     put_last(text, last)
 }
 
 /// Puts the height of a Start, its state and its nodes behind a text.
-fn put_last_fields(text: &mut Vec<u8>, opening: &Opening) -> Result<(), AllocError>
-    ensures { Puts result text.old.items text.new.items (last_fields (as_start opening.now)) }
+fn put_last_fields(text: &mut Vec<u8>, fields: &StartFields) -> Result<(), AllocError>
+    ensures { Puts result text.old.items text.new.items (last_fields (as_start fields.now)) }
 {
-    put_marked_number(text, b" height=", opening.height)?;
-    put_numbers(text, b" state=", b",", opening.state)?;
-    put_nodes(text, b" nodes=", opening.nodes)
+    put_marked_number(text, b" height=", fields.height)?;
+    put_numbers(text, b" state=", b",", fields.state)?;
+    put_nodes(text, b" nodes=", fields.nodes)
 }
 
 /// Puts a Start behind a text.
-fn put_start(text: &mut Vec<u8>, opening: &Opening) -> Result<(), AllocError>
-    ensures { Puts result text.old.items text.new.items (line (start_words (as_start opening.now))) }
+fn put_start(text: &mut Vec<u8>, fields: &StartFields) -> Result<(), AllocError>
+    ensures { Puts result text.old.items text.new.items (line (start_words (as_start fields.now))) }
 {
-    put_first_numbers(text, opening)?;
-    put_more_fields(text, opening)?;
-    put_last_fields(text, opening)
+    put_first_numbers(text, fields)?;
+    put_more_fields(text, fields)?;
+    put_last_fields(text, fields)
 }
 
 /// Puts a poll behind a text.
@@ -209,7 +210,7 @@ pub fn put_event(text: &mut Vec<u8>, form: BlockForm, view: &View) -> Result<(),
     ensures { Puts result text.old.items text.new.items (line (event_words form (as_event view.now))) }
 {
     match view {
-        View::Start(opening) => put_start(text, opening),
+        View::Start(opening) => put_start(text, &opening.fields()),
         View::Block(brought) => put_brought(text, form, brought),
         View::Poll(ids) => put_poll(text, ids),
         View::Words(words) => put_words(text, words),

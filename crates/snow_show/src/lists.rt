@@ -2,7 +2,7 @@
 
 ghost use Rattle.std.specs.Prelude.{◌≡◌, ◌<◌, ◌≤◌, [], ◌∷◌, ◌++◌, length, drop, map, slice_index};
 ghost use Rattle.byteorder.specs.Endian.{big_number};
-ghost use Rattle.snow_wire.specs.Clauses.Viewed.{weighed_in};
+ghost use Rattle.snow_wire.specs.Clauses.Spelled.{weighed_in};
 ghost use Rattle.snow_text_model.specs.Model.Bytes.{fixed_text, runs_of};
 ghost use Rattle.snow_text_model.specs.Model.Shown.{times_text, times_texts, weighed_text};
 ghost use Rattle.snow_show.specs.Clauses.Putting.{Puts};

@@ -7,9 +7,6 @@ use Rattle.snow_text_model.specs.Model.Bytes.{led_by, runs_of, Piece, Plain, Aga
 
 -- ---- bytes
 
-pub bytes_nil : IsBytes []
-bytes_nil i = omega arith
-
 pub bytes_both : (a b : List ℕ) → IsBytes a → IsBytes b → IsBytes (a ++ b)
 bytes_both [] b ha hb i = hb i
 bytes_both (x ∷ a) b ha hb zero = ha 0

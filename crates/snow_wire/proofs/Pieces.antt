@@ -5,7 +5,7 @@ use Rattle.std.proofs.lemmas.List.{length-append, length-drop, take-append-le, d
 use Rattle.byteorder.specs.Numbers.{big_from-append}
 use Rattle.snow_wire.specs.Model.Frame.{length_word, is_whole, is_too_long, first_of, led_by, frames_in, frames_of}
 use Rattle.snow_wire.specs.Clauses.Stream.{Intake, without, taken}
-use Rattle.snow_wire.proofs.Streams.{IsWhole, whole_if, if_whole, given_if, long_first, frames_front, frames_end}
+use Rattle.snow_wire.proofs.Streams.{IsWhole, whole_if, if_whole, given_if, frames_front, frames_end}
 
 -- frames that were given, and what is behind them
 abbrev pub ahead : List (List ℕ) → List (List ℕ) × List ℕ → List (List ℕ) × List ℕ
@@ -65,10 +65,6 @@ pieces bytes more = pieces_in (length bytes) bytes more
 
 -- ---- a decoder's frames, while a stream comes in pieces
 
--- nothing came yet
-pub begins : frames_of [] ≡ ahead [] (frames_of [])
-begins = refl
-
 -- a piece came
 pub goes_on : (bytes : List ℕ) (given : List (List ℕ)) (rest piece : List ℕ) → frames_of bytes ≡ ahead given (frames_of rest) → frames_of (bytes ++ piece) ≡ ahead given (frames_of (rest ++ piece))
 goes_on bytes given rest piece so_far =
@@ -76,13 +72,6 @@ goes_on bytes given rest piece so_far =
     ∙ ap (λ (r : List (List ℕ) × List ℕ). ahead r.0 (frames_of (r.1 ++ piece))) so_far
     ∙ ap (λ (l : List (List ℕ)). (l, (frames_of ((frames_of rest).1 ++ piece)).1)) (append_assoc given (frames_of rest).0 (frames_of ((frames_of rest).1 ++ piece)).0)
     ∙ ap (ahead given) (sym (pieces rest piece))
-
--- a frame was given
-pub gives : (bytes : List ℕ) (given : List (List ℕ)) (rest payload behind : List ℕ) → frames_of bytes ≡ ahead given (frames_of rest) → first_of rest ≡ Some (payload, behind)
-    → frames_of bytes ≡ ahead (given ++ payload ∷ []) (frames_of behind)
-gives bytes given rest payload behind so_far first =
-    so_far ∙ ap (ahead given) (frames_front rest (payload, behind) first)
-    ∙ ap (λ (l : List (List ℕ)). (l, (frames_of behind).1)) (sym (append_assoc given (payload ∷ []) (frames_of behind).0))
 
 -- no further frame is there: all were given
 pub gave_all : (bytes : List ℕ) (given : List (List ℕ)) (rest : List ℕ) → frames_of bytes ≡ ahead given (frames_of rest) → first_of rest ≡ None → frames_of bytes ≡ (given, rest)
@@ -98,7 +87,3 @@ taken_one i payload behind e = ap (without i) e
 -- no frame was there: all stays
 pub taken_none : (i : Intake) → first_of i.rest ≡ None → taken i ≡ i
 taken_none i e = ap (without i) e
-
--- a length that no frame has: all stays
-pub taken_long : (i : Intake) → is_too_long i.rest ≡ true → taken i ≡ i
-taken_long i long = taken_none i (long_first i.rest long)

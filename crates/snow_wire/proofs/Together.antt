@@ -9,7 +9,7 @@ use Rattle.byteorder.specs.Numbers.{big_from-take}
 use Rattle.snow_wire.specs.declared.skip.Fault.{Fault}
 use Rattle.snow_wire.specs.declared.skip.Fault.TheVariants.{Short}
 use Rattle.snow_wire.specs.Model.Reading.{Read, ReadsAs, ◌>>=◌, bytes_at, number_at, weighed_at, limited_at, items_at, counted_at}
-use Rattle.snow_wire.specs.Clauses.Viewed.{weighed_in}
+use Rattle.snow_wire.specs.Clauses.Spelled.{weighed_in}
 use Rattle.snow_wire.proofs.Fields.{unless}
 
 bytes_ok : (n : ℕ) (bytes : List ℕ) → n ≤ length bytes → bytes_at n bytes ≡ Ok (take n bytes, drop n bytes)

@@ -26,7 +26,7 @@ pub use event::{Event, Start};
 pub use frame::{Frame, TooLong, first_frame};
 pub use laws::{frame_holds_law, one_reading, one_spelling};
 pub use lists::{ids_of, nodes_of, words_of};
-pub use opening::Opening;
+pub use opening::{Opening, StartFields};
 pub use packed::Packed;
 pub use shapes::{Brought, Listing, Named, Parcel, Sender};
 pub use skip::{Fault, Skip};

@@ -1,7 +1,7 @@
 //! Lists of one's own, made of those in a view.
 ghost use Rattle.std.specs.Prelude.{◌≡◌, map, IfOk};
 ghost use Rattle.byteorder.specs.Endian.{big_number};
-ghost use Rattle.snow_wire.specs.Clauses.Viewed.{weighed_in};
+ghost use Rattle.snow_wire.specs.Clauses.Spelled.{weighed_in};
 
 use byteorder::{BigEndian, ByteOrder};
 use snow_base::{Ids, NodeId, Nodes, Nums};

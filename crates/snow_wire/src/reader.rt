@@ -1,7 +1,7 @@
 ghost use Rattle.std.specs.Prelude.{◌≡◌, ◌<◌, ◌≤◌, length, map, IfOk};
 ghost use Rattle.byteorder.specs.Endian.{big_number};
 ghost use Rattle.snow_wire.specs.Model.Reading.{IsEnd, Reads, ReadsAs, bytes_at, number_at, limited_at, flag_at, counted_at, sized_at, weighed_at};
-ghost use Rattle.snow_wire.specs.Clauses.Viewed.{weighed_in};
+ghost use Rattle.snow_wire.specs.Clauses.Spelled.{weighed_in};
 
 use crate::skip::Fault;
 use byteorder::{BigEndian, ByteOrder};

@@ -1,36 +1,16 @@
 -- An event whose bytes stand where they came.
-use Rattle.std.specs.Prelude.{ℕ, List, take, drop, map, Result, Ok, Err}
+use Rattle.std.specs.Prelude.{map, Result, Ok, Err}
 use Rattle.byteorder.specs.Endian.{big_number}
 use Rattle.snow_wire.specs.declared.event.Event.{Event}
 use Rattle.snow_wire.specs.declared.event.Event.TheVariants as event
-use Rattle.snow_wire.specs.declared.event.Start.{Start}
 use Rattle.snow_wire.specs.declared.skip.Fault.{Fault}
-use Rattle.snow_wire.specs.declared.opening.Opening.{Opening}
 use Rattle.snow_wire.specs.declared.view.View.{View}
 use Rattle.snow_wire.specs.declared.view.View.TheVariants as view
-
--- a node and its weight, in 28 bytes
-abbrev pub weighed_in : List ℕ → List ℕ × ℕ
-weighed_in bytes = (take 20 bytes, big_number 8 (drop 20 bytes))
-
--- the Start that it is
-abbrev pub as_start : Opening → Start
-as_start o = record {
-  k = o.k;
-  alpha_preference = o.alpha_preference;
-  alpha_confidence = o.alpha_confidence;
-  beta = o.beta;
-  repolls = o.repolls;
-  boot = o.boot;
-  last = o.last.now;
-  height = o.height;
-  state = map (big_number 8) o.state.now;
-  nodes = map weighed_in o.nodes.now;
-}
+use Rattle.snow_wire.specs.Clauses.Spelled.{weighed_in}
 
 -- the event that it is
 abbrev pub as_event : View → Event
-as_event (view.Start o) = event.Start (as_start o)
+as_event (view.Start o) = event.Start o
 as_event (view.Block b) = event.Block b.node.now b.request b.bytes.now
 as_event (view.Poll ids) = event.Poll ids.now
 as_event (view.Words words) = event.Words (map (big_number 8) words.now)

@@ -1,5 +1,5 @@
 use Rattle.std.proofs.Common.{[], ◌∷◌, ℕ, List}
-use Rattle.snow_wire.specs.Clauses.Viewed.{weighed_in}
+use Rattle.snow_wire.specs.Clauses.Spelled.{weighed_in}
 use Rattle.snow_text_model.specs.Model.Shown.{weighed_text}
 use Rattle.snow_show.proofs.Putting.{going_ends, going_on}
 use Rattle.snow_show.proofs.Itemed.{led_end, led_next}

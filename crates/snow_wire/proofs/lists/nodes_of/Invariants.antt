@@ -1,5 +1,5 @@
 use Rattle.std.proofs.Common.{◌≡◌, map, take}
-use Rattle.snow_wire.specs.Clauses.Viewed.{weighed_in}
+use Rattle.snow_wire.specs.Clauses.Spelled.{weighed_in}
 use Rattle.snow_wire.proofs.lists.nodes_of.Given as goal
 
 abbrev pub invariant-loop-node : goal.invariant-loop-node
