@@ -1,5 +1,5 @@
 -- Lemmas on acceptance while there is a winner: one step, and that the number of pending blocks is fuel enough.
-use Rattle.std.proofs.Common.{◌≡◌, ℕ, zero, suc, ◌+◌, ◌<◌, ◌≤◌, Bool, true, false, not, ◌&&◌, List, [], ◌∷◌, ◌++◌, length, filter, find, position, cond, ltb, bytes_eq, Option, Some, None, slice_get, refl, sym, ap, ◌∙◌, subst, arith, append_assoc, append-nil}
+use Rattle.std.proofs.Common.{◌≡◌, ℕ, zero, suc, ◌+◌, ◌<◌, ◌≤◌, Bool, true, false, not, ◌&&◌, List, [], ◌∷◌, ◌++◌, length, filter, find, position, cond, ltb, bytes_eq, Option, Some, None, slice_get, refl, sym, ap, ◌∙◌, subst, arith, append_assoc}
 use Rattle.std.specs.List.{position_or_len}
 use Rattle.std.proofs.lemmas.List.Folds.{find_at}
 use Rattle.std.proofs.lemmas.Option.{none-some, same_Some, slice_get_past}
@@ -157,11 +157,6 @@ settling_less old new before after more a = (step (winner old) old new before af
 -- nothing has been accepted yet
 pub settling_none : (first : Board) (before : List Decision) → IsSettling first before true first before
 settling_none first before = record { same = refl; whole = refl }
-
--- nothing more is accepted
-pub settling_all : (first now : Board) (before told : List Decision) → IsSettling first before false now told
-    → (now ≡ (settled (length first.pending) first).0) × (told ≡ before ++ (settled (length first.pending) first).1)
-settling_all first now before told h = (h.same, sym (append-nil told) ∙ h.whole)
 
 -- a promotion leaves the parameters as they are
 promoted_parameters : (board : Board) (child : Pending) → (promoted board child).parameters ≡ board.parameters

@@ -7,7 +7,7 @@ use Rattle.std.proofs.lemmas.Grind.{common_steps}
 use Rattle.std.proofs.lemmas.List.{get_or_append_left, get_or-set_same, get_or-set_other, length-set, map-append, take_more, take_all}
 use Rattle.std.proofs.lemmas.List.Sums.{sum_by-cons}
 use Rattle.std.proofs.lemmas.List.Elements.{All-cons, All-nil, All-head, All-tail, filter-append}
-use Rattle.std.proofs.lemmas.List.Sorted.{IsPermutation-refl, IsPermutation-cons, IsPermutation-trans, IsPermutation-to_front, length_permutation}
+use Rattle.std.proofs.lemmas.List.Sorted.{IsPermutation-refl, IsPermutation-cons, IsPermutation-trans, IsPermutation-to_front}
 use Rattle.std.proofs.lemmas.Nat.Bits.{bit_at-zero, bit_at_above}
 use Rattle.snow_board.proofs.Cases.{split_on}
 use Rattle.snow_climb.specs.declared.climber.Climber.{Climber}
@@ -135,16 +135,6 @@ taken_off rung low links h all =
     (subst (λ l. IsPermutation (on_rung rung (climbers_of l)) (group links (length links) rung)) (take_all (length links) links (omega arith))
     (grouped links (length links) rung (omega arith)))
 
--- no more than stand there
-pub few_taken : (rung low : ℕ) (links : List Link) → rung < low → All (λ c. c.place ≤ rung) (under low (climbers_of links))
-    → length (group links (length links) rung) ≤ length (under low (climbers_of links))
-few_taken rung low links h all =
-    omega (arith, length_permutation _ _ (taken_off rung low links h all), few (under low (climbers_of links)))
-  where
-    few : (cs : List Climber) → length (up_from rung cs) ≤ length cs
-    few [] = omega arith
-    few (c ∷ cs) = let rest = few cs in split_on (nat_lt c.place rung) (λ t. rw t (omega (arith, rest))) (λ t. rw t (omega (arith, rest)))
-
 -- ---- marks
 
 pub mark_here : (words : List ℕ) (rung word : ℕ) → rung / 64 < length words → bit_at word (rung % 64) ≡ 1 → mark_at (set words (rung / 64) word) rung ≡ 1
@@ -189,28 +179,7 @@ mark_highest words count at word high some zeros is less rung within marked =
     unmarked words count at zeros rung h within =
         ap (λ w. bit_at w (rung % 64)) (zeros (rung / 64) h (omega (arith, within))) ∙ bit_at-zero (rung % 64)
 
--- where all are 0 none is set
-pub mark_none : (words : List ℕ) (count at : ℕ) → at ≤ 0 → ((k : ℕ) → at ≤ k → k < count → get_or words k 0 ≡ 0) → (rung : ℕ) → rung < 64 * count → mark_at words rung ≡ 1 → rung ≤ 0
-mark_none words count at none zeros rung within marked =
-    let zero_word = zeros (rung / 64) (omega (arith, none)) (omega (arith, within)) in
-    let unset : mark_at words rung ≡ 0 = ap (λ w. bit_at w (rung % 64)) zero_word ∙ bit_at-zero (rung % 64) in
-    absurd (omega (arith, unset, marked))
-
 -- ---- what is kept true
-
--- nothing was put on
-pub none_hung : (heads : List Head) (words : List ℕ) (low high : ℕ) → ((rung : ℕ) → get_or heads rung no_head ≡ no_head) → low ≤ length heads → length heads < 64 * length words → IsHung [] heads words low high 0
-none_hung heads words low high clear within covered = record {
-  linked = λ i h. absurd (omega (arith, h));
-  last = λ rung h. ap (λ (x : Head). x.last) (clear rung);
-  counted = λ rung h. ap (λ (x : Head). x.count) (clear rung);
-  clear = λ rung h. clear rung;
-  marked = λ i h lower. absurd (omega (arith, h));
-  highest = λ i h lower. absurd (omega (arith, h));
-  took = omega arith;
-  within = within;
-  covered = covered;
-}
 
 -- one more vote of a sum, as 32 bits hold it
 more_held : (own : Climber) (rest : List Climber) (n : ℕ) → n ≡ climber_total rest % 2 ^ 32 → (n + own.count) % 2 ^ 32 ≡ climber_total (own ∷ rest) % 2 ^ 32

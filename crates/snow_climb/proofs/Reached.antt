@@ -13,7 +13,6 @@ use Rattle.snow_board.specs.Kept.Grown.{has_block, is_on, IsGrown}
 use Rattle.snow_board.proofs.Cases.{split_on, clash, same_id, id_same, id_itself}
 use Rattle.snow_board.proofs.Kept.{has_own}
 use Rattle.snow_board.proofs.Grown.{grown_new, grown_rest, grown_before, older, childless, no_child_on, no_line, line_passes, has_block-reverse}
-use Rattle.snow_board.proofs.Lines.{acyclic}
 use Rattle.snow_tree.proofs.Placed.{position_cons}
 use Rattle.snow_tree.proofs.Descending.{around, line_at, parent_before, last_off}
 use Rattle.snow_climb.specs.Kept.Climbing.{above, reach}
@@ -85,10 +84,6 @@ not_below last bs at d id front g h low =
     (λ t. ap (find (λ c. bytes_eq c.parent b.id)) (no_line (reverse bs) id (has_block-reverse bs id ∙ t)))
     in
     ap (begins_with front) none
-
--- nothing is below itself
-pub not_itself : (last : List ℕ) (bs : List Header) (id : List ℕ) (front : List Bool) → IsGrown last (reverse bs) → is_below bs id front id ≡ false
-not_itself last bs id front g = ap (begins_with front) (acyclic last (reverse bs) id g)
 
 -- what isn't there is below nothing
 pub off_below : (bs : List Header) (parent id : List ℕ) (front : List Bool) → has_block bs id ≡ false → is_below bs parent front id ≡ false

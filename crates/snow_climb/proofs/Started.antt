@@ -1,9 +1,8 @@
 -- Lemmas on the votes of a poll before they climb: those that wait are counted with those that began.
-use Rattle.std.proofs.Common.{◌≡◌, ℕ, ◌+◌, ◌*◌, ◌<◌, ◌≤◌, Bool, true, false, List, [], ◌∷◌, ◌++◌, length, get_or, set, take, drop, replicate, reverse, bytes_eq, All, IsPermutation, refl, sym, ap, ◌∙◌, arith, rules, if◌then◌else◌}
+use Rattle.std.proofs.Common.{◌≡◌, ℕ, ◌+◌, ◌*◌, ◌<◌, ◌≤◌, Bool, true, false, List, [], ◌∷◌, ◌++◌, length, get_or, set, take, drop, reverse, All, IsPermutation, refl, sym, ap, ◌∙◌, arith, rules, if◌then◌else◌}
 use Rattle.std.specs.Option.{option_to_list}
 use Rattle.std.proofs.lemmas.List.{drop_all}
 use Rattle.std.proofs.lemmas.List.Elements.{All-nil, All-cons}
-use Rattle.std.proofs.lemmas.List.Folds.{sum_by-replicate}
 use Rattle.std.proofs.lemmas.List.Sums.{sum_by-cons, sum_by-set, sum_by-drop_more, sum_by_more, get_or-le-sum_by}
 use Rattle.std.proofs.lemmas.List.Sorted.{length_permutation}
 use Rattle.snow_base.specs.declared.block.Vote.{Vote}
@@ -12,7 +11,6 @@ use Rattle.snow_base.specs.Clauses.Gathered.{IsNamed, one_each}
 use Rattle.snow_base.specs.Model.Votes.{total_count}
 use Rattle.snow_flake.specs.Model.Parameters.{Parameters}
 use Rattle.snow_board.specs.Kept.Grown.{IsGrown}
-use Rattle.snow_board.proofs.Cases.{same_id}
 use Rattle.snow_board.proofs.OneEach.{each_by}
 use Rattle.snow_board.proofs.Polled.{few_votes}
 use Rattle.snow_tree.specs.Kept.Held.{Entry, blocks_in}
@@ -22,24 +20,11 @@ use Rattle.snow_climb.specs.Kept.Ladder.{Rungs}
 use Rattle.snow_climb.specs.Kept.Starting.{share, votes_by, ids_by, HaveStarted, HaveBegun}
 use Rattle.snow_climb.proofs.Begun.{begun_at, begun_few, begun_first, placed_at}
 
-share_more : (t : Bool) (m n : ℕ) → (if t then m + n else 0) ≡ (if t then m else 0) + (if t then n else 0)
-share_more true m n = refl
-share_more false m n = refl
-
 -- ---- at the beginning nobody waits, and nothing is counted
 
 nothing : (t : Bool) (n : ℕ) → n ≡ 0 → (if t then n else 0) ≡ 0
 nothing true n e = e
 nothing false n e = refl
-
--- places where nobody waits
-pub nobody_waits : (test : List ℕ → Bool) (n : ℕ) (id : List ℕ) → votes_by test (replicate n (record { id = id; count = 0 })) ≡ 0
-nobody_waits test n id =
-    let own = nothing (test id) 0 refl in
-    sum_by-replicate (share test) n (record { id = id; count = 0 }) ∙ ap (λ m. n * m) own ∙ omega arith
-
-pub no_votes_wait : (n : ℕ) (id : List ℕ) → total_count (replicate n (record { id = id; count = 0 })) ≡ 0
-no_votes_wait n id = sum_by-replicate (λ (v : Vote). v.count) n (record { id = id; count = 0 }) ∙ omega arith
 
 -- all wait
 pub none_started : {T : Type 0} (pending : List (Entry T)) (waiting : (List ℕ → Bool) → ℕ) → HaveStarted pending waiting waiting []
@@ -67,12 +52,6 @@ one_started pending v others counted cs ds some next h = record {
   same = λ test. omega (arith, h.same test, sum_by-cons (share test) v h.votes);
 }
 
--- where there are none all is as before
-pub none_let_go : {T : Type 0} (pending : List (Entry T)) (v : Vote) (others counted : (List ℕ → Bool) → ℕ) (cs : List Climber) → v.count ≡ 0
-    → HaveStarted pending (λ test. share test v + others test) counted cs → HaveStarted pending others counted cs
-none_let_go pending v others counted cs none h =
-    record { votes = h.votes; placed = h.placed; some = h.some; same = λ test. let own : share test v ≡ 0 = nothing (test v.id) v.count none in omega (arith, h.same test, own) }
-
 -- the first of many begins
 pub next_waits : {T : Type 0} (pending : List (Entry T)) (votes : List Vote) (i : ℕ) (v : Vote) (counted : (List ℕ → Bool) → ℕ) (cs : List Climber) → i < length votes → v ≡ get_or votes i v
     → HaveStarted pending (λ test. votes_by test (drop i votes)) counted cs → HaveStarted pending (λ test. share test v + votes_by test (drop (i + 1) votes)) counted cs
@@ -85,29 +64,7 @@ pub all_started : {T : Type 0} (pending : List (Entry T)) (votes : List Vote) (i
 all_started pending votes i counted cs past started =
     record { votes = started.votes; placed = started.placed; some = started.some; same = λ test. omega (arith, started.same test, ap (votes_by test) (drop_all i votes past)) }
 
--- one more waits with others
-pub one_joins : {T : Type 0} (pending : List (Entry T)) (v : Vote) (id : List ℕ) (others counted : (List ℕ → Bool) → ℕ) (cs : List Climber) → bytes_eq v.id id ≡ true
-    → HaveStarted pending (λ test. share test v + others test) counted cs
-    → HaveStarted pending (λ test. share test (record v { count = v.count + 1 }) + others test) (λ test. (if test id then 1 else 0) + counted test) cs
-one_joins pending v id others counted cs same started =
-    record {
-      votes = started.votes;
-      placed = started.placed;
-      some = started.some;
-      same = λ test.
-          let own : ids_by test (v.id ∷ []) ≡ ids_by test (id ∷ []) = ap (λ x. ids_by test (x ∷ [])) (same_id v.id id same) in
-          omega (arith, started.same test, own, share_more (test v.id) v.count 1);
-    }
-
--- or alone
-pub one_waits : {T : Type 0} (pending : List (Entry T)) (id : List ℕ) (others counted : (List ℕ → Bool) → ℕ) (cs : List Climber) → HaveStarted pending others counted cs
-    → HaveStarted pending (λ test. share test (record { id = id; count = 1 }) + others test) (λ test. (if test id then 1 else 0) + counted test) cs
-one_waits pending id others counted cs started = record { votes = started.votes; placed = started.placed; some = started.some; same = λ test. omega (arith, started.same test) }
-
 -- ---- places where votes wait
-
-abbrev Weigh : Type 0
-Weigh = (List ℕ → Bool) → ℕ
 
 -- those that wait at the other places
 abbrev pub beside : List Vote → ℕ → Vote → (List ℕ → Bool) → ℕ

@@ -226,12 +226,3 @@ next_waits q board w e =
 
     unasked : (l : Lists) → is_on board w.header.parent ≡ true → asks l board w.header ≡ None
     unasked l on = rw on (never (is_high board w.header))
-
--- it is neither on the board, nor does it wait
-pub next_unknown : (q : Lists) (board : Board) (block : Header) → is_next q board block ≡ true → (is_on board block.id ≡ false) × (waits q block.id ≡ false)
-next_unknown q board block e = by (is_on board block.id) (waits q block.id) _ (next_parts q board block e).1
-  where
-    by : (a b : Bool) (rest : Option Offered) → cond (a || b) (Some offer.Known) rest ≡ None → (a ≡ false) × (b ≡ false)
-    by true b rest e = absurd cc
-    by false true rest e = absurd cc
-    by false false rest e = (refl, refl)

@@ -1,8 +1,7 @@
 -- Blocks that can wait on are remembered to be quiet, and where all are nothing is to be done.
-use Rattle.std.proofs.Common.{◌≡◌, ℕ, ◌<◌, ◌==◌, Bool, true, false, ◌||◌, cond, List, [], ◌∷◌, length, get_or, set, find, Some, None, bytes_eq, refl, sym, ap, ◌∙◌, subst, arith}
+use Rattle.std.proofs.Common.{◌≡◌, ℕ, ◌<◌, ◌==◌, Bool, true, false, ◌||◌, cond, List, [], ◌∷◌, length, find, Some, None, bytes_eq, refl, sym, ap, ◌∙◌, arith}
 use Rattle.std.specs.Option.{option_map}
 use Rattle.std.proofs.lemmas.Bool.Decides.{nat_tests}
-use Rattle.std.proofs.lemmas.List.Elements.{All-set}
 use Rattle.snow_base.specs.declared.block.Header.{Header}
 use Rattle.snow_board.specs.Model.Board.{Board}
 use Rattle.snow_board.proofs.Cases.{same_id}
@@ -17,7 +16,6 @@ use Rattle.snow_issue.specs.Model.Lists.{waits_below}
 use Rattle.snow_issue.specs.Model.Offering.{is_on}
 use Rattle.snow_issue.specs.Model.Settling.{is_free, IsIdle}
 use Rattle.snow_issue.specs.Kept.Known.{Seen, items_of, Knows, NoneNew, NoneRipe, lists_of, sight}
-use Rattle.snow_lineup.specs.Kept.Marks.{has}
 use Rattle.snow_issue.proofs.Resting.{resting}
 
 quiet : (on other : Bool) → on ≡ false → other ≡ true → cond on (Some Ripe) (cond other (Some Quiet) None) ≡ Some Quiet
@@ -31,14 +29,6 @@ pub sees_quiet : (waiting : List Waiting) (gets : List Get) (board : Board) (blo
 sees_quiet waiting gets board block parent same off busy =
     quiet (is_on board block.parent) (asked_in gets block.parent || waits_below waiting block)
     (ap (λ (id : List ℕ). is_on board id) (same_id block.parent parent same) ∙ off) busy
-
--- what is quiet isn't ripe
-pub unripe_after : (seats after : List (Waiting × Mark)) (at : ℕ) → at < length seats
-    → ((d : Waiting × Mark) → after ≡ set seats at ((get_or seats at d).0, Quiet)) → NoneRipe seats → NoneRipe after
-unripe_after [] after at there is none = absurd (omega (arith, there))
-unripe_after (s ∷ seats) after at there is none =
-    let all : List (Waiting × Mark) = s ∷ seats in
-    subst NoneRipe (sym (is s)) (All-set (λ (t : Waiting × Mark). has Ripe t ≡ false) all at ((get_or all at s).0, Quiet) refl none)
 
 -- where something is remembered of each block, none is ripe and no reply is held, nothing is to be done
 pub all_quiet_idle : (s : Seen) (board : Board) → Knows s board → NoneNew s.seats → NoneRipe s.seats → s.held ≡ [] → IsIdle (lists_of s) board

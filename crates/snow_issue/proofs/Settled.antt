@@ -2,8 +2,7 @@
 use Rattle.std.proofs.Common.{◌≡◌, ℕ, ◌<◌, ◌≤◌, ◌+◌, ltb, Bool, true, false, cond, List, [], ◌∷◌, ◌++◌, map, take, drop, suc, length, get_or, find, All, Option, Some, None, refl, sym, ap, ◌∙◌, subst, arith, ⊎_elim}
 use Rattle.std.specs.List.{remove, position_or_len}
 use Rattle.std.specs.Option.{option_map}
-use Rattle.std.proofs.lemmas.Bool.{cases_lt, lt-ltb, le-ltb}
-use Rattle.std.proofs.lemmas.List.{length-map, length_push, length-take, length-drop, length-append}
+use Rattle.std.proofs.lemmas.List.{length-map, length-take, length-drop, length-append}
 use Rattle.std.proofs.lemmas.List.Edits.{length-remove}
 use Rattle.snow_board.specs.Model.Board.{Board}
 use Rattle.snow_issue.specs.declared.work.Waiting.{Waiting}
@@ -11,14 +10,12 @@ use Rattle.snow_gets.specs.declared.gets.Get.{Get}
 use Rattle.snow_held.specs.declared.held.Held.{Held}
 use Rattle.snow_issue.specs.declared.gone.Gone.{Gone}
 use Rattle.snow_lineup.specs.declared.marks.Mark.{Mark}
-use Rattle.snow_lineup.specs.declared.marks.Mark.TheVariants.{New}
-use Rattle.snow_issue.specs.Model.Gone.{with_gone}
 use Rattle.snow_gets.specs.Model.Gets.{with_get, is_get, without, asked_in}
 use Rattle.snow_issue.specs.Model.Lists.{Lists, AreWithinLimits}
 use Rattle.snow_issue.specs.Kept.Known.{Seen, items_of, lists_of, Tells, Knows}
 use Rattle.snow_lineup.specs.Kept.Index.{woken, forgotten}
 use Rattle.snow_issue.specs.Kept.Keeping.{IsKept, StaysQuiet}
-use Rattle.snow_issue.proofs.Taken.{items_woken, items_forgotten, items_pushed, items_removed, item_is, quiet_left, quiet_stay, quiet_closed, quiet_asked, quiet_pushed}
+use Rattle.snow_issue.proofs.Taken.{items_woken, items_forgotten, items_removed, item_is, quiet_left, quiet_stay, quiet_closed, quiet_asked}
 
 -- ---- lengths
 
@@ -37,14 +34,6 @@ length_without test xs =
     let d = length-drop (suc at) xs in
     omega (arith, e, t, d)
 
-length_gone : (gone : List Gone) (e : Gone) → length gone ≤ 8192 → length (with_gone gone e) ≤ 8192
-length_gone gone e few =
-    let Goal : Bool → Type 0 = λ b. length (cond b (gone ++ e ∷ []) (drop 1 gone ++ e ∷ [])) ≤ 8192 in
-    ⊎_elim
-    (λ (h : length gone < 8192). subst Goal (sym (lt-ltb (length gone) 8192 h)) (let l = length_push gone e in omega (arith, l, h)))
-    (λ (h : 8192 ≤ length gone). subst Goal (sym (le-ltb (length gone) 8192 h)) (let l = length_push (drop 1 gone) e in let d = length-drop 1 gone in omega (arith, l, d, few, h)))
-    (cases_lt (length gone) 8192)
-
 -- the four lists of these parts
 abbrev pub seen : List (Waiting × Mark) → List Get → List (Held × Mark) → List Gone → Seen
 seen seats gets replies gone = record { seats = seats; gets = gets; held = items_of replies; gone = gone }
@@ -58,18 +47,6 @@ limits seats gets replies gone kept = record {
 }
 
 -- ---- what is kept
-
-pub kept_new : (last : Gone) → IsKept [] [] [] (with_gone [] last)
-kept_new last = record { quiet = λ k d h. absurd (omega (arith, h)); few_waiting = omega arith; few_gets = omega arith; few_gone = omega arith }
-
-pub kept_pushed : (seats : List (Waiting × Mark)) (gets : List Get) (replies : List (Held × Mark)) (gone : List Gone) (w : Waiting) → IsKept seats gets replies gone
-    → length seats < 4096 → IsKept (seats ++ (w, New) ∷ []) gets replies gone
-kept_pushed seats gets replies gone w kept few = record {
-  quiet = subst (λ (l : List Waiting). All (StaysQuiet l gets) replies) (sym (items_pushed seats w New)) (quiet_pushed (items_of seats) gets w replies kept.quiet);
-  few_waiting = let new : Waiting × Mark = (w, New) in omega (arith, length_push seats new, few);
-  few_gets = kept.few_gets;
-  few_gone = kept.few_gone;
-}
 
 pub kept_asked : (seats : List (Waiting × Mark)) (gets : List Get) (replies : List (Held × Mark)) (gone : List Gone) (get : Get) → IsKept seats gets replies gone
     → length gets < 4096 → IsKept seats (with_get gets get) replies gone
@@ -115,15 +92,6 @@ kept_stay seats gets replies gone at w there is asked kept = record {
   few_waiting = omega (arith, length-remove seats at there, kept.few_waiting);
   few_gets = kept.few_gets;
   few_gone = kept.few_gone;
-}
-
-pub kept_gone : (seats : List (Waiting × Mark)) (gets : List Get) (replies : List (Held × Mark)) (gone : List Gone) (e : Gone) → IsKept seats gets replies gone
-    → IsKept seats gets replies (with_gone gone e)
-kept_gone seats gets replies gone e kept = record {
-  quiet = kept.quiet;
-  few_waiting = kept.few_waiting;
-  few_gets = kept.few_gets;
-  few_gone = length_gone gone e kept.few_gone;
 }
 
 pub kept_forgotten : (seats : List (Waiting × Mark)) (gets : List Get) (replies : List (Held × Mark)) (gone : List Gone) → IsKept seats gets replies gone

@@ -118,9 +118,6 @@ after_none s even = same_states (after s []) s (accounts s) (length_after s []) 
 
 -- ---- what all accounts hold together
 
-abbrev pub AreBetween : List ℕ → List Transfer → Type 0
-AreBetween s ts = All (λ t. t.from < accounts s) ts × All (λ t. t.to < accounts s) ts
-
 pub all_sent : (s : List ℕ) (ts : List Transfer) → All (λ t. t.from < accounts s) ts
     → sum_by (λ a. sent a ts) (accounts_of s) ≡ sum_by (λ t. t.amount) ts
 all_sent s ts keys = gathered (λ t. t.from) (λ t. t.amount) (accounts s) ts keys

@@ -68,9 +68,6 @@ after_accept before after id is all = subst HoldsStates (sym is) (accepted_holds
 pub after_reject : (before after : Held) (id : List ℕ) → after ≡ rejected before id → HoldsStates before → HoldsStates after
 after_reject before after id is all = subst HoldsStates (sym is) (rejected_holds before id all)
 
-pub as_before : (before after : Held) → after ≡ before → HoldsStates before → HoldsStates after
-as_before before after is all = subst HoldsStates (sym is) all
-
 -- the state of a valid block on one that is held
 pub next_on_is_state : (held : Held) (parent bytes state : List ℕ) → HoldsStates held → next_on ledger_rules held parent bytes ≡ Some state → is_state state ≡ true
 next_on_is_state held parent bytes state all is =

@@ -3,8 +3,7 @@ use Rattle.std.proofs.Common.{◌≡◌, ℕ, ◌<◌, ◌≤◌, ◌+◌, ◌-�
 use Rattle.std.specs.List.{AllPairs, remove}
 use Rattle.std.specs.Str.{bytes_eq}
 use Rattle.std.proofs.lemmas.Bool.{eq-eqb, ne_eqb, cases_lt}
-use Rattle.std.proofs.Math.Seq.{take-append_seam}
-use Rattle.std.proofs.lemmas.List.{length-append, get_or_default, get_or-map, length-map, map-append, take-map, drop-map, map-set}
+use Rattle.std.proofs.lemmas.List.{get_or_default, get_or-map, length-map, map-append, take-map, drop-map, map-set}
 use Rattle.std.proofs.lemmas.List.Edits.{length-remove, get_or-remove_below, get_or-remove_above}
 use Rattle.std.proofs.lemmas.List.Elements.{All-push, All-append, All-take, All-drop}
 use Rattle.std.proofs.lemmas.List.Quantifiers.{all_pairs_push, all_pairs_remove}
@@ -28,10 +27,6 @@ map_remove f xs at =
     map-append f (take at xs) (drop (suc at) xs)
     ∙ ap (λ l. l ++ map f (drop (suc at) xs)) (sym (take-map f at xs))
     ∙ ap (λ l. take at (map f xs) ++ l) (sym (drop-map f (suc at) xs))
-
--- one comes and goes
-pub last_cut : {X : Type 0} (xs : List X) (x : X) → take (length (xs ++ x ∷ []) - 1) (xs ++ x ∷ []) ≡ xs
-last_cut xs x = let n : length (xs ++ x ∷ []) - 1 ≡ length xs = omega (arith, length-append xs (x ∷ [])) in rw n (take-append_seam xs (x ∷ []))
 
 pub All_unmap : {X Y : Type 0} (P : Y → Type 0) (f : X → Y) (xs : List X) → All P (map f xs) → All (λ x. P (f x)) xs
 All_unmap P f xs h k d within = subst P (get_or-map f xs k d (f d) within) (h k (f d) (omega (arith, length-map xs f, within)))

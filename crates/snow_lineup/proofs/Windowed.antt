@@ -11,7 +11,7 @@ use Rattle.snow_lineup.specs.declared.window.Window.{Window}
 use Rattle.snow_lineup.specs.declared.window.Windows.{Windows}
 use Rattle.snow_lineup.specs.Kept.Marks.{has}
 use Rattle.snow_lineup.specs.Kept.Index.{forgotten}
-use Rattle.snow_lineup.specs.Kept.Windows.{IsWithin, AreWithin, no_windows, no_place, all_fresh, with_place, marked, moved, closed_up, all_closed_up, window_of, from_first, narrowed}
+use Rattle.snow_lineup.specs.Kept.Windows.{IsWithin, AreWithin, no_windows, no_place, all_fresh, with_place, marked, moved, closed_up, all_closed_up, from_first, narrowed}
 
 pub within_nothing : {T : Type 0} → AreWithin {T = T} [] no_windows
 within_nothing = record { fresh = λ k d h. absurd (omega (arith, h)); ripe = λ k d h. absurd (omega (arith, h)) }
@@ -138,11 +138,6 @@ pub no_mark : {T : Type 0} (mark : Mark) (seats : List (T × Mark)) (w : Window)
 no_mark mark seats w is none k d within = false_from_ne_true (has mark (get_or seats k d)) (λ t. let both = is k d within t in omega (arith, both, none))
 
 -- ---- the first item with a mark
-
-pub within_window : {T : Type 0} (mark : Mark) (seats : List (T × Mark)) (w : Windows) → AreWithin seats w → IsWithin mark seats (window_of w mark (length seats))
-within_window New seats w is = is.fresh
-within_window Quiet seats w is = λ k d within marked. (omega arith, within)
-within_window Ripe seats w is = is.ripe
 
 first_within : {T : Type 0} (mark : Mark) (seats : List (T × Mark)) (w : Window) (at : ℕ) → IsWithin mark seats w → at ≡ position_or_len (has mark) seats
     → IsWithin mark seats (from_first w at (length seats))

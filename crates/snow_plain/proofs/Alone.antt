@@ -81,14 +81,6 @@ pub polled_alone : (p : Parameters) (n : ℕ) (s t : Single) (child : List ℕ) 
 polled_alone p n s t child votes are h =
     sym ((λ i. all_polled p (λ front. are front i) (lined s (bits child))) ∙ polled_lined p n s t (bits child) h)
 
--- no votes are for any child
-pub none_for : (child : List ℕ) → AreFor [] child 0
-none_for child front = either (starts_with beq (bits child) front) 0
-  where
-    either : (b : Bool) (n : ℕ) → n ≡ (if b then n else n)
-    either true n = refl
-    either false n = refl
-
 -- and those for one are for it
 pub one_for : (v : Vote) (child : List ℕ) → bytes_eq v.id child ≡ true → AreFor (v ∷ []) child v.count
 one_for v child e front =

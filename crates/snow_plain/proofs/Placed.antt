@@ -1,5 +1,5 @@
 -- Lemmas on the places of pending blocks.
-use Rattle.std.proofs.Common.{◌≡◌, ℕ, suc, ◌+◌, ◌-◌, ◌<◌, ◌≤◌, true, false, cond, List, [], ◌∷◌, ◌++◌, length, get_or, take, drop, reverse, bytes_eq, Option, Some, None, IfSome, find, refl, sym, ap, ◌∙◌, add-zero, add-one, arith, drop-cons}
+use Rattle.std.proofs.Common.{◌≡◌, ℕ, suc, ◌+◌, ◌-◌, ◌<◌, ◌≤◌, true, false, cond, List, [], ◌∷◌, ◌++◌, length, get_or, take, drop, reverse, bytes_eq, Option, Some, None, IfSome, find, refl, sym, ap, ◌∙◌, add-zero, add-one, arith}
 use Rattle.std.proofs.lemmas.Bool.{or_parts, or_left, or_right}
 use Rattle.std.proofs.lemmas.Option.{none-some}
 use Rattle.snow_base.specs.declared.block.Header.{Header}
@@ -117,13 +117,6 @@ pub new_block : (board : Board) (child : Header) → MayIssue board child → ha
 new_block board child may =
     sym (has_block-reverse (blocks_of board.pending) child.id)
     ∙ (or_parts (bytes_eq board.last child.id) (has_block (reverse (blocks_of board.pending)) child.id) (unknown_off board child.id may.unknown)).1
-
--- one block more in front
-pub placed_before : (m : ℕ) (pending : List Pending) (d : Pending) (id : List ℕ) → m < length pending
-    → cond (bytes_eq (get_or pending m d).block.id id) (Some m) (place_from (m + 1) (blocks_of (drop (m + 1) pending)) id) ≡ place_from m (blocks_of (drop m pending)) id
-placed_before m pending d id h =
-    ap (λ k. cond (bytes_eq (get_or pending m d).block.id id) (Some m) (place_from (m + 1) (blocks_of (drop k pending)) id)) (add-one m)
-    ∙ sym (ap (λ l. place_from m (blocks_of l) id) (drop-cons pending m d h))
 
 -- no block behind another has its identifier
 pub none_behind : (last : List ℕ) (pending : List Pending) (m : ℕ) (d : Pending) → IsGrown last (reverse (blocks_of pending)) → m < length pending

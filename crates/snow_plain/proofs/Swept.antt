@@ -5,7 +5,6 @@ use Rattle.std.proofs.lemmas.List.Elements.{All-map}
 use Rattle.std.proofs.lemmas.List.Folds.{fold-map}
 use Rattle.snow_base.specs.declared.block.Header.{Header}
 use Rattle.snow_base.specs.declared.block.Vote.{Vote}
-use Rattle.snow_base.specs.Model.Votes.{total_count}
 use Rattle.snow_flake.specs.Model.Parameters.{Parameters}
 use Rattle.snow_board.specs.declared.cursor.Cursor.{Cursor}
 use Rattle.snow_board.specs.Model.Conflict.{Pending}
@@ -96,10 +95,6 @@ total_kept blocks cursors =
 -- their counts are above 0
 pub counts_started : (votes : List Vote) → All (λ v. 0 < v.count) votes → All (λ c. 0 < c.count) (map started votes)
 counts_started votes all = All-map (λ c. 0 < c.count) started votes all
-
--- their total is that of the votes
-pub total_started : (votes : List Vote) → cursor_total (map started votes) ≡ total_count votes
-total_started votes = fold-map (λ a c. a + c.count) started 0 votes
 
 -- the bit step leaves the blocks as they are
 pub blocks-polled : (p : Parameters) (cursors : List Cursor) (pending : List Pending) → blocks_of (polled p cursors pending) ≡ blocks_of pending

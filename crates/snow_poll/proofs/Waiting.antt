@@ -7,7 +7,6 @@ use Rattle.std.specs.Ordering.{nat_cmp, is_eq}
 use Rattle.std.proofs.lemmas.Map.Text.{is_eq-slice_cmp}
 use Rattle.std.proofs.lemmas.Bool.{cases_Bool, cases_eq, cases_lt, cond-true, cond-false}
 use Rattle.std.proofs.lemmas.List.{append_cancel_right, get_or_read, get_or-set_same, get_or-set_other, get_or_append_left, length-append, length-map, length-replicate, length-set, map-append}
-use Rattle.std.proofs.lemmas.List.Sums.{fold-append}
 use Rattle.std.proofs.lemmas.Nat.{and_le_r}
 use Rattle.std.proofs.lemmas.Slice.Eq.{bytes_eq-Decides}
 use Rattle.std.proofs.Math.Seq.{get_or-append_seam, map-set_same}
@@ -210,14 +209,6 @@ pub record IsNumberAmong (waits : List Wait) (many : ℕ) (node : List ℕ) (num
   pub here : (d : Wait) → 0 < number → bytes_eq (get_or waits (number - 1) d).node node ≡ true
   pub later : (k : ℕ) (d : Wait) → number ≤ k → k < many → bytes_eq (get_or waits k d).node node ≡ false
 
--- there is none among no entries
-pub numbers_begin : (waits : List Wait) (node : List ℕ) (number : ℕ) → number ≡ 0 → IsNumberAmong waits 0 node number
-numbers_begin waits node number none = record {
-  within = omega (arith, none);
-  here = λ d some. absurd (omega (arith, none));
-  later = λ k d low high. absurd (omega arith);
-}
-
 -- an entry more has the number of its place, from 1
 pub numbers_more : (waits : List Wait) (i : ℕ) (w : Wait) (node : List ℕ) (number more : ℕ) → i < length waits → w ≡ get_or waits i w
     → more ≡ cond (bytes_eq w.node node) (i + 1) number → IsNumberAmong waits i node number → IsNumberAmong waits (i + 1) node more
@@ -260,15 +251,6 @@ number_put numbers more key node n put =
     each true o = refl
     each false o = refl
 
--- among all entries
-pub numbers_end : (waits : List Wait) (many : ℕ) (node : List ℕ) (number : ℕ) → many ≡ length waits → IsNumberAmong waits many node number
-    → IsNumberOf waits node number
-numbers_end waits many node number all among = record {
-  within = omega (arith, among.within);
-  here = among.here;
-  later = λ k d low high. among.later k d low (omega arith);
-}
-
 -- a node's reply changes no number
 pub numbers_kept : (waits : List Wait) (i : ℕ) (w : Wait) (node : List ℕ) (number : ℕ) → ((d : Wait) → w.node ≡ (get_or waits i d).node)
     → IsNumberOf waits node number → IsNumberOf (set waits i w) node number
@@ -297,10 +279,6 @@ count_there w = each w.replied w.count
     each : (b : Bool) (n : ℕ) → not b ≡ is_some (if b then None else Some n)
     each true n = refl
     each false n = refl
-
--- an entry more counts for its node
-pub counts_more : (waits : List Wait) (w : Wait) (other : List ℕ) → counts_at (waits ++ w ∷ []) other ≡ cond (bytes_eq w.node other) (count_left w) (counts_at waits other)
-counts_more waits w other = fold-append (λ found (w : Wait). cond (bytes_eq w.node other) (count_left w) found) None waits (w ∷ [])
 
 -- a node's last entry counts
 pub counts_here : (waits : List Wait) (node : List ℕ) (number : ℕ) (w : Wait) → IsNumberOf waits node number → 0 < number → w ≡ get_or waits (number - 1) w

@@ -2,54 +2,17 @@
 use Rattle.std.proofs.Common.{◌≡◌, ℕ, ◌+◌, ◌-◌, ◌*◌, ◌/◌, ◌^◌, ◌<◌, ◌≤◌, true, false, List, [], ◌∷◌, ◌++◌, length, get_or, nat_le, arith, inl, inr}
 use Rattle.std.specs.List.Sorted.{IsPartitionedBy, IsPartitionPoint}
 use Rattle.std.proofs.lemmas.Bool.{cases_lt, false_from_ne_true, le-leb, leb-true}
-use Rattle.std.proofs.lemmas.List.{get_or_append_left, get_or_past, length-append}
 use Rattle.std.proofs.lemmas.Nat.{pow_pos, shr_split}
-use Rattle.std.proofs.Math.Nat.{add-mul, one-mul, lt-div-mul-add, div-lt_iff_lt-mul}
-use Rattle.std.proofs.Math.Seq.{get_or-append_seam}
-use Rattle.snow_sample.specs.Kept.Guide.{AreStarts, IsGuide}
+use Rattle.std.proofs.Math.Nat.{div-lt_iff_lt-mul}
+use Rattle.snow_sample.specs.Kept.Guide.{IsGuide}
 
 -- the ends before a place are at most a unit
 abbrev pub AreBefore : List ℕ → ℕ → ℕ → Type 0
 AreBefore ends unit place = (i d : ℕ) → i < place → get_or ends i d ≤ unit
 
--- one start more
-pub starts_more : (ends starts : List ℕ) (width start : ℕ) → AreStarts ends width starts → start ≤ length ends → AreBefore ends (length starts * width) start
-    → AreStarts ends width (starts ++ start ∷ [])
-starts_more ends starts width start are within before =
-    let more : length (starts ++ start ∷ []) ≡ length starts + 1 = length-append starts (start ∷ []) in
-    record {
-      within = λ run.
-          elim (cases_lt run (length starts)) [
-            | inl less ↦ rw (get_or_append_left starts (start ∷ []) 0 run less) (are.within run)
-            | inr past ↦
-                elim (cases_lt (length starts) run) [
-                  | inl beyond ↦ rw (get_or_past (starts ++ start ∷ []) run 0 (omega arith)) (omega arith)
-                  | inr here ↦
-                      let at : run ≡ length starts = omega arith in
-                      rw (at, get_or-append_seam starts start [] 0) within
-                ]
-          ];
-      passed = λ run i d high low.
-          elim (cases_lt run (length starts)) [
-            | inl less ↦ are.passed run i d less (rw (get_or_append_left starts (start ∷ []) 0 run less) at low)
-            | inr past ↦
-                let at : run ≡ length starts = omega arith in
-                rw at (before i d (rw (at, get_or-append_seam starts start [] 0) at low))
-          ];
-    }
-
--- the next run begins no earlier
-pub next_run : (ends : List ℕ) (run width place : ℕ) → AreBefore ends (run * width) place → AreBefore ends ((run + 1) * width) place
-next_run ends run width place before i d low = omega (arith, before i d low, add-mul run 1 width)
-
 -- a unit's run begins at it or before
 pub run_begins : (unit shift : ℕ) → unit / 2 ^ shift * 2 ^ shift ≤ unit
 run_begins unit shift = omega (arith, shr_split unit shift)
-
--- and ends behind it
-pub run_ends : (unit shift : ℕ) → unit < (unit / 2 ^ shift + 1) * 2 ^ shift
-run_ends unit shift =
-    omega (arith, lt-div-mul-add {a = unit} {b = 2 ^ shift} (pow_pos shift), add-mul (unit / 2 ^ shift) 1 (2 ^ shift), one-mul (2 ^ shift))
 
 -- a guide that reaches past a unit has its run, and one more
 pub run_within : (ends starts : List ℕ) (unit shift : ℕ) → IsGuide ends (unit + 1) starts shift → unit / 2 ^ shift + 1 < length starts

@@ -1,18 +1,12 @@
 -- Lemmas on moves: what stands at a position after them, and how they are chained in classes of positions.
-use Rattle.std.proofs.Common.{◌≡◌, ◌≢◌, ℕ, ◌+◌, ◌-◌, ◌<◌, ◌≤◌, ◌==◌, Bool, true, cond, List, [], ◌∷◌, ◌++◌, length, get_or, set, map, replicate, ap, ◌∙◌, arith, inl, inr}
-use Rattle.std.specs.BTreeMap.{BTreeMap}
-use Rattle.std.proofs.lemmas.Bool.{cases_lt, cond-true, cond-false, eq-eqb, eqb-true, le-ltb, lt-ltb, ne_eqb}
+use Rattle.std.proofs.Common.{◌≡◌, ◌≢◌, ℕ, ◌+◌, ◌-◌, ◌<◌, ◌≤◌, ◌==◌, Bool, true, List, [], ◌∷◌, ◌++◌, length, get_or, set, map, replicate, ap, ◌∙◌, arith}
+use Rattle.std.proofs.lemmas.Bool.{eq-eqb, eqb-true, ne_eqb}
 use Rattle.std.proofs.lemmas.List.{length-map, length-replicate, length-set, map-append}
-use Rattle.std.proofs.lemmas.List.Sums.{fold-append}
 use Rattle.std.proofs.lemmas.Nat.{and_le_r}
 use Rattle.snow_sample.specs.declared.shuffle.Move.{Move}
-use Rattle.snow_sample.specs.Kept.Drawn.{class_of, classes_of, AreMoves, moved_to, far_at, unit_at}
+use Rattle.snow_sample.specs.Kept.Drawn.{class_of, classes_of, AreMoves, moved_to}
 use Rattle.snow_sample.proofs.Chains.{chained_none, chained_more}
 use Rattle.snow_sample.proofs.Walks.{IsSought, sought_begins, sought_on, sought_found, sought_nowhere}
-
--- a move more
-pub unit_more : (moves : List Move) (m : Move) (p : ℕ) → moved_to p p (moves ++ m ∷ []) ≡ cond (m.place == p) m.unit (moved_to p p moves)
-unit_more moves m p = fold-append (λ unit (m : Move). cond (m.place == p) m.unit unit) p moves (m ∷ [])
 
 -- ---- a walk of a position's class
 
@@ -83,20 +77,3 @@ moves_more mask moves lasts m are first =
     }
 
 -- ---- the list of the first positions
-
--- a position that the list has
-pub unit_near : (near : List ℕ) (moves : List Move) (later : BTreeMap ℕ ℕ) (p : ℕ) → p < length near → unit_at near moves later p ≡ get_or near p 0
-unit_near near moves later p within = cond-true _ (get_or near p 0) (far_at moves later p) (lt-ltb p (length near) within)
-
--- one behind it
-pub unit_far : (near : List ℕ) (moves : List Move) (later : BTreeMap ℕ ℕ) (p : ℕ) → length near ≤ p → unit_at near moves later p ≡ far_at moves later p
-unit_far near moves later p behind = cond-false _ (get_or near p 0) (far_at moves later p) (le-ltb p (length near) behind)
-
--- each stands at its own, where nothing was moved
-pub units_own : (near : List ℕ) (moves : List Move) (later : BTreeMap ℕ ℕ) → ((p : ℕ) → p < length near → get_or near p 0 ≡ p)
-    → ((p : ℕ) → far_at moves later p ≡ p) → (p : ℕ) → unit_at near moves later p ≡ p
-units_own near moves later own far p =
-    elim (cases_lt p (length near)) [
-      | inl within ↦ unit_near near moves later p within ∙ own p within
-      | inr behind ↦ unit_far near moves later p behind ∙ far p
-    ]

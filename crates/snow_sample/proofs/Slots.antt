@@ -78,10 +78,6 @@ nodes_differ nodes i k m n good apart within_i within_k same =
 
 -- ---- slots
 
--- no node was drawn
-pub slots_begin : (nodes : List Node) (slots : List ℕ) → length nodes ≤ length slots → HasSlots nodes slots []
-slots_begin nodes slots long = record { each = long; places = λ i at n h is. absurd (cc) }
-
 -- the places after a node's first draw
 slots_new : (nodes : List Node) (slots : List ℕ) (draws : List Draw) (i : ℕ) (n : Node) → HasSlots nodes slots draws → first_fault nodes ≡ None
     → i < length nodes → place draws (get_or nodes i n).id ≡ None

@@ -191,11 +191,3 @@ group_come p votes last pending at e cs came g there climbing placed same =
 pub group_others : (last : List ℕ) (pending : List (Entry Kept)) (at : ℕ) (e : Entry Kept) (cs : List Climber) → IsGrown last (reverse (blocks_in pending))
     → slice_get pending at ≡ Some e → ArePlaced (blocks_in pending) cs → All (λ c. bytes_eq c.sought e.block.id ≡ false) (cursors_of (blocks_in pending) (under (at + 1) cs))
 group_others last pending at e cs g there placed = rest_others (blocks_in pending) e.block at cs (reached_at last pending at e g there) placed
-
--- the entry whose block was seen
-pub entry_of : (pending : List (Entry Kept)) (at : ℕ) (b : Header) → option_map (λ e. e.block) (slice_get pending at) ≡ Some b → (e : Entry Kept) × (slice_get pending at ≡ Some e) × (e.block ≡ b)
-entry_of pending at b h = by (slice_get pending at) refl h
-  where
-    by : (o : Option (Entry Kept)) → slice_get pending at ≡ o → option_map (λ e. e.block) o ≡ Some b → (e : Entry Kept) × (slice_get pending at ≡ Some e) × (e.block ≡ b)
-    by None e h = absurd (none-some b h)
-    by (Some x) e h = (x, e, cc)

@@ -1,5 +1,5 @@
 -- Lemmas on the nodes when a block is issued or taken back: its parent's children change.
-use Rattle.std.proofs.Common.{◌≡◌, ℕ, zero, suc, ◌+◌, ◌-◌, ◌≤◌, true, false, ◌||◌, List, [], ◌∷◌, ◌++◌, length, get_or, take, reverse, map, bytes_eq, All, Some, None, Option, slice_get, Result, Ok, Err, OnOk, OnErr, IsOk, refl, sym, ap, subst, ◌∙◌, length-append, append-nil, if◌then◌else◌, arith}
+use Rattle.std.proofs.Common.{◌≡◌, ℕ, zero, suc, ◌+◌, ◌-◌, ◌≤◌, true, false, ◌||◌, List, [], ◌∷◌, ◌++◌, length, get_or, take, reverse, map, bytes_eq, All, Some, None, Option, slice_get, Result, Ok, Err, OnOk, OnErr, refl, sym, ap, subst, ◌∙◌, length-append, append-nil, if◌then◌else◌, arith}
 use Rattle.std.specs.List.{IsDistinct, position}
 use Rattle.std.specs.Option.{option_map}
 use Rattle.std.proofs.lemmas.Result.{on_ok_weaker, on_err_weaker}
@@ -79,11 +79,6 @@ module _ {T : Type 0} where
 pub on_ok : {A E P : Type 0} (r : Result A E) → P → OnOk r P
 on_ok (Ok x) p = p
 on_ok (Err e) p = tt
-
--- a call that succeeded
-pub ok_holds : {A E P : Type 0} (r : Result A E) → IsOk r → OnOk r P → P
-ok_holds (Ok x) ok p = p
-ok_holds (Err e) ok p = absurd cc
 
 module _ {T : Type 0} where
   -- a write that didn't come about

@@ -1,5 +1,5 @@
 -- Lemmas on the numbers by which the entries of a row are found.
-use Rattle.std.proofs.Common.{◌≡◌, ℕ, zero, suc, true, false, if◌then◌else◌, List, [], ◌∷◌, ◌++◌, IfSome, bytes_eq, Bool, Option, Some, None, slice_get, refl, sym, ap, subst, ◌∙◌}
+use Rattle.std.proofs.Common.{◌≡◌, ℕ, zero, suc, true, false, if◌then◌else◌, List, [], ◌∷◌, ◌++◌, bytes_eq, Bool, Option, Some, None, slice_get, refl, sym, ap, subst, ◌∙◌}
 use Rattle.std.specs.List.{AllByRecursion, IsDistinct, position}
 use Rattle.std.specs.Map.{keys_of}
 use Rattle.std.specs.Option.{option_map}
@@ -7,10 +7,6 @@ use Rattle.std.proofs.lemmas.Bool.{true≢false}
 use Rattle.std.proofs.lemmas.Option.{none-some}
 use Rattle.snow_board.proofs.Cases.{split_on, same_id, id_same}
 use Rattle.snow_tree.proofs.Placed.{position_cons}
-
--- what is so of what was found
-pub some_is : {A : Type 0} (P : A → Type 0) (o : Option A) (x : A) → o ≡ Some x → IfSome o P → P x
-some_is P o x is h = subst (λ q. IfSome q P) is h
 
 -- a place with one more that fails is the same
 pub place_kept : {X : Type 0} (p : X → Bool) (ks : List X) (k : X) → p k ≡ false → position p (ks ++ k ∷ []) ≡ position p ks

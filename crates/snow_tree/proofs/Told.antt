@@ -79,9 +79,6 @@ no_way slots edges n k q h none = and_false (slot_of (length slots) q == slot_of
 
 -- ---- blocks that come and go
 
-pub none_numbered : (number : List ℕ → Option ℕ) (slots : List ℕ) (next : ℕ) → 0 < next → ((k : List ℕ) → number k ≡ None) → IsNumbered [] number slots next
-none_numbered number slots next begun none = record { begun = begun; order = tt; own = tt; found = none; slotted = λ h. absurd (omega (arith, h)) }
-
 -- one that stands behind all others
 pub one_told : (edges : List Edge) (x : Edge) (number now : List ℕ → Option ℕ) (slots : List ℕ) (next : ℕ) → IsNumbered edges number slots next → 0 < length slots
     → x.number ≡ next → AllByRecursion (λ e. IsBefore e x) edges → IsOwn (next + 1) x

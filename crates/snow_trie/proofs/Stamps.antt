@@ -1,6 +1,6 @@
 -- Lemmas on stamps: a node that isn't visited fails by itself.
 use Rattle.std.proofs.Common.{◌≡◌, ℕ, ◌+◌, ◌≤◌, ◌==◌, Bool, true, false, refl, sym, ap, ◌∙◌, arith}
-use Rattle.std.proofs.lemmas.Bool.{eq-eqb, ne_eqb}
+use Rattle.std.proofs.lemmas.Bool.{ne_eqb}
 use Rattle.snow_flake.specs.Model.Parameters.{Parameters, AreGood}
 use Rattle.snow_flake.specs.Model.Counter.{Counter, Decided, Undecided, admits}
 use Rattle.snow_flake.specs.Model.Rule.{Answer, answer_of}
@@ -34,10 +34,6 @@ late_counter now seen i h =
     split_on (seen == now)
     (λ t. rw (late, t) (counter_failed i))
     (λ t. rw (late, t) (counter_failed i ∙ sym (ap quiet (counter_failed i) ∙ quiet_twice (counter_of i))))
-
--- one that was seen just now stands as it is
-pub seen_now : (now : ℕ) (i : Instance) → standing_at now now i ≡ i
-seen_now now i = rw (eq-eqb now now refl) refl
 
 -- where all had one bit, that bit is possible
 own_single : (u : Single) (b : Bool) → admits (counter_of (at_bit u b)) b ≡ true

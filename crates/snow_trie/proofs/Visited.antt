@@ -73,14 +73,6 @@ agree_on from to id votes agree have i j d p q k h =
       | inr more ↦ sym (have i d (omega arith) k more h) ∙ have j d q k more h
     ]
 
--- votes for identifiers that go down agree with a unary node
-pub along : (id : List ℕ) (from to : ℕ) (below : Outline) (votes : List Vote) → All (λ v. Leads (Straight id from to below) v.id) votes → All (λ v. AgreeFrom from to id v.id) votes
-along id from to below votes known k d h = (known k d h).0
-
--- and go on
-pub further : (id : List ℕ) (from to : ℕ) (below : Outline) (votes : List Vote) → All (λ v. Leads (Straight id from to below) v.id) votes → All (λ v. Leads below v.id) votes
-further id from to below votes known k d h = (known k d h).1
-
 -- a visit of a unary node, and of what is below it
 pub polled_line : (p : Parameters) (votes : List Vote) (count before from to : ℕ) (run run' : Run) (below below' : Tree)
     → from < run.to → run.to ≤ 256 → All (λ v. AgreeFrom from run.to run.id v.id) votes → count ≡ total_count votes
