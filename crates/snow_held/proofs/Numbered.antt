@@ -62,17 +62,6 @@ nested_same R exact view before now k w change step n j =
       | false ↦ λ t. refl
     ]) refl
 
--- where there is none for a key, nothing is taken out
-pub nested_missing : {K M J B : Type 0} (R : K → K → Ordering) → CmpEqualImpliesEq R → (view : Option M → J → B) (before : BTreeMap K M) (k : K) (inner : J → Bool) (new : B)
-    → get R before k ≡ None → ((j : J) → view None j ≡ new) → (n : K) (j : J) → view (get R before n) j ≡ cond (is_at (R k) n && inner j) new (view (get R before n) j)
-nested_missing {B = B} R exact view before k inner new none nothing n j =
-    let Goal : Bool → Type 0 = λ t. is_at (R k) n ≡ t → view (get R before n) j ≡ cond (t && inner j) new (view (get R before n) j) in
-    let same : (b : Bool) (x : B) → x ≡ new → x ≡ cond b new x = λ b x e. (elim b as (λ b. x ≡ cond b new x) [ true ↦ e | false ↦ refl ]) in
-    (elim (is_at (R k) n) as Goal [
-      | true ↦ λ t. same (inner j) (view (get R before n) j) (ap (λ m. view (get R before m) j) (sym (exact k n (equal_by (R k n) t))) ∙ ap (λ o. view o j) none ∙ nothing j)
-      | false ↦ λ t. refl
-    ]) refl
-
 -- ---- keys
 
 pub node_itself : (node : List ℕ) → is_at (slice_cmp nat_cmp node) node ≡ true

@@ -21,7 +21,7 @@ use Rattle.std.proofs.lemmas.Map.Keys.{IsDistinct-from_sorted}
 use Rattle.std.proofs.lemmas.Cmp.{eq_by_cmp_equiv, nat_cmp_total}
 use Rattle.snow_held.specs.declared.backlog.Kept.{Kept}
 use Rattle.snow_held.specs.declared.held.Held.{Held}
-use Rattle.snow_held.specs.Kept.Arrivals.{Entries, at_arrival, loud, woken_among, stands_for, is_noted, weight, IsBacklog, IsFirst, AreQuiet}
+use Rattle.snow_held.specs.Kept.Arrivals.{Entries, at_arrival, loud, woken_among, stands_for, is_noted, weight, IsBacklog, IsFirst}
 use Rattle.snow_map.proofs.Booleans.{or_true}
 
 -- ---- numbers
@@ -289,14 +289,6 @@ is_first es heap len room x n reply is top sum found = record {
   there = found;
   least = λ b k there quiet. let low = noted_least x b heap (le_from_greatest x heap top) (is.noted b k there quiet) in omega (arith, low, sum);
 }
-
-pub none_noted : (es : Entries) (heap : List ℕ) (len room : ℕ) → IsBacklog es heap len room → heap ≡ [] → AreQuiet es
-none_noted es heap len room is empty a k found =
-    let Goal : Bool → Type 0 = λ b. k.quiet ≡ b → b ≡ true in
-    elim k.quiet as Goal [
-      | true ↦ λ e. refl
-      | false ↦ λ e. sym (ap (λ l. is_noted l a) empty) ∙ is.noted a k found e
-    ] refl
 
 -- the top of the heap goes, which isn't the number of a reply that is to be looked at
 pub stocked_popped : (es : Entries) (before after : List ℕ) (len now room wide x n : ℕ) → IsBacklog es before len room → IsHeap nat_cmp after → IsPermutation before (x ∷ after)

@@ -162,12 +162,12 @@ fn drop_one(backlog: &mut Backlog, blocks: &mut BTreeMap<Id, Named>, arrival: u6
 pub(crate) fn drop_each(
     backlog: &mut Backlog,
     blocks: &mut BTreeMap<Id, Named>,
-    mut nodes: BTreeMap<NodeKey, u64>,
+    nodes: &BTreeMap<NodeKey, u64>,
 )
-    ensures { LeavesEach backlog.old (names blocks.old) nodes backlog.new (names blocks.new) }
+    ensures { LeavesEach backlog.old (names blocks.old) nodes.now backlog.new (names blocks.new) }
 {
-    while let Some((_, arrival)) = nodes.pop_first() {
-        drop_one(backlog, blocks, arrival);
+    for (_, arrival) in nodes.iter() {
+        drop_one(backlog, blocks, *arrival);
     }
 }
 

@@ -167,6 +167,6 @@ impl Replies {
         let Some(nodes) = self.polls.remove(&number) else {
             return;
         };
-        arrivals::drop_each(&mut self.backlog, &mut self.blocks, nodes);
+        arrivals::drop_each(&mut self.backlog, &mut self.blocks, &nodes);
     }
 }

@@ -1,5 +1,5 @@
 -- Held replies by their numbers of arrival, and the indexes of these numbers: by block, and by poll and node.
-use Rattle.std.specs.Prelude.{◌≡◌, ℕ, ◌+◌, ◌<◌, ◌≤◌, Bool, true, false, ◌==◌, ◌&&◌, List, not, filter, Option, Some, bytes_eq, if◌then◌else◌}
+use Rattle.std.specs.Prelude.{◌≡◌, ℕ, ◌+◌, ◌<◌, ◌≤◌, Bool, true, false, ◌==◌, ◌&&◌, List, All, not, filter, Option, Some, bytes_eq, if◌then◌else◌}
 use Rattle.std.specs.BinaryHeap.{IsHeap}
 use Rattle.std.specs.BTreeMap.{BTreeMap, get, is_at}
 use Rattle.std.specs.Cmp.Lexicographic.{slice_cmp}
@@ -118,10 +118,12 @@ pub record AreNodesOf (number : ℕ) (es : Entries) (nodes : BTreeMap NodeKey �
   pub all : (a : ℕ) (k : Kept) → at_arrival es a ≡ Some k → k.reply.number ≡ number → get key_cmp nodes (key_of k.reply.node) ≡ Some a
   pub only : (key : NodeKey) (a : ℕ) (k : Kept) → get key_cmp nodes key ≡ Some a → at_arrival es a ≡ Some k → k.reply.number ≡ number
 
--- replies of a poll go one by one: those of other polls stay, and nodes has the numbers of those that are left
-pub record IsLeaving (number : ℕ) (before now : Entries) (nodes : BTreeMap NodeKey ℕ) (number_at : ℕ → NodeKey → Option ℕ) (named : List ℕ → ℕ → Bool) (next : ℕ) : Type 0 where
+-- replies of a poll go one by one: those of other polls stay, and rest has the numbers of those that are left
+pub record IsLeaving (number : ℕ) (before now : Entries) (nodes : BTreeMap NodeKey ℕ) (rest : List (NodeKey × ℕ)) (number_at : ℕ → NodeKey → Option ℕ) (named : List ℕ → ℕ → Bool) (next : ℕ) : Type 0 where
   pub filed : IsFiled now number_at named next
-  pub left : AreNodesOf number now nodes
+  pub of_poll : AreNodesOf number now nodes
+  pub nodes_of : All (λ e. get key_cmp nodes e.0 ≡ Some e.1) rest
+  pub left : (a : ℕ) (k : Kept) → at_arrival now a ≡ Some k → k.reply.number ≡ number → is_among (values_of rest) a ≡ true
   pub same : filter (stays number) now ≡ filter (stays number) before
 
 -- the replies of a poll went
