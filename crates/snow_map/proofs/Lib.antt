@@ -1,4 +1,5 @@
 pub mod Lists
 pub mod Booleans
+pub mod Places
 mod Seats
 mod Kept

@@ -49,7 +49,7 @@ id_turned a b = split_on (bytes_eq a b)
     (λ f. f ∙ sym (apart_ids b a (λ e. clash (bytes_eq a b) ((bytes_eq-Decides a b).1 (sym e)) f)))
 
 -- identifiers that are found equal are one
-ids_are_one : IsEquivalence bytes_eq
+pub ids_are_one : IsEquivalence bytes_eq
 ids_are_one = record {
   refl = id_itself;
   symm = id_turned;

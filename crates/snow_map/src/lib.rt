@@ -3,7 +3,9 @@
 
 mod far;
 mod id_map;
+mod id_set;
 mod near;
 
 pub use id_map::{IdHashing, IdMap};
+pub use id_set::IdSet;
 pub use near::seat_of;

@@ -6,15 +6,8 @@ use Rattle.std.specs.Option.{option_map}
 use Rattle.std.proofs.lemmas.Bool.{true≢false}
 use Rattle.std.proofs.lemmas.Option.{none-some}
 use Rattle.snow_board.proofs.Cases.{split_on, same_id, id_same}
-use Rattle.snow_tree.proofs.Placed.{position_cons}
-
--- a place with one more that fails is the same
-pub place_kept : {X : Type 0} (p : X → Bool) (ks : List X) (k : X) → p k ≡ false → position p (ks ++ k ∷ []) ≡ position p ks
-place_kept p [] k fails = position_cons p k [] ∙ rw fails refl
-place_kept p (y ∷ ks) k fails =
-    position_cons p y (ks ++ k ∷ [])
-    ∙ ap (λ o. if p y then Some 0 else option_map suc o) (place_kept p ks k fails)
-    ∙ sym (position_cons p y ks)
+pub use Rattle.snow_map.proofs.Places.{place_kept}
+use Rattle.snow_map.proofs.Places.{position_cons}
 
 module _ {V : Type 0} where
   -- what is so of each key is so of one

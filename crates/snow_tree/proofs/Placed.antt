@@ -12,6 +12,7 @@ use Rattle.snow_board.specs.Kept.Grown.{has_block}
 use Rattle.snow_board.proofs.Cases.{split_on, same_id, id_same, differs_back}
 use Rattle.snow_tree.specs.declared.node.Node.{Node}
 use Rattle.snow_tree.specs.Kept.Nodes.{blocks_of}
+pub use Rattle.snow_map.proofs.Places.{position_cons}
 
 -- a test of two identifiers says the same either way
 pub either_way : (a b : List ℕ) → bytes_eq a b ≡ bytes_eq b a
@@ -19,18 +20,6 @@ either_way a b =
     split_on (bytes_eq b a)
     (λ t. id_same a b (sym (same_id b a t)) ∙ sym t)
     (λ t. differs_back a b t ∙ sym t)
-
--- the first place where a test holds, in a list with one element more in front
-pub position_cons : {X : Type 0} (p : X → Bool) (x : X) (xs : List X) → position p (x ∷ xs) ≡ (if p x then Some 0 else option_map suc (position p xs))
-position_cons p x xs =
-    split_on (p x)
-    (λ t. let here : nat_lt 0 (suc (length xs)) ≡ true = grind (arith, common_steps) in rw t (ap (λ b. cond b (Some 0) None) here))
-    (λ t. rw t (shifted (prefix_len (λ y. not (p y)) xs) (length xs)))
-  where
-    shifted : (n len : ℕ) → cond (nat_lt (1 + n) (suc len)) (Some (1 + n)) None ≡ option_map suc (cond (nat_lt n len) (Some n) None)
-    shifted n len =
-        let same : nat_lt (1 + n) (suc len) ≡ nat_lt n len = grind (arith, common_steps) in
-        rw same (split_on (nat_lt n len) (λ t. rw t (ap Some (omega arith))) (λ t. rw t refl))
 
 module _ {T : Type 0} where
   -- where the node of an identifier stands, with its key
