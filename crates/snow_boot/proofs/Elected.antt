@@ -1,48 +1,40 @@
 -- Candidates in the order in which they were named, and the weight that backs each.
-use Rattle.std.proofs.Common.{◌≡◌, ℕ, suc, zero, ◌+◌, ◌≤◌, ◌<◌, Bool, true, false, ◌||◌, cond, List, [], ◌∷◌, ◌++◌, map, filter, take, drop, get_or, length, Option, Some, None, bytes_eq, if◌then◌else◌, append_assoc, refl, sym, ap, subst, ◌∙◌}
-use Rattle.std.specs.Prelude.{is_some}
-use Rattle.std.specs.List.{AllByRecursion, IsDistinct, list_any, slice_get}
-use Rattle.std.specs.Map.{keys_of, lookup, set_value}
+use Rattle.std.proofs.Common.{◌≡◌, ℕ, suc, zero, ◌+◌, ◌≤◌, ◌<◌, Bool, true, false, ◌||◌, cond, List, [], ◌∷◌, ◌++◌, map, filter, take, drop, get_or, set, length, Option, Some, None, bytes_eq, if◌then◌else◌, append_assoc, refl, sym, ap, subst, ◌∙◌, arith}
+use Rattle.std.specs.List.{AllByRecursion, IsDistinct, list_any, position}
+use Rattle.std.specs.Option.{option_map}
 use Rattle.std.proofs.Math.Seq.{take-suc}
 use Rattle.std.proofs.lemmas.List.{map-append}
 use Rattle.std.proofs.lemmas.List.Folds.{list_any-append}
-use Rattle.std.proofs.lemmas.Option.{slice_get_within, get_or_from_slice_get}
+use Rattle.snow_map.proofs.Places.{position_cons, one_more_once}
 use Rattle.snow_boot.specs.declared.question.Candidate.{Candidate}
-use Rattle.snow_boot.specs.Model.Electing.{candidates_of, with_weight, is_collected, collected, backed, is_target, majority}
-use Rattle.snow_boot.specs.Kept.Surveying.{AreWithin}
+use Rattle.snow_boot.specs.Model.Electing.{is_collected, collected, backed_by, backed, is_target, majority}
+use Rattle.snow_boot.specs.Kept.Surveying.{AreListed, AreWithin, weight_of}
 use Rattle.snow_store.specs.Model.Paths.{has_id}
 use Rattle.snow_store.proofs.Cases.{clash, same_id, id_turned, same_some, none_not, any_turned, or_false, or_assoc, next_of}
 
-abbrev Entries : Type 0
-Entries = List (List ℕ × ℕ)
+-- the identifiers of candidates
+abbrev pub ids_of : List Candidate → List (List ℕ)
+ids_of cs = map (λ c. c.id) cs
 
 -- ---- collecting
 
-pub collected_there : (es : Entries) (id : List ℕ) → is_some (lookup (bytes_eq id) es) ≡ is_collected (candidates_of es) id
+collected_there : (cs : List Candidate) (id : List ℕ) → list_any (bytes_eq id) (ids_of cs) ≡ is_collected cs id
 collected_there [] id = refl
-collected_there (e ∷ es) id = by (bytes_eq id e.0) (collected_there es id) ∙ ap (λ t. t || is_collected (candidates_of es) id) (id_turned id e.0)
-  where
-    by : (t : Bool) → is_some (lookup (bytes_eq id) es) ≡ is_collected (candidates_of es) id → is_some (cond t (Some e.1) (lookup (bytes_eq id) es)) ≡ (t || is_collected (candidates_of es) id)
-    by true more = refl
-    by false more = more
+collected_there (c ∷ cs) id = ap (λ t. t || list_any (bytes_eq id) (ids_of cs)) (id_turned id c.id) ∙ ap (λ t. bytes_eq c.id id || t) (collected_there cs id)
 
-pub not_collected : (es now : Entries) (id : List ℕ) → is_some (lookup (bytes_eq id) es) ≡ false → now ≡ es ++ (id, 0) ∷ [] → candidates_of now ≡ collected (candidates_of es) id
-not_collected es now id none is =
-    ap candidates_of is ∙ map-append (λ (e : List ℕ × ℕ). (let c : Candidate = record { id = e.0; weight = e.1 } in c)) es ((id, 0) ∷ [])
-    ∙ ap (λ (t : Bool). if t then candidates_of es else candidates_of es ++ record { id = id; weight = 0 } ∷ []) (sym none ∙ collected_there es id)
+-- whether it was, by the list of identifiers
+pub was_collected : (cs : List Candidate) (ids : List (List ℕ)) (id : List ℕ) (t : Bool) → ids_of cs ≡ ids → list_any (bytes_eq id) ids ≡ t
+    → collected cs id ≡ (if t then cs else cs ++ record { id = id; weight = 0 } ∷ [])
+was_collected cs ids id t same is =
+    ap (λ (b : Bool). if b then cs else cs ++ record { id = id; weight = 0 } ∷ []) (sym (collected_there cs id) ∙ ap (list_any (bytes_eq id)) same ∙ is)
 
-pub had_collected : (es : Entries) (id : List ℕ) → is_some (lookup (bytes_eq id) es) ≡ true → candidates_of es ≡ collected (candidates_of es) id
-had_collected es id some =
-    ap (λ (t : Bool). if t then candidates_of es else candidates_of es ++ record { id = id; weight = 0 } ∷ []) (sym some ∙ collected_there es id)
-
--- the identifiers of all
-pub are_named : (es : Entries) → keys_of es ≡ map (λ c. c.id) (candidates_of es)
-are_named [] = refl
-are_named (e ∷ es) = ap (λ l. e.0 ∷ l) (are_named es)
-
-pub none_of : (o : Option ℕ) → is_some o ≡ false → o ≡ None
-none_of None e = refl
-none_of (Some n) e = clash true refl e
+-- one more is listed
+pub listed_more : (cs : List Candidate) (ids more : List (List ℕ)) (id : List ℕ) → AreListed ids cs → list_any (bytes_eq id) ids ≡ false → more ≡ ids ++ id ∷ []
+    → AreListed more (cs ++ record { id = id; weight = 0 } ∷ [])
+listed_more cs ids more id listed none is = record {
+  same = map-append (λ (c : Candidate). c.id) cs (record { id = id; weight = 0 } ∷ []) ∙ ap (λ l. l ++ id ∷ []) listed.same ∙ sym is;
+  unique = subst (IsDistinct bytes_eq) (sym is) (one_more_once ids id listed.unique none);
+}
 
 -- ---- the identifiers of an answer
 
@@ -71,76 +63,89 @@ once_on once more ids i k is within at so_far q =
 
 -- ---- backing
 
--- some are backed by more
-abbrev pub with_weights : List (List ℕ) → ℕ → Entries → Entries
-with_weights ids w es = map (λ e. if has_id ids e.0 then (e.0, e.1 + w) else e) es
-
-pub none_backed : (w : ℕ) (es : Entries) → with_weights [] w es ≡ es
+pub none_backed : (w : ℕ) (cs : List Candidate) → backed w [] cs ≡ cs
 none_backed w [] = refl
-none_backed w (e ∷ es) = ap (λ l. e ∷ l) (none_backed w es)
+none_backed w (c ∷ cs) = ap (λ l. c ∷ l) (none_backed w cs)
 
-pub all_backed : (ids : List (List ℕ)) (w : ℕ) (es : Entries) → candidates_of (with_weights ids w es) ≡ backed w ids (candidates_of es)
-all_backed ids w [] = refl
-all_backed ids w (e ∷ es) = by (has_id ids e.0) (all_backed ids w es)
-  where
-    by : (t : Bool) → candidates_of (with_weights ids w es) ≡ backed w ids (candidates_of es)
-        → candidates_of ((if t then (e.0, e.1 + w) else e) ∷ with_weights ids w es)
-        ≡ (let c : Candidate = record { id = e.0; weight = e.1 } in if t then record { id = c.id; weight = c.weight + w } else c) ∷ backed w ids (candidates_of es)
-    by true more = ap (λ l. (let c : Candidate = record { id = e.0; weight = e.1 + w } in c) ∷ l) more
-    by false more = ap (λ l. (let c : Candidate = record { id = e.0; weight = e.1 } in c) ∷ l) more
-
-pub one_backed : (ids : List (List ℕ)) (k : List ℕ) (w : ℕ) (es : Entries) → has_id ids k ≡ false → with_weight k w (with_weights ids w es) ≡ with_weights (ids ++ k ∷ []) w es
+one_backed : (ids : List (List ℕ)) (k : List ℕ) (w : ℕ) (cs : List Candidate) → has_id ids k ≡ false → backed w (k ∷ []) (backed w ids cs) ≡ backed w (ids ++ k ∷ []) cs
 one_backed ids k w [] new = refl
-one_backed ids k w (e ∷ es) new =
-    ap (λ (x : List ℕ × ℕ). x ∷ with_weight k w (with_weights ids w es))
-    (by (has_id ids e.0) (bytes_eq k e.0) refl refl ∙ ap (λ (t : Bool). if t then (e.0, e.1 + w) else e) (sym (list_any-append (λ x. bytes_eq x e.0) ids (k ∷ []))))
-    ∙ ap (λ l. (if has_id (ids ++ k ∷ []) e.0 then (e.0, e.1 + w) else e) ∷ l) (one_backed ids k w es new)
+one_backed ids k w (c ∷ cs) new =
+    ap (λ (x : Candidate). x ∷ backed w (k ∷ []) (backed w ids cs))
+    (by (has_id ids c.id) (bytes_eq k c.id) refl refl ∙ ap (λ (t : Bool). if t then record { id = c.id; weight = c.weight + w } else c) (sym (list_any-append (λ x. bytes_eq x c.id) ids (k ∷ []))))
+    ∙ ap (λ l. backed_by w (ids ++ k ∷ []) c ∷ l) (one_backed ids k w cs new)
   where
-    by : (s t : Bool) → has_id ids e.0 ≡ s → bytes_eq k e.0 ≡ t → (let x = if has_id ids e.0 then (e.0, e.1 + w) else e in if bytes_eq k x.0 then (x.0, x.1 + w) else x)
-        ≡ (if has_id ids e.0 || (bytes_eq k e.0 || false) then (e.0, e.1 + w) else e)
-    by true true had same = clash (has_id ids k) (ap (has_id ids) (same_id k e.0 same) ∙ had) new
+    by : (s t : Bool) → has_id ids c.id ≡ s → bytes_eq k c.id ≡ t → backed_by w (k ∷ []) (backed_by w ids c)
+        ≡ (if has_id ids c.id || (bytes_eq k c.id || false) then record { id = c.id; weight = c.weight + w } else c)
+    by true true had same = clash (has_id ids k) (ap (has_id ids) (same_id k c.id same) ∙ had) new
     by true false had other = rw (had, other) refl
     by false true none same = rw (none, same) refl
     by false false none other = rw (none, other) refl
 
 -- what backs one that isn't among them
-pub backs_within : (most : ℕ) (ids : List (List ℕ)) (k : List ℕ) (w v : ℕ) (es : Entries) → has_id ids k ≡ false → AreWithin most (candidates_of es)
-    → lookup (bytes_eq k) (with_weights ids w es) ≡ Some v → v ≤ most
-backs_within most ids k w v [] new are is = none_not v is
-backs_within most ids k w v (e ∷ es) new are is = by (has_id ids e.0) (bytes_eq k e.0) refl refl (backs_within most ids k w v es new are.1) is
+pub backs_within : (most : ℕ) (ids : List (List ℕ)) (k : List ℕ) (w : ℕ) (cs : List Candidate) → has_id ids k ≡ false → AreWithin most cs → weight_of (backed w ids cs) k ≤ most
+backs_within most ids k w [] new are = omega arith
+backs_within most ids k w (c ∷ cs) new are = by (has_id ids c.id) (bytes_eq k c.id) refl refl (backs_within most ids k w cs new are.1)
   where
-    by : (s t : Bool) → has_id ids e.0 ≡ s → bytes_eq k e.0 ≡ t → (lookup (bytes_eq k) (with_weights ids w es) ≡ Some v → v ≤ most)
-        → lookup (bytes_eq k) ((if has_id ids e.0 then (e.0, e.1 + w) else e) ∷ with_weights ids w es) ≡ Some v → v ≤ most
-    by true true had same more is = clash (has_id ids k) (ap (has_id ids) (same_id k e.0 same) ∙ had) new
-    by true false had other more is = more (rw (had, other) at is)
-    by false true none same more is = let here : e.1 ≡ v = same_some e.1 v (rw (none, same) at is) in subst (λ n. n ≤ most) here are.0
-    by false false none other more is = more (rw (none, other) at is)
+    by : (s t : Bool) → has_id ids c.id ≡ s → bytes_eq k c.id ≡ t → weight_of (backed w ids cs) k ≤ most → weight_of (backed_by w ids c ∷ backed w ids cs) k ≤ most
+    by true true had same more = clash (has_id ids k) (ap (has_id ids) (same_id k c.id same) ∙ had) new
+    by true false had other more = rw (had, other) more
+    by false true none same more = rw (none, same) are.0
+    by false false none other more = rw (none, other) more
 
--- an identifier that isn't there
-unweighed : (id : List ℕ) (w : ℕ) (es : Entries) → AllByRecursion (λ y. bytes_eq id y ≡ false) (keys_of es) → with_weight id w es ≡ es
-unweighed id w [] apart = refl
-unweighed id w (e ∷ es) apart = ap (λ (t : Bool). (if t then (e.0, e.1 + w) else e) ∷ with_weight id w es) apart.0 ∙ ap (λ l. e ∷ l) (unweighed id w es apart.1)
-
-pub not_found : (id : List ℕ) (w : ℕ) (es : Entries) → lookup (bytes_eq id) es ≡ None → es ≡ with_weight id w es
-not_found id w [] none = refl
-not_found id w (e ∷ es) none = by (bytes_eq id e.0) (not_found id w es) none
+-- what backs one that has a place
+pub backs_at : (k : List ℕ) (at : ℕ) (cs : List Candidate) (c : Candidate) → position (bytes_eq k) (ids_of cs) ≡ Some at → c ≡ get_or cs at c → weight_of cs k ≡ c.weight
+backs_at k at [] c is found = none_not at is
+backs_at k at (x ∷ cs) c is found = by (bytes_eq k x.id) (position (bytes_eq k) (ids_of cs)) (λ n. backs_at k n cs c) (sym (position_cons (bytes_eq k) x.id (ids_of cs)) ∙ is)
   where
-    by : (t : Bool) → (lookup (bytes_eq id) es ≡ None → es ≡ with_weight id w es) → cond t (Some e.1) (lookup (bytes_eq id) es) ≡ None → e ∷ es ≡ (if t then (e.0, e.1 + w) else e) ∷ with_weight id w es
-    by true more none = none_not e.1 (sym none)
-    by false more none = ap (λ l. e ∷ l) (more none)
+    by : (t : Bool) (o : Option ℕ) → ((n : ℕ) → o ≡ Some n → c ≡ get_or cs n c → weight_of cs k ≡ c.weight) → (if t then Some 0 else option_map suc o) ≡ Some at
+        → (if t then x.weight else weight_of cs k) ≡ c.weight
+    by true o more first = ap (λ (y : Candidate). y.weight) (sym (subst (λ n. c ≡ get_or (x ∷ cs) n c) (sym (same_some 0 at first)) found))
+    by false None more first = none_not at first
+    by false (Some n) more first = more n refl (subst (λ m. c ≡ get_or (x ∷ cs) m c) (sym (same_some (suc n) at first)) found)
 
-pub found_set : (id : List ℕ) (w v : ℕ) (es : Entries) → IsDistinct bytes_eq (keys_of es) → lookup (bytes_eq id) es ≡ Some v → set_value (bytes_eq id) es (v + w) ≡ with_weight id w es
+-- one that is no candidate
+pub none_backs : (k : List ℕ) (w : ℕ) (cs : List Candidate) → position (bytes_eq k) (ids_of cs) ≡ None → cs ≡ backed w (k ∷ []) cs
+none_backs k w [] none = refl
+none_backs k w (c ∷ cs) none = by (bytes_eq k c.id) (position (bytes_eq k) (ids_of cs)) (none_backs k w cs) (sym (position_cons (bytes_eq k) c.id (ids_of cs)) ∙ none)
+  where
+    by : (t : Bool) (o : Option ℕ) → (o ≡ None → cs ≡ backed w (k ∷ []) cs) → (if t then Some 0 else option_map suc o) ≡ None
+        → c ∷ cs ≡ (if t || false then record { id = c.id; weight = c.weight + w } else c) ∷ backed w (k ∷ []) cs
+    by true o more is = none_not 0 (sym is)
+    by false None more is = ap (λ l. c ∷ l) (more refl)
+    by false (Some n) more is = none_not (suc n) (sym is)
+
+others_backed : (k : List ℕ) (w : ℕ) (cs : List Candidate) → AllByRecursion (λ y. bytes_eq k y ≡ false) (ids_of cs) → backed w (k ∷ []) cs ≡ cs
+others_backed k w [] apart = refl
+others_backed k w (c ∷ cs) apart = ap (λ (t : Bool). (if t || false then record { id = c.id; weight = c.weight + w } else c) ∷ backed w (k ∷ []) cs) apart.0 ∙ ap (λ l. c ∷ l) (others_backed k w cs apart.1)
+
+-- one that has a place
+pub set_backs : (k : List ℕ) (w at : ℕ) (cs : List Candidate) (c : Candidate) → IsDistinct bytes_eq (ids_of cs) → position (bytes_eq k) (ids_of cs) ≡ Some at → c ≡ get_or cs at c
+    → set cs at (record { id = c.id; weight = c.weight + w }) ≡ backed w (k ∷ []) cs
 unfolding IsDistinct
-found_set id w v [] apart is = refl
-found_set id w v (e ∷ es) apart is = by (bytes_eq id e.0) refl (found_set id w v es apart.1) is
+set_backs k w at [] c apart is found = none_not at is
+set_backs k w at (x ∷ cs) c apart is found = by (bytes_eq k x.id) refl (position (bytes_eq k) (ids_of cs)) (λ n. set_backs k w n cs c apart.1) (sym (position_cons (bytes_eq k) x.id (ids_of cs)) ∙ is)
   where
-    by : (t : Bool) → bytes_eq id e.0 ≡ t → (lookup (bytes_eq id) es ≡ Some v → set_value (bytes_eq id) es (v + w) ≡ with_weight id w es) → cond t (Some e.1) (lookup (bytes_eq id) es) ≡ Some v
-        → cond t ((e.0, v + w) ∷ es) (e ∷ set_value (bytes_eq id) es (v + w)) ≡ (if t then (e.0, e.1 + w) else e) ∷ with_weight id w es
-    by true same more is =
-        let here : v ≡ e.1 = sym (same_some e.1 v is) in
-        let others : AllByRecursion (λ y. bytes_eq id y ≡ false) (keys_of es) = subst (λ i. AllByRecursion (λ y. bytes_eq i y ≡ false) (keys_of es)) (sym (same_id id e.0 same)) apart.0 in
-        ap (λ n. (e.0, n + w) ∷ es) here ∙ ap (λ l. (e.0, e.1 + w) ∷ l) (sym (unweighed id w es others))
-    by false other more is = ap (λ l. e ∷ l) (more is)
+    by : (t : Bool) → bytes_eq k x.id ≡ t → (o : Option ℕ) → ((n : ℕ) → o ≡ Some n → c ≡ get_or cs n c → set cs n (record { id = c.id; weight = c.weight + w }) ≡ backed w (k ∷ []) cs) → (if t then Some 0 else option_map suc o) ≡ Some at
+        → set (x ∷ cs) at (record { id = c.id; weight = c.weight + w }) ≡ backed w (k ∷ []) (x ∷ cs)
+    by true same o more first =
+        let here : at ≡ 0 = sym (same_some 0 at first) in
+        let its : c ≡ x = subst (λ n. c ≡ get_or (x ∷ cs) n c) here found in
+        let others : AllByRecursion (λ y. bytes_eq k y ≡ false) (ids_of cs) = subst (λ i. AllByRecursion (λ y. bytes_eq i y ≡ false) (ids_of cs)) (sym (same_id k x.id same)) apart.0 in
+        rw (here, its, same) (ap (λ (l : List Candidate). record { id = x.id; weight = x.weight + w } ∷ l) (sym (others_backed k w cs others)))
+    by false other None more first = none_not at first
+    by false other (Some n) more first =
+        let here : at ≡ suc n = sym (same_some (suc n) at first) in
+        let its : c ≡ get_or cs n c = subst (λ m. c ≡ get_or (x ∷ cs) m c) here found in
+        rw (here, other) (ap (λ l. x ∷ l) (more n refl its))
+
+-- the identifiers stay
+pub backed_ids : (w : ℕ) (ids : List (List ℕ)) (cs : List Candidate) → ids_of (backed w ids cs) ≡ ids_of cs
+backed_ids w ids [] = refl
+backed_ids w ids (c ∷ cs) = by (has_id ids c.id) (backed_ids w ids cs)
+  where
+    by : (t : Bool) → ids_of (backed w ids cs) ≡ ids_of cs → ids_of ((if t then record { id = c.id; weight = c.weight + w } else c) ∷ backed w ids cs) ≡ c.id ∷ ids_of cs
+    by true more = ap (λ l. c.id ∷ l) more
+    by false more = ap (λ l. c.id ∷ l) more
 
 -- ---- distinct identifiers
 
@@ -159,11 +164,11 @@ new_at (x ∷ xs) (suc i) k rest apart is =
     ap (λ t. t || has_id (take i xs) k) (one_of (λ y. bytes_eq x y ≡ false) xs i k rest apart.0 is) ∙ new_at xs i k rest apart.1 is
 
 -- one more of those that an answer names
-pub backed_on : (ks : List (List ℕ)) (i : ℕ) (k : List ℕ) (w : ℕ) (es now more : Entries) → IsDistinct bytes_eq ks → i < length ks → k ≡ get_or ks i k
-    → now ≡ with_weights (take i ks) w es → more ≡ with_weight k w now → more ≡ with_weights (take (suc i) ks) w es
-backed_on ks i k w es now more apart within at so_far is =
-    is ∙ ap (with_weight k w) so_far ∙ one_backed (take i ks) k w es (new_at ks i k (drop (i + 1) ks) apart (next_of ks i k within at))
-    ∙ ap (λ l. with_weights l w es) (ap (λ x. take i ks ++ x ∷ []) at ∙ sym (take-suc ks i k within))
+pub backed_on : (ks : List (List ℕ)) (i : ℕ) (k : List ℕ) (w : ℕ) (cs now more : List Candidate) → IsDistinct bytes_eq ks → i < length ks → k ≡ get_or ks i k
+    → now ≡ backed w (take i ks) cs → more ≡ backed w (k ∷ []) now → more ≡ backed w (take (suc i) ks) cs
+backed_on ks i k w cs now more apart within at so_far is =
+    is ∙ ap (backed w (k ∷ [])) so_far ∙ one_backed (take i ks) k w cs (new_at ks i k (drop (i + 1) ks) apart (next_of ks i k within at))
+    ∙ ap (λ l. backed w l cs) (ap (λ x. take i ks ++ x ∷ []) at ∙ sym (take-suc ks i k within))
 
 -- ---- electing
 
@@ -178,54 +183,46 @@ none_before (x ∷ ids) rest k apart =
     behind [] all = all.0
     behind (y ∷ ids) all = behind ids all.1
 
-elected_apart : (total : ℕ) (x : List ℕ) (es : Entries) → AllByRecursion (λ y. bytes_eq x y ≡ false) (keys_of es) → AllByRecursion (λ y. bytes_eq x y ≡ false) (majority total (candidates_of es))
+elected_apart : (total : ℕ) (x : List ℕ) (cs : List Candidate) → AllByRecursion (λ y. bytes_eq x y ≡ false) (ids_of cs) → AllByRecursion (λ y. bytes_eq x y ≡ false) (majority total cs)
 elected_apart total x [] apart = tt
-elected_apart total x (e ∷ es) apart = by (is_target total record { id = e.0; weight = e.1 }) (elected_apart total x es apart.1)
+elected_apart total x (c ∷ cs) apart = by (is_target total c) (elected_apart total x cs apart.1)
   where
-    by : (t : Bool) → AllByRecursion (λ y. bytes_eq x y ≡ false) (majority total (candidates_of es))
-        → AllByRecursion (λ y. bytes_eq x y ≡ false) (map (λ c. c.id) (cond t ((let c : Candidate = record { id = e.0; weight = e.1 } in c) ∷ filter (is_target total) (candidates_of es)) (filter (is_target total) (candidates_of es))))
+    by : (t : Bool) → AllByRecursion (λ y. bytes_eq x y ≡ false) (majority total cs)
+        → AllByRecursion (λ y. bytes_eq x y ≡ false) (ids_of (cond t (c ∷ filter (is_target total) cs) (filter (is_target total) cs)))
     by true more = (apart.0, more)
     by false more = more
 
-elected_distinct : (total : ℕ) (es : Entries) → IsDistinct bytes_eq (keys_of es) → IsDistinct bytes_eq (majority total (candidates_of es))
+elected_distinct : (total : ℕ) (cs : List Candidate) → IsDistinct bytes_eq (ids_of cs) → IsDistinct bytes_eq (majority total cs)
 unfolding IsDistinct
 elected_distinct total [] apart = tt
-elected_distinct total (e ∷ es) apart = by (is_target total record { id = e.0; weight = e.1 }) (elected_distinct total es apart.1)
+elected_distinct total (c ∷ cs) apart = by (is_target total c) (elected_distinct total cs apart.1)
   where
-    by : (t : Bool) → IsDistinct bytes_eq (majority total (candidates_of es))
-        → IsDistinct bytes_eq (map (λ c. c.id) (cond t ((let c : Candidate = record { id = e.0; weight = e.1 } in c) ∷ filter (is_target total) (candidates_of es)) (filter (is_target total) (candidates_of es))))
-    by true more = (elected_apart total e.0 es apart.0, more)
+    by : (t : Bool) → IsDistinct bytes_eq (majority total cs) → IsDistinct bytes_eq (ids_of (cond t (c ∷ filter (is_target total) cs) (filter (is_target total) cs)))
+    by true more = (elected_apart total c.id cs apart.0, more)
     by false more = more
 
--- the next candidate
-pub next_entry : (es : Entries) (i : ℕ) (e : List ℕ × ℕ) → slice_get es i ≡ Some e → drop i es ≡ e ∷ drop (i + 1) es
-next_entry es i e is = next_of es i e (slice_get_within es i e is) (sym (get_or_from_slice_get es i e e is))
-
--- it is elected
-pub elected_on : (total : ℕ) (es rest : Entries) (left : Entries) (ids more : List (List ℕ)) (e : List ℕ × ℕ) → IsDistinct bytes_eq (keys_of es) → left ≡ e ∷ rest
-    → is_target total record { id = e.0; weight = e.1 } ≡ true → more ≡ (if list_any (bytes_eq e.0) ids then ids else ids ++ e.0 ∷ [])
-    → ids ++ majority total (candidates_of left) ≡ majority total (candidates_of es) → more ++ majority total (candidates_of rest) ≡ majority total (candidates_of es)
-elected_on total es rest left ids more e apart next heavy is so_far =
-    let all : ids ++ (e.0 ∷ majority total (candidates_of rest)) ≡ majority total (candidates_of es) =
-    sym (ap (λ l. ids ++ l) (ap (λ l. majority total (candidates_of l)) next ∙ taken (is_target total record { id = e.0; weight = e.1 }) heavy)) ∙ so_far in
-    let new : list_any (bytes_eq e.0) ids ≡ false = none_before ids (majority total (candidates_of rest)) e.0 (subst (IsDistinct bytes_eq) (sym all) (elected_distinct total es apart)) in
-    ap (λ l. l ++ majority total (candidates_of rest)) (is ∙ ap (λ (t : Bool). if t then ids else ids ++ e.0 ∷ []) new)
-    ∙ append_assoc ids (e.0 ∷ []) (majority total (candidates_of rest)) ∙ all
+-- the next candidate is elected
+pub elected_on : (total : ℕ) (cs : List Candidate) (i : ℕ) (ids more : List (List ℕ)) (c : Candidate) → IsDistinct bytes_eq (ids_of cs) → i < length cs → c ≡ get_or cs i c
+    → is_target total c ≡ true → more ≡ (if list_any (bytes_eq c.id) ids then ids else ids ++ c.id ∷ [])
+    → ids ++ majority total (drop i cs) ≡ majority total cs → more ++ majority total (drop (i + 1) cs) ≡ majority total cs
+elected_on total cs i ids more c apart within at heavy is so_far =
+    let rest = drop (i + 1) cs in
+    let all : ids ++ (c.id ∷ majority total rest) ≡ majority total cs =
+    sym (ap (λ l. ids ++ l) (ap (majority total) (next_of cs i c within at) ∙ taken (is_target total c) heavy)) ∙ so_far in
+    let new : list_any (bytes_eq c.id) ids ≡ false = none_before ids (majority total rest) c.id (subst (IsDistinct bytes_eq) (sym all) (elected_distinct total cs apart)) in
+    ap (λ l. l ++ majority total rest) (is ∙ ap (λ (t : Bool). if t then ids else ids ++ c.id ∷ []) new)
+    ∙ append_assoc ids (c.id ∷ []) (majority total rest) ∙ all
   where
-    taken : (t : Bool) → t ≡ true
-        → map (λ c. c.id) (cond t ((let c : Candidate = record { id = e.0; weight = e.1 } in c) ∷ filter (is_target total) (candidates_of rest)) (filter (is_target total) (candidates_of rest)))
-        ≡ e.0 ∷ majority total (candidates_of rest)
+    taken : (t : Bool) → t ≡ true → ids_of (cond t (c ∷ filter (is_target total) (drop (i + 1) cs)) (filter (is_target total) (drop (i + 1) cs))) ≡ c.id ∷ majority total (drop (i + 1) cs)
     taken true t = refl
     taken false t = clash true refl (sym t)
 
 -- or it isn't
-pub passed_over : (total : ℕ) (es rest left : Entries) (ids : List (List ℕ)) (e : List ℕ × ℕ) → left ≡ e ∷ rest → is_target total record { id = e.0; weight = e.1 } ≡ false
-    → ids ++ majority total (candidates_of left) ≡ majority total (candidates_of es) → ids ++ majority total (candidates_of rest) ≡ majority total (candidates_of es)
-passed_over total es rest left ids e next light so_far =
-    sym (ap (λ l. ids ++ l) (ap (λ l. majority total (candidates_of l)) next ∙ passed (is_target total record { id = e.0; weight = e.1 }) light)) ∙ so_far
+pub passed_over : (total : ℕ) (cs : List Candidate) (i : ℕ) (ids : List (List ℕ)) (c : Candidate) → i < length cs → c ≡ get_or cs i c → is_target total c ≡ false
+    → ids ++ majority total (drop i cs) ≡ majority total cs → ids ++ majority total (drop (i + 1) cs) ≡ majority total cs
+passed_over total cs i ids c within at light so_far =
+    sym (ap (λ l. ids ++ l) (ap (majority total) (next_of cs i c within at) ∙ passed (is_target total c) light)) ∙ so_far
   where
-    passed : (t : Bool) → t ≡ false
-        → map (λ c. c.id) (cond t ((let c : Candidate = record { id = e.0; weight = e.1 } in c) ∷ filter (is_target total) (candidates_of rest)) (filter (is_target total) (candidates_of rest)))
-        ≡ majority total (candidates_of rest)
+    passed : (t : Bool) → t ≡ false → ids_of (cond t (c ∷ filter (is_target total) (drop (i + 1) cs)) (filter (is_target total) (drop (i + 1) cs))) ≡ majority total (drop (i + 1) cs)
     passed true t = clash true refl t
     passed false t = refl

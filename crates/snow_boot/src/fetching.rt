@@ -10,11 +10,10 @@ ghost use Rattle.snow_store.specs.Clauses.Coming.{after_verdict};
 ghost use Rattle.snow_boot.specs.Model.Replying.{replied};
 
 use crate::reply::ReplyBlocks;
-use indexmap::IndexSet;
 use snow_base::{Header, Id};
 use snow_chain::Chain;
 use snow_interval::Kept;
-use snow_map::IdHashing;
+use snow_map::IdSet;
 use snow_store::{BootStop, Due, Store, Verdict, needs};
 use std::alloc::{AllocError, Global};
 use std::collections::BTreeMap;
@@ -27,8 +26,8 @@ use std::marker::Model;
 #[derive(Drop)]
 pub(crate) struct Fetching<H: Kept> {
     pub(crate) store: Store<H>,
-    pub(crate) targets: IndexSet<Id, IdHashing>,
-    pub(crate) found: IndexSet<Id, IdHashing>,
+    pub(crate) targets: IdSet,
+    pub(crate) found: IdSet,
     pub(crate) needs: BTreeMap<Id, u64>,
     pub(crate) due: Due,
     pub(crate) whole: bool,
@@ -44,9 +43,9 @@ impl<H: Kept> Model for Fetching<H> {
 
     ghost coded = { coded_hunt };
 
-    ghost view = { λ a. record { whole = a.whole; due = a.due; fetch = fetch_by a.store.store a.targets.keys a.found.keys } };
+    ghost view = { λ a. record { whole = a.whole; due = a.due; fetch = fetch_by a.store.store a.targets a.found } };
 
-    ghost invariant = { λ a. a.whole ≡ true → AreKnown a.store a.needs a.targets.keys a.found.keys };
+    ghost invariant = { λ a. a.whole ≡ true → AreKnown a.store a.needs a.targets a.found };
 }
 
 impl<H: Kept> Fetching<H> {
@@ -56,8 +55,8 @@ impl<H: Kept> Fetching<H> {
     {
         Fetching {
             store: Store::begin(alloc, last, height),
-            targets: IndexSet::with_hasher(alloc, IdHashing::new()),
-            found: IndexSet::with_hasher(alloc, IdHashing::new()),
+            targets: IdSet::new(alloc),
+            found: IdSet::new(alloc),
             needs: BTreeMap::new(alloc),
             due: Due::Nothing,
             whole: true,
@@ -72,13 +71,13 @@ impl<H: Kept> Fetching<H> {
     }
 
     /// Sets the targets, none of which is found yet. All that they miss is due.
-    pub(crate) fn aim(&mut self, targets: IndexSet<Id, IdHashing>) -> Result<(), AllocError>
+    pub(crate) fn aim(&mut self, alloc: Global, targets: IdSet) -> Result<(), AllocError>
         requires { self.old.whole ≡ true }
-        ensures { OnOk result (self.new ≡ record { whole = true; due = due.All; fetch = record { store = self.old.fetch.store; targets = targets.keys; found = [] } }) }
+        ensures { OnOk result (self.new ≡ record { whole = true; due = due.All; fetch = record { store = self.old.fetch.store; targets = targets; found = [] } }) }
     {
         self.whole = false;
         self.targets = targets;
-        self.found.clear();
+        self.found = IdSet::new(alloc);
         needs::gather(&self.store, &self.targets, &self.found, &mut self.needs)?;
         self.due = Due::All;
         self.whole = true;

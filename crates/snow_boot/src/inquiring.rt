@@ -1,4 +1,4 @@
-ghost use Rattle.std.specs.Prelude.{◌≡◌, ◌≢◌, List, [], ◌∷◌, true, IfOk};
+ghost use Rattle.std.specs.Prelude.{◌≡◌, ◌≢◌, ◌==◌, List, [], ◌∷◌, true, length, IfOk};
 ghost use Rattle.snow_chain.specs.Model.Chain.{Held};
 ghost use Rattle.snow_gets.specs.declared.gets.Get.{Get};
 ghost use Rattle.snow_boot.specs.Kept.Fetching.{Hunt};
@@ -21,6 +21,7 @@ use snow_chain::Chain;
 use snow_gets::Gets;
 use snow_interval::Kept;
 use snow_lines::{Line, Lines, RestartWhy};
+use snow_map::IdSet;
 use snow_store::BootStop;
 
 // All nodes are asked for their frontier.
@@ -39,6 +40,13 @@ pub(crate) fn ask_frontier(
     survey.await_frontier(number)?;
     log.push(Line::Frontier { number })?;
     Ok(Stage::Going)
+}
+
+// Whether there is no identifier.
+fn has_none(ids: &IdSet) -> bool
+    ensures { result ≡ (length ids.now == 0) }
+{
+    ids.as_slice().is_empty()
 }
 
 impl<H: Kept> Parts<H> {
@@ -110,11 +118,11 @@ impl<H: Kept> Parts<H> {
             (with_targets C.rules (last_state (C.held chain.old)) (boot_of self.old.survey self.old.fetching.fetch self.old.requests) numbers.old (majority (total_weight self.old.survey.nodes) self.old.survey.candidates)) }
     {
         let targets = self.survey.majority()?;
-        if targets.is_empty() {
+        if has_none(&targets) {
             return self.restart(RestartWhy::Accepted, chain, numbers, log);
         }
         self.survey.close();
-        self.fetching.aim(targets)?;
+        self.fetching.aim(self.survey.alloc(), targets)?;
         self.requests = Gets::new(self.survey.alloc());
         self.follow(chain, numbers, log)
     }

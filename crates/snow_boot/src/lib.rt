@@ -3,7 +3,7 @@
 
 mod asking;
 mod boot;
-mod electing;
+mod candidates;
 mod executing;
 mod fetching;
 mod following;

@@ -7,12 +7,10 @@ ghost use Rattle.snow_boot.specs.Model.Electing.{awaits, still_awaited, collecte
 ghost use Rattle.snow_boot.specs.Kept.Surveying.{HasWeights};
 ghost use Rattle.snow_boot.specs.declared.question.Question.TheVariants as question;
 
-use crate::electing;
-use crate::electing::Candidates;
+use crate::candidates::{Candidates, each_once};
 use crate::question::Question;
-use indexmap::{IndexMap, IndexSet};
 use snow_base::{Id, Ids, NodeId};
-use snow_map::IdHashing;
+use snow_map::IdSet;
 use snow_sample::{Node, Roster};
 use std::alloc::{AllocError, Global};
 use std::collections::BTreeMap;
@@ -39,9 +37,9 @@ impl Model for Survey {
 
     ghost coded = { coded_surveyed };
 
-    ghost view = { λ a. surveyed a.nodes.items a.question a.number a.awaited a.candidates.entries };
+    ghost view = { λ a. surveyed a.nodes.items a.question a.number a.awaited a.candidates };
 
-    ghost invariant = { λ a. IsKnown a.nodes.items a.question a.number a.awaited a.candidates.entries a.total };
+    ghost invariant = { λ a. IsKnown a.nodes.items a.question a.number a.awaited a.candidates a.total };
 }
 
 impl Survey {
@@ -57,7 +55,7 @@ impl Survey {
             question: Question::Nothing,
             number: 0,
             awaited: BTreeMap::new(alloc),
-            candidates: IndexMap::with_hasher(alloc, IdHashing::new()),
+            candidates: Candidates::new(alloc),
             alloc,
         })
     }
@@ -113,7 +111,7 @@ impl Survey {
     {
         let awaited = weights_of(self.alloc, self.nodes.as_slice())?;
         self.awaited = awaited;
-        self.candidates.clear();
+        self.candidates = Candidates::new(self.alloc);
         self.question = Question::Frontier;
         self.number = number;
         Ok(())
@@ -150,7 +148,7 @@ impl Survey {
     pub(crate) fn collect(&mut self, node: &NodeId, id: Id) -> Result<(), AllocError>
         ensures { OnOk result (self.new ≡ record { nodes = self.old.nodes; question = self.old.question; number = self.old.number; awaited = still_awaited self.old.awaited node.now; candidates = collected self.old.candidates id }) }
     {
-        electing::collect(&mut self.candidates, id)?;
+        self.candidates.collect(id)?;
         let _ = self.awaited.remove(node);
         Ok(())
     }
@@ -161,8 +159,8 @@ impl Survey {
         requires asked { self.old.question ≡ question.Accepted }
         ensures { OnOk result (self.new ≡ record { nodes = self.old.nodes; question = self.old.question; number = self.old.number; awaited = still_awaited self.old.awaited node.now; candidates = backed weight ids.now self.old.candidates }) }
     {
-        let named = electing::each_once(self.alloc, ids.list())?;
-        electing::back(&mut self.candidates, weight, &named);
+        let named = each_once(self.alloc, ids.list())?;
+        self.candidates.back(weight, &named);
         let _ = self.awaited.remove(node);
         Ok(())
     }
@@ -171,15 +169,15 @@ impl Survey {
     pub(crate) fn named(&self) -> Result<Ids, AllocError>
         ensures { IfOk result (λ ids. ids ≡ map (λ c. c.id) self.now.candidates) }
     {
-        let ids = Ids::from_slice(self.alloc, self.candidates.keys().as_slice())?;
+        let ids = Ids::from_slice(self.alloc, self.candidates.ids())?;
         Ok(ids)
     }
 
     /// Returns the identifiers that more than half of the weight backs, in order.
-    pub(crate) fn majority(&self) -> Result<IndexSet<Id, IdHashing>, AllocError>
-        ensures { IfOk result (λ ids. ids.keys ≡ majority (total_weight self.now.nodes) self.now.candidates) }
+    pub(crate) fn majority(&self) -> Result<IdSet, AllocError>
+        ensures { IfOk result (λ ids. ids ≡ majority (total_weight self.now.nodes) self.now.candidates) }
     {
-        electing::elect(self.alloc, &self.candidates, self.total)
+        self.candidates.elect(self.alloc, self.total)
     }
 }
 

@@ -11,7 +11,8 @@ use Rattle.std.proofs.lemmas.Bool.{or_parts, both_ways, eqb-true, lt-ltb, le-ltb
 use Rattle.snow_gets.specs.declared.get_map.Asked.{Asked}
 use Rattle.snow_gets.specs.declared.gets.Get.{Get}
 use Rattle.snow_gets.specs.Model.Gets.{asked_in, has_number, is_get, with_get, without}
-use Rattle.snow_gets.specs.Kept.Index.{AreNamedApart, HasAsked, get_of}
+use Rattle.snow_gets.specs.Kept.Index.{AreNamedApart, HasAsked, get_of, has}
+use Rattle.snow_map.specs.Clauses.Entries.{value_of, HasAt}
 use Rattle.snow_map.proofs.Lists.{same_id, id_turned}
 use Rattle.snow_gets.proofs.Named.{named, named_removed, apart_removed, named_is_some}
 use Rattle.snow_map.proofs.Booleans.{or_false, or_turned, or_assoc, cond_or}
@@ -31,6 +32,21 @@ Test = List ℕ → Bool
 undone : (a b : Bool) → (a ≡ true → b ≡ false) → cond a false (cond a true b) ≡ b
 undone true b none = sym (none refl)
 undone false b none = refl
+
+-- an identifier that a map has from now on, or has no more
+pub put_in : (id : List ℕ) (before now : List (List ℕ × Unit {0})) → HasAt before now id (Some tt) → (q : List ℕ) → has now q ≡ cond (bytes_eq id q) true (has before q)
+put_in id before now put q = ap is_some (put q) ∙ by (bytes_eq id q)
+  where
+    by : (b : Bool) → is_some (cond b (Some (tt {0})) (value_of before q)) ≡ cond b true (has before q)
+    by true = refl
+    by false = refl
+
+pub taken_out : (id : List ℕ) (before now : List (List ℕ × Unit {0})) → HasAt before now id None → (q : List ℕ) → has now q ≡ cond (bytes_eq id q) false (has before q)
+taken_out id before now taken q = ap is_some (taken q) ∙ by (bytes_eq id q)
+  where
+    by : (b : Bool) → is_some (cond b None (value_of before q)) ≡ cond b false (has before q)
+    by true = refl
+    by false = refl
 
 -- ---- a get is opened
 

@@ -4,9 +4,9 @@ ghost use Rattle.snow_gets.specs.Model.Gets.{asked_in, has_number, is_get, with_
 
 use crate::gets::Get;
 use snow_base::{Id, NodeId};
-use snow_map::IdHashing;
+use snow_map::IdMap;
 use std::alloc::{AllocError, Global};
-use std::collections::{BTreeMap, HashSet};
+use std::collections::BTreeMap;
 use std::marker::Model;
 
 /// The block for which a node was asked, and the node.
@@ -20,20 +20,19 @@ pub(crate) struct Asked {
 #[derive(Drop)]
 pub(crate) struct GetMap {
     open: BTreeMap<u32, Asked>,
-    ids: HashSet<Id, IdHashing>,
+    ids: IdMap<()>,
 }
 
 impl Model for GetMap {
-    ghost use Rattle.std.specs.Prelude.{List, map, bytes_eq};
-    ghost use Rattle.std.specs.HashSet.{contains};
+    ghost use Rattle.std.specs.Prelude.{List, map};
     ghost use Rattle.snow_gets.specs.declared.gets.Get.{Get};
-    ghost use Rattle.snow_gets.specs.Kept.Index.{get_of, HasAsked};
+    ghost use Rattle.snow_gets.specs.Kept.Index.{get_of, has, HasAsked};
 
     ghost Value = { List Get };
 
     ghost view = { λ a. map get_of a.open.entries };
 
-    ghost invariant = { λ a. HasAsked (contains bytes_eq a.ids) (map get_of a.open.entries) };
+    ghost invariant = { λ a. HasAsked (has a.ids) (map get_of a.open.entries) };
 }
 
 impl GetMap {
@@ -43,7 +42,7 @@ impl GetMap {
     {
         GetMap {
             open: BTreeMap::new(alloc),
-            ids: HashSet::with_hasher(alloc, IdHashing::new()),
+            ids: IdMap::new(alloc),
         }
     }
 
@@ -68,7 +67,7 @@ impl GetMap {
     fn has_id(&self, id: &Id) -> bool
         ensures { result ≡ asked_in self.now id.now }
     {
-        self.ids.contains(id)
+        self.ids.contains_key(id)
     }
 
     /// Returns whether a get with this number is open.
@@ -86,7 +85,7 @@ impl GetMap {
         ensures err { OnErr result (self.new ≡ self.old) }
     {
         let Get { number, node, id } = get;
-        self.ids.insert(id)?;
+        self.ids.insert(id, ())?;
         if let Err(failed) = self.open.insert(number, Asked { node, id }) {
             let _ = self.ids.remove(&id);
             return Err(failed.into());

@@ -9,11 +9,10 @@ ghost use Rattle.snow_getter.specs.Model.Answer.{answer, accepted_among, chain_t
 ghost use Rattle.snow_getter.specs.Laws.ChainLaw.{ChainIsLongest};
 
 use crate::getter::Getter;
-use indexmap::IndexSet;
 use snow_base::limits::{ANSWER_BLOCKS, ANSWER_BYTES};
 use snow_base::{Blocks, Bytes, Id, Ids, NodeId};
 use snow_lines::{Line, Lines};
-use snow_map::IdHashing;
+use snow_map::IdSet;
 use snow_wire::{Listing, Named, View};
 use std::alloc::AllocError;
 
@@ -104,7 +103,7 @@ impl Getter {
     fn accepted_among(&self, ids: &[[u8; 32]]) -> Result<Ids, AllocError>
         ensures { IfOk result (λ told. told ≡ accepted_among self.now ids.now) }
     {
-        let mut told: IndexSet<Id, IdHashing> = IndexSet::with_hasher(self.alloc, IdHashing::new());
+        let mut told = IdSet::new(self.alloc);
         for bytes in ids {
             let id = Id::from_bytes(*bytes);
             if self.is_accepted(&id) {

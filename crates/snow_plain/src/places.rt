@@ -6,15 +6,15 @@ ghost use Rattle.snow_board.specs.Kept.Grown.{IsGrown};
 ghost use Rattle.snow_plain.specs.Kept.Places.{ArePlaces};
 
 use crate::conflict::Conflict;
-use indexmap::IndexMap;
 use snow_base::Id;
 use snow_board::Pending;
 use snow_map::IdHashing;
 use std::alloc::{AllocError, Global};
+use std::collections::HashMap;
 
 /// The place of each pending block, by its identifier.
 /// Rule: this project's own.
-pub type Places = IndexMap<Id, usize, IdHashing>;
+pub type Places = HashMap<Id, usize, IdHashing>;
 
 /// Returns no places. It takes no memory.
 /// Rule: this project's own.
@@ -22,7 +22,7 @@ pub fn no_places(alloc: Global) -> Places
     ensures places { (id : List ℕ) → get bytes_eq result id ≡ None }
     ensures entries { hash_map_len result ≡ 0 }
 {
-    IndexMap::with_hasher(alloc, IdHashing::new())
+    HashMap::with_hasher(alloc, IdHashing::new())
 }
 
 /// Returns the place of a block, or `None` where it has none.

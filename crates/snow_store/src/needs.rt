@@ -14,10 +14,9 @@ ghost use Rattle.snow_store.specs.declared.stop.Verdict.TheVariants.{Keeps};
 
 use crate::stop::Verdict;
 use crate::store::Store;
-use indexmap::IndexSet;
 use snow_base::{Header, Id};
 use snow_interval::Kept;
-use snow_map::IdHashing;
+use snow_map::IdSet;
 use std::alloc::AllocError;
 use std::collections::BTreeMap;
 
@@ -35,17 +34,17 @@ pub enum Due {
 
 /// Returns whether an identifier is among these.
 /// Rule: AvalancheGo, snow/engine/snowman/bootstrap.
-pub fn has(ids: &IndexSet<Id, IdHashing>, id: &Id) -> bool
-    ensures { result ≡ has_id ids.now.keys id.now }
+pub fn has(ids: &IdSet, id: &Id) -> bool
+    ensures { result ≡ has_id ids.now id.now }
 {
     ids.contains(id)
 }
 
 // No identifier stands twice among some.
-fn distinct(ids: &IndexSet<Id, IdHashing>)
-    ensures { IsDistinct bytes_eq ids.now.keys }
+fn distinct(ids: &IdSet)
+    ensures { IsDistinct bytes_eq ids.now }
 {
-    let _count = ids.len();
+    let _ids = ids.as_slice();
 }
 
 // Whether what is missed is this identifier.
@@ -74,12 +73,12 @@ pub fn is_met(needs: &BTreeMap<Id, u64>) -> bool
 /// Rule: AvalancheGo, snow/engine/snowman/bootstrap.
 pub fn gather<H: Kept>(
     store: &Store<H>,
-    targets: &IndexSet<Id, IdHashing>,
-    found: &IndexSet<Id, IdHashing>,
+    targets: &IdSet,
+    found: &IdSet,
     needs: &mut BTreeMap<Id, u64>,
 ) -> Result<(), AllocError>
     requires { store.now.whole ≡ true }
-    ensures { OnOk result (HasNeeds needs.new (fetch_by store.now.store targets.now.keys found.now.keys)) }
+    ensures { OnOk result (HasNeeds needs.new (fetch_by store.now.store targets.now found.now)) }
 {
     needs.clear();
     for target in targets.as_slice() {
@@ -138,8 +137,8 @@ fn leave(needs: &mut BTreeMap<Id, u64>, missed: &Option<Id>) -> Result<(), Alloc
 /// Rule: AvalancheGo, snow/engine/snowman/bootstrap.
 pub fn renew<H: Kept>(
     store: &Store<H>,
-    targets: &IndexSet<Id, IdHashing>,
-    found: &mut IndexSet<Id, IdHashing>,
+    targets: &IdSet,
+    found: &mut IdSet,
     needs: &mut BTreeMap<Id, u64>,
     due: Due,
     header: &Header,
@@ -149,9 +148,9 @@ pub fn renew<H: Kept>(
     requires whole { store.now.whole ≡ true }
     requires held { verdict ≡ Keeps → held_heights store.now.store.kept header.now.height ≡ true }
     ensures { IfOk result (λ after. (s : keeping.Store) (bytes : List ℕ) → store.now.store ≡ after_taking s record { header = header.now; bytes = bytes } verdict
-        → MayRenew (fetch_by s targets.now.keys found.old.keys) header.now verdict before needs.old
-        → (found.new.keys ≡ (after_verdict (fetch_by s targets.now.keys found.old.keys) record { header = header.now; bytes = bytes } verdict).found)
-        × IsRenewed (fetch_by s targets.now.keys found.old.keys) (after_verdict (fetch_by s targets.now.keys found.old.keys) record { header = header.now; bytes = bytes } verdict) due after needs.new) }
+        → MayRenew (fetch_by s targets.now found.old) header.now verdict before needs.old
+        → (found.new ≡ (after_verdict (fetch_by s targets.now found.old) record { header = header.now; bytes = bytes } verdict).found)
+        × IsRenewed (fetch_by s targets.now found.old) (after_verdict (fetch_by s targets.now found.old) record { header = header.now; bytes = bytes } verdict) due after needs.new) }
 {
     match verdict {
         Verdict::Keeps => {
@@ -208,14 +207,14 @@ fn due_both(needs: &BTreeMap<Id, u64>, id: Id, other: Id) -> Due
 
 // Renews what is missed where a block is too low: nobody misses it, and a target that came so is found.
 fn renew_low(
-    targets: &IndexSet<Id, IdHashing>,
-    found: &mut IndexSet<Id, IdHashing>,
+    targets: &IdSet,
+    found: &mut IdSet,
     needs: &mut BTreeMap<Id, u64>,
     due: Due,
     id: &Id,
 ) -> Result<Due, AllocError>
     ensures due { IfOk result (λ after. after ≡ due) }
-    ensures found { OnOk result (found.new.keys ≡ noted targets.now.keys found.old.keys id.now) }
+    ensures found { OnOk result (found.new ≡ noted targets.now found.old id.now) }
     ensures counts { OnOk result ((count : List ℕ → ℕ) → Counts needs.old count → Counts needs.new (with_none id.now count)) }
 {
     if has(targets, id) {

@@ -1,8 +1,8 @@
 -- What all nodes are being asked, and how much weight may back an identifier.
-use Rattle.std.specs.Prelude.{◌≡◌, ℕ, ◌-◌, ◌^◌, ◌<◌, ◌≤◌, List, [], ◌∷◌, length, is_some, ⊤}
+use Rattle.std.specs.Prelude.{◌≡◌, ℕ, ◌-◌, ◌^◌, ◌<◌, ◌≤◌, List, [], ◌∷◌, length, map, bytes_eq, is_some, ⊤, if◌then◌else◌}
 use Rattle.std.specs.BTreeMap.{BTreeMap, get}
 use Rattle.std.specs.Cmp.Lexicographic.{slice_cmp}
-use Rattle.std.specs.List.{filter}
+use Rattle.std.specs.List.{filter, IsDistinct}
 use Rattle.std.specs.Option.{option_map}
 use Rattle.std.specs.Ordering.{nat_cmp}
 use Rattle.snow_sample.specs.declared.roster.Node.{Node}
@@ -10,7 +10,7 @@ use Rattle.snow_sample.specs.Model.Roster.{total_weight}
 use Rattle.snow_boot.specs.declared.question.Candidate.{Candidate}
 use Rattle.snow_boot.specs.declared.question.Question.{Question}
 use Rattle.snow_boot.specs.declared.question.Question.TheVariants as question
-use Rattle.snow_boot.specs.Model.Electing.{candidates_of, awaits}
+use Rattle.snow_boot.specs.Model.Electing.{awaits}
 
 -- the nodes; what all of them are being asked, with which number, and whose answer is awaited; and what was collected, with the
 -- weight behind it
@@ -30,14 +30,24 @@ abbrev pub HasWeights : BTreeMap (List ℕ) ℕ → List Node → Type 0
 HasWeights weights nodes = (id : List ℕ) → get (slice_cmp nat_cmp) weights id ≡ option_map (λ n. n.weight) (awaits nodes id)
 
 -- what all nodes are being asked, where a table has the weights of those whose answer is awaited
-abbrev pub surveyed : List Node → Question → ℕ → BTreeMap (List ℕ) ℕ → List (List ℕ × ℕ) → Surveyed
-surveyed nodes question number weights entries = record {
+abbrev pub surveyed : List Node → Question → ℕ → BTreeMap (List ℕ) ℕ → List Candidate → Surveyed
+surveyed nodes question number weights candidates = record {
   nodes = nodes;
   question = question;
   number = number;
   awaited = nodes_in weights nodes;
-  candidates = candidates_of entries;
+  candidates = candidates;
 }
+
+-- the identifiers are those of the candidates, and none stands twice
+pub record AreListed (ids : List (List ℕ)) (candidates : List Candidate) : Type 0 where
+  pub same : map (λ c. c.id) candidates ≡ ids
+  pub unique : IsDistinct bytes_eq ids
+
+-- the weight that backs an identifier, and 0 where it isn't a candidate
+abbrev pub weight_of : List Candidate → List ℕ → ℕ
+weight_of [] id = 0
+weight_of (c ∷ candidates) id = if bytes_eq id c.id then c.weight else weight_of candidates id
 
 -- no candidate is backed by more than this weight
 abbrev pub AreWithin : ℕ → List Candidate → Type 0
@@ -55,6 +65,6 @@ pub record IsSurvey (s : Surveyed) (weight : ℕ) : Type 0 where
   pub fresh : s.question ≡ question.Frontier → AreWithin 0 s.candidates
 
 -- and the table is that of the awaited nodes
-abbrev pub IsKnown : List Node → Question → ℕ → BTreeMap (List ℕ) ℕ → List (List ℕ × ℕ) → ℕ → Type 0
-IsKnown nodes question number weights entries weight =
-    IsSurvey (surveyed nodes question number weights entries) weight × HasWeights weights (nodes_in weights nodes)
+abbrev pub IsKnown : List Node → Question → ℕ → BTreeMap (List ℕ) ℕ → List Candidate → ℕ → Type 0
+IsKnown nodes question number weights candidates weight =
+    IsSurvey (surveyed nodes question number weights candidates) weight × HasWeights weights (nodes_in weights nodes)

@@ -5,14 +5,6 @@ use Rattle.snow_sample.specs.declared.roster.Node.{Node}
 use Rattle.snow_boot.specs.declared.question.Candidate.{Candidate}
 use Rattle.snow_store.specs.Model.Paths.{has_id}
 
--- identifiers, each with the weight that backs it, as candidates
-abbrev pub candidates_of : List (List ℕ × ℕ) → List Candidate
-candidates_of entries = map (λ e. record { id = e.0; weight = e.1 }) entries
-
--- an identifier is backed by more weight
-abbrev pub with_weight : List ℕ → ℕ → List (List ℕ × ℕ) → List (List ℕ × ℕ)
-with_weight id weight entries = map (λ e. if bytes_eq id e.0 then (e.0, e.1 + weight) else e) entries
-
 -- a node whose answer is awaited
 abbrev pub awaits : List Node → List ℕ → Option Node
 awaits awaited node = find (λ n. bytes_eq n.id node) awaited

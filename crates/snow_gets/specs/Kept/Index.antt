@@ -1,6 +1,7 @@
 -- How open gets are kept: by number, and by identifier.
-use Rattle.std.specs.Prelude.{◌≡◌, ℕ, Bool, false, List, [], ◌∷◌, Option, Some, None, bytes_eq}
+use Rattle.std.specs.Prelude.{◌≡◌, ℕ, Bool, false, List, [], ◌∷◌, Option, Some, None, is_some, bytes_eq}
 use Rattle.std.specs.List.{list_any}
+use Rattle.snow_map.specs.Clauses.Entries.{value_of}
 use Rattle.snow_gets.specs.declared.get_map.Asked.{Asked}
 use Rattle.snow_gets.specs.declared.gets.Get.{Get}
 use Rattle.snow_gets.specs.Model.Gets.{asked_in}
@@ -14,7 +15,11 @@ AreNamedApart name (x ∷ items) = (list_any (λ y. bytes_eq (name y) (name x)) 
 abbrev pub get_of : ℕ × Asked → Get
 get_of e = record { number = e.0; node = e.1.node; id = e.1.id }
 
--- a set has the identifier of each get, and no block is asked for twice
+-- whether a map has an identifier
+abbrev pub has : List (List ℕ × Unit {0}) → List ℕ → Bool
+has ids id = is_some (value_of ids id)
+
+-- a map has the identifier of each get, and no block is asked for twice
 pub record HasAsked (has : List ℕ → Bool) (gets : List Get) : Type 0 where
   pub known : (id : List ℕ) → has id ≡ asked_in gets id
   pub apart : AreNamedApart (λ g. g.id) gets

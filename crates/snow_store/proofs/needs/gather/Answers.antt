@@ -10,15 +10,15 @@ use Rattle.snow_store.proofs.Storing.{missed_is}
 use Rattle.snow_store.proofs.needs.gather.Goals as goal
 
 pub loop-target-init : goal.loop-target-init
-loop-target-init g c = no_counts c.clear.new.self (fetch_by c.args.store.now.store c.args.targets.now.keys c.args.found.now.keys) c.clear.ensures.empty
+loop-target-init g c = no_counts c.clear.new.self (fetch_by c.args.store.now.store c.args.targets.now c.args.found.now) c.clear.ensures.empty
 
 pub loop-target-preserved : goal.loop-target-preserved
 loop-target-preserved g c =
-    let f = fetch_by c.args.store.now.store c.args.targets.now.keys c.args.found.now.keys in
+    let f = fetch_by c.args.store.now.store c.args.targets.now c.args.found.now in
     let items = c.as_slice-target-items.result.now in
     let i = c.loop-target.target-index in
     let t = c.target-item.result in
-    let its : c.missed-missed.result ≡ missed f t = c.missed-missed.ensures c.args.found.now.keys c.has.ensures ∙ missed_is f t in
+    let its : c.missed-missed.result ≡ missed f t = c.missed-missed.ensures c.args.found.now c.has.ensures ∙ missed_is f t in
     let more : take i items ++ t ∷ [] ≡ take (suc i) items = ap (λ x. take i items ++ x ∷ []) c.target-item.is ∙ sym (take-suc items i t c.loop-target-test.true) in
     let next : suc i ≡ i + 1 = omega arith in
     counts_same c.join.new.needs (with_more c.missed-missed.result 1 (missing f (take i items))) (missing f (take (i + 1) items))
@@ -27,7 +27,7 @@ loop-target-preserved g c =
 
 pub returns : goal.returns
 returns g c =
-    let f = fetch_by c.args.store.now.store c.args.targets.now.keys c.args.found.now.keys in
+    let f = fetch_by c.args.store.now.store c.args.targets.now c.args.found.now in
     let items = c.as_slice-target-items.result.now in
     counts_same c.loop-target.needs (missing f (take c.loop-target.target-index items)) (missing f f.targets) c.loop-target.invariant
-    (λ q. ap (λ l. missing f l q) (take_all c.loop-target.target-index items (omega (arith, c.loop-target-test.false)) ∙ c.as_slice-target-items.ensures.keys))
+    (λ q. ap (λ l. missing f l q) (take_all c.loop-target.target-index items (omega (arith, c.loop-target-test.false)) ∙ c.as_slice-target-items.ensures.list))

@@ -6,5 +6,5 @@ use Rattle.snow_store.proofs.needs.gather.Given as goal
 
 abbrev pub invariant-loop-target : goal.invariant-loop-target
 invariant-loop-target g l =
-    let f = fetch_by l.store.store l.targets.keys l.found.keys in
+    let f = fetch_by l.store.store l.targets l.found in
     Counts l.needs (missing f (take l.target-index l.target-items))

@@ -4,4 +4,4 @@ use Rattle.snow_store.proofs.Cases.{any_turned}
 use Rattle.snow_store.proofs.needs.has.Goals as goal
 
 pub returns : goal.returns
-returns c = c.contains.ensures ∙ any_turned c.args.ids.now.keys c.args.id.now
+returns c = c.contains.ensures ∙ any_turned c.args.ids.now c.args.id.now

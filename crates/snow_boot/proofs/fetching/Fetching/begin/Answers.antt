@@ -7,4 +7,4 @@ use Rattle.snow_boot.proofs.fetching.Fetching.begin.Goals as goal
 
 pub invariant_of-result : goal.invariant_of-result
 invariant_of-result g c whole =
-    (ap (λ (v : Shelf). v.whole) c.begin.ensures, none_needed c.new-3.result (fetch_by c.begin.result.store c.with_hasher.result.keys c.with_hasher-2.result.keys) c.new-3.ensures.empty c.with_hasher.ensures.empty)
+    (ap (λ (v : Shelf). v.whole) c.begin.ensures, none_needed c.new-3.result (fetch_by c.begin.result.store c.new.result c.new-2.result) c.new-3.ensures.empty c.new.ensures)

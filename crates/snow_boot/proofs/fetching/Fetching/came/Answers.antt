@@ -31,7 +31,7 @@ invariant_of-self-2 g c whole =
     let i = c.self.inside in
     let known = c.self.invariant (ap (λ (v : Hunt). v.whole) c.self.view_is ∙ c.requires) in
     let b : KeptBlock = record { header = c.args.header.now; bytes = c.args.bytes.now } in
-    let come = has_come i.store.store c.take.new.self.store i.targets.keys i.found.keys c.renew.new.found.keys b c.in_ok-verdict.verdict c.missed-before.result i.needs c.renew.new.needs i.due c.in_ok-due.due c.links.ensures
+    let come = has_come i.store.store c.take.new.self.store i.targets i.found c.renew.new.found b c.in_ok-verdict.verdict c.missed-before.result i.needs c.renew.new.needs i.due c.in_ok-due.due c.links.ensures
     c.in_ok-verdict.ensures.answer (c.missed-before.ensures ∙ sym (ap (λ (h : Hunt). missed h.fetch b.header.id) c.self.view_is)) known.1 (ap (λ (s : Shelf). s.store) c.in_ok-verdict.ensures.store)
     c.in_ok-due.ensures in
     (ap (λ (s : Shelf). s.whole) c.in_ok-verdict.ensures.store, come.has)
@@ -41,7 +41,7 @@ returns-clause-fetch g c =
     let i = c.self.inside in
     let known = c.self.invariant (ap (λ (v : Hunt). v.whole) c.self.view_is ∙ c.requires) in
     let b : KeptBlock = record { header = c.args.header.now; bytes = c.args.bytes.now } in
-    let come = has_come i.store.store c.take.new.self.store i.targets.keys i.found.keys c.renew.new.found.keys b c.in_ok-verdict.verdict c.missed-before.result i.needs c.renew.new.needs i.due c.in_ok-due.due c.links.ensures
+    let come = has_come i.store.store c.take.new.self.store i.targets i.found c.renew.new.found b c.in_ok-verdict.verdict c.missed-before.result i.needs c.renew.new.needs i.due c.in_ok-due.due c.links.ensures
     c.in_ok-verdict.ensures.answer (c.missed-before.ensures ∙ sym (ap (λ (h : Hunt). missed h.fetch b.header.id) c.self.view_is)) known.1 (ap (λ (s : Shelf). s.store) c.in_ok-verdict.ensures.store)
     c.in_ok-due.ensures in
     (refl, come.is ∙ ap (λ (h : Hunt). after_verdict h.fetch b c.in_ok-verdict.verdict) c.self.view_is)
@@ -51,7 +51,7 @@ returns-clause-due g c =
     let i = c.self.inside in
     let known = c.self.invariant (ap (λ (v : Hunt). v.whole) c.self.view_is ∙ c.requires) in
     let b : KeptBlock = record { header = c.args.header.now; bytes = c.args.bytes.now } in
-    let come = has_come i.store.store c.take.new.self.store i.targets.keys i.found.keys c.renew.new.found.keys b c.in_ok-verdict.verdict c.missed-before.result i.needs c.renew.new.needs i.due c.in_ok-due.due c.links.ensures
+    let come = has_come i.store.store c.take.new.self.store i.targets i.found c.renew.new.found b c.in_ok-verdict.verdict c.missed-before.result i.needs c.renew.new.needs i.due c.in_ok-due.due c.links.ensures
     c.in_ok-verdict.ensures.answer (c.missed-before.ensures ∙ sym (ap (λ (h : Hunt). missed h.fetch b.header.id) c.self.view_is)) known.1 (ap (λ (s : Shelf). s.store) c.in_ok-verdict.ensures.store)
     c.in_ok-due.ensures in
-    subst (λ (h : Hunt). Covers h.due (is_missed h.fetch h.fetch.targets) c.in_ok-due.due (is_missed (fetch_by c.take.new.self.store i.targets.keys c.renew.new.found.keys) i.targets.keys)) c.self.view_is come.due
+    subst (λ (h : Hunt). Covers h.due (is_missed h.fetch h.fetch.targets) c.in_ok-due.due (is_missed (fetch_by c.take.new.self.store i.targets c.renew.new.found) i.targets)) c.self.view_is come.due

@@ -7,5 +7,5 @@ use Rattle.snow_boot.proofs.fetching.Fetching.is_whole.Goals as goal
 
 pub returns : goal.returns
 returns g c =
-    c.is_met.ensures (fetch_by c.self.inside.store.store c.self.inside.targets.keys c.self.inside.found.keys) (c.self.invariant (ap (λ (v : Hunt). v.whole) c.self.view_is ∙ c.requires)).1
+    c.is_met.ensures (fetch_by c.self.inside.store.store c.self.inside.targets c.self.inside.found) (c.self.invariant (ap (λ (v : Hunt). v.whole) c.self.view_is ∙ c.requires)).1
     ∙ ap (λ (v : Hunt). is_whole v.fetch) c.self.view_is

@@ -7,8 +7,8 @@ use Rattle.snow_boot.proofs.fetching.Fetching.missed.Goals as goal
 
 pub returns : goal.returns
 returns g c =
-    let f : Fetch = record { store = c.self.inside.store.store; targets = c.self.inside.targets.keys; found = c.self.inside.found.keys } in
-    c.missed.ensures c.self.inside.found.keys c.has.ensures ∙ missed_is f c.args.target.now ∙ ap (λ (v : Hunt). missed v.fetch c.args.target.now) c.self.view_is
+    let f : Fetch = record { store = c.self.inside.store.store; targets = c.self.inside.targets; found = c.self.inside.found } in
+    c.missed.ensures c.self.inside.found c.has.ensures ∙ missed_is f c.args.target.now ∙ ap (λ (v : Hunt). missed v.fetch c.args.target.now) c.self.view_is
 
 pub missed-requires : goal.missed-requires
 missed-requires g c = (c.self.invariant (ap (λ (v : Hunt). v.whole) c.self.view_is ∙ c.requires)).0

@@ -11,7 +11,7 @@ returns-then-contains_key g c =
     let id = c.args.id in
     let is : c.contains_key.result ≡ is_missed c.args.self.now.fetch c.args.self.now.fetch.targets id =
     c.contains_key.ensures
-    ∙ has_missed c.self.inside.needs (fetch_by c.self.inside.store.store c.self.inside.targets.keys c.self.inside.found.keys)
+    ∙ has_missed c.self.inside.needs (fetch_by c.self.inside.store.store c.self.inside.targets c.self.inside.found)
     (c.self.invariant (ap (λ (v : Hunt). v.whole) c.self.view_is ∙ c.requires)).1 id ∙ ap (λ (v : Hunt). is_missed v.fetch v.fetch.targets id) c.self.view_is in
     ap (λ (b : Bool). if b then Some id else None) (sym c.if-contains_key.true ∙ is)
 
@@ -20,6 +20,6 @@ returns g c =
     let id = c.args.id in
     let is : c.contains_key.result ≡ is_missed c.args.self.now.fetch c.args.self.now.fetch.targets id =
     c.contains_key.ensures
-    ∙ has_missed c.self.inside.needs (fetch_by c.self.inside.store.store c.self.inside.targets.keys c.self.inside.found.keys)
+    ∙ has_missed c.self.inside.needs (fetch_by c.self.inside.store.store c.self.inside.targets c.self.inside.found)
     (c.self.invariant (ap (λ (v : Hunt). v.whole) c.self.view_is ∙ c.requires)).1 id ∙ ap (λ (v : Hunt). is_missed v.fetch v.fetch.targets id) c.self.view_is in
     ap (λ (b : Bool). if b then Some id else None) (sym c.if-contains_key.false ∙ is)

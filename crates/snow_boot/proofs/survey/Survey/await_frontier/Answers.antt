@@ -1,8 +1,8 @@
 -- All nodes are awaited.
 use Rattle.std.proofs.Common.{◌≡◌, List, [], ap, subst, sym, ◌∙◌}
 use Rattle.snow_sample.specs.declared.roster.Node.{Node}
+use Rattle.snow_boot.specs.declared.question.Candidate.{Candidate}
 use Rattle.snow_boot.specs.declared.question.Question.TheVariants as question
-use Rattle.snow_boot.specs.Model.Electing.{candidates_of}
 use Rattle.snow_boot.specs.Kept.Surveying.{Surveyed, surveyed, nodes_in, HasWeights}
 use Rattle.snow_boot.proofs.Surveyed.{survey_frontier}
 use Rattle.snow_boot.proofs.Weighed.{all_in}
@@ -11,16 +11,16 @@ use Rattle.snow_boot.proofs.survey.Survey.await_frontier.Goals as goal
 pub invariant_of-self : goal.invariant_of-self
 invariant_of-self c =
     let i = c.self.inside in
-    let s = surveyed i.nodes.items i.question i.number i.awaited i.candidates.entries in
+    let s = surveyed i.nodes.items i.question i.number i.awaited i.candidates in
     let has : HasWeights c.in_ok-awaited.awaited i.nodes.items = subst (HasWeights c.in_ok-awaited.awaited) c.as_slice.ensures.value c.in_ok-awaited.ensures in
     let all : nodes_in c.in_ok-awaited.awaited i.nodes.items ≡ i.nodes.items = all_in c.in_ok-awaited.awaited i.nodes.items has in
-    (rw (all, c.clear.ensures.empty) (survey_frontier s i.total c.args.number c.self.invariant.0), subst (HasWeights c.in_ok-awaited.awaited) (sym all) has)
+    (rw (all, c.new.ensures) (survey_frontier s i.total c.args.number c.self.invariant.0), subst (HasWeights c.in_ok-awaited.awaited) (sym all) has)
 
 pub returns : goal.returns
 returns c =
     let i = c.self.inside in
     let has : HasWeights c.in_ok-awaited.awaited i.nodes.items = subst (HasWeights c.in_ok-awaited.awaited) c.as_slice.ensures.value c.in_ok-awaited.ensures in
-    ap (λ (l : List Node). (let t : Surveyed = record { nodes = i.nodes.items; question = question.Frontier; number = c.args.number; awaited = l; candidates = candidates_of c.clear.new.self.entries } in t))
+    ap (λ (l : List Node). (let t : Surveyed = record { nodes = i.nodes.items; question = question.Frontier; number = c.args.number; awaited = l; candidates = c.new.result } in t))
     (all_in c.in_ok-awaited.awaited i.nodes.items has)
-    ∙ ap (λ es. (let t : Surveyed = record { nodes = i.nodes.items; question = question.Frontier; number = c.args.number; awaited = i.nodes.items; candidates = candidates_of es } in t)) c.clear.ensures.empty
+    ∙ ap (λ (es : List Candidate). (let t : Surveyed = record { nodes = i.nodes.items; question = question.Frontier; number = c.args.number; awaited = i.nodes.items; candidates = es } in t)) c.new.ensures
     ∙ ap (λ (v : Surveyed). (let t : Surveyed = record { nodes = v.nodes; question = question.Frontier; number = c.args.number; awaited = v.nodes; candidates = [] } in t)) c.self.view_is

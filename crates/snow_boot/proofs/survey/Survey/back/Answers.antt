@@ -4,7 +4,7 @@ use Rattle.std.specs.Option.{option_map}
 use Rattle.snow_sample.specs.declared.roster.Node.{Node}
 use Rattle.snow_boot.specs.declared.question.Candidate.{Candidate}
 use Rattle.snow_boot.specs.declared.question.Question.TheVariants as question
-use Rattle.snow_boot.specs.Model.Electing.{awaits, still_awaited, backed, candidates_of}
+use Rattle.snow_boot.specs.Model.Electing.{awaits, still_awaited, backed}
 use Rattle.snow_boot.specs.Kept.Surveying.{Surveyed, surveyed}
 use Rattle.snow_store.specs.Model.Paths.{has_id}
 use Rattle.snow_boot.proofs.Surveyed.{survey_backed, small_weight, small_backing, backed_same}
@@ -14,13 +14,13 @@ use Rattle.snow_boot.proofs.survey.Survey.back.Goals as goal
 pub back-requires-clause-within : goal.back-requires-clause-within
 back-requires-clause-within c =
     let i = c.self.inside in
-    let s = surveyed i.nodes.items i.question i.number i.awaited i.candidates.entries in
+    let s = surveyed i.nodes.items i.question i.number i.awaited i.candidates in
     small_backing s i.total c.self.invariant.0
 
 pub back-requires-clause-small : goal.back-requires-clause-small
 back-requires-clause-small c =
     let i = c.self.inside in
-    let s = surveyed i.nodes.items i.question i.number i.awaited i.candidates.entries in
+    let s = surveyed i.nodes.items i.question i.number i.awaited i.candidates in
     let waits : Some c.args.weight ≡ option_map (λ n. n.weight) (awaits s.awaited c.args.node.now) =
     c.requires.awaited ∙ sym (ap (λ (v : Surveyed). option_map (λ n. n.weight) (awaits v.awaited c.args.node.now)) c.self.view_is) in
     small_weight s i.total c.args.node.now c.args.weight c.self.invariant.0 waits
@@ -28,12 +28,12 @@ back-requires-clause-small c =
 pub invariant_of-self : goal.invariant_of-self
 invariant_of-self c =
     let i = c.self.inside in
-    let s = surveyed i.nodes.items i.question i.number i.awaited i.candidates.entries in
+    let s = surveyed i.nodes.items i.question i.number i.awaited i.candidates in
     let waits : Some c.args.weight ≡ option_map (λ n. n.weight) (awaits s.awaited c.args.node.now) =
     c.requires.awaited ∙ sym (ap (λ (v : Surveyed). option_map (λ n. n.weight) (awaits v.awaited c.args.node.now)) c.self.view_is) in
     let asks : s.question ≡ question.Accepted = ap (λ (v : Surveyed). v.question) c.self.view_is ∙ c.requires.asked in
-    let once : candidates_of c.back.new.candidates.entries ≡ backed c.args.weight c.args.ids.now s.candidates =
-    c.back.ensures ∙ backed_same c.args.weight c.in_ok-named.named.keys c.args.ids.now s.candidates
+    let once : c.back.new.self ≡ backed c.args.weight c.args.ids.now s.candidates =
+    c.back.ensures ∙ backed_same c.args.weight c.in_ok-named.named c.args.ids.now s.candidates
     (λ q. c.in_ok-named.ensures q ∙ ap (λ l. has_id l q) c.list.ensures) in (
       rw (still_in i.awaited c.remove.new.self c.args.node.now c.remove.ensures.updates.0 i.nodes.items, once)
           (survey_backed s i.total c.args.node.now c.args.weight c.args.ids.now c.self.invariant.0 waits asks),
@@ -43,11 +43,11 @@ invariant_of-self c =
 pub returns : goal.returns
 returns c =
     let i = c.self.inside in
-    let s = surveyed i.nodes.items i.question i.number i.awaited i.candidates.entries in
-    let once : candidates_of c.back.new.candidates.entries ≡ backed c.args.weight c.args.ids.now s.candidates =
-    c.back.ensures ∙ backed_same c.args.weight c.in_ok-named.named.keys c.args.ids.now s.candidates
+    let s = surveyed i.nodes.items i.question i.number i.awaited i.candidates in
+    let once : c.back.new.self ≡ backed c.args.weight c.args.ids.now s.candidates =
+    c.back.ensures ∙ backed_same c.args.weight c.in_ok-named.named c.args.ids.now s.candidates
     (λ q. c.in_ok-named.ensures q ∙ ap (λ l. has_id l q) c.list.ensures) in
-    ap (λ (l : List Node). (let t : Surveyed = record { nodes = s.nodes; question = s.question; number = s.number; awaited = l; candidates = candidates_of c.back.new.candidates.entries } in t))
+    ap (λ (l : List Node). (let t : Surveyed = record { nodes = s.nodes; question = s.question; number = s.number; awaited = l; candidates = c.back.new.self } in t))
     (still_in i.awaited c.remove.new.self c.args.node.now c.remove.ensures.updates.0 i.nodes.items)
     ∙ ap (λ (l : List Candidate). (let t : Surveyed = record { nodes = s.nodes; question = s.question; number = s.number; awaited = still_awaited s.awaited c.args.node.now; candidates = l } in t)) once
     ∙ ap (λ (v : Surveyed).

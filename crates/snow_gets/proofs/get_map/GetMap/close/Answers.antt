@@ -1,13 +1,12 @@
 -- The get of a number is closed where it is that of the node.
 use Rattle.std.proofs.Common.{◌≡◌, List, map, true, false, find, cond, Some, None, sym, ap, ◌∙◌, subst}
-use Rattle.std.specs.HashSet.{contains}
 use Rattle.std.specs.Option.{option_map}
 use Rattle.std.specs.Str.{bytes_eq}
 use Rattle.std.proofs.lemmas.Bool.{not-true, not-false}
 use Rattle.snow_gets.specs.declared.gets.Get.{Get}
 use Rattle.snow_gets.specs.Model.Gets.{is_get, without}
-use Rattle.snow_gets.specs.Kept.Index.{HasAsked, get_of}
-use Rattle.snow_gets.proofs.Asking.{id_of_get, closed_missing, found_number, left_number, none_without, asked_closed}
+use Rattle.snow_gets.specs.Kept.Index.{HasAsked, get_of, has}
+use Rattle.snow_gets.proofs.Asking.{id_of_get, closed_missing, found_number, left_number, none_without, asked_closed, taken_out}
 use Rattle.snow_gets.proofs.get_map.GetMap.close.Goals as goal
 
 pub returns-in_default-clause-answer : goal.returns-in_default-clause-answer
@@ -42,8 +41,8 @@ invariant_of-self c =
     let asked = c.in-Some.found.now in
     let same : bytes_eq asked.node c.args.node.now ≡ true = not-false (bytes_eq asked.node c.args.node.now) (sym c.ne.ensures ∙ c.if-ne.false) in
     let found = found_number es c.args.number c.args.node.now asked c.len-rising.ensures.ordered c.in-Some.ensures.value ∙ ap (λ b. cond b (Some (get_of (c.args.number, asked))) None) same in
-    subst (λ (l : List Get). HasAsked (λ q. contains bytes_eq c.remove-2.new.self q) l) (sym (ap (map get_of) c.remove.ensures.entries ∙ left_number es c.args.number c.args.node.now asked c.in-Some.ensures.value same))
-    (asked_closed (λ q. contains bytes_eq c.self.inside.ids q) (λ q. contains bytes_eq c.remove-2.new.self q) (map get_of es) c.args.number c.args.node.now (get_of (c.args.number, asked)) c.self.invariant found c.remove-2.ensures.updates.0)
+    subst (λ (l : List Get). HasAsked (has c.remove-2.new.self) l) (sym (ap (map get_of) c.remove.ensures.entries ∙ left_number es c.args.number c.args.node.now asked c.in-Some.ensures.value same))
+    (asked_closed (has c.self.inside.ids) (has c.remove-2.new.self) (map get_of es) c.args.number c.args.node.now (get_of (c.args.number, asked)) c.self.invariant found (taken_out asked.id c.self.inside.ids c.remove-2.new.self c.remove-2.ensures.updates))
 
 pub returns-clause-answer : goal.returns-clause-answer
 returns-clause-answer c =
