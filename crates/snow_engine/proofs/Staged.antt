@@ -1,6 +1,9 @@
 -- What comes of a node of one stage comes of it as a node.
-use Rattle.std.proofs.Common.{◌≡◌, List, Result, Ok, Err, ap, subst, sym, inl, inr}
+use Rattle.std.proofs.Common.{◌≡◌, ℕ, List, Result, Ok, Err, ap, subst, sym, inl, inr}
+use Rattle.snow_boot.specs.Clauses.Calling.{Brings}
 use Rattle.snow_boot.specs.Clauses.Calling.{Logs as BootLogs}
+use Rattle.snow_boot.specs.Model.Booting.{Boot, Next}
+use Rattle.snow_chain.specs.Model.Chain.{Held}
 use Rattle.snow_lines.specs.declared.line.Line.{Line}
 use Rattle.snow_node.specs.declared.stop.Halt.{Halt}
 use Rattle.snow_node.specs.declared.stop.Halt.TheVariants as halt
@@ -13,6 +16,8 @@ use Rattle.snow_engine.specs.declared.stop.EngineStop.TheVariants as stop
 use Rattle.snow_engine.specs.Kept.Staging.{Node, staged, stop_of_boot}
 use Rattle.snow_engine.specs.Kept.Boxed.{as_step}
 use Rattle.snow_engine.specs.Clauses.Boxing.{IsBoxed}
+use Rattle.snow_engine.specs.Model.Booting.{Booting}
+use Rattle.snow_engine.specs.Model.Catching.{brings}
 use Rattle.snow_engine.specs.Clauses.Stopping.{Logs, Starts, Steps, StopsAs}
 
 -- a step of one stage is one of the node
@@ -73,6 +78,19 @@ stop_logged T U s b before now lines (inr none) l = rw none (front s l)
     front stop.SecondStart l = logs_whole before now lines l
     front stop.Requests l = logs_whole before now lines l
     front stop.Memory l = l
+
+-- what stopped bootstrapping stops the node so, in a box
+pub boot_stopped : (node : Booting) (w : BootStop) (s b : EngineStop) (boot : Boot) (drawn : ℕ) (held : Held) (expected : Result Next BootStop) → s ≡ stop_of_boot w → IsBoxed stop.Memory s b
+    → Brings (Err w) boot drawn held expected → StopsAs b (brings node expected)
+boot_stopped node w s b boot drawn held expected is boxed e = stopped Node s b (brings node expected) boxed (rw is (starts w e))
+  where
+    starts : (w : BootStop) → Brings (Err w) boot drawn held expected → Starts {S = Node} (Err (stop_of_boot w)) (brings node expected)
+    starts why.Memory e = tt
+    starts why.Requests e = ap (brings node) e
+    starts why.Full e = ap (brings node) e
+    starts (why.Conflict height first second) e = ap (brings node) e
+    starts (why.Fork id parent) e = ap (brings node) e
+    starts (why.Refused id) e = ap (brings node) e
 
 -- the lines of a stop of bootstrapping are those of the node's
 pub boot_logged : (T U : Type 0) (w : BootStop) (s : EngineStop) (before now lines : List Line) → s ≡ stop_of_boot w → BootLogs {T = T} (Err w) before now lines → Logs {T = U} (Err s) before now lines

@@ -6,14 +6,14 @@ use Rattle.snow_chain.specs.Kept.Alone.{last_state}
 use Rattle.snow_node.proofs.Logs.{logs_whole}
 use Rattle.snow_node.specs.Model.Running.{begun_above}
 use Rattle.snow_wire.specs.Clauses.Viewed.{as_event}
-use Rattle.snow_engine.specs.Clauses.Stopping.{Logs}
+use Rattle.snow_engine.specs.Clauses.Stopping.{Logs, StopsAs}
 use Rattle.snow_engine.specs.Kept.Staging.{Node, Comes}
 use Rattle.snow_engine.specs.Model.Booting.{Booting}
 use Rattle.snow_engine.specs.Model.Catching.{brings, heard}
 use Rattle.snow_engine.specs.declared.stage.Stage.TheVariants as node
 use Rattle.snow_engine.proofs.Beginning.{catches, still_boots}
 use Rattle.snow_engine.proofs.Drawn.{still_fits}
-use Rattle.snow_engine.proofs.Staged.{boot_logged, stop_logged}
+use Rattle.snow_engine.proofs.Staged.{boot_logged, boot_stopped, stop_logged}
 use Rattle.snow_engine.proofs.booting.catch_up.Goals as goal
 use Rattle.snow_engine.proofs.booting.catch_up.Goals.{in-Going, in-Done+in-Ok-above}
 
@@ -29,6 +29,15 @@ invariant_of-node g c =
           (heard g.C.Chain.rules (last_state held) c.node.inside.boot.boot c.node.inside.numbers c.args.frame (as_event c.args.event)).1) c.in-Going.is c.in-Ok.ensures.answer)
           c.node.invariant.small;
     }
+
+pub returns-in-Err-clause-answer : goal.returns-in-Err-clause-answer
+returns-in-Err-clause-answer g c =
+    let now = g.C.Chain.held c.hear.new.chain in
+    let before : Booting = record { parameters = c.node.inside.params; roster = c.node.inside.roster; boot = c.node.inside.boot.boot; state = last_state (g.C.Chain.held c.node.inside.chain); words = c.node.inside.words; last = c.node.inside.numbers } in
+    let is = catches g.C.Chain.rules g.B.Board.answer c.args.stage.now before c.args.frame (as_event c.args.event) (ap node.Booting c.node.view_is ∙ c.in-Booting.ensures.value) c.requires.heard in
+    subst (λ (o : Comes Node). StopsAs c.new.result o.1) is
+    (boot_stopped before c.in-Err.stop c.from.result c.new.result c.hear.new.boot.boot c.hear.new.numbers now (heard g.C.Chain.rules before.state before.boot before.last c.args.frame (as_event c.args.event)).1
+    c.from.ensures c.new.ensures c.in-Err.ensures.answer)
 
 pub returns-in-Err-clause-lines : goal.returns-in-Err-clause-lines
 returns-in-Err-clause-lines g c =
