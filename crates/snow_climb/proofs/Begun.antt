@@ -51,6 +51,11 @@ module _ {T : Type 0} where
       let far : reach bs id ≡ at + 1 = sym (reach_seen pending id) ∙ ap above there in
       (omega (arith, far, reach_within bs id), same_id (get_or bs at d).id id (at_reach bs id at d far))
 
+  pub vote_there : (pending : List (Entry T)) (id : List ℕ) (at : ℕ) (d : Header) → place_in pending id ≡ Some at → (at < length (blocks_in pending)) × (id_in (slice_get (blocks_in pending) at) ≡ id)
+  vote_there pending id at d there =
+      let here = block_there pending id at d there in
+      (here.0, ap id_in (slice_get-get_or (blocks_in pending) at d here.0) ∙ here.1)
+
   -- or there is none
   pub block_off : (pending : List (Entry T)) (id : List ℕ) → place_in pending id ≡ None → has_block (blocks_in pending) id ≡ false
   block_off pending id none =

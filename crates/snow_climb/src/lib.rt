@@ -11,5 +11,6 @@ mod starting;
 pub use climber::{Climber, pass};
 pub use gathering::gather;
 pub use ladder::Ladder;
+pub use majority::main_vote;
 pub use naming::named;
-pub use starting::{start_ids, start_votes};
+pub use starting::{start_each, start_votes};

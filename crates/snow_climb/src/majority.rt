@@ -1,7 +1,9 @@
-ghost use Rattle.std.specs.Prelude.{◌≡◌, ◌^◌, ◌<◌, ◌≤◌, length, bytes_eq, IfSome};
-ghost use Rattle.snow_climb.specs.Kept.Majority.{StandsForPoll};
+ghost use Rattle.std.specs.Prelude.{◌≡◌, ◌^◌, ◌<◌, ◌≤◌, [], ◌∷◌, length, bytes_eq, IfSome};
+ghost use Rattle.snow_base.specs.Clauses.Gathered.{one_each};
+ghost use Rattle.snow_climb.specs.Kept.Majority.{StandsForPoll, StandFor};
 ghost use Rattle.snow_climb.specs.Kept.Starting.{ids_by};
 
+use crate::naming::all_named;
 use snow_base::{Id, Vote};
 use snow_flake::Params;
 
@@ -53,10 +55,8 @@ fn count_for(ids: &[Id], main: &Id) -> u32
     count
 }
 
-/// Returns one vote that stands for all of a poll, or `None`. Where AlphaConfidence votes are for
-/// one identifier, all others are fewer than AlphaPreference, and no counter sees them. It guesses
-/// the identifier from the first votes, so it may return `None` where there is one.
-pub(crate) fn main_vote(params: &Params, ids: &[Id]) -> Option<Vote>
+// A vote for one identifier with AlphaConfidence votes, where the guess finds one.
+fn find_main(params: &Params, ids: &[Id]) -> Option<Vote>
     requires { length ids.now ≤ params.now.k }
     ensures { IfSome result (λ one. StandsForPoll params.now ids.now one) }
 {
@@ -71,4 +71,17 @@ pub(crate) fn main_vote(params: &Params, ids: &[Id]) -> Option<Vote>
         return None;
     }
     Some(Vote { id: main, count })
+}
+
+/// Returns one vote that stands for all of a poll, or `None`. Where AlphaConfidence votes are for
+/// one identifier, all others are fewer than AlphaPreference, and no counter sees them. It guesses
+/// the identifier from the first votes, so it may return `None` where there is one.
+/// Rule: this project's own.
+pub fn main_vote(params: &Params, ids: &[Id]) -> Option<Vote>
+    requires { length ids.now ≤ params.now.k }
+    ensures most { IfSome result (λ one. one.count ≤ params.now.k) }
+    ensures alike { IfSome result (λ one. StandFor params.now (one ∷ []) (one_each ids.now)) }
+{
+    all_named(ids);
+    find_main(params, ids)
 }

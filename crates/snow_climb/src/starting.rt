@@ -6,17 +6,13 @@ ghost use Rattle.snow_base.specs.declared.block.Vote.{Vote};
 ghost use Rattle.snow_flake.specs.Model.Parameters.{Parameters};
 ghost use Rattle.snow_climb.specs.Kept.Climbing.{begun};
 ghost use Rattle.snow_climb.specs.Kept.Ladder.{KeepsRoom, IsReady};
-ghost use Rattle.snow_climb.specs.Kept.Majority.{StandFor};
 ghost use Rattle.snow_climb.specs.Kept.Starting.{share, votes_by, ids_by, HaveStarted, HaveAllStarted, HaveBegun, IsLoaded, TakesMore};
 
 use crate::climber::pass;
 use crate::ladder::Ladder;
-use crate::majority::main_vote;
 use crate::naming::all_named;
 use snow_base::{Id, Vote};
-use snow_flake::Params;
 use snow_tree::Tree;
-use std::slice;
 
 // Starts the votes that a seat gathered, if there are any, past their own block; those for a block that isn't
 // pending count nowhere.
@@ -144,9 +140,10 @@ fn start_by_seats<T: Drop>(tree: &Tree<T>, ladder: &mut Ladder, ids: &[Id])
     seat_each(tree, ladder, &mut [nobody; SEATS], ids);
 }
 
-// The votes of a poll, one for each of these identifiers, past its own block, where this is pending. It
-// takes no memory.
-fn start_each<T: Drop>(tree: &Tree<T>, ladder: &mut Ladder, ids: &[Id])
+/// Puts one vote for each of these identifiers on an empty ladder, past its own block, where this is
+/// pending. The ladder is ready for the pending blocks and for so many votes, so it takes no memory.
+/// Rule: AvalancheGo, snow/consensus/snowman.
+pub fn start_each<T: Drop>(tree: &Tree<T>, ladder: &mut Ladder, ids: &[Id])
     requires ready { IsReady (length (tree.now).pending) ladder.old }
     requires few { length ids.now ≤ (ladder.old).votes }
     requires small { length ids.now < 2 ^ 32 }
@@ -159,25 +156,4 @@ fn start_each<T: Drop>(tree: &Tree<T>, ladder: &mut Ladder, ids: &[Id])
     all_named(ids);
     ladder.begin();
     start_by_seats(tree, ladder, ids);
-}
-
-/// Puts votes on an empty ladder that do what one vote for each of these identifiers does, at most
-/// K of them: a single vote, where one stands for all. The ladder is ready for the pending blocks
-/// and for so many votes, so it takes no memory.
-/// Rule: AvalancheGo, snow/consensus/snowman.
-pub fn start_ids<T: Drop>(params: &Params, tree: &Tree<T>, ladder: &mut Ladder, ids: &[Id])
-    requires ready { IsReady (length (tree.now).pending) ladder.old }
-    requires few { length ids.now ≤ (ladder.old).votes }
-    requires most { length ids.now ≤ params.now.k }
-    ensures begun { (votes : List Vote) × HaveBegun params.now votes (tree.now).pending ladder.new × StandFor params.now votes (one_each ids.now) }
-    ensures loaded { IsLoaded (tree.now).pending ladder.new }
-    ensures few { length (ladder.new).climbers ≤ length ids.now }
-    ensures room { KeepsRoom ladder.old ladder.new }
-{
-    let _k = params.k();
-    all_named(ids);
-    match main_vote(params, ids) {
-        Some(one) => start_votes(tree, ladder, slice::from_ref(&one)),
-        None => start_each(tree, ladder, ids),
-    }
 }

@@ -4,6 +4,7 @@ pub mod Taken
 pub mod Climbs
 pub mod Passing
 pub mod Counted
+pub mod Lines
 pub mod Steady
 pub mod Costing
 pub mod Anew

@@ -6,6 +6,7 @@ pub mod Half
 pub mod Climbed
 pub mod Leading
 pub mod Recording
+pub mod Counting
 pub mod Renewed
 pub mod Gaining
 pub mod Walking

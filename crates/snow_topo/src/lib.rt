@@ -4,8 +4,10 @@
 mod accepting;
 mod ballot;
 mod climbing;
+mod counting;
 mod issuing;
 mod leading;
+mod line;
 mod load;
 mod renewing;
 mod replaying;

@@ -10,8 +10,8 @@ ghost use Rattle.snow_topo.specs.Clauses.Ballot.{votes_of};
 ghost use Rattle.snow_topo.specs.Laws.Costs.{most_steps};
 ghost use Rattle.snow_topo.specs.Kept.Standing.{AreKept};
 
-use crate::ballot::{Ballot, start};
-use crate::climbing::climb;
+use crate::ballot::Ballot;
+use crate::counting::count_votes;
 use crate::issuing::issue;
 use crate::leading::{is_preferred, is_top, kept_of, place_on, preference_of};
 use crate::load::Load;
@@ -20,7 +20,7 @@ use crate::settling::settle;
 use crate::spare::SpareTrees;
 use snow_base::{Bag, Header, Id, Steps};
 use snow_board::{Board, Decision};
-use snow_climb::{Ladder, gather, named};
+use snow_climb::{Ladder, named};
 use snow_flake::{Params, Rule};
 use snow_tree::Tree;
 use snow_trie::Trie;
@@ -128,15 +128,7 @@ impl<R: Rule> Topo<R> {
         } = self;
         let _k = params.k();
         let _last = tree.last();
-        start(params, tree, ladder, ballot);
-        let mut moved = climb(params, tree, before, ladder, children, steps);
-        let count = ladder.take(0);
-        // Without a quorum the last accepted block's tree stays as it is, and its old number tells
-        // that it failed.
-        if count >= params.alpha_preference() {
-            gather(tree, ladder, children);
-            moved |= root.record(before, children.entries(), steps);
-        }
+        let moved = count_votes(params, root, tree, before, ladder, children, ballot, steps);
         decisions.clear();
         settle(params, before + 1, root, tree, decisions, spare);
         self.polls = before + 1;
