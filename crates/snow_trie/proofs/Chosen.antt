@@ -89,7 +89,7 @@ chosen_fork answer c z o true e = rw (e, answer_admitted answer c true e) refl
 chosen_fork answer c z o false e = rw (e, answer_admitted answer c false e) refl
 
 -- a tree leads to an identifier that stands in it
-record IsChosen (answer : Answer) (now from : ℕ) (t : Tree) (x : List ℕ) : Type 0 where
+pub record IsChosen (answer : Answer) (now from : ℕ) (t : Tree) (x : List ℕ) : Type 0 where
   pub bits : chosen answer (counters now from t) ≡ drop from (bits x)
   pub leaf : IsLeaf (outline from t) x
 
@@ -121,7 +121,7 @@ by_answer : (P : List ℕ → Type 0) (b : Bool) (x y : List ℕ) → (b ≡ tru
 by_answer P true x y f g = f refl
 by_answer P false x y f g = g refl
 
-chosen_tree : (answer : Answer) (now from : ℕ) (t : Tree) → ((b : Bool) → answer b b ≡ b) → IsPlaced from t → IsSorted (outline from t)
+pub chosen_tree : (answer : Answer) (now from : ℕ) (t : Tree) → ((b : Bool) → answer b b ≡ b) → IsPlaced from t → IsSorted (outline from t)
     → IsChosen answer now from t (preferred answer t)
 unfolding chosen
 chosen_tree answer now from (Tip id) law h s = record { bits = sym (drop-bits_end id from (omega (arith, h))); leaf = refl }

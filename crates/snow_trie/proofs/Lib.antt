@@ -10,3 +10,4 @@ pub mod Standing
 pub mod Strands
 pub mod Visited
 pub mod Wholes
+pub mod Lasts

@@ -289,7 +289,7 @@ leader_agrees decided leader t to rest sorted h x leaf =
     (agree_both first x decided to (agree_by leader first x 0 decided (sorted first (h.leaf first stands)) (sorted x (h.leaf x leaf))) (h.agree first x stands leaf))
 
 -- the counters are those before anything was taken off
-peeled_counters : (now decided : ℕ) (leader : List ℕ) (t : Tree) (to : ℕ) (rest : Tree) → ((x : List ℕ) → IsLeaf (outline decided t) x → AgreeFrom 0 decided leader x)
+pub peeled_counters : (now decided : ℕ) (leader : List ℕ) (t : Tree) (to : ℕ) (rest : Tree) → ((x : List ℕ) → IsLeaf (outline decided t) x → AgreeFrom 0 decided leader x)
     → IsPeeled decided t to rest → whole now to (next_leader leader decided to rest) rest ≡ whole now decided leader t
 peeled_counters now decided leader t to rest sorted h =
     let first = first_leaf rest in

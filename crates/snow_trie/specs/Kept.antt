@@ -8,3 +8,5 @@ pub mod Growing
 pub mod Peeling
 pub mod Polled
 pub mod Whole
+pub mod Alone
+pub mod Form

@@ -1,7 +1,9 @@
 //! The counters of one conflict as a compressed tree.
 #![tactic(auto)]
 
+mod alone;
 mod fork;
+mod forked;
 mod growing;
 mod narrowing;
 mod node;

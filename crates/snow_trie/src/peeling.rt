@@ -98,7 +98,7 @@ fn is_decided(node: &Node) -> bool
 
 /// Takes the decided first nodes off a tree that begins at a bit behind a leader's first ones. It
 /// returns the bit at which what is left begins, behind those of the leader then. Mostly it takes
-/// nothing off, or a last node, of which an identifier is left.
+/// nothing off.
 /// Rule: AvalancheGo, snow/consensus/snowball.
 pub fn peel(root: &mut Node, leader: &mut Id, decided: u16) -> u16
     requires { IsPlaced decided (tree_of root.old) }
@@ -106,27 +106,11 @@ pub fn peel(root: &mut Node, leader: &mut Id, decided: u16) -> u16
     ensures root { tree_of root.new ≡ (peeled decided (tree_of root.old)).1 }
     ensures leader { leader.new ≡ next_leader leader.old decided result (tree_of root.new) }
 {
-    if let Node::Last(run) = root {
-        if !run.counter.is_final() {
-            return decided;
-        }
-        let to = run.to;
-        *leader = run.id;
-        end(root, leader);
-        return to;
-    }
     if is_decided(root) {
         take_off(root, leader, decided)
     } else {
         decided
     }
-}
-
-// An identifier alone is left.
-fn end(root: &mut Node, id: &Id)
-    ensures { tree_of root.new ≡ Tip id.now }
-{
-    *root = Node::End(*id);
 }
 
 // Takes off where the first node is decided.

@@ -23,7 +23,7 @@ fn either(one: bool, other: bool) -> bool
 /// Takes a poll with these votes to a tree. `count` is their number, at most K, and all are for
 /// identifiers that go down the tree, in bit order. `before` is the number of polls so far, below
 /// 2^64-1. It counts a step for each node that it visits, at least one. It returns `false` only
-/// where the tree leads where it led. It polls a tree of one identifier in place.
+/// where the tree leads where it led.
 /// Rule: AvalancheGo, snow/consensus/snowball.
 pub fn poll<R: Rule, L: Ledger>(
     root: &mut Node,
@@ -47,11 +47,6 @@ pub fn poll<R: Rule, L: Ledger>(
     ensures most { steps.new ≤ steps.old + max 1 (size (tree_of root.old)) }
     ensures steady { result ≡ false → preferred R.answer (tree_of root.new) ≡ preferred R.answer (tree_of root.old) }
 {
-    if let Node::Last(run) = root {
-        steps.tick();
-        run.poll(params, count, before);
-        return false;
-    }
     if from == 256 {
         steps.tick();
         return false;

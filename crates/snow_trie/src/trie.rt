@@ -1,19 +1,19 @@
 ghost use Rattle.std.specs.Prelude.{◌≡◌, ◌+◌, ◌<◌, ◌≤◌, false, is_some, length, [], ◌∷◌, ◌++◌, All, Contains, IfOk, OnOk, OnErr};
 
-use crate::growing;
-use crate::narrowing::{narrowed, total};
-use crate::node::{self, Node};
-use crate::peeling::peel;
-use crate::polling::{poll, ready};
-use crate::run::Run;
+use crate::alone::Alone;
+use crate::forked::Forked;
 use snow_base::{Id, Steps, Vote};
 use snow_flake::{Params, Rule};
 use std::alloc::{AllocError, Global};
-use std::marker::{Model, PhantomData};
+use std::marker::Model;
 use std::sync::ledger::Ledger;
 
-// With the first one these are more identifiers than any memory holds.
-const MOST_MORE: usize = (1 << 48) - 1;
+// Most blocks have one child, and its counters are few bytes.
+#[derive(Debug, Drop)]
+enum Form<R: Rule> {
+    Alone(Alone),
+    Forked(Box<Forked<R>>),
+}
 
 /// The counters of one conflict as a compressed tree; `R` says how they answer. A poll visits only
 /// nodes to which AlphaPreference votes come, so at most one at each bit; all others fail by their
@@ -22,45 +22,19 @@ const MOST_MORE: usize = (1 << 48) - 1;
 /// Rule: AvalancheGo, snow/consensus/snowball.
 #[derive(Debug, Drop)]
 pub struct Trie<R: Rule> {
-    params: Params,
-    // The identifiers in the order in which they were given. A list that is empty takes no memory.
-    first: Id,
-    more: Vec<Id>,
-    polls: u64,
-    // The bits up to here are decided, and are the leader's.
-    decided: u16,
-    leader: Id,
-    root: Node,
+    form: Form<R>,
     alloc: Global,
-    rule: PhantomData<R>,
 }
 
 impl<R: Rule> Model for Trie<R> {
-    ghost use Rattle.std.specs.Prelude.{◌∷◌};
-    ghost use Rattle.snow_trie.specs.Kept.Tree.{tree_of};
-    ghost use Rattle.snow_trie.specs.Kept.Stamped.{whole};
-    ghost use Rattle.snow_trie.specs.Kept.Whole.{Compressed, coded_compressed, nodes_of, IsWhole};
+    ghost use Rattle.snow_trie.specs.Kept.Whole.{Compressed, coded_compressed};
+    ghost use Rattle.snow_trie.specs.Kept.Form.{shown_form};
 
     ghost Value = { Compressed };
 
     ghost coded = { coded_compressed };
 
-    ghost view = { λ a. record {
-      parameters = a.params;
-      ids = a.first ∷ a.more.items;
-      counters = whole a.polls a.decided a.leader (tree_of a.root);
-      nodes = nodes_of (tree_of a.root);
-    } };
-
-    ghost invariant = { λ a. IsWhole (a.first ∷ a.more.items) a.polls a.decided a.leader (tree_of a.root) };
-}
-
-// Whether a poll may lead elsewhere: where it moved a counter that leads, or began the stamps anew. Nodes
-// that it takes off are decided, and led to what is left.
-fn has_moved(moved: bool, before: u64, polls: u64) -> bool
-    ensures { result ≡ false → (moved ≡ false) × (before ≡ polls) }
-{
-    moved || before != polls
+    ghost view = { λ a. shown_form a.form };
 }
 
 impl<R: Rule> Trie<R> {
@@ -70,39 +44,24 @@ impl<R: Rule> Trie<R> {
     ghost use Rattle.snow_board.specs.Laws.FailingLaw.{failed};
     ghost use Rattle.snow_trie.specs.Kept.Whole.{begun, HasFewNodes};
 
-    /// Returns the counters where one identifier stands alone: one node. On want of memory it
-    /// returns `AllocError`.
+    /// Returns the counters where one identifier stands alone: one node. It takes no memory.
     /// Rule: AvalancheGo, snow/consensus/snowball.
     pub fn new(alloc: Global, params: Params, id: Id) -> Result<Self, AllocError>
         ensures { IfOk result (λ trie. trie ≡ begun params id) }
     {
-        let root = node::branch(&id, 0);
         Ok(Trie {
-            params,
-            first: id,
-            more: Vec::new(alloc),
-            polls: 0,
-            decided: 0,
-            leader: id,
-            root,
+            form: Form::Alone(Alone::new(params, id)),
             alloc,
-            rule: PhantomData,
         })
     }
 
     /// Makes one identifier stand alone anew, with these parameters, whatever stood before. It
-    /// keeps the room for others, and takes no memory.
+    /// takes no memory.
     /// Rule: AvalancheGo, snow/consensus/snowball.
     pub fn begin_anew(&mut self, params: &Params, id: &Id)
         ensures { self.new ≡ begun params.now id.now }
     {
-        self.params = *params;
-        self.first = *id;
-        self.more.clear();
-        self.polls = 0;
-        self.decided = 0;
-        self.leader = *id;
-        self.root = Node::Last(Run::fresh(id));
+        self.form = Form::Alone(Alone::new(*params, *id));
     }
 
     /// Adds an identifier: its bits get fresh counters where none stood, up to a decided counter of
@@ -117,13 +76,16 @@ impl<R: Rule> Trie<R> {
         ensures few { HasFewNodes self.new }
         ensures err { OnErr result (self.new ≡ self.old) }
     {
-        if self.more.len() >= MOST_MORE {
-            return Err(AllocError);
+        match &mut self.form {
+            Form::Alone(alone) => {
+                let _id = alone.id();
+                let mut forked = Forked::of(self.alloc, alone);
+                forked.add(id)?;
+                self.form = Form::Forked(Box::new(self.alloc, forked)?);
+                Ok(())
+            }
+            Form::Forked(forked) => forked.add(id),
         }
-        self.more.reserve(1)?;
-        growing::add_behind(&mut self.root, self.alloc, &id, &self.leader, self.decided)?;
-        self.more.push_reserved(id);
-        Ok(())
     }
 
     /// Records a poll with these votes, at most K, in bit order, each for an identifier that was
@@ -163,28 +125,16 @@ impl<R: Rule> Trie<R> {
         ensures most { steps.new ≤ steps.old + (self.old).nodes }
         ensures steady { result ≡ false → chosen R.answer (self.new).counters ≡ chosen R.answer (self.old).counters }
     {
-        let votes = narrowed(votes, &self.leader, self.decided, &self.params);
-        let count = total(&self.params, votes);
-        if count < self.params.alpha_preference() {
-            self.fail(steps);
-            return false;
+        match &mut self.form {
+            Form::Alone(alone) => {
+                let _before = alone.id();
+                steps.tick();
+                alone.record(votes);
+                let _after = alone.id();
+                false
+            }
+            Form::Forked(forked) => forked.record(votes, steps),
         }
-        let _k = self.params.k();
-        let before = ready(&mut self.root, self.polls);
-        let moved = poll::<R, L>(
-            &mut self.root,
-            self.decided,
-            &self.params,
-            votes,
-            count,
-            before,
-            steps,
-        );
-        let from = peel(&mut self.root, &mut self.leader, self.decided);
-        let is_elsewhere = has_moved(moved, before, self.polls);
-        self.polls = before + 1;
-        self.decided = from;
-        is_elsewhere
     }
 
     /// Records a poll without votes: each confidence of a counter that isn't final becomes 0. It is
@@ -197,10 +147,15 @@ impl<R: Rule> Trie<R> {
         ensures steps { steps.new ≡ steps.old + 1 }
         ensures steady { chosen R.answer (self.new).counters ≡ chosen R.answer (self.old).counters }
     {
-        let _k = self.params.k();
-        steps.tick();
-        let before = ready(&mut self.root, self.polls);
-        self.polls = before + 1;
+        match &mut self.form {
+            Form::Alone(alone) => {
+                let _before = alone.id();
+                steps.tick();
+                alone.fail();
+                let _after = alone.id();
+            }
+            Form::Forked(forked) => forked.fail(steps),
+        }
     }
 
     /// Returns the identifier to which the counters lead by their answers. It is one of those
@@ -210,7 +165,10 @@ impl<R: Rule> Trie<R> {
         ensures bits { chosen R.answer (self.now).counters ≡ bits result }
         ensures given { Contains (self.now).ids result }
     {
-        *node::preference::<R>(&self.root)
+        match &self.form {
+            Form::Alone(alone) => alone.id(),
+            Form::Forked(forked) => forked.preference(),
+        }
     }
 
     /// Returns whether decided counters alone lead to an identifier.
@@ -218,7 +176,10 @@ impl<R: Rule> Trie<R> {
     pub fn is_final(&self) -> bool
         ensures { result ≡ is_some (decided_path (self.now).counters) }
     {
-        self.decided == 256
+        match &self.form {
+            Form::Alone(alone) => alone.is_final(),
+            Form::Forked(forked) => forked.is_final(),
+        }
     }
 
     /// Returns how many nodes the tree has: at most three times `choices`, less two.
@@ -227,8 +188,13 @@ impl<R: Rule> Trie<R> {
         ensures nodes { result ≡ (self.now).nodes }
         ensures few { HasFewNodes self.now }
     {
-        let _more = self.more.len();
-        node::count(&self.root).max(1)
+        match &self.form {
+            Form::Alone(alone) => {
+                let _id = alone.id();
+                1
+            }
+            Form::Forked(forked) => forked.nodes(),
+        }
     }
 
     /// Returns how many identifiers were given, at least one. Where one stands alone the counters
@@ -238,6 +204,12 @@ impl<R: Rule> Trie<R> {
         ensures count { result ≡ length (self.now).ids }
         ensures alone { length (self.now).ids ≡ 1 → All (λ id. chosen R.answer (self.now).counters ≡ bits id) (self.now).ids }
     {
-        self.more.len() + 1
+        match &self.form {
+            Form::Alone(alone) => {
+                let _id = alone.id();
+                1
+            }
+            Form::Forked(forked) => forked.choices(),
+        }
     }
 }

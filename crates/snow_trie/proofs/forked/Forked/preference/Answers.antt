@@ -1,7 +1,7 @@
 use Rattle.std.proofs.Common.{◌∷◌}
 use Rattle.snow_trie.specs.Kept.Tree.{tree_of}
 use Rattle.snow_trie.proofs.Chosen.{chosen_whole, chosen_given}
-use Rattle.snow_trie.proofs.trie.Trie.preference.Goals as goal
+use Rattle.snow_trie.proofs.forked.Forked.preference.Goals as goal
 
 pub returns-clause-bits : goal.returns-clause-bits
 returns-clause-bits g c =

@@ -1,7 +1,7 @@
 use Rattle.std.proofs.Common.{◌<◌, ◌^◌, length, ◌++◌, ◌∷◌, [], refl, arith}
 use Rattle.snow_trie.specs.Kept.Tree.{tree_of}
 use Rattle.snow_trie.proofs.Wholes.{added_counters, whole_added, few_added, few_nodes}
-use Rattle.snow_trie.proofs.trie.Trie.add.Goals as goal
+use Rattle.snow_trie.proofs.forked.Forked.add.Goals as goal
 
 pub invariant_of-self-2 : goal.invariant_of-self-2
 invariant_of-self-2 g c =

@@ -6,7 +6,7 @@ use Rattle.snow_trie.specs.Kept.Tree.{tree_of}
 use Rattle.snow_trie.specs.Kept.Stamped.{between, strand, whole}
 use Rattle.snow_trie.proofs.Chosen.{chosen_failed}
 use Rattle.snow_trie.proofs.Wholes.{whole_restamped, whole_failed, failed_counters, same_size, few_nodes}
-use Rattle.snow_trie.proofs.trie.Trie.fail.Goals as goal
+use Rattle.snow_trie.proofs.forked.Forked.fail.Goals as goal
 
 pub invariant_of-self : goal.invariant_of-self
 invariant_of-self g c =

@@ -1,7 +1,7 @@
 use Rattle.std.proofs.Common.{◌∷◌}
 use Rattle.snow_trie.specs.Kept.Tree.{tree_of}
 use Rattle.snow_trie.proofs.Chosen.{final_whole}
-use Rattle.snow_trie.proofs.trie.Trie.is_final.Goals as goal
+use Rattle.snow_trie.proofs.forked.Forked.is_final.Goals as goal
 
 pub returns : goal.returns
 returns g c =

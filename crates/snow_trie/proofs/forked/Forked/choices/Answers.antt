@@ -1,7 +1,7 @@
 use Rattle.std.proofs.Common.{◌∷◌}
 use Rattle.snow_trie.specs.Kept.Tree.{tree_of}
 use Rattle.snow_trie.proofs.Chosen.{chosen_alone}
-use Rattle.snow_trie.proofs.trie.Trie.choices.Goals as goal
+use Rattle.snow_trie.proofs.forked.Forked.choices.Goals as goal
 
 pub returns-clause-alone : goal.returns-clause-alone
 returns-clause-alone g c =
