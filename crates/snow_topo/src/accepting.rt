@@ -7,7 +7,6 @@ ghost use Rattle.snow_topo.specs.Clauses.Told.{rejection, told};
 ghost use Rattle.snow_topo.specs.Kept.View.{view, AreFit};
 
 use crate::load::Load;
-use crate::spare::SpareTrees;
 use crate::winning::next_child;
 use snow_base::Id;
 use snow_board::Decision;
@@ -42,14 +41,12 @@ fn tell(decisions: &mut Vec<Decision>, child: &Id, rejected: &[Id])
 }
 
 // A child of the last accepted block is accepted: what is kept of its children takes the place of what
-// was kept of its brothers and itself, and the blocks that don't descend from it go. The tree that goes is
-// kept for one that is begun.
+// was kept of its brothers and itself, and the blocks that don't descend from it go.
 fn accept<R: Rule>(
     root: &mut Load<R>,
     tree: &mut Tree<Load<R>>,
     child: &Id,
     decisions: &mut Vec<Decision>,
-    spare: &mut SpareTrees<R>,
 )
     requires child { option_map (λ e. e.block.parent) (entry_in (tree.old).pending child.now) ≡ Some (tree.old).last }
     requires room { length decisions.old.items + length (tree.old).pending ≤ vec_capacity decisions.old }
@@ -59,7 +56,6 @@ fn accept<R: Rule>(
     ensures room { vec_capacity decisions.new ≡ vec_capacity decisions.old }
 {
     let _last = tree.last();
-    spare.keep(root.take_tree());
     tree.promote(child, root);
     tell(decisions, child, tree.rejected());
 }
@@ -73,7 +69,6 @@ pub(crate) fn accept_next<R: Rule>(
     root: &mut Load<R>,
     tree: &mut Tree<Load<R>>,
     decisions: &mut Vec<Decision>,
-    spare: &mut SpareTrees<R>,
 ) -> bool
     requires fit { AreFit params.now polls root.old tree.old }
     requires room { length decisions.old.items + length (tree.old).pending ≤ vec_capacity decisions.old }
@@ -85,7 +80,7 @@ pub(crate) fn accept_next<R: Rule>(
     let _last = tree.last();
     match next_child(params, root, tree) {
         Some(child) => {
-            accept(root, tree, &child, decisions, spare);
+            accept(root, tree, &child, decisions);
             true
         }
         None => false,

@@ -5,7 +5,6 @@ ghost use Rattle.snow_tree.specs.Kept.Held.{blocks_in, place_in};
 ghost use Rattle.snow_topo.specs.Kept.View.{view, AreFit};
 
 use crate::load::Load;
-use crate::spare::SpareTrees;
 use snow_base::Header;
 use snow_flake::{Params, Rule};
 use snow_tree::Tree;
@@ -21,7 +20,6 @@ pub(crate) fn issue<R: Rule>(
     tree: &mut Tree<Load<R>>,
     at: Option<usize>,
     child: &Header,
-    spare: &mut SpareTrees<R>,
 ) -> Result<(), AllocError>
     requires unknown { is_on (tree.old).last (blocks_in (tree.old).pending) (child.now).id ≡ false }
     requires follows { is_on (tree.old).last (blocks_in (tree.old).pending) (child.now).parent ≡ true }
@@ -41,10 +39,10 @@ pub(crate) fn issue<R: Rule>(
     }
     let added = match at {
         Some(at) => match tree.load_mut(at) {
-            Some(load) => load.add(alloc, params, &child.id, spare),
+            Some(load) => load.add(alloc, params, &child.id),
             None => Ok(()),
         },
-        None => root.add(alloc, params, &child.id, spare),
+        None => root.add(alloc, params, &child.id),
     };
     if added.is_err() {
         let _ = tree.take_back();

@@ -12,7 +12,6 @@ mod load;
 mod renewing;
 mod replaying;
 mod settling;
-mod spare;
 mod topo;
 mod winning;
 

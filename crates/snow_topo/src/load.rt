@@ -5,7 +5,6 @@ ghost use Rattle.snow_board.specs.Laws.FailingLaw.{failed};
 ghost use Rattle.snow_trie.specs.Kept.Whole.{HasFewNodes};
 ghost use Rattle.snow_topo.specs.Kept.Leading.{HasDecided};
 
-use crate::spare::SpareTrees;
 use snow_base::{Id, Steps, Vote};
 use snow_flake::{Params, Rule};
 use snow_trie::Trie;
@@ -13,19 +12,15 @@ use std::alloc::{AllocError, Global};
 use std::marker::Model;
 use std::sync::ledger::Ledger;
 
-/// What the board keeps of a block: the tree of its children, once it has one, and the number of
+/// What the board keeps of a block: the tree of its children, once it has some, and the number of
 /// the poll that this recorded last. Polls since then have failed the tree, which none of them
 /// touched. Contracts see the children with their counters, and that number.
 /// Rule: this project's own.
 #[derive(Debug, Drop)]
 pub struct Load<R: Rule> {
-    trie: BoxedTrie<R>,
+    trie: Option<Trie<R>>,
     recorded: u64,
 }
-
-/// The tree of a block's children, in a box of its own, so that the blocks, of which many have
-/// none, are small.
-pub(crate) type BoxedTrie<R> = Option<Box<Trie<R>>>;
 
 impl<R: Rule> Model for Load<R> {
     ghost use Rattle.std.specs.Prelude.{IfSome};
@@ -38,9 +33,9 @@ impl<R: Rule> Model for Load<R> {
 
     ghost coded = { coded_kept };
 
-    ghost view = { λ a. record { conflict = option_map (λ t. conflict_of t.value) a.trie; recorded = a.recorded } };
+    ghost view = { λ a. record { conflict = option_map conflict_of a.trie; recorded = a.recorded } };
 
-    ghost invariant = { λ a. IfSome a.trie (λ t. HasFewNodes t.value) };
+    ghost invariant = { λ a. IfSome a.trie HasFewNodes };
 }
 
 // The identifier to which decided counters alone lead.
@@ -83,14 +78,13 @@ impl<R: Rule> Load<R> {
         }
     }
 
-    /// Adds a child that was issued to the tree. It makes the tree for the first child, in the
-    /// place of a spare one where there is one. On want of memory all stays as it was.
+    /// Adds a child that was issued to the tree, which begins with the first one. On want of memory
+    /// all stays as it was.
     pub(crate) fn add(
         &mut self,
         alloc: Global,
         params: &Params,
         id: &Id,
-        spare: &mut SpareTrees<R>,
     ) -> Result<(), AllocError>
         ensures ok { OnOk result (self.new ≡ gained params.now id.now self.old) }
         ensures err { OnErr result (self.new ≡ self.old) }
@@ -98,22 +92,10 @@ impl<R: Rule> Load<R> {
         match &mut self.trie {
             Some(trie) => trie.add(*id),
             None => {
-                let trie = match spare.take() {
-                    Some(mut tree) => {
-                        tree.begin_anew(params, id);
-                        tree
-                    }
-                    None => Box::new(alloc, Trie::new(alloc, *params, *id)?)?,
-                };
-                self.trie = Some(trie);
+                self.trie = Some(Trie::new(alloc, *params, *id)?);
                 Ok(())
             }
         }
-    }
-
-    /// Takes the tree out, as the block needs it no more.
-    pub(crate) fn take_tree(&mut self) -> BoxedTrie<R> {
-        self.trie.take()
     }
 
     /// Returns whether decided counters alone lead anywhere.

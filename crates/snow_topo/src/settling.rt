@@ -4,7 +4,6 @@ ghost use Rattle.snow_topo.specs.Kept.View.{view, AreFit};
 
 use crate::accepting::accept_next;
 use crate::load::Load;
-use crate::spare::SpareTrees;
 use snow_board::Decision;
 use snow_flake::{Params, Rule};
 use snow_tree::Tree;
@@ -17,7 +16,6 @@ pub(crate) fn settle<R: Rule>(
     root: &mut Load<R>,
     tree: &mut Tree<Load<R>>,
     decisions: &mut Vec<Decision>,
-    spare: &mut SpareTrees<R>,
 )
     requires fit { AreFit params.now polls root.old tree.old }
     requires room { length decisions.old.items + length (tree.old).pending ≤ vec_capacity decisions.old }
@@ -33,6 +31,6 @@ pub(crate) fn settle<R: Rule>(
     let _k = params.k();
     let mut more = root.is_decided();
     while more {
-        more = accept_next(params, polls, root, tree, decisions, spare) && root.is_decided();
+        more = accept_next(params, polls, root, tree, decisions) && root.is_decided();
     }
 }

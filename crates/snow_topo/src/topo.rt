@@ -17,7 +17,6 @@ use crate::leading::{is_preferred, is_top, kept_of, place_on, preference_of};
 use crate::load::Load;
 use crate::renewing::renew_if_full;
 use crate::settling::settle;
-use crate::spare::SpareTrees;
 use snow_base::{Bag, Header, Id, Steps};
 use snow_board::{Board, Decision};
 use snow_climb::{Ladder, named};
@@ -42,8 +41,6 @@ pub struct Topo<R: Rule> {
     // What is kept of the last accepted block, and of those above it.
     root: Load<R>,
     tree: Tree<Load<R>>,
-    // The trees of blocks that aren't on the board any more. The next ones are made in their places.
-    spare: SpareTrees<R>,
     preference: Id,
     decisions: Vec<Decision>,
     // Room for the votes of a poll, and for those that came to one block, by its children.
@@ -120,7 +117,6 @@ impl<R: Rule> Topo<R> {
             params,
             root,
             tree,
-            spare,
             decisions,
             ladder,
             children,
@@ -130,7 +126,7 @@ impl<R: Rule> Topo<R> {
         let _last = tree.last();
         let moved = count_votes(params, root, tree, before, ladder, children, ballot, steps);
         decisions.clear();
-        settle(params, before + 1, root, tree, decisions, spare);
+        settle(params, before + 1, root, tree, decisions);
         self.polls = before + 1;
         self.preference = if moved {
             preference_of(&self.params, self.polls, &self.root, &self.tree)
@@ -170,7 +166,6 @@ impl<R: Rule> Board for Topo<R> {
             polls: 0,
             root: Load::new(),
             tree: Tree::new(alloc, last, height),
-            spare: SpareTrees::none(alloc),
             preference: last,
             decisions: Vec::new(alloc),
             ladder,
@@ -185,7 +180,6 @@ impl<R: Rule> Board for Topo<R> {
         let pending = self.tree.len() + 1;
         self.decisions.reserve(pending)?;
         self.ladder.make_room(pending)?;
-        self.spare.make_room(pending)?;
         let child = Header { id, parent, height };
         let at = place_on(&self.tree, &parent);
         let on_top = is_top(
@@ -204,7 +198,6 @@ impl<R: Rule> Board for Topo<R> {
             &mut self.tree,
             at,
             &child,
-            &mut self.spare,
         )?;
         // Only a child of the preference can move it: at once where it is the first one.
         self.preference = if on_top {

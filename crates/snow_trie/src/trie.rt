@@ -55,15 +55,6 @@ impl<R: Rule> Trie<R> {
         })
     }
 
-    /// Makes one identifier stand alone anew, with these parameters, whatever stood before. It
-    /// takes no memory.
-    /// Rule: AvalancheGo, snow/consensus/snowball.
-    pub fn begin_anew(&mut self, params: &Params, id: &Id)
-        ensures { self.new ≡ begun params.now id.now }
-    {
-        self.form = Form::Alone(Alone::new(*params, *id));
-    }
-
     /// Adds an identifier: its bits get fresh counters where none stood, up to a decided counter of
     /// the other bit. It makes at most three nodes. On want of memory it returns `AllocError`, and
     /// all stays as it was.

@@ -8,4 +8,4 @@ use Rattle.snow_topo.proofs.load.Load.decided.Goals as goal
 pub returns-in-None : goal.returns-in-None
 returns-in-None g c =
     subst (λ (k : Kept). HasDecided (counters_in k.conflict) None) c.self.view_is
-    (subst (λ o. HasDecided (counters_in (option_map (λ t. conflict_of t.value) o)) None) (sym c.in-None.is) decided_blank)
+    (subst (λ o. HasDecided (counters_in (option_map conflict_of o)) None) (sym c.in-None.is) decided_blank)
