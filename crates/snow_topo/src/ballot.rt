@@ -22,14 +22,22 @@ pub(crate) enum Ballot<'a> {
 fn only_vote(votes: &[Vote]) -> Option<Vote>
     ensures { IfSome result (λ one. votes.now ≡ one ∷ []) }
 {
-    if votes.len() == 1 { Some(votes[0]) } else { None }
+    if votes.len() == 1 {
+        Some(votes[0])
+    } else {
+        None
+    }
 }
 
 // A vote, where it is a quorum.
 fn with_quorum(params: &Params, one: Vote) -> Option<Vote>
     ensures { IfSome result (λ some. (some ≡ one) × (params.now.alpha_preference ≤ some.count)) }
 {
-    if one.count < params.alpha_preference() { None } else { Some(one) }
+    if one.count < params.alpha_preference() {
+        None
+    } else {
+        Some(one)
+    }
 }
 
 // One vote that does what all votes of a poll do, where it is seen that there is one.

@@ -7,7 +7,6 @@ mod climbing;
 mod counting;
 mod issuing;
 mod leading;
-mod line;
 mod load;
 mod renewing;
 mod replaying;

@@ -80,12 +80,7 @@ impl<R: Rule> Load<R> {
 
     /// Adds a child that was issued to the tree, which begins with the first one. On want of memory
     /// all stays as it was.
-    pub(crate) fn add(
-        &mut self,
-        alloc: Global,
-        params: &Params,
-        id: &Id,
-    ) -> Result<(), AllocError>
+    pub(crate) fn add(&mut self, alloc: Global, params: &Params, id: &Id) -> Result<(), AllocError>
         ensures ok { OnOk result (self.new ≡ gained params.now id.now self.old) }
         ensures err { OnErr result (self.new ≡ self.old) }
     {
