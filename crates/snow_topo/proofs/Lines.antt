@@ -1,5 +1,5 @@
 -- Lemmas on the votes for one block, which climb its line alone.
-use Rattle.std.proofs.Common.{◌≡◌, ℕ, ◌+◌, ◌<◌, ◌≤◌, false, nat_lt, Bool, List, [], ◌∷◌, length, map, reverse, filter_map, slice_get, All, Contains, IsPermutation, Some, None, refl, sym, ap, subst, ◌∙◌, arith}
+use Rattle.std.proofs.Common.{◌≡◌, ℕ, ◌+◌, ◌<◌, ◌≤◌, false, nat_lt, Bool, List, [], ◌∷◌, length, reverse, filter_map, slice_get, All, Contains, IsPermutation, Some, None, refl, sym, ap, subst, ◌∙◌, arith}
 use Rattle.std.proofs.lemmas.Grind.{common_steps}
 use Rattle.std.proofs.lemmas.List.{length-map}
 use Rattle.std.proofs.lemmas.List.Sums.{sum_by-cons}
@@ -23,7 +23,7 @@ use Rattle.snow_climb.proofs.Begun.{no_block, begun_at, climbing_again}
 use Rattle.snow_climb.proofs.Climbers.{passed_on, group_come_last, some_count}
 use Rattle.snow_climb.proofs.Gatherings.{AreGathered, none_gathered, more_gathered, all_votes}
 use Rattle.snow_climb.proofs.Reached.{reach_within}
-use Rattle.snow_topo.specs.Kept.Children.{Kept, IsFit}
+use Rattle.snow_topo.specs.Kept.Children.{Kept}
 use Rattle.snow_topo.specs.Kept.Counting.{HasStepped}
 use Rattle.snow_topo.specs.Kept.Half.{IsHalf, HasTaken}
 use Rattle.snow_topo.specs.Kept.View.{AllFit}

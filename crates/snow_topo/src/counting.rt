@@ -97,9 +97,7 @@ pub(crate) fn count_votes<R: Rule, L: Ledger>(
     let _k = params.k();
     let _last = tree.last();
     let Some(one) = one_vote(params, ballot) else {
-        return count_all(
-            params, root, tree, polls, ladder, children, ballot, steps,
-        );
+        return count_all(params, root, tree, polls, ladder, children, ballot, steps);
     };
     let Some(from) = tree.place_of(&one.id) else {
         return false;

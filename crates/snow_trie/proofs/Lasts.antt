@@ -1,12 +1,12 @@
 -- Lemmas on the counters of an identifier that stands alone.
-use Rattle.std.proofs.Common.{◌≡◌, inl, inr, ℕ, ◌+◌, ◌<◌, ◌≤◌, ◌==◌, Bool, true, false, List, [], ◌∷◌, max, is_some, All, Contains, if◌then◌else◌, refl, sym, ap, ◌∙◌, subst, arith}
+use Rattle.std.proofs.Common.{◌≡◌, inl, inr, ℕ, ◌≤◌, ◌==◌, Bool, true, false, List, [], ◌∷◌, is_some, All, Contains, if◌then◌else◌, refl, sym, ap, ◌∙◌, subst, arith}
 use Rattle.std.specs.Prelude.{⊤}
 use Rattle.std.proofs.lemmas.List.Elements.{Contains-push, Contains-push_cases}
 use Rattle.snow_base.specs.declared.block.Vote.{Vote}
 use Rattle.snow_base.specs.Model.Identifier.{bits, AgreeFrom}
 use Rattle.snow_base.specs.Model.Votes.{total_count}
 use Rattle.snow_flake.specs.Model.Parameters.{Parameters, AreGood}
-use Rattle.snow_flake.specs.Model.Counter.{Counter, stepped}
+use Rattle.snow_flake.specs.Model.Counter.{stepped}
 use Rattle.snow_flake.specs.Model.Rule.{Answer}
 use Rattle.snow_flake.specs.Kept.Instance.{Instance, Single, at_bit, counter_of, on_side, polled as instance_polled, failed as instance_failed}
 use Rattle.snow_board.specs.Model.Conflict.{all_polled, chosen, decided_path, votes_on}
@@ -14,11 +14,11 @@ use Rattle.snow_board.specs.Laws.FailingLaw.{failed}
 use Rattle.snow_board.proofs.Cases.{split_on}
 use Rattle.snow_trie.specs.declared.run.Run.{Run}
 use Rattle.snow_trie.specs.Kept.Alone.{run_of, last}
-use Rattle.snow_trie.specs.Kept.Outline.{IsLeaf, IsSorted, outline}
+use Rattle.snow_trie.specs.Kept.Outline.{IsSorted, outline}
 use Rattle.snow_trie.specs.Kept.Peeling.{peeled}
 use Rattle.snow_trie.specs.Kept.Shape.{IsPlaced, IsOrdered}
 use Rattle.snow_trie.specs.Kept.Stamped.{between, strand, counters, whole}
-use Rattle.snow_trie.specs.Kept.Tree.{Tree, Tip, Line}
+use Rattle.snow_trie.specs.Kept.Tree.{Tree, Tip}
 use Rattle.snow_trie.specs.Kept.Whole.{next_leader, nodes_of, IsWhole}
 use Rattle.snow_trie.proofs.Chosen.{chosen_tree, final_whole}
 use Rattle.snow_trie.proofs.Ordered.{are_counts, no_counts, ordered_polled}

@@ -2,7 +2,6 @@
 use Rattle.std.specs.Prelude.{ℕ, List, [], ◌∷◌}
 use Rattle.snow_flake.specs.Model.Parameters.{Parameters}
 use Rattle.snow_flake.specs.Kept.Instance.{Single}
-use Rattle.snow_board.specs.Model.Conflict.{Counters}
 use Rattle.snow_trie.specs.declared.run.Run.{Run}
 use Rattle.snow_trie.specs.Kept.Tree.{Tree, Tip, Line}
 use Rattle.snow_trie.specs.Kept.Stamped.{counters}

@@ -10,7 +10,7 @@ use Rattle.snow_climb.specs.Kept.Climbing.{climber_total, cursor_of, cursors_of,
 use Rattle.snow_topo.specs.Clauses.Ballot.{votes_of}
 use Rattle.snow_topo.specs.Kept.Counting.{HasStepped}
 use Rattle.snow_topo.specs.Kept.Half.{HasTaken}
-use Rattle.snow_topo.specs.Kept.Recording.{recording, recording_at}
+use Rattle.snow_topo.specs.Kept.Recording.{recording_at}
 use Rattle.snow_climb.proofs.Begun.{no_block}
 use Rattle.snow_climb.proofs.Climbers.{all_back, same_total, highest_place, of_group, group_total, group_few, group_come_last, votes_of_all}
 use Rattle.snow_climb.proofs.Merged.{all_came, few_came}

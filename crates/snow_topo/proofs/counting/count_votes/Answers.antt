@@ -21,7 +21,7 @@ use Rattle.snow_topo.specs.Kept.Recording.{recording_at, recording_in}
 use Rattle.snow_topo.proofs.Climbs.{entry_at, one_of, set_blocks}
 use Rattle.snow_topo.proofs.Costing.{is_quorum, paid}
 use Rattle.snow_topo.proofs.Counted.{counted_all}
-use Rattle.snow_topo.proofs.Lines.{IsOnLine, sought, vote_at, sought_low, line_begun, line_counted, line_ended, line_passed, line_step, line_votes, whole_vote, all_stepped, none_stepped}
+use Rattle.snow_topo.proofs.Lines.{sought, vote_at, sought_low, line_begun, line_counted, line_ended, line_passed, line_step, line_votes, whole_vote, all_stepped, none_stepped}
 use Rattle.snow_topo.proofs.Steady.{leads_set}
 use Rattle.snow_topo.proofs.Taken.{at_most, left_alone}
 use Rattle.snow_topo.proofs.counting.count_votes.Given as given
@@ -247,8 +247,8 @@ returns-clause-counted g c =
     in (
       votes,
       counted_all g.R.Rule.answer p polls votes root new held c.loop-above.tree _ c.requires.fit.root stepped took
-      (λ s. c.record-moved-2.ensures.steady (or_parts c.loop-above.moved c.record-moved-2.result s).1)
-      (λ s. inv.steady (or_parts c.loop-above.moved c.record-moved-2.result s).0),
+          (λ s. c.record-moved-2.ensures.steady (or_parts c.loop-above.moved c.record-moved-2.result s).1)
+          (λ s. inv.steady (or_parts c.loop-above.moved c.record-moved-2.result s).0),
       c.in-Some.ensures.same,
       omega (arith, own, before),
     )

@@ -2,7 +2,7 @@ use Rattle.std.proofs.Common.{◌≡◌, arith, subst, sym}
 use Rattle.snow_trie.specs.Kept.Tree.{tree_of}
 use Rattle.snow_trie.specs.Kept.Shape.{IsPlaced}
 use Rattle.snow_trie.specs.Kept.Polled.{IsPolled}
-use Rattle.snow_trie.proofs.Visited.{ended, polled_last, placed_within}
+use Rattle.snow_trie.proofs.Visited.{ended, placed_within}
 use Rattle.snow_trie.proofs.polling.poll.Goals as goal
 
 pub returns-then-from-eq256-clause-tree : goal.returns-then-from-eq256-clause-tree

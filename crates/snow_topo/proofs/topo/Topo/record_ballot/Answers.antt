@@ -1,4 +1,4 @@
-use Rattle.std.proofs.Common.{◌≡◌, ◌+◌, ◌*◌, ◌≤◌, false, List, ◌++◌, length, reverse, sym, ap, ◌∙◌, arith}
+use Rattle.std.proofs.Common.{◌≡◌, ◌+◌, ◌≤◌, false, ◌++◌, length, reverse, sym, ap, ◌∙◌, arith}
 use Rattle.std.proofs.lemmas.List.{length-map}
 use Rattle.snow_board.specs.Model.Board.{Board, blocks_of}
 use Rattle.snow_board.specs.Model.Poll.{settled, poll}
@@ -7,7 +7,6 @@ use Rattle.snow_board.specs.Clauses.Shown.{Shown}
 use Rattle.snow_board.specs.Kept.Grown.{IsGrown}
 use Rattle.snow_board.proofs.Same.{same_board}
 use Rattle.snow_tree.specs.Kept.Held.{Held, blocks_in}
-use Rattle.snow_climb.specs.Kept.Ladder.{Rungs}
 use Rattle.snow_topo.specs.Clauses.Ballot.{votes_of}
 use Rattle.snow_topo.specs.Laws.Costs.{most_steps}
 use Rattle.snow_topo.specs.Kept.Children.{Kept}

@@ -1,4 +1,3 @@
-use Rattle.std.proofs.Common.{sym}
 use Rattle.snow_trie.proofs.Lasts.{chosen_last}
 use Rattle.snow_trie.proofs.alone.Alone.id.Goals as goal
 

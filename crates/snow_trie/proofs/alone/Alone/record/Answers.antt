@@ -6,7 +6,6 @@ use Rattle.snow_trie.specs.Kept.Alone.{run_of, last}
 use Rattle.snow_trie.specs.Kept.Stamped.{counters}
 use Rattle.snow_trie.specs.Kept.Whole.{Compressed}
 use Rattle.snow_trie.proofs.Lasts.{alone_polled, ordered_alone}
-use Rattle.snow_trie.proofs.alone.Alone.record.Given as given
 use Rattle.snow_trie.proofs.alone.Alone.record.Goals as goal
 use Rattle.snow_trie.proofs.alone.Alone.record.Goals.{After-apply}
 
