@@ -1,9 +1,9 @@
 -- Lemmas on the votes of a poll before they climb: those that wait are counted with those that began.
-use Rattle.std.proofs.Common.{◌≡◌, ℕ, ◌+◌, ◌<◌, ◌≤◌, Bool, true, List, [], ◌∷◌, ◌++◌, length, get_or, drop, reverse, All, IsPermutation, sym, ap, ◌∙◌, arith, rules, if◌then◌else◌}
+use Rattle.std.proofs.Common.{◌≡◌, ℕ, ◌+◌, ◌<◌, ◌≤◌, Bool, true, false, List, [], ◌∷◌, ◌++◌, length, get_or, set, take, drop, reverse, All, IsPermutation, refl, sym, ap, ◌∙◌, arith, rules, if◌then◌else◌}
 use Rattle.std.specs.Option.{option_to_list}
 use Rattle.std.proofs.lemmas.List.{drop_all}
 use Rattle.std.proofs.lemmas.List.Elements.{All-nil, All-cons}
-use Rattle.std.proofs.lemmas.List.Sums.{sum_by-cons, sum_by-drop_more}
+use Rattle.std.proofs.lemmas.List.Sums.{sum_by-cons, sum_by-set, sum_by-drop_more, sum_by_more, get_or-le-sum_by}
 use Rattle.std.proofs.lemmas.List.Sorted.{length_permutation}
 use Rattle.snow_base.specs.declared.block.Vote.{Vote}
 use Rattle.snow_base.specs.Model.Ancestry.{is_below}
@@ -21,6 +21,10 @@ use Rattle.snow_climb.specs.Kept.Starting.{share, votes_by, ids_by, HaveStarted,
 use Rattle.snow_climb.proofs.Begun.{begun_at, begun_few, begun_first, placed_at}
 
 -- ---- at the beginning nobody waits, and nothing is counted
+
+nothing : (t : Bool) (n : ℕ) → n ≡ 0 → (if t then n else 0) ≡ 0
+nothing true n e = e
+nothing false n e = refl
 
 -- all wait
 pub none_started : {T : Type 0} (pending : List (Entry T)) (waiting : (List ℕ → Bool) → ℕ) → HaveStarted pending waiting waiting []
@@ -60,21 +64,53 @@ pub all_started : {T : Type 0} (pending : List (Entry T)) (votes : List Vote) (i
 all_started pending votes i counted cs past started =
     record { votes = started.votes; placed = started.placed; some = started.some; same = λ test. omega (arith, started.same test, ap (votes_by test) (drop_all i votes past)) }
 
--- the same of identifiers
-pub next_id_waits : {T : Type 0} (pending : List (Entry T)) (ids : List (List ℕ)) (i : ℕ) (id : List ℕ) (counted : (List ℕ → Bool) → ℕ) (cs : List Climber) → i < length ids → id ≡ get_or ids i id
-    → HaveStarted pending (λ test. ids_by test (drop i ids)) counted cs → HaveStarted pending (λ test. share test (record { id = id; count = 1 }) + ids_by test (drop (i + 1) ids)) counted cs
-next_id_waits pending ids i id counted cs h is started =
+-- ---- places where votes wait
+
+-- those that wait at the other places
+abbrev pub beside : List Vote → ℕ → Vote → (List ℕ → Bool) → ℕ
+beside waiting at v test = votes_by test (set waiting at (record { id = v.id; count = 0 }))
+
+without : (waiting : List Vote) (at : ℕ) (v : Vote) (test : List ℕ → Bool) → at < length waiting → v ≡ get_or waiting at v
+    → votes_by test waiting ≡ share test v + beside waiting at v test
+without waiting at v test h is =
+    omega (arith, sum_by-set (share test) waiting at (record { id = v.id; count = 0 }) v h, ap (share test) is, nothing (test v.id) 0 refl)
+
+with_other : (waiting : List Vote) (at : ℕ) (v w : Vote) (test : List ℕ → Bool) → at < length waiting → v ≡ get_or waiting at v
+    → votes_by test (set waiting at w) ≡ share test w + beside waiting at v test
+with_other waiting at v w test h is = omega (arith, without waiting at v test h is, sum_by-set (share test) waiting at w v h, ap (share test) is)
+
+-- one place is taken out
+pub seat_taken : {T : Type 0} (pending : List (Entry T)) (waiting : List Vote) (at : ℕ) (v : Vote) (counted : (List ℕ → Bool) → ℕ) (cs : List Climber) → at < length waiting → v ≡ get_or waiting at v
+    → HaveStarted pending (λ test. votes_by test waiting) counted cs → HaveStarted pending (λ test. share test v + beside waiting at v test) counted cs
+seat_taken pending waiting at v counted cs h is started =
+    record { votes = started.votes; placed = started.placed; some = started.some; same = λ test. omega (arith, started.same test, without waiting at v test h is) }
+
+-- and put back, with one identifier more counted
+pub seat_back : {T : Type 0} (pending : List (Entry T)) (waiting : List Vote) (at : ℕ) (v w : Vote) (ids : List (List ℕ)) (i : ℕ) (id : List ℕ) (counted : (List ℕ → Bool) → ℕ) (cs : List Climber)
+    → at < length waiting → v ≡ get_or waiting at v → i < length ids → id ≡ get_or ids i id
+    → HaveStarted pending (λ test. share test w + beside waiting at v test) (λ test. (if test id then 1 else 0) + (ids_by test (take i ids) + counted test)) cs
+    → HaveStarted pending (λ test. votes_by test (set waiting at w)) (λ test. ids_by test (take (i + 1) ids) + counted test) cs
+seat_back pending waiting at v w ids i id counted cs h is k seen started =
     record {
       votes = started.votes;
       placed = started.placed;
       some = started.some;
-      same = λ test. omega (arith, started.same test, sum_by-drop_more (λ x. if test x then 1 else 0) ids i id h, ap (λ x. share test (record { id = x; count = 1 })) is);
+      same = λ test.
+          omega (
+            arith,
+            started.same test,
+            with_other waiting at v w test h is,
+            sum_by_more (λ id. if test id then 1 else 0) ids i id k,
+            ap (λ x. ids_by test (x ∷ [])) seen,
+          );
     }
 
-pub all_ids_started : {T : Type 0} (pending : List (Entry T)) (ids : List (List ℕ)) (i : ℕ) (counted : (List ℕ → Bool) → ℕ) (cs : List Climber) → length ids ≤ i
-    → HaveStarted pending (λ test. ids_by test (drop i ids)) counted cs → HaveStarted pending (λ test. 0) counted cs
-all_ids_started pending ids i counted cs past started =
-    record { votes = started.votes; placed = started.placed; some = started.some; same = λ test. omega (arith, started.same test, ap (ids_by test) (drop_all i ids past)) }
+-- how many wait
+pub total_set : (waiting : List Vote) (at : ℕ) (v w : Vote) → at < length waiting → v ≡ get_or waiting at v → total_count (set waiting at w) + v.count ≡ total_count waiting + w.count
+total_set waiting at v w h is = omega (arith, sum_by-set (λ (v : Vote). v.count) waiting at w v h, ap (λ (v : Vote). v.count) is)
+
+pub one_of_total : (waiting : List Vote) (at : ℕ) (v : Vote) → at < length waiting → v ≡ get_or waiting at v → v.count ≤ total_count waiting
+one_of_total waiting at v h is = omega (arith, get_or-le-sum_by (λ (v : Vote). v.count) waiting at v h, ap (λ (v : Vote). v.count) is)
 
 -- ---- once all began
 

@@ -75,6 +75,9 @@ pub(crate) fn start<T: Drop>(params: &Params, tree: &Tree<T>, ladder: &mut Ladde
 {
     match ballot {
         Ballot::Counted(votes) => start_votes(tree, ladder, votes.entries()),
-        Ballot::Each(ids) => start_each(tree, ladder, ids),
+        Ballot::Each(ids) => {
+            let _k = params.k();
+            start_each(tree, ladder, ids);
+        }
     }
 }

@@ -24,6 +24,10 @@ pub start_each-requires-clause-few : goal.start_each-requires-clause-few
 start_each-requires-clause-few g c =
     omega (arith, total_each c.in-Each.ids.now, ap (λ b. total_count (votes_of b)) c.in-Each.is, c.requires.most, c.requires.room)
 
+pub start_each-requires-clause-small : goal.start_each-requires-clause-small
+start_each-requires-clause-small g c =
+    omega (arith, total_each c.in-Each.ids.now, ap (λ b. total_count (votes_of b)) c.in-Each.is, c.requires.most, c.k-k.ensures.value)
+
 pub returns-in-Each-clause-begun : goal.returns-in-Each-clause-begun
 returns-in-Each-clause-begun g c =
     let p = c.args.params.now in

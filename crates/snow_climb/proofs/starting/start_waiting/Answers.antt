@@ -6,7 +6,7 @@ use Rattle.snow_climb.specs.declared.climber.Climber.{Climber}
 use Rattle.snow_climb.specs.Kept.Climbing.{passing}
 use Rattle.snow_climb.proofs.Climbers.{some_count}
 use Rattle.snow_climb.proofs.Started.{one_started}
-use Rattle.snow_climb.proofs.starting.start_vote.Goals as goal
+use Rattle.snow_climb.proofs.starting.start_waiting.Goals as goal
 
 pub returns-in-Some-clause-started : goal.returns-in-Some-clause-started
 returns-in-Some-clause-started g c =
