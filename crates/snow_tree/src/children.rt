@@ -3,57 +3,49 @@ use std::alloc::{AllocError, Global};
 use std::marker::Model;
 use std::slice;
 
+// Most blocks have one child at most, which stands here itself, so that it takes no memory.
+#[derive(Debug, Drop)]
+enum Form {
+    Few(Option<Id>),
+    Several(Vec<Id>),
+}
+
 /// The children of a block, in order of issue.
-///
-/// Most blocks have one, which stands here itself, so that it takes no memory; several are in a list.
 #[derive(Debug, Drop)]
 pub(crate) struct Children {
-    alone: Option<Id>,
-    several: Vec<Id>,
+    form: Form,
 }
 
 impl Model for Children {
-    ghost use Rattle.std.specs.Prelude.{◌≡◌, ◌++◌, [], ℕ, List, IfSome};
-    ghost use Rattle.std.specs.Option.{option_to_list};
+    ghost use Rattle.std.specs.Prelude.{ℕ, List};
+    ghost use Rattle.snow_tree.specs.Kept.Children.{shown_children};
 
     ghost Value = { List (List ℕ) };
 
-    ghost view = { λ a. option_to_list a.alone ++ a.several.items };
-
-    // Where one stands alone, the list is empty.
-    ghost invariant = { λ a. IfSome a.alone (λ _. a.several.items ≡ []) };
+    ghost view = { λ a. shown_children a.form };
 }
 
 impl Children {
     ghost use Rattle.std.specs.Prelude.{◌≡◌, ◌-◌, [], ◌∷◌, ◌++◌, length, take, OnOk, OnErr};
 
     /// Returns no child. It takes no memory.
-    pub(crate) fn new(alloc: Global) -> Self
+    pub(crate) fn new() -> Self
         ensures { result ≡ [] }
     {
         Children {
-            alone: None,
-            several: Vec::new(alloc),
+            form: Form::Few(None),
         }
     }
 
     /// Appends a child. The first one stands in place. On want of memory all stays as it was.
-    pub(crate) fn push(&mut self, id: Id) -> Result<(), AllocError>
+    pub(crate) fn push(&mut self, alloc: Global, id: Id) -> Result<(), AllocError>
         ensures ok { OnOk result (self.new ≡ self.old ++ id ∷ []) }
         ensures err { OnErr result (self.new ≡ self.old) }
     {
-        if self.alone.is_none() && self.several.is_empty() {
-            self.alone = Some(id);
-            return Ok(());
-        }
-        match self.alone {
-            Some(first) => {
-                self.several.reserve(2)?;
-                self.several.push_reserved(first);
-                self.several.push_reserved(id);
-                self.alone = None;
-            }
-            None => self.several.push(id)?,
+        match &mut self.form {
+            Form::Few(None) => self.form = Form::Few(Some(id)),
+            Form::Few(Some(first)) => self.form = Form::Several(vec![in alloc; *first, id]?),
+            Form::Several(list) => list.push(id)?,
         }
         Ok(())
     }
@@ -62,34 +54,21 @@ impl Children {
     pub(crate) fn pop(&mut self)
         ensures { self.new ≡ take (length self.old - 1) self.old }
     {
-        if self.alone.is_some() {
-            self.alone = None;
-            return;
-        }
-        let len = self.several.len();
-        self.several.truncate(len.saturating_sub(1));
-    }
-
-    /// Puts these in the place of the others. Where these are in no list, it keeps the room of the
-    /// others' list.
-    pub(crate) fn replace(&mut self, by: Children)
-        ensures { self.new ≡ by }
-    {
-        let Children { alone, several } = by;
-        self.alone = alone;
-        if several.is_empty() {
-            self.several.clear();
-        } else {
-            self.several = several;
+        match &mut self.form {
+            Form::Few(one) => *one = None,
+            Form::Several(list) => {
+                let _last = list.pop();
+            }
         }
     }
 
     pub(crate) fn list(&self) -> &[Id]
         ensures { result.now ≡ self.now }
     {
-        match &self.alone {
-            Some(id) => slice::from_ref(id),
-            None => self.several.as_slice(),
+        match &self.form {
+            Form::Few(None) => &[],
+            Form::Few(Some(id)) => slice::from_ref(id),
+            Form::Several(list) => list.as_slice(),
         }
     }
 }

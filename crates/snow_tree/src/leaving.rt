@@ -17,7 +17,7 @@ use snow_base::Id;
 fn unpack<T: Drop>(node: Node<T>, children: &mut Children, load: &mut T) -> u64
     ensures { IsTakenOver node children.new load.new result }
 {
-    children.replace(node.children);
+    *children = node.children;
     *load = node.load;
     node.height
 }

@@ -9,17 +9,17 @@ ghost use Rattle.snow_tree.specs.Kept.Row.{set_children_at};
 use crate::children::Children;
 use crate::row::Row;
 use snow_base::{Header, Id};
-use std::alloc::AllocError;
+use std::alloc::{AllocError, Global};
 
 // The block at a place has one child more. After want of memory all is as before.
-fn link_at<T>(nodes: &mut Row<T>, at: usize, id: Id) -> Result<(), AllocError>
+fn link_at<T>(alloc: Global, nodes: &mut Row<T>, at: usize, id: Id) -> Result<(), AllocError>
     ensures ok { (n : Node T) → slice_get (values_of nodes.old.entries) at ≡ Some n → OnOk result (nodes.new.entries ≡ set_children_at nodes.old.entries at (n.children ++ id ∷ [])) }
     ensures err { OnErr result (nodes.new.entries ≡ nodes.old.entries) }
     ensures spare { nodes.new.spare ≡ nodes.old.spare }
     ensures next { nodes.new.next ≡ nodes.old.next }
 {
     match nodes.children_mut(at) {
-        Some(children) => children.push(id),
+        Some(children) => children.push(alloc, id),
         None => Ok(()),
     }
 }
@@ -27,6 +27,7 @@ fn link_at<T>(nodes: &mut Row<T>, at: usize, id: Id) -> Result<(), AllocError>
 // A block was issued: it is the last child of its parent, which stands at this place. After want of memory
 // all is as before.
 fn link<T>(
+    alloc: Global,
     first: &mut Children,
     nodes: &mut Row<T>,
     last: &Id,
@@ -44,10 +45,10 @@ fn link<T>(
 {
     let _len = nodes.len();
     if *last == block.parent {
-        return first.push(block.id);
+        return first.push(alloc, block.id);
     }
     match at {
-        Some(at) => link_at(nodes, at, block.id),
+        Some(at) => link_at(alloc, nodes, at, block.id),
         None => Ok(()),
     }
 }
@@ -81,6 +82,7 @@ pub(crate) fn unlink<T>(first: &mut Children, nodes: &mut Row<T>, last: &Id, par
 /// Makes room for one more block, and puts the block among the children of its parent, which stands
 /// at this place. On want of memory all stays as it was.
 pub(crate) fn make_room_and_link<T>(
+    alloc: Global,
     first: &mut Children,
     nodes: &mut Row<T>,
     rejected: &mut Vec<Id>,
@@ -100,5 +102,5 @@ pub(crate) fn make_room_and_link<T>(
 {
     rejected.reserve(nodes.len() + 1)?;
     nodes.reserve_one()?;
-    link(first, nodes, last, block, at)
+    link(alloc, first, nodes, last, block, at)
 }

@@ -70,7 +70,7 @@ impl<T: Drop> Tree<T> {
         Tree {
             last,
             height,
-            children: Children::new(alloc),
+            children: Children::new(),
             nodes: Row::new(alloc),
             rejected: Vec::new(alloc),
             alloc,
@@ -100,6 +100,7 @@ impl<T: Drop> Tree<T> {
     {
         let block = Header { id, parent, height };
         let room = make_room_and_link(
+            self.alloc,
             &mut self.children,
             &mut self.nodes,
             &mut self.rejected,
@@ -115,7 +116,7 @@ impl<T: Drop> Tree<T> {
             up: self.nodes.number_at(at),
             parent,
             height,
-            children: Children::new(self.alloc),
+            children: Children::new(),
             load,
         };
         self.nodes.push(id, node, at);

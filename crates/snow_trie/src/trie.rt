@@ -1,4 +1,4 @@
-ghost use Rattle.std.specs.Prelude.{◌≡◌, ◌+◌, ◌<◌, ◌≤◌, false, is_some, length, [], ◌∷◌, ◌++◌, All, Contains, IfOk, OnOk, OnErr};
+ghost use Rattle.std.specs.Prelude.{◌≡◌, ◌+◌, ◌<◌, ◌≤◌, false, is_some, length, [], ◌∷◌, ◌++◌, All, Contains, Ok, OnOk, OnErr};
 
 use crate::alone::Alone;
 use crate::forked::Forked;
@@ -44,10 +44,11 @@ impl<R: Rule> Trie<R> {
     ghost use Rattle.snow_board.specs.Laws.FailingLaw.{failed};
     ghost use Rattle.snow_trie.specs.Kept.Whole.{begun, HasFewNodes};
 
-    /// Returns the counters where one identifier stands alone: one node. It takes no memory.
+    /// Returns the counters where one identifier stands alone: one node. It takes no memory, so it
+    /// never returns `AllocError`.
     /// Rule: AvalancheGo, snow/consensus/snowball.
     pub fn new(alloc: Global, params: Params, id: Id) -> Result<Self, AllocError>
-        ensures { IfOk result (λ trie. trie ≡ begun params id) }
+        ensures { result ≡ Ok (begun params id) }
     {
         Ok(Trie {
             form: Form::Alone(Alone::new(params, id)),
