@@ -1,6 +1,6 @@
 -- What a map has once an entry came or went under its seat, or in the order.
-use Rattle.std.proofs.Common.{◌≡◌, ℕ, Bool, true, false, not, cond, nat_eq, List, [], ◌∷◌, Option, None, Some, Result, Ok, Err, bytes_eq, rules, refl, sym, ap, ap₂, subst, ◌∙◌}
-use Rattle.std.specs.List.{IsDistinct, list_any}
+use Rattle.std.proofs.Common.{◌≡◌, ℕ, zero, suc, replicate, ◌++◌, Bool, true, false, not, cond, nat_eq, List, [], ◌∷◌, Option, None, Some, Result, Ok, Err, bytes_eq, rules, refl, sym, ap, ap₂, subst, ◌∙◌}
+use Rattle.std.specs.List.{IsDistinct}
 use Rattle.std.specs.List.Sorted.{IsPermutation}
 use Rattle.std.specs.Map.{lookup, keys_of, remove_entry}
 use Rattle.std.specs.Option.{option_or, option_map, is_some, IsSome}
@@ -9,7 +9,7 @@ use Rattle.std.specs.Bool.{⊤}
 use Rattle.std.proofs.lemmas.Bool.{eqb-true, eq-eqb, true≢false}
 use Rattle.std.proofs.lemmas.Option.{same_Some}
 use Rattle.snow_map.specs.Clauses.Entries.{value_of, HasAt}
-use Rattle.snow_map.specs.Kept.Placed.{place_of, gives, entries_of, is_own, is_far_by, IsPlaced, IsInOrder, IsKept}
+use Rattle.snow_map.specs.Kept.Placed.{place_of, mark_of, is_marked, gives, entries_of, is_own, is_far_by, IsPlaced, IsInOrder, IsKept}
 use Rattle.snow_map.proofs.Lists.{split_on, clash, same_id, id_itself, id_turned, or_none, one_added, one_left}
 use Rattle.snow_map.proofs.Seats.{Near, found, all_distinct}
 
@@ -58,21 +58,32 @@ none_kept near far none nothing =
     none_some : {X : Type 0} {x : X} → None ≡ Some x → ⊥
     none_some h = cc
 
--- an entry comes into the order, and its seat among those that are noted
-pub noted_with : {V : Type 0} (shared shared' : List ℕ) (far far' : List (List ℕ × V)) (id : List ℕ) (v : V) → IsInOrder shared far
-    → ((p : ℕ) → list_any (nat_eq p) shared' ≡ cond (nat_eq (place_of id) p) true (list_any (nat_eq p) shared)) → HasAt far far' id (Some v)
-    → (q : List ℕ) → list_any (nat_eq (place_of q)) shared' ≡ false → value_of far' q ≡ None
-noted_with shared shared' far far' id v kept notes puts q none =
-    split_on (nat_eq (place_of id) (place_of q))
-    (λ t. clash (list_any (nat_eq (place_of q)) shared') (notes (place_of q) ∙ ap (λ b. cond b true (list_any (nat_eq (place_of q)) shared)) t) none)
-    (λ f.
-    puts q ∙ ap (λ b. cond b (Some v) (value_of far q)) (split_on (bytes_eq id q) (λ t. clash (nat_eq (place_of id) (place_of q)) (eq-eqb (place_of id) (place_of q) (ap place_of (same_id id q t))) f) (λ u. u))
-    ∙ kept.noted q (sym (notes (place_of q) ∙ ap (λ b. cond b true (list_any (nat_eq (place_of q)) shared)) f) ∙ none))
+-- marks that come behind others and aren't set change none
+pub marks_behind : (marks : List Bool) (n at : ℕ) → is_marked (marks ++ replicate n false) at ≡ is_marked marks at
+marks_behind [] n at = none n at
+  where
+    none : (n at : ℕ) → is_marked (replicate n false) at ≡ false
+    none zero at = refl
+    none (suc n) zero = refl
+    none (suc n) (suc at) = none n at
+marks_behind (m ∷ marks) n zero = refl
+marks_behind (m ∷ marks) n (suc at) = marks_behind marks n at
 
--- an entry in the order goes, and the noted seats stay
-pub noted_without : {V : Type 0} (shared : List ℕ) (far far' : List (List ℕ × V)) (id : List ℕ) → IsInOrder shared far → HasAt far far' id None
-    → (q : List ℕ) → list_any (nat_eq (place_of q)) shared ≡ false → value_of far' q ≡ None
-noted_without shared far far' id kept puts q none = puts q ∙ ap (cond (bytes_eq id q) None) (kept.noted q none) ∙ no_value None (bytes_eq id q) refl
+-- an entry comes into the order, and its mark is set
+pub noted_with : {V : Type 0} (marks marks' : List Bool) (far far' : List (List ℕ × V)) (id : List ℕ) (v : V) → IsInOrder marks far
+    → ((at : ℕ) → is_marked marks' at ≡ cond (nat_eq (mark_of id) at) true (is_marked marks at)) → HasAt far far' id (Some v)
+    → (q : List ℕ) → is_marked marks' (mark_of q) ≡ false → value_of far' q ≡ None
+noted_with marks marks' far far' id v kept notes puts q none =
+    split_on (nat_eq (mark_of id) (mark_of q))
+    (λ t. clash (is_marked marks' (mark_of q)) (notes (mark_of q) ∙ ap (λ b. cond b true (is_marked marks (mark_of q))) t) none)
+    (λ f.
+    puts q ∙ ap (λ b. cond b (Some v) (value_of far q)) (split_on (bytes_eq id q) (λ t. clash (nat_eq (mark_of id) (mark_of q)) (eq-eqb (mark_of id) (mark_of q) (ap mark_of (same_id id q t))) f) (λ u. u))
+    ∙ kept.noted q (sym (notes (mark_of q) ∙ ap (λ b. cond b true (is_marked marks (mark_of q))) f) ∙ none))
+
+-- an entry in the order goes, and the marks stay
+pub noted_without : {V : Type 0} (marks : List Bool) (far far' : List (List ℕ × V)) (id : List ℕ) → IsInOrder marks far → HasAt far far' id None
+    → (q : List ℕ) → is_marked marks (mark_of q) ≡ false → value_of far' q ≡ None
+noted_without marks far far' id kept puts q none = puts q ∙ ap (cond (bytes_eq id q) None) (kept.noted q none) ∙ no_value None (bytes_eq id q) refl
 
 module _ {V : Type 0} (near : Near V) (far : List (List ℕ × V)) (id : List ℕ) (kept : IsKept near far) where
   -- no entry is in both places

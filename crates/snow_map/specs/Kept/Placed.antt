@@ -1,6 +1,6 @@
 -- Where the entries of a map stand: each under its identifier's seat, or in order where another has that seat.
-use Rattle.std.specs.Prelude.{◌≡◌, ℕ, Bool, false, not, cond, List, ◌++◌, map, nat_eq, Option, Some, None, is_some, bytes_eq}
-use Rattle.std.specs.List.{IsDistinct, list_any}
+use Rattle.std.specs.Prelude.{◌≡◌, ℕ, Bool, false, not, cond, List, ◌++◌, get_or, map, nat_eq, Option, Some, None, is_some, bytes_eq}
+use Rattle.std.specs.List.{IsDistinct}
 use Rattle.std.specs.Map.{keys_of, lookup}
 use Rattle.snow_map.specs.Clauses.Entries.{value_of}
 use Rattle.snow_map.specs.Kept.Seats.{place_of as among}
@@ -8,6 +8,14 @@ use Rattle.snow_map.specs.Kept.Seats.{place_of as among}
 -- its seat among 65,536
 abbrev pub place_of : List ℕ → ℕ
 place_of id = among 65536 id
+
+-- its mark among 4,096
+abbrev pub mark_of : List ℕ → ℕ
+mark_of id = among 4096 id
+
+-- whether a mark is set
+abbrev pub is_marked : List Bool → ℕ → Bool
+is_marked marks at = get_or marks at false
 
 module _ {V : Type 0} where
   -- what the entry under its seat gives an identifier
@@ -37,10 +45,10 @@ module _ {V : Type 0} where
     pub here : place_of e.0 ≡ place
     pub alone : value_of far e.0 ≡ None
 
-  -- an identifier has an entry in the order only where its seat is among these, and then one
-  pub record IsInOrder (shared : List ℕ) (far : List (List ℕ × V)) : Type 0 where
+  -- an identifier has an entry in the order only where its mark is set, and then one
+  pub record IsInOrder (marks : List Bool) (far : List (List ℕ × V)) : Type 0 where
     pub once : IsDistinct bytes_eq (keys_of far)
-    pub noted : (id : List ℕ) → list_any (nat_eq (place_of id)) shared ≡ false → value_of far id ≡ None
+    pub noted : (id : List ℕ) → is_marked marks (mark_of id) ≡ false → value_of far id ≡ None
 
   pub record IsKept (near : List (ℕ × (List ℕ × V))) (far : List (List ℕ × V)) : Type 0 where
     pub unique : IsDistinct nat_eq (keys_of near)

@@ -1,5 +1,4 @@
-use Rattle.std.proofs.Common.{cond, Some, true, nat_eq, bytes_eq, sym, ap, ap₂, ◌∙◌}
-use Rattle.std.specs.List.{list_any}
+use Rattle.std.proofs.Common.{cond, Some, bytes_eq, sym, ap, ap₂, ◌∙◌}
 use Rattle.std.specs.Map.{keys_of}
 use Rattle.std.proofs.lemmas.Map.Text.{is_eq-slice_cmp}
 use Rattle.snow_map.specs.Clauses.Entries.{value_of, HasAt}
@@ -14,16 +13,16 @@ returns-in_err-before-clause-absent g c =
     when_err c.from_residual-in_err-before.result
     (ap (λ l. value_of l c.args.id) (sym c.self.view_is) ∙ sym (in_order c.self.inside.entries.entries c.args.id) ∙ c.in_err-before.ensures.absent)
 
-puts : (g : given.Over) (c : goal.In_ok-before g) → HasAt c.self.inside.entries.entries c.insert-2.new.self.entries c.args.id (Some c.args.value)
+puts : (g : given.Over) (c : goal.In_ok-before g) → HasAt c.self.inside.entries.entries c.insert.new.self.entries c.args.id (Some c.args.value)
 puts g c q =
-    sym (in_order c.insert-2.new.self.entries q) ∙ c.in_ok-before.ensures.updates.0 q
+    sym (in_order c.insert.new.self.entries q) ∙ c.in_ok-before.ensures.updates.0 q
     ∙ ap₂ (λ b o. cond b (Some c.args.value) o) (is_eq-slice_cmp c.args.id q) (in_order c.self.inside.entries.entries q)
 
 pub invariant_of-self-2 : goal.invariant_of-self-2
 invariant_of-self-2 g c = record {
-  once = once_in_order (keys_of c.insert-2.new.self.entries) c.in_ok-before.ensures.ordered;
-  noted = noted_with c.self.inside.shared.keys c.insert.new.self.keys c.self.inside.entries.entries c.insert-2.new.self.entries c.args.id c.args.value c.self.invariant
-      (λ p. c.in_ok-insert.ensures.updates.0 p ∙ ap (λ k. cond (nat_eq k p) true (list_any (nat_eq p) c.self.inside.shared.keys)) c.place_of.ensures) (puts g c);
+  once = once_in_order (keys_of c.insert.new.self.entries) c.in_ok-before.ensures.ordered;
+  noted = noted_with c.self.inside.marks.items c.mark.new.marks.items c.self.inside.entries.entries c.insert.new.self.entries c.args.id c.args.value c.self.invariant
+      c.in_ok-mark.ensures.ok (puts g c);
 }
 
 pub returns-clause-before : goal.returns-clause-before
@@ -34,4 +33,4 @@ pub returns-clause-updates : goal.returns-clause-updates
 returns-clause-updates g c q = puts g c q ∙ ap (λ l. cond (bytes_eq c.args.id q) (Some c.args.value) (value_of l q)) c.self.view_is
 
 pub returns-clause-once : goal.returns-clause-once
-returns-clause-once g c = once_in_order (keys_of c.insert-2.new.self.entries) c.in_ok-before.ensures.ordered
+returns-clause-once g c = once_in_order (keys_of c.insert.new.self.entries) c.in_ok-before.ensures.ordered

@@ -17,7 +17,7 @@ taken g c q =
 pub invariant_of-self : goal.invariant_of-self
 invariant_of-self g c = record {
   once = once_in_order (keys_of c.remove-value.new.self.entries) c.remove-value.ensures.ordered;
-  noted = noted_without c.self.inside.shared.keys c.self.inside.entries.entries c.remove-value.new.self.entries c.args.id.now c.self.invariant (taken g c);
+  noted = noted_without c.self.inside.marks.items c.self.inside.entries.entries c.remove-value.new.self.entries c.args.id.now c.self.invariant (taken g c);
 }
 
 pub returns-clause-value : goal.returns-clause-value
@@ -26,7 +26,7 @@ returns-clause-value g c =
 
 pub returns-clause-updates : goal.returns-clause-updates
 returns-clause-updates g c q =
-    ap (λ l. value_of l q) c.forget_seats.ensures ∙ taken g c.before.before q ∙ ap (λ l. cond (bytes_eq c.args.id.now q) None (value_of l q)) c.self.view_is
+    ap (λ l. value_of l q) c.clear_marks.ensures ∙ taken g c.before.before q ∙ ap (λ l. cond (bytes_eq c.args.id.now q) None (value_of l q)) c.self.view_is
 
 pub returns-clause-once : goal.returns-clause-once
-returns-clause-once g c = subst (λ l. IsDistinct bytes_eq (keys_of l)) (sym c.forget_seats.ensures) (once_in_order (keys_of c.remove-value.new.self.entries) c.remove-value.ensures.ordered)
+returns-clause-once g c = subst (λ l. IsDistinct bytes_eq (keys_of l)) (sym c.clear_marks.ensures) (once_in_order (keys_of c.remove-value.new.self.entries) c.remove-value.ensures.ordered)

@@ -1,5 +1,5 @@
 -- It stands already, or it comes last.
-use Rattle.std.proofs.Common.{◌≡◌, true, false, not, Some, List, ◌∷◌, ◌++◌, [], ℕ, bytes_eq, is_some, length, if◌then◌else◌, sym, ap, ap₂, subst, ◌∙◌}
+use Rattle.std.proofs.Common.{◌≡◌, true, false, not, Some, ◌∷◌, ◌++◌, [], bytes_eq, is_some, length, if◌then◌else◌, sym, ap, ap₂, subst, ◌∙◌}
 use Rattle.std.specs.List.{IsDistinct, list_any, position}
 use Rattle.snow_map.proofs.Places.{placed_last, placed_there, one_more_once}
 use Rattle.snow_map.proofs.id_set.IdSet.insert.Goals as goal
