@@ -1,6 +1,5 @@
-ghost use Rattle.std.specs.Prelude.{◌≡◌, ℕ, ◌<◌, List, ◌∷◌, ◌++◌, [], None, Some, bytes_eq, OnOk, if◌then◌else◌};
-ghost use Rattle.std.specs.HashMap.{get, spare};
-ghost use Rattle.std.specs.Option.{option_copied, option_or};
+ghost use Rattle.std.specs.Prelude.{◌≡◌, ◌∷◌, ◌++◌, [], OnOk};
+ghost use Rattle.std.specs.Option.{option_copied};
 ghost use Rattle.snow_drill.specs.Model.Made.{block_of};
 
 use snow_base::{Header, Id};
@@ -13,15 +12,15 @@ use std::marker::Model;
 #[derive(Drop)]
 pub struct Made {
     blocks: Vec<Header>,
-    // The first block of each identifier.
-    firsts: HashMap<Id, Header>,
+    // The place of the first block of each identifier.
+    firsts: HashMap<Id, usize>,
 }
 
 impl Model for Made {
     ghost use Rattle.std.specs.Prelude.{List, bytes_eq};
     ghost use Rattle.snow_base.specs.declared.block.Header.{Header};
     ghost use Rattle.std.specs.HashMap.{get};
-    ghost use Rattle.snow_drill.specs.Model.Made.{HasFirsts};
+    ghost use Rattle.snow_drill.specs.Kept.Firsts.{HasFirsts};
 
     ghost Value = { List Header };
 
@@ -47,9 +46,9 @@ impl Made {
     pub fn push(&mut self, block: Header) -> Result<(), AllocError>
         ensures { OnOk result (self.new ≡ self.old ++ block ∷ []) }
     {
-        self.firsts.reserve(1)?;
-        self.blocks.push(block)?;
-        file(&mut self.firsts, &block);
+        self.blocks.reserve(1)?;
+        self.firsts.entry(block.id)?.or_insert(self.blocks.len());
+        self.blocks.push_reserved(block);
         Ok(())
     }
 
@@ -66,18 +65,7 @@ impl Made {
     pub fn block_of(&self, id: &Id) -> Option<&Header>
         ensures { option_copied result ≡ block_of self.now id.now }
     {
-        self.firsts.get(id)
+        let place = self.firsts.get(id)?;
+        self.blocks.get(*place)
     }
-}
-
-// Files a block, if none of its identifier is.
-fn file(firsts: &mut HashMap<Id, Header>, block: &Header)
-    requires { 0 < spare firsts.old }
-    ensures { (id : List ℕ) → get bytes_eq firsts.new id ≡ option_or (get bytes_eq firsts.old id) (if bytes_eq (block.now).id id then Some block.now else None) }
-{
-    if firsts.contains_key(&block.id) {
-        return;
-    }
-    let added: Result<_, _> = firsts.insert(block.id, *block);
-    let _ = added.unwrap();
 }

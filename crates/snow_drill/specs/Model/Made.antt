@@ -1,5 +1,5 @@
 -- The blocks that a drill makes, and what it picks of them.
-use Rattle.std.specs.Prelude.{◌≡◌, ℕ, ◌-◌, List, ◌++◌, length, find, Option, bytes_eq, ◌==◌, if◌then◌else◌}
+use Rattle.std.specs.Prelude.{ℕ, ◌-◌, List, ◌++◌, length, find, Option, bytes_eq, ◌==◌, if◌then◌else◌}
 use Rattle.std.specs.Int.{w64, to_be_bytes}
 use Rattle.std.specs.List.{slice_get}
 use Rattle.std.specs.Option.{option_map_or}
@@ -11,10 +11,6 @@ use Rattle.snow_drill.specs.Kept.Told.{nobody}
 -- the block of an identifier, where the drill made it
 abbrev pub block_of : List Header → List ℕ → Option Header
 block_of made id = find (λ b. bytes_eq b.id id) made
-
--- each identifier finds its first block
-abbrev pub HasFirsts : List Header → (List ℕ → Option Header) → Type 0
-HasFirsts made first = (id : List ℕ) → first id ≡ block_of made id
 
 -- the height of a block; that of the last accepted one of the Start is 0
 abbrev pub height_in : List Header → List ℕ → ℕ
