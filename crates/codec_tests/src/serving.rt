@@ -67,7 +67,7 @@ const NODE: [u8; 20] = [2; 20];
 
 fn told_of(line: &Line) -> Told {
     match line {
-        Line::ToChits { number, last, .. } => ('c', *number, number_of(last)),
+        Line::ToChits { number, last, .. } => ('c', *number, number_of(last.id())),
         Line::ToFrontier { number, id, .. } => ('f', *number, number_of(id)),
         Line::ToAccepted { number, ids, .. } => ('a', *number, ids.list().len() as u64),
         Line::ToAncestors { number, blocks, .. } => ('n', *number, blocks.list().len() as u64),

@@ -3,6 +3,7 @@ ghost use Rattle.std.specs.Prelude.{◌≡◌, [], ◌∷◌, ◌++◌, map, IfO
 ghost use Rattle.std.specs.Option.{option_map_or};
 ghost use Rattle.snow_lines.specs.declared.line.Line.TheVariants as line;
 ghost use Rattle.snow_wire.specs.Clauses.Viewed.{as_event};
+ghost use Rattle.snow_wire.specs.declared.event.Event.TheVariants as event;
 ghost use Rattle.snow_getter.specs.Model.Serving.{held};
 ghost use Rattle.snow_getter.specs.Model.Chain.{chain};
 ghost use Rattle.snow_getter.specs.Model.Answer.{answer, accepted_among, chain_told};
@@ -11,9 +12,9 @@ ghost use Rattle.snow_getter.specs.Laws.ChainLaw.{ChainIsLongest};
 use crate::getter::Getter;
 use snow_base::limits::{ANSWER_BLOCKS, ANSWER_BYTES};
 use snow_base::{Blocks, Bytes, Id, Ids, NodeId};
-use snow_lines::{Line, Lines};
+use snow_lines::{BoxedId, Line, Lines};
 use snow_map::IdSet;
-use snow_wire::{Listing, Named, View};
+use snow_wire::{Listing, Named, Sender, View};
 use std::alloc::AllocError;
 
 impl Getter {
@@ -35,12 +36,7 @@ impl Getter {
         ensures err { OnErr result (log.new ≡ log.old) }
     {
         match question {
-            View::AskQuery(asked) => log.push(Line::ToChits {
-                node: NodeId::from_bytes(*asked.node),
-                number: asked.request,
-                preference,
-                last: self.last(),
-            }),
+            View::AskQuery(asked) => self.tell_heads(preference, asked, log),
             View::AskFrontier(asked) => log.push(Line::ToFrontier {
                 node: NodeId::from_bytes(*asked.node),
                 number: asked.request,
@@ -51,6 +47,26 @@ impl Getter {
             View::AskBlock(asked) => self.tell_block(asked, log),
             _ => Ok(()),
         }
+    }
+
+    // A node is told the preference and the identifier accepted last.
+    fn tell_heads(
+        &self,
+        preference: Id,
+        asked: &Sender<'_>,
+        log: &mut Lines,
+    ) -> Result<(), AllocError>
+        ensures ok { OnOk result (log.new ≡ log.old ++ answer self.now preference (event.AskQuery asked.now.node.now asked.now.request)) }
+        ensures err { OnErr result (log.new ≡ log.old) }
+    {
+        let preference = BoxedId::new(self.alloc, preference)?;
+        let last = BoxedId::new(self.alloc, self.last())?;
+        log.push(Line::ToChits {
+            node: NodeId::from_bytes(*asked.node),
+            number: asked.request,
+            preference,
+            last,
+        })
     }
 
     // A node is told which of the identifiers that it names are held accepted.

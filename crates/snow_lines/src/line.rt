@@ -1,10 +1,12 @@
+use crate::boxed::BoxedId;
 use crate::why::{DropWhy, QueryWhy, RestartWhy, SkipKind};
 use snow_base::{Blocks, Bytes, Id, Ids, Items, NodeId};
 use snow_sample::Draws;
 
 /// A line of output. A frame's number is below 2^64, a request's below 2^32; a node has 20 bytes
-/// and an identifier 32. The variants that hold a list stand last, so that one test tells that a
-/// line has nothing to free.
+/// and an identifier 32. The identifiers that chits tell stand in boxes, so that a line takes 64
+/// bytes. The variants that hold a list or a box stand last, so that one test tells that a line has
+/// nothing to free.
 /// Rule: this project's own.
 #[derive(Drop)]
 pub enum Line {
@@ -59,18 +61,18 @@ pub enum Line {
         id: Id,
         height: u64,
     },
-    /// A node is told the preference and the last accepted block.
-    ToChits {
-        node: NodeId,
-        number: u32,
-        preference: Id,
-        last: Id,
-    },
     /// A node is told the last accepted block.
     ToFrontier {
         node: NodeId,
         number: u32,
         id: Id,
+    },
+    /// A node is told the preference and the last accepted block.
+    ToChits {
+        node: NodeId,
+        number: u32,
+        preference: BoxedId,
+        last: BoxedId,
     },
     /// Nodes are asked for their preference, each as often as it was drawn.
     Query {

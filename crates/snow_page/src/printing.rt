@@ -135,7 +135,15 @@ fn put_head<G: Gather, K: Sink>(out: &mut G, line: &Line, sink: &mut K) -> Resul
             number,
             preference,
             last,
-        } => put_five(out, &Kind::ToChits, node, number, preference, last, sink),
+        } => put_five(
+            out,
+            &Kind::ToChits,
+            node,
+            number,
+            preference.id(),
+            last.id(),
+            sink,
+        ),
         Line::ToFrontier { node, number, id } => {
             put_four(out, &Kind::ToFrontier, node, number, id, sink)
         }

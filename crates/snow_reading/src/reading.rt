@@ -1,15 +1,16 @@
-ghost use Rattle.std.specs.Prelude.{◌≡◌, ◌^◌, IfOk, IfSome, Some};
+ghost use Rattle.std.specs.Prelude.{◌≡◌, ◌≢◌, ◌^◌, IfOk, IfSome, Some};
 ghost use Rattle.std.specs.Option.{option_map};
 ghost use Rattle.snow_reading.specs.Clauses.Range.{IsLine};
 ghost use Rattle.snow_lines.specs.Model.Text.{text};
 ghost use Rattle.snow_lines.specs.declared.line.Line.{Line};
-ghost use Rattle.snow_reading.specs.Model.Reading.{Reads, asked_at, both_at, bytes_of, number_of, asks, asks_accepted, before_newline, chits_at, fields_of, frontier_at, line_of, plain_at, tells_accepted, tells_ancestors, tells_block, whole_at, words_of};
+ghost use Rattle.snow_reading.specs.Model.Reading.{Reads, asked_at, both_at, bytes_of, number_of, asks, asks_accepted, before_newline, fields_of, frontier_at, line_of, plain_at, tells_accepted, tells_ancestors, tells_block, whole_at, words_of};
 ghost use Rattle.snow_reading.specs.Model.Names.{kind_of, why_of};
+ghost use Rattle.snow_lines.specs.declared.kind.Kind.TheVariants as kinds;
 ghost use Rattle.snow_lines.specs.declared.line.Line.TheVariants as line;
 
 use crate::field::{self, Field};
 use crate::words::Words;
-use snow_lines::{Kind, Line};
+use snow_lines::{BoxedId, Kind, Line};
 use std::alloc::{AllocError, Global};
 
 /// Returns the line whose text the bytes are, newline included, or `None` exactly where they are no
@@ -64,6 +65,7 @@ fn fields(alloc: Global, kind: Kind, words: &mut Words) -> Result<Option<Line>, 
     match kind {
         Kind::Query => query(alloc, words),
         Kind::Accepted => accepted(alloc, words),
+        Kind::ToChits => to_chits(alloc, words),
         Kind::ToAccepted => to_accepted(alloc, words),
         Kind::ToAncestors => to_ancestors(alloc, words),
         Kind::ToBlock => to_block(alloc, words),
@@ -73,6 +75,7 @@ fn fields(alloc: Global, kind: Kind, words: &mut Words) -> Result<Option<Line>, 
 
 #[tactic(auto, unfolding(crate::specs::Model::Reading::whole_at))]
 fn whole(kind: Kind, words: &mut Words) -> Option<Line>
+    requires { kind ≢ kinds.ToChits }
     ensures { result ≡ whole_at kind words.old }
 {
     let line = plain(kind, words)?;
@@ -112,6 +115,32 @@ fn accepted(alloc: Global, words: &mut Words) -> Result<Option<Line>, AllocError
         return Ok(None);
     }
     Ok(Some(Line::Accepted { number, ids }))
+}
+
+#[tactic(auto, unfolding(crate::specs::Model::Reading::whole_at, crate::specs::Model::Reading::plain_at, crate::specs::Model::Reading::chits_at))]
+fn to_chits(alloc: Global, words: &mut Words) -> Result<Option<Line>, AllocError>
+    ensures { IfOk result (λ r. r ≡ whole_at kinds.ToChits words.old) }
+{
+    let Some((node, number)) = words.told() else {
+        return Ok(None);
+    };
+    let Some(preference) = words.take() else {
+        return Ok(None);
+    };
+    let Some(last) = words.take() else {
+        return Ok(None);
+    };
+    if !words.is_at_end() {
+        return Ok(None);
+    }
+    let preference = BoxedId::new(alloc, preference)?;
+    let last = BoxedId::new(alloc, last)?;
+    Ok(Some(Line::ToChits {
+        node,
+        number,
+        preference,
+        last,
+    }))
 }
 
 #[tactic(auto, unfolding(crate::specs::Model::Reading::tells_accepted))]
@@ -170,9 +199,10 @@ fn to_block(alloc: Global, words: &mut Words) -> Result<Option<Line>, AllocError
     }))
 }
 
-// A line without a list, up to its last word.
+// A line without a list or a box, up to its last word.
 #[tactic(auto, unfolding(crate::specs::Model::Reading::plain_at, crate::specs::Model::Reading::only_at))]
 fn plain(kind: Kind, words: &mut Words) -> Option<Line>
+    requires { kind ≢ kinds.ToChits }
     ensures { Reads result words.new (plain_at kind words.old) }
 {
     match kind {
@@ -189,7 +219,6 @@ fn plain(kind: Kind, words: &mut Words) -> Option<Line>
         Kind::Skip => skip(words),
         Kind::Restart => Some(Line::Restart { why: words.take()? }),
         Kind::Bootstrapped => bootstrapped(words),
-        Kind::ToChits => to_chits(words),
         Kind::ToFrontier => to_frontier(words),
         _ => None,
     }
@@ -240,21 +269,6 @@ fn bootstrapped(words: &mut Words) -> Option<Line>
     let id = words.take()?;
     let height = words.take()?;
     Some(Line::Bootstrapped { id, height })
-}
-
-#[tactic(auto, unfolding(crate::specs::Model::Reading::chits_at))]
-fn to_chits(words: &mut Words) -> Option<Line>
-    ensures { Reads result words.new (chits_at words.old) }
-{
-    let (node, number) = words.told()?;
-    let preference = words.take()?;
-    let last = words.take()?;
-    Some(Line::ToChits {
-        node,
-        number,
-        preference,
-        last,
-    })
 }
 
 #[tactic(auto, unfolding(crate::specs::Model::Reading::frontier_at))]
