@@ -50,7 +50,7 @@ impl<V: Drop> Far<V> {
     pub(crate) fn value(&self, id: &Id) -> Option<&V>
         ensures { option_copied result ≡ value_of self.now id.now }
     {
-        if !is_marked(&self.marks, id) {
+        if !is_marked(self.marks.as_slice(), id) {
             return None;
         }
         self.entries.get(id)
@@ -100,8 +100,8 @@ fn mark_of(id: &Id) -> usize
 }
 
 /// Whether the mark of an identifier is set.
-fn is_marked(marks: &Vec<bool>, id: &Id) -> bool
-    ensures { result ≡ is_marked marks.now.items (mark_of id.now) }
+fn is_marked(marks: &[bool], id: &Id) -> bool
+    ensures { result ≡ is_marked marks.now (mark_of id.now) }
 {
     match marks.get(mark_of(id)) {
         Some(mark) => *mark,
@@ -126,7 +126,7 @@ fn mark(marks: &mut Vec<bool>, id: &Id) -> Result<(), AllocError>
     ensures err { OnErr result ((at : ℕ) → is_marked marks.new.items at ≡ is_marked marks.old.items at) }
     ensures unmarked { OnErr result (is_marked marks.old.items (mark_of id.now) ≡ false) }
 {
-    if is_marked(marks, id) {
+    if is_marked(marks.as_slice(), id) {
         return Ok(());
     }
     make_marks(marks)?;
